@@ -26,6 +26,8 @@ use Rattle.gb_alone.specs.declared.event.GroupEvent.{GroupEvent}
 use Rattle.gb_alone.specs.declared.event.GroupEvent.TheVariants.{Tenant, Make as AskMake, Open as AskOpen, Shut as AskShut, Drop as AskDrop, Say as AskSay, Took, Came, Done as Acknowledged, Notice, Stop}
 use Rattle.gb_alone.specs.declared.event.GroupStep.{GroupStep}
 use Rattle.gb_rules.specs.declared.reserve.Reserve.{Reserve}
+use Rattle.gb_types.specs.declared.new_message.NewMessage.{NewMessage}
+use Rattle.gb_rules.proofs.SayLemmas.{said_is}
 
 -- what was said here, in order
 unfoldable pub own_said : List GroupCall → List Accepted
@@ -42,34 +44,19 @@ length-own_said (Other p x ∷ told) = length-own_said told
 length-own_said (Crashed q ∷ told) = length-own_said told
 
 -- an accepted message has the next number
-pub next_said : (me : ℕ) (m : Member) (payload : List ℕ) (seq : ℕ) (bounds : Bounds) (number : ℕ) → reply_to bounds number me (AskSay payload) m ≡ Said seq → seq ≡ said_in m.told + 1
-next_said me m payload seq bounds number = running m.stopped
+pub next_said : (me : ℕ) (m : Member) (message : NewMessage) (seq : ℕ) (bounds : Bounds) (number : ℕ) → reply_to bounds number me (AskSay message) m ≡ Said seq → seq ≡ said_in m.told + 1
+next_said me m message seq bounds number = running m.stopped
   where
-    admitted : (long many heavy full : Bool) → (if long then Refused TooLong else (if many then Refused Budget else (if heavy then Refused Bytes else (if full then Refused Window else Said (said_in m.told + 1))))) ≡ Said seq → seq ≡ said_in m.told + 1
-    admitted true many heavy full h = cc
-    admitted false true heavy full h = cc
-    admitted false false true full h = cc
-    admitted false false false true h = cc
-    admitted false false false false h = cc
-
-    answered : (spec : Spec) (phase : Phase) (usage : Usage) (log : List Entry) → usage.said ≡ said_in m.told → say_answer (version_at bounds.versions me) (record { spec = spec; phase = phase; usage = usage; log = log }) payload ≡ Said seq → seq ≡ said_in m.told + 1
-    answered spec Made usage log is h = cc
-    answered spec Shut usage log is h = cc
-    answered spec Gone usage log is h = cc
-    answered spec Opened usage log is h =
-        admitted (is_too_long (version_at bounds.versions me) payload) (nat_le spec.msgs usage.said) (nat_lt spec.bytes (usage.bytes + length payload)) (nat_le spec.window usage.unfinished)
-        (ap (λ n. if is_too_long (version_at bounds.versions me) payload then Refused TooLong else (if nat_le spec.msgs usage.said then Refused Budget else (if nat_lt spec.bytes (usage.bytes + length payload) then Refused Bytes else (if nat_le spec.window usage.unfinished then Refused Window else Said (n + 1))))) (sym is) ∙ h)
-
-    present : (s : Shown) → s.usage.said ≡ said_in m.told → (gone : Bool) → (if gone then Refused Spent else say_answer (version_at bounds.versions me) s payload) ≡ Said seq → seq ≡ said_in m.told + 1
+    present : (s : Shown) → s.usage.said ≡ said_in m.told → (gone : Bool) → (if gone then Refused Spent else say_answer (version_at bounds.versions me) s message) ≡ Said seq → seq ≡ said_in m.told + 1
     present s is true h = cc
-    present s is false h = answered s.spec s.phase s.usage s.log is h
+    present s is false h = (said_is (version_at bounds.versions me) s message seq h).next ∙ ap (λ n. n + 1) is
 
-    by : (reserve : Option Reserve) (spec : Option Spec) → by_tenant (λ _. on_made (λ s. say_answer (version_at bounds.versions me) s payload) (shown_of me m.phase m.told m.put m.done spec)) reserve ≡ Said seq → seq ≡ said_in m.told + 1
+    by : (reserve : Option Reserve) (spec : Option Spec) → by_tenant (λ _. on_made (λ s. say_answer (version_at bounds.versions me) s message) (shown_of me m.phase m.told m.put m.done spec)) reserve ≡ Said seq → seq ≡ said_in m.told + 1
     by None spec h = cc
     by (Some reserve) None h = cc
     by (Some reserve) (Some spec) h = present (shown_in me m.phase m.told m.put m.done spec) refl (is_gone m.phase) h
 
-    running : (stopped : Bool) → (if stopped then Refused Stopped else by_tenant (λ _. on_made (λ s. say_answer (version_at bounds.versions me) s payload) (shown_of me m.phase m.told m.put m.done m.spec)) m.reserve) ≡ Said seq → seq ≡ said_in m.told + 1
+    running : (stopped : Bool) → (if stopped then Refused Stopped else by_tenant (λ _. on_made (λ s. say_answer (version_at bounds.versions me) s message) (shown_of me m.phase m.told m.put m.done m.spec)) m.reserve) ≡ Said seq → seq ≡ said_in m.told + 1
     running true h = cc
     running false h = by m.reserve m.spec h
 
@@ -79,7 +66,7 @@ did_said me (AskMake spec) Done m = sym (append-nil (own_said m.told))
 did_said me AskOpen Done m = sym (append-nil (own_said m.told))
 did_said me AskShut Done m = sym (append-nil (own_said m.told))
 did_said me AskDrop Done m = sym (append-nil (own_said m.told))
-did_said me (AskSay payload) (Said seq) m = refl
+did_said me (AskSay message) (Said seq) m = refl
 did_said me event reply m = sym (append-nil (own_said m.told))
 
 taken_said : (version : Version) (me : ℕ) (from : NodeId) (place : ℕ) (o : Option Entry) (m : Member) → own_said (taken_in version me from place o m).told ≡ own_said m.told

@@ -20,6 +20,7 @@ use Rattle.gb_alone.specs.Alone.{held_spec, Member, Group, reply_to, put_to, cal
 use Rattle.gb_alone.specs.declared.event.GroupEvent.{GroupEvent}
 use Rattle.gb_alone.specs.declared.event.GroupEvent.TheVariants.{Tenant, Make as AskMake, Open as AskOpen, Shut as AskShut, Drop as AskDrop, Say as AskSay, Took, Came, Done as Acknowledged, Notice, Stop}
 use Rattle.gb_alone.proofs.KnownLemmas.{HoldsOfTold, all_known, all_puts}
+use Rattle.gb_types.specs.declared.new_message.NewMessage.{NewMessage}
 
 -- it holds of all that is known at the node, and of all that is put out there
 pub record HoldsAt (P : Entry → Type 0) (m : Member) : Type 0 where
@@ -80,17 +81,17 @@ holds_noticed P me q (Some spec) m holds = elim (is_other spec me q.number) as (
 ]
 
 -- a command is answered
-holds_did : (P : Entry → Type 0) (me : NodeId) (event : GroupEvent) (reply : Reply) (m : Member) → ((payload : List ℕ) (seq : ℕ) → event ≡ AskSay payload → reply ≡ Said seq → P (record { origin = me; seq = seq; payload = payload })) → HoldsAt P m → HoldsAt P (did me event reply m)
+holds_did : (P : Entry → Type 0) (me : NodeId) (event : GroupEvent) (reply : Reply) (m : Member) → ((message : NewMessage) (seq : ℕ) → event ≡ AskSay message → reply ≡ Said seq → P (record { origin = me; seq = seq; payload = message.payload })) → HoldsAt P m → HoldsAt P (did me event reply m)
 holds_did P me (AskMake spec) Done m says holds = record { known = holds.known; put = holds.put }
 holds_did P me AskOpen Done m says holds = record { known = holds.known; put = holds.put }
 holds_did P me AskShut Done m says holds = record { known = holds.known; put = holds.put }
 holds_did P me AskDrop Done m says holds = record { known = holds.known; put = λ b. all_taken P (m.taken b) (m.put b) (holds.put b) }
-holds_did P me (AskSay payload) (Said seq) m says holds = holds_called P me.number (Own (record { origin = me; seq = seq; payload = payload })) m (says payload seq refl refl) holds
+holds_did P me (AskSay message) (Said seq) m says holds = holds_called P me.number (Own (record { origin = me; seq = seq; payload = message.payload })) m (says message seq refl refl) holds
 holds_did P me event reply m says holds = holds
 
 -- after an event, where it holds of what is said, and of what comes and is not too long
 pub holds_after : (P : Entry → Type 0) (bounds : Bounds) (number : ℕ) (me : NodeId) (event : GroupEvent) (group : Group)
-    → ((payload : List ℕ) (seq : ℕ) → event ≡ AskSay payload → reply_to bounds number me.number event (group me.number) ≡ Said seq → P (record { origin = me; seq = seq; payload = payload }))
+    → ((message : NewMessage) (seq : ℕ) → event ≡ AskSay message → reply_to bounds number me.number event (group me.number) ≡ Said seq → P (record { origin = me; seq = seq; payload = message.payload }))
     → ((from : NodeId) (place : ℕ) (x : Entry) → slice_get ((group from.number).put me.number) (place - 1) ≡ Some x → is_too_long (version_at bounds.versions me.number) x.payload ≡ false → P x)
     → HoldsAt P (group me.number) → HoldsAt P (member_after bounds number me event group)
 holds_after P bounds number me (Tenant reserve) group says comes holds = record { known = holds.known; put = holds.put }

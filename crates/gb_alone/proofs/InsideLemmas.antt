@@ -73,7 +73,7 @@ did_inside bounds number me (AskMake spec) Done m e old = λ s is. subst (IsWith
 did_inside bounds number me AskOpen Done m e old = old
 did_inside bounds number me AskShut Done m e old = old
 did_inside bounds number me AskDrop Done m e old = old
-did_inside bounds number me (AskSay payload) (Said seq) m e old = old
+did_inside bounds number me (AskSay message) (Said seq) m e old = old
 did_inside bounds number me event reply m e old = old
 
 taken_inside : (version : Version) (nodes me : ℕ) (from : NodeId) (place : ℕ) (o : Option Entry) (m : Member) → IsInside nodes me m → IsInside nodes me (taken_in version me from place o m)
@@ -106,14 +106,14 @@ step_inside bounds number group step all x = go (nat_eq x step.node.number) refl
 
 -- and so nothing is accepted elsewhere
 refused_beyond : (bounds : Bounds) (number s : ℕ) (event : GroupEvent) (m : Member) → bounds.nodes ≤ s → IsInside bounds.nodes s m → accepted_in event (reply_to bounds number s event m) ≡ []
-refused_beyond bounds number s (AskSay payload) m beyond inside = running m.stopped
+refused_beyond bounds number s (AskSay message) m beyond inside = running m.stopped
   where
-    by : (reserve : Option Reserve) (o : Option Spec) → m.spec ≡ o → accepted_in (AskSay payload) (by_tenant (λ _. on_made (λ x. say_answer (version_at bounds.versions s) x payload) (shown_of s m.phase m.told m.put m.done o)) reserve) ≡ []
+    by : (reserve : Option Reserve) (o : Option Spec) → m.spec ≡ o → accepted_in (AskSay message) (by_tenant (λ _. on_made (λ x. say_answer (version_at bounds.versions s) x message) (shown_of s m.phase m.told m.put m.done o)) reserve) ≡ []
     by None o is = refl
     by (Some reserve) None is = refl
     by (Some reserve) (Some spec) is = let low : s < bounds.nodes = (inside spec is).0 in absurd (omega arith)
 
-    running : (stopped : Bool) → accepted_in (AskSay payload) (if stopped then Refused Stopped else by_tenant (λ _. on_made (λ x. say_answer (version_at bounds.versions s) x payload) (shown_of s m.phase m.told m.put m.done m.spec)) m.reserve) ≡ []
+    running : (stopped : Bool) → accepted_in (AskSay message) (if stopped then Refused Stopped else by_tenant (λ _. on_made (λ x. say_answer (version_at bounds.versions s) x message) (shown_of s m.phase m.told m.put m.done m.spec)) m.reserve) ≡ []
     running true = refl
     running false = by m.reserve m.spec refl
 refused_beyond bounds number s event m beyond inside = refl

@@ -84,7 +84,7 @@ running_listed bounds number me (AskMake spec) v m h =
 running_listed bounds number me AskOpen v m h = by_both open_answer v.reserve m.reserve (shown me (member_of v)) (shown me m) h.reserve (shown_listed me v m h)
 running_listed bounds number me AskShut v m h = by_both shut_answer v.reserve m.reserve (shown me (member_of v)) (shown me m) h.reserve (shown_listed me v m h)
 running_listed bounds number me AskDrop v m h = by_both drop_answer v.reserve m.reserve (shown me (member_of v)) (shown me m) h.reserve (shown_listed me v m h)
-running_listed bounds number me (AskSay payload) v m h = by_both (λ s. say_answer (version_at bounds.versions me) s payload) v.reserve m.reserve (shown me (member_of v)) (shown me m) h.reserve (shown_listed me v m h)
+running_listed bounds number me (AskSay message) v m h = by_both (λ s. say_answer (version_at bounds.versions me) s message) v.reserve m.reserve (shown me (member_of v)) (shown me m) h.reserve (shown_listed me v m h)
 running_listed bounds number me (AskFetch from most) v m h = by_both (λ s. fetch_answer s from most) v.reserve m.reserve (shown me (member_of v)) (shown me m) h.reserve (shown_listed me v m h)
 running_listed bounds number me event v m h = refl
 
@@ -138,7 +138,7 @@ did_listed me (AskMake spec) Done v m h = record { reserve = h.reserve; spec = r
 did_listed me AskOpen Done v m h = record { reserve = h.reserve; spec = h.spec; phase = refl; told = h.told; replies = h.replies; put = h.put; taken = h.taken; size = h.size; done = h.done; rows = h.rows; stopped = h.stopped }
 did_listed me AskShut Done v m h = record { reserve = h.reserve; spec = h.spec; phase = refl; told = h.told; replies = h.replies; put = h.put; taken = h.taken; size = h.size; done = h.done; rows = h.rows; stopped = h.stopped }
 did_listed me AskDrop Done v m h = dropped_listed v m h
-did_listed me (AskSay payload) (Said seq) v m h = called_listed me.number (Own (record { origin = me; seq = seq; payload = payload })) v m h
+did_listed me (AskSay message) (Said seq) v m h = called_listed me.number (Own (record { origin = me; seq = seq; payload = message.payload })) v m h
 did_listed me event reply v m h = h
 
 commanded_listed : (me : NodeId) (event : GroupEvent) (reply : Reply) (v : MemberValue) (m : Member) → StandsForMember v m → StandsForMember (value_commanded me event reply v) (commanded me event reply m)
@@ -294,7 +294,7 @@ member_listed bounds number me (AskMake spec) vs group h = command_listed bounds
 member_listed bounds number me AskOpen vs group h = command_listed bounds number me AskOpen (value_at vs me.number) (group me.number) (h.members me.number me.below)
 member_listed bounds number me AskShut vs group h = command_listed bounds number me AskShut (value_at vs me.number) (group me.number) (h.members me.number me.below)
 member_listed bounds number me AskDrop vs group h = command_listed bounds number me AskDrop (value_at vs me.number) (group me.number) (h.members me.number me.below)
-member_listed bounds number me (AskSay payload) vs group h = command_listed bounds number me (AskSay payload) (value_at vs me.number) (group me.number) (h.members me.number me.below)
+member_listed bounds number me (AskSay message) vs group h = command_listed bounds number me (AskSay message) (value_at vs me.number) (group me.number) (h.members me.number me.below)
 member_listed bounds number me (AskFetch from most) vs group h = command_listed bounds number me (AskFetch from most) (value_at vs me.number) (group me.number) (h.members me.number me.below)
 
 -- The group after each step.

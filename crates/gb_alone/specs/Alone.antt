@@ -108,7 +108,7 @@ running_reply bounds number me (AskMake spec) m = by_tenant (make_answer bounds.
 running_reply bounds number me AskOpen m = on_group open_answer me m
 running_reply bounds number me AskShut m = on_group shut_answer me m
 running_reply bounds number me AskDrop m = on_group drop_answer me m
-running_reply bounds number me (AskSay payload) m = on_group (λ s. say_answer (version_at bounds.versions me) s payload) me m
+running_reply bounds number me (AskSay message) m = on_group (λ s. say_answer (version_at bounds.versions me) s message) me m
 running_reply bounds number me (AskFetch from most) m = on_group (λ s. fetch_answer s from most) me m
 running_reply bounds number me event m = Done
 
@@ -135,7 +135,7 @@ did me (AskMake spec) Done m = record m { spec = Some spec }
 did me AskOpen Done m = record m { phase = Opened }
 did me AskShut Done m = record m { phase = Shut }
 did me AskDrop Done m = dropped m
-did me (AskSay payload) (Said seq) m = called me.number (Own (record { origin = me; seq = seq; payload = payload })) m
+did me (AskSay message) (Said seq) m = called me.number (Own (record { origin = me; seq = seq; payload = message.payload })) m
 did me event reply m = m
 
 -- a command is answered

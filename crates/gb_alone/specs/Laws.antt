@@ -22,7 +22,7 @@ pub record Accepted : Type 0 where
   pub payload : List ℕ
 
 abbrev pub accepted_in : GroupEvent → Reply → List Accepted
-accepted_in (AskSay payload) (Said seq) = record { seq = seq; payload = payload } ∷ []
+accepted_in (AskSay message) (Said seq) = record { seq = seq; payload = message.payload } ∷ []
 accepted_in event reply = []
 
 abbrev pub accepted_at : Bounds → ℕ → Group → GroupStep → ℕ → List Accepted

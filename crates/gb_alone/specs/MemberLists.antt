@@ -79,7 +79,7 @@ value_did me (AskMake spec) Done v = record v { spec = Some spec }
 value_did me AskOpen Done v = record v { phase = Opened }
 value_did me AskShut Done v = record v { phase = Shut }
 value_did me AskDrop Done v = value_dropped v
-value_did me (AskSay payload) (Said seq) v = value_called me.number (Own (record { origin = me; seq = seq; payload = payload })) v
+value_did me (AskSay message) (Said seq) v = value_called me.number (Own (record { origin = me; seq = seq; payload = message.payload })) v
 value_did me event reply v = v
 
 abbrev pub value_commanded : NodeId → GroupEvent → Reply → MemberValue → MemberValue

@@ -1,7 +1,7 @@
 //! What happens to one group, by itself.
 use gb_rules::reserve::Reserve;
 use gb_types::node::NodeId;
-use gb_types::payload::Payload;
+use gb_types::new_message::NewMessage;
 use gb_types::spec::Spec;
 
 /// What happens to a group at a node. Items go by numbers, never by what is in them.
@@ -18,7 +18,7 @@ pub enum GroupEvent {
     /// A command to drop it.
     Drop,
     /// A command to say something.
-    Say(Payload),
+    Say(NewMessage),
     /// A command to read the log, from a place on, so many entries at most.
     Fetch(u32, u32),
     /// So many more of the items put out to the node are carried.

@@ -24,6 +24,7 @@ use gb_rules::usage::Usage;
 use gb_types::entry::{Entries, Entry};
 use gb_types::limits::NODES;
 use gb_types::memory::OutOfMemory;
+use gb_types::new_message::NewMessage;
 use gb_types::node::NodeId;
 use gb_types::payload::Payload;
 use gb_types::plan::Bounds;
@@ -251,9 +252,9 @@ impl Member {
         alloc: Global,
         bounds: &Bounds,
         me: NodeId,
-        payload: &Payload,
+        message: &NewMessage,
     ) -> Result<Reply, OutOfMemory>
-        ensures { (number : ℕ) → IfOk result (λ r. r ≡ one_group.running_reply bounds.now number me.number (GroupEvent.Say payload.now) (member_of self.now)) }
+        ensures { (number : ℕ) → IfOk result (λ r. r ≡ one_group.running_reply bounds.now number me.number (GroupEvent.Say message.now) (member_of self.now)) }
     {
         let spec = match self.made_spec() {
             Ok(spec) => spec,
@@ -261,7 +262,14 @@ impl Member {
         };
         let usage = self.usage(alloc, spec, me)?;
         let version = bounds.version_of(me);
-        match check_say(version, spec, self.phase, usage, payload.as_slice()) {
+        match check_say(
+            version,
+            spec,
+            self.phase,
+            usage,
+            message.seq,
+            message.payload.as_slice(),
+        ) {
             Ok(()) => Ok(Reply::Said((usage.said + 1) as u16)),
             Err(why) => Ok(Reply::Refused(why)),
         }
@@ -318,7 +326,7 @@ impl Member {
             GroupEvent::Open => Ok(self.open_reply()),
             GroupEvent::Shut => Ok(self.shut_reply()),
             GroupEvent::Drop => Ok(self.drop_reply()),
-            GroupEvent::Say(payload) => self.say_reply(alloc, bounds, me, payload),
+            GroupEvent::Say(message) => self.say_reply(alloc, bounds, me, message),
             GroupEvent::Fetch(from, max) => self.fetch_reply(alloc, me, *from, *max),
             GroupEvent::Tenant(_)
             | GroupEvent::Took(_, _)
@@ -396,8 +404,8 @@ impl Member {
     {
         match (event, reply) {
             (GroupEvent::Drop, Reply::Done) => return self.drop_group(alloc),
-            (GroupEvent::Say(payload), Reply::Said(seq)) => {
-                return self.say(alloc, me, *seq, payload);
+            (GroupEvent::Say(message), Reply::Said(seq)) => {
+                return self.say(alloc, me, *seq, &message.payload);
             }
             (GroupEvent::Make(spec), Reply::Done) => self.spec = Some(spec.duplicate()),
             (GroupEvent::Open, Reply::Done) => self.phase = Phase::Opened,

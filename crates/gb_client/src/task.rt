@@ -87,18 +87,17 @@ fn ask_text(
     ensures asked { IfOk result (λ body. (told : List (List ℕ)) × Asks secrets.now node Head.Say told body.items) }
     ensures short { IfOk result (λ body. vec_len body ≤ BODY) }
 {
-    let [tenant, group, text] = words else {
+    let [tenant, group, text, seq @ ..] = words else {
         return Err(ClientFault::Words);
     };
     let mut payload = Vec::new(alloc);
     put_payload(&mut payload, text)?;
-    ask(
-        alloc,
-        secrets,
-        node,
-        Head::Say,
-        &[*tenant, *group, payload.as_slice()],
-    )
+    let mut told: Vec<&[u8]> = Vec::new(alloc);
+    told.push(tenant)?;
+    told.push(group)?;
+    told.push(payload.as_slice())?;
+    told.extend_from_slice(seq)?;
+    ask(alloc, secrets, node, Head::Say, &told)
 }
 
 /// The body of the request that is told: with the key of a new tenant, and with a payload that is text in digits.

@@ -109,6 +109,12 @@ const PAYLOAD: ArgWords = ArgWords {
     form: Form::Word,
 };
 
+const SEQ: ArgWords = ArgWords {
+    name: "SEQ",
+    help: "the number that the message must get; a say that names it is done once, however often it is sent",
+    form: Form::OptionalWord,
+};
+
 const FROM: ArgWords = ArgWords {
     name: "FROM",
     help: "the place of the first entry to give; the log's first entry has place 0",
@@ -241,7 +247,7 @@ static SUBCOMMANDS: &[SubcommandWords] = &[
         name: "say",
         purpose: Purpose::Ask(Head::Say),
         about: "Says a message in a group",
-        args: &[T, G, PAYLOAD, PAYLOAD_AS_TEXT],
+        args: &[T, G, PAYLOAD, SEQ, PAYLOAD_AS_TEXT],
     },
     SubcommandWords {
         name: "fetch",
@@ -358,7 +364,7 @@ fn given<'a>(
 ) -> Result<Vec<&'a str>, AllocError> {
     let mut given = Vec::new(alloc);
     for words in args {
-        if let Form::Word = words.form {
+        if let Form::Word | Form::OptionalWord = words.form {
             if let Some(text) = matches.get_str(words.name) {
                 given.push(text)?;
             }

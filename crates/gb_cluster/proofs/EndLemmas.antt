@@ -25,7 +25,7 @@ takes_none (Fetch token addr from most) takes = cc
 takes_none (OpenGroup token addr) takes = takes
 takes_none (ShutGroup token addr) takes = takes
 takes_none (DropGroup token addr) takes = takes
-takes_none (Say token addr payload) takes = takes
+takes_none (Say token addr message) takes = takes
 
 unstarved : (event : NodeEvent) (answer : NodeAnswer) → IsStarved event answer answer → ⊥
 unstarved (Asked request) (Replied reply) (is, takes) =

@@ -42,7 +42,7 @@ did_said me (AskMake spec) Done m = tt
 did_said me AskOpen Done m = tt
 did_said me AskShut Done m = tt
 did_said me AskDrop Done m = tt
-did_said me (AskSay payload) (Said seq) m = (or_first (same (numbered me seq) (numbered me seq)) (was_said (calls_of m.told) (numbered me seq)) (same_itself (numbered me seq)), tt)
+did_said me (AskSay message) (Said seq) m = (or_first (same (numbered me seq) (numbered me seq)) (was_said (calls_of m.told) (numbered me seq)) (same_itself (numbered me seq)), tt)
 did_said me event reply m = tt
 
 event_said : (bounds : Bounds) (number : ℕ) (me : NodeId) (event : GroupEvent) (group : Group) → AllByRecursion (IsSaidBy me (member_after bounds number me event group).told) (accepted_in event (reply_to bounds number me.number event (group me.number)))
@@ -95,7 +95,7 @@ did_silent me (AskMake spec) Done m none x h = h
 did_silent me AskOpen Done m none x h = h
 did_silent me AskShut Done m none x h = h
 did_silent me AskDrop Done m none x h = h
-did_silent me (AskSay payload) (Said seq) m none x h = absurd (cc)
+did_silent me (AskSay message) (Said seq) m none x h = absurd (cc)
 did_silent me event reply m none x h = h
 
 taken_silent : (version : Version) (a : ℕ) (from : NodeId) (place : ℕ) (o : Option Entry) (m : Member) (x : MsgId) → was_said (calls_of (taken_in version a from place o m).told) x ≡ true → was_said (calls_of m.told) x ≡ true

@@ -18,7 +18,7 @@ use Rattle.gb_alone.specs.Laws.{accepted_in, accepted_from, accepted, log_of_mem
 use Rattle.gb_alone.specs.declared.event.GroupEvent.TheVariants.{Say, Took, Came, Notice, Stop}
 use Rattle.gb_alone.specs.declared.event.GroupStep.{GroupStep}
 use Rattle.gb_duties.specs.Agreement.{IsRunning, IsSettled, AreEnough}
-use Rattle.gb_duties.specs.Examples.{bounds, first, second, third, message, members, spec_of, at, opened, to_one, loss, crash, runs, left_alone, only_first, log_in}
+use Rattle.gb_duties.specs.Examples.{bounds, first, second, third, message, one_byte, members, spec_of, at, opened, to_one, loss, crash, runs, left_alone, only_first, log_in}
 use Rattle.gb_duties.proofs.ExampleLemmas.{in_0, in_1, in_2, most_of, majority_of, One, is_0, is_1, is_2, member, with_at, ready, group_open, all_open, zero_said, carries, has_come, one_took, group_one, comes, Leads, stop_here, and_then, join, open_all, length_one, lead_one, notices, noticed_is}
 
 -- Node 0 stops, and the others notice that.
@@ -266,7 +266,7 @@ group_alone kind = with_at (with_at (halted kind) 0 (zero_missed kind)) 0 (zero_
 lead_alone : (kind : Kind) → Leads (group_open kind) left_alone (group_alone kind)
 unfolding said_in calls_of known count_unfinished
 lead_alone kind =
-    and_then (group_open kind) (at first (Say (97 ∷ []))) (zero_said kind) (at second Stop ∷ at third Stop ∷ at first (Notice second) ∷ at first (Notice third) ∷ []) (group_alone kind) tt refl
+    and_then (group_open kind) (at first (Say one_byte)) (zero_said kind) (at second Stop ∷ at third Stop ∷ at first (Notice second) ∷ at first (Notice third) ∷ []) (group_alone kind) tt refl
     (and_then (with_at (group_open kind) 0 (zero_said kind)) (at second Stop) (halts (ready kind)) (at third Stop ∷ at first (Notice second) ∷ at first (Notice third) ∷ []) (group_alone kind) tt refl
     (and_then (with_at (with_at (group_open kind) 0 (zero_said kind)) 1 (halts (ready kind))) (at third Stop) (halts (ready kind)) (at first (Notice second) ∷ at first (Notice third) ∷ []) (group_alone kind) tt refl
     (and_then (halted kind) (at first (Notice second)) (zero_missed kind) (at first (Notice third) ∷ []) (group_alone kind) (refl, refl) (noticed_is kind 0 second (zero_said kind) refl in_1 refl)

@@ -28,7 +28,7 @@ use Rattle.gb_alone.specs.Laws.{log_of_member}
 use Rattle.gb_alone.specs.declared.event.GroupEvent.TheVariants.{Tenant, Make, Open, Drop, Say, Took, Came, Notice}
 use Rattle.gb_alone.specs.declared.event.GroupStep.{GroupStep}
 use Rattle.gb_duties.specs.Duties.{HasHad, noticed_at}
-use Rattle.gb_duties.specs.Examples.{bounds, first, second, third, message, members, spec_of, at, opened_at, opened, to_one, to_all, dropped, log_in, put_in}
+use Rattle.gb_duties.specs.Examples.{bounds, first, second, third, message, one_byte, members, spec_of, at, opened_at, opened, to_one, to_all, dropped, log_in, put_in}
 
 pub in_0 : set.contains members 0 ≡ true
 in_0 = set.contains-from_list_nat (0 ∷ 1 ∷ 2 ∷ []) 0
@@ -217,7 +217,7 @@ length_one xs x e = let l : length xs ≡ 1 = ap length e in omega (arith, l)
 pub lead_one : (kind : Kind) → Leads (group_open kind) to_one (group_one kind)
 unfolding said_in calls_of known count_unfinished
 lead_one kind =
-    and_then (group_open kind) (at first (Say (97 ∷ []))) (zero_said kind) (at first (Took second 1) ∷ at second (Came first 1) ∷ []) (group_one kind) tt refl
+    and_then (group_open kind) (at first (Say one_byte)) (zero_said kind) (at first (Took second 1) ∷ at second (Came first 1) ∷ []) (group_one kind) tt refl
     (and_then (with_at (group_open kind) 0 (zero_said kind)) (at first (Took second 1)) (carries 1 (zero_said kind)) (at second (Came first 1) ∷ []) (group_one kind) (refl, omega arith, length_one ((zero_said kind).put 1) message (put_out kind 1 in_1 refl)) refl
     (and_then (group_said kind) (at second (Came first 1)) (one_took kind) [] (group_one kind) (refl, omega arith, omega arith, refl)
     (comes kind second first 1 (ready kind) refl (simp in_0 refl) ((zero_said kind).put 1) (ap (λ xs. slice_get xs 0) (put_out kind 1 in_1 refl))) (stop_here (group_one kind))))

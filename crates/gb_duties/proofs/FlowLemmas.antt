@@ -64,7 +64,7 @@ did_come me (AskMake spec) Done m = refl
 did_come me AskOpen Done m = refl
 did_come me AskShut Done m = refl
 did_come me AskDrop Done m = refl
-did_come me (AskSay payload) (Said seq) m = refl
+did_come me (AskSay message) (Said seq) m = refl
 did_come me event reply m = refl
 
 notice_come : (a : ℕ) (q : NodeId) (o : Option Spec) (m : Member) → (took_notice a q o m).come ≡ m.come

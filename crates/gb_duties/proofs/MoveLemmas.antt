@@ -136,7 +136,7 @@ did_moves bounds number me AskDrop Done m e bounded = record {
   taken = λ b. omega arith;
   bounded = λ b. let few = length-take-le (m.taken b) (m.put b) (bounded b) in omega (arith, few);
 }
-did_moves bounds number me (AskSay payload) (Said seq) m e bounded = called_moves me.number (Own (record { origin = me; seq = seq; payload = payload })) m m (stays me.number m bounded)
+did_moves bounds number me (AskSay message) (Said seq) m e bounded = called_moves me.number (Own (record { origin = me; seq = seq; payload = message.payload })) m m (stays me.number m bounded)
 did_moves bounds number me event reply m e bounded = stays me.number m bounded
 
 took_moves : (a : ℕ) (b : NodeId) (count : ℕ) (m : Member) → m.taken b.number + count ≤ length (m.put b.number) → Bounded m → Goes a m (record m { taken = λ x. if nat_eq x b.number then m.taken x + count else m.taken x })

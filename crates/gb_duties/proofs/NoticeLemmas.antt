@@ -46,7 +46,7 @@ did_marked bounds number me (AskMake spec) Done m e old = record {
 did_marked bounds number me AskOpen Done m e old = record { told = old.told; unmade = old.unmade; here = λ still. old.here (open_accepts bounds number me.number m e) }
 did_marked bounds number me AskShut Done m e old = record { told = old.told; unmade = old.unmade; here = λ still. old.here (shut_accepts bounds number me.number m e) }
 did_marked bounds number me AskDrop Done m e old = record { told = old.told; unmade = old.unmade; here = λ still. absurd (cc) }
-did_marked bounds number me (AskSay payload) (Said seq) m e old = record { told = old.told; unmade = old.unmade; here = old.here }
+did_marked bounds number me (AskSay message) (Said seq) m e old = record { told = old.told; unmade = old.unmade; here = old.here }
 did_marked bounds number me event reply m e old = old
 
 taken_marked : (version : Version) (a : ℕ) (from : NodeId) (place : ℕ) (o : Option Entry) (m : Member) → Marked a m → Marked a (taken_in version a from place o m)

@@ -23,6 +23,8 @@ use Rattle.gb_rules.specs.declared.phase.Phase.TheVariants.{Made, Opened, Shut, 
 use Rattle.gb_rules.specs.declared.reserve.Reserve.{Reserve}
 use Rattle.gb_alone.specs.Alone.{Member, held_spec, reply_to, on_group, usage_of, shown_in, shown_of}
 use Rattle.gb_alone.specs.declared.event.GroupEvent.TheVariants.{Make as AskMake, Open as AskOpen, Shut as AskShut, Say as AskSay}
+use Rattle.gb_types.specs.declared.new_message.NewMessage.{NewMessage}
+use Rattle.gb_rules.proofs.SayLemmas.{said_is}
 
 -- a group that is held was made and not dropped
 pub held_made : (phase : Phase) (o : Option Spec) (spec : Spec) → held_spec phase o ≡ Some spec → (is_gone phase ≡ false) × (o ≡ Some spec)
@@ -68,35 +70,26 @@ pub record Accepts (version : Version) (me : ℕ) (payload : List ℕ) (m : Memb
   pub light : bytes_in m.told me + length payload ≤ spec.bytes
   pub short : is_too_long version payload ≡ false
 
-pub say_accepts : (bounds : Bounds) (number me : ℕ) (payload : List ℕ) (seq : ℕ) (m : Member) → reply_to bounds number me (AskSay payload) m ≡ Said seq → Accepts (version_at bounds.versions me) me payload m seq
-say_accepts bounds number me payload seq m = running m.stopped
+pub say_accepts : (bounds : Bounds) (number me : ℕ) (message : NewMessage) (seq : ℕ) (m : Member) → reply_to bounds number me (AskSay message) m ≡ Said seq → Accepts (version_at bounds.versions me) me message.payload m seq
+say_accepts bounds number me message seq m = running m.stopped
   where
-    admitted : (spec : Spec) → m.spec ≡ Some spec → (long many heavy full : Bool) → is_too_long (version_at bounds.versions me) payload ≡ long → nat_le spec.msgs (said_in m.told) ≡ many → nat_lt spec.bytes (bytes_in m.told me + length payload) ≡ heavy
-        → (if long then Refused TooLong else (if many then Refused Budget else (if heavy then Refused Bytes else (if full then Refused Window else Said (said_in m.told + 1))))) ≡ Said seq → Accepts (version_at bounds.versions me) me payload m seq
-    admitted spec made true many heavy full d e f h = absurd (cc)
-    admitted spec made false true heavy full d e f h = absurd (cc)
-    admitted spec made false false true full d e f h = absurd (cc)
-    admitted spec made false false false true d e f h = absurd (cc)
-    admitted spec made false false false false d e f h = record { spec = spec; made = made; next = cc; within = grind (arith, nat_tests, e); light = grind (arith, nat_tests, f); short = d }
+    version : Version
+    version = version_at bounds.versions me
 
-    answered : (spec : Spec) → m.spec ≡ Some spec → (phase : Phase) → say_answer (version_at bounds.versions me) (record { spec = spec; phase = phase; usage = usage_of spec me m.told m.put m.done; log = log_of spec me m.told }) payload ≡ Said seq → Accepts (version_at bounds.versions me) me payload m seq
-    answered spec made Made h = absurd (cc)
-    answered spec made Shut h = absurd (cc)
-    answered spec made Gone h = absurd (cc)
-    answered spec made Opened h =
-        admitted spec made (is_too_long (version_at bounds.versions me) payload) (nat_le spec.msgs (said_in m.told)) (nat_lt spec.bytes (bytes_in m.told me + length payload))
-        (nat_le spec.window (usage_of spec me m.told m.put m.done).unfinished) refl refl refl h
-
-    present : (spec : Spec) → m.spec ≡ Some spec → (gone : Bool) → (if gone then Refused Spent else say_answer (version_at bounds.versions me) (shown_in me m.phase m.told m.put m.done spec) payload) ≡ Said seq → Accepts (version_at bounds.versions me) me payload m seq
+    present : (spec : Spec) → m.spec ≡ Some spec → (gone : Bool) → (if gone then Refused Spent else say_answer version (shown_in me m.phase m.told m.put m.done spec) message) ≡ Said seq → Accepts version me message.payload m seq
     present spec made true h = absurd (cc)
-    present spec made false h = answered spec made m.phase h
+    present spec made false h =
+        let said = said_is version (shown_in me m.phase m.told m.put m.done spec) message seq h in
+        let few = said.within in
+        let light = said.light in
+        record { spec = spec; made = made; next = said.next; within = grind (arith, nat_tests, few); light = grind (arith, nat_tests, light); short = said.short }
 
-    by : (reserve : Option Reserve) (o : Option Spec) → m.spec ≡ o → by_tenant (λ _. on_made (λ s. say_answer (version_at bounds.versions me) s payload) (shown_of me m.phase m.told m.put m.done o)) reserve ≡ Said seq → Accepts (version_at bounds.versions me) me payload m seq
+    by : (reserve : Option Reserve) (o : Option Spec) → m.spec ≡ o → by_tenant (λ _. on_made (λ s. say_answer version s message) (shown_of me m.phase m.told m.put m.done o)) reserve ≡ Said seq → Accepts version me message.payload m seq
     by None o is h = absurd (cc)
     by (Some reserve) None is h = absurd (cc)
     by (Some reserve) (Some spec) is h = present spec is (is_gone m.phase) h
 
-    running : (stopped : Bool) → (if stopped then Refused Stopped else by_tenant (λ _. on_made (λ s. say_answer (version_at bounds.versions me) s payload) (shown_of me m.phase m.told m.put m.done m.spec)) m.reserve) ≡ Said seq → Accepts (version_at bounds.versions me) me payload m seq
+    running : (stopped : Bool) → (if stopped then Refused Stopped else by_tenant (λ _. on_made (λ s. say_answer version s message) (shown_of me m.phase m.told m.put m.done m.spec)) m.reserve) ≡ Said seq → Accepts version me message.payload m seq
     running true h = absurd (cc)
     running false h = by m.reserve m.spec refl h
 

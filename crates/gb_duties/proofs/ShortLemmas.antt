@@ -27,7 +27,7 @@ step_short bounds number group step all x = go (nat_eq x step.node.number) refl
     here : HoldsAt (IsShort bounds step.node.number) (member_after bounds number step.node step.event group)
     here =
         holds_after (IsShort bounds step.node.number) bounds number step.node step.event group
-        (λ payload seq e h. (say_accepts bounds number step.node.number payload seq (group step.node.number) ((λ i. reply_to bounds number step.node.number (sym e i) (group step.node.number)) ∙ h)).short)
+        (λ message seq e h. (say_accepts bounds number step.node.number message seq (group step.node.number) ((λ i. reply_to bounds number step.node.number (sym e i) (group step.node.number)) ∙ h)).short)
         (λ from place y there short. short) (all step.node.number)
 
     go : (t : Bool) → nat_eq x step.node.number ≡ t → HoldsAt (IsShort bounds x) (if t then member_after bounds number step.node step.event group else group x)

@@ -201,9 +201,9 @@ did_result bounds number group me (AskMake spec) Done e all =
 did_result bounds number group me AskOpen Done e all = kept group me.number (did me AskOpen Done (group me.number)) all refl (λ calls fits. in_phase calls me.number Opened (group me.number) (open_accepts bounds number me.number (group me.number) e) fits)
 did_result bounds number group me AskShut Done e all = kept group me.number (did me AskShut Done (group me.number)) all refl (λ calls fits. in_phase calls me.number Shut (group me.number) (shut_accepts bounds number me.number (group me.number) e) fits)
 did_result bounds number group me AskDrop Done e all = kept group me.number (dropped (group me.number)) all refl (λ calls fits. dropped_fits calls me.number (group me.number) fits)
-did_result bounds number group me (AskSay payload) (Said seq) e all =
-    let ok = say_accepts bounds number me.number payload seq (group me.number) e in
-    called_result group me.number (Own (record { origin = me; seq = seq; payload = payload })) ok.spec ok.made all (λ calls later. (refl, ok.next, ok.within, ok.light))
+did_result bounds number group me (AskSay message) (Said seq) e all =
+    let ok = say_accepts bounds number me.number message seq (group me.number) e in
+    called_result group me.number (Own (record { origin = me; seq = seq; payload = message.payload })) ok.spec ok.made all (λ calls later. (refl, ok.next, ok.within, ok.light))
 did_result bounds number group me event reply e all = kept group me.number (group me.number) all refl (λ calls fits. fits)
 
 commanded_result : (bounds : Bounds) (number : ℕ) (group : Group) (me : NodeId) (event : GroupEvent) → AllFit group → Result group me.number (commanded me event (reply_to bounds number me.number event (group me.number)) (group me.number))

@@ -1,5 +1,5 @@
 -- The group of the worked examples: the members 0, 1 and 2, all the nodes of a cluster, of which node 0 says one message.
-use Rattle.std.specs.Prelude.{ℕ, Bool, not, nat_eq, List, [], ◌∷◌, ◌++◌}
+use Rattle.std.specs.Prelude.{ℕ, Bool, not, nat_eq, List, [], ◌∷◌, ◌++◌, None}
 use Rattle.std.specs.Ordering.{nat_cmp}
 use Rattle.std.specs.FinSet as set
 use Rattle.std.proofs.Common.{lit<}
@@ -14,6 +14,7 @@ use Rattle.gb_alone.specs.Laws.{log_of_member}
 use Rattle.gb_alone.specs.declared.event.GroupEvent.{GroupEvent}
 use Rattle.gb_alone.specs.declared.event.GroupEvent.TheVariants.{Tenant, Make, Open, Drop, Say, Took, Came, Notice, Stop}
 use Rattle.gb_alone.specs.declared.event.GroupStep.{GroupStep}
+use Rattle.gb_types.specs.declared.new_message.NewMessage.{NewMessage}
 
 abbrev pub first : NodeId
 first = record { number = 0; below = lit< tt }
@@ -49,9 +50,13 @@ opened_at kind a = at a (Tenant (record { groups = 4; msgs = 8; bytes = 64; wind
 abbrev pub opened : Kind → List GroupStep
 opened kind = opened_at kind first ++ (opened_at kind second ++ opened_at kind third)
 
+-- the message: one byte, under whatever number is next
+abbrev pub one_byte : NewMessage
+one_byte = record { payload = 97 ∷ []; seq = None }
+
 -- node 0 says the message, and it comes to node 1 alone
 abbrev pub to_one : List GroupStep
-to_one = at first (Say (97 ∷ [])) ∷ at first (Took second 1) ∷ at second (Came first 1) ∷ []
+to_one = at first (Say one_byte) ∷ at first (Took second 1) ∷ at second (Came first 1) ∷ []
 
 -- it comes to node 2 too, and from there to node 1 once more
 abbrev pub to_all : List GroupStep
@@ -71,7 +76,7 @@ crash = loss ++ (at second (Took third 1) ∷ at third (Came second 1) ∷ at th
 
 -- node 0 says the message, the others stop before it goes to them, and node 0 notices that
 abbrev pub left_alone : List GroupStep
-left_alone = at first (Say (97 ∷ [])) ∷ at second Stop ∷ at third Stop ∷ at first (Notice second) ∷ at first (Notice third) ∷ []
+left_alone = at first (Say one_byte) ∷ at second Stop ∷ at third Stop ∷ at first (Notice second) ∷ at first (Notice third) ∷ []
 
 -- the node that runs then
 abbrev pub only_first : ℕ → Bool

@@ -18,7 +18,7 @@ use Rattle.gb_types.specs.declared.version.Version.{Version}
 use Rattle.gb_types.specs.Version.{limits_of}
 use Rattle.gb_layer.specs.declared.call.Call.TheVariants.{Came, Notice}
 use Rattle.gb_history.specs.Messages.{has, payload_in, entry_in, with_new}
-use Rattle.gb_rules.specs.Group.{is_other, say_answer}
+use Rattle.gb_rules.specs.Group.{Shown, is_other, say_answer}
 use Rattle.gb_rules.specs.Replied.{said_reply}
 use Rattle.gb_rules.specs.declared.phase.Phase.{Phase}
 use Rattle.gb_rules.specs.declared.phase.Phase.TheVariants.{Made, Opened, Shut, Gone}
@@ -27,6 +27,9 @@ use Rattle.gb_slot.specs.Slot.{falls, own_entry, usage_of, shown, waiting, taken
 use Rattle.gb_slot.specs.SlotState.{SlotState}
 use Rattle.gb_groups.specs.Packing.{queue, queue_of}
 use Rattle.gb_groups.specs.SlotsValue.{Row, IsShort, on_slot}
+use Rattle.gb_types.specs.declared.new_message.NewMessage.{NewMessage}
+use Rattle.gb_rules.proofs.LengthLemmas.{within_limit}
+use Rattle.gb_rules.proofs.SayLemmas.{said_is}
 
 pub taken-moved : (phase : Phase) (reply : Reply) (s : SlotState) → (slot_moved phase reply s).taken ≡ s.taken
 taken-moved phase Done s = refl
@@ -83,35 +86,20 @@ pub short-came : (limit : ℕ) (from : NodeId) (x : Entry) (s : SlotState) → l
 short-came limit from x s l h = elim (falls from x s) as (λ b. IsShort limit (Some (if b then s else slot_called (Came from (message_of x)) (with_new s.store x) s))) [ true ↦ h | false ↦ λ m. payload-new limit s.store x m (h m) l ]
 
 -- what is said is within the limit
-pub said_fits : (version : Version) (spec : Spec) (phase : Phase) (usage : Usage) (log : List Entry) (payload : List ℕ) (seq : ℕ) → Said seq ≡ say_answer version (record { spec = spec; phase = phase; usage = usage; log = log }) payload → length payload ≤ (limits_of version).payload
-said_fits version spec Opened usage log payload seq e = elim (cases_lt (limits_of version).payload (length payload)) [
-  | inl h ↦ absurd (clash (e ∙ ap (λ b. if b then Refused TooLong else rest) (lt-ltb (limits_of version).payload (length payload) h)))
-  | inr h ↦ h
-]
-  where
-    rest : Reply
-    rest = if nat_le spec.msgs usage.said then Refused Budget
-        else (if nat_lt spec.bytes (usage.bytes + length payload) then Refused Bytes
-        else (if nat_le spec.window usage.unfinished then Refused Window
-        else Said (usage.said + 1)))
-
-    clash : Said seq ≡ Refused TooLong → ⊥
-    clash h = cc
-said_fits version spec Made usage log payload seq e = absurd (cc)
-said_fits version spec Shut usage log payload seq e = absurd (cc)
-said_fits version spec Gone usage log payload seq e = absurd (cc)
+pub said_fits : (version : Version) (s : Shown) (message : NewMessage) (seq : ℕ) → Said seq ≡ say_answer version s message → length message.payload ≤ (limits_of version).payload
+said_fits version s message seq e = within_limit version message.payload (said_is version s message seq (sym e)).short
 
 -- what is said grows what is known by its payload
 pub short-own : (limit : ℕ) (payload : List ℕ) (seq : ℕ) (s : SlotState) → length payload ≤ limit → IsShort limit (Some s) → IsShort limit (Some (slot_said payload (Said seq) s))
 short-own limit payload seq s l h = λ m. payload-more limit s.store (own_entry s payload) m (h m) l
 
-pub short-said : (limit : ℕ) (version : Version) (payload : List ℕ) (reply : Reply) (s : SlotState) → (limits_of version).payload ≤ limit → reply ≡ say_answer version (shown s) payload → IsShort limit (Some s) → IsShort limit (Some (slot_said payload reply s))
-short-said limit version payload Done s l e h = h
-short-said limit version payload (Said seq) s l e h =
-    let fits = said_fits version s.spec s.phase (usage_of s) (shown s).log payload seq e in
-    short-own limit payload seq s (omega (arith, fits, l)) h
-short-said limit version payload (Log entries) s l e h = h
-short-said limit version payload (Refused why) s l e h = h
+pub short-said : (limit : ℕ) (version : Version) (message : NewMessage) (reply : Reply) (s : SlotState) → (limits_of version).payload ≤ limit → reply ≡ say_answer version (shown s) message → IsShort limit (Some s) → IsShort limit (Some (slot_said message.payload reply s))
+short-said limit version message Done s l e h = h
+short-said limit version message (Said seq) s l e h =
+    let fits = said_fits version (shown s) message seq e in
+    short-own limit message.payload seq s (omega (arith, fits, l)) h
+short-said limit version message (Log entries) s l e h = h
+short-said limit version message (Refused why) s l e h = h
 
 known_fits : (limit : ℕ) (store : List Entry) (ms : List MsgId) (nth : ℕ) (e : Entry) → ((m : MsgId) → length (payload_in store m) ≤ limit) → slice_get (map (entry_in store) ms) nth ≡ Some e → length e.payload ≤ limit
 known_fits limit store [] nth e h f = absurd (cc)

@@ -338,23 +338,24 @@ impl Groups {
     }
 
     /// Says something in the group with this address, at the place that `find` returned, at a node that sends this version
-    /// of the packet text.
+    /// of the packet text, under the number `seq` if the caller names one.
     pub fn say(
         &mut self,
         version: Version,
         addr: Addr,
         place: Option<usize>,
+        seq: Option<u32>,
         payload: &[u8],
     ) -> Reply
         requires { place ≡ place_of addr self.old.rows }
-        ensures reply { result ≡ group_reply (λ s. say_answer version s payload.now) addr self.old.rows }
+        ensures reply { result ≡ group_reply (λ s. say_answer version s (record { payload = payload.now; seq = seq })) addr self.old.rows }
         ensures rows { self.new.rows ≡ on_address addr (slot_said payload.now result) self.old.rows }
         ensures cursors { self.new.cursors ≡ self.old.cursors }
         ensures others { OthersKept addr self.old.rows self.new.rows }
     {
         match place {
             Some(place) => {
-                let reply = self.slots.say(version, place, payload);
+                let reply = self.slots.say(version, place, seq, payload);
                 if let Reply::Said(_) = reply {
                     note_put_out(&mut self.busy, &self.slots, place);
                 }

@@ -261,17 +261,24 @@ impl Slots {
         Reply::Refused(Refusal::Spent)
     }
 
-    /// Says something in the group at a place, at a node that sends this version of the packet text. Spent where it was
-    /// dropped. What gets a number is put out: something waits then for each node that the group reaches.
-    pub fn say(&mut self, version: Version, place: usize, payload: &[u8]) -> Reply
-        ensures reply { result ≡ unless_gone (λ s. say_answer version s payload.now) (row_at self.old.rows place).slot }
+    /// Says something in the group at a place, at a node that sends this version of the packet text, under the number `seq` if
+    /// the caller names one. Spent where it was dropped. What gets a number is put out: something waits then for each node
+    /// that the group reaches.
+    pub fn say(
+        &mut self,
+        version: Version,
+        place: usize,
+        seq: Option<u32>,
+        payload: &[u8],
+    ) -> Reply
+        ensures reply { result ≡ unless_gone (λ s. say_answer version s (record { payload = payload.now; seq = seq })) (row_at self.old.rows place).slot }
         ensures rows { self.new.rows ≡ slice_set self.old.rows place (on_slot (slot_said payload.now result) (row_at self.old.rows place)) }
         ensures put_out { (seq : ℕ) → result ≡ Reply.Said seq → IsPutOut (row_at self.new.rows place).slot }
     {
         self.recent = place;
         if let Some(key) = key_at(&self.places, place) {
             if let Some(slot) = self.slots.get_mut(key) {
-                return said(slot.say(version, payload, &mut self.effects));
+                return said(slot.say(version, seq, payload, &mut self.effects));
             }
         }
         Reply::Refused(Refusal::Spent)

@@ -87,7 +87,7 @@ refused_makes g (Make token addr spec) why = refl
 refused_makes g (OpenGroup token addr) why = refl
 refused_makes g (ShutGroup token addr) why = refl
 refused_makes g (DropGroup token addr) why = refl
-refused_makes g (Say token addr payload) why = refl
+refused_makes g (Say token addr message) why = refl
 refused_makes g (Fetch token addr from most) why = refl
 
 -- a request that is not the group's own, and makes nothing of it
@@ -134,7 +134,7 @@ did_keeps a (AskMake spec) Done m = record { reserve = refl; taken = refl; come 
 did_keeps a AskOpen Done m = record { reserve = refl; taken = refl; come = refl; done = refl; noticed = refl; stopped = refl }
 did_keeps a AskShut Done m = record { reserve = refl; taken = refl; come = refl; done = refl; noticed = refl; stopped = refl }
 did_keeps a AskDrop Done m = record { reserve = refl; taken = refl; come = refl; done = refl; noticed = refl; stopped = refl }
-did_keeps a (AskSay payload) (Said seq) m = record { reserve = refl; taken = refl; come = refl; done = refl; noticed = refl; stopped = refl }
+did_keeps a (AskSay message) (Said seq) m = record { reserve = refl; taken = refl; come = refl; done = refl; noticed = refl; stopped = refl }
 did_keeps a e r m = record { reserve = refl; taken = refl; come = refl; done = refl; noticed = refl; stopped = refl }
 
 -- what is told fits the group at a node, of whose items these are carried to each node

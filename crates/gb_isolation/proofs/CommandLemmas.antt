@@ -50,6 +50,7 @@ use Rattle.gb_isolation.proofs.FinishedLemmas.{counts_fit, unknown_acknowledged}
 use Rattle.gb_isolation.proofs.MemberLemmas.{answered-is, called_there, called_put}
 use Rattle.gb_isolation.proofs.PastLemmas.{running_unmet}
 use Rattle.gb_isolation.proofs.View.{View, view_of, IsThere, IsInside, Fits, Goes, bounds_with}
+use Rattle.gb_types.specs.declared.new_message.NewMessage.{NewMessage}
 
 -- A request that names a group comes with the token that it needs where it comes with the group's.
 pub group_token_is : (plan : NodePlan) (g : Addr) (past : List Happened) (request : Request) → is_named g request ≡ true → has_group_token_by plan.me past request ≡ is_admitted_by plan past request
@@ -58,7 +59,7 @@ group_token_is plan g past (Make token addr spec) named = refl
 group_token_is plan g past (OpenGroup token addr) named = refl
 group_token_is plan g past (ShutGroup token addr) named = refl
 group_token_is plan g past (DropGroup token addr) named = refl
-group_token_is plan g past (Say token addr payload) named = refl
+group_token_is plan g past (Say token addr message) named = refl
 group_token_is plan g past (Fetch token addr from most) named = refl
 
 -- A command with the right token: the group's tenant is here.
@@ -69,7 +70,7 @@ none_admitted plan g past (Make token addr spec) none named = let there : row_of
 none_admitted plan g past (OpenGroup token addr) none named = let there : row_of addr.tenant (tenants_in past) ≡ None = ap (λ (x : Addr). row_of x.tenant (tenants_in past)) (sym (addr_is g addr named)) ∙ none in rw there refl
 none_admitted plan g past (ShutGroup token addr) none named = let there : row_of addr.tenant (tenants_in past) ≡ None = ap (λ (x : Addr). row_of x.tenant (tenants_in past)) (sym (addr_is g addr named)) ∙ none in rw there refl
 none_admitted plan g past (DropGroup token addr) none named = let there : row_of addr.tenant (tenants_in past) ≡ None = ap (λ (x : Addr). row_of x.tenant (tenants_in past)) (sym (addr_is g addr named)) ∙ none in rw there refl
-none_admitted plan g past (Say token addr payload) none named = let there : row_of addr.tenant (tenants_in past) ≡ None = ap (λ (x : Addr). row_of x.tenant (tenants_in past)) (sym (addr_is g addr named)) ∙ none in rw there refl
+none_admitted plan g past (Say token addr message) none named = let there : row_of addr.tenant (tenants_in past) ≡ None = ap (λ (x : Addr). row_of x.tenant (tenants_in past)) (sym (addr_is g addr named)) ∙ none in rw there refl
 none_admitted plan g past (Fetch token addr from most) none named = let there : row_of addr.tenant (tenants_in past) ≡ None = ap (λ (x : Addr). row_of x.tenant (tenants_in past)) (sym (addr_is g addr named)) ∙ none in rw there refl
 
 pub tenant_here : (plan : NodePlan) (g : Addr) (past : List Happened) (request : Request) → is_own_request plan.me g past request ≡ true → is_some (view_of plan g past).reserve ≡ true
@@ -280,22 +281,22 @@ said_fits nodes a carried payload seq t m fresh fits = record {
         let now : k ≡ said_in t.calls = omega (arith, said, last) in
         fits.acks.beyond b (k + 1) (omega (arith, now)) ∙ sym (ap (λ n. is_acknowledged a.number (n + 1) (m.done b) 1 (carried b)) now ∙ unknown_acknowledged a.number (said_in t.calls + 1) (m.done b) 1 (carried b) (fresh b low))
 
-says : (version : Version) (nodes : ℕ) (a : NodeId) (carried : ℕ → List Entry) (payload : List ℕ) (o : Option (Option Told)) (m : Member) (r : Reply) → group_answer (λ s. say_answer version s payload) (shown_in a.number o) ≡ r
+says : (version : Version) (nodes : ℕ) (a : NodeId) (carried : ℕ → List Entry) (message : NewMessage) (o : Option (Option Told)) (m : Member) (r : Reply) → group_answer (λ s. say_answer version s message) (shown_in a.number o) ≡ r
     → ((t : Told) → o ≡ Some (Some t) → (b : ℕ) → b < nodes → list_any (alone.is_own a.number (said_in t.calls + 1)) (carried b) ≡ false)
-    → MemberFits nodes a.number carried o m → MemberFits nodes a.number carried (said_after a payload r o) (did a (AskSay payload) r m)
-says version nodes a carried payload o m (Said seq) is fresh fits =
-    let made = found_from (λ s. say_answer version s payload) a.number (Said seq) (said_accepted seq) o is in
-    subst (λ x. MemberFits nodes a.number carried (stepped (with_call a (saying a payload seq)) x) (called a.number (saying a payload seq) m)) (sym made.1)
-    (said_fits nodes a carried payload seq made.0 m (fresh made.0 made.1) (subst (λ x. MemberFits nodes a.number carried x m) made.1 fits))
-says version nodes a carried payload o m r is fresh fits = fits
+    → MemberFits nodes a.number carried o m → MemberFits nodes a.number carried (said_after a message.payload r o) (did a (AskSay message) r m)
+says version nodes a carried message o m (Said seq) is fresh fits =
+    let made = found_from (λ s. say_answer version s message) a.number (Said seq) (said_accepted seq) o is in
+    subst (λ x. MemberFits nodes a.number carried (stepped (with_call a (saying a message.payload seq)) x) (called a.number (saying a message.payload seq) m)) (sym made.1)
+    (said_fits nodes a carried message.payload seq made.0 m (fresh made.0 made.1) (subst (λ x. MemberFits nodes a.number carried x m) made.1 fits))
+says version nodes a carried message o m r is fresh fits = fits
 
-said_spec : (a : NodeId) (payload : List ℕ) (r : Reply) (m : Member) → (did a (AskSay payload) r m).spec ≡ m.spec
-said_spec a payload (Said seq) m = refl
-said_spec a payload r m = refl
+said_spec : (a : NodeId) (message : NewMessage) (r : Reply) (m : Member) → (did a (AskSay message) r m).spec ≡ m.spec
+said_spec a message (Said seq) m = refl
+said_spec a message r m = refl
 
-said_for : (g : Addr) (me : NodeId) (noticed : set.FinSet nat_cmp) (token : List ℕ) (addr : Addr) (payload : List ℕ) (r : Reply) (o : Option (Option Told)) → is_addr g addr ≡ true → asked_told g me noticed (Say token addr payload) r o ≡ said_after me payload r o
-said_for g me noticed token addr payload (Said seq) o here = ap (λ b. where_so b (stepped (with_call me (saying me payload seq))) o) here
-said_for g me noticed token addr payload r o here = refl
+said_for : (g : Addr) (me : NodeId) (noticed : set.FinSet nat_cmp) (token : List ℕ) (addr : Addr) (message : NewMessage) (r : Reply) (o : Option (Option Told)) → is_addr g addr ≡ true → asked_told g me noticed (Say token addr message) r o ≡ said_after me message.payload r o
+said_for g me noticed token addr message (Said seq) o here = ap (λ b. where_so b (stepped (with_call me (saying me message.payload seq))) o) here
+said_for g me noticed token addr message r o here = refl
 
 -- The group's commands, each with the node's reply.
 
@@ -343,16 +344,16 @@ module _ (plan : NodePlan) (versions : List Version) (g : Addr) (past : List Hap
       (subst (λ (n : Member). MemberFits plan.nodes plan.me.number (carried_in g before) (dropped_after reply (told_of plan g past)) n) (sym (did_dropped plan.me reply m))
       (drops plan.nodes plan.me.number (carried_in g before) (told_of plan g past) m reply same (member_fits plan.nodes g plan.me.number frames_from before m fits)))
 
-  pub at_say : version_at versions plan.me.number ≡ plan.version → (payload : List ℕ) → plan.nodes ≤ NODES → is_stopped past ≡ false → is_own_request plan.me g past (Say token addr payload) ≡ true → reply ≡ admitted_answer plan past (Say token addr payload)
+  pub at_say : version_at versions plan.me.number ≡ plan.version → (message : NewMessage) → plan.nodes ≤ NODES → is_stopped past ≡ false → is_own_request plan.me g past (Say token addr message) ≡ true → reply ≡ admitted_answer plan past (Say token addr message)
       → ((t : Told) → told_of plan g past ≡ Some (Some t) → (b : ℕ) → b < plan.nodes → list_any (alone.is_own plan.me.number (said_in t.calls + 1)) (carried_in g before b) ≡ false)
-      → Fits plan.nodes g plan.me.number frames_from before m → AskedGoes plan versions g past (Say token addr payload) reply frames_from group
-  at_say right payload few running own is fresh fits =
-      let named = (and_parts (is_addr g addr) (has_group_token_by plan.me past (Say token addr payload)) own).0 in
-      let same = same_answer (λ s. say_answer plan.version s payload) named is in
-      own_command plan versions g past (Say token addr payload) reply frames_from group (AskSay payload) (said_after plan.me payload reply (told_of plan g past)) running own refl (said_for g plan.me (noticed_in plan past) token addr payload reply (told_of plan g past) named) refl refl tt refl
-      (ap (λ version. on_group (λ s. say_answer version s payload) plan.me.number m) right ∙ (answers_alike plan g past (Say token addr payload) frames_from group (λ s. say_answer plan.version s payload) few own fits ∙ same))
-      (said_spec plan.me payload reply m) fits
-      (says plan.version plan.nodes plan.me (carried_in g before) payload (told_of plan g past) m reply same fresh (member_fits plan.nodes g plan.me.number frames_from before m fits))
+      → Fits plan.nodes g plan.me.number frames_from before m → AskedGoes plan versions g past (Say token addr message) reply frames_from group
+  at_say right message few running own is fresh fits =
+      let named = (and_parts (is_addr g addr) (has_group_token_by plan.me past (Say token addr message)) own).0 in
+      let same = same_answer (λ s. say_answer plan.version s message) named is in
+      own_command plan versions g past (Say token addr message) reply frames_from group (AskSay message) (said_after plan.me message.payload reply (told_of plan g past)) running own refl (said_for g plan.me (noticed_in plan past) token addr message reply (told_of plan g past) named) refl refl tt refl
+      (ap (λ version. on_group (λ s. say_answer version s message) plan.me.number m) right ∙ (answers_alike plan g past (Say token addr message) frames_from group (λ s. say_answer plan.version s message) few own fits ∙ same))
+      (said_spec plan.me message reply m) fits
+      (says plan.version plan.nodes plan.me (carried_in g before) message (told_of plan g past) m reply same fresh (member_fits plan.nodes g plan.me.number frames_from before m fits))
 
   pub at_fetch : (from most : ℕ) → plan.nodes ≤ NODES → is_stopped past ≡ false → is_own_request plan.me g past (Fetch token addr from most) ≡ true → reply ≡ admitted_answer plan past (Fetch token addr from most)
       → Fits plan.nodes g plan.me.number frames_from before m → AskedGoes plan versions g past (Fetch token addr from most) reply frames_from group

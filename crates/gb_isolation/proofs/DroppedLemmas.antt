@@ -72,7 +72,7 @@ asked_stays g me noticed (Make token addr spec) Done kept o = added_stays (is_ad
 asked_stays g me noticed (OpenGroup token addr) Done kept o = where_stays (is_addr g addr) (stepped (moved_to Opened)) (stepped_stays (moved_to Opened)) o
 asked_stays g me noticed (ShutGroup token addr) Done kept o = where_stays (is_addr g addr) (stepped (moved_to Shut)) (stepped_stays (moved_to Shut)) o
 asked_stays g me noticed (DropGroup token addr) Done kept o = ap (λ (t : Bool). is_out (where_so t dropped o)) kept
-asked_stays g me noticed (Say token addr payload) (Said seq) kept o = where_stays (is_addr g addr) (stepped (with_call me (Own (record { origin = me; seq = seq; payload = payload })))) (stepped_stays (with_call me (Own (record { origin = me; seq = seq; payload = payload })))) o
+asked_stays g me noticed (Say token addr message) (Said seq) kept o = where_stays (is_addr g addr) (stepped (with_call me (Own (record { origin = me; seq = seq; payload = message.payload })))) (stepped_stays (with_call me (Own (record { origin = me; seq = seq; payload = message.payload })))) o
 asked_stays g me noticed request reply kept o = refl
 
 taken_stays : (version : Version) (me : NodeId) (key : List ℕ) (g : Addr) (past : List Happened) (frame : Frame) (c : Content) → Stays (λ o. taken_told version me key g past frame o c)

@@ -25,7 +25,7 @@ did_same (Make token addr spec) why v = refl
 did_same (OpenGroup token addr) why v = refl
 did_same (ShutGroup token addr) why v = refl
 did_same (DropGroup token addr) why v = refl
-did_same (Say token addr payload) why v = refl
+did_same (Say token addr message) why v = refl
 did_same (Fetch token addr from most) why v = refl
 
 refused_same : (request : Request) (why : Refusal) (v : NodeValue) (reply : Reply) → Replied (Refused why) ≡ Replied reply → node_did request reply v ≡ v

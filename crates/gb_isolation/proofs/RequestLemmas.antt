@@ -179,7 +179,7 @@ module _ (plan : NodePlan) (versions : List Version) (g : Addr) (past : List Hap
   other_for (OpenGroup token addr) Done other = rw other refl
   other_for (ShutGroup token addr) Done other = rw other refl
   other_for (DropGroup token addr) Done other = rw other refl
-  other_for (Say token addr payload) (Said seq) other = rw other refl
+  other_for (Say token addr message) (Said seq) other = rw other refl
   other_for request r other = refl
 
   other_made : (request : Request) (r : Reply) → is_named g request ≡ false → made_by g (Asked request) (Replied r) ≡ None
@@ -193,7 +193,7 @@ module _ (plan : NodePlan) (versions : List Version) (g : Addr) (past : List Hap
   other_goes (OpenGroup token addr) r running own named new fits = passes (OpenGroup token addr) r running own refl (other_for (OpenGroup token addr) r named) refl refl fits
   other_goes (ShutGroup token addr) r running own named new fits = passes (ShutGroup token addr) r running own refl (other_for (ShutGroup token addr) r named) refl refl fits
   other_goes (DropGroup token addr) r running own named new fits = passes (DropGroup token addr) r running own refl (other_for (DropGroup token addr) r named) refl refl fits
-  other_goes (Say token addr payload) r running own named new fits = passes (Say token addr payload) r running own refl (other_for (Say token addr payload) r named) refl refl fits
+  other_goes (Say token addr message) r running own named new fits = passes (Say token addr message) r running own refl (other_for (Say token addr message) r named) refl refl fits
   other_goes (Fetch token addr from most) r running own named new fits = passes (Fetch token addr from most) r running own refl refl refl refl fits
 
   -- The group's own request.
@@ -211,7 +211,7 @@ module _ (plan : NodePlan) (versions : List Version) (g : Addr) (past : List Hap
   own_goes (OpenGroup token addr) reply right few silent below fresh running own is fits = at_open plan versions g past frames_from group reply token addr few running own is fits
   own_goes (ShutGroup token addr) reply right few silent below fresh running own is fits = at_shut plan versions g past frames_from group reply token addr few running own is fits
   own_goes (DropGroup token addr) reply right few silent below fresh running own is fits = at_drop plan versions g past frames_from group reply token addr few running own is fits
-  own_goes (Say token addr payload) reply right few silent below fresh running own is fits = at_say plan versions g past frames_from group reply token addr right payload few running own is fresh fits
+  own_goes (Say token addr message) reply right few silent below fresh running own is fits = at_say plan versions g past frames_from group reply token addr right message few running own is fresh fits
   own_goes (Fetch token addr from most) reply right few silent below fresh running own is fits = at_fetch plan versions g past frames_from group reply token addr from most few running own is fits
 
 -- Replies.
@@ -228,7 +228,7 @@ no_memory (Make token addr spec) why takes = clash takes
 no_memory (OpenGroup token addr) why takes = takes
 no_memory (ShutGroup token addr) why takes = takes
 no_memory (DropGroup token addr) why takes = takes
-no_memory (Say token addr payload) why takes = takes
+no_memory (Say token addr message) why takes = takes
 no_memory (Fetch token addr from most) why takes = clash takes
   where
     clash : false ≡ true → ⊥

@@ -67,8 +67,8 @@ named_pairs g a (Make token addr spec) reply named = command_pairs a (AskMake sp
 named_pairs g a (OpenGroup token addr) reply named = command_pairs a AskOpen reply refl
 named_pairs g a (ShutGroup token addr) reply named = command_pairs a AskShut reply refl
 named_pairs g a (DropGroup token addr) reply named = command_pairs a AskDrop reply refl
-named_pairs g a (Say token addr payload) (Said seq) named = command_pairs a (AskSay payload) (Said seq) refl
-named_pairs g a (Say token addr payload) reply named = command_pairs a (AskSay payload) reply refl
+named_pairs g a (Say token addr message) (Said seq) named = command_pairs a (AskSay message) (Said seq) refl
+named_pairs g a (Say token addr message) reply named = command_pairs a (AskSay message) reply refl
 named_pairs g a (Fetch token addr from most) reply named = command_pairs a (AskFetch from most) reply refl
 
 reply_pairs : (plan : NodePlan) (g : Addr) (past : List Happened) (request : Request) (reply : Reply)

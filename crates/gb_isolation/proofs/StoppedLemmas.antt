@@ -44,7 +44,7 @@ command_named g a (Make token addr spec) named = record { event = AskMake spec; 
 command_named g a (OpenGroup token addr) named = record { event = AskOpen; one = refl; may = λ group. tt; replied = λ bounds number group. refl; nothing = λ m. refl }
 command_named g a (ShutGroup token addr) named = record { event = AskShut; one = refl; may = λ group. tt; replied = λ bounds number group. refl; nothing = λ m. refl }
 command_named g a (DropGroup token addr) named = record { event = AskDrop; one = refl; may = λ group. tt; replied = λ bounds number group. refl; nothing = λ m. refl }
-command_named g a (Say token addr payload) named = record { event = AskSay payload; one = refl; may = λ group. tt; replied = λ bounds number group. refl; nothing = λ m. refl }
+command_named g a (Say token addr message) named = record { event = AskSay message; one = refl; may = λ group. tt; replied = λ bounds number group. refl; nothing = λ m. refl }
 command_named g a (Fetch token addr from most) named = record { event = AskFetch from most; one = refl; may = λ group. tt; replied = λ bounds number group. refl; nothing = λ m. refl }
 
 -- The group alone at a node that has stopped.

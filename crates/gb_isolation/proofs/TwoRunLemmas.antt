@@ -30,7 +30,7 @@ module _ (bounds other : Bounds) (number : ℕ) (size : bounds.nodes ≡ other.n
 
   same_reply : (me : ℕ) → IsSameAt me → (e : GroupEvent) (m : Member) → running_reply bounds number me e m ≡ running_reply other number me e m
   same_reply me same (AskMake spec) m = ap (λ nodes. by_tenant (make_answer nodes me number (is_some m.spec) spec) m.reserve) size
-  same_reply me same (AskSay payload) m = ap (λ version. on_group (λ s. say_answer version s payload) me m) same
+  same_reply me same (AskSay message) m = ap (λ version. on_group (λ s. say_answer version s message) me m) same
   same_reply me same e m = refl
 
   same_member : (me : NodeId) → IsSameAt me.number → (e : GroupEvent) (group : Group) → member_after bounds number me e group ≡ member_after other number me e group

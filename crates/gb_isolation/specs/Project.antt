@@ -71,7 +71,7 @@ is_named g (Make token addr spec) = is_addr g addr
 is_named g (OpenGroup token addr) = is_addr g addr
 is_named g (ShutGroup token addr) = is_addr g addr
 is_named g (DropGroup token addr) = is_addr g addr
-is_named g (Say token addr payload) = is_addr g addr
+is_named g (Say token addr message) = is_addr g addr
 is_named g (Fetch token addr from most) = is_addr g addr
 
 -- a request of the group at the node a: it names the group, and comes with the token that it needs by the tenants that were added there
@@ -85,7 +85,7 @@ command_for g a (Make token addr spec) = record { node = a; event = AskMake spec
 command_for g a (OpenGroup token addr) = record { node = a; event = AskOpen } ∷ []
 command_for g a (ShutGroup token addr) = record { node = a; event = AskShut } ∷ []
 command_for g a (DropGroup token addr) = record { node = a; event = AskDrop } ∷ []
-command_for g a (Say token addr payload) = record { node = a; event = AskSay payload } ∷ []
+command_for g a (Say token addr message) = record { node = a; event = AskSay message } ∷ []
 command_for g a (Fetch token addr from most) = record { node = a; event = AskFetch from most } ∷ []
 
 -- what the group was made with, if it was

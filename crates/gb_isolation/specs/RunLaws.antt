@@ -40,7 +40,7 @@ use Rattle.gb_isolation.specs.Project.{project, group_items, is_noticed_after, i
 
 -- the message that a request with its reply is
 abbrev pub said_by : Request → Reply → List Accepted
-said_by (Say token addr payload) (Said seq) = record { seq = seq; payload = payload } ∷ []
+said_by (Say token addr message) (Said seq) = record { seq = seq; payload = message.payload } ∷ []
 said_by request reply = []
 
 abbrev pub accepted_by : NodePlan → Addr → List Happened → NodeEvent → NodeAnswer → List Accepted

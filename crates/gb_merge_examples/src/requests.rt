@@ -4,6 +4,7 @@ use gb_cap::token::{Need, Token, token};
 use gb_types::address::Addr;
 use gb_types::kind::Kind;
 use gb_types::memory::OutOfMemory;
+use gb_types::new_message::NewMessage;
 use gb_types::node::{NodeId, NodeSet};
 use gb_types::payload::Payload;
 use gb_types::request::Request;
@@ -74,7 +75,7 @@ pub fn request(alloc: Global, me: NodeId, asked: Asked) -> Result<Request, OutOf
         Asked::OpenGroup => Request::OpenGroup(owner(), GROUP),
         Asked::Say(bytes) => {
             let payload = Payload::from_slice(alloc, bytes)?;
-            Request::Say(member(me), GROUP, payload)
+            Request::Say(member(me), GROUP, NewMessage::new(payload))
         }
         Asked::Fetch(from, most) => Request::Fetch(member(me), GROUP, from, most),
     })

@@ -81,7 +81,7 @@ added_refused (Make token addr spec) why = refl
 added_refused (OpenGroup token addr) why = refl
 added_refused (ShutGroup token addr) why = refl
 added_refused (DropGroup token addr) why = refl
-added_refused (Say token addr payload) why = refl
+added_refused (Say token addr message) why = refl
 added_refused (Fetch token addr from most) why = refl
 
 stopped_no_op : (key : List ℕ) (e : NodeEvent) → IsNoOp key e (stopped_answer e)
@@ -102,7 +102,7 @@ added_unsent (Make token addr spec) = refl
 added_unsent (OpenGroup token addr) = refl
 added_unsent (ShutGroup token addr) = refl
 added_unsent (DropGroup token addr) = refl
-added_unsent (Say token addr payload) = refl
+added_unsent (Say token addr message) = refl
 added_unsent (Fetch token addr from most) = refl
 
 unsent_no_op : (key : List ℕ) (e : NodeEvent) → IsNoOp key e (Sent (SentRefused OutOfMemory))
@@ -201,10 +201,10 @@ did_tenants noticed (DropGroup token addr) Done t = sym (append-nil t.tenants)
 did_tenants noticed (DropGroup token addr) (Said seq) t = sym (append-nil t.tenants)
 did_tenants noticed (DropGroup token addr) (Log entries) t = sym (append-nil t.tenants)
 did_tenants noticed (DropGroup token addr) (Refused why) t = sym (append-nil t.tenants)
-did_tenants noticed (Say token addr payload) Done t = sym (append-nil t.tenants)
-did_tenants noticed (Say token addr payload) (Said seq) t = sym (append-nil t.tenants)
-did_tenants noticed (Say token addr payload) (Log entries) t = sym (append-nil t.tenants)
-did_tenants noticed (Say token addr payload) (Refused why) t = sym (append-nil t.tenants)
+did_tenants noticed (Say token addr message) Done t = sym (append-nil t.tenants)
+did_tenants noticed (Say token addr message) (Said seq) t = sym (append-nil t.tenants)
+did_tenants noticed (Say token addr message) (Log entries) t = sym (append-nil t.tenants)
+did_tenants noticed (Say token addr message) (Refused why) t = sym (append-nil t.tenants)
 did_tenants noticed (Fetch token addr from most) Done t = sym (append-nil t.tenants)
 did_tenants noticed (Fetch token addr from most) (Said seq) t = sym (append-nil t.tenants)
 did_tenants noticed (Fetch token addr from most) (Log entries) t = sym (append-nil t.tenants)
@@ -239,10 +239,10 @@ did_same noticed (DropGroup token addr) Done t = record { me = refl; nodes = ref
 did_same noticed (DropGroup token addr) (Said seq) t = record { me = refl; nodes = refl; version = refl; places = refl; admin_key = refl }
 did_same noticed (DropGroup token addr) (Log entries) t = record { me = refl; nodes = refl; version = refl; places = refl; admin_key = refl }
 did_same noticed (DropGroup token addr) (Refused why) t = record { me = refl; nodes = refl; version = refl; places = refl; admin_key = refl }
-did_same noticed (Say token addr payload) Done t = record { me = refl; nodes = refl; version = refl; places = refl; admin_key = refl }
-did_same noticed (Say token addr payload) (Said seq) t = record { me = refl; nodes = refl; version = refl; places = refl; admin_key = refl }
-did_same noticed (Say token addr payload) (Log entries) t = record { me = refl; nodes = refl; version = refl; places = refl; admin_key = refl }
-did_same noticed (Say token addr payload) (Refused why) t = record { me = refl; nodes = refl; version = refl; places = refl; admin_key = refl }
+did_same noticed (Say token addr message) Done t = record { me = refl; nodes = refl; version = refl; places = refl; admin_key = refl }
+did_same noticed (Say token addr message) (Said seq) t = record { me = refl; nodes = refl; version = refl; places = refl; admin_key = refl }
+did_same noticed (Say token addr message) (Log entries) t = record { me = refl; nodes = refl; version = refl; places = refl; admin_key = refl }
+did_same noticed (Say token addr message) (Refused why) t = record { me = refl; nodes = refl; version = refl; places = refl; admin_key = refl }
 did_same noticed (Fetch token addr from most) Done t = record { me = refl; nodes = refl; version = refl; places = refl; admin_key = refl }
 did_same noticed (Fetch token addr from most) (Said seq) t = record { me = refl; nodes = refl; version = refl; places = refl; admin_key = refl }
 did_same noticed (Fetch token addr from most) (Log entries) t = record { me = refl; nodes = refl; version = refl; places = refl; admin_key = refl }
@@ -262,7 +262,7 @@ asked_refused g me noticed (Make token addr spec) why o = refl
 asked_refused g me noticed (OpenGroup token addr) why o = refl
 asked_refused g me noticed (ShutGroup token addr) why o = refl
 asked_refused g me noticed (DropGroup token addr) why o = refl
-asked_refused g me noticed (Say token addr payload) why o = refl
+asked_refused g me noticed (Say token addr message) why o = refl
 asked_refused g me noticed (Fetch token addr from most) why o = refl
 
 -- and tells it nothing
@@ -272,7 +272,7 @@ asked_untold g me noticed (Make token addr spec) why t = refl
 asked_untold g me noticed (OpenGroup token addr) why t = refl
 asked_untold g me noticed (ShutGroup token addr) why t = refl
 asked_untold g me noticed (DropGroup token addr) why t = refl
-asked_untold g me noticed (Say token addr payload) why t = refl
+asked_untold g me noticed (Say token addr message) why t = refl
 asked_untold g me noticed (Fetch token addr from most) why t = refl
 
 -- nothing is made of a group, and nothing is told to it

@@ -10,7 +10,7 @@ use Rattle.gb_types.specs.declared.entry.Entry.{Entry}
 use Rattle.gb_types.specs.Version.{limits_of}
 use Rattle.gb_types.specs.declared.version.Version.{Version}
 use Rattle.gb_types.specs.declared.node.NodeId.{NodeId}
-use Rattle.gb_types.specs.declared.refusal.Refusal.TheVariants.{Denied, NoGroup, Spent, BadMembers, OverReserve, TooLong, Budget, Bytes, Window, NoRoom, TenantThere}
+use Rattle.gb_types.specs.declared.refusal.Refusal.TheVariants.{BadPlace, Denied, NoGroup, Spent, BadMembers, OverReserve, TooLong, Budget, Bytes, Window, NoRoom, TenantThere}
 use Rattle.gb_types.specs.declared.reply.Reply.{Reply}
 use Rattle.gb_types.specs.declared.reply.Reply.TheVariants.{Done, Said, Log, Refused}
 use Rattle.gb_types.specs.declared.request.Request.{Request}
@@ -22,7 +22,7 @@ use Rattle.gb_frame.specs.declared.item.Item.{Item}
 use Rattle.gb_frame.proofs.VersionLemmas.{shortest_fits}
 use Rattle.gb_frame.proofs.TextLemmas.{length-tag_of}
 use Rattle.gb_frame.specs.Spelling.{tagged_text, header_text, tag_of, packet_text, IsPacket}
-use Rattle.gb_rules.specs.Group.{Shown, is_too_long, open_in, open_answer, shut_in, shut_answer, drop_answer, say_answer}
+use Rattle.gb_rules.specs.Group.{is_out_of_turn, Shown, is_too_long, open_in, open_answer, shut_in, shut_answer, drop_answer, say_answer}
 use Rattle.gb_rules.specs.Tenant.{is_over_limits, is_bad, is_over, tenant_answer, make_answer, by_tenant}
 use Rattle.gb_rules.specs.declared.phase.Phase.{Phase}
 use Rattle.gb_rules.specs.declared.phase.Phase.TheVariants.{Made, Opened, Shut, Gone}
@@ -40,6 +40,7 @@ use Rattle.gb_node.specs.declared.answer.NodeAnswer.{NodeAnswer}
 use Rattle.gb_node.specs.declared.answer.NodeAnswer.TheVariants.{Sent}
 use Rattle.gb_node.specs.declared.event.NodeEvent.{NodeEvent}
 use Rattle.gb_node.specs.declared.event.NodeEvent.TheVariants.{Request as Asked, Packet as Came, Pack, Again, Ack, Tick, Stop}
+use Rattle.gb_types.specs.declared.new_message.NewMessage.{NewMessage}
 
 -- Reads.
 
@@ -57,7 +58,7 @@ read_running v (Asked (Make token addr spec)) h = absurd (false≢true h)
 read_running v (Asked (OpenGroup token addr)) h = absurd (false≢true h)
 read_running v (Asked (ShutGroup token addr)) h = absurd (false≢true h)
 read_running v (Asked (DropGroup token addr)) h = absurd (false≢true h)
-read_running v (Asked (Say token addr payload)) h = absurd (false≢true h)
+read_running v (Asked (Say token addr message)) h = absurd (false≢true h)
 read_running v (Came bytes) h = absurd (false≢true h)
 read_running v (Pack b) h = absurd (false≢true h)
 read_running v (Again b n) h = refl
@@ -116,16 +117,18 @@ shut_within Opened = tt
 shut_within Shut = tt
 shut_within Gone = tt
 
-say_within : (version : Version) (spec : Spec) (phase : Phase) (usage : Usage) (log : List Entry) (payload : List ℕ) → IsReplyWithin (say_answer version (record { spec = spec; phase = phase; usage = usage; log = log }) payload)
-say_within version spec Made usage log payload = tt
-say_within version spec Opened usage log payload =
+say_within : (version : Version) (spec : Spec) (phase : Phase) (usage : Usage) (log : List Entry) (message : NewMessage) → IsReplyWithin (say_answer version (record { spec = spec; phase = phase; usage = usage; log = log }) message)
+say_within version spec Made usage log message = tt
+say_within version spec Opened usage log message =
     let open_window : Reply = if nat_le spec.window usage.unfinished then Refused Window else Said (usage.said + 1) in
-    let few_bytes : Reply = if nat_lt spec.bytes (usage.bytes + length payload) then Refused Bytes else open_window in
+    let few_bytes : Reply = if nat_lt spec.bytes (usage.bytes + length message.payload) then Refused Bytes else open_window in
     let few : Reply = if nat_le spec.msgs usage.said then Refused Budget else few_bytes in
-    within_if (is_too_long version payload) (Refused TooLong) few tt (within_if (nat_le spec.msgs usage.said) (Refused Budget) few_bytes tt
-    (within_if (nat_lt spec.bytes (usage.bytes + length payload)) (Refused Bytes) open_window tt (within_if (nat_le spec.window usage.unfinished) (Refused Window) (Said (usage.said + 1)) tt tt)))
-say_within version spec Shut usage log payload = tt
-say_within version spec Gone usage log payload = tt
+    let short : Reply = if is_too_long version message.payload then Refused TooLong else few in
+    within_if (is_out_of_turn usage.said message.seq) (Refused BadPlace) short tt
+    (within_if (is_too_long version message.payload) (Refused TooLong) few tt (within_if (nat_le spec.msgs usage.said) (Refused Budget) few_bytes tt
+    (within_if (nat_lt spec.bytes (usage.bytes + length message.payload)) (Refused Bytes) open_window tt (within_if (nat_le spec.window usage.unfinished) (Refused Window) (Said (usage.said + 1)) tt tt))))
+say_within version spec Shut usage log message = tt
+say_within version spec Gone usage log message = tt
 
 admitted_within : (r : Request) (t : TableValue) → is_read (Asked r) ≡ false → IsReplyWithin (admitted_reply r t)
 admitted_within (AddTenant token row) t h = tenant_within _ _ _ row
@@ -133,7 +136,7 @@ admitted_within (Make token addr spec) t h = by_within _ (reserve_for addr.tenan
 admitted_within (OpenGroup token addr) t h = at_within open_answer t.groups.rows (place_of addr t.groups.rows) (λ s. open_within s.phase)
 admitted_within (ShutGroup token addr) t h = at_within shut_answer t.groups.rows (place_of addr t.groups.rows) (λ s. shut_within s.phase)
 admitted_within (DropGroup token addr) t h = at_within drop_answer t.groups.rows (place_of addr t.groups.rows) (λ s. tt)
-admitted_within (Say token addr payload) t h = at_within (λ s. say_answer t.version s payload) t.groups.rows (place_of addr t.groups.rows) (λ s. say_within t.version s.spec s.phase s.usage s.log payload)
+admitted_within (Say token addr message) t h = at_within (λ s. say_answer t.version s message) t.groups.rows (place_of addr t.groups.rows) (λ s. say_within t.version s.spec s.phase s.usage s.log message)
 admitted_within (Fetch token addr from most) t h = absurd (true≢false h)
 
 asked_within : (r : Request) (t : TableValue) → is_read (Asked r) ≡ false → IsReplyWithin (table_reply r t)

@@ -45,7 +45,7 @@ asked_for g me noticed (Make token addr spec) Done o = or_added o (if is_addr g 
 asked_for g me noticed (OpenGroup token addr) Done o = where_so (is_addr g addr) (stepped (slot_moved Opened Done)) o
 asked_for g me noticed (ShutGroup token addr) Done o = where_so (is_addr g addr) (stepped (slot_moved Shut Done)) o
 asked_for g me noticed (DropGroup token addr) Done o = where_so (is_addr g addr) dropped o
-asked_for g me noticed (Say token addr payload) (Said seq) o = where_so (is_addr g addr) (stepped (slot_said payload (Said seq))) o
+asked_for g me noticed (Say token addr message) (Said seq) o = where_so (is_addr g addr) (stepped (slot_said message.payload (Said seq))) o
 asked_for g me noticed request reply o = o
 
 abbrev pub done_for : NodeId → Option (Option SlotState) → Item → Option (Option SlotState)

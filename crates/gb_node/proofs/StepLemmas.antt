@@ -91,7 +91,7 @@ module _ (plan : NodePlan) (past : List Happened) (v : NodeValue) (was : IsOfPas
   admitted_is (OpenGroup token addr) = at_group open_answer addr
   admitted_is (ShutGroup token addr) = at_group shut_answer addr
   admitted_is (DropGroup token addr) = at_group drop_answer addr
-  admitted_is (Say token addr payload) = at_group (λ s. say_answer plan.version s payload) addr
+  admitted_is (Say token addr message) = at_group (λ s. say_answer plan.version s message) addr
   admitted_is (Fetch token addr from most) = at_group (λ s. fetch_answer s from most) addr
 
   -- what a node should reply is what its past says

@@ -48,6 +48,8 @@ use Rattle.gb_node.proofs.WaitsLemmas.{waits_told, waits_noticed, own_unnoticed,
 use Rattle.gb_node.proofs.AcknowledgedLemmas.{acks_said, acks_done}
 use Rattle.gb_node.specs.StepLaw.{group_answer}
 use Rattle.gb_node.specs.declared.answer.Frame.{Frame}
+use Rattle.gb_types.specs.declared.new_message.NewMessage.{NewMessage}
+use Rattle.gb_rules.proofs.SayLemmas.{said_is}
 
 -- What holds of a slot for every history that it stands for.
 pub record SlotLaws : Type 0 where
@@ -104,22 +106,6 @@ both_where me false f k o t goes h = h
 
 -- A message that is said.
 
-say_in : (version : Version) (x : Shown) (payload : List ℕ) (seq : ℕ) → Said seq ≡ say_answer version x payload → seq ≡ x.usage.said + 1
-say_in version x payload seq = by x.phase
-  where
-    chain : (a b c d : Bool) → Said seq ≡ (if a then Refused TooLong else (if b then Refused Budget else (if c then Refused Bytes else (if d then Refused Window else Said (x.usage.said + 1))))) → seq ≡ x.usage.said + 1
-    chain true b c d e = absurd (cc)
-    chain false true c d e = absurd (cc)
-    chain false false true d e = absurd (cc)
-    chain false false false true e = absurd (cc)
-    chain false false false false e = cc
-
-    by : (phase : Phase) → Said seq ≡ say_answer version (record x { phase = phase }) payload → seq ≡ x.usage.said + 1
-    by Made e = absurd (cc)
-    by Opened e = chain (is_too_long version payload) (nat_le x.spec.msgs x.usage.said) (nat_lt x.spec.bytes (x.usage.bytes + length payload)) (nat_le x.spec.window x.usage.unfinished) e
-    by Shut e = absurd (cc)
-    by Gone e = absurd (cc)
-
 -- the reply to a command is read of the group
 pub reply_is : (answer : Shown → Reply) (rows : List Row) (place : Option ℕ) → reply_at answer rows place ≡ group_answer answer (option_map (option_map shown) (option_map (λ (row : Row). row.slot) (option_map (row_at rows) place)))
 reply_is answer rows None = refl
@@ -129,14 +115,14 @@ reply_is answer rows (Some p) = by (row_at rows p).slot
     by None = refl
     by (Some s) = refl
 
-said_seq : (t : TableValue) (token payload : List ℕ) (addr : Addr) (seq : ℕ) (s : SlotState) → Said seq ≡ table_reply (Say token addr payload) t → group_in addr t.groups.rows ≡ Some (Some s) → seq ≡ s.said + 1
-said_seq t token payload addr seq s e here = by (is_admitted (Say token addr payload) t) e
+said_seq : (t : TableValue) (token : List ℕ) (message : NewMessage) (addr : Addr) (seq : ℕ) (s : SlotState) → Said seq ≡ table_reply (Say token addr message) t → group_in addr t.groups.rows ≡ Some (Some s) → seq ≡ s.said + 1
+said_seq t token message addr seq s e here = by (is_admitted (Say token addr message) t) e
   where
-    reply : group_reply (λ x. say_answer t.version x payload) addr t.groups.rows ≡ say_answer t.version (shown s) payload
-    reply = reply_is (λ x. say_answer t.version x payload) t.groups.rows (place_of addr t.groups.rows) ∙ ap (λ o. group_answer (λ x. say_answer t.version x payload) (option_map (option_map shown) o)) here
+    reply : group_reply (λ x. say_answer t.version x message) addr t.groups.rows ≡ say_answer t.version (shown s) message
+    reply = reply_is (λ x. say_answer t.version x message) t.groups.rows (place_of addr t.groups.rows) ∙ ap (λ o. group_answer (λ x. say_answer t.version x message) (option_map (option_map shown) o)) here
 
-    by : (admitted : Bool) → Said seq ≡ (if admitted then group_reply (λ x. say_answer t.version x payload) addr t.groups.rows else Refused Denied) → seq ≡ s.said + 1
-    by true e = say_in t.version (shown s) payload seq (e ∙ reply)
+    by : (admitted : Bool) → Said seq ≡ (if admitted then group_reply (λ x. say_answer t.version x message) addr t.groups.rows else Refused Denied) → seq ≡ s.said + 1
+    by true e = (said_is t.version (shown s) message seq (sym (e ∙ reply))).next
     by false e = absurd (cc)
 
 said_told : SlotLaws → (me : NodeId) (s : SlotState) (t : Told) (payload : List ℕ) (seq : ℕ) → seq ≡ s.said + 1 → SlotTold me s t
@@ -191,14 +177,14 @@ module _ (law : SlotLaws) (me : NodeId) (noticed : set.FinSet nat_cmp) (few : (b
   asked_stands (DropGroup token addr) (Said seq) e = h
   asked_stands (DropGroup token addr) (Log entries) e = h
   asked_stands (DropGroup token addr) (Refused why) e = h
-  asked_stands (Say token addr payload) Done e = h
-  asked_stands (Say token addr payload) (Said seq) e =
-      let call = with_call me (Own (record { origin = me; seq = seq; payload = payload })) in
-      both_where me (is_addr g addr) (stepped (slot_said payload (Said seq))) (stepped call) o x
-      (λ own. told_step me (slot_said payload (Said seq)) call o x (λ s y there st. said_told law me s y payload seq (said_seq t token payload addr seq s e (ap (λ a. group_in a t.groups.rows) (sym (addr_is g addr own)) ∙ (sym is ∙ there))) st) h)
+  asked_stands (Say token addr message) Done e = h
+  asked_stands (Say token addr message) (Said seq) e =
+      let call = with_call me (Own (record { origin = me; seq = seq; payload = message.payload })) in
+      both_where me (is_addr g addr) (stepped (slot_said message.payload (Said seq))) (stepped call) o x
+      (λ own. told_step me (slot_said message.payload (Said seq)) call o x (λ s y there st. said_told law me s y message.payload seq (said_seq t token message addr seq s e (ap (λ a. group_in a t.groups.rows) (sym (addr_is g addr own)) ∙ (sym is ∙ there))) st) h)
       h
-  asked_stands (Say token addr payload) (Log entries) e = h
-  asked_stands (Say token addr payload) (Refused why) e = h
+  asked_stands (Say token addr message) (Log entries) e = h
+  asked_stands (Say token addr message) (Refused why) e = h
   asked_stands (Fetch token addr from most) Done e = h
   asked_stands (Fetch token addr from most) (Said seq) e = h
   asked_stands (Fetch token addr from most) (Log entries) e = h

@@ -143,7 +143,7 @@ asked_told g me noticed (Make token addr spec) Done o = or_added o (if is_addr g
 asked_told g me noticed (OpenGroup token addr) Done o = where_so (is_addr g addr) (stepped (moved_to Opened)) o
 asked_told g me noticed (ShutGroup token addr) Done o = where_so (is_addr g addr) (stepped (moved_to Shut)) o
 asked_told g me noticed (DropGroup token addr) Done o = where_so (is_addr g addr) dropped o
-asked_told g me noticed (Say token addr payload) (Said seq) o = where_so (is_addr g addr) (stepped (with_call me (Own (record { origin = me; seq = seq; payload = payload })))) o
+asked_told g me noticed (Say token addr message) (Said seq) o = where_so (is_addr g addr) (stepped (with_call me (Own (record { origin = me; seq = seq; payload = message.payload })))) o
 asked_told g me noticed request reply o = o
 
 -- an item of the group is acknowledged by a node; one whose origin is no node is nobody's

@@ -52,7 +52,7 @@ admitted_answer plan past (Make token addr spec) =
 admitted_answer plan past (OpenGroup token addr) = group_answer open_answer (shown_in plan.me.number (told_of plan addr past))
 admitted_answer plan past (ShutGroup token addr) = group_answer shut_answer (shown_in plan.me.number (told_of plan addr past))
 admitted_answer plan past (DropGroup token addr) = group_answer drop_answer (shown_in plan.me.number (told_of plan addr past))
-admitted_answer plan past (Say token addr payload) = group_answer (λ s. say_answer plan.version s payload) (shown_in plan.me.number (told_of plan addr past))
+admitted_answer plan past (Say token addr message) = group_answer (λ s. say_answer plan.version s message) (shown_in plan.me.number (told_of plan addr past))
 admitted_answer plan past (Fetch token addr from most) = group_answer (λ s. fetch_answer s from most) (shown_in plan.me.number (told_of plan addr past))
 
 -- the reply to any request

@@ -20,8 +20,8 @@ pub(crate) fn copy_request(alloc: Global, request: &Request) -> Result<Request, 
         Request::OpenGroup(token, addr) => Request::OpenGroup(*token, *addr),
         Request::ShutGroup(token, addr) => Request::ShutGroup(*token, *addr),
         Request::DropGroup(token, addr) => Request::DropGroup(*token, *addr),
-        Request::Say(token, addr, payload) => {
-            Request::Say(*token, *addr, payload.duplicate(alloc)?)
+        Request::Say(token, addr, message) => {
+            Request::Say(*token, *addr, message.duplicate(alloc)?)
         }
         Request::Fetch(token, addr, from, most) => Request::Fetch(*token, *addr, *from, *most),
     })

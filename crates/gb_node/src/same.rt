@@ -5,6 +5,7 @@ use crate::answer::{Good, PacketAnswer, Sent, Ticked};
 use crate::packet_text::PacketText;
 use gb_types::address::Addr;
 use gb_types::entry::Entry;
+use gb_types::new_message::NewMessage;
 use gb_types::node::{NodeId, NodeSet};
 use gb_types::reply::Reply;
 use gb_types::request::Request;
@@ -48,6 +49,12 @@ fn same_group(token: &[u8; 32], group: &Addr, other_token: &[u8; 32], other_grou
     *token == *other_token && *group == *other_group
 }
 
+fn same_message(first: &NewMessage, second: &NewMessage) -> bool
+    ensures { IsTrue result ↔ (first.now ≡ second.now) }
+{
+    first.seq == second.seq && first.payload.as_slice() == second.payload.as_slice()
+}
+
 /// Whether the requests are the same, and under the same token.
 pub(crate) fn same_request(first: &Request, second: &Request) -> bool
     ensures { IsTrue result ↔ (first.now ≡ second.now) }
@@ -60,8 +67,8 @@ pub(crate) fn same_request(first: &Request, second: &Request) -> bool
         (Request::OpenGroup(t, a), Request::OpenGroup(u, b))
         | (Request::ShutGroup(t, a), Request::ShutGroup(u, b))
         | (Request::DropGroup(t, a), Request::DropGroup(u, b)) => same_group(t, a, u, b),
-        (Request::Say(t, a, said), Request::Say(u, b, other)) => {
-            same_group(t, a, u, b) && said.as_slice() == other.as_slice()
+        (Request::Say(t, a, message), Request::Say(u, b, other)) => {
+            same_group(t, a, u, b) && same_message(message, other)
         }
         (Request::Fetch(t, a, from, most), Request::Fetch(u, b, start, count)) => {
             same_group(t, a, u, b) && *from == *start && *most == *count

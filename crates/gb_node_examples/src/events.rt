@@ -8,6 +8,7 @@ use gb_node::packet_text::PacketText;
 use gb_types::address::Addr;
 use gb_types::kind::Kind;
 use gb_types::memory::OutOfMemory;
+use gb_types::new_message::NewMessage;
 use gb_types::node::NodeSet;
 use gb_types::payload::Payload;
 use gb_types::request::Request;
@@ -63,8 +64,8 @@ fn make(addr: Addr, kind: Kind, third: u8) -> NodeEvent {
 
 /// Says something in a group at a node.
 fn say(alloc: Global, me: u8, addr: Addr, bytes: &[u8]) -> Result<NodeEvent, OutOfMemory> {
-    let payload = Payload::from_slice(alloc, bytes)?;
-    Ok(NodeEvent::Request(Request::Say(member(addr, me), addr, payload)))
+    let message = NewMessage::new(Payload::from_slice(alloc, bytes)?);
+    Ok(NodeEvent::Request(Request::Say(member(addr, me), addr, message)))
 }
 
 /// The packet with this number among those that were sent comes; no bytes come where there is none.

@@ -88,7 +88,7 @@ fn take(groups: &mut Groups, step: Step, group: u16) -> Reply {
         Step::Open => open(groups, addr),
         Step::Say => {
             let place = groups.find(addr);
-            groups.say(Version::One, addr, place, b"a")
+            groups.say(Version::One, addr, place, None, b"a")
         }
         Step::Item => item(groups, Version::One, group, b"x"),
         Step::LongItem(version) => item(groups, version, group, LONG),

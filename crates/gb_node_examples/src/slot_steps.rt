@@ -32,6 +32,8 @@ pub enum Step {
     Shut(Option<Refusal>),
     /// A payload is said and gets a number, or is refused.
     Say(&'static [u8], Result<u16, Refusal>),
+    /// A payload is said under a number that the caller names.
+    SayUnder(u32, &'static [u8], Result<u16, Refusal>),
     /// A message comes from a node.
     Came(u8, Message),
     Notice(u8),
@@ -110,7 +112,10 @@ fn holds(version: Version, slot: &mut Slot, effects: &mut Effects, step: Step) -
     match step {
         Step::Open(want) => slot.open_group().err() == want,
         Step::Shut(want) => slot.shut_group().err() == want,
-        Step::Say(payload, want) => slot.say(version, payload, effects) == want,
+        Step::Say(payload, want) => slot.say(version, None, payload, effects) == want,
+        Step::SayUnder(seq, payload, want) => {
+            slot.say(version, Some(seq), payload, effects) == want
+        }
         Step::Came(from, (origin, seq, payload)) => {
             slot.came(node(from), node(origin), seq, payload, effects);
             true

@@ -6,6 +6,7 @@ use gb_table::table::Table;
 use gb_types::address::Addr;
 use gb_types::kind::Kind;
 use gb_types::memory::OutOfMemory;
+use gb_types::new_message::NewMessage;
 use gb_types::node::{NodeId, NodeSet};
 use gb_types::payload::Payload;
 use gb_types::refusal::Refusal;
@@ -96,7 +97,7 @@ fn request(alloc: Global, ask: Ask, token: Token) -> Result<Request, OutOfMemory
         Ask::Drop(group) => Request::DropGroup(token, addr(group)),
         Ask::Say(group, zeros) => {
             let payload = Payload::from_slice(alloc, [0; 4_097].get(..zeros).unwrap_or(&[]))?;
-            Request::Say(token, addr(group), payload)
+            Request::Say(token, addr(group), NewMessage::new(payload))
         }
         Ask::Fetch(group, from) => Request::Fetch(token, addr(group), from, 16),
     };

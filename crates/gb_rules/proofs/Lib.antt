@@ -1,3 +1,4 @@
 pub mod AddressLemmas
 pub mod LengthLemmas
 pub mod LetFallLemmas
+pub mod SayLemmas

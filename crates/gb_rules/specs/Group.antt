@@ -3,6 +3,7 @@ use Rattle.std.specs.Prelude.{ℕ, ◌+◌, ◌&&◌, ◌||◌, not, Bool, true,
 use Rattle.std.specs.FinSet as set
 use Rattle.gb_types.specs.declared.entry.Entry.{Entry}
 use Rattle.gb_types.specs.declared.limits.TheConstants.{FETCH}
+use Rattle.gb_types.specs.declared.new_message.NewMessage.{NewMessage}
 use Rattle.gb_types.specs.declared.refusal.Refusal.{Refusal}
 use Rattle.gb_types.specs.declared.refusal.Refusal.TheVariants.{NoGroup, Spent, WrongPhase, TooLong, Budget, Bytes, Window, BadPlace}
 use Rattle.gb_types.specs.declared.reply.Reply.{Reply}
@@ -60,17 +61,24 @@ drop_answer s = Done
 abbrev pub is_too_long : Version → List ℕ → Bool
 is_too_long version payload = nat_lt (limits_of version).payload (length payload)
 
--- a message is said in an open group, within the payload's limit, the budgets of messages and of bytes, and the window
-abbrev pub say_answer : Version → Shown → List ℕ → Reply
-say_answer version s payload = say_in s.phase
+-- the caller names the number that the message must get, and another is next after so many messages
+abbrev pub is_out_of_turn : ℕ → Option ℕ → Bool
+is_out_of_turn said None = false
+is_out_of_turn said (Some seq) = not (nat_eq seq (said + 1))
+
+-- a message is said in an open group, under the number that the caller names, if any, within the payload's limit, the budgets of messages and of bytes, and
+-- the window
+abbrev pub say_answer : Version → Shown → NewMessage → Reply
+say_answer version s message = say_in s.phase
   where
     say_in : Phase → Reply
     say_in Opened =
-        if is_too_long version payload then Refused TooLong
+        if is_out_of_turn s.usage.said message.seq then Refused BadPlace
+        else (if is_too_long version message.payload then Refused TooLong
         else (if nat_le s.spec.msgs s.usage.said then Refused Budget
-        else (if nat_lt s.spec.bytes (s.usage.bytes + length payload) then Refused Bytes
+        else (if nat_lt s.spec.bytes (s.usage.bytes + length message.payload) then Refused Bytes
         else (if nat_le s.spec.window s.usage.unfinished then Refused Window
-        else Said (s.usage.said + 1))))
+        else Said (s.usage.said + 1)))))
     say_in phase = Refused WrongPhase
 
 -- a log of this length has no such place, or too many entries are asked for; places count from 0

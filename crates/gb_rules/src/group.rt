@@ -1,7 +1,7 @@
 //! What is answered to a group's commands where it was made.
 ghost use Rattle.std.specs.Prelude.{◌≡◌, ◌+◌, ◌<◌, ◌≤◌, false, length, OnOk};
 ghost use Rattle.gb_types.specs.declared.limits.TheConstants.{FETCH as MOST};
-ghost use Rattle.gb_rules.specs.Group.{open_in, shut_in, is_too_long, say_answer, is_bad_place, unlogged, said_next};
+ghost use Rattle.gb_rules.specs.Group.{open_in, shut_in, is_out_of_turn, is_too_long, say_answer, is_bad_place, unlogged, said_next};
 ghost use Rattle.gb_rules.specs.Replied.{done_reply};
 
 use crate::phase::Phase;
@@ -42,24 +42,39 @@ pub fn is_too_long(version: Version, payload: &[u8]) -> bool
     payload.len() > version.limits().payload
 }
 
-/// Whether the next message may be said in a group by a member that has used so much. WrongPhase where the group is
-/// not open, TooLong above the payload's limit of the version that the node sends, Budget where all messages are said,
-/// Bytes where the payload's bytes would be too many in all, Window where too many messages are unfinished, in this
-/// order.
+/// Whether a caller names the number that its message must get, and another is next after `said` messages.
+pub fn is_out_of_turn(said: u32, seq: Option<u32>) -> bool
+    ensures { result ≡ is_out_of_turn said seq }
+{
+    match seq {
+        None => false,
+        Some(seq) => u64::from(seq) != u64::from(said) + 1,
+    }
+}
+
+/// Whether a payload may be said as the next message of a group by a member that has used so much, under the number `seq` if
+/// the caller names one. WrongPhase where the group is
+/// not open, BadPlace where the caller names another number than the next, TooLong above the payload's limit of the
+/// version that the node sends, Budget where all messages are said, Bytes where the payload's bytes would be too many
+/// in all, Window where too many messages are unfinished, in this order.
 pub fn check_say(
     version: Version,
     spec: &Spec,
     phase: Phase,
     usage: Usage,
+    seq: Option<u32>,
     payload: &[u8],
 ) -> Result<(), Refusal>
-    ensures answer { said_next usage.said result ≡ say_answer version (unlogged spec.now phase usage) payload.now }
+    ensures answer { said_next usage.said result ≡ say_answer version (unlogged spec.now phase usage) (record { payload = payload.now; seq = seq }) }
     ensures short { OnOk result (is_too_long version payload.now ≡ false) }
     ensures said { OnOk result (usage.said < spec.now.msgs) }
     ensures bytes { OnOk result (usage.bytes + length payload.now ≤ spec.now.bytes) }
 {
     if phase != Phase::Opened {
         return Err(Refusal::WrongPhase);
+    }
+    if is_out_of_turn(usage.said, seq) {
+        return Err(Refusal::BadPlace);
     }
     if is_too_long(version, payload) {
         return Err(Refusal::TooLong);

@@ -2,6 +2,7 @@
 use Rattle.std.proofs.Common.{◌≡◌, ◌↔◌, ℕ, ◌<◌, ◌≤◌, List, [], ◌∷◌, replicate, Some, None, refl, sym, ap, ◌∙◌, decimal}
 use Rattle.gb_types.specs.declared.limits.TheConstants.{NODES, SILENCE_MIN, SILENCE_MAX}
 use Rattle.gb_types.specs.PayloadWord.{payload_of}
+use Rattle.gb_types.specs.declared.new_message.NewMessage.{NewMessage}
 use Rattle.gb_types.specs.declared.node.NodeId.{NodeId}
 use Rattle.gb_types.specs.declared.address.Addr.{Addr}
 use Rattle.gb_types.specs.declared.spec.Spec.{Spec}
@@ -220,16 +221,20 @@ make_reads nodes words a t g rest group spec token are reads_group reads_spec is
     let same_spec : spec ≡ spelt.spec = only (λ x. SpellsSpec x rest) spec spelt.spec reads_spec (rw same_words at spelt.spells_spec) in
     ap (λ q. Request node (Make q address spec)) is_token ∙ (λ i. Request (same_node i) (Make (tenant_token (same_address i).tenant) (same_address i) (same_spec i))) ∙ sym spelt.command_is)
 
-pub forge_reads : (nodes : ℕ) (words : List (List ℕ)) (a t g : List ℕ) (group : NodeId × Addr) (payload : List ℕ) → words ≡ a ∷ t ∷ g ∷ []
-    → Reads (AreGroupWords nodes a t g) group → payload ≡ []
-    → Reads (λ command. SpellsForge nodes command words) (Request group.0 (Say no_token group.1 payload))
-forge_reads nodes words a t g group payload are reads_group none =
+-- what a forger says: no bytes, under whatever number is next
+abbrev nothing_said : NewMessage
+nothing_said = record { payload = []; seq = None }
+
+pub forge_reads : (nodes : ℕ) (words : List (List ℕ)) (a t g : List ℕ) (group : NodeId × Addr) (message : NewMessage) → words ≡ a ∷ t ∷ g ∷ []
+    → Reads (AreGroupWords nodes a t g) group → message ≡ nothing_said
+    → Reads (λ command. SpellsForge nodes command words) (Request group.0 (Say no_token group.1 message))
+forge_reads nodes words a t g group message are reads_group none =
     let node = group.0 in
     let address = group.1 in
     let are_words = found (AreGroupWords nodes a t g) group reads_group in
     let is_node = are_words.0 in
     let is_address = are_words.1 in
-    let here : SpellsForge nodes (Request node (Say no_token address payload)) words = record {
+    let here : SpellsForge nodes (Request node (Say no_token address message)) words = record {
       node = node;
       address = address;
       command_is = ap (λ q. Request node (Say no_token address q)) none;
@@ -243,7 +248,7 @@ forge_reads nodes words a t g group payload are reads_group none =
     let same_group : group ≡ (spelt.node, spelt.address) = only (AreGroupWords nodes a t g) group (spelt.node, spelt.address) reads_group ((spelt.in_cluster, cc), (spelt.tenant, cc, spelt.group, cc)) in
     let same_node : node ≡ spelt.node = ap (λ q. q.0) same_group in
     let same_address : address ≡ spelt.address = ap (λ q. q.1) same_group in
-    ap (λ q. Request node (Say no_token address q)) none ∙ (λ i. Request (same_node i) (Say no_token (same_address i) [])) ∙ sym spelt.command_is)
+    ap (λ q. Request node (Say no_token address q)) none ∙ (λ i. Request (same_node i) (Say no_token (same_address i) nothing_said)) ∙ sym spelt.command_is)
 
 pub noise_reads : (nodes : ℕ) (words : List (List ℕ)) (a h : List ℕ) (node : NodeId) (bytes : List ℕ) → words ≡ a ∷ h ∷ []
     → Reads (IsNodeWord nodes a) node → payload_of h ≡ Some bytes

@@ -1,18 +1,19 @@
 -- What is said behind `say `: the numbers of a member, read one after the other, and the payload behind them.
-use Rattle.std.proofs.Common.{◌≡◌, ◌↔◌, ℕ, ◌<◌, ◌≤◌, ◌^◌, List, [], ◌∷◌, ◌++◌, Option, Some, None, Result, codes, drop, take, decimal, refl, sym, ap, ◌∙◌, subst, arith}
+use Rattle.std.proofs.Common.{◌≡◌, ◌↔◌, ℕ, ◌<◌, ◌≤◌, ◌^◌, List, [], ◌∷◌, ◌++◌, Option, Some, None, Result, Ok, Err, codes, drop, take, decimal, refl, sym, ap, ◌∙◌, subst, arith}
 use Rattle.std.specs.Io.{StartsWith}
 use Rattle.std.specs.List.{join_with_byte}
 use Rattle.std.specs.Option.{ForSome}
 use Rattle.std.specs.Result.{IfOk}
 use Rattle.std.proofs.lemmas.Fmt.{decimal_injective}
-use Rattle.gb_types.specs.PayloadWord.{payload_of}
+use Rattle.gb_types.specs.RequestWords.{SpellsMessage}
 use Rattle.gb_types.specs.declared.limits.TheConstants.{NODES}
 use Rattle.gb_types.specs.Words.{words_of}
 use Rattle.gb_types.specs.declared.address.Addr.{Addr}
+use Rattle.gb_types.specs.declared.new_message.NewMessage.{NewMessage}
 use Rattle.gb_types.specs.declared.node.NodeId.{NodeId}
 use Rattle.gb_types.specs.declared.request.Request.TheVariants.{Say}
-use Rattle.gb_types.proofs.PayloadLemmas.{payload_is_one_word}
-use Rattle.gb_types.proofs.ReadLemmas.{Reads, found, reads_one, some_same}
+use Rattle.gb_types.proofs.ReadLemmas.{Reads, found, only, reads_one}
+use Rattle.gb_types.proofs.NumberLemmas.{number_is_one_word}
 use Rattle.gb_types.proofs.WordLemmas.{each_line_is_its_words}
 use Rattle.gb_schedule.specs.declared.command.Command.{Command}
 use Rattle.gb_schedule.specs.declared.command.Command.TheVariants.{Request}
@@ -49,44 +50,79 @@ no_group nodes text a t second third one two none node address word words below 
     let same : decimal a ∷ decimal t ∷ words_of (drop third text) ≡ decimal node.number ∷ decimal address.tenant ∷ decimal address.group ∷ word ∷ words = cc (one.1, two.1, are) in
     none address.group (word ∷ words) (omega (arith, is_g)) cc
 
--- a member's numbers and the word of a payload behind them spell what is said
-pub say_reads : (nodes : ℕ) (text : List ℕ) (node : NodeId) (address : Addr) (at : ℕ) (payload token : List ℕ) → NamesMemberAt nodes text node address at → payload_of (drop at text) ≡ Some payload → token ≡ member_token address node
-    → Reads (λ command. SpellsSay nodes command (words_of text)) (Request node (Say token address payload))
-say_reads nodes text node address at payload token named is_payload is_token =
-    let word = payload_is_one_word (drop at text) payload is_payload in
-    let here : SpellsSay nodes (Request node (Say token address payload)) (words_of text) = record {
+-- a text has a word
+some_word : (text : List ℕ) → words_of text ≡ [] → ⊥
+some_word [] none = cc none
+some_word (b ∷ bs) none = let empty : b ∷ bs ≡ [] = sym (each_line_is_its_words (b ∷ bs)).0 ∙ ap (join_with_byte 32) none in cc empty
+
+-- what stands behind a word is a number, or spells none
+pub message_of_two : (word behind : List ℕ) (message : NewMessage) → SpellsMessage message (word ∷ behind ∷ []) ↔ SpellsMessage message (word ∷ words_of behind)
+message_of_two word behind message = (
+  λ spelt. by_two message.seq refl spelt,
+  λ spelt. by_text message.seq refl spelt,
+)
+  where
+    by_two : (seq : Option ℕ) → message.seq ≡ seq → SpellsMessage message (word ∷ behind ∷ []) → SpellsMessage message (word ∷ words_of behind)
+    by_two None is spelt = let none : behind ∷ [] ≡ [] = cc (spelt.words_are, is) in absurd (cc none)
+    by_two (Some n) is spelt =
+        let one : behind ≡ decimal n = cc (spelt.words_are, is) in
+        let few : n ≤ 4294967295 = spelt.seq n is in
+        let words : words_of behind ≡ decimal n ∷ [] = ap words_of one ∙ number_is_one_word n (omega (arith, few)) in
+        record { payload_word = spelt.payload_word; words_are = cc (spelt.words_are, is, words); payload_is = spelt.payload_is; seq = spelt.seq }
+
+    by_text : (seq : Option ℕ) → message.seq ≡ seq → SpellsMessage message (word ∷ words_of behind) → SpellsMessage message (word ∷ behind ∷ [])
+    by_text None is spelt = let none : words_of behind ≡ [] = cc (spelt.words_are, is) in absurd (some_word behind none)
+    by_text (Some n) is spelt =
+        let one : words_of behind ≡ decimal n ∷ [] = cc (spelt.words_are, is) in
+        let same : behind ≡ decimal n = sym (each_line_is_its_words behind).0 ∙ ap (join_with_byte 32) one in
+        record { payload_word = spelt.payload_word; words_are = cc (spelt.words_are, is, same); payload_is = spelt.payload_is; seq = spelt.seq }
+
+-- what was read of a word and what stands behind it is what their text says
+pub message_in : {E : Type 0} (result : Result (Option NewMessage) E) (word behind : List ℕ) → IfOk result (λ found. (message : NewMessage) → (found ≡ Some message) ↔ SpellsMessage message (word ∷ behind ∷ []))
+    → IfOk result (λ found. (message : NewMessage) → (found ≡ Some message) ↔ SpellsMessage message (word ∷ words_of behind))
+message_in (Ok read) word behind reads = λ message. (
+  λ is. (message_of_two word behind message).0 ((reads message).0 is),
+  λ spelt. (reads message).1 ((message_of_two word behind message).1 spelt),
+)
+message_in (Err e) word behind reads = tt
+
+-- a member's numbers and the words of a message behind them spell what is said
+pub say_reads : (nodes : ℕ) (text : List ℕ) (node : NodeId) (address : Addr) (at : ℕ) (message : NewMessage) (token : List ℕ) → NamesMemberAt nodes text node address at
+    → Reads (λ x. SpellsMessage x (words_of (drop at text))) message → token ≡ member_token address node
+    → Reads (λ command. SpellsSay nodes command (words_of text)) (Request node (Say token address message))
+say_reads nodes text node address at message token named reads_message is_token =
+    let here : SpellsSay nodes (Request node (Say token address message)) (words_of text) = record {
       node = node;
       address = address;
-      payload = payload;
-      payload_word = drop at text;
-      command_is = ap (λ q. Request node (Say q address payload)) is_token;
-      words_are = named.words_are ∙ ap (λ ws. decimal node.number ∷ decimal address.tenant ∷ decimal address.group ∷ ws) word;
+      message = message;
+      message_words = words_of (drop at text);
+      command_is = ap (λ q. Request node (Say q address message)) is_token;
+      words_are = named.words_are;
       in_cluster = named.in_cluster;
       tenant = named.tenant;
       group = named.group;
-      payload_is = is_payload;
+      spells_message = found (λ x. SpellsMessage x (words_of (drop at text))) message reads_message;
     } in
     reads_one (λ command. SpellsSay nodes command (words_of text)) _ here (λ command spelt.
-    let same : decimal node.number ∷ decimal address.tenant ∷ decimal address.group ∷ drop at text ∷ [] ≡ decimal spelt.node.number ∷ decimal spelt.address.tenant ∷ decimal spelt.address.group ∷ spelt.payload_word ∷ [] = sym here.words_are ∙ spelt.words_are in
+    let same : decimal node.number ∷ decimal address.tenant ∷ decimal address.group ∷ words_of (drop at text) ≡ decimal spelt.node.number ∷ decimal spelt.address.tenant ∷ decimal spelt.address.group ∷ spelt.message_words = sym here.words_are ∙ spelt.words_are in
     let same_node : node ≡ spelt.node = one_node node spelt.node cc in
     let same_tenant : address.tenant ≡ spelt.address.tenant = decimal_injective address.tenant spelt.address.tenant (let small = here.tenant in omega (arith, small)) (let small = spelt.tenant in omega (arith, small)) cc in
     let same_group : address.group ≡ spelt.address.group = decimal_injective address.group spelt.address.group (let small = here.group in omega (arith, small)) (let small = spelt.group in omega (arith, small)) cc in
     let same_address : address ≡ spelt.address = λ i. record { tenant = same_tenant i; group = same_group i } in
-    let same_word : drop at text ≡ spelt.payload_word = cc in
-    let spelt_payload : payload_of (drop at text) ≡ Some spelt.payload = ap payload_of same_word ∙ spelt.payload_is in
-    let same_payload : payload ≡ spelt.payload = some_same payload spelt.payload (sym is_payload ∙ spelt_payload) in
-    ap (λ q. Request node (Say q address payload)) is_token ∙ (λ i. Request (same_node i) (Say (member_token (same_address i) (same_node i)) (same_address i) (same_payload i))) ∙ sym spelt.command_is)
+    let same_words : spelt.message_words ≡ words_of (drop at text) = cc in
+    let same_message : message ≡ spelt.message = only (λ x. SpellsMessage x (words_of (drop at text))) message spelt.message reads_message (rw same_words at spelt.spells_message) in
+    ap (λ q. Request node (Say q address message)) is_token ∙ (λ i. Request (same_node i) (Say (member_token (same_address i) (same_node i)) (same_address i) (same_message i))) ∙ sym spelt.command_is)
 
--- where what stands behind a member's numbers spells no payload
-pub say_no_payload : (nodes : ℕ) (text : List ℕ) (node : NodeId) (address : Addr) (at : ℕ) → NamesMemberAt nodes text node address at → payload_of (drop at text) ≡ None
+-- where what stands behind a member's numbers says nothing
+pub say_no_message : (nodes : ℕ) (text : List ℕ) (node : NodeId) (address : Addr) (at : ℕ) → NamesMemberAt nodes text node address at
+    → ((message : NewMessage) → (None ≡ Some message) ↔ SpellsMessage message (words_of (drop at text)))
     → (command : Command) → (None ≡ Some command) ↔ SpellsSay nodes command (words_of text)
-say_no_payload nodes text node address at named none command = (
+say_no_message nodes text node address at named none command = (
   λ is. cc is,
   λ spelt.
-      let same : decimal node.number ∷ decimal address.tenant ∷ decimal address.group ∷ words_of (drop at text) ≡ decimal spelt.node.number ∷ decimal spelt.address.tenant ∷ decimal spelt.address.group ∷ spelt.payload_word ∷ [] = sym named.words_are ∙ spelt.words_are in
-      let one : words_of (drop at text) ≡ spelt.payload_word ∷ [] = cc in
-      let word : drop at text ≡ spelt.payload_word = sym (each_line_is_its_words (drop at text)).0 ∙ ap (join_with_byte 32) one in
-      let no : None ≡ Some spelt.payload = sym none ∙ (ap payload_of word ∙ spelt.payload_is) in
+      let same : decimal node.number ∷ decimal address.tenant ∷ decimal address.group ∷ words_of (drop at text) ≡ decimal spelt.node.number ∷ decimal spelt.address.tenant ∷ decimal spelt.address.group ∷ spelt.message_words = sym named.words_are ∙ spelt.words_are in
+      let same_words : spelt.message_words ≡ words_of (drop at text) = cc in
+      let no : None ≡ Some spelt.message = (none spelt.message).1 (rw same_words at spelt.spells_message) in
       absurd (cc no),
 )
 
@@ -97,7 +133,7 @@ no_say_behind None line head word rest are reads none command is spelt = subst (
 no_say_behind (Some nodes) line head word rest are reads none command is spelt =
     let said : SpellsSay nodes command rest = subst (λ h. Spells h (Some nodes) command rest) is spelt in
     let is_word : word ≡ codes "say" = found (λ h. word ≡ head_word h) head reads ∙ ap head_word is in
-    let words : words_of line ≡ codes "say" ∷ decimal said.node.number ∷ decimal said.address.tenant ∷ decimal said.address.group ∷ said.payload_word ∷ [] = cc (are, is_word, said.words_are) in
+    let words : words_of line ≡ codes "say" ∷ decimal said.node.number ∷ decimal said.address.tenant ∷ decimal said.address.group ∷ said.message_words = cc (are, is_word, said.words_are) in
     none nodes refl (ap (take 4) (begins line _ _ _ words))
 
 -- what stands behind `say ` spells what the line does

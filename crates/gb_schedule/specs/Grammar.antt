@@ -3,9 +3,10 @@
 use Rattle.std.specs.Prelude.{◌≡◌, ℕ, ◌<◌, ◌≤◌, List, [], ◌∷◌, Option, None, Some, length, drop, replicate, decimal}
 use Rattle.gb_types.specs.declared.limits.TheConstants.{NODES, SILENCE_MIN, SILENCE_MAX}
 use Rattle.gb_types.specs.PayloadWord.{payload_of}
-use Rattle.gb_types.specs.RequestWords.{IsShort, IsLong, SpellsSpec}
+use Rattle.gb_types.specs.RequestWords.{IsShort, IsLong, SpellsSpec, SpellsMessage}
 use Rattle.gb_types.specs.declared.node.NodeId.{NodeId}
 use Rattle.gb_types.specs.declared.address.Addr.{Addr}
+use Rattle.gb_types.specs.declared.new_message.NewMessage.{NewMessage}
 use Rattle.gb_types.specs.declared.spec.Spec.{Spec}
 use Rattle.gb_types.specs.declared.spec.TenantRow.{TenantRow}
 use Rattle.gb_types.specs.declared.request.Request.{Request as AnyRequest}
@@ -93,18 +94,18 @@ NamesNoMember nodes text =
     (node : NodeId) (address : Addr) (word : List ℕ) (words : List (List ℕ)) → node.number < nodes → IsShort address.tenant → IsShort address.group
     → words_of text ≡ decimal node.number ∷ decimal address.tenant ∷ decimal address.group ∷ word ∷ words → ⊥
 
--- `say A T G PAYLOAD`; a payload may be spelt in digits of both cases
+-- `say A T G PAYLOAD`, or `say A T G PAYLOAD SEQ`
 pub record SpellsSay (nodes : ℕ) (command : Command) (words : List (List ℕ)) : Type 0 where
   pub node : NodeId
   pub address : Addr
-  pub payload : List ℕ
-  pub payload_word : List ℕ
-  pub command_is : command ≡ Request node (Say (member_token address node) address payload)
-  pub words_are : words ≡ decimal node.number ∷ decimal address.tenant ∷ decimal address.group ∷ payload_word ∷ []
+  pub message : NewMessage
+  pub message_words : List (List ℕ)
+  pub command_is : command ≡ Request node (Say (member_token address node) address message)
+  pub words_are : words ≡ decimal node.number ∷ decimal address.tenant ∷ decimal address.group ∷ message_words
   pub in_cluster : node.number < nodes
   pub tenant : IsShort address.tenant
   pub group : IsShort address.group
-  pub payload_is : payload_of payload_word ≡ Some payload
+  pub spells_message : SpellsMessage message message_words
 
 -- `fetch A T G FROM MAX`; it comes with the member's token when it is obeyed
 pub record SpellsFetch (nodes : ℕ) (command : Command) (words : List (List ℕ)) : Type 0 where
@@ -124,7 +125,7 @@ pub record SpellsFetch (nodes : ℕ) (command : Command) (words : List (List ℕ
 pub record SpellsForge (nodes : ℕ) (command : Command) (words : List (List ℕ)) : Type 0 where
   pub node : NodeId
   pub address : Addr
-  pub command_is : command ≡ Request node (Say no_token address [])
+  pub command_is : command ≡ Request node (Say no_token address (record { payload = []; seq = None }))
   pub words_are : words ≡ decimal node.number ∷ decimal address.tenant ∷ decimal address.group ∷ []
   pub in_cluster : node.number < nodes
   pub tenant : IsShort address.tenant

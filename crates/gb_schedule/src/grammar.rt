@@ -3,8 +3,9 @@ ghost use Rattle.std.specs.Prelude.{◌≡◌, ◌≤◌, ◌<◌, ◌↔◌, �
 ghost use Rattle.std.specs.Option.{ForSome};
 ghost use Rattle.std.specs.Io.{StartsWith};
 ghost use Rattle.gb_types.specs.Words.{words_of};
-ghost use Rattle.gb_types.specs.RequestWords.{IsShort};
+ghost use Rattle.gb_types.specs.RequestWords.{IsShort, SpellsMessage};
 ghost use Rattle.gb_types.specs.declared.address.Addr.{Addr as TheAddress};
+ghost use Rattle.gb_types.specs.declared.new_message.NewMessage.{NewMessage as TheMessage};
 ghost use Rattle.gb_types.specs.declared.node.NodeId.{NodeId as TheNode};
 ghost use Rattle.gb_schedule.specs.declared.command.Step.{Step as TheStep};
 ghost use Rattle.gb_schedule.specs.declared.command.Command.{Command as TheCommand};
@@ -17,17 +18,20 @@ use crate::command::{ClusterStart, Command, Step};
 use crate::head::{Head, read_head};
 use crate::keys::{Keys, NO_TOKEN, tenant_key};
 use crate::versions::read_versions;
-use crate::words::{WORDS, last_number_at, number_at, numbers_in, words_in};
+use crate::words::{WORDS, cut_word, last_number_at, number_at, numbers_in, words_in};
 use gb_cap::token::Token;
 use gb_types::address::Addr;
 use gb_types::limits::{NODES, SILENCE_MAX, SILENCE_MIN};
 use gb_types::memory::OutOfMemory;
+use gb_types::new_message::NewMessage;
 use gb_types::node::NodeId;
 use gb_types::number::read_number;
 use gb_types::payload::Payload;
 use gb_types::payload_word::read_payload;
 use gb_types::request::Request;
-use gb_types::request_words::{read_address, read_limits, read_spec, read_u16, read_u32};
+use gb_types::request_words::{
+    read_address, read_limits, read_message, read_spec, read_u16, read_u32,
+};
 use gb_types::spec::TenantRow;
 use gb_types::version::Version;
 use std::alloc::Global;
@@ -216,7 +220,19 @@ fn member_at(nodes: u8, text: &[u8]) -> Option<(NodeId, Addr, usize)>
     Some((NodeId::new(node as u8), address, rest))
 }
 
-// say A T G PAYLOAD
+// What a text says: PAYLOAD, or PAYLOAD SEQ.
+fn read_message_in(alloc: Global, text: &[u8]) -> Result<Option<NewMessage>, OutOfMemory>
+    ensures { IfOk result (λ found. (message : TheMessage) → (found ≡ Some message)
+        ↔ SpellsMessage message (words_of text.now)) }
+{
+    let (word, behind) = cut_word(text);
+    match behind {
+        None => read_message(alloc, &[word]),
+        Some(seq) => read_message(alloc, &[word, seq]),
+    }
+}
+
+// say A T G PAYLOAD, or say A T G PAYLOAD SEQ
 fn read_say(
     alloc: Global,
     keys: &mut Keys,
@@ -230,11 +246,11 @@ fn read_say(
     let Some((node, address, rest)) = member_at(nodes, text) else {
         return Ok(None);
     };
-    let Some(payload) = read_payload(alloc, &text[rest..])? else {
+    let Some(message) = read_message_in(alloc, &text[rest..])? else {
         return Ok(None);
     };
     let token = keys.member(address, node);
-    let request = Request::Say(token, address, payload);
+    let request = Request::Say(token, address, message);
     Ok(Some(Command::Request(node, request)))
 }
 
@@ -248,7 +264,9 @@ fn read_forge(alloc: Global, nodes: u8, words: &[&[u8]]) -> Option<Command>
         return None;
     };
     let (node, address) = read_group(nodes, node, tenant, group)?;
-    let request = Request::Say(NO_TOKEN, address, Payload::new());
+    let nothing = Payload::new();
+    let message = NewMessage::new(nothing);
+    let request = Request::Say(NO_TOKEN, address, message);
     Some(Command::Request(node, request))
 }
 

@@ -25,7 +25,7 @@ fn word_len(text: &[u8]) -> usize
 }
 
 /// The first word of a text, and what stands behind the space after it, where there is one.
-fn cut_word(text: &[u8]) -> (&[u8], Option<&[u8]>)
+pub fn cut_word(text: &[u8]) -> (&[u8], Option<&[u8]>)
     ensures more { IfSome result.1 (λ rest. words_of text.now ≡ result.0.now ∷ words_of rest.now) }
     ensures last { IfNone result.1 (words_of text.now ≡ result.0.now ∷ []) }
 {

@@ -42,6 +42,12 @@ const NODES_WITH_UNLIKE_GROUPS: Case = (
     SimEnd::All,
 );
 
+const SAY_IS_SENT_AGAIN: Case = (
+    "cluster 2 3\ntenant 0 7 4 3 64 8\nmake 0 7 1 fbeb 0,1 3 64 8\nsay 0 7 1 61 2\nopen 0 7 1\ntenant 1 7 4 3 64 8\nmake 1 7 1 fbeb 0,1 3 64 8\nopen 1 7 1\nsay 0 7 1 61 1\nsay 0 7 1 61 1\nsay 0 7 1 62 0\nsay 0 7 1 62 3\nsay 0 7 1 62 65538\nsay 0 7 1 62 4294967295\nsay 0 7 1 62 2\nsay 0 7 1 63\nsay 0 7 1 64 4\nsay 0 7 1 64 3\npack 0 1\narrive 1\nfetch 1 7 1 0 16\nstop 0\nsay 0 7 1 64 1\n",
+    "ok\nok\nok\nrefused 6 WrongPhase\nok\nok\nok\nok\nsaid 1\nrefused 11 BadPlace\nrefused 11 BadPlace\nrefused 11 BadPlace\nrefused 11 BadPlace\nrefused 11 BadPlace\nsaid 2\nsaid 3\nrefused 8 Budget\nrefused 11 BadPlace\npacket 1\ngood first 3 0\nlog 3 0:1:61 0:2:62 0:3:63\nok\nrefused 15 Stopped\n",
+    SimEnd::All,
+);
+
 const STOPPED_NODE_REFUSES_ALL: Case = (
     "cluster 1 2\nstop 0\ntick 0\nsay 0 7 1 61\narrive 1\n",
     "ok\nok\nrefused 15 Stopped\nrefused 15 Stopped\nno packet\n",
@@ -316,6 +322,7 @@ pub const IN_ANY_PIECES: &[Case] = &[
     PACKET_ARRIVES_TWICE,
     UNKNOWN_WORD,
     NODES_WITH_UNLIKE_GROUPS,
+    SAY_IS_SENT_AGAIN,
     STOPPED_NODE_REFUSES_ALL,
     ACKNOWLEDGED_FRAME_IS_NOT_GIVEN_AGAIN,
     NOTHING_IS_SENT_TO_NO_OTHER_NODE,

@@ -205,32 +205,33 @@ impl Slot {
         }
     }
 
-    /// Broadcasts a payload at a node that sends this version of the packet text, and returns its number here. WrongPhase
-    /// where the group is not open, TooLong above the version's payload limit, Budget where all messages are said, Bytes
-    /// where the payload's bytes would be too many in all, Window where too many messages are unfinished, in this order. A
-    /// message that gets a number is put out at once: something waits then for each other member that was not noticed. Takes
-    /// no memory.
+    /// Broadcasts a payload at a node that sends this version of the packet text, under the number `seq` if the caller names
+    /// one, and returns its number here. WrongPhase where the group is not open, BadPlace where the caller names another
+    /// number than the next, TooLong above the version's payload limit, Budget where all messages are said, Bytes where the
+    /// payload's bytes would be too many in all, Window where too many messages are unfinished, in this order. A message that
+    /// gets a number is put out at once: something waits then for each other member that was not noticed. Takes no memory.
     pub fn say(
         &mut self,
         version: Version,
+        seq: Option<u32>,
         payload: &[u8],
         effects: &mut Effects,
     ) -> Result<u16, Refusal>
         requires ready { AreReady self.old.spec effects.old }
-        ensures answer { said_reply result ≡ say_answer version (shown self.old) payload.now }
+        ensures answer { said_reply result ≡ say_answer version (shown self.old) (record { payload = payload.now; seq = seq }) }
         ensures short { OnOk result (is_too_long version payload.now ≡ false) }
         ensures present { is_gone self.old.phase ≡ false }
         ensures state { self.new ≡ slot_said payload.now (said_reply result) self.old }
         ensures put_out { OnOk result (WaitsForEach self.new) }
         ensures effects { AreEmptied effects.old effects.new }
     {
-        if let Err(why) = check_say(version, &self.spec, self.phase, self.usage(), payload) {
+        if let Err(why) = check_say(version, &self.spec, self.phase, self.usage(), seq, payload) {
             return Err(why);
         }
-        let seq = (self.said + 1) as u16;
+        let number = (self.said + 1) as u16;
         let m = MsgId {
             origin: self.me,
-            seq,
+            seq: number,
         };
         self.store.push(m, payload);
         take_call(
@@ -251,7 +252,7 @@ impl Slot {
             by,
         );
         self.said += 1;
-        Ok(seq)
+        Ok(number)
     }
 
     /// Takes an item that came from a node: it is let fall, or the broadcast takes it. Says whether something was put out:

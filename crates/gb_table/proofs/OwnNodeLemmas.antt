@@ -33,6 +33,7 @@ use Rattle.gb_frame.specs.Items.{address_of, entry_of}
 use Rattle.gb_groups.specs.AtAddress.{place_of, step_at, on_address, gone_at, drop_at, item_came, reply_at, group_reply}
 use Rattle.gb_table.specs.TableValue.{TableValue, with_rows, table_done}
 use Rattle.gb_table.specs.OwnNode.{IsOwn, AreOwn}
+use Rattle.gb_types.specs.declared.new_message.NewMessage.{NewMessage}
 
 -- what steps leave of a slot's node
 
@@ -63,16 +64,16 @@ own-said me version payload (Said seq) fits s own = (own.0, short-own (limits_of
 own-said me version payload (Log entries) fits s own = own
 own-said me version payload (Refused why) fits s own = own
 
-answered_short : (version : Version) (payload : List ℕ) (o : Option SlotState) (seq : ℕ) → Said seq ≡ unless_gone (λ s. say_answer version s payload) o → length payload ≤ (limits_of version).payload
-answered_short version payload None seq e = absurd (cc)
-answered_short version payload (Some s) seq e = said_fits version s.spec s.phase (usage_of s) (shown s).log payload seq e
+answered_short : (version : Version) (message : NewMessage) (o : Option SlotState) (seq : ℕ) → Said seq ≡ unless_gone (λ s. say_answer version s message) o → length message.payload ≤ (limits_of version).payload
+answered_short version message None seq e = absurd (cc)
+answered_short version message (Some s) seq e = said_fits version (shown s) message seq e
 
-replied_short : (version : Version) (payload : List ℕ) (rows : List Row) (place : Option ℕ) (seq : ℕ) → Said seq ≡ reply_at (λ s. say_answer version s payload) rows place → length payload ≤ (limits_of version).payload
-replied_short version payload rows None seq e = absurd (cc)
-replied_short version payload rows (Some p) seq e = answered_short version payload (row_at rows p).slot seq e
+replied_short : (version : Version) (message : NewMessage) (rows : List Row) (place : Option ℕ) (seq : ℕ) → Said seq ≡ reply_at (λ s. say_answer version s message) rows place → length message.payload ≤ (limits_of version).payload
+replied_short version message rows None seq e = absurd (cc)
+replied_short version message rows (Some p) seq e = answered_short version message (row_at rows p).slot seq e
 
-pub said_short : (version : Version) (payload : List ℕ) (addr : Addr) (rows : List Row) (reply : Reply) → reply ≡ group_reply (λ s. say_answer version s payload) addr rows → (seq : ℕ) → reply ≡ Said seq → length payload ≤ (limits_of version).payload
-said_short version payload addr rows reply is seq said = replied_short version payload rows (place_of addr rows) seq (sym said ∙ is)
+pub said_short : (version : Version) (message : NewMessage) (addr : Addr) (rows : List Row) (reply : Reply) → reply ≡ group_reply (λ s. say_answer version s message) addr rows → (seq : ℕ) → reply ≡ Said seq → length message.payload ≤ (limits_of version).payload
+said_short version message addr rows reply is seq said = replied_short version message rows (place_of addr rows) seq (sym said ∙ is)
 
 own-came : (me : NodeId) (version : Version) (from : NodeId) (x : Entry) → is_too_long version x.payload ≡ false → Keeps me version (slot_came from x)
 own-came me version from x short s own = (me-came from x s ∙ own.0, short-came (limits_of version).payload from x s (within_limit version x.payload short) own.1)

@@ -25,7 +25,7 @@ has_group_token me rows (Make token addr spec) = is_by_row (Tenant addr.tenant) 
 has_group_token me rows (OpenGroup token addr) = is_by_row (Tenant addr.tenant) token (row_of addr.tenant rows)
 has_group_token me rows (ShutGroup token addr) = is_by_row (Tenant addr.tenant) token (row_of addr.tenant rows)
 has_group_token me rows (DropGroup token addr) = is_by_row (Tenant addr.tenant) token (row_of addr.tenant rows)
-has_group_token me rows (Say token addr payload) = is_by_row (Member addr.tenant addr.group me) token (row_of addr.tenant rows)
+has_group_token me rows (Say token addr message) = is_by_row (Member addr.tenant addr.group me) token (row_of addr.tenant rows)
 has_group_token me rows (Fetch token addr from most) = is_by_row (Member addr.tenant addr.group me) token (row_of addr.tenant rows)
 
 -- a request comes with the token that it needs: the administrator's to add a tenant, else the group's

@@ -26,7 +26,7 @@ is_admitted request t = has_token t.admin_key t.me t.tenants request
 
 -- the place of the group that a member speaks to or reads
 abbrev pub place_for : Request → TableValue → Option ℕ
-place_for (Say token addr payload) t = place_of addr t.groups.rows
+place_for (Say token addr message) t = place_of addr t.groups.rows
 place_for (Fetch token addr from most) t = place_of addr t.groups.rows
 place_for request t = None
 
@@ -38,7 +38,7 @@ admitted_reply (Make token addr spec) t =
 admitted_reply (OpenGroup token addr) t = group_reply open_answer addr t.groups.rows
 admitted_reply (ShutGroup token addr) t = group_reply shut_answer addr t.groups.rows
 admitted_reply (DropGroup token addr) t = group_reply drop_answer addr t.groups.rows
-admitted_reply (Say token addr payload) t = group_reply (λ s. say_answer t.version s payload) addr t.groups.rows
+admitted_reply (Say token addr message) t = group_reply (λ s. say_answer t.version s message) addr t.groups.rows
 admitted_reply (Fetch token addr from most) t = group_reply (λ s. fetch_answer s from most) addr t.groups.rows
 
 -- The reply to a request. With a wrong token it says nothing of tenants and groups.
@@ -59,5 +59,5 @@ table_did noticed (Make token addr spec) Done t = with_rows (t.groups.rows ++ re
 table_did noticed (OpenGroup token addr) Done t = with_rows (on_address addr (slot_moved Opened Done) t.groups.rows) t
 table_did noticed (ShutGroup token addr) Done t = with_rows (on_address addr (slot_moved Shut Done) t.groups.rows) t
 table_did noticed (DropGroup token addr) Done t = with_rows (drop_at addr t.groups.rows) t
-table_did noticed (Say token addr payload) (Said seq) t = with_rows (on_address addr (slot_said payload (Said seq)) t.groups.rows) t
+table_did noticed (Say token addr message) (Said seq) t = with_rows (on_address addr (slot_said message.payload (Said seq)) t.groups.rows) t
 table_did noticed request reply t = t

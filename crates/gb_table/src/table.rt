@@ -30,7 +30,7 @@ use gb_rules::tenant::{answer_make, answer_tenant};
 use gb_types::address::Addr;
 use gb_types::message::MsgId;
 use gb_types::node::{NodeId, NodeSet};
-use gb_types::payload::Payload;
+use gb_types::new_message::NewMessage;
 use gb_types::refusal::Refusal;
 use gb_types::reply::Reply;
 use gb_types::request::Request;
@@ -303,13 +303,14 @@ impl Table {
         self.groups.drop_group(addr)
     }
 
-    fn say(&mut self, addr: Addr, place: Option<usize>, payload: &Payload) -> Reply
+    fn say(&mut self, addr: Addr, place: Option<usize>, message: &NewMessage) -> Reply
         requires { place ≡ place_of addr self.old.groups.rows }
-        ensures reply { result ≡ group_reply (λ s. say_answer self.old.version s payload.now) addr self.old.groups.rows }
-        ensures state { (noticed : set.FinSet nat_cmp) (token : List ℕ) → self.new ≡ table_did noticed (Request.Say token addr payload.now) result self.old }
+        ensures reply { result ≡ group_reply (λ s. say_answer self.old.version s message.now) addr self.old.groups.rows }
+        ensures state { (noticed : set.FinSet nat_cmp) (token : List ℕ) → self.new ≡ table_did noticed (Request.Say token addr message.now) result self.old }
     {
+        let payload = message.payload.as_slice();
         self.groups
-            .say(self.version, addr, place, payload.as_slice())
+            .say(self.version, addr, place, message.seq, payload)
     }
 
     /// Answers a request at a node that has noticed these. Denied comes first, with a token that is not the one that
@@ -330,7 +331,7 @@ impl Table {
             Request::OpenGroup(_, addr) => self.open_group(*addr),
             Request::ShutGroup(_, addr) => self.shut_group(*addr),
             Request::DropGroup(_, addr) => self.drop_group(*addr),
-            Request::Say(_, addr, payload) => self.say(*addr, place, payload),
+            Request::Say(_, addr, message) => self.say(*addr, place, message),
             Request::Fetch(_, _, from, most) => self.groups.fetch(place, *from, *most),
         }
     }

@@ -30,7 +30,7 @@ own_is plan g past (Make token addr spec) (Refused why) named = refl
 own_is plan g past (OpenGroup token addr) reply named = refl
 own_is plan g past (ShutGroup token addr) reply named = refl
 own_is plan g past (DropGroup token addr) reply named = refl
-own_is plan g past (Say token addr payload) reply named = refl
+own_is plan g past (Say token addr message) reply named = refl
 own_is plan g past (Fetch token addr from most) reply named = refl
 
 -- it makes none

@@ -33,7 +33,7 @@ fn command(alloc: Global, a: NodeId, request: &Request) -> Result<Option<GroupSt
         Request::OpenGroup(_, _) => Some(at(a, GroupEvent::Open)),
         Request::ShutGroup(_, _) => Some(at(a, GroupEvent::Shut)),
         Request::DropGroup(_, _) => Some(at(a, GroupEvent::Drop)),
-        Request::Say(_, _, payload) => Some(at(a, GroupEvent::Say(payload.duplicate(alloc)?))),
+        Request::Say(_, _, message) => Some(at(a, GroupEvent::Say(message.duplicate(alloc)?))),
         Request::Fetch(_, _, from, most) => Some(at(a, GroupEvent::Fetch(*from, *most))),
     })
 }

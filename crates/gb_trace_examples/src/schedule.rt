@@ -9,6 +9,7 @@ use gb_types::address::Addr;
 use gb_types::kind::Kind;
 use gb_types::limits::NODES;
 use gb_types::memory::OutOfMemory;
+use gb_types::new_message::NewMessage;
 use gb_types::node::{NodeId, NodeSet};
 use gb_types::payload::Payload;
 use gb_types::plan::Plan;
@@ -106,7 +107,7 @@ pub fn say_bytes(
 ) -> Result<(), OutOfMemory> {
     let addr = group_of(tenant);
     let payload = Payload::from_slice(alloc, bytes)?;
-    let said = Request::Say(member(addr, node), addr, payload);
+    let said = Request::Say(member(addr, node), addr, NewMessage::new(payload));
     ask(events, node, said)
 }
 
@@ -189,7 +190,7 @@ fn add_steps(alloc: Global, tenant: u16, steps: &mut Vec<GroupStep>) -> Result<(
     begin(steps, FIRST, tenant)?;
     begin(steps, SECOND, tenant)?;
     let payload = Payload::from_slice(alloc, &tenant.to_be_bytes())?;
-    step(steps, FIRST, GroupEvent::Say(payload))?;
+    step(steps, FIRST, GroupEvent::Say(NewMessage::new(payload)))?;
     step(steps, FIRST, GroupEvent::Took(SECOND, 1))?;
     step(steps, SECOND, GroupEvent::Came(FIRST, 1))?;
     if tenant == 7 {

@@ -1,14 +1,18 @@
 -- Which words spell a number.
-use Rattle.std.proofs.Common.{◌≡◌, ℕ, zero, suc, ◌+◌, ◌-◌, ◌*◌, ◌<◌, ◌≤◌, ◌^◌, ◌↔◌, ◌⊎◌, inl, inr, true, false, List, [], ◌∷◌, length, take, get_or, Option, Some, None, nat_le, refl, sym, ap, subst, ◌∙◌, arith, decimal}
+use Rattle.std.proofs.Common.{◌≡◌, ℕ, zero, suc, ◌+◌, ◌-◌, ◌*◌, ◌<◌, ◌≤◌, ◌^◌, ◌↔◌, ◌⊎◌, inl, inr, true, false, List, [], ◌∷◌, length, take, get_or, eqb, Option, Some, None, nat_le, refl, sym, ap, subst, ◌∙◌, arith, decimal}
 use Rattle.std.specs.Char.{digit_value, is_ascii_digit}
 use Rattle.std.specs.Int.{IsInRange}
 use Rattle.std.specs.Str.Parse.{AllDigits, digits_value, digits_value_after}
 use Rattle.std.specs.Bool.{then_some}
 use Rattle.std.proofs.lemmas.Str.{digit_value_digit}
-use Rattle.std.proofs.lemmas.Bool.{cases_eq, cases_lt}
+use Rattle.std.proofs.lemmas.Bool.{cases_eq, cases_lt, ne_eqb}
 use Rattle.std.proofs.lemmas.Bool.Decides.{nat_tests}
 use Rattle.std.proofs.lemmas.Str.Parse.{IsNumeralModel, numerals_by_value, tells_digits, digits_value-take-le}
-use Rattle.std.proofs.lemmas.Fmt.{decimal_injective, decimal-digits_value, first_decimal, decimal_digit, decimal_is_IsNumeral}
+use Rattle.std.specs.List.{All}
+use Rattle.std.proofs.lemmas.List.Elements.{All-nil, All-cons}
+use Rattle.std.proofs.lemmas.List.Splits.{slice_split_none}
+use Rattle.std.proofs.lemmas.Fmt.{decimal_injective, decimal-digits_value, digits_decimal, first_decimal, decimal_digit, decimal_is_IsNumeral}
+use Rattle.gb_types.specs.Words.{words_of}
 
 own : IsNumeralModel (AllDigits 10) (digits_value 10)
 own = numerals_by_value (AllDigits 10) tells_digits
@@ -91,3 +95,14 @@ answers word max number r fits small spelt is n =
 -- the answer, where it spells none
 pub refuses : (word : List ℕ) (max : ℕ) (r : Option ℕ) → ((n : ℕ) → n ≤ max → word ≡ decimal n → ⊥) → r ≡ None → (n : ℕ) → (r ≡ Some n) ↔ ((n ≤ max) × (word ≡ decimal n))
 refuses word max r unspelt is n = (λ e. cc, λ h. absurd (unspelt n h.0 h.1))
+
+digits_have_no_space : (ds : List ℕ) → AllDigits 10 ds → All (λ byte. eqb byte 32 ≡ false) ds
+digits_have_no_space [] all = All-nil (λ byte. eqb byte 32 ≡ false)
+digits_have_no_space (c ∷ cs) all =
+    All-cons (λ byte. eqb byte 32 ≡ false) c cs
+    (ne_eqb c 32 (λ e. let no : digit_value 32 < 10 = subst (λ k. digit_value k < 10) e all.0 in omega (arith, no)))
+    (digits_have_no_space cs all.1)
+
+-- what a number is written as is one word
+pub number_is_one_word : (n : ℕ) → n < 2 ^ 64 → words_of (decimal n) ≡ decimal n ∷ []
+number_is_one_word n small = slice_split_none (λ byte. eqb byte 32) (decimal n) (digits_have_no_space (decimal n) (digits_decimal own n small))

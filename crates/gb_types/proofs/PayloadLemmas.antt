@@ -1,19 +1,13 @@
 -- The words of payloads.
-use Rattle.std.proofs.Common.{◌≡◌, ◌≢◌, ◌⊎◌, inl, inr, ℕ, suc, ◌<◌, ◌/◌, ◌%◌, Bool, true, false, cond, eqb, List, [], ◌∷◌, ◌++◌, take, drop, Some, None, Result, Ok, Err, slice_index, length, codes, refl, sym, ap, ◌∙◌, subst, arith}
+use Rattle.std.proofs.Common.{◌≡◌, ◌≢◌, ℕ, suc, ◌<◌, ◌/◌, ◌%◌, false, cond, eqb, List, [], ◌∷◌, ◌++◌, take, drop, Some, None, Ok, slice_index, length, codes, refl, sym, ap, ◌∙◌, arith}
 use Rattle.std.specs.Result.{result_ok}
 use Rattle.std.specs.Str.{bytes_eq}
-use Rattle.std.proofs.lemmas.Bool.{ne_eqb}
-use Rattle.std.proofs.lemmas.Bool.Decides.{nat_tests, Decides-eqb}
-use Rattle.std.proofs.lemmas.Slice.Eq.{slice_eq-Decides}
-use Rattle.std.proofs.lemmas.List.Splits.{slice_split_none}
-use Rattle.std.proofs.lemmas.List.Elements.{All-weaker}
+use Rattle.std.proofs.lemmas.Bool.Decides.{nat_tests}
 use Rattle.std.proofs.lemmas.List.{take-append-drop}
 use Rattle.std.proofs.Math.Bool.{and-false}
-use Rattle.hex.specs.Hex.{IsBytes, decode_of, encode_lower, encode_with, lower_digits, hex_digit_value, is_hex_digit}
-use Rattle.hex.specs.declared.error.FromHexError.{FromHexError}
-use Rattle.hex.proofs.HexLemmas.{decode_of-encode_lower, decode_of-ok, length-encode_with, IsDigits-lower_digits}
+use Rattle.hex.specs.Hex.{IsBytes, decode_of, encode_lower, encode_with, lower_digits, hex_digit_value}
+use Rattle.hex.proofs.HexLemmas.{decode_of-encode_lower, length-encode_with, IsDigits-lower_digits}
 use Rattle.gb_types.specs.PayloadWord.{payload_word, payload_of}
-use Rattle.gb_types.specs.Words.{words_of}
 use Rattle.gb_types.proofs.CutLemmas.{Without}
 
 -- a word that is not `-` spells what its digits do
@@ -69,25 +63,3 @@ encode-in_parts n k bytes word front behind =
 -- a word with the digits of some bytes spells them
 pub decode-of_digits : (bytes word : List ℕ) → IsBytes bytes → encode_lower bytes ≡ word → decode_of word ≡ Ok bytes
 decode-of_digits bytes word fits is = ap decode_of (sym is) ∙ decode_of-encode_lower bytes fits
-
--- what spells a payload is `-`, or digits that decode
-spelt_by : (dash empty : Bool) (decoded : Result (List ℕ) FromHexError) (bytes : List ℕ) → cond dash (Some []) (cond empty None (result_ok decoded)) ≡ Some bytes → (dash ≡ true) ⊎ (decoded ≡ Ok bytes)
-spelt_by true empty decoded bytes is = inl refl
-spelt_by false true decoded bytes is = absurd (cc (let no : None ≡ Some bytes = is in no))
-spelt_by false false (Ok found) bytes is = inr (let same : Some found ≡ Some bytes = is in cc same)
-spelt_by false false (Err e) bytes is = absurd (cc (let no : None ≡ Some bytes = is in no))
-
-digit_is_no_space : (c : ℕ) → is_hex_digit c ≡ true → eqb c 32 ≡ false
-digit_is_no_space c digit = ne_eqb c 32 (λ e. let no : false ≡ true = subst (λ k. is_hex_digit k ≡ true) e digit in cc no)
-
--- what spells a payload is one word
-pub payload_is_one_word : (word bytes : List ℕ) → payload_of word ≡ Some bytes → words_of word ≡ word ∷ []
-payload_is_one_word word bytes is =
-    elim (spelt_by (bytes_eq word (codes "-")) (eqb (length word) 0) (decode_of word) bytes is) [
-      | inl dash ↦
-          let same : word ≡ codes "-" = (slice_eq-Decides Decides-eqb word (codes "-") _ refl).0 dash in
-          subst (λ w. words_of w ≡ w ∷ []) (sym same) refl
-      | inr decoded ↦
-          let digits = (decode_of-ok word bytes decoded).1 in
-          slice_split_none (λ byte. eqb byte 32) word (All-weaker (λ byte. is_hex_digit byte ≡ true) (λ byte. eqb byte 32 ≡ false) digit_is_no_space word digits)
-    ]

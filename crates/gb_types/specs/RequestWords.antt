@@ -1,9 +1,12 @@
 -- The words that requests are spelt in.
-use Rattle.std.specs.Prelude.{◌≡◌, ◌≢◌, ℕ, ◌≤◌, List, [], ◌∷◌, decimal}
+use Rattle.std.specs.Prelude.{◌≡◌, ◌≢◌, ℕ, ◌≤◌, List, [], ◌∷◌, Option, Some, None, decimal}
+use Rattle.std.specs.Option.{ForSome}
 use Rattle.std.specs.FinSet as set
 use Rattle.gb_types.specs.Rising.{AreNodes}
 use Rattle.gb_types.specs.KindWord.{kind_word}
 use Rattle.gb_types.specs.MembersWord.{members_word}
+use Rattle.gb_types.specs.PayloadWord.{payload_of}
+use Rattle.gb_types.specs.declared.new_message.NewMessage.{NewMessage}
 use Rattle.gb_types.specs.declared.spec.Spec.{Spec}
 
 -- tenants and groups have numbers of two bytes, the other numbers of a request have four
@@ -21,3 +24,15 @@ pub record SpellsSpec (spec : Spec) (words : List (List ℕ)) : Type 0 where
   pub msgs : IsLong spec.msgs
   pub bytes : IsLong spec.bytes
   pub window : IsLong spec.window
+
+-- the word for the number that a message must get, and none where the caller names no number
+abbrev pub seq_words : Option ℕ → List (List ℕ)
+seq_words None = []
+seq_words (Some n) = decimal n ∷ []
+
+-- what is said, in the words PAYLOAD, or PAYLOAD SEQ; a payload may be spelt in digits of both cases
+pub record SpellsMessage (message : NewMessage) (words : List (List ℕ)) : Type 0 where
+  pub payload_word : List ℕ
+  pub words_are : words ≡ payload_word ∷ seq_words message.seq
+  pub payload_is : payload_of payload_word ≡ Some message.payload
+  pub seq : ForSome message.seq IsLong

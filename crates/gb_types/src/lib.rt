@@ -14,6 +14,7 @@ mod lower_digits;
 pub mod members_word;
 pub mod memory;
 pub mod message;
+pub mod new_message;
 pub mod node;
 pub mod nodes;
 pub mod number;

@@ -1,6 +1,6 @@
 //! What a caller may ask of a node.
 use crate::address::Addr;
-use crate::payload::Payload;
+use crate::new_message::NewMessage;
 use crate::spec::{Spec, TenantRow};
 
 /// A request at a node, with the token that it is asked under.
@@ -15,8 +15,8 @@ pub enum Request {
     ShutGroup([u8; 32], Addr),
     /// Drops a group for good: its log and what waits are given up here.
     DropGroup([u8; 32], Addr),
-    /// Broadcasts a payload to the group.
-    Say([u8; 32], Addr, Payload),
+    /// Broadcasts a message to the group.
+    Say([u8; 32], Addr, NewMessage),
     /// Reads the group's log from a place on, so many entries at most.
     Fetch([u8; 32], Addr, u32, u32),
 }

@@ -1,14 +1,20 @@
-//! The words of requests: numbers of two and of four bytes, addresses, and what a group is made with.
-ghost use Rattle.std.specs.Prelude.{◌≡◌, ◌↔◌, ℕ, Some, decimal, map};
-ghost use Rattle.gb_types.specs.RequestWords.{IsShort, IsLong, SpellsSpec};
+//! The words of requests: numbers of two and of four bytes, addresses, what a group is made with, and what is said in it.
+ghost use Rattle.std.specs.Prelude.{◌≡◌, ◌↔◌, ℕ, Option, Some, IfOk, decimal, map};
+ghost use Rattle.std.specs.Option.{ForSome};
+ghost use Rattle.gb_types.specs.RequestWords.{IsShort, IsLong, SpellsSpec, seq_words, SpellsMessage};
 ghost use Rattle.gb_types.specs.declared.address.Addr.{Addr as TheAddress};
+ghost use Rattle.gb_types.specs.declared.new_message.NewMessage.{NewMessage as TheMessage};
 ghost use Rattle.gb_types.specs.declared.spec.Spec.{Spec as TheSpec};
 
 use crate::address::Addr;
 use crate::kind_word::read_kind;
 use crate::members_word::read_members;
+use crate::memory::OutOfMemory;
+use crate::new_message::NewMessage;
 use crate::number::read_number;
+use crate::payload_word::read_payload;
 use crate::spec::Spec;
+use std::alloc::Global;
 
 /// A number of two bytes, 0 to 65,535.
 pub fn read_u16(word: &[u8]) -> Option<u16>
@@ -66,4 +72,33 @@ pub fn read_spec(words: &[&[u8]]) -> Option<Spec>
         bytes,
         window,
     })
+}
+
+/// The number that a message must get: SEQ, or no word at all.
+fn read_seq(words: &[&[u8]]) -> Option<Option<u32>>
+    ensures { (seq : Option ℕ) → (result ≡ Some seq)
+        ↔ (ForSome seq IsLong × (map (λ word. word.now) words.now ≡ seq_words seq)) }
+{
+    match words {
+        [] => Some(None),
+        [word] => Some(Some(read_u32(word)?)),
+        _ => None,
+    }
+}
+
+/// What is said: PAYLOAD, or PAYLOAD SEQ.
+pub fn read_message(alloc: Global, words: &[&[u8]]) -> Result<Option<NewMessage>, OutOfMemory>
+    ensures { IfOk result (λ found. (message : TheMessage) → (found ≡ Some message)
+        ↔ SpellsMessage message (map (λ word. word.now) words.now)) }
+{
+    let [word, behind @ ..] = words else {
+        return Ok(None);
+    };
+    let Some(seq) = read_seq(behind) else {
+        return Ok(None);
+    };
+    let Some(payload) = read_payload(alloc, word)? else {
+        return Ok(None);
+    };
+    Ok(Some(NewMessage { payload, seq }))
 }

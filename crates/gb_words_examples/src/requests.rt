@@ -35,6 +35,12 @@ const DROP: &[u8] = b"drop 0123456789abcdefABCDEF0123456789abcdefABCDEF012345678
 const SAY: &[u8] =
     b"say 0123456789abcdefABCDEF0123456789abcdefABCDEF0123456789abcdefABCD 7 1 C0fFEe";
 
+const SAY_FIRST: &[u8] =
+    b"say 0123456789abcdefABCDEF0123456789abcdefABCDEF0123456789abcdefABCD 7 1 C0fFEe 0";
+
+const SAY_LAST: &[u8] =
+    b"say 0123456789abcdefABCDEF0123456789abcdefABCDEF0123456789abcdefABCD 7 1 C0fFEe 4294967295";
+
 const FETCH: &[u8] =
     b"fetch 0123456789abcdefABCDEF0123456789abcdefABCDEF0123456789abcdefABCD 7 1 5 16";
 
@@ -89,15 +95,21 @@ fn is_of_group(token: &[u8; 32], address: Addr) -> bool {
 }
 
 /// Which of these requests it is, where all its parts are the ones that its words spell: 1 open, 2 shut, 3 drop, 4 say,
-/// 5 fetch, 6 tenant, 7 make; 0 where it is none of them.
+/// 5 fetch, 6 tenant, 7 make, 8 say under 0, 9 say under 4,294,967,295; 0 for any other.
 fn which(request: &Request) -> u8 {
     let (number, is_spelled) = match request {
         Request::OpenGroup(token, address) => (1, is_of_group(token, *address)),
         Request::ShutGroup(token, address) => (2, is_of_group(token, *address)),
         Request::DropGroup(token, address) => (3, is_of_group(token, *address)),
-        Request::Say(token, address, payload) => {
-            let is_said = payload.as_slice() == b"\xc0\xff\xee".as_slice();
-            (4, is_said && is_of_group(token, *address))
+        Request::Say(token, address, message) => {
+            let is_said = message.payload.as_slice() == b"\xc0\xff\xee".as_slice();
+            let number = match message.seq {
+                None => 4,
+                Some(0) => 8,
+                Some(u32::MAX) => 9,
+                Some(_) => 0,
+            };
+            (number, is_said && is_of_group(token, *address))
         }
         Request::Fetch(token, address, from, most) => {
             let is_fetched = *from == 5 && *most == 16;
@@ -141,6 +153,8 @@ const HEADS: &[(&[u8], u8)] = &[
     (SHUT, 2),
     (DROP, 3),
     (SAY, 4),
+    (SAY_FIRST, 8),
+    (SAY_LAST, 9),
     (FETCH, 5),
     (TENANT, 6),
     (MAKE, 7),
@@ -181,7 +195,7 @@ fn is_malformed(alloc: Global, body: &[u8]) -> bool {
 /// Whether the bytes are so many, and spell a say of so many bytes.
 fn is_say(alloc: Global, body: &[u8], len: usize, said: usize) -> bool {
     match &parse_request(alloc, body) {
-        Ok(Request::Say(_, _, payload)) => body.len() == len && payload.len() == said,
+        Ok(Request::Say(_, _, message)) => body.len() == len && message.payload.len() == said,
         _ => false,
     }
 }
@@ -217,6 +231,11 @@ const BODIES: &[&[u8]] = &[
     b"open 0123456789abcdefABCDEF0123456789abcdefABCDEF0123456789abcdefABCD 7 65536",
     b"open  0123456789abcdefABCDEF0123456789abcdefABCDEF0123456789abcdefABCD 7 1",
     b"make 0123456789abcdefABCDEF0123456789abcdefABCDEF0123456789abcdefABCD 7 1 beb 0,32 8 64 4",
+    b"say 0123456789abcdefABCDEF0123456789abcdefABCDEF0123456789abcdefABCD 7 1",
+    b"say 0123456789abcdefABCDEF0123456789abcdefABCDEF0123456789abcdefABCD 7 1 61 4294967296",
+    b"say 0123456789abcdefABCDEF0123456789abcdefABCDEF0123456789abcdefABCD 7 1 61 01",
+    b"say 0123456789abcdefABCDEF0123456789abcdefABCDEF0123456789abcdefABCD 7 1 61 1 1",
+    b"say 0123456789abcdefABCDEF0123456789abcdefABCDEF0123456789abcdefABCD 7 1 61 ",
 ];
 
 #[test]

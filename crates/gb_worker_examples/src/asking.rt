@@ -11,6 +11,7 @@ use gb_node::answer::{NodeAnswer, Sent};
 use gb_node::event::NodeEvent;
 use gb_types::address::Addr;
 use gb_types::kind::Kind;
+use gb_types::new_message::NewMessage;
 use gb_types::node::{NodeId, NodeSet};
 use gb_types::payload::Payload;
 use gb_types::refusal::Refusal;
@@ -221,7 +222,7 @@ pub fn say<L: Tapes, M: Ledger, R: Wait + Clock>(
 ) -> Option<u16> {
     let member = token(&TENANT_KEY, Need::Member(7, addr.group, node));
     let payload = Payload::from_slice(alloc, words).ok()?;
-    let request = Request::Say(member, addr, payload);
+    let request = Request::Say(member, addr, NewMessage::new(payload));
     said(&answer(rt, alloc, host, seat, node, request))
 }
 

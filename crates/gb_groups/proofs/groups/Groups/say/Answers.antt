@@ -43,7 +43,7 @@ returns-in-Said-clause-others c =
 pub returns-in-Said-clause-reply : goal.returns-in-Said-clause-reply
 returns-in-Said-clause-reply c =
     let there : Some c.in-Some.place ≡ place_of c.args.addr c.self.inside.slots.rows = sym c.in-Some.is ∙ (c.requires ∙ ap (λ (v : GroupsValue). place_of c.args.addr v.rows) (sym c.self.view_is)) in
-    let answer = λ (s : Shown). say_answer c.args.version s c.args.payload.now in
+    let answer = λ (s : Shown). say_answer c.args.version s (record { payload = c.args.payload.now; seq = c.args.seq }) in
     c.say-reply.ensures.reply ∙ ap (reply_at answer c.self.inside.slots.rows) there ∙ ap (λ (v : GroupsValue). group_reply answer c.args.addr v.rows) c.self.view_is
 
 pub returns-in-Said-clause-rows : goal.returns-in-Said-clause-rows
@@ -78,7 +78,7 @@ returns-in_default-clause-others c =
 pub returns-in_default-clause-reply : goal.returns-in_default-clause-reply
 returns-in_default-clause-reply c =
     let there : Some c.in-Some.place ≡ place_of c.args.addr c.self.inside.slots.rows = sym c.in-Some.is ∙ (c.requires ∙ ap (λ (v : GroupsValue). place_of c.args.addr v.rows) (sym c.self.view_is)) in
-    let answer = λ (s : Shown). say_answer c.args.version s c.args.payload.now in
+    let answer = λ (s : Shown). say_answer c.args.version s (record { payload = c.args.payload.now; seq = c.args.seq }) in
     c.say-reply.ensures.reply ∙ ap (reply_at answer c.self.inside.slots.rows) there ∙ ap (λ (v : GroupsValue). group_reply answer c.args.addr v.rows) c.self.view_is
 
 pub returns-in_default-clause-rows : goal.returns-in_default-clause-rows

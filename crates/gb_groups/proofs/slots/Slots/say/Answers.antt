@@ -19,21 +19,21 @@ use Rattle.gb_groups.proofs.slots.Slots.say.Goals as goal
 pub invariant_of-self : goal.invariant_of-self
 invariant_of-self c =
     let v = c.in-Some-get_mut.slot.now in (
-      (changed (slot_said c.args.payload.now (said_reply c.say.result)) c.self.inside.places.entries c.self.inside.slots c.args.place c.in-Some.key v c.say.new.self c.self.invariant.0 c.in-Some.ensures c.in-Some-get_mut.ensures.value c.say.ensures.state (ap length (taken-said c.args.payload.now (said_reply c.say.result) v)) (short-said PAYLOAD c.args.version c.args.payload.now (said_reply c.say.result) v (limits_are_within c.args.version).payload c.say.ensures.answer)).kept,
+      (changed (slot_said c.args.payload.now (said_reply c.say.result)) c.self.inside.places.entries c.self.inside.slots c.args.place c.in-Some.key v c.say.new.self c.self.invariant.0 c.in-Some.ensures c.in-Some-get_mut.ensures.value c.say.ensures.state (ap length (taken-said c.args.payload.now (said_reply c.say.result) v)) (short-said PAYLOAD c.args.version (record { payload = c.args.payload.now; seq = c.args.seq }) (said_reply c.say.result) v (limits_are_within c.args.version).payload c.say.ensures.answer)).kept,
       lent_called c.self.inside.slots c.in-Some.key v c.say.new.self c.self.inside.effects c.say.new.effects c.self.invariant.1 c.say.ensures.effects c.in-Some-get_mut.ensures.value (ap (λ (s : SlotState). s.spec) c.say.ensures.state ∙ spec-said c.args.payload.now (said_reply c.say.result) v),
     )
 
 pub returns-in-Some-get_mut-clause-rows : goal.returns-in-Some-get_mut-clause-rows
 returns-in-Some-get_mut-clause-rows c =
     let v = c.in-Some-get_mut.slot.now in
-    (changed (slot_said c.args.payload.now (said_reply c.say.result)) c.self.inside.places.entries c.self.inside.slots c.args.place c.in-Some.key v c.say.new.self c.self.invariant.0 c.in-Some.ensures c.in-Some-get_mut.ensures.value c.say.ensures.state (ap length (taken-said c.args.payload.now (said_reply c.say.result) v)) (short-said PAYLOAD c.args.version c.args.payload.now (said_reply c.say.result) v (limits_are_within c.args.version).payload c.say.ensures.answer)).rows
+    (changed (slot_said c.args.payload.now (said_reply c.say.result)) c.self.inside.places.entries c.self.inside.slots c.args.place c.in-Some.key v c.say.new.self c.self.invariant.0 c.in-Some.ensures c.in-Some-get_mut.ensures.value c.say.ensures.state (ap length (taken-said c.args.payload.now (said_reply c.say.result) v)) (short-said PAYLOAD c.args.version (record { payload = c.args.payload.now; seq = c.args.seq }) (said_reply c.say.result) v (limits_are_within c.args.version).payload c.say.ensures.answer)).rows
     ∙ ap (λ (w : SlotsValue). set w.rows c.args.place (on_slot (slot_said c.args.payload.now (said_reply c.say.result)) (row_at w.rows c.args.place))) c.self.view_is
     ∙ ap (λ (r : Reply). set c.args.self.now.rows c.args.place (on_slot (slot_said c.args.payload.now r) (row_at c.args.self.now.rows c.args.place))) (sym c.said.ensures)
 
 pub returns-in-Some-get_mut-clause-reply : goal.returns-in-Some-get_mut-clause-reply
 returns-in-Some-get_mut-clause-reply c =
     let v = c.in-Some-get_mut.slot.now in
-    let answer : Shown → Reply = λ s. say_answer c.args.version s c.args.payload.now in
+    let answer : Shown → Reply = λ s. say_answer c.args.version s (record { payload = c.args.payload.now; seq = c.args.seq }) in
     let there : (row_at c.args.self.now.rows c.args.place).slot ≡ Some v =
     ap (λ (w : SlotsValue). (row_at w.rows c.args.place).slot) (sym c.self.view_is) ∙ slot_is c.self.inside.slots c.self.inside.places.entries c.args.place c.in-Some.key v c.in-Some.ensures c.in-Some-get_mut.ensures.value in
     c.said.ensures ∙ c.say.ensures.answer ∙ sym (ap (unless_gone answer) there)

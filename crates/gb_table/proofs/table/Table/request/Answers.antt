@@ -34,7 +34,7 @@ pub returns-in-Say-clause-reply : goal.returns-in-Say-clause-reply
 returns-in-Say-clause-reply c =
     let right : is_admitted c.args.request.now c.args.self.now ≡ true = sym c.is_admitted.ensures ∙ c.if-not-is_admitted.false in
     subst (λ (q : Request). IsReplyTo q (table_reply q c.args.self.now) c.say.result) (sym c.in-Say.is)
-    (admitted (Say c.in-Say.field-0 c.in-Say.addr c.in-Say.payload) c.args.self.now c.say.result (ap (λ (q : Request). is_admitted q c.args.self.now) (sym c.in-Say.is) ∙ right) c.say.ensures.reply)
+    (admitted (Say c.in-Say.field-0 c.in-Say.addr c.in-Say.message) c.args.self.now c.say.result (ap (λ (q : Request). is_admitted q c.args.self.now) (sym c.in-Say.is) ∙ right) c.say.ensures.reply)
 
 pub returns-in-Say-clause-state : goal.returns-in-Say-clause-state
 returns-in-Say-clause-state c = c.say.ensures.state c.args.noticed.now c.in-Say.field-0 ∙ ap (λ (r : Request). table_did c.args.noticed.now r c.say.result c.args.self.now) (sym c.in-Say.is)

@@ -1,0 +1,41 @@
+//! What a member asks to have said.
+ghost use Rattle.std.specs.Prelude.{◌≡◌, IfOk, None};
+
+use crate::memory::OutOfMemory;
+use crate::payload::Payload;
+use std::alloc::Global;
+
+/// What a member says: a payload, and the number that the message must get, if the caller names one. A say that names its
+/// number is done once, however often it is sent: a caller whose answer was lost sends it again.
+pub struct NewMessage {
+    pub payload: Payload,
+    /// The sequence number that the message must get, as the caller wrote it: any number of four bytes.
+    pub seq: Option<u32>,
+}
+
+// Not derived: what is derived is proved anew in each crate that ends one.
+impl Drop for NewMessage {
+    fn drop(self) {
+        let NewMessage { payload: _, seq: _ } = self;
+    }
+}
+
+impl NewMessage {
+    /// A payload under whatever number is next.
+    pub fn new(payload: Payload) -> NewMessage
+        ensures { result ≡ record { payload = payload; seq = None } }
+    {
+        NewMessage { payload, seq: None }
+    }
+
+    /// The same message, copied.
+    pub fn duplicate(&self, alloc: Global) -> Result<NewMessage, OutOfMemory>
+        ensures { IfOk result (λ message. message ≡ self.now) }
+    {
+        let payload = self.payload.duplicate(alloc)?;
+        Ok(NewMessage {
+            payload,
+            seq: self.seq,
+        })
+    }
+}
