@@ -163,6 +163,8 @@ class Walk:
         source = self.source(crate, parts[2:])
         if source is not None and name in source.defined:
             self.meet(source.defined[name])
+        elif source is not None and name in source.uses:
+            self.imported(*source.uses[name])
 
 
 def below():

@@ -38,10 +38,9 @@ use Rattle.gb_alone.specs.Alone.{Member, Group, called, commanded, did, is_ackno
 use Rattle.gb_alone.specs.Alone as alone
 use Rattle.gb_rules.specs.Lifetime.{stepped, where_so}
 use Rattle.gb_rules.specs.Lifetime as life
-use Rattle.gb_table.specs.Admission.{has_group_token}
 use Rattle.gb_node.specs.Past.{Happened, added, is_stopped, tenants_in}
 use Rattle.gb_node.specs.PastGroups.{Told, noticed_after, shown_of, shown_in, with_call, moved_to, asked_told, told_of}
-use Rattle.gb_node.specs.StepLaw.{group_answer, is_admitted_by, admitted_answer}
+use Rattle.gb_node.specs.StepLaw.{group_answer, is_admitted_by, admitted_answer, has_group_token}
 use Rattle.gb_node.specs.declared.answer.NodeAnswer.TheVariants.{Reply as Replied}
 use Rattle.gb_node.specs.declared.event.NodeEvent.TheVariants.{Request as Asked}
 use Rattle.gb_node.specs.declared.plan.NodePlan.{NodePlan}

@@ -23,7 +23,7 @@ use Rattle.gb_alone.specs.declared.event.GroupEvent.TheVariants.{Tenant, Make as
 use Rattle.gb_alone.specs.declared.event.GroupStep.{GroupStep}
 use Rattle.gb_alone.proofs.CommandLemmas.{command_in, commands_at, commands}
 use Rattle.gb_duties.proofs.NoticeLemmas.{IsDue, AreDue}
-use Rattle.gb_table.specs.Admission.{has_group_token}
+use Rattle.gb_node.specs.StepLaw.{has_group_token}
 use Rattle.gb_node.specs.NodeStep.{node_numbered}
 use Rattle.gb_node.specs.Past.{Happened, frames_to, read, is_stopped, tenants_in}
 use Rattle.gb_node.specs.declared.answer.NodeAnswer.{NodeAnswer}

@@ -30,11 +30,10 @@ use Rattle.gb_alone.proofs.InsideLemmas.{step_inside}
 use Rattle.gb_alone.specs.declared.event.GroupEvent.TheVariants.{Make as AskMake}
 use Rattle.gb_alone.specs.Alone.{Member, Group, after, commanded, is_marked, reply_to, running_reply}
 use Rattle.gb_rules.specs.Lifetime.{or_added}
-use Rattle.gb_table.specs.Admission.{has_group_token}
 use Rattle.gb_node.specs.NodeStep.{node_numbered}
 use Rattle.gb_node.specs.Past.{Happened, is_stopped, tenants_in}
 use Rattle.gb_node.specs.PastGroups.{Told, noticed_after, waiting_of, noticed_members, crashed_onto, told_first, told_of}
-use Rattle.gb_node.specs.StepLaw.{admitted_answer}
+use Rattle.gb_node.specs.StepLaw.{admitted_answer, has_group_token}
 use Rattle.gb_node.specs.declared.plan.NodePlan.{NodePlan}
 use Rattle.gb_rules.proofs.AddressLemmas.{addr_is}
 use Rattle.gb_isolation.specs.Project.{is_met, is_own_request, made_with, replies_in}

@@ -25,11 +25,10 @@ use Rattle.gb_alone.specs.Alone.{Group, member_after}
 use Rattle.gb_alone.specs.Alone as alone
 use Rattle.gb_alone.specs.declared.event.GroupEvent.TheVariants.{Tenant}
 use Rattle.gb_rules.specs.Lifetime.{or_added}
-use Rattle.gb_table.specs.Admission.{has_group_token}
 use Rattle.gb_node.specs.NodeStep.{RequestTakesMemory}
 use Rattle.gb_node.specs.Past.{Happened, added, frames_to, is_stopped, tenants_in}
 use Rattle.gb_node.specs.PastGroups.{Told, noticed_after, told_first, asked_told, told_of}
-use Rattle.gb_node.specs.StepLaw.{IsAsked, admitted_answer, is_admitted_by, past_answer}
+use Rattle.gb_node.specs.StepLaw.{IsAsked, admitted_answer, is_admitted_by, past_answer, has_group_token}
 use Rattle.gb_node.specs.declared.answer.NodeAnswer.TheVariants.{Reply as Replied}
 use Rattle.gb_node.specs.declared.event.NodeEvent.TheVariants.{Request as Asked}
 use Rattle.gb_node.specs.declared.plan.NodePlan.{NodePlan}

@@ -16,7 +16,7 @@ use Rattle.gb_frame.specs.declared.item.Item.{Item}
 use Rattle.gb_alone.specs.declared.event.GroupEvent.{GroupEvent}
 use Rattle.gb_alone.specs.declared.event.GroupEvent.TheVariants.{Make as AskMake, Open as AskOpen, Shut as AskShut, Drop as AskDrop, Say as AskSay, Fetch as AskFetch, Stop}
 use Rattle.gb_alone.specs.Alone.{Member, Group, alone_from, commanded, did, member_after, reply_to, running_reply, MayHappen}
-use Rattle.gb_table.specs.Admission.{has_group_token}
+use Rattle.gb_node.specs.StepLaw.{has_group_token}
 use Rattle.gb_node.specs.Past.{Happened, is_stopped, tenants_in}
 use Rattle.gb_node.specs.PastGroups.{noticed_after, told_of}
 use Rattle.gb_node.specs.declared.plan.NodePlan.{NodePlan}

@@ -298,5 +298,6 @@ answers_say law each stay slots few = record {
   each = λ plan past event answer v comes.
       let before = stands law each stay slots few plan past comes.0 comes.1 in
       answered law each few plan (started plan past comes.0 comes.1) past comes.0 (of_past slots plan past comes.0 before.says) before.apart v event answer comes.2 comes.3;
+  due = λ plan past v request comes. let now = stands law each stay slots few plan past v comes in should_reply plan past v (of_past slots plan past v now.says) request;
   noticed = λ plan past v b comes there. noticed_inside few plan (started plan past v comes) past b there;
 }

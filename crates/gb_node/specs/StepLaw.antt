@@ -14,8 +14,9 @@ use Rattle.gb_rules.specs.Group.{Shown, open_answer, shut_answer, drop_answer, s
 use Rattle.gb_rules.specs.Tenant.{reserve_of, row_of, reserved, tenant_answer, make_answer, by_tenant}
 use Rattle.gb_frame.specs.Items.{items_for, item_for}
 use Rattle.gb_table.specs.Admission.{has_token}
+pub use Rattle.gb_table.specs.Admission.{has_group_token}
 use Rattle.gb_node.specs.NodeValue.{NodeValue}
-use Rattle.gb_node.specs.NodeStep.{RequestTakesMemory}
+use Rattle.gb_node.specs.NodeStep.{turn, RequestTakesMemory}
 use Rattle.gb_node.specs.Past.{Happened, ComesTo, read, is_first, is_taken, tenants_in, is_stopped}
 use Rattle.gb_node.specs.PastGroups.{noticed_after, shown_in, waiting_of, told_of}
 use Rattle.gb_node.specs.declared.answer.Good.{Good}
@@ -98,4 +99,6 @@ IsAnswered plan past event answer = Unit {0}
 -- every answer of every node is what its past says, and only other nodes of the cluster are noticed
 pub record AnswersSay : Type 0 where
   pub each : (plan : NodePlan) (past : List Happened) (event : NodeEvent) (answer : NodeAnswer) (v : NodeValue) → ComesTo plan (record { event = event; answer = answer } ∷ past) v → IsAnswered plan past event answer
+  -- where it has the memory that it takes, a node answers a request as its past says
+  pub due : (plan : NodePlan) (past : List Happened) (v : NodeValue) (request : Request) → ComesTo plan past v → (turn v (Asked request)).answer ≡ Replied (past_answer plan past request)
   pub noticed : (plan : NodePlan) (past : List Happened) (v : NodeValue) (b : ℕ) → ComesTo plan past v → set.contains (noticed_after plan past) b ≡ true → (b < plan.nodes) × (b ≢ plan.me.number)
