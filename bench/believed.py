@@ -2,12 +2,13 @@
 
     python3 bench/believed.py [LAW[:CLAUSE]] [--list]
 
-LAW is `crate::file::function`, a public function whose contract is the law; gb_isolation::laws::groups_are_isolated if not given. With
-`:CLAUSE` behind it only the clause of that name counts.
-The walk begins at the words of its `ensures` and goes over definitions of crates/*/specs (abbrev, unfoldable, record, data) and
-over the structs, enums and constants of crates/*/src that these name. A type counts with its variants and fields, a definition with
-its signature and its equations; comments and blank lines do not count, nor does anything of the library. With --list each
-definition is printed under its file, in the order in which the walk meets the files."""
+LAW is `crate::file::function`, a public function whose contract is the law; gb_trace::run::run:seen if not given. With `:CLAUSE` behind
+it only the `ensures` of that name counts, with every `requires`.
+The walk begins at the function's signature and at the words of these clauses. It goes over definitions of crates/*/specs (abbrev, unfoldable,
+record, data) and over the structs, enums and constants of crates/*/src that these name. A type counts with its variants and fields, a
+definition with its signature and its equations. What does not count: comments, blank lines, lines that hold a closing bracket alone, and anything of
+the library. A type of private fields that contracts see by its model counts, but not what its fields are made of. With --list each definition
+is printed under its file, in the order in which the walk meets the files. The last line is the sum; the line before it says how much of it are types."""
 import os
 import re
 import sys
@@ -22,6 +23,14 @@ DECLARED = re.compile(r"^(?:pub )?(struct|enum|const) (\w+)")
 class Definition:
     def __init__(self, file, name, lines):
         self.file, self.name, self.lines = file, name, lines
+        self.is_modelled = False
+
+    def types(self):
+        """The words of a type that may name other types: not the names of its own variants, nor a representation that a model hides."""
+        if self.is_modelled and not any(line.startswith("    pub ") for line in self.lines):
+            return []
+        parts = [re.sub(r"^    [A-Z]\w*", "", line) for line in self.lines]
+        return re.findall(r"\b[A-Z]\w+\b", " ".join(parts))
 
 
 class Source:
@@ -77,19 +86,22 @@ def read_declared(crate):
     for folder, _, files in os.walk(f"{CRATES}/{crate}/src"):
         for each in sorted(files):
             file = f"{folder}/{each}"
-            current, depth = None, 0
+            current, depth, mine = None, 0, {}
             with open(file) as lines:
                 for line in lines:
                     text = line.rstrip("\n")
+                    modelled = re.match(r"impl.* Model for (\w+)", text)
+                    if modelled and modelled.group(1) in mine:
+                        mine[modelled.group(1)].is_modelled = True
                     head = DECLARED.match(text)
                     if head and current is None:
                         current, depth = Definition(file, head.group(2), []), 0
                     if current is not None:
-                        if text.strip() and not text.lstrip().startswith(("//", "#")):
+                        if text.strip() and not text.lstrip().startswith(("//", "#", "}", ")")):
                             current.lines.append(text)
                         depth += text.count("{") + text.count("(") - text.count("}") - text.count(")")
                         if depth <= 0 and re.search(r"[;})]\s*$", text):
-                            found[current.name] = current
+                            found[current.name] = mine[current.name] = current
                             current = None
     return found
 
@@ -118,7 +130,7 @@ class Walk:
             self.words(self.specs[found.file], found)
         else:
             crate = found.file[len(CRATES) + 1:].split("/")[0]
-            for word in re.findall(r"\b[A-Z]\w+\b", " ".join(found.lines)):
+            for word in found.types():
                 self.by_type(crate, word)
 
     def by_type(self, crate, word):
@@ -151,6 +163,8 @@ class Walk:
         source = self.source(crate, parts[2:])
         if source is not None and name in source.defined:
             self.meet(source.defined[name])
+        elif source is not None and name in source.uses:
+            self.imported(*source.uses[name])
 
 
 def below():
@@ -176,7 +190,7 @@ def law_words(law):
             inside = inside or line.startswith(f"pub fn {function}(")
             if inside and line.strip().startswith("{"):
                 break
-            if inside and f"ensures {clause}" in line:
+            if inside and ("requires " in line or f"ensures {clause}" in line or "ensures" not in line):
                 lines.append(line)
     return Source(file, uses, {}), Definition(file, function, lines)
 
@@ -184,7 +198,10 @@ def law_words(law):
 def main():
     words = [word for word in sys.argv[1:] if not word.startswith("--")]
     walk = Walk()
-    walk.words(*law_words(words[0] if words else "gb_isolation::laws::groups_are_isolated"))
+    source, law = law_words(words[0] if words else "gb_trace::run::run:seen")
+    walk.words(source, law)
+    for word in re.findall(r"\b[A-Z]\w+\b", " ".join(line for line in law.lines if "requires " not in line and "ensures " not in line)):
+        walk.by_type(law.file[len(CRATES) + 1:].split("/")[0], word)
     files = []
     for found in walk.order:
         if found.file not in files:
@@ -193,6 +210,8 @@ def main():
         for file in files:
             mine = [found for found in walk.order if found.file == file]
             print(f"{file[len(ROOT) + 1:]}: {sum(len(found.lines) for found in mine)} lines: {', '.join(found.name for found in mine)}")
+    types = [found for found in walk.order if not found.file.endswith(".antt")]
+    print(f"types among them: {len(types)}, {sum(len(found.lines) for found in types)} lines, {len({found.file for found in types})} files")
     print(f"{len(walk.order)} definitions, {sum(len(found.lines) for found in walk.order)} lines, {len(files)} files")
 
 

@@ -19,12 +19,13 @@ use Rattle.gb_history.specs.declared.call.GroupCall.TheVariants.{Own, Other, Cra
 use Rattle.gb_rules.specs.declared.phase.Phase.{Phase}
 use Rattle.gb_rules.specs.declared.usage.Usage.{Usage}
 use Rattle.gb_rules.specs.declared.phase.Phase.TheVariants.{Made, Opened, Shut, Gone}
-use Rattle.gb_alone.specs.Alone.{Member, Group, reply_to, held_spec, shown_in, shown_of, called, did, falls, taken_in, cut, took_notice, member_after, after, nobody, alone_from, alone}
+use Rattle.gb_alone.specs.Alone.{Member, Group, reply_to, held_spec, shown_in, called, did, falls, taken_in, cut, took_notice, member_after, after, nobody, alone_from, alone}
 use Rattle.gb_alone.specs.Laws.{Accepted, accepted_in, accepted_at, accepted_from, accepted}
 use Rattle.gb_rules.specs.Tenant.{by_tenant}
 use Rattle.gb_alone.specs.declared.event.GroupEvent.{GroupEvent}
 use Rattle.gb_alone.specs.declared.event.GroupEvent.TheVariants.{Tenant, Make as AskMake, Open as AskOpen, Shut as AskShut, Drop as AskDrop, Say as AskSay, Took, Came, Done as Acknowledged, Notice, Stop}
 use Rattle.gb_alone.specs.declared.event.GroupStep.{GroupStep}
+use Rattle.gb_alone.proofs.UsageLemmas.{shown_of}
 use Rattle.gb_rules.specs.declared.reserve.Reserve.{Reserve}
 use Rattle.gb_types.specs.declared.new_message.NewMessage.{NewMessage}
 use Rattle.gb_rules.proofs.SayLemmas.{said_is}

@@ -18,12 +18,13 @@ use Rattle.gb_types.proofs.CoverLemmas.{not_all_members}
 use Rattle.gb_types.proofs.ReadLemmas.{some_same}
 use Rattle.gb_rules.specs.Group.{say_answer, is_member, is_other, is_too_long, on_made}
 use Rattle.gb_history.specs.declared.call.GroupCall.TheVariants.{Other, Crashed}
-use Rattle.gb_alone.specs.Alone.{held_spec, Member, Group, reply_to, shown_of, called, did, falls, taken_in, cut, took_notice, member_after, after, alone_from}
+use Rattle.gb_alone.specs.Alone.{held_spec, Member, Group, reply_to, called, did, falls, taken_in, cut, took_notice, member_after, after, alone_from}
 use Rattle.gb_alone.specs.Laws.{accepted_in, accepted_at, accepted_from}
 use Rattle.gb_rules.specs.Tenant.{is_bad, is_over, make_answer, by_tenant}
 use Rattle.gb_alone.specs.declared.event.GroupEvent.{GroupEvent}
 use Rattle.gb_alone.specs.declared.event.GroupEvent.TheVariants.{Tenant, Make as AskMake, Open as AskOpen, Shut as AskShut, Drop as AskDrop, Say as AskSay, Took, Came, Done as Acknowledged, Notice, Stop}
 use Rattle.gb_alone.specs.declared.event.GroupStep.{GroupStep}
+use Rattle.gb_alone.proofs.UsageLemmas.{shown_of}
 use Rattle.gb_rules.specs.declared.reserve.Reserve.{Reserve}
 
 -- the node and the members are nodes of a cluster of so many

@@ -22,10 +22,11 @@ use Rattle.gb_history.specs.declared.call.GroupCall.{GroupCall}
 use Rattle.gb_layer.specs.Machine.{was_noticed}
 use Rattle.gb_history.specs.declared.call.GroupCall.TheVariants.{Own, Other, Crashed}
 use Rattle.gb_rules.specs.declared.phase.Phase.{Phase}
-use Rattle.gb_alone.specs.Alone.{Member, Group, held_spec, places, shown, shown_of, running_reply, reply_to, cut, dropped, item_done, took_notice, put_to, called, did, commanded, falls, item_came, taken_in, member_after, after, nobody, alone, alone_from}
+use Rattle.gb_rules.specs.declared.phase.Phase.TheVariants.{Gone}
+use Rattle.gb_alone.specs.Alone.{Member, Group, held_spec, places, shown, running_reply, reply_to, cut, item_done, took_notice, put_to, called, did, commanded, falls, item_came, taken_in, member_after, after, nobody, alone, alone_from}
 use Rattle.gb_alone.specs.MemberLists.{MemberValue, new_member, member_of, row_with, rows_with, value_called, value_dropped, carried_row, value_did, value_commanded, value_came, value_taken_in, value_took, value_done, value_cut, value_noticed, value_at, value_after, values_after, StandsForMember, StandForMembers}
 use Rattle.gb_alone.specs.Observation.{numbers_below}
-use Rattle.gb_alone.proofs.UsageLemmas.{shown_alike}
+use Rattle.gb_alone.proofs.UsageLemmas.{shown_alike, shown_of}
 use Rattle.gb_rules.specs.Tenant.{make_answer, by_tenant}
 use Rattle.gb_alone.specs.declared.event.GroupEvent.{GroupEvent}
 use Rattle.gb_alone.specs.declared.event.GroupEvent.TheVariants.{Tenant, Make as AskMake, Open as AskOpen, Shut as AskShut, Drop as AskDrop, Say as AskSay, Fetch as AskFetch, Took, Came, Done as Acknowledged, Notice, Stop}
@@ -118,7 +119,7 @@ called_listed me c v m h = record {
   stopped = h.stopped;
 }
 
-dropped_listed : (v : MemberValue) (m : Member) → StandsForMember v m → StandsForMember (value_dropped v) (dropped m)
+dropped_listed : (v : MemberValue) (m : Member) → StandsForMember v m → StandsForMember (value_dropped v) (record m { phase = Gone; put = λ b. take (m.taken b) (m.put b) })
 dropped_listed v m h = record {
   reserve = h.reserve;
   spec = h.spec;

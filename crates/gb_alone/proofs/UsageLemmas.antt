@@ -1,6 +1,6 @@
 -- How much of its spec a member has used, read at the nodes of a cluster alone.
 use Rattle.std.proofs.Common.{◌≡◌, ℕ, zero, suc, ◌+◌, ◌<◌, Bool, true, false, ◌&&◌, ◌||◌, nat_eq, List, ◌∷◌, Option, Some, None, refl, sym, ap, ◌∙◌, cond, arith}
-use Rattle.std.specs.Prelude.{if◌then◌else◌}
+use Rattle.std.specs.Prelude.{option_map, if◌then◌else◌}
 use Rattle.std.specs.List.{list_all}
 use Rattle.std.specs.Ordering.{nat_cmp}
 use Rattle.std.specs.FinSet as set
@@ -12,8 +12,9 @@ use Rattle.gb_types.proofs.RisingLemmas.{rising_from-step, rising_from-end, risi
 use Rattle.gb_history.specs.History.{calls_of, said_in, bytes_in, log_of}
 use Rattle.gb_history.specs.declared.call.GroupCall.{GroupCall}
 use Rattle.gb_layer.specs.Machine.{was_noticed}
+use Rattle.gb_rules.specs.Group.{Shown}
 use Rattle.gb_rules.specs.declared.phase.Phase.{Phase}
-use Rattle.gb_alone.specs.Alone.{is_acknowledged, is_finished, count_unfinished, shown_of}
+use Rattle.gb_alone.specs.Alone.{is_acknowledged, is_finished_alone, count_unfinished, shown_in}
 
 -- tests that agree on the nodes agree on the nodes of a set
 all_from : (s : set.FinSet nat_cmp) (p q : ℕ → Bool) → ((b : ℕ) → set.contains s b ≡ true → b < NODES → p b ≡ q b) → (n i : ℕ) → n + i ≡ NODES → list_all p (rising_from s i) ≡ list_all q (rising_from s i)
@@ -37,11 +38,15 @@ unfolding count_unfinished
 count_alike p q same k zero = refl
 count_alike p q same k (suc n) = λ i. (if same k i then 0 else 1) + count_alike p q same (k + 1) n i
 
+-- what the rules read, where the group was made with this
+abbrev pub shown_of : ℕ → Phase → List GroupCall → (ℕ → List Entry) → (ℕ → List ℕ) → Option Spec → Option Shown
+shown_of me phase told put done o = option_map (shown_in me phase told put done) o
+
 -- items and marks that agree at the nodes show the same
 pub shown_alike : (me : ℕ) (phase : Phase) (told : List GroupCall) (put row : ℕ → List Entry) (done marks : ℕ → List ℕ) (o : Option Spec) → ((b : ℕ) → b < NODES → put b ≡ row b) → ((b : ℕ) → b < NODES → done b ≡ marks b) → shown_of me phase told put done o ≡ shown_of me phase told row marks o
 shown_alike me phase told put row done marks None same alike = refl
 shown_alike me phase told put row done marks (Some spec) same alike =
-    let counts = count_alike (is_finished spec me told put done) (is_finished spec me told row marks)
+    let counts = count_alike (is_finished_alone spec me told put done) (is_finished_alone spec me told row marks)
     (λ k. all_alike spec.members (λ b. nat_eq b me || (was_noticed (calls_of told) b || is_acknowledged me k (done b) 1 (put b))) (λ b. nat_eq b me || (was_noticed (calls_of told) b || is_acknowledged me k (marks b) 1 (row b)))
     (λ b has lt i. nat_eq b me || (was_noticed (calls_of told) b || is_acknowledged me k (alike b lt i) 1 (same b lt i)))) 1 (said_in told) in
     λ i. Some (record { spec = spec; phase = phase; usage = record { said = said_in told; bytes = bytes_in told me; unfinished = counts i }; log = log_of spec me told })

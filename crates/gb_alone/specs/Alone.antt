@@ -1,5 +1,5 @@
 -- One group, by itself: no links, frames, packets or other groups. Histories have the newest first.
-use Rattle.std.specs.Prelude.{ℕ, zero, suc, ◌+◌, ◌-◌, ◌≡◌, ◌≤◌, ◌<◌, ◌&&◌, ◌||◌, not, Bool, true, false, List, [], ◌∷◌, ◌++◌, length, fold, take, Option, Some, None, is_some, slice_get, nat_eq, if◌then◌else◌}
+use Rattle.std.specs.Prelude.{ℕ, zero, suc, ◌+◌, ◌-◌, ◌≡◌, ◌≤◌, ◌<◌, ◌&&◌, ◌||◌, not, Bool, true, false, List, [], ◌∷◌, ◌++◌, length, fold, take, Option, Some, None, is_some, option_map, slice_get, nat_eq, if◌then◌else◌}
 use Rattle.std.specs.List.{list_all, list_any}
 use Rattle.gb_types.specs.Rising.{rising}
 use Rattle.gb_types.specs.Version.{version_at}
@@ -62,8 +62,8 @@ abbrev pub held_spec : Phase → Option Spec → Option Spec
 held_spec phase o = if is_gone phase then None else o
 
 -- the item is the message of the node me with this number
-abbrev pub is_own : ℕ → ℕ → Entry → Bool
-is_own me k x = nat_eq x.origin.number me && nat_eq x.seq k
+abbrev pub is_message : ℕ → ℕ → Entry → Bool
+is_message me k x = nat_eq x.origin.number me && nat_eq x.seq k
 
 -- the place is marked
 abbrev pub is_marked : ℕ → List ℕ → Bool
@@ -72,11 +72,11 @@ is_marked place marks = list_any (λ p. nat_eq p place) marks
 -- of these items put out to a node, with the places from this one on, the message of the node me with this number stands at a place that is done
 abbrev pub is_acknowledged : ℕ → ℕ → List ℕ → ℕ → List Entry → Bool
 is_acknowledged me k done place [] = false
-is_acknowledged me k done place (x ∷ xs) = (is_own me k x && is_marked place done) || is_acknowledged me k done (place + 1) xs
+is_acknowledged me k done place (x ∷ xs) = (is_message me k x && is_marked place done) || is_acknowledged me k done (place + 1) xs
 
 -- each other member is noticed, or acknowledged the message
-abbrev pub is_finished : Spec → ℕ → List GroupCall → (ℕ → List Entry) → (ℕ → List ℕ) → ℕ → Bool
-is_finished spec me told put done k = list_all (λ b. nat_eq b me || (was_noticed (calls_of told) b || is_acknowledged me k (done b) 1 (put b))) (rising spec.members)
+abbrev pub is_finished_alone : Spec → ℕ → List GroupCall → (ℕ → List Entry) → (ℕ → List ℕ) → ℕ → Bool
+is_finished_alone spec me told put done k = list_all (λ b. nat_eq b me || (was_noticed (calls_of told) b || is_acknowledged me k (done b) 1 (put b))) (rising spec.members)
 
 -- how many of these numbers, from k on, do not pass the test
 unfoldable pub count_unfinished : (ℕ → Bool) → ℕ → ℕ → ℕ
@@ -85,18 +85,15 @@ count_unfinished finished k (suc n) = (if finished k then 0 else 1) + count_unfi
 
 -- how much of its spec the node's member has used
 abbrev pub usage_of : Spec → ℕ → List GroupCall → (ℕ → List Entry) → (ℕ → List ℕ) → Usage
-usage_of spec me told put done = record { said = said_in told; bytes = bytes_in told me; unfinished = count_unfinished (is_finished spec me told put done) 1 (said_in told) }
+usage_of spec me told put done = record { said = said_in told; bytes = bytes_in told me; unfinished = count_unfinished (is_finished_alone spec me told put done) 1 (said_in told) }
 
 -- what the rules read of a group with this spec
 abbrev pub shown_in : ℕ → Phase → List GroupCall → (ℕ → List Entry) → (ℕ → List ℕ) → Spec → Shown
 shown_in me phase told put done spec = record { spec = spec; phase = phase; usage = usage_of spec me told put done; log = log_of spec me told }
 
-abbrev pub shown_of : ℕ → Phase → List GroupCall → (ℕ → List Entry) → (ℕ → List ℕ) → Option Spec → Option Shown
-shown_of me phase told put done None = None
-shown_of me phase told put done (Some spec) = Some (shown_in me phase told put done spec)
-
+-- what the rules read of a member, where the group was made there
 abbrev pub shown : ℕ → Member → Option Shown
-shown me m = shown_of me m.phase m.told m.put m.done m.spec
+shown me m = option_map (shown_in me m.phase m.told m.put m.done) m.spec
 
 -- the reply to a command on a group that may have been made
 abbrev pub on_group : (Shown → Reply) → ℕ → Member → Reply
@@ -125,16 +122,12 @@ put_to me (Some spec) c told put b = if is_other spec me b && not (was_noticed (
 abbrev pub called : ℕ → GroupCall → Member → Member
 called me c m = record m { told = c ∷ m.told; put = put_to me m.spec c m.told m.put }
 
--- what waits is given up
-abbrev pub dropped : Member → Member
-dropped m = record m { phase = Gone; put = λ b. take (m.taken b) (m.put b) }
-
--- what a command does besides its reply
+-- what a command does besides its reply; where the group is dropped, what waits is given up
 abbrev pub did : NodeId → GroupEvent → Reply → Member → Member
 did me (AskMake spec) Done m = record m { spec = Some spec }
 did me AskOpen Done m = record m { phase = Opened }
 did me AskShut Done m = record m { phase = Shut }
-did me AskDrop Done m = dropped m
+did me AskDrop Done m = record m { phase = Gone; put = λ b. take (m.taken b) (m.put b) }
 did me (AskSay message) (Said seq) m = called me.number (Own (record { origin = me; seq = seq; payload = message.payload })) m
 did me event reply m = m
 
@@ -197,12 +190,13 @@ after bounds number group step x = if nat_eq x step.node.number then member_afte
 abbrev pub nobody : Group
 nobody x = record { reserve = None; spec = None; phase = Made; told = []; replies = []; put = λ b. []; taken = λ b. 0; come = λ b. []; done = λ b. []; noticed = []; stopped = false }
 
-abbrev pub alone_from : Bounds → ℕ → Group → List GroupStep → Group
-alone_from bounds number group steps = fold (after bounds number) group steps
-
 -- the group with this number among its tenant's, in a cluster with these bounds, after these events
 abbrev pub alone : Bounds → ℕ → List GroupStep → Group
-alone bounds number steps = alone_from bounds number nobody steps
+alone bounds number steps = fold (after bounds number) nobody steps
+
+-- a group after more events
+abbrev pub alone_from : Bounds → ℕ → Group → List GroupStep → Group
+alone_from bounds number group steps = fold (after bounds number) group steps
 
 -- What may happen next: what waits is taken, what is carried comes once, what came is acknowledged once, a node is noticed once at another, and none of these
 -- happens at a stopped node.

@@ -1,6 +1,6 @@
 //! The places of items put out to a node that are acknowledged.
 ghost use Rattle.std.specs.Prelude.{◌≡◌, ◌+◌, ◌≤◌, ◌++◌, [], OnOk, length};
-ghost use Rattle.gb_alone.specs.Alone.{is_own, is_marked, is_acknowledged, places};
+ghost use Rattle.gb_alone.specs.Alone.{is_message, is_marked, is_acknowledged, places};
 
 use gb_types::entry::Entry;
 use gb_types::memory::OutOfMemory;
@@ -24,7 +24,7 @@ impl Model for Marks {
 
 /// Whether the item is the message of the node `me` with this number.
 fn is_own(me: NodeId, seq: u32, x: &Entry) -> bool
-    ensures { result ≡ is_own me.number seq x.now }
+    ensures { result ≡ is_message me.number seq x.now }
 {
     x.origin == me && u32::from(x.seq) == seq
 }

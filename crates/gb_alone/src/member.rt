@@ -3,7 +3,7 @@ ghost use Rattle.std.specs.Prelude.{ℕ, ◌≡◌, ◌||◌, nat_eq, ◌+◌, �
 ghost use Rattle.gb_types.specs.declared.limits.TheConstants.{NODES as MOST};
 ghost use Rattle.gb_alone.specs.Alone as one_group;
 ghost use Rattle.gb_layer.specs.Machine.{was_noticed};
-ghost use Rattle.gb_alone.specs.Alone.{Member as Prior, held_spec, is_acknowledged, is_finished, count_unfinished, usage_of, shown_in};
+ghost use Rattle.gb_alone.specs.Alone.{Member as Prior, held_spec, is_acknowledged, is_finished_alone, count_unfinished, usage_of, shown_in};
 ghost use Rattle.gb_alone.specs.MemberLists.{member_of, StandsForMember};
 ghost use Rattle.gb_history.specs.History.{calls_of};
 ghost use Rattle.gb_rules.specs.Group.{Shown, fetch_answer};
@@ -198,7 +198,7 @@ impl Member {
     /// Whether each other member is noticed, or acknowledged the own message with a number.
     fn is_finished(&self, spec: &Spec, me: NodeId, calls: &[Call], seq: u32) -> bool
         requires { calls.now ≡ calls_of self.now.told }
-        ensures { result ≡ is_finished spec.now me.number self.now.told (member_of self.now).put (member_of self.now).done seq }
+        ensures { result ≡ is_finished_alone spec.now me.number self.now.told (member_of self.now).put (member_of self.now).done seq }
     {
         for b in spec.members.nodes() {
             if !self.is_finished_by(me, calls, seq, b) {
@@ -213,7 +213,7 @@ impl Member {
     fn unfinished(&self, spec: &Spec, me: NodeId, calls: &[Call], seq: u32, count: u32) -> u32
         requires calls { calls.now ≡ calls_of self.now.told }
         requires last { seq + count ≤ 65_536 }
-        ensures unfinished { result ≡ count_unfinished (is_finished spec.now me.number self.now.told (member_of self.now).put (member_of self.now).done) seq count }
+        ensures unfinished { result ≡ count_unfinished (is_finished_alone spec.now me.number self.now.told (member_of self.now).put (member_of self.now).done) seq count }
         ensures few { result ≤ count }
     {
         if count == 0 {

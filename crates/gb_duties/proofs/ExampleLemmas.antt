@@ -23,12 +23,12 @@ use Rattle.gb_rules.specs.declared.phase.Phase.TheVariants.{Opened}
 use Rattle.gb_rules.specs.declared.reserve.Reserve.{Reserve}
 use Rattle.gb_history.specs.History.{calls_of, known, said_in, puts_of, falls_after}
 use Rattle.gb_history.specs.declared.call.GroupCall.TheVariants.{Own, Other, Crashed}
-use Rattle.gb_alone.specs.Alone.{Member, Group, called, cut, falls, taken_in, took_notice, node_noticed, member_after, after, nobody, alone_from, alone, is_marked, held_spec, dropped as drops, count_unfinished, MayHappen, IsLegalFrom}
+use Rattle.gb_alone.specs.Alone.{Member, Group, called, cut, falls, taken_in, took_notice, node_noticed, member_after, after, nobody, alone_from, alone, is_marked, held_spec, did, count_unfinished, MayHappen, IsLegalFrom}
 use Rattle.gb_alone.specs.Laws.{log_of_member}
 use Rattle.gb_alone.specs.declared.event.GroupEvent.TheVariants.{Tenant, Make, Open, Drop, Say, Took, Came, Notice}
 use Rattle.gb_alone.specs.declared.event.GroupStep.{GroupStep}
 use Rattle.gb_duties.specs.Duties.{HasHad, noticed_at}
-use Rattle.gb_duties.specs.Examples.{bounds, first, second, third, message, one_byte, members, spec_of, at, opened_at, opened, to_one, to_all, dropped, log_in, put_in}
+use Rattle.gb_duties.specs.Examples.{bounds, first, second, third, message, one_byte, members, spec_of, at, opened_at, opened, to_one, to_all, third_drops, log_in, put_in}
 
 pub in_0 : set.contains members 0 ≡ true
 in_0 = set.contains-from_list_nat (0 ∷ 1 ∷ 2 ∷ []) 0
@@ -341,7 +341,7 @@ to_all_is =
 
 -- node 2 drops the group before what it sent comes
 abbrev two_dropped : Member
-two_dropped = let next = drops (carries 1 two_took) in record next { replies = next.replies ++ Done ∷ [] }
+two_dropped = let next = did third Drop Done (carries 1 two_took) in record next { replies = next.replies ++ Done ∷ [] }
 
 abbrev group_dropping : Group
 group_dropping = with_at group_back 2 two_dropped
@@ -349,9 +349,9 @@ group_dropping = with_at group_back 2 two_dropped
 abbrev group_dropped : Group
 group_dropped = with_at group_dropping 1 one_took_again
 
-dropped_is : alone bounds 0 (opened kinds.AllAck ++ dropped) ≡ group_dropped
+dropped_is : alone bounds 0 (opened kinds.AllAck ++ third_drops) ≡ group_dropped
 dropped_is =
-    (join nobody (group_open kinds.AllAck) group_dropped (opened kinds.AllAck) dropped (open_all kinds.AllAck)
+    (join nobody (group_open kinds.AllAck) group_dropped (opened kinds.AllAck) third_drops (open_all kinds.AllAck)
     (join (group_open kinds.AllAck) (group_one kinds.AllAck) group_dropped to_one (at first (Took third 1) ∷ at third (Came first 1) ∷ at third (Took second 1) ∷ at third Drop ∷ at second (Came third 1) ∷ []) (lead_one kinds.AllAck)
     (join (group_one kinds.AllAck) group_back group_dropped (at first (Took third 1) ∷ at third (Came first 1) ∷ at third (Took second 1) ∷ []) (at third Drop ∷ at second (Came third 1) ∷ []) lead_sent
     (and_then group_back (at third Drop) two_dropped (at second (Came third 1) ∷ []) group_dropped tt refl
@@ -384,18 +384,18 @@ all_ack_noticed = ap (λ (g : Group). log_of_member 1 (g 1)) without_two_is ∙ 
 
 -- A member drops the group.
 
-pub dropped_gone : log_in kinds.AllAck dropped 2 ≡ []
+pub dropped_gone : log_in kinds.AllAck third_drops 2 ≡ []
 dropped_gone = ap (λ (g : Group). log_of_member 2 (g 2)) dropped_is
 
-pub dropped_delivered : log_in kinds.AllAck dropped 1 ≡ message ∷ []
+pub dropped_delivered : log_in kinds.AllAck third_drops 1 ≡ message ∷ []
 unfolding calls_of known
 dropped_delivered = ap (λ (g : Group). log_of_member 1 (g 1)) dropped_is ∙ simp all_of refl
 
-pub dropped_unnoticed : noticed_at (alone bounds 0 (opened kinds.AllAck ++ dropped) 1) 2 ≡ false
+pub dropped_unnoticed : noticed_at (alone bounds 0 (opened kinds.AllAck ++ third_drops) 1) 2 ≡ false
 unfolding calls_of
 dropped_unnoticed = ap (λ (g : Group). noticed_at (g 1) 2) dropped_is
 
-pub dropped_had : HasHad (alone bounds 0 (opened kinds.AllAck ++ dropped)) 2 (message_of message)
+pub dropped_had : HasHad (alone bounds 0 (opened kinds.AllAck ++ third_drops)) 2 (message_of message)
 unfolding calls_of known
 dropped_had = ap (λ (g : Group). mentions (calls_of (g 2).told) (message_of message)) dropped_is
 

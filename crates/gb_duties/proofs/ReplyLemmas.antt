@@ -21,8 +21,9 @@ use Rattle.gb_rules.specs.Tenant.{is_bad, is_over, make_answer, by_tenant}
 use Rattle.gb_rules.specs.declared.phase.Phase.{Phase}
 use Rattle.gb_rules.specs.declared.phase.Phase.TheVariants.{Made, Opened, Shut, Gone}
 use Rattle.gb_rules.specs.declared.reserve.Reserve.{Reserve}
-use Rattle.gb_alone.specs.Alone.{Member, held_spec, reply_to, on_group, usage_of, shown_in, shown_of}
+use Rattle.gb_alone.specs.Alone.{Member, held_spec, reply_to, on_group, usage_of, shown_in}
 use Rattle.gb_alone.specs.declared.event.GroupEvent.TheVariants.{Make as AskMake, Open as AskOpen, Shut as AskShut, Say as AskSay}
+use Rattle.gb_alone.proofs.UsageLemmas.{shown_of}
 use Rattle.gb_types.specs.declared.new_message.NewMessage.{NewMessage}
 use Rattle.gb_rules.proofs.SayLemmas.{said_is}
 

@@ -22,13 +22,13 @@ use Rattle.gb_stack.specs.Kinds.{module_of}
 use Rattle.gb_stack.proofs.DeliveryLemmas.{noticed_stays}
 use Rattle.gb_rules.specs.Group.{is_gone, is_member, is_other, is_too_long}
 use Rattle.gb_rules.specs.declared.phase.Phase.{Phase}
-use Rattle.gb_rules.specs.declared.phase.Phase.TheVariants.{Opened, Shut}
+use Rattle.gb_rules.specs.declared.phase.Phase.TheVariants.{Opened, Shut, Gone}
 use Rattle.gb_rules.proofs.LetFallLemmas.{not_fallen}
 use Rattle.gb_history.specs.History.{call_of, calls_of, known, bytes_in, said_in}
 use Rattle.gb_history.specs.Messages.{has}
 use Rattle.gb_history.specs.declared.call.GroupCall.{GroupCall}
 use Rattle.gb_history.specs.declared.call.GroupCall.TheVariants.{Own, Other, Crashed}
-use Rattle.gb_alone.specs.Alone.{Member, Group, held_spec, reply_to, put_to, called, dropped, did, falls, item_came, taken_in, cut, took_notice, node_noticed, commanded, member_after, after, nobody, alone_from, alone}
+use Rattle.gb_alone.specs.Alone.{Member, Group, held_spec, reply_to, put_to, called, did, falls, item_came, taken_in, cut, took_notice, node_noticed, commanded, member_after, after, nobody, alone_from, alone}
 use Rattle.gb_alone.specs.declared.event.GroupEvent.{GroupEvent}
 use Rattle.gb_alone.specs.declared.event.GroupEvent.TheVariants.{Tenant, Make as AskMake, Open as AskOpen, Shut as AskShut, Drop as AskDrop, Say as AskSay, Took, Came, Done as Acknowledged, Notice, Stop}
 use Rattle.gb_alone.specs.declared.event.GroupStep.{GroupStep}
@@ -181,7 +181,7 @@ in_phase calls a phase m here fits = record {
 }
 
 -- the group is dropped
-dropped_fits : (calls : ℕ → List Call) (a : ℕ) (m : Member) → FitsAt calls a m → FitsAt calls a (dropped m)
+dropped_fits : (calls : ℕ → List Call) (a : ℕ) (m : Member) → FitsAt calls a m → FitsAt calls a (record m { phase = Gone; put = λ b. take (m.taken b) (m.put b) })
 dropped_fits calls a m fits = record {
   unmade = fits.unmade;
   inside = fits.inside;
@@ -200,7 +200,7 @@ did_result bounds number group me (AskMake spec) Done e all =
     kept group me.number (record (group me.number) { spec = Some spec }) all refl (λ calls fits. made_fits calls me.number spec (group me.number) (make_accepts bounds number me.number spec (group me.number) e) fits)
 did_result bounds number group me AskOpen Done e all = kept group me.number (did me AskOpen Done (group me.number)) all refl (λ calls fits. in_phase calls me.number Opened (group me.number) (open_accepts bounds number me.number (group me.number) e) fits)
 did_result bounds number group me AskShut Done e all = kept group me.number (did me AskShut Done (group me.number)) all refl (λ calls fits. in_phase calls me.number Shut (group me.number) (shut_accepts bounds number me.number (group me.number) e) fits)
-did_result bounds number group me AskDrop Done e all = kept group me.number (dropped (group me.number)) all refl (λ calls fits. dropped_fits calls me.number (group me.number) fits)
+did_result bounds number group me AskDrop Done e all = kept group me.number (did me AskDrop Done (group me.number)) all refl (λ calls fits. dropped_fits calls me.number (group me.number) fits)
 did_result bounds number group me (AskSay message) (Said seq) e all =
     let ok = say_accepts bounds number me.number message seq (group me.number) e in
     called_result group me.number (Own (record { origin = me; seq = seq; payload = message.payload })) ok.spec ok.made all (λ calls later. (refl, ok.next, ok.within, ok.light))

@@ -63,8 +63,8 @@ abbrev pub to_all : List GroupStep
 to_all = to_one ++ (at first (Took third 1) ∷ at third (Came first 1) ∷ at third (Took second 1) ∷ at second (Came third 1) ∷ [])
 
 -- it comes to node 2, which relays it and drops the group; what it relayed still comes to node 1
-abbrev pub dropped : List GroupStep
-dropped = to_one ++ (at first (Took third 1) ∷ at third (Came first 1) ∷ at third (Took second 1) ∷ at third Drop ∷ at second (Came third 1) ∷ [])
+abbrev pub third_drops : List GroupStep
+third_drops = to_one ++ (at first (Took third 1) ∷ at third (Came first 1) ∷ at third (Took second 1) ∷ at third Drop ∷ at second (Came third 1) ∷ [])
 
 -- node 0 stops before the message goes to node 2, and the other nodes notice that
 abbrev pub loss : List GroupStep

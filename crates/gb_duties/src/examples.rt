@@ -9,7 +9,7 @@ ghost use Rattle.gb_alone.specs.Alone.{alone, IsLegal};
 ghost use Rattle.gb_alone.specs.declared.event.GroupEvent.TheVariants.{Notice};
 ghost use Rattle.gb_duties.specs.Agreement.{AreEnough, IsSettled};
 ghost use Rattle.gb_duties.specs.Duties.{HasHad, noticed_at};
-ghost use Rattle.gb_duties.specs.Examples.{bounds, first, second, third, spec_of, message, at, opened, to_one, to_all, dropped, loss, crash, runs, left_alone, only_first, log_in, put_in};
+ghost use Rattle.gb_duties.specs.Examples.{bounds, first, second, third, spec_of, message, at, opened, to_one, to_all, third_drops, loss, crash, runs, left_alone, only_first, log_in, put_in};
 
 /// A best-effort node has put out what it said, and does not relay what it delivered, whoever is noticed.
 pub fn a_best_effort_node_puts_out_its_own()
@@ -44,10 +44,10 @@ pub fn an_all_ack_node_waits_for_each_member()
 /// A member that had the message drops the group, which empties its log: what it relayed still comes, and the all-ack
 /// node delivers by it, with nobody noticed.
 pub fn a_member_that_dropped_the_group_had_the_message()
-    ensures gone { log_in kind.AllAck dropped 2 ≡ [] }
-    ensures delivered { log_in kind.AllAck dropped 1 ≡ message ∷ [] }
-    ensures unnoticed { noticed_at (alone bounds 0 (opened kind.AllAck ++ dropped) 1) 2 ≡ false }
-    ensures had { HasHad (alone bounds 0 (opened kind.AllAck ++ dropped)) 2 (message_of message) }
+    ensures gone { log_in kind.AllAck third_drops 2 ≡ [] }
+    ensures delivered { log_in kind.AllAck third_drops 1 ≡ message ∷ [] }
+    ensures unnoticed { noticed_at (alone bounds 0 (opened kind.AllAck ++ third_drops) 1) 2 ≡ false }
+    ensures had { HasHad (alone bounds 0 (opened kind.AllAck ++ third_drops)) 2 (message_of message) }
 {}
 
 /// A group settles after a crash: node 0 stopped before its message went to node 2, and both nodes that run have it in

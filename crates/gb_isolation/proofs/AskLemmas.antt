@@ -1,5 +1,6 @@
 -- The view of a group after a request, and what one command makes of the group alone.
 use Rattle.std.proofs.Common.{◌≡◌, ℕ, ◌<◌, List, [], ◌∷◌, ◌++◌, length, Option, None, Bool, true, false, ◌&&◌, ◌||◌, refl, sym, ◌∙◌, ap, subst}
+use Rattle.std.specs.Option.{option_or}
 use Rattle.std.specs.Prelude.{if◌then◌else◌, nat_le, option_map}
 use Rattle.std.specs.FinSet as set
 use Rattle.std.proofs.lemmas.Bool.{and_right}
@@ -22,12 +23,12 @@ use Rattle.gb_alone.specs.declared.event.GroupEvent.{GroupEvent}
 use Rattle.gb_alone.specs.declared.event.GroupEvent.TheVariants.{Make as AskMake, Open as AskOpen, Shut as AskShut, Drop as AskDrop, Say as AskSay}
 use Rattle.gb_alone.specs.Alone.{Member, Group, did, commanded, member_after, is_marked, MayHappen}
 use Rattle.gb_node.specs.Past.{Happened, frames_to, is_acked, is_taken, watched, added, tenants_in, is_stopped}
-use Rattle.gb_node.specs.PastGroups.{Told, noticed_in, waiting_of, asked_told, told_of}
+use Rattle.gb_node.specs.PastGroups.{Told, noticed_after, waiting_of, asked_told, told_of}
 use Rattle.gb_node.specs.declared.answer.NodeAnswer.TheVariants.{Reply as Replied}
 use Rattle.gb_node.specs.declared.event.NodeEvent.TheVariants.{Request as Asked}
 use Rattle.gb_node.specs.declared.plan.NodePlan.{NodePlan}
 use Rattle.gb_node.proofs.EventLemmas.{added_refused, asked_untold}
-use Rattle.gb_isolation.specs.Project.{group_items_of, is_own_request, made_by, or_else, made_with, is_met_by, is_met, reply_in, replies_in}
+use Rattle.gb_isolation.specs.Project.{group_items_of, is_own_request, made_by, made_with, is_met_by, is_met, reply_in, replies_in}
 use Rattle.gb_isolation.proofs.GoesLemmas.{goes_one}
 use Rattle.gb_isolation.proofs.MarkLemmas.{or_and_off}
 use Rattle.gb_isolation.proofs.MemberLemmas.{same_member}
@@ -43,8 +44,8 @@ asking request reply = record { event = Asked request; answer = Replied reply }
 -- the view after a request has other links nowhere, and notices nobody
 pub view_asked : (plan : NodePlan) (g : Addr) (past : List Happened) (request : Request) (reply : Reply) (reserve : Option Reserve) (told : Option (Option Told)) (made : Option Spec) (replies : List Reply) (met : Bool)
     → option_map reserve_of (row_of g.tenant (tenants_in past ++ added (Asked request) (Replied reply))) ≡ reserve
-    → asked_told g plan.me (noticed_in plan past) request reply (told_of plan g past) ≡ told
-    → or_else (made_by g (Asked request) (Replied reply)) (made_with g past) ≡ made
+    → asked_told g plan.me (noticed_after plan past) request reply (told_of plan g past) ≡ told
+    → option_or (made_by g (Asked request) (Replied reply)) (made_with g past) ≡ made
     → replies_in plan.me g past ++ reply_in plan.me g past (Asked request) (Replied reply) ≡ replies
     → (is_met_by plan.me g past (Asked request) (Replied reply) || is_met plan.me g past) ≡ met
     → view_of plan g (asking request reply ∷ past) ≡ record (view_of plan g past) { reserve = reserve; told = told; made = made; replies = replies; met = met }
@@ -53,7 +54,7 @@ view_asked plan g past request reply reserve told made replies met reserves tell
   reserve = reserves i;
   told = tells i;
   made = mades i;
-  noticed = set.contains (noticed_in plan past);
+  noticed = set.contains (noticed_after plan past);
   replies = says i;
   met = meets i;
   frames = λ b. append-nil (frames_to plan.cluster_key b past) i;
@@ -70,8 +71,8 @@ pub view_own : (plan : NodePlan) (g : Addr) (past : List Happened) (request : Re
     → is_stopped past ≡ false
     → is_own_request plan.me g past request ≡ true
     → added (Asked request) (Replied reply) ≡ []
-    → asked_told g plan.me (noticed_in plan past) request reply (told_of plan g past) ≡ told
-    → or_else (made_by g (Asked request) (Replied reply)) (made_with g past) ≡ made
+    → asked_told g plan.me (noticed_after plan past) request reply (told_of plan g past) ≡ told
+    → option_or (made_by g (Asked request) (Replied reply)) (made_with g past) ≡ made
     → view_of plan g (asking request reply ∷ past) ≡ record (view_of plan g past) { told = told; made = made; replies = replies_in plan.me g past ++ reply ∷ [] }
 view_own plan g past request reply told made running own rows tells mades =
     view_asked plan g past request reply (view_of plan g past).reserve told made (replies_in plan.me g past ++ reply ∷ []) (is_met plan.me g past)
@@ -94,7 +95,7 @@ refused_makes g (Fetch token addr from most) why = refl
 pub unrelated_request : (plan : NodePlan) (versions : List Version) (g : Addr) (past : List Happened) (request : Request) (reply : Reply) (frames_from : ℕ → List (List Item)) (group : Group)
     → is_own_request plan.me g past request ≡ false
     → added (Asked request) (Replied reply) ≡ []
-    → asked_told g plan.me (noticed_in plan past) request reply (told_of plan g past) ≡ told_of plan g past
+    → asked_told g plan.me (noticed_after plan past) request reply (told_of plan g past) ≡ told_of plan g past
     → made_by g (Asked request) (Replied reply) ≡ None
     → Fits plan.nodes g plan.me.number frames_from (view_of plan g past) (group plan.me.number)
     → Goes (bounds_with plan versions) g plan.me frames_from (view_of plan g (asking request reply ∷ past)) group []
@@ -116,7 +117,7 @@ pub refused_unrelated : (plan : NodePlan) (versions : List Version) (g : Addr) (
     → Fits plan.nodes g plan.me.number frames_from (view_of plan g past) (group plan.me.number)
     → Goes (bounds_with plan versions) g plan.me frames_from (view_of plan g (asking request (Refused why) ∷ past)) group []
 refused_unrelated plan versions g past request why frames_from group other fits =
-    unrelated_request plan versions g past request (Refused why) frames_from group other (added_refused request why) (asked_untold g plan.me (noticed_in plan past) request why (told_of plan g past)) (refused_makes g request why) fits
+    unrelated_request plan versions g past request (Refused why) frames_from group other (added_refused request why) (asked_untold g plan.me (noticed_after plan past) request why (told_of plan g past)) (refused_makes g request why) fits
 
 -- A command.
 

@@ -1,5 +1,6 @@
 -- What opening, shutting, dropping, saying and reading do to a group at a running node.
 use Rattle.std.proofs.Common.{◌≡◌, ◌≢◌, ℕ, ◌+◌, ◌<◌, ◌≤◌, List, [], ◌∷◌, ◌++◌, length, take, Option, Some, None, Bool, true, false, ◌⊎◌, inl, inr, refl, sym, ◌∙◌, ap, subst, arith}
+use Rattle.std.specs.Option.{option_or}
 use Rattle.std.specs.Prelude.{if◌then◌else◌, is_some, option_map}
 use Rattle.std.specs.FinSet as set
 use Rattle.std.specs.List.{list_any}
@@ -26,34 +27,34 @@ use Rattle.gb_rules.specs.Address.{is_addr}
 use Rattle.gb_rules.specs.Group.{Shown, is_gone, is_member, on_made, open_answer, shut_answer, drop_answer, say_answer, fetch_answer}
 use Rattle.gb_rules.specs.Tenant.{by_tenant, reserve_of, row_of}
 use Rattle.gb_rules.specs.declared.phase.Phase.{Phase}
-use Rattle.gb_rules.specs.declared.phase.Phase.TheVariants.{Opened, Shut}
+use Rattle.gb_rules.specs.declared.phase.Phase.TheVariants.{Opened, Shut, Gone}
 use Rattle.gb_rules.specs.declared.reserve.Reserve.{Reserve}
 use Rattle.gb_history.specs.History.{said_in}
 use Rattle.gb_history.specs.declared.call.GroupCall.{GroupCall}
 use Rattle.gb_history.specs.declared.call.GroupCall.TheVariants.{Own}
 use Rattle.gb_alone.specs.declared.event.GroupEvent.{GroupEvent}
 use Rattle.gb_alone.specs.declared.event.GroupEvent.TheVariants.{Open as AskOpen, Shut as AskShut, Drop as AskDrop, Say as AskSay, Fetch as AskFetch}
-use Rattle.gb_alone.specs.Alone.{Member, Group, called, commanded, did, dropped, is_acknowledged, member_after, on_group, reply_to, running_reply, MayHappen}
+use Rattle.gb_alone.specs.Alone.{Member, Group, called, commanded, did, is_acknowledged, member_after, on_group, reply_to, running_reply, MayHappen}
 use Rattle.gb_alone.specs.Alone as alone
 use Rattle.gb_rules.specs.Lifetime.{stepped, where_so}
 use Rattle.gb_rules.specs.Lifetime as life
 use Rattle.gb_node.specs.Past.{Happened, added, is_stopped, tenants_in}
-use Rattle.gb_node.specs.PastGroups.{Told, noticed_in, shown_of, shown_in, with_call, moved_to, asked_told, told_of}
-use Rattle.gb_node.specs.StepLaw.{group_answer, is_admitted_by, admitted_answer, has_group_token_by}
+use Rattle.gb_node.specs.PastGroups.{Told, noticed_after, shown_of, shown_in, with_call, moved_to, asked_told, told_of}
+use Rattle.gb_node.specs.StepLaw.{group_answer, is_admitted_by, admitted_answer, has_group_token}
 use Rattle.gb_node.specs.declared.answer.NodeAnswer.TheVariants.{Reply as Replied}
 use Rattle.gb_node.specs.declared.event.NodeEvent.TheVariants.{Request as Asked}
 use Rattle.gb_node.specs.declared.plan.NodePlan.{NodePlan}
 use Rattle.gb_rules.proofs.AddressLemmas.{addr_is}
-use Rattle.gb_isolation.specs.Project.{asked, is_named, is_own_request, made_by, made_with, or_else, own_requested, requested, tenant_given}
+use Rattle.gb_isolation.specs.Project.{is_named, is_own_request, made_by, made_with, tenant_given}
 use Rattle.gb_isolation.proofs.AskLemmas.{MemberFits, asking, carried_in, commands, member_fits, view_own}
 use Rattle.gb_isolation.proofs.FinishedLemmas.{counts_fit, unknown_acknowledged}
 use Rattle.gb_isolation.proofs.MemberLemmas.{answered-is, called_there, called_put}
 use Rattle.gb_isolation.proofs.PastLemmas.{running_unmet}
-use Rattle.gb_isolation.proofs.View.{View, view_of, IsThere, IsInside, Fits, Goes, bounds_with}
+use Rattle.gb_isolation.proofs.View.{View, view_of, IsThere, IsInside, Fits, Goes, bounds_with, asked_by, own_requested_by, requested_by}
 use Rattle.gb_types.specs.declared.new_message.NewMessage.{NewMessage}
 
 -- A request that names a group comes with the token that it needs where it comes with the group's.
-pub group_token_is : (plan : NodePlan) (g : Addr) (past : List Happened) (request : Request) → is_named g request ≡ true → has_group_token_by plan.me past request ≡ is_admitted_by plan past request
+pub group_token_is : (plan : NodePlan) (g : Addr) (past : List Happened) (request : Request) → is_named g request ≡ true → has_group_token plan.me (tenants_in past) request ≡ is_admitted_by plan past request
 group_token_is plan g past (AddTenant token row) named = absurd (cc)
 group_token_is plan g past (Make token addr spec) named = refl
 group_token_is plan g past (OpenGroup token addr) named = refl
@@ -64,7 +65,7 @@ group_token_is plan g past (Fetch token addr from most) named = refl
 
 -- A command with the right token: the group's tenant is here.
 
-none_admitted : (plan : NodePlan) (g : Addr) (past : List Happened) (request : Request) → row_of g.tenant (tenants_in past) ≡ None → is_named g request ≡ true → has_group_token_by plan.me past request ≡ false
+none_admitted : (plan : NodePlan) (g : Addr) (past : List Happened) (request : Request) → row_of g.tenant (tenants_in past) ≡ None → is_named g request ≡ true → has_group_token plan.me (tenants_in past) request ≡ false
 none_admitted plan g past (AddTenant token row) none named = absurd (cc)
 none_admitted plan g past (Make token addr spec) none named = let there : row_of addr.tenant (tenants_in past) ≡ None = ap (λ (x : Addr). row_of x.tenant (tenants_in past)) (sym (addr_is g addr named)) ∙ none in rw there refl
 none_admitted plan g past (OpenGroup token addr) none named = let there : row_of addr.tenant (tenants_in past) ≡ None = ap (λ (x : Addr). row_of x.tenant (tenants_in past)) (sym (addr_is g addr named)) ∙ none in rw there refl
@@ -78,8 +79,8 @@ tenant_here plan g past request own = by (row_of g.tenant (tenants_in past)) ref
   where
     by : (row : Option TenantRow) → row_of g.tenant (tenants_in past) ≡ row → is_some (option_map reserve_of row) ≡ true
     by None none =
-        let parts = and_parts (is_named g request) (has_group_token_by plan.me past request) own in
-        let off : has_group_token_by plan.me past request ≡ false = none_admitted plan g past request none parts.0 in
+        let parts = and_parts (is_named g request) (has_group_token plan.me (tenants_in past) request) own in
+        let off : has_group_token plan.me (tenants_in past) request ≡ false = none_admitted plan g past request none parts.0 in
         absurd (clash (sym off ∙ parts.1))
       where
         clash : false ≡ true → ⊥
@@ -95,7 +96,7 @@ by_some r (Some reserve) is = refl
 module _ (plan : NodePlan) (versions : List Version) (g : Addr) (past : List Happened) (request : Request) (reply : Reply) (frames_from : ℕ → List (List Item)) (group : Group) where
   -- a request with this reply goes so
   abbrev pub AskedGoes : Type 0
-  AskedGoes = Goes (bounds_with plan versions) g plan.me frames_from (view_of plan g (asking request reply ∷ past)) group (asked plan g past request reply)
+  AskedGoes = Goes (bounds_with plan versions) g plan.me frames_from (view_of plan g (asking request reply ∷ past)) group (asked_by plan g past request reply)
 
   -- the group alone answers as a running node
   pub replies_running : (e : GroupEvent) → is_stopped past ≡ false → Fits plan.nodes g plan.me.number frames_from (view_of plan g past) (group plan.me.number)
@@ -103,18 +104,18 @@ module _ (plan : NodePlan) (versions : List Version) (g : Addr) (past : List Hap
   replies_running e running fits = ap (λ (b : Bool). if b then Refused Stopped else running_reply (bounds_with plan versions) g.group plan.me.number e (group plan.me.number)) (fits.stopped ∙ running_unmet plan g past running)
 
   -- what the group's own request gives it at a running node
-  pub given_own : is_stopped past ≡ false → is_own_request plan.me g past request ≡ true → asked plan g past request reply ≡ tenant_given g plan.me request reply ++ own_requested plan g past request reply
-  given_own running own = by ∙ ap (λ b. tenant_given g plan.me request reply ++ (if b then own_requested plan g past request reply else [])) own
+  pub given_own : is_stopped past ≡ false → is_own_request plan.me g past request ≡ true → asked_by plan g past request reply ≡ tenant_given g plan.me request reply ++ own_requested_by plan g past request reply
+  given_own running own = by ∙ ap (λ b. tenant_given g plan.me request reply ++ (if b then own_requested_by plan g past request reply else [])) own
     where
-      by : asked plan g past request reply ≡ requested plan g past request reply
+      by : asked_by plan g past request reply ≡ requested_by plan g past request reply
       by = rw running refl
 
   -- the group's own request, which does not make it
   pub own_command : (e : GroupEvent) (o : Option (Option Told)) → is_stopped past ≡ false → is_own_request plan.me g past request ≡ true
       → added (Asked request) (Replied reply) ≡ []
-      → asked_told g plan.me (noticed_in plan past) request reply (told_of plan g past) ≡ o
+      → asked_told g plan.me (noticed_after plan past) request reply (told_of plan g past) ≡ o
       → made_by g (Asked request) (Replied reply) ≡ None
-      → tenant_given g plan.me request reply ++ own_requested plan g past request reply ≡ record { node = plan.me; event = e } ∷ []
+      → tenant_given g plan.me request reply ++ own_requested_by plan g past request reply ≡ record { node = plan.me; event = e } ∷ []
       → MayHappen plan.me e group
       → member_after (bounds_with plan versions) g.group plan.me e group ≡ commanded plan.me e (reply_to (bounds_with plan versions) g.group plan.me.number e (group plan.me.number)) (group plan.me.number)
       → running_reply (bounds_with plan versions) g.group plan.me.number e (group plan.me.number) ≡ reply
@@ -124,7 +125,7 @@ module _ (plan : NodePlan) (versions : List Version) (g : Addr) (past : List Hap
       → AskedGoes
   own_command e o running own rows told unmade one may is same spec fits tells =
       subst (λ es. Goes (bounds_with plan versions) g plan.me frames_from (view_of plan g (asking request reply ∷ past)) group es) (sym (given_own running own ∙ one))
-      (subst (λ (v : View). Goes (bounds_with plan versions) g plan.me frames_from v group (record { node = plan.me; event = e } ∷ [])) (sym (view_own plan g past request reply o (made_with g past) running own rows told (ap (λ x. or_else x (made_with g past)) unmade)))
+      (subst (λ (v : View). Goes (bounds_with plan versions) g plan.me frames_from v group (record { node = plan.me; event = e } ∷ [])) (sym (view_own plan g past request reply o (made_with g past) running own rows told (ap (λ x. option_or x (made_with g past)) unmade)))
       (commands (bounds_with plan versions) g plan.me frames_from (view_of plan g past) group e reply o fits may (is ∙ ap (λ r. commanded plan.me e r (group plan.me.number)) (replies_running e running fits ∙ same)) spec tells))
 
 -- the rules answer the same for the group alone
@@ -214,10 +215,10 @@ dropped_after Done o = life.dropped o
 dropped_after r o = o
 
 abbrev member_dropped : Reply → Member → Member
-member_dropped Done m = dropped m
+member_dropped Done m = record m { phase = Gone; put = λ b. take (m.taken b) (m.put b) }
 member_dropped r m = m
 
-dropped_fits : (nodes me : ℕ) (carried : ℕ → List Entry) (t : Told) (m : Member) → MemberFits nodes me carried (Some (Some t)) m → MemberFits nodes me carried (Some None) (dropped m)
+dropped_fits : (nodes me : ℕ) (carried : ℕ → List Entry) (t : Told) (m : Member) → MemberFits nodes me carried (Some (Some t)) m → MemberFits nodes me carried (Some None) (member_dropped Done m)
 dropped_fits nodes me carried t m fits =
     let st : IsThere t m = fits.told in
     record {
@@ -233,7 +234,7 @@ dropped_fits nodes me carried t m fits =
 drops : (nodes me : ℕ) (carried : ℕ → List Entry) (o : Option (Option Told)) (m : Member) (r : Reply) → group_answer drop_answer (shown_in me o) ≡ r → MemberFits nodes me carried o m → MemberFits nodes me carried (dropped_after r o) (member_dropped r m)
 drops nodes me carried o m Done is fits =
     let made = found_from drop_answer me Done done_accepted o is in
-    subst (λ x. MemberFits nodes me carried (life.dropped x) (dropped m)) (sym made.1) (dropped_fits nodes me carried made.0 m (subst (λ x. MemberFits nodes me carried x m) made.1 fits))
+    subst (λ x. MemberFits nodes me carried (life.dropped x) (member_dropped Done m)) (sym made.1) (dropped_fits nodes me carried made.0 m (subst (λ x. MemberFits nodes me carried x m) made.1 fits))
 drops nodes me carried o m r is fits = fits
 
 dropped_spec : (r : Reply) (m : Member) → (member_dropped r m).spec ≡ m.spec
@@ -260,7 +261,7 @@ said_after me payload r o = o
 
 -- a message is said, whose number no item has that is carried
 said_fits : (nodes : ℕ) (a : NodeId) (carried : ℕ → List Entry) (payload : List ℕ) (seq : ℕ) (t : Told) (m : Member)
-    → ((b : ℕ) → b < nodes → list_any (alone.is_own a.number (said_in t.calls + 1)) (carried b) ≡ false)
+    → ((b : ℕ) → b < nodes → list_any (alone.is_message a.number (said_in t.calls + 1)) (carried b) ≡ false)
     → MemberFits nodes a.number carried (Some (Some t)) m
     → MemberFits nodes a.number carried (Some (Some (with_call a (saying a payload seq) t))) (called a.number (saying a payload seq) m)
 unfolding said_in
@@ -282,7 +283,7 @@ said_fits nodes a carried payload seq t m fresh fits = record {
         fits.acks.beyond b (k + 1) (omega (arith, now)) ∙ sym (ap (λ n. is_acknowledged a.number (n + 1) (m.done b) 1 (carried b)) now ∙ unknown_acknowledged a.number (said_in t.calls + 1) (m.done b) 1 (carried b) (fresh b low))
 
 says : (version : Version) (nodes : ℕ) (a : NodeId) (carried : ℕ → List Entry) (message : NewMessage) (o : Option (Option Told)) (m : Member) (r : Reply) → group_answer (λ s. say_answer version s message) (shown_in a.number o) ≡ r
-    → ((t : Told) → o ≡ Some (Some t) → (b : ℕ) → b < nodes → list_any (alone.is_own a.number (said_in t.calls + 1)) (carried b) ≡ false)
+    → ((t : Told) → o ≡ Some (Some t) → (b : ℕ) → b < nodes → list_any (alone.is_message a.number (said_in t.calls + 1)) (carried b) ≡ false)
     → MemberFits nodes a.number carried o m → MemberFits nodes a.number carried (said_after a message.payload r o) (did a (AskSay message) r m)
 says version nodes a carried message o m (Said seq) is fresh fits =
     let made = found_from (λ s. say_answer version s message) a.number (Said seq) (said_accepted seq) o is in
@@ -314,9 +315,9 @@ module _ (plan : NodePlan) (versions : List Version) (g : Addr) (past : List Hap
   pub at_open : plan.nodes ≤ NODES → is_stopped past ≡ false → is_own_request plan.me g past (OpenGroup token addr) ≡ true → reply ≡ admitted_answer plan past (OpenGroup token addr)
       → Fits plan.nodes g plan.me.number frames_from before m → AskedGoes plan versions g past (OpenGroup token addr) reply frames_from group
   at_open few running own is fits =
-      let named = (and_parts (is_addr g addr) (has_group_token_by plan.me past (OpenGroup token addr)) own).0 in
+      let named = (and_parts (is_addr g addr) (has_group_token plan.me (tenants_in past) (OpenGroup token addr)) own).0 in
       let same = same_answer open_answer named is in
-      own_command plan versions g past (OpenGroup token addr) reply frames_from group AskOpen (moved_after Opened reply (told_of plan g past)) running own refl (opened_for g plan.me (noticed_in plan past) token addr reply (told_of plan g past) named) refl refl tt refl
+      own_command plan versions g past (OpenGroup token addr) reply frames_from group AskOpen (moved_after Opened reply (told_of plan g past)) running own refl (opened_for g plan.me (noticed_after plan past) token addr reply (told_of plan g past) named) refl refl tt refl
       (answers_alike plan g past (OpenGroup token addr) frames_from group open_answer few own fits ∙ same)
       (ap (λ (n : Member). n.spec) (did_opened plan.me reply m) ∙ moved_spec Opened reply m) fits
       (subst (λ (n : Member). MemberFits plan.nodes plan.me.number (carried_in g before) (moved_after Opened reply (told_of plan g past)) n) (sym (did_opened plan.me reply m))
@@ -325,9 +326,9 @@ module _ (plan : NodePlan) (versions : List Version) (g : Addr) (past : List Hap
   pub at_shut : plan.nodes ≤ NODES → is_stopped past ≡ false → is_own_request plan.me g past (ShutGroup token addr) ≡ true → reply ≡ admitted_answer plan past (ShutGroup token addr)
       → Fits plan.nodes g plan.me.number frames_from before m → AskedGoes plan versions g past (ShutGroup token addr) reply frames_from group
   at_shut few running own is fits =
-      let named = (and_parts (is_addr g addr) (has_group_token_by plan.me past (ShutGroup token addr)) own).0 in
+      let named = (and_parts (is_addr g addr) (has_group_token plan.me (tenants_in past) (ShutGroup token addr)) own).0 in
       let same = same_answer shut_answer named is in
-      own_command plan versions g past (ShutGroup token addr) reply frames_from group AskShut (moved_after Shut reply (told_of plan g past)) running own refl (shut_for g plan.me (noticed_in plan past) token addr reply (told_of plan g past) named) refl refl tt refl
+      own_command plan versions g past (ShutGroup token addr) reply frames_from group AskShut (moved_after Shut reply (told_of plan g past)) running own refl (shut_for g plan.me (noticed_after plan past) token addr reply (told_of plan g past) named) refl refl tt refl
       (answers_alike plan g past (ShutGroup token addr) frames_from group shut_answer few own fits ∙ same)
       (ap (λ (n : Member). n.spec) (did_shut plan.me reply m) ∙ moved_spec Shut reply m) fits
       (subst (λ (n : Member). MemberFits plan.nodes plan.me.number (carried_in g before) (moved_after Shut reply (told_of plan g past)) n) (sym (did_shut plan.me reply m))
@@ -336,21 +337,21 @@ module _ (plan : NodePlan) (versions : List Version) (g : Addr) (past : List Hap
   pub at_drop : plan.nodes ≤ NODES → is_stopped past ≡ false → is_own_request plan.me g past (DropGroup token addr) ≡ true → reply ≡ admitted_answer plan past (DropGroup token addr)
       → Fits plan.nodes g plan.me.number frames_from before m → AskedGoes plan versions g past (DropGroup token addr) reply frames_from group
   at_drop few running own is fits =
-      let named = (and_parts (is_addr g addr) (has_group_token_by plan.me past (DropGroup token addr)) own).0 in
+      let named = (and_parts (is_addr g addr) (has_group_token plan.me (tenants_in past) (DropGroup token addr)) own).0 in
       let same = same_answer drop_answer named is in
-      own_command plan versions g past (DropGroup token addr) reply frames_from group AskDrop (dropped_after reply (told_of plan g past)) running own refl (dropped_for g plan.me (noticed_in plan past) token addr reply (told_of plan g past) named) refl refl tt refl
+      own_command plan versions g past (DropGroup token addr) reply frames_from group AskDrop (dropped_after reply (told_of plan g past)) running own refl (dropped_for g plan.me (noticed_after plan past) token addr reply (told_of plan g past) named) refl refl tt refl
       (answers_alike plan g past (DropGroup token addr) frames_from group drop_answer few own fits ∙ same)
       (ap (λ (n : Member). n.spec) (did_dropped plan.me reply m) ∙ dropped_spec reply m) fits
       (subst (λ (n : Member). MemberFits plan.nodes plan.me.number (carried_in g before) (dropped_after reply (told_of plan g past)) n) (sym (did_dropped plan.me reply m))
       (drops plan.nodes plan.me.number (carried_in g before) (told_of plan g past) m reply same (member_fits plan.nodes g plan.me.number frames_from before m fits)))
 
   pub at_say : version_at versions plan.me.number ≡ plan.version → (message : NewMessage) → plan.nodes ≤ NODES → is_stopped past ≡ false → is_own_request plan.me g past (Say token addr message) ≡ true → reply ≡ admitted_answer plan past (Say token addr message)
-      → ((t : Told) → told_of plan g past ≡ Some (Some t) → (b : ℕ) → b < plan.nodes → list_any (alone.is_own plan.me.number (said_in t.calls + 1)) (carried_in g before b) ≡ false)
+      → ((t : Told) → told_of plan g past ≡ Some (Some t) → (b : ℕ) → b < plan.nodes → list_any (alone.is_message plan.me.number (said_in t.calls + 1)) (carried_in g before b) ≡ false)
       → Fits plan.nodes g plan.me.number frames_from before m → AskedGoes plan versions g past (Say token addr message) reply frames_from group
   at_say right message few running own is fresh fits =
-      let named = (and_parts (is_addr g addr) (has_group_token_by plan.me past (Say token addr message)) own).0 in
+      let named = (and_parts (is_addr g addr) (has_group_token plan.me (tenants_in past) (Say token addr message)) own).0 in
       let same = same_answer (λ s. say_answer plan.version s message) named is in
-      own_command plan versions g past (Say token addr message) reply frames_from group (AskSay message) (said_after plan.me message.payload reply (told_of plan g past)) running own refl (said_for g plan.me (noticed_in plan past) token addr message reply (told_of plan g past) named) refl refl tt refl
+      own_command plan versions g past (Say token addr message) reply frames_from group (AskSay message) (said_after plan.me message.payload reply (told_of plan g past)) running own refl (said_for g plan.me (noticed_after plan past) token addr message reply (told_of plan g past) named) refl refl tt refl
       (ap (λ version. on_group (λ s. say_answer version s message) plan.me.number m) right ∙ (answers_alike plan g past (Say token addr message) frames_from group (λ s. say_answer plan.version s message) few own fits ∙ same))
       (said_spec plan.me message reply m) fits
       (says plan.version plan.nodes plan.me (carried_in g before) message (told_of plan g past) m reply same fresh (member_fits plan.nodes g plan.me.number frames_from before m fits))
@@ -358,7 +359,7 @@ module _ (plan : NodePlan) (versions : List Version) (g : Addr) (past : List Hap
   pub at_fetch : (from most : ℕ) → plan.nodes ≤ NODES → is_stopped past ≡ false → is_own_request plan.me g past (Fetch token addr from most) ≡ true → reply ≡ admitted_answer plan past (Fetch token addr from most)
       → Fits plan.nodes g plan.me.number frames_from before m → AskedGoes plan versions g past (Fetch token addr from most) reply frames_from group
   at_fetch from most few running own is fits =
-      let named = (and_parts (is_addr g addr) (has_group_token_by plan.me past (Fetch token addr from most)) own).0 in
+      let named = (and_parts (is_addr g addr) (has_group_token plan.me (tenants_in past) (Fetch token addr from most)) own).0 in
       own_command plan versions g past (Fetch token addr from most) reply frames_from group (AskFetch from most) (told_of plan g past) running own refl refl refl refl tt refl
       (answers_alike plan g past (Fetch token addr from most) frames_from group (λ s. fetch_answer s from most) few own fits ∙ same_answer (λ s. fetch_answer s from most) named is)
       refl fits (member_fits plan.nodes g plan.me.number frames_from before m fits)

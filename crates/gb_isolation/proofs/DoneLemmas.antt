@@ -23,7 +23,7 @@ use Rattle.gb_history.specs.History.{said_in}
 use Rattle.gb_rules.specs.Group.{is_member}
 use Rattle.gb_alone.specs.declared.event.GroupEvent.TheVariants.{Done as Acknowledged}
 use Rattle.gb_alone.specs.declared.event.GroupStep.{GroupStep}
-use Rattle.gb_alone.specs.Alone.{Member, Group, after, alone_from, places, is_marked, is_own, is_acknowledged, IsLegalFrom}
+use Rattle.gb_alone.specs.Alone.{Member, Group, after, alone_from, places, is_marked, is_message, is_acknowledged, IsLegalFrom}
 use Rattle.gb_frame.specs.Items.{entry_of, names, items_for}
 use Rattle.gb_rules.specs.Lifetime.{stepped, where_so}
 use Rattle.gb_node.specs.Past.{numbered}
@@ -125,26 +125,26 @@ all_done-same me from (i ∷ xs) o =
 
 -- one item is acknowledged
 done_told-one : (me from : NodeId) (i : Item) (k c : ℕ) (o : Option (Option Told)) → IsOfNode i → k < said_of o
-    → acknowledged_of (done_told me from o i) (k + 1) c ≡ (acknowledged_of o (k + 1) c || (nat_eq c from.number && is_own me.number (k + 1) (entry_of i)))
+    → acknowledged_of (done_told me from o i) (k + 1) c ≡ (acknowledged_of o (k + 1) c || (nat_eq c from.number && is_message me.number (k + 1) (entry_of i)))
 done_told-one me from i k c None fit low = absurd (omega (arith, low))
 done_told-one me from i k c (Some None) fit low = absurd (omega (arith, low))
 done_told-one me from i k c (Some (Some t)) fit low =
     let there : nat_le (k + 1) (said_in t.calls) ≡ true = grind (arith, nat_tests, low) in
     ap (λ b. acknowledged_of (where_so b (stepped (finished_by me from (message_of (entry_of i)))) (Some (Some t))) (k + 1) c) node
-    ∙ ap (λ b. t.acknowledged (k + 1) c || (b && (nat_eq c from.number && is_own me.number (k + 1) (entry_of i)))) there
+    ∙ ap (λ b. t.acknowledged (k + 1) c || (b && (nat_eq c from.number && is_message me.number (k + 1) (entry_of i)))) there
   where
     node : nat_lt i.origin NODES ≡ true
     node = let low : i.origin < NODES = fit in grind (arith, nat_tests, low)
 
 -- these items are acknowledged
 items_done : (me from : NodeId) (k c : ℕ) (xs : List Item) (o : Option (Option Told)) → All IsOfNode xs → k < said_of o
-    → acknowledged_of (fold (done_told me from) o xs) (k + 1) c ≡ (acknowledged_of o (k + 1) c || (nat_eq c from.number && list_any (is_own me.number (k + 1)) (map entry_of xs)))
+    → acknowledged_of (fold (done_told me from) o xs) (k + 1) c ≡ (acknowledged_of o (k + 1) c || (nat_eq c from.number && list_any (is_message me.number (k + 1)) (map entry_of xs)))
 items_done me from k c [] o fits low = sym (or-false (acknowledged_of o (k + 1) c)) ∙ ap (λ t. acknowledged_of o (k + 1) c || t) (sym (and-false (nat_eq c from.number)))
 items_done me from k c (i ∷ xs) o fits low =
     let one = done_told-one me from i k c o (All-head IsOfNode i xs fits) low in
     let said = (done_told-same me from o i).said in
     let rest = items_done me from k c xs (done_told me from o i) (All-tail IsOfNode i xs fits) (omega (arith, low, said)) in
-    rest ∙ (ap (λ t. t || (nat_eq c from.number && list_any (is_own me.number (k + 1)) (map entry_of xs))) one ∙ by (acknowledged_of o (k + 1) c) (nat_eq c from.number) (is_own me.number (k + 1) (entry_of i)) (list_any (is_own me.number (k + 1)) (map entry_of xs)))
+    rest ∙ (ap (λ t. t || (nat_eq c from.number && list_any (is_message me.number (k + 1)) (map entry_of xs))) one ∙ by (acknowledged_of o (k + 1) c) (nat_eq c from.number) (is_message me.number (k + 1) (entry_of i)) (list_any (is_message me.number (k + 1)) (map entry_of xs)))
   where
     by : (x y a b : Bool) → ((x || (y && a)) || (y && b)) ≡ (x || (y && (a || b)))
     by true y a b = refl
@@ -164,14 +164,14 @@ none_done me from seq c (i ∷ xs) o far none = none_done me from seq c xs (done
 
 -- what is told of acknowledgements after one of a node
 pub acks_taken : (nodes : ℕ) (me from : NodeId) (xs : List Item) (o : Option (Option Told)) (carried : ℕ → List Entry) (done next : ℕ → List ℕ) → All IsOfNode xs
-    → ((k : ℕ) → is_acknowledged me.number k (next from.number) 1 (carried from.number) ≡ (is_acknowledged me.number k (done from.number) 1 (carried from.number) || list_any (is_own me.number k) (map entry_of xs)))
+    → ((k : ℕ) → is_acknowledged me.number k (next from.number) 1 (carried from.number) ≡ (is_acknowledged me.number k (done from.number) 1 (carried from.number) || list_any (is_message me.number k) (map entry_of xs)))
     → ((b : ℕ) → b ≢ from.number → next b ≡ done b)
     → KeepsAcks nodes me.number o carried done → KeepsAcks nodes me.number (fold (done_told me from) o xs) carried next
 acks_taken nodes me from xs o carried done next fits more others kept = record {
   each = λ b k inside low.
       let before : k < said_of o = omega (arith, low, said) in
       items_done me from k b xs o fits before
-      ∙ (ap (λ t. t || (nat_eq b from.number && list_any (is_own me.number (k + 1)) (map entry_of xs))) (kept.each b k inside before)
+      ∙ (ap (λ t. t || (nat_eq b from.number && list_any (is_message me.number (k + 1)) (map entry_of xs))) (kept.each b k inside before)
       ∙ by b k (cases_eq b from.number));
   beyond = λ b seq far. let above : said_of o < seq = omega (arith, far, said) in none_done me from seq b xs o above (kept.beyond b seq above);
 }
@@ -179,14 +179,14 @@ acks_taken nodes me from xs o carried done next fits more others kept = record {
     said : said_of (fold (done_told me from) o xs) ≡ said_of o
     said = (all_done-same me from xs o).said
 
-    by : (b k : ℕ) → ((b ≡ from.number) ⊎ (b ≡ from.number → ⊥)) → (is_acknowledged me.number (k + 1) (done b) 1 (carried b) || (nat_eq b from.number && list_any (is_own me.number (k + 1)) (map entry_of xs))) ≡ is_acknowledged me.number (k + 1) (next b) 1 (carried b)
+    by : (b k : ℕ) → ((b ≡ from.number) ⊎ (b ≡ from.number → ⊥)) → (is_acknowledged me.number (k + 1) (done b) 1 (carried b) || (nat_eq b from.number && list_any (is_message me.number (k + 1)) (map entry_of xs))) ≡ is_acknowledged me.number (k + 1) (next b) 1 (carried b)
     by b k (inl same) =
         let on : nat_eq b from.number ≡ true = grind (arith, nat_tests, same) in
-        ap (λ t. is_acknowledged me.number (k + 1) (done b) 1 (carried b) || (t && list_any (is_own me.number (k + 1)) (map entry_of xs))) on
-        ∙ sym (subst (λ c. is_acknowledged me.number (k + 1) (next c) 1 (carried c) ≡ (is_acknowledged me.number (k + 1) (done c) 1 (carried c) || list_any (is_own me.number (k + 1)) (map entry_of xs))) (sym same) (more (k + 1)))
+        ap (λ t. is_acknowledged me.number (k + 1) (done b) 1 (carried b) || (t && list_any (is_message me.number (k + 1)) (map entry_of xs))) on
+        ∙ sym (subst (λ c. is_acknowledged me.number (k + 1) (next c) 1 (carried c) ≡ (is_acknowledged me.number (k + 1) (done c) 1 (carried c) || list_any (is_message me.number (k + 1)) (map entry_of xs))) (sym same) (more (k + 1)))
     by b k (inr other) =
         let off : nat_eq b from.number ≡ false = grind (arith, nat_tests, other) in
-        ap (λ t. is_acknowledged me.number (k + 1) (done b) 1 (carried b) || (t && list_any (is_own me.number (k + 1)) (map entry_of xs))) off
+        ap (λ t. is_acknowledged me.number (k + 1) (done b) 1 (carried b) || (t && list_any (is_message me.number (k + 1)) (map entry_of xs))) off
         ∙ (or-false (is_acknowledged me.number (k + 1) (done b) 1 (carried b)) ∙ ap (λ d. is_acknowledged me.number (k + 1) d 1 (carried b)) (sym (others b other)))
 
 -- Places and items.
@@ -194,20 +194,20 @@ acks_taken nodes me from xs o carried done next fits more others kept = record {
 -- of these items, with the places from this one on, the message stands at a place that passes the test
 abbrev is_own_at : ℕ → ℕ → (ℕ → Bool) → ℕ → List Entry → Bool
 is_own_at me k test place [] = false
-is_own_at me k test place (x ∷ xs) = (is_own me k x && test place) || is_own_at me k test (place + 1) xs
+is_own_at me k test place (x ∷ xs) = (is_message me k x && test place) || is_own_at me k test (place + 1) xs
 
 -- of these frames, of which the first has the number n, one whose number passes the test has the message
 abbrev is_in_acked : Addr → ℕ → ℕ → (ℕ → Bool) → ℕ → List (List Item) → Bool
 is_in_acked g me k acked n [] = false
-is_in_acked g me k acked n (f ∷ fs) = (acked n && list_any (is_own me k) (group_items g f)) || is_in_acked g me k acked (n + 1) fs
+is_in_acked g me k acked n (f ∷ fs) = (acked n && list_any (is_message me k) (group_items g f)) || is_in_acked g me k acked (n + 1) fs
 
 -- more places are marked
 acknowledged_more : (me k : ℕ) (marks next : List ℕ) (added : ℕ → Bool) (place : ℕ) (xs : List Entry) → ((p : ℕ) → is_marked p next ≡ (added p || is_marked p marks))
     → is_acknowledged me k next place xs ≡ (is_acknowledged me k marks place xs || is_own_at me k added place xs)
 acknowledged_more me k marks next added place [] more = refl
 acknowledged_more me k marks next added place (x ∷ xs) more =
-    (λ i. (is_own me k x && more place i) || acknowledged_more me k marks next added (place + 1) xs more i)
-    ∙ by (is_own me k x) (added place) (is_marked place marks) (is_acknowledged me k marks (place + 1) xs) (is_own_at me k added (place + 1) xs)
+    (λ i. (is_message me k x && more place i) || acknowledged_more me k marks next added (place + 1) xs more i)
+    ∙ by (is_message me k x) (added place) (is_marked place marks) (is_acknowledged me k marks (place + 1) xs) (is_own_at me k added (place + 1) xs)
   where
     by : (o a m x y : Bool) → ((o && (a || m)) || (x || y)) ≡ (((o && m) || x) || ((o && a) || y))
     by true true true x y = refl
@@ -220,20 +220,20 @@ acknowledged_more me k marks next added place (x ∷ xs) more =
 own_at-append : (me k : ℕ) (test : ℕ → Bool) (place : ℕ) (xs ys : List Entry) → is_own_at me k test place (xs ++ ys) ≡ (is_own_at me k test place xs || is_own_at me k test (place + length xs) ys)
 own_at-append me k test place [] ys = ap (λ p. is_own_at me k test p ys) (omega arith)
 own_at-append me k test place (x ∷ xs) ys =
-    ap (λ b. (is_own me k x && test place) || b) (own_at-append me k test (place + 1) xs ys)
-    ∙ (sym (or_assoc (is_own me k x && test place) (is_own_at me k test (place + 1) xs) (is_own_at me k test (place + 1 + length xs) ys))
-    ∙ ap (λ p. ((is_own me k x && test place) || is_own_at me k test (place + 1) xs) || is_own_at me k test p ys) (plus place (length xs)))
+    ap (λ b. (is_message me k x && test place) || b) (own_at-append me k test (place + 1) xs ys)
+    ∙ (sym (or_assoc (is_message me k x && test place) (is_own_at me k test (place + 1) xs) (is_own_at me k test (place + 1 + length xs) ys))
+    ∙ ap (λ p. ((is_message me k x && test place) || is_own_at me k test (place + 1) xs) || is_own_at me k test p ys) (plus place (length xs)))
   where
     plus : (a b : ℕ) → a + 1 + b ≡ a + suc b
     plus a b = omega arith
 
 -- items whose places all pass, or none of them
-own_at-same : (me k : ℕ) (test : ℕ → Bool) (t : Bool) (place : ℕ) (xs : List Entry) → ((p : ℕ) → place ≤ p → p < place + length xs → test p ≡ t) → is_own_at me k test place xs ≡ (t && list_any (is_own me k) xs)
+own_at-same : (me k : ℕ) (test : ℕ → Bool) (t : Bool) (place : ℕ) (xs : List Entry) → ((p : ℕ) → place ≤ p → p < place + length xs → test p ≡ t) → is_own_at me k test place xs ≡ (t && list_any (is_message me k) xs)
 own_at-same me k test true place [] marked = refl
 own_at-same me k test false place [] marked = refl
 own_at-same me k test t place (x ∷ xs) marked =
-    (λ i. (is_own me k x && marked place (omega arith) (omega arith) i) || own_at-same me k test t (place + 1) xs (λ p low high. marked p (omega (arith, low)) (omega (arith, high))) i)
-    ∙ by t (is_own me k x) (list_any (is_own me k) xs)
+    (λ i. (is_message me k x && marked place (omega arith) (omega arith) i) || own_at-same me k test t (place + 1) xs (λ p low high. marked p (omega (arith, low)) (omega (arith, high))) i)
+    ∙ by t (is_message me k x) (list_any (is_message me k) xs)
   where
     by : (t a b : Bool) → ((a && t) || (t && b)) ≡ (t && (a || b))
     by true true b = refl
@@ -256,7 +256,7 @@ own_at-frames g me k passes test n before (f ∷ fs) each =
     count : ℕ
     count = length (group_items g f)
 
-    first : is_own_at me k test (before + 1) (group_items g f) ≡ (passes n && list_any (is_own me k) (group_items g f))
+    first : is_own_at me k test (before + 1) (group_items g f) ≡ (passes n && list_any (is_message me k) (group_items g f))
     first = own_at-same me k test (passes n) (before + 1) (group_items g f) (λ p low high. each 0 p (omega (arith, low)) (omega (arith, high, ap length (append-nil (group_items g f)))) ∙ ap passes (omega arith))
 
     plus : (a b : ℕ) → a + 1 + b ≡ a + b + 1
@@ -265,17 +265,17 @@ own_at-frames g me k passes test n before (f ∷ fs) each =
     next : (i : ℕ) → offset g (f ∷ fs) (suc i + 1) ≡ length (group_items g f) + offset g fs (i + 1)
     next i = rw add-one (rw add-one (length-append (group_items g f) (group_items_of g (take (suc i) fs))))
 
-any_joined : (g : Addr) (me k : ℕ) (f xs : List Item) → list_any (is_own me k) (group_items g (f ++ xs)) ≡ (list_any (is_own me k) (group_items g f) || list_any (is_own me k) (group_items g xs))
+any_joined : (g : Addr) (me k : ℕ) (f xs : List Item) → list_any (is_message me k) (group_items g (f ++ xs)) ≡ (list_any (is_message me k) (group_items g f) || list_any (is_message me k) (group_items g xs))
 any_joined g me k [] xs = refl
 any_joined g me k (i ∷ f) xs = by (names g i) (any_joined g me k f xs)
   where
-    by : (t : Bool) → list_any (is_own me k) (group_items g (f ++ xs)) ≡ (list_any (is_own me k) (group_items g f) || list_any (is_own me k) (group_items g xs))
-        → list_any (is_own me k) (map entry_of (cond t (i ∷ items_for g (f ++ xs)) (items_for g (f ++ xs)))) ≡ (list_any (is_own me k) (map entry_of (cond t (i ∷ items_for g f) (items_for g f))) || list_any (is_own me k) (group_items g xs))
-    by true same = ap (λ b. is_own me k (entry_of i) || b) same ∙ sym (or_assoc (is_own me k (entry_of i)) (list_any (is_own me k) (group_items g f)) (list_any (is_own me k) (group_items g xs)))
+    by : (t : Bool) → list_any (is_message me k) (group_items g (f ++ xs)) ≡ (list_any (is_message me k) (group_items g f) || list_any (is_message me k) (group_items g xs))
+        → list_any (is_message me k) (map entry_of (cond t (i ∷ items_for g (f ++ xs)) (items_for g (f ++ xs)))) ≡ (list_any (is_message me k) (map entry_of (cond t (i ∷ items_for g f) (items_for g f))) || list_any (is_message me k) (group_items g xs))
+    by true same = ap (λ b. is_message me k (entry_of i) || b) same ∙ sym (or_assoc (is_message me k (entry_of i)) (list_any (is_message me k) (group_items g f)) (list_any (is_message me k) (group_items g xs)))
     by false same = same
 
 -- of these frames that did not pass before those that pass now
-freed_own : (g : Addr) (me k : ℕ) (covered acked : ℕ → Bool) (n : ℕ) (fs : List (List Item)) → list_any (is_own me k) (map entry_of (freed_of g covered acked n fs)) ≡ is_in_acked g me k (λ m. covered m && not (acked m)) n fs
+freed_own : (g : Addr) (me k : ℕ) (covered acked : ℕ → Bool) (n : ℕ) (fs : List (List Item)) → list_any (is_message me k) (map entry_of (freed_of g covered acked n fs)) ≡ is_in_acked g me k (λ m. covered m && not (acked m)) n fs
 unfolding numbered
 freed_own g me k covered acked n [] = refl
 freed_own g me k covered acked n (f ∷ fs) = by (acked n) (covered n) refl (freed_own g me k covered acked (n + 1) fs)
@@ -286,16 +286,16 @@ freed_own g me k covered acked n (f ∷ fs) = by (acked n) (covered n) refl (fre
     later : Bool
     later = is_in_acked g me k (λ m. covered m && not (acked m)) (n + 1) fs
 
-    go : (c : Bool) → list_any (is_own me k) (group_items g (items_freed (filter (λ u. covered u.0) rest))) ≡ later
-        → list_any (is_own me k) (group_items g (items_freed (cond c ((n, f) ∷ filter (λ u. covered u.0) rest) (filter (λ u. covered u.0) rest)))) ≡ ((c && list_any (is_own me k) (group_items g f)) || later)
-    go true same = any_joined g me k f (items_freed (filter (λ u. covered u.0) rest)) ∙ ap (λ b. list_any (is_own me k) (group_items g f) || b) same
+    go : (c : Bool) → list_any (is_message me k) (group_items g (items_freed (filter (λ u. covered u.0) rest))) ≡ later
+        → list_any (is_message me k) (group_items g (items_freed (cond c ((n, f) ∷ filter (λ u. covered u.0) rest) (filter (λ u. covered u.0) rest)))) ≡ ((c && list_any (is_message me k) (group_items g f)) || later)
+    go true same = any_joined g me k f (items_freed (filter (λ u. covered u.0) rest)) ∙ ap (λ b. list_any (is_message me k) (group_items g f) || b) same
     go false same = same
 
-    by : (a c : Bool) → covered n ≡ c → list_any (is_own me k) (group_items g (items_freed (filter (λ u. covered u.0) rest))) ≡ later
-        → list_any (is_own me k) (group_items g (items_freed (filter (λ u. covered u.0) (cond (not a) ((n, f) ∷ rest) rest)))) ≡ (((c && not a) && list_any (is_own me k) (group_items g f)) || later)
+    by : (a c : Bool) → covered n ≡ c → list_any (is_message me k) (group_items g (items_freed (filter (λ u. covered u.0) rest))) ≡ later
+        → list_any (is_message me k) (group_items g (items_freed (filter (λ u. covered u.0) (cond (not a) ((n, f) ∷ rest) rest)))) ≡ (((c && not a) && list_any (is_message me k) (group_items g f)) || later)
     by true true is same = same
     by true false is same = same
-    by false c is same = go (covered n) same ∙ ap (λ t. (t && list_any (is_own me k) (group_items g f)) || later) (is ∙ last c)
+    by false c is same = go (covered n) same ∙ ap (λ t. (t && list_any (is_message me k) (group_items g f)) || later) (is ∙ last c)
       where
         last : (c : Bool) → c ≡ (c && true)
         last true = refl
@@ -303,7 +303,7 @@ freed_own g me k covered acked n (f ∷ fs) = by (acked n) (covered n) refl (fre
 
 -- where the places of newly covered frames are marked, too
 freed_acknowledged : (g : Addr) (me k : ℕ) (covered acked : ℕ → Bool) (marks next : List ℕ) (fs : List (List Item)) → ((place : ℕ) → is_marked place next ≡ (is_in g (λ m. covered m && not (acked m)) 1 0 fs place || is_marked place marks))
-    → is_acknowledged me k next 1 (group_items_of g fs) ≡ (is_acknowledged me k marks 1 (group_items_of g fs) || list_any (is_own me k) (map entry_of (freed_of g covered acked 1 fs)))
+    → is_acknowledged me k next 1 (group_items_of g fs) ≡ (is_acknowledged me k marks 1 (group_items_of g fs) || list_any (is_message me k) (map entry_of (freed_of g covered acked 1 fs)))
 freed_acknowledged g me k covered acked marks next fs more =
     acknowledged_more me k marks next (is_in g (λ m. covered m && not (acked m)) 1 0 fs) 1 (group_items_of g fs) more
     ∙ ap (λ t. is_acknowledged me k marks 1 (group_items_of g fs) || t) (own_at-frames g me k (λ m. covered m && not (acked m)) (is_in g (λ m. covered m && not (acked m)) 1 0 fs) 1 0 fs (λ m place low high. in_frame g (λ m. covered m && not (acked m)) 1 0 fs m place low high) ∙ sym (freed_own g me k covered acked 1 fs))

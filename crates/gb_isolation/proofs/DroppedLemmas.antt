@@ -25,7 +25,7 @@ use Rattle.gb_frame.specs.Items.{entry_of, items_for}
 use Rattle.gb_rules.specs.Lifetime.{stepped, dropped, or_added, where_so}
 use Rattle.gb_node.specs.NodeStep.{node_numbered}
 use Rattle.gb_node.specs.Past.{Happened, read, is_first}
-use Rattle.gb_node.specs.PastGroups.{Told, noticed_in, freed_by, items_freed, told_first, moved_to, with_call, finished_by, unless_falls, took_from, if_other, asked_told, done_told, came_told, taken_told, packed_told, noticed_told, told_after, told_of}
+use Rattle.gb_node.specs.PastGroups.{Told, noticed_after, freed_by, items_freed, told_first, moved_to, with_call, finished_by, unless_falls, took_from, if_other, asked_told, done_told, came_told, taken_told, packed_told, noticed_told, told_after, told_of}
 use Rattle.gb_node.specs.declared.answer.Frame.{Frame}
 use Rattle.gb_node.specs.declared.answer.NodeAnswer.{NodeAnswer}
 use Rattle.gb_node.specs.declared.answer.NodeAnswer.TheVariants.{Reply as Replied, Taken, Sent, Ticked}
@@ -94,7 +94,7 @@ taken_stays version me key g past frame c o = by (is_first frame)
     by false = acknowledged
 
 after_stays : (plan : NodePlan) (g : Addr) (past : List Happened) (e : NodeEvent) (x : NodeAnswer) → is_dropped_by g e x ≡ false → Stays (told_after plan g past e x)
-after_stays plan g past (Asked request) (Replied reply) kept o = asked_stays g plan.me (noticed_in plan past) request reply kept o
+after_stays plan g past (Asked request) (Replied reply) kept o = asked_stays g plan.me (noticed_after plan past) request reply kept o
 after_stays plan g past (Brought bytes) (Taken (TakenGood good)) kept o = fold_stays (taken_told plan.version plan.me plan.cluster_key g past good.frame) (taken_stays plan.version plan.me plan.cluster_key g past good.frame) (read plan.cluster_key bytes) o
 after_stays plan g past (Pack b) (Sent (SentPacket text)) kept o = fold_stays (packed_told g b) (λ c. stepped_stays (took_from b.number (length (items_for g c.items)))) (read plan.cluster_key text) o
 after_stays plan g past Tick (Ticked (Noticed found)) kept o = fold_stays (noticed_told plan.me) (λ b. stepped_stays (if_other plan.me (node_numbered b))) (rising found) o

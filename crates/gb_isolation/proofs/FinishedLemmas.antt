@@ -10,7 +10,7 @@ use Rattle.gb_types.proofs.AllMemberLemmas.{all_rising}
 use Rattle.gb_types.proofs.BoolLemmas.{or_sides}
 use Rattle.gb_frame.specs.declared.item.Item.{Item}
 use Rattle.gb_history.specs.History.{said_in, has_noticed}
-use Rattle.gb_alone.specs.Alone.{Member, is_marked, is_own, is_acknowledged, is_finished, count_unfinished}
+use Rattle.gb_alone.specs.Alone.{Member, is_marked, is_message, is_acknowledged, is_finished_alone, count_unfinished}
 use Rattle.gb_alone.proofs.UsageLemmas.{all_alike}
 use Rattle.gb_node.specs.PastGroups.{waiting_of}
 use Rattle.gb_node.specs.PastGroups as past
@@ -20,10 +20,10 @@ use Rattle.gb_isolation.proofs.PackLemmas.{acknowledged_more}
 use Rattle.gb_isolation.proofs.View.{View, Fits, said_of, acknowledged_of}
 
 -- a message that is none of these is not acknowledged
-pub unknown_acknowledged : (me k : ℕ) (done : List ℕ) (place : ℕ) (xs : List Entry) → list_any (is_own me k) xs ≡ false → is_acknowledged me k done place xs ≡ false
+pub unknown_acknowledged : (me k : ℕ) (done : List ℕ) (place : ℕ) (xs : List Entry) → list_any (is_message me k) xs ≡ false → is_acknowledged me k done place xs ≡ false
 unknown_acknowledged me k done place [] none = refl
 unknown_acknowledged me k done place (x ∷ xs) none =
-    let parts = or_sides (is_own me k x) (list_any (is_own me k) xs) none in
+    let parts = or_sides (is_message me k x) (list_any (is_message me k) xs) none in
     ap (λ b. (b && is_marked place done) || is_acknowledged me k done (place + 1) xs) parts.0 ∙ unknown_acknowledged me k done (place + 1) xs parts.1
 
 -- numbers that do not pass are counted one by one, or listed
@@ -45,8 +45,8 @@ counts p q first (suc n) same =
 -- the group at the node has as many unfinished messages as the past tells of: what waits is not marked
 pub counts_fit : (nodes : ℕ) (g : Addr) (me : ℕ) (frames_from : ℕ → List (List Item)) (v : View) (m : Member) → nodes ≤ NODES → Fits nodes g me frames_from v m → CountsAlike me v.told m
 counts_fit nodes g me frames_from v m few fits t is st =
-    ap (λ n. count_unfinished (is_finished t.spec me m.told m.put m.done) 1 n) (ap said_in st.calls)
-    ∙ counts (is_finished t.spec me m.told m.put m.done) (past.is_finished me t) 1 (said_in t.calls) (λ k low. ap (is_finished t.spec me m.told m.put m.done) (swap k) ∙ (at k low ∙ ap (past.is_finished me t) (sym (swap k))))
+    ap (λ n. count_unfinished (is_finished_alone t.spec me m.told m.put m.done) 1 n) (ap said_in st.calls)
+    ∙ counts (is_finished_alone t.spec me m.told m.put m.done) (past.is_finished_told me t) 1 (said_in t.calls) (λ k low. ap (is_finished_alone t.spec me m.told m.put m.done) (swap k) ∙ (at k low ∙ ap (past.is_finished_told me t) (sym (swap k))))
   where
     swap : (k : ℕ) → 1 + k ≡ k + 1
     swap k = omega arith
@@ -61,7 +61,7 @@ counts_fit nodes g me frames_from v m few fits t is st =
         ∙ (fits.acks.each b k low (subst (λ o. k < said_of o) (sym is) said)
         ∙ sym (ap (is_acknowledged me (k + 1) (m.done b) 1) (fits.put b low) ∙ acknowledged_more me (k + 1) (m.done b) (group_items_of g (v.frames b)) (waiting_of v.told b) (fits.done b low).beyond))
 
-    at : (k : ℕ) → k < said_in t.calls → is_finished t.spec me m.told m.put m.done (k + 1) ≡ past.is_finished me t (k + 1)
+    at : (k : ℕ) → k < said_in t.calls → is_finished_alone t.spec me m.told m.put m.done (k + 1) ≡ past.is_finished_told me t (k + 1)
     at k low =
         all_alike t.spec.members (λ b. nat_eq b me || (has_noticed m.told b || is_acknowledged me (k + 1) (m.done b) 1 (m.put b))) (λ b. nat_eq b me || (has_noticed t.calls b || t.acknowledged (k + 1) b))
         (λ b there node i. nat_eq b me || (has_noticed (st.calls i) b || sym (kept b k (fits.inside t is b there) low) i))

@@ -1,6 +1,6 @@
 -- What an event of a run gives a group: where it happens, its commands, and its notices.
-use Rattle.gb_isolation.specs.Project.{is_noticed_after}
-use Rattle.std.proofs.Common.{◌≡◌, ◌≢◌, ℕ, zero, suc, ◌+◌, ◌-◌, Bool, true, false, ◌&&◌, nat_eq, List, [], ◌∷◌, ◌++◌, length, Option, Some, None, refl, sym, ap, ◌∙◌}
+use Rattle.std.proofs.Common.{◌≡◌, ◌≢◌, ℕ, zero, suc, ◌+◌, ◌-◌, Bool, true, false, ◌&&◌, nat_eq, List, [], ◌∷◌, ◌++◌, length, Option, Some, None, refl, sym, ap, ◌∙◌, map}
+use Rattle.std.specs.Option.{option_or}
 use Rattle.std.specs.Prelude.{is_some, filter, if◌then◌else◌}
 use Rattle.std.specs.FinSet as set
 use Rattle.std.specs.List.{range_with_len, flat_map}
@@ -23,9 +23,9 @@ use Rattle.gb_alone.specs.declared.event.GroupEvent.TheVariants.{Tenant, Make as
 use Rattle.gb_alone.specs.declared.event.GroupStep.{GroupStep}
 use Rattle.gb_alone.proofs.CommandLemmas.{command_in, commands_at, commands}
 use Rattle.gb_duties.proofs.NoticeLemmas.{IsDue, AreDue}
+use Rattle.gb_node.specs.StepLaw.{has_group_token}
 use Rattle.gb_node.specs.NodeStep.{node_numbered}
-use Rattle.gb_node.specs.Past.{Happened, frames_to, read, is_stopped}
-use Rattle.gb_node.specs.StepLaw.{has_group_token_by}
+use Rattle.gb_node.specs.Past.{Happened, frames_to, read, is_stopped, tenants_in}
 use Rattle.gb_node.specs.declared.answer.NodeAnswer.{NodeAnswer}
 use Rattle.gb_node.specs.declared.answer.NodeAnswer.TheVariants.{Reply as Replied, Taken, Sent, Ticked}
 use Rattle.gb_node.specs.declared.answer.PacketAnswer.TheVariants.{Good as TakenGood}
@@ -39,9 +39,10 @@ use Rattle.gb_cluster.specs.Run.{Did, past_at}
 use Rattle.gb_types.specs.declared.plan.Plan.{Plan}
 use Rattle.gb_types.specs.declared.plan.Bounds.{Bounds}
 use Rattle.gb_types.specs.Version.{bounds_of}
-use Rattle.gb_isolation.specs.Project.{group_items, group_items_of, offset, frames_in, is_named, is_own_request, command_for, made_with, or_else, notices, own_requested, tenant_given, is_met, with_stop, asked, took, comes, acknowledged, all_acknowledged, is_new_ack, is_new_frame, acknowledges, brings, arrived, ticked, gives}
+use Rattle.gb_isolation.specs.Project.{group_items, group_items_of, offset, is_named, is_own_request, command_for, made_with, notices, tenant_given, is_met, with_stop, took, comes, acknowledged, all_acknowledged, is_new_ack, is_new_frame, acknowledges, brings, arrived, ticked, gives}
 use Rattle.gb_isolation.proofs.NoticeLemmas.{notices_of, notices_there, notices_keep}
 use Rattle.gb_isolation.proofs.GoesLemmas.{after_there}
+use Rattle.gb_isolation.proofs.View.{asked_by, is_noticed_after, own_requested_by}
 
 -- each of these events is so
 abbrev pub AllAre : (GroupStep → Type 0) → List GroupStep → Type 0
@@ -137,18 +138,18 @@ at_tenant : (g : Addr) (a : NodeId) (request : Request) (reply : Reply) → AllA
 at_tenant g a (AddTenant token row) Done = elim (nat_eq row.tenant g.tenant) as (λ t. AllAre (IsAt a) (if t then record { node = a; event = Tenant (reserve_of row) } ∷ [] else [])) [ true ↦ (refl, tt) | false ↦ tt ]
 at_tenant g a request reply = tt
 
-at_requested : (plan : NodePlan) (g : Addr) (past : List Happened) (request : Request) (reply : Reply) → AllAre (IsAt plan.me) (own_requested plan g past request reply)
+at_requested : (plan : NodePlan) (g : Addr) (past : List Happened) (request : Request) (reply : Reply) → AllAre (IsAt plan.me) (own_requested_by plan g past request reply)
 at_requested plan g past (Make token addr spec) Done = (refl, at_notices plan.me spec (is_noticed_after plan past))
 at_requested plan g past request reply = at_command g plan.me request
 
-at_asked : (plan : NodePlan) (g : Addr) (past : List Happened) (request : Request) (reply : Reply) → AllAre (IsAt plan.me) (asked plan g past request reply)
+at_asked : (plan : NodePlan) (g : Addr) (past : List Happened) (request : Request) (reply : Reply) → AllAre (IsAt plan.me) (asked_by plan g past request reply)
 at_asked plan g past request reply = by (is_stopped past) (is_own_request plan.me g past request)
   where
     by : (stopped own : Bool)
-        → AllAre (IsAt plan.me) (if stopped then (if own then with_stop plan.me (is_met plan.me g past) (command_for g plan.me request) else []) else tenant_given g plan.me request reply ++ (if own then own_requested plan g past request reply else []))
+        → AllAre (IsAt plan.me) (if stopped then (if own then with_stop plan.me (is_met plan.me g past) (command_for g plan.me request) else []) else tenant_given g plan.me request reply ++ (if own then own_requested_by plan g past request reply else []))
     by true true = at_stop plan.me (is_met plan.me g past) (command_for g plan.me request) (at_command g plan.me request)
     by true false = tt
-    by false true = all_both (IsAt plan.me) (tenant_given g plan.me request reply) (own_requested plan g past request reply) (at_tenant g plan.me request reply) (at_requested plan g past request reply)
+    by false true = all_both (IsAt plan.me) (tenant_given g plan.me request reply) (own_requested_by plan g past request reply) (at_tenant g plan.me request reply) (at_requested plan g past request reply)
     by false false = all_both (IsAt plan.me) (tenant_given g plan.me request reply) [] (at_tenant g plan.me request reply) tt
 
 at_ticked : (a : NodeId) (found : ℕ → Bool) (o : Option Spec) → AllAre (IsAt a) (ticked a found o)
@@ -158,7 +159,7 @@ at_ticked a found (Some spec) = at_notices a spec found
 -- what an event gives happens where the event does
 pub given_at : (plan : Plan) (g : Addr) (run : List Did) (a : NodeId) (e : NodeEvent) (x : NodeAnswer) → AllAre (IsAt a) (gives plan g run a e x)
 given_at plan g run a (Asked request) (Replied reply) = at_asked (node_plan plan a) g (past_at a run) request reply
-given_at plan g run a (Pack b) (Sent (SentPacket text)) = at_carried a (took a b (length (group_items_of g (frames_in plan.cluster_key text)))) (carried_took a b (length (group_items_of g (frames_in plan.cluster_key text))))
+given_at plan g run a (Pack b) (Sent (SentPacket text)) = at_carried a (took a b (length (group_items_of g (map (λ (c : Content). c.items) (read plan.cluster_key text))))) (carried_took a b (length (group_items_of g (map (λ (c : Content). c.items) (read plan.cluster_key text)))))
 given_at plan g run a (Brought bytes) (Taken (TakenGood good)) = at_carried a (flat_map (arrived plan g run a) (read plan.cluster_key bytes)) (carried_packets plan g run a (read plan.cluster_key bytes))
 given_at plan g run a Tick (Ticked (Noticed found)) = at_ticked a (set.contains found) (made_with g (past_at a run))
 given_at plan g run a e x = tt
@@ -226,24 +227,24 @@ making_due bounds number a spec bs group made =
 module _ (bounds : Bounds) (plan : NodePlan) (g : Addr) (past : List Happened) (group : Group) where
   -- where the request is the group's own and the node runs
   own_due : (request : Request) (reply : Reply) → is_named g request ≡ true
-      → (alone_from bounds g.group group (tenant_given g plan.me request reply ++ own_requested plan g past request reply) plan.me.number).spec ≡ made_with g (record { event = Asked request; answer = Replied reply } ∷ past)
-      → AreDue bounds g.group group (tenant_given g plan.me request reply ++ own_requested plan g past request reply)
+      → (alone_from bounds g.group group (tenant_given g plan.me request reply ++ own_requested_by plan g past request reply) plan.me.number).spec ≡ made_with g (record { event = Asked request; answer = Replied reply } ∷ past)
+      → AreDue bounds g.group group (tenant_given g plan.me request reply ++ own_requested_by plan g past request reply)
   unfolding made_with
   own_due (Make token addr spec) Done named made =
       making_due bounds g.group plan.me spec (filter (λ b. is_other spec plan.me.number b && is_noticed_after plan past b) (range_with_len 0 NODES)) group
-      (ap is_some made ∙ ap (λ (t : Bool). is_some (or_else (if t then Some spec else None) (made_with g past))) named)
+      (ap is_some made ∙ ap (λ (t : Bool). is_some (option_or (if t then Some spec else None) (made_with g past))) named)
   own_due request reply named made = all_due bounds g.group (tenant_given g plan.me request reply ++ command_for g plan.me request) group (all_both IsPlain (tenant_given g plan.me request reply) (command_for g plan.me request) (plain_tenant g plan.me request reply) (plain_command g plan.me request))
 
-  asked_due : (request : Request) (reply : Reply) → (alone_from bounds g.group group (asked plan g past request reply) plan.me.number).spec ≡ made_with g (record { event = Asked request; answer = Replied reply } ∷ past)
-      → AreDue bounds g.group group (asked plan g past request reply)
+  asked_due : (request : Request) (reply : Reply) → (alone_from bounds g.group group (asked_by plan g past request reply) plan.me.number).spec ≡ made_with g (record { event = Asked request; answer = Replied reply } ∷ past)
+      → AreDue bounds g.group group (asked_by plan g past request reply)
   asked_due request reply = by (is_stopped past) (is_own_request plan.me g past request) refl
     where
       by : (stopped own : Bool) → is_own_request plan.me g past request ≡ own
-          → (alone_from bounds g.group group (if stopped then (if own then with_stop plan.me (is_met plan.me g past) (command_for g plan.me request) else []) else tenant_given g plan.me request reply ++ (if own then own_requested plan g past request reply else [])) plan.me.number).spec ≡ made_with g (record { event = Asked request; answer = Replied reply } ∷ past)
-          → AreDue bounds g.group group (if stopped then (if own then with_stop plan.me (is_met plan.me g past) (command_for g plan.me request) else []) else tenant_given g plan.me request reply ++ (if own then own_requested plan g past request reply else []))
+          → (alone_from bounds g.group group (if stopped then (if own then with_stop plan.me (is_met plan.me g past) (command_for g plan.me request) else []) else tenant_given g plan.me request reply ++ (if own then own_requested_by plan g past request reply else [])) plan.me.number).spec ≡ made_with g (record { event = Asked request; answer = Replied reply } ∷ past)
+          → AreDue bounds g.group group (if stopped then (if own then with_stop plan.me (is_met plan.me g past) (command_for g plan.me request) else []) else tenant_given g plan.me request reply ++ (if own then own_requested_by plan g past request reply else []))
       by true true is made = all_due bounds g.group (with_stop plan.me (is_met plan.me g past) (command_for g plan.me request)) group (plain_stop plan.me (is_met plan.me g past) (command_for g plan.me request) (plain_command g plan.me request))
       by true false is made = tt
-      by false true is made = own_due request reply (and_parts (is_named g request) (has_group_token_by plan.me past request) is).0 made
+      by false true is made = own_due request reply (and_parts (is_named g request) (has_group_token plan.me (tenants_in past) request) is).0 made
       by false false is made = all_due bounds g.group (tenant_given g plan.me request reply ++ []) group (all_both IsPlain (tenant_given g plan.me request reply) [] (plain_tenant g plan.me request reply) tt)
 
 ticked_due : (bounds : Bounds) (number : ℕ) (a : NodeId) (found : ℕ → Bool) (o : Option Spec) (group : Group) → (group a.number).spec ≡ o → AreDue bounds number group (ticked a found o)
@@ -255,7 +256,7 @@ pub given_due : (plan : Plan) (g : Addr) (run : List Did) (group : Group) (a : N
     → (alone_from (bounds_of plan) g.group group (gives plan g run a e x) a.number).spec ≡ made_with g (record { event = e; answer = x } ∷ past_at a run) → AreDue (bounds_of plan) g.group group (gives plan g run a e x)
 given_due plan g run group a (Asked request) (Replied reply) before now = asked_due (bounds_of plan) (node_plan plan a) g (past_at a run) group request reply now
 given_due plan g run group a (Pack b) (Sent (SentPacket text)) before now =
-    let k : ℕ = length (group_items_of g (frames_in plan.cluster_key text)) in
+    let k : ℕ = length (group_items_of g (map (λ (c : Content). c.items) (read plan.cluster_key text))) in
     all_due (bounds_of plan) g.group (took a b k) group (plain_carried a (took a b k) (carried_took a b k))
 given_due plan g run group a (Brought bytes) (Taken (TakenGood good)) before now =
     let given : List GroupStep = flat_map (arrived plan g run a) (read plan.cluster_key bytes) in

@@ -36,3 +36,5 @@ pub mod LawLemmas
 pub mod RefusalLemmas
 pub mod TickLawLemmas
 pub mod SilenceLemmas
+pub mod SeenLemmas
+pub mod FetchLemmas

@@ -1,6 +1,7 @@
 -- What making a group at a running node does to it: the group learns of the nodes that were noticed before.
-use Rattle.gb_isolation.specs.Project.{is_noticed_after, notices}
+use Rattle.gb_isolation.specs.Project.{notices}
 use Rattle.std.proofs.Common.{◌≡◌, ℕ, ◌<◌, List, [], ◌∷◌, ◌++◌, length, Option, Some, None, Bool, true, false, ◌&&◌, ◌||◌, refl, sym, ◌∙◌, ap, subst, arith}
+use Rattle.std.specs.Option.{option_or}
 use Rattle.std.specs.Prelude.{if◌then◌else◌, is_some, nat_le, option_map}
 use Rattle.std.specs.FinSet as set
 use Rattle.std.specs.Ordering.{nat_cmp}
@@ -31,11 +32,11 @@ use Rattle.gb_alone.specs.Alone.{Member, Group, after, commanded, is_marked, rep
 use Rattle.gb_rules.specs.Lifetime.{or_added}
 use Rattle.gb_node.specs.NodeStep.{node_numbered}
 use Rattle.gb_node.specs.Past.{Happened, is_stopped, tenants_in}
-use Rattle.gb_node.specs.PastGroups.{Told, noticed_in, waiting_of, noticed_members, crashed_onto, told_first, told_of}
-use Rattle.gb_node.specs.StepLaw.{admitted_answer, has_group_token_by}
+use Rattle.gb_node.specs.PastGroups.{Told, noticed_after, waiting_of, noticed_members, crashed_onto, told_first, told_of}
+use Rattle.gb_node.specs.StepLaw.{admitted_answer, has_group_token}
 use Rattle.gb_node.specs.declared.plan.NodePlan.{NodePlan}
 use Rattle.gb_rules.proofs.AddressLemmas.{addr_is}
-use Rattle.gb_isolation.specs.Project.{is_met, is_own_request, made_with, or_else, replies_in}
+use Rattle.gb_isolation.specs.Project.{is_met, is_own_request, made_with, replies_in}
 use Rattle.gb_isolation.proofs.AskLemmas.{asking, carried_in, member_fits, view_own}
 use Rattle.gb_isolation.proofs.CommandLemmas.{AskedGoes, given_own, inside_some, own_command, replies_running}
 use Rattle.gb_isolation.proofs.FreshLemmas.{before_rising, marked_before, fresh_there, fresh_put}
@@ -43,7 +44,7 @@ use Rattle.gb_isolation.proofs.GoesLemmas.{after_there, after_elsewhere}
 use Rattle.gb_isolation.proofs.MemberLemmas.{made-is, KeepsRest}
 use Rattle.gb_isolation.proofs.NoticeLemmas.{all_noticed, notices_of, notices_there, notices_elsewhere, notices_keep, notices_mark, notices_legal}
 use Rattle.gb_isolation.proofs.PastLemmas.{running_unmet}
-use Rattle.gb_isolation.proofs.View.{View, view_of, AreMarked, Fits, Goes, NotMade, IsThere, MemberIs, is_concerned, said_of, bounds_with}
+use Rattle.gb_isolation.proofs.View.{View, view_of, AreMarked, Fits, Goes, NotMade, IsThere, MemberIs, is_concerned, said_of, bounds_with, is_noticed_after}
 
 -- notices say nothing
 none_said : (bs : List ℕ) (calls : List GroupCall) → said_in calls ≡ 0 → said_in (crashed_onto calls bs) ≡ 0
@@ -148,7 +149,7 @@ module _ (plan : NodePlan) (versions : List Version) (g : Addr) (past : List Hap
   m = group plan.me.number
 
   abbrev noticed : set.FinSet nat_cmp
-  noticed = noticed_in plan past
+  noticed = noticed_after plan past
 
   -- what the rules answer for the group
   abbrev rule : Reply
@@ -179,7 +180,7 @@ module _ (plan : NodePlan) (versions : List Version) (g : Addr) (past : List Hap
       let later : view_of plan g (asking (Make token addr spec) Done ∷ past) ≡ record before { told = Some (Some (told_first spec plan.me noticed)); made = Some spec; replies = replies_in plan.me g past ++ Done ∷ [] } =
       view_own plan g past (Make token addr spec) Done (Some (Some (told_first spec plan.me noticed))) (Some spec) running own refl
       (ap (λ o. or_added o (if is_addr g addr then Some (Some (told_first spec plan.me noticed)) else None)) free ∙ ap (λ b. if b then Some (Some (told_first spec plan.me noticed)) else None) named)
-      (ap (λ b. or_else (if b then Some spec else None) (made_with g past)) named) in
+      (ap (λ b. option_or (if b then Some spec else None) (made_with g past)) named) in
       subst (λ es. Goes (bounds_with plan versions) g plan.me frames_from (view_of plan g (asking (Make token addr spec) Done ∷ past)) group es) (sym (given_own plan versions g past (Make token addr spec) Done frames_from group running own ∙ ap (λ (new : ℕ → Bool). record { node = plan.me; event = AskMake spec } ∷ notices plan.me spec new) silent))
       (subst (λ (v : View). Goes (bounds_with plan versions) g plan.me frames_from v group (record { node = plan.me; event = AskMake spec } ∷ notices_of plan.me (noticed_members spec plan.me.number before.noticed))) (sym later)
       (made_goes (bounds_with plan versions) g plan.me frames_from before group spec noticed refl below free unmet_here answered fits))
@@ -190,5 +191,5 @@ module _ (plan : NodePlan) (versions : List Version) (g : Addr) (past : List Hap
   pub at_make : (reply : Reply) → is_stopped past ≡ false → is_own_request plan.me g past (Make token addr spec) ≡ true → reply ≡ admitted_answer plan past (Make token addr spec) → is_noticed_after plan past ≡ set.contains noticed → ((b : ℕ) → set.contains noticed b ≡ true → b < NODES)
       → Fits plan.nodes g plan.me.number frames_from before m → AskedGoes plan versions g past (Make token addr spec) reply frames_from group
   at_make reply running own is silent below fits =
-      let named = (and_parts (is_addr g addr) (has_group_token_by plan.me past (Make token addr spec)) own).0 in
+      let named = (and_parts (is_addr g addr) (has_group_token plan.me (tenants_in past) (Make token addr spec)) own).0 in
       made_by_reply reply running own named (sym (is ∙ ap (λ (x : Addr). by_tenant (make_answer plan.nodes plan.me.number x.group (is_some (told_of plan x past)) spec) (option_map reserve_of (row_of x.tenant (tenants_in past)))) (sym (addr_is g addr named)))) silent below fits

@@ -15,8 +15,9 @@ use Rattle.gb_history.specs.declared.call.GroupCall.{GroupCall}
 use Rattle.gb_history.specs.declared.call.GroupCall.TheVariants.{Other, Crashed}
 use Rattle.gb_rules.specs.declared.phase.Phase.{Phase}
 use Rattle.gb_rules.specs.Group.{Shown, is_gone, is_other, is_too_long, on_made}
-use Rattle.gb_alone.specs.Alone.{Member, held_spec, is_finished, count_unfinished, shown_of, called, item_came, put_to, cut, took_notice, node_noticed}
+use Rattle.gb_alone.specs.Alone.{Member, held_spec, is_finished_alone, count_unfinished, called, item_came, put_to, cut, took_notice, node_noticed}
 use Rattle.gb_alone.specs.Alone as alone
+use Rattle.gb_alone.proofs.UsageLemmas.{shown_of}
 use Rattle.gb_rules.specs.Lifetime.{stepped}
 use Rattle.gb_node.specs.PastGroups.{Told, waiting_of, unfinished_in, shown_in, with_call, cut_off, unless_falls, if_other}
 use Rattle.gb_node.specs.StepLaw.{group_answer}
@@ -45,7 +46,7 @@ there_held t m st = ap (λ (p : Phase). held_spec p m.spec) st.phase ∙ (ap (λ
 
 -- as many messages are unfinished as in the group alone
 abbrev pub CountsAlike : ℕ → Option (Option Told) → Member → Type 0
-CountsAlike me o m = (t : Told) → o ≡ Some (Some t) → IsThere t m → count_unfinished (is_finished t.spec me m.told m.put m.done) 1 (said_in m.told) ≡ unfinished_in me t
+CountsAlike me o m = (t : Told) → o ≡ Some (Some t) → IsThere t m → count_unfinished (is_finished_alone t.spec me m.told m.put m.done) 1 (said_in m.told) ≡ unfinished_in me t
 
 -- the rules answer the same for what the past tells and for the group alone
 pub answered-is : (answer : Shown → Reply) (me : ℕ) (o : Option (Option Told)) (m : Member) → MemberIs o m → CountsAlike me o m → on_made answer (alone.shown me m) ≡ group_answer answer (shown_in me o)

@@ -5,21 +5,21 @@ use Rattle.std.specs.List.{list_any}
 use Rattle.std.proofs.lemmas.Bool.Decides.{nat_tests}
 use Rattle.std.proofs.lemmas.List.Elements.{All-head, All-tail}
 use Rattle.gb_types.specs.declared.entry.Entry.{Entry}
-use Rattle.gb_alone.specs.Alone.{is_own}
+use Rattle.gb_alone.specs.Alone.{is_message}
 use Rattle.gb_alone.specs.Laws.{Accepted, IsAccepted}
 
 -- no item has a number beyond those that were accepted
-pub none_beyond_accepted : (accepted : ℕ → List Accepted) (me k : ℕ) (xs : List Entry) → length (accepted me) < k → All (IsAccepted accepted) xs → list_any (is_own me k) xs ≡ false
+pub none_beyond_accepted : (accepted : ℕ → List Accepted) (me k : ℕ) (xs : List Entry) → length (accepted me) < k → All (IsAccepted accepted) xs → list_any (is_message me k) xs ≡ false
 none_beyond_accepted accepted me k [] low all = refl
 none_beyond_accepted accepted me k (x ∷ xs) low all =
-    λ i. other (is_own me k x) refl i || none_beyond_accepted accepted me k xs low (All-tail (IsAccepted accepted) x xs all) i
+    λ i. other (is_message me k x) refl i || none_beyond_accepted accepted me k xs low (All-tail (IsAccepted accepted) x xs all) i
   where
     within : {X : Type 0} (ys : List X) (j : ℕ) (y : X) → slice_get ys j ≡ Some y → j < length ys
     within [] j y is = absurd (cc)
     within (z ∷ ys) zero y is = omega arith
     within (z ∷ ys) (suc j) y is = let rest = within ys j y is in omega arith
 
-    other : (t : Bool) → is_own me k x ≡ t → is_own me k x ≡ false
+    other : (t : Bool) → is_message me k x ≡ t → is_message me k x ≡ false
     other false is = is
     other true is =
         let here = All-head (IsAccepted accepted) x xs all in

@@ -22,13 +22,13 @@ use Rattle.gb_alone.specs.declared.event.GroupEvent.TheVariants.{Took}
 use Rattle.gb_frame.specs.Items.{entry_of, items_for}
 use Rattle.gb_rules.specs.Lifetime.{stepped}
 use Rattle.gb_node.specs.Past.{Happened, read, frames_to, is_acked, is_taken, watched, tenants_in}
-use Rattle.gb_node.specs.PastGroups.{Told, noticed_in, waiting_of, took_from, packed_told, told_of}
+use Rattle.gb_node.specs.PastGroups.{Told, noticed_after, waiting_of, took_from, packed_told, told_of}
 use Rattle.gb_node.specs.StepLaw.{IsPacked}
 use Rattle.gb_node.specs.declared.answer.NodeAnswer.TheVariants.{Sent}
 use Rattle.gb_node.specs.declared.answer.Sent.TheVariants.{Packet as SentPacket}
 use Rattle.gb_node.specs.declared.event.NodeEvent.TheVariants.{Pack}
 use Rattle.gb_node.specs.declared.plan.NodePlan.{NodePlan}
-use Rattle.gb_isolation.specs.Project.{group_items, group_items_of, frames_in, made_with, replies_in, is_met, took}
+use Rattle.gb_isolation.specs.Project.{group_items, group_items_of, made_with, replies_in, is_met, took}
 use Rattle.gb_isolation.proofs.View.{View, view_of, Fits, Goes, MemberIs, AreMarked, KeepsAcks, IsInside, said_of, acknowledged_of, bounds_with}
 use Rattle.gb_isolation.proofs.AcknowledgedLemmas.{none_acknowledged, acknowledged-append}
 use Rattle.gb_isolation.proofs.GoesLemmas.{goes_none, goes_one}
@@ -54,7 +54,7 @@ packed_view plan g past b text c one = λ i. record {
   reserve = option_map reserve_of (row_of g.tenant (append-nil (tenants_in past) i));
   told = fold (packed_told g b) (told_of plan g past) (one i);
   made = made_with g past;
-  noticed = set.contains (noticed_in plan past);
+  noticed = set.contains (noticed_after plan past);
   replies = append-nil (replies_in plan.me g past) i;
   met = is_met plan.me g past;
   frames = λ x. frames_to plan.cluster_key x past ++ (if nat_eq b.number x then map (λ (c : Content). c.items) (one i) else []);
@@ -226,7 +226,7 @@ module _ (plan : NodePlan) (versions : List Version) (g : Addr) (past : List Hap
           (was.stopped ∙ running_unmet plan g past right.running, omega arith, omega (arith, taken, is, right.enough g, ap length put, length-append (group_items_of g (v.frames b.number)) waits))
 
   -- a packet is packed
-  pub packed_goes : Goes (bounds_with plan versions) g plan.me frames_from (view_of plan g (packing b text ∷ past)) group (took plan.me b (length (group_items_of g (frames_in plan.cluster_key text))))
+  pub packed_goes : Goes (bounds_with plan versions) g plan.me frames_from (view_of plan g (packing b text ∷ past)) group (took plan.me b (length (group_items_of g (map (λ (c : Content). c.items) (read plan.cluster_key text)))))
   packed_goes =
-      subst (λ w. Goes (bounds_with plan versions) g plan.me frames_from w group (took plan.me b (length (group_items_of g (frames_in plan.cluster_key text))))) (sym (packed_view plan g past b text right.content right.text_is))
-      (goes_by (length (group_items_of g (frames_in plan.cluster_key text))) (ap (λ cs. length (group_items_of g (map (λ (c : Content). c.items) cs))) right.text_is ∙ (ap length (group_items_of-one g f) ∙ long)))
+      subst (λ w. Goes (bounds_with plan versions) g plan.me frames_from w group (took plan.me b (length (group_items_of g (map (λ (c : Content). c.items) (read plan.cluster_key text)))))) (sym (packed_view plan g past b text right.content right.text_is))
+      (goes_by (length (group_items_of g (map (λ (c : Content). c.items) (read plan.cluster_key text)))) (ap (λ cs. length (group_items_of g (map (λ (c : Content). c.items) cs))) right.text_is ∙ (ap length (group_items_of-one g f) ∙ long)))

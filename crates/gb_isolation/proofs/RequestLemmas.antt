@@ -1,5 +1,4 @@
 -- A request at a node goes on for each group as it does for the group alone.
-use Rattle.gb_isolation.specs.Project.{is_noticed_after}
 use Rattle.std.proofs.Common.{◌≡◌, ◌≢◌, ℕ, ◌+◌, ◌<◌, ◌≤◌, List, [], ◌∷◌, ◌++◌, Option, Some, None, Bool, true, false, ◌&&◌, ◌||◌, ◌⊎◌, inl, inr, refl, sym, ◌∙◌, ap, subst, arith}
 use Rattle.std.specs.Prelude.{if◌then◌else◌, is_some, nat_eq, nat_lt, option_map}
 use Rattle.std.specs.FinSet as set
@@ -28,19 +27,19 @@ use Rattle.gb_alone.specs.declared.event.GroupEvent.TheVariants.{Tenant}
 use Rattle.gb_rules.specs.Lifetime.{or_added}
 use Rattle.gb_node.specs.NodeStep.{RequestTakesMemory}
 use Rattle.gb_node.specs.Past.{Happened, added, frames_to, is_stopped, tenants_in}
-use Rattle.gb_node.specs.PastGroups.{Told, noticed_in, told_first, asked_told, told_of}
-use Rattle.gb_node.specs.StepLaw.{IsAsked, admitted_answer, is_admitted_by, past_answer, has_group_token_by}
+use Rattle.gb_node.specs.PastGroups.{Told, noticed_after, told_first, asked_told, told_of}
+use Rattle.gb_node.specs.StepLaw.{IsAsked, admitted_answer, is_admitted_by, past_answer, has_group_token}
 use Rattle.gb_node.specs.declared.answer.NodeAnswer.TheVariants.{Reply as Replied}
 use Rattle.gb_node.specs.declared.event.NodeEvent.TheVariants.{Request as Asked}
 use Rattle.gb_node.specs.declared.plan.NodePlan.{NodePlan}
-use Rattle.gb_isolation.specs.Project.{asked, is_met, is_named, is_own_request, is_starved_by, group_items_of, made_by, made_with, own_requested, replies_in, requested, tenant_given}
+use Rattle.gb_isolation.specs.Project.{is_met, is_named, is_own_request, is_starved_by, group_items_of, made_by, made_with, replies_in, tenant_given}
 use Rattle.gb_isolation.proofs.AskLemmas.{asking, unrelated_request, refused_unrelated, view_asked}
 use Rattle.gb_isolation.proofs.CommandLemmas.{AskedGoes, group_token_is, at_open, at_shut, at_drop, at_say, at_fetch}
 use Rattle.gb_isolation.proofs.GoesLemmas.{goes_none, goes_one}
 use Rattle.gb_isolation.proofs.MakeLemmas.{at_make}
 use Rattle.gb_isolation.proofs.MemberLemmas.{same_member}
 use Rattle.gb_isolation.proofs.StoppedLemmas.{stopped_goes}
-use Rattle.gb_isolation.proofs.View.{View, view_of, Fits, Goes, bounds_with}
+use Rattle.gb_isolation.proofs.View.{View, view_of, Fits, Goes, bounds_with, asked_by, is_noticed_after, own_requested_by, requested_by}
 
 -- Tenants.
 
@@ -82,15 +81,15 @@ module _ (plan : NodePlan) (versions : List Version) (g : Addr) (past : List Hap
   -- Requests that make nothing of the group.
 
   -- what is given then
-  given_unrelated : (request : Request) (reply : Reply) → is_stopped past ≡ false → is_own_request plan.me g past request ≡ false → tenant_given g plan.me request reply ≡ [] → asked plan g past request reply ≡ []
-  given_unrelated request reply running other none = by ∙ (ap (λ b. tenant_given g plan.me request reply ++ (if b then own_requested plan g past request reply else [])) other ∙ ap (λ es. es ++ []) none)
+  given_unrelated : (request : Request) (reply : Reply) → is_stopped past ≡ false → is_own_request plan.me g past request ≡ false → tenant_given g plan.me request reply ≡ [] → asked_by plan g past request reply ≡ []
+  given_unrelated request reply running other none = by ∙ (ap (λ b. tenant_given g plan.me request reply ++ (if b then own_requested_by plan g past request reply else [])) other ∙ ap (λ es. es ++ []) none)
     where
-      by : asked plan g past request reply ≡ requested plan g past request reply
+      by : asked_by plan g past request reply ≡ requested_by plan g past request reply
       by = rw running refl
 
   passes : (request : Request) (reply : Reply) → is_stopped past ≡ false → is_own_request plan.me g past request ≡ false
       → added (Asked request) (Replied reply) ≡ []
-      → asked_told g plan.me (noticed_in plan past) request reply (told_of plan g past) ≡ told_of plan g past
+      → asked_told g plan.me (noticed_after plan past) request reply (told_of plan g past) ≡ told_of plan g past
       → made_by g (Asked request) (Replied reply) ≡ None
       → tenant_given g plan.me request reply ≡ []
       → FitsBefore → AskedGoes plan versions g past request reply frames_from group
@@ -134,10 +133,10 @@ module _ (plan : NodePlan) (versions : List Version) (g : Addr) (past : List Hap
       there : row_of g.tenant (tenants_in past ++ row ∷ []) ≡ Some row
       there = row-append g.tenant (tenants_in past) row (ap (λ t. row_of t (tenants_in past)) (sym same) ∙ new) ∙ ap (λ b. if b then Some row else None) own
 
-      given : asked plan g past (AddTenant token row) Done ≡ record { node = plan.me; event = Tenant (reserve_of row) } ∷ []
+      given : asked_by plan g past (AddTenant token row) Done ≡ record { node = plan.me; event = Tenant (reserve_of row) } ∷ []
       given = by ∙ ap (λ b. (if b then record { node = plan.me; event = Tenant (reserve_of row) } ∷ [] else []) ++ []) own
         where
-          by : asked plan g past (AddTenant token row) Done ≡ requested plan g past (AddTenant token row) Done
+          by : asked_by plan g past (AddTenant token row) Done ≡ requested_by plan g past (AddTenant token row) Done
           by = rw running refl
 
       later : view_of plan g (asking (AddTenant token row) Done ∷ past) ≡ record before { reserve = Some (reserve_of row) }
@@ -149,10 +148,10 @@ module _ (plan : NodePlan) (versions : List Version) (g : Addr) (past : List Hap
       subst (λ es. Goes (bounds_with plan versions) g plan.me frames_from (view_of plan g (asking (AddTenant token row) Done ∷ past)) group es) (sym given)
       (subst (λ (v : View). Goes (bounds_with plan versions) g plan.me frames_from v group []) (sym later) (goes_none (bounds_with plan versions) g plan.me frames_from before group fits))
     where
-      given : asked plan g past (AddTenant token row) Done ≡ []
+      given : asked_by plan g past (AddTenant token row) Done ≡ []
       given = by ∙ ap (λ b. (if b then record { node = plan.me; event = Tenant (reserve_of row) } ∷ [] else []) ++ []) other
         where
-          by : asked plan g past (AddTenant token row) Done ≡ requested plan g past (AddTenant token row) Done
+          by : asked_by plan g past (AddTenant token row) Done ≡ requested_by plan g past (AddTenant token row) Done
           by = rw running refl
 
       later : view_of plan g (asking (AddTenant token row) Done ∷ past) ≡ before
@@ -174,8 +173,8 @@ module _ (plan : NodePlan) (versions : List Version) (g : Addr) (past : List Hap
   added_none None = refl
   added_none (Some s) = refl
 
-  other_for : (request : Request) (r : Reply) → is_named g request ≡ false → asked_told g plan.me (noticed_in plan past) request r (told_of plan g past) ≡ told_of plan g past
-  other_for (Make token addr spec) Done other = ap (λ b. or_added (told_of plan g past) (if b then Some (Some (told_first spec plan.me (noticed_in plan past))) else None)) other ∙ added_none (told_of plan g past)
+  other_for : (request : Request) (r : Reply) → is_named g request ≡ false → asked_told g plan.me (noticed_after plan past) request r (told_of plan g past) ≡ told_of plan g past
+  other_for (Make token addr spec) Done other = ap (λ b. or_added (told_of plan g past) (if b then Some (Some (told_first spec plan.me (noticed_after plan past))) else None)) other ∙ added_none (told_of plan g past)
   other_for (OpenGroup token addr) Done other = rw other refl
   other_for (ShutGroup token addr) Done other = rw other refl
   other_for (DropGroup token addr) Done other = rw other refl
@@ -199,9 +198,9 @@ module _ (plan : NodePlan) (versions : List Version) (g : Addr) (past : List Hap
   -- The group's own request.
 
   own_goes : (request : Request) (reply : Reply) → version_at versions plan.me.number ≡ plan.version → plan.nodes ≤ NODES
-      → is_noticed_after plan past ≡ set.contains (noticed_in plan past)
-      → ((b : ℕ) → set.contains (noticed_in plan past) b ≡ true → b < NODES)
-      → ((t : Told) → told_of plan g past ≡ Some (Some t) → (b : ℕ) → b < plan.nodes → list_any (alone.is_own plan.me.number (said_in t.calls + 1)) (group_items_of g (frames_to plan.cluster_key b past)) ≡ false)
+      → is_noticed_after plan past ≡ set.contains (noticed_after plan past)
+      → ((b : ℕ) → set.contains (noticed_after plan past) b ≡ true → b < NODES)
+      → ((t : Told) → told_of plan g past ≡ Some (Some t) → (b : ℕ) → b < plan.nodes → list_any (alone.is_message plan.me.number (said_in t.calls + 1)) (group_items_of g (frames_to plan.cluster_key b past)) ≡ false)
       → is_stopped past ≡ false → is_own_request plan.me g past request ≡ true → reply ≡ admitted_answer plan past request → FitsBefore → AskedGoes plan versions g past request reply frames_from group
   own_goes (AddTenant token row) reply right few silent below fresh running own is fits = absurd (clash own)
     where
@@ -253,19 +252,19 @@ module _ (plan : NodePlan) (past : List Happened) (request : Request) (reply : R
 pub asked_goes : (plan : NodePlan) (versions : List Version) (g : Addr) (past : List Happened) (request : Request) (reply : Reply) (frames_from : ℕ → List (List Item)) (group : Group)
     → version_at versions plan.me.number ≡ plan.version
     → plan.nodes ≤ NODES
-    → is_noticed_after plan past ≡ set.contains (noticed_in plan past)
-    → ((b : ℕ) → set.contains (noticed_in plan past) b ≡ true → (b < plan.nodes) × (b ≢ plan.me.number))
-    → ((t : Told) → told_of plan g past ≡ Some (Some t) → (b : ℕ) → b < plan.nodes → list_any (alone.is_own plan.me.number (said_in t.calls + 1)) (group_items_of g (frames_to plan.cluster_key b past)) ≡ false)
+    → is_noticed_after plan past ≡ set.contains (noticed_after plan past)
+    → ((b : ℕ) → set.contains (noticed_after plan past) b ≡ true → (b < plan.nodes) × (b ≢ plan.me.number))
+    → ((t : Told) → told_of plan g past ≡ Some (Some t) → (b : ℕ) → b < plan.nodes → list_any (alone.is_message plan.me.number (said_in t.calls + 1)) (group_items_of g (frames_to plan.cluster_key b past)) ≡ false)
     → IsAsked plan past request reply
     → is_starved_by plan.me g past (Asked request) (Replied reply) ≡ false
     → Fits plan.nodes g plan.me.number frames_from (view_of plan g past) (group plan.me.number)
-    → Goes (bounds_with plan versions) g plan.me frames_from (view_of plan g (record { event = Asked request; answer = Replied reply } ∷ past)) group (asked plan g past request reply)
+    → Goes (bounds_with plan versions) g plan.me frames_from (view_of plan g (record { event = Asked request; answer = Replied reply } ∷ past)) group (asked_by plan g past request reply)
 asked_goes plan versions g past request reply frames_from group right few silent noticed fresh answered fed fits = go (cases_Bool (is_stopped past)) (cases_Bool (is_own_request plan.me g past request)) answered
   where
     Wanted : Reply → Type 0
     Wanted r = AskedGoes plan versions g past request r frames_from group
 
-    below : (b : ℕ) → set.contains (noticed_in plan past) b ≡ true → b < NODES
+    below : (b : ℕ) → set.contains (noticed_after plan past) b ≡ true → b < NODES
     below b is = let low = (noticed b is).0 in omega (arith, low, few)
 
     starved : is_own_request plan.me g past request ≡ true → reply ≡ Refused OutOfMemory → ⊥
@@ -294,7 +293,7 @@ asked_goes plan versions g past request reply frames_from group right few silent
     go (inl stopped) own answer = subst Wanted (sym (stopped_reply plan past request reply stopped answer)) (stopped_goes plan versions g past request frames_from group stopped fits)
     go (inr running) (inl own) (inl wants) = absurd (starved own wants.0)
     go (inr running) (inl own) (inr is) =
-        let parts = and_parts (is_named g request) (has_group_token_by plan.me past request) own in
+        let parts = and_parts (is_named g request) (has_group_token plan.me (tenants_in past) request) own in
         own_goes plan versions g past frames_from group request reply right few silent below fresh running own (is ∙ running_answer plan past request reply running true (sym (group_token_is plan g past request parts.0) ∙ parts.1)) fits
     go (inr running) (inr other) (inl wants) = subst Wanted (sym wants.0) (refusal_passes plan versions g past frames_from group request OutOfMemory running other fits)
     go (inr running) (inr other) (inr is) = foreign running other is (cases_Bool (is_admitted_by plan past request))

@@ -1,6 +1,5 @@
 -- The group's commands in a run, with their replies.
-use Rattle.gb_isolation.specs.Project.{is_noticed_after}
-use Rattle.std.proofs.Common.{◌≡◌, ◌≢◌, ℕ, ◌⊎◌, inl, inr, Bool, true, false, List, [], ◌∷◌, ◌++◌, length, refl, sym, ap, ◌∙◌, subst}
+use Rattle.std.proofs.Common.{◌≡◌, ◌≢◌, ℕ, ◌⊎◌, inl, inr, Bool, true, false, List, [], ◌∷◌, ◌++◌, length, refl, sym, ap, ◌∙◌, subst, map}
 use Rattle.std.specs.Prelude.{if◌then◌else◌}
 use Rattle.std.specs.FinSet as set
 use Rattle.std.specs.List.{flat_map}
@@ -18,8 +17,8 @@ use Rattle.gb_alone.specs.declared.event.GroupEvent.{GroupEvent}
 use Rattle.gb_alone.specs.declared.event.GroupEvent.TheVariants.{Make as AskMake, Open as AskOpen, Shut as AskShut, Drop as AskDrop, Say as AskSay, Fetch as AskFetch}
 use Rattle.gb_alone.specs.declared.event.GroupStep.{GroupStep}
 use Rattle.gb_alone.proofs.CommandLemmas.{command_in, commands_at, commands, commands-append, Pairs, pairs_append, no_pairs, one_pair}
-use Rattle.gb_node.specs.Past.{Happened, read, is_stopped}
-use Rattle.gb_node.specs.StepLaw.{has_group_token_by}
+use Rattle.gb_node.specs.StepLaw.{has_group_token}
+use Rattle.gb_node.specs.Past.{Happened, read, is_stopped, tenants_in}
 use Rattle.gb_node.specs.declared.answer.NodeAnswer.{NodeAnswer}
 use Rattle.gb_node.specs.declared.answer.NodeAnswer.TheVariants.{Reply as Replied, Taken, Sent, Ticked}
 use Rattle.gb_node.specs.declared.answer.PacketAnswer.TheVariants.{Good as TakenGood}
@@ -32,28 +31,30 @@ use Rattle.gb_cluster.specs.ClusterValue.{node_plan}
 use Rattle.gb_cluster.specs.Run.{Did, past_at}
 use Rattle.gb_types.specs.declared.plan.Plan.{Plan}
 use Rattle.gb_cluster.proofs.NodesLemmas.{past_same, past_other}
-use Rattle.gb_isolation.specs.Project.{group_items_of, frames_in, is_named, is_own_request, command_for, made_with, own_requested, tenant_given, is_met, with_stop, asked, took, arrived, ticked, gives, project, reply_in, replies_in}
+use Rattle.gb_isolation.specs.Project.{group_items_of, is_named, is_own_request, command_for, made_with, tenant_given, is_met, with_stop, took, arrived, ticked, gives, project, reply_in, replies_in}
 use Rattle.gb_isolation.specs.RunLaws.{said_by, accepted_by, accepted_in_past}
 use Rattle.gb_isolation.proofs.GivenLemmas.{carried_took, carried_packets, given_at, no_commands_elsewhere, no_commands_carried, no_commands_notices, no_commands_ticked, no_commands_tenant, commands_stopped}
+use Rattle.gb_isolation.proofs.View.{asked_by, is_noticed_after, own_requested_by}
+use Rattle.gb_frame.specs.Packet.{Content}
 
 -- what a request gives besides the command is no command
-commands_own : (plan : NodePlan) (g : Addr) (past : List Happened) (s : ℕ) (request : Request) (reply : Reply) → commands s (own_requested plan g past request reply) ≡ commands s (command_for g plan.me request)
+commands_own : (plan : NodePlan) (g : Addr) (past : List Happened) (s : ℕ) (request : Request) (reply : Reply) → commands s (own_requested_by plan g past request reply) ≡ commands s (command_for g plan.me request)
 unfolding commands
 commands_own plan g past s (Make token addr spec) Done = ap (λ es. commands_at s (record { node = plan.me; event = AskMake spec }) ++ es) (no_commands_notices s plan.me spec (is_noticed_after plan past))
 commands_own plan g past s request reply = refl
 
-commands_asked : (plan : NodePlan) (g : Addr) (past : List Happened) (s : ℕ) (request : Request) (reply : Reply) → commands s (asked plan g past request reply) ≡ commands s (if is_own_request plan.me g past request then command_for g plan.me request else [])
+commands_asked : (plan : NodePlan) (g : Addr) (past : List Happened) (s : ℕ) (request : Request) (reply : Reply) → commands s (asked_by plan g past request reply) ≡ commands s (if is_own_request plan.me g past request then command_for g plan.me request else [])
 commands_asked plan g past s request reply = by (is_stopped past) (is_own_request plan.me g past request)
   where
     tenant : (xs : List GroupStep) → commands s (tenant_given g plan.me request reply ++ xs) ≡ commands s xs
     tenant xs = commands-append s (tenant_given g plan.me request reply) xs ∙ ap (λ es. es ++ commands s xs) (no_commands_tenant s g plan.me request reply)
 
     by : (stopped own : Bool)
-        → commands s (if stopped then (if own then with_stop plan.me (is_met plan.me g past) (command_for g plan.me request) else []) else tenant_given g plan.me request reply ++ (if own then own_requested plan g past request reply else []))
+        → commands s (if stopped then (if own then with_stop plan.me (is_met plan.me g past) (command_for g plan.me request) else []) else tenant_given g plan.me request reply ++ (if own then own_requested_by plan g past request reply else []))
         ≡ commands s (if own then command_for g plan.me request else [])
     by true true = commands_stopped s plan.me (is_met plan.me g past) (command_for g plan.me request)
     by true false = refl
-    by false true = tenant (own_requested plan g past request reply) ∙ commands_own plan g past s request reply
+    by false true = tenant (own_requested_by plan g past request reply) ∙ commands_own plan g past s request reply
     by false false = tenant []
 
 -- a command at its node
@@ -72,14 +73,14 @@ named_pairs g a (Say token addr message) reply named = command_pairs a (AskSay m
 named_pairs g a (Fetch token addr from most) reply named = command_pairs a (AskFetch from most) reply refl
 
 reply_pairs : (plan : NodePlan) (g : Addr) (past : List Happened) (request : Request) (reply : Reply)
-    → Pairs (commands plan.me.number (asked plan g past request reply)) (reply_in plan.me g past (Asked request) (Replied reply)) (accepted_by plan g past (Asked request) (Replied reply))
+    → Pairs (commands plan.me.number (asked_by plan g past request reply)) (reply_in plan.me g past (Asked request) (Replied reply)) (accepted_by plan g past (Asked request) (Replied reply))
 unfolding commands
 reply_pairs plan g past request reply =
     subst (λ es. Pairs es (reply_in plan.me g past (Asked request) (Replied reply)) (accepted_by plan g past (Asked request) (Replied reply))) (sym (commands_asked plan g past plan.me.number request reply))
     (by (is_own_request plan.me g past request) refl)
   where
     by : (own : Bool) → is_own_request plan.me g past request ≡ own → Pairs (commands plan.me.number (if own then command_for g plan.me request else [])) (if own then reply ∷ [] else []) (if own then said_by request reply else [])
-    by true is = named_pairs g plan.me request reply (and_parts (is_named g request) (has_group_token_by plan.me past request) is).0
+    by true is = named_pairs g plan.me request reply (and_parts (is_named g request) (has_group_token plan.me (tenants_in past) request) is).0
     by false is = no_pairs
 
 none_paired : (es : List GroupEvent) → es ≡ [] → Pairs es [] []
@@ -90,7 +91,7 @@ given_pairs : (plan : Plan) (g : Addr) (run : List Did) (a : NodeId) (e : NodeEv
 unfolding commands
 given_pairs plan g run a (Asked request) (Replied reply) = reply_pairs (node_plan plan a) g (past_at a run) request reply
 given_pairs plan g run a (Pack b) (Sent (SentPacket text)) =
-    let k : ℕ = length (group_items_of g (frames_in plan.cluster_key text)) in
+    let k : ℕ = length (group_items_of g (map (λ (c : Content). c.items) (read plan.cluster_key text))) in
     none_paired (commands a.number (took a b k)) (no_commands_carried a.number a (took a b k) (carried_took a b k))
 given_pairs plan g run a (Brought bytes) (Taken (TakenGood good)) =
     let given : List GroupStep = flat_map (arrived plan g run a) (read plan.cluster_key bytes) in

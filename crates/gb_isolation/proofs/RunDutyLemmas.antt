@@ -1,6 +1,6 @@
 -- The duties of a group's nodes in a run.
 use Rattle.std.specs.FinSet as set
-use Rattle.gb_node.specs.PastGroups.{noticed_in}
+use Rattle.gb_node.specs.PastGroups.{noticed_after}
 use Rattle.gb_isolation.proofs.SilenceLemmas.{noticed_is_silent}
 use Rattle.std.proofs.Common.{◌≡◌, ℕ, ◌<◌, ◌≤◌, Bool, true, false, ◌&&◌, List, Option, Some, None, sym, ap, ◌∙◌, subst, arith}
 use Rattle.std.specs.Prelude.{if◌then◌else◌}
@@ -51,7 +51,7 @@ module _ (plan : Plan) (run : List Did) (v : ClusterValue) (g : Addr) (few : pla
     pub noticed_is : (c : ℕ) → is_marked c (alone (bounds_of plan) g.group (project plan g run) b.number).noticed ≡ (is_other spec b.number c && is_noticed_in plan run b c)
     noticed_is c =
         (behaves.fits b in_b).noticed c
-        ∙ (ap (λ (o : Option Spec). is_concerned b.number c o && set.contains (noticed_in (node_plan plan b) (past_at b run)) c) made_there
+        ∙ (ap (λ (o : Option Spec). is_concerned b.number c o && set.contains (noticed_after (node_plan plan b) (past_at b run)) c) made_there
         ∙ ap (λ (t : Bool). is_other spec b.number c && t) (noticed_is_silent (node_plan plan b) (past_at b run) few least c))
 
     put_there : (c : ℕ) → is_member spec c ≡ true → (group b.number).put c ≡ (seen_in plan run v g b (node_numbered c)).put

@@ -13,7 +13,7 @@ use Rattle.gb_types.proofs.SameLemmas.{same_number}
 use Rattle.gb_frame.specs.declared.item.Item.{Item}
 use Rattle.gb_frame.specs.Packet.{Content}
 use Rattle.gb_history.specs.History.{said_in}
-use Rattle.gb_alone.specs.Alone.{Group, Member, nobody, after, alone, alone_from, is_own}
+use Rattle.gb_alone.specs.Alone.{Group, Member, nobody, after, alone, alone_from, is_message}
 use Rattle.gb_alone.specs.Laws.{accepted}
 use Rattle.gb_alone.proofs.AcceptedLemmas.{alone_said, length-own_said}
 use Rattle.gb_alone.proofs.IntegrityLemmas.{is_integral}
@@ -135,10 +135,10 @@ module _ (laws : Laws) (plan : Plan) (g : Addr) (run : List Did) (before : Clust
 
   -- no item that is carried has the number that is said next
   unsaid : (a : NodeId) → a.number < plan.nodes → (t : Told) → told_of (node_plan plan a) g (past_at a run) ≡ Some (Some t) → (b : ℕ) → b < plan.nodes
-      → list_any (is_own a.number (said_in t.calls + 1)) (group_items_of g (frames_to plan.cluster_key b (past_at a run))) ≡ false
+      → list_any (is_message a.number (said_in t.calls + 1)) (group_items_of g (frames_to plan.cluster_key b (past_at a run))) ≡ false
   unsaid a within t there b in_b =
-      none_of_front (is_own a.number (said_in t.calls + 1)) (group_items_of g (frames_to plan.cluster_key b (past_at a run))) (waiting_of (told_of (node_plan plan a) g (past_at a run)) b)
-      (ap (list_any (is_own a.number (said_in t.calls + 1))) (sym ((was.fits a within).put b in_b))
+      none_of_front (is_message a.number (said_in t.calls + 1)) (group_items_of g (frames_to plan.cluster_key b (past_at a run))) (waiting_of (told_of (node_plan plan a) g (past_at a run)) b)
+      (ap (list_any (is_message a.number (said_in t.calls + 1))) (sym ((was.fits a within).put b in_b))
       ∙ none_beyond_accepted (accepted (bounds_of plan) g.group (project plan g run)) a.number (said_in t.calls + 1) ((group a.number).put b) low ((is_integral (bounds_of plan) g.group (project plan g run) was.legal).items a.number b))
     where
       st : IsThere t (group a.number)

@@ -1,5 +1,6 @@
 -- What a request at a node that has stopped does to each group there: the first command of a group meets the stop.
 use Rattle.std.proofs.Common.{◌≡◌, ℕ, List, [], ◌∷◌, ◌++◌, Bool, true, false, ◌&&◌, ◌||◌, ◌⊎◌, inl, inr, refl, sym, ◌∙◌, ap, subst}
+use Rattle.std.specs.Option.{option_or}
 use Rattle.std.specs.Prelude.{if◌then◌else◌}
 use Rattle.std.proofs.lemmas.Bool.{cases_Bool, and_parts}
 use Rattle.gb_types.specs.declared.address.Addr.{Addr}
@@ -15,16 +16,16 @@ use Rattle.gb_frame.specs.declared.item.Item.{Item}
 use Rattle.gb_alone.specs.declared.event.GroupEvent.{GroupEvent}
 use Rattle.gb_alone.specs.declared.event.GroupEvent.TheVariants.{Make as AskMake, Open as AskOpen, Shut as AskShut, Drop as AskDrop, Say as AskSay, Fetch as AskFetch, Stop}
 use Rattle.gb_alone.specs.Alone.{Member, Group, alone_from, commanded, did, member_after, reply_to, running_reply, MayHappen}
-use Rattle.gb_node.specs.Past.{Happened, is_stopped}
-use Rattle.gb_node.specs.PastGroups.{noticed_in, told_of}
-use Rattle.gb_node.specs.StepLaw.{has_group_token_by}
+use Rattle.gb_node.specs.StepLaw.{has_group_token}
+use Rattle.gb_node.specs.Past.{Happened, is_stopped, tenants_in}
+use Rattle.gb_node.specs.PastGroups.{noticed_after, told_of}
 use Rattle.gb_node.specs.declared.plan.NodePlan.{NodePlan}
-use Rattle.gb_isolation.specs.Project.{is_named, is_own_request, is_met, command_for, with_stop, asked, made_with, or_else, replies_in}
+use Rattle.gb_isolation.specs.Project.{is_named, is_own_request, is_met, command_for, with_stop, made_with, replies_in}
 use Rattle.gb_node.proofs.EventLemmas.{added_refused, asked_untold}
 use Rattle.gb_isolation.proofs.AskLemmas.{asking, view_asked, rows_kept, refused_makes, refused_unrelated}
 use Rattle.gb_isolation.proofs.GoesLemmas.{goes_one, goes_on}
 use Rattle.gb_isolation.proofs.MemberLemmas.{same_member}
-use Rattle.gb_isolation.proofs.View.{View, view_of, Fits, Goes, bounds_with}
+use Rattle.gb_isolation.proofs.View.{View, view_of, Fits, Goes, bounds_with, asked_by}
 
 -- the reply of a node that has stopped
 abbrev pub refused : Reply
@@ -108,10 +109,10 @@ module _ (bounds : Bounds) (g : Addr) (a : NodeId) (frames_from : ℕ → List (
 
 module _ (plan : NodePlan) (versions : List Version) (g : Addr) (past : List Happened) (request : Request) (frames_from : ℕ → List (List Item)) (group : Group) where
   abbrev StoppedGoes : Type 0
-  StoppedGoes = Goes (bounds_with plan versions) g plan.me frames_from (view_of plan g (asking request refused ∷ past)) group (asked plan g past request refused)
+  StoppedGoes = Goes (bounds_with plan versions) g plan.me frames_from (view_of plan g (asking request refused ∷ past)) group (asked_by plan g past request refused)
 
   -- what it gives the group
-  given_stopped : is_stopped past ≡ true → (own : Bool) → is_own_request plan.me g past request ≡ own → asked plan g past request refused ≡ (if own then with_stop plan.me (is_met plan.me g past) (command_for g plan.me request) else [])
+  given_stopped : is_stopped past ≡ true → (own : Bool) → is_own_request plan.me g past request ≡ own → asked_by plan g past request refused ≡ (if own then with_stop plan.me (is_met plan.me g past) (command_for g plan.me request) else [])
   given_stopped stopped own is = rw (stopped, is) refl
 
   -- a request of another group, or with a wrong token
@@ -130,8 +131,8 @@ module _ (plan : NodePlan) (versions : List Version) (g : Addr) (past : List Hap
       later : view_of plan g (asking request refused ∷ past) ≡ record (view_of plan g past) { replies = replies_in plan.me g past ++ refused ∷ []; met = true }
       later = view_asked plan g past request refused (view_of plan g past).reserve (told_of plan g past) (made_with g past) (replies_in plan.me g past ++ refused ∷ []) true
           (rows_kept plan g past request refused (added_refused request Stopped))
-          (asked_untold g plan.me (noticed_in plan past) request Stopped (told_of plan g past))
-          (ap (λ o. or_else o (made_with g past)) (refused_makes g request Stopped))
+          (asked_untold g plan.me (noticed_after plan past) request Stopped (told_of plan g past))
+          (ap (λ o. option_or o (made_with g past)) (refused_makes g request Stopped))
           (ap (λ b. replies_in plan.me g past ++ (if b then refused ∷ [] else [])) own)
           (ap (λ b. (b && is_own_request plan.me g past request) || is_met plan.me g past) stopped ∙ ap (λ b. b || is_met plan.me g past) own)
 
@@ -140,5 +141,5 @@ module _ (plan : NodePlan) (versions : List Version) (g : Addr) (past : List Hap
   stopped_goes stopped fits = go (cases_Bool (is_own_request plan.me g past request))
     where
       go : ((is_own_request plan.me g past request ≡ true) ⊎ (is_own_request plan.me g past request ≡ false)) → StoppedGoes
-      go (inl own) = stopped_own stopped own (and_parts (is_named g request) (has_group_token_by plan.me past request) own).0 fits
+      go (inl own) = stopped_own stopped own (and_parts (is_named g request) (has_group_token plan.me (tenants_in past) request) own).0 fits
       go (inr other) = stopped_other stopped other fits

@@ -9,7 +9,7 @@ use Rattle.gb_detect.specs.Watch.{due}
 use Rattle.gb_node.specs.NodeStep.{running_turn, stopped_answer, IsStarved, IsTurn}
 use Rattle.gb_node.specs.NodeValue.{NodeValue}
 use Rattle.gb_node.specs.Past.{Happened, ComesTo as NodeComesTo, is_stopped}
-use Rattle.gb_node.specs.PastGroups.{noticed_in}
+use Rattle.gb_node.specs.PastGroups.{noticed_after}
 use Rattle.gb_node.specs.PastLaw.{PastsSay}
 use Rattle.gb_node.specs.StepLaw.{AnswersSay, IsTicked}
 use Rattle.gb_node.specs.declared.answer.NodeAnswer.{NodeAnswer}
@@ -65,16 +65,16 @@ new_notices pasts answers plan earlier a answer v goes tick running = (found, to
     says : IsTicked (node_plan plan a) (past_at a earlier) found
     says = answers.each (node_plan plan a) (past_at a earlier) Tick (Ticked (Noticed found)) (node_at v a) (subst (λ hs. NodeComesTo (node_plan plan a) hs (node_at v a)) past (have_pasts plan (d ∷ earlier) v a goes within))
 
-    fresh : (b : ℕ) → set.contains found b ≡ (set.contains (noticed_in (node_plan plan a) (past_at a (d ∷ earlier))) b && not (set.contains (noticed_in (node_plan plan a) (past_at a earlier)) b))
-    fresh b = fresh_only (set.contains found b) (set.contains (noticed_in (node_plan plan a) (past_at a earlier)) b) (set.contains (noticed_in (node_plan plan a) (past_at a (d ∷ earlier))) b) (says.fresh b)
-        (ap (λ (hs : List Happened). set.contains (noticed_in (node_plan plan a) hs) b) past ∙ says.later b)
+    fresh : (b : ℕ) → set.contains found b ≡ (set.contains (noticed_after (node_plan plan a) (past_at a (d ∷ earlier))) b && not (set.contains (noticed_after (node_plan plan a) (past_at a earlier)) b))
+    fresh b = fresh_only (set.contains found b) (set.contains (noticed_after (node_plan plan a) (past_at a earlier)) b) (set.contains (noticed_after (node_plan plan a) (past_at a (d ∷ earlier))) b) (says.fresh b)
+        (ap (λ (hs : List Happened). set.contains (noticed_after (node_plan plan a) hs) b) past ∙ says.later b)
 
     right : IsClusterPlan plan
     right = (stays plan earlier old goes.1).right
 
     new : (b : ℕ) → set.contains found b ≡ (is_noticed_in plan (d ∷ earlier) a b && not (is_noticed_in plan earlier a b))
     new b = fresh b
-        ∙ (ap (λ (t : Bool). t && not (set.contains (noticed_in (node_plan plan a) (past_at a earlier)) b)) (noticed_is_silent (node_plan plan a) (past_at a (d ∷ earlier)) right.few right.least b)
+        ∙ (ap (λ (t : Bool). t && not (set.contains (noticed_after (node_plan plan a) (past_at a earlier)) b)) (noticed_is_silent (node_plan plan a) (past_at a (d ∷ earlier)) right.few right.least b)
         ∙ ap (λ (t : Bool). is_noticed_in plan (d ∷ earlier) a b && not t) (noticed_is_silent (node_plan plan a) (past_at a earlier) right.few right.least b))
 
 pub ticks_answer : PastsSay → AnswersSay → TicksAnswerNewNotices

@@ -1,5 +1,6 @@
 -- Events that make nothing of a group.
 use Rattle.std.proofs.Common.{◌≡◌, ℕ, List, [], ◌∷◌, ◌++◌, length, None, false, ◌&&◌, ◌||◌, refl, sym, ◌∙◌, ap, subst}
+use Rattle.std.specs.Option.{option_or}
 use Rattle.std.specs.Prelude.{nat_le, map, option_map}
 use Rattle.std.specs.FinSet as set
 use Rattle.std.specs.List.{list_any}
@@ -21,7 +22,7 @@ use Rattle.gb_node.specs.PastGroups.{told_after, told_of}
 use Rattle.gb_node.specs.declared.answer.NodeAnswer.{NodeAnswer}
 use Rattle.gb_node.specs.declared.event.NodeEvent.{NodeEvent}
 use Rattle.gb_node.specs.declared.plan.NodePlan.{NodePlan}
-use Rattle.gb_isolation.specs.Project.{made_with, made_by, or_else, replies_in, reply_in, is_met, is_met_by}
+use Rattle.gb_isolation.specs.Project.{made_with, made_by, replies_in, reply_in, is_met, is_met_by}
 use Rattle.gb_isolation.proofs.View.{view_of, Fits, Goes, bounds_with}
 use Rattle.gb_isolation.proofs.GoesLemmas.{goes_none}
 
@@ -42,7 +43,7 @@ unfolding frames_to is_acked is_taken watched tenants_in told_of made_with repli
 unrelated_view plan g past e x q = λ i. record {
   reserve = option_map reserve_of (row_of g.tenant ((ap (λ (rows : List TenantRow). tenants_in past ++ rows) q.none_added ∙ append-nil (tenants_in past)) i));
   told = q.same_group i;
-  made = or_else (q.not_made i) (made_with g past);
+  made = option_or (q.not_made i) (made_with g past);
   noticed = set.contains (replay (start plan.me.number plan.nodes plan.silence) (q.no_tick i ++ map (λ (c : Content). Heard c.from) (q.none_came i) ++ watched plan.cluster_key past)).noticed;
   replies = (ap (λ (rs : List Reply). replies_in plan.me g past ++ rs) q.no_reply ∙ append-nil (replies_in plan.me g past)) i;
   met = q.unmet i || is_met plan.me g past;

@@ -1,12 +1,14 @@
 -- What a group has at a node, read from the node's past, and how it stands for the group alone.
-use Rattle.std.specs.Prelude.{ℕ, ◌+◌, ◌≡◌, ◌≢◌, ◌≤◌, ◌<◌, ◌&&◌, Bool, true, false, List, [], ◌++◌, length, Option, Some, None, is_some, option_map}
+use Rattle.std.specs.Prelude.{ℕ, ◌+◌, ◌≡◌, ◌≢◌, ◌≤◌, ◌<◌, ◌&&◌, not, nat_eq, nat_lt, Bool, true, false, List, [], ◌++◌, length, Option, Some, None, is_some, option_map}
 use Rattle.std.specs.FinSet as set
 use Rattle.gb_types.specs.declared.address.Addr.{Addr}
 use Rattle.gb_types.specs.declared.entry.Entry.{Entry}
 use Rattle.gb_types.specs.declared.node.NodeId.{NodeId}
 use Rattle.gb_types.specs.declared.reply.Reply.{Reply}
+use Rattle.gb_types.specs.declared.request.Request.{Request}
 use Rattle.gb_types.specs.declared.spec.Spec.{Spec}
 use Rattle.gb_frame.specs.declared.item.Item.{Item}
+use Rattle.gb_detect.specs.Silence.{is_noticed}
 use Rattle.gb_history.specs.History.{said_in}
 use Rattle.gb_rules.specs.Group.{is_gone, is_other, is_member}
 use Rattle.gb_rules.specs.Tenant.{reserve_of, row_of}
@@ -15,8 +17,8 @@ use Rattle.gb_rules.specs.declared.reserve.Reserve.{Reserve}
 use Rattle.gb_alone.specs.Alone.{Member, Group, alone, alone_from, is_marked, is_acknowledged, IsLegal, IsLegalFrom}
 use Rattle.gb_alone.specs.declared.event.GroupStep.{GroupStep}
 use Rattle.gb_node.specs.NodeStep.{node_numbered}
-use Rattle.gb_node.specs.Past.{Happened, frames_to, is_acked, is_taken, tenants_in}
-use Rattle.gb_node.specs.PastGroups.{Told, noticed_in, waiting_of, told_of}
+use Rattle.gb_node.specs.Past.{Happened, frames_to, is_acked, is_taken, tenants_in, watched}
+use Rattle.gb_node.specs.PastGroups.{Told, noticed_after, waiting_of, told_of}
 use Rattle.gb_node.specs.declared.plan.NodePlan.{NodePlan}
 use Rattle.gb_cluster.specs.ClusterValue.{node_plan}
 use Rattle.gb_cluster.specs.Run.{Did, past_at}
@@ -24,7 +26,7 @@ use Rattle.gb_types.specs.declared.plan.Plan.{Plan}
 use Rattle.gb_types.specs.declared.plan.Bounds.{Bounds}
 use Rattle.gb_types.specs.declared.version.Version.{Version}
 use Rattle.gb_types.specs.Version.{bounds_of}
-use Rattle.gb_isolation.specs.Project.{project, group_items_of, offset, made_with, replies_in, is_met}
+use Rattle.gb_isolation.specs.Project.{project, asked, requested, own_requested, group_items_of, offset, made_with, replies_in, is_met}
 
 -- What a group has at a node.
 pub record View : Type 0 where
@@ -50,7 +52,7 @@ view_of plan g past = record {
   reserve = option_map reserve_of (row_of g.tenant (tenants_in past));
   told = told_of plan g past;
   made = made_with g past;
-  noticed = set.contains (noticed_in plan past);
+  noticed = set.contains (noticed_after plan past);
   replies = replies_in plan.me g past;
   met = is_met plan.me g past;
   frames = λ b. frames_to plan.cluster_key b past;
@@ -156,3 +158,17 @@ AllFit plan g run group = (a : NodeId) → a.number < plan.nodes → Fits plan.n
 pub record BehavesAlone (plan : Plan) (g : Addr) (run : List Did) : Type 0 where
   pub legal : IsLegal (bounds_of plan) g.group (project plan g run)
   pub fits : AllFit plan g run (alone (bounds_of plan) g.group (project plan g run))
+
+-- Requests, by the plan of a node.
+
+abbrev pub is_noticed_after : NodePlan → List Happened → ℕ → Bool
+is_noticed_after plan past b = (nat_lt b plan.nodes && not (nat_eq b plan.me.number)) && is_noticed plan.silence b (watched plan.cluster_key past)
+
+abbrev pub own_requested_by : NodePlan → Addr → List Happened → Request → Reply → List GroupStep
+own_requested_by plan g past request reply = own_requested plan.me g (is_noticed_after plan past) request reply
+
+abbrev pub requested_by : NodePlan → Addr → List Happened → Request → Reply → List GroupStep
+requested_by plan g past request reply = requested plan.me g (is_noticed_after plan past) past request reply
+
+abbrev pub asked_by : NodePlan → Addr → List Happened → Request → Reply → List GroupStep
+asked_by plan g past request reply = asked plan.me g (is_noticed_after plan past) past request reply

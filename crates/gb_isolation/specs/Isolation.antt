@@ -1,5 +1,6 @@
 -- That a group in a run is what it is alone.
-use Rattle.std.specs.Prelude.{ℕ, ◌≡◌, ◌<◌, ◌++◌, ◌&&◌, not, Bool, true, false, All, List, [], ◌∷◌, length, map, Option, Some, None}
+use Rattle.std.specs.Prelude.{ℕ, ◌≡◌, ◌<◌, ◌++◌, ◌&&◌, not, Bool, true, false, All, List, [], ◌∷◌, length, map, take, Option, Some, None}
+use Rattle.std.specs.List.{flat_map}
 use Rattle.gb_types.specs.declared.address.Addr.{Addr}
 use Rattle.gb_types.specs.declared.entry.Entry.{Entry}
 use Rattle.gb_types.specs.Version.{bounds_of}
@@ -24,6 +25,24 @@ use Rattle.gb_cluster.specs.ClusterValue.{ClusterValue, node_at}
 use Rattle.gb_cluster.specs.Run.{Did, ComesTo, past_at}
 use Rattle.gb_types.specs.declared.plan.Plan.{Plan}
 use Rattle.gb_isolation.specs.Project.{project, group_items, group_items_of, replies_in, is_fed}
+
+-- the group alone, of what concerns it in the run
+abbrev pub alone_in : Plan → Addr → List Did → Group
+alone_in plan g run = alone (bounds_of plan) g.group (project plan g run)
+
+-- the messages of the group alone that are carried from one node to another, in order
+abbrev pub carried_alone : Plan → Addr → List Did → ℕ → ℕ → List Entry
+carried_alone plan g run a b = let m = alone_in plan g run a in take (m.taken b) (m.put b)
+
+-- What a run shows of a group, in events, answers and packets, is what the group has alone. Nothing is read from a node.
+pub record IsSeenAlone (plan : Plan) (run : List Did) (g : Addr) : Type 0 where
+  -- what concerns it is a legal list of events of the group by itself
+  pub legal : IsLegal (bounds_of plan) g.group (project plan g run)
+  -- the replies to its commands at each node
+  pub replies : (a : NodeId) → a.number < plan.nodes → replies_in a g (past_at a run) ≡ (alone_in plan g run a.number).replies
+  -- its items in the packets from each node to each, just as they stand there
+  pub items : (a b : NodeId) → a.number < plan.nodes → b.number < plan.nodes
+      → flat_map (items_for g) (frames_to plan.cluster_key b.number (past_at a run)) ≡ map (item_for g) (carried_alone plan g run a.number b.number)
 
 -- what was delivered in a group; nothing where it was not made, or was dropped
 abbrev pub log_in : Option (Option Shown) → List Entry
@@ -51,10 +70,6 @@ seen_in plan run v g a b = record {
 -- what is seen of a group alone
 abbrev pub seen_alone : Group → ℕ → ℕ → Seen
 seen_alone group a b = record { replies = (group a).replies; log = log_of_member a (group a); put = (group a).put b }
-
--- the group alone, of what concerns it in the run
-abbrev pub alone_in : Plan → Addr → List Did → Group
-alone_in plan g run = alone (bounds_of plan) g.group (project plan g run)
 
 -- the group's items of a frame are what is shown of them: each with its origin as it stands there
 abbrev pub AreSpelt : Addr → List Item → Type 0

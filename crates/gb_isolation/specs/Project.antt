@@ -2,6 +2,7 @@
 use Rattle.std.specs.Prelude.{ℕ, zero, suc, ◌+◌, ◌-◌, ◌&&◌, ◌||◌, not, Bool, true, false, List, [], ◌∷◌, ◌++◌, length, take, map, filter, Option, Some, None, nat_eq, nat_lt, if◌then◌else◌}
 use Rattle.std.specs.FinSet as set
 use Rattle.std.specs.List.{range_with_len, list_any, flat_map}
+use Rattle.std.specs.Option.{option_or}
 use Rattle.gb_types.specs.declared.address.Addr.{Addr}
 use Rattle.gb_types.specs.declared.entry.Entry.{Entry}
 use Rattle.gb_types.specs.declared.limits.TheConstants.{NODES}
@@ -22,9 +23,9 @@ use Rattle.gb_rules.specs.Tenant.{reserve_of}
 use Rattle.gb_alone.specs.declared.event.GroupEvent.TheVariants.{Tenant, Make as AskMake, Open as AskOpen, Shut as AskShut, Drop as AskDrop, Say as AskSay, Fetch as AskFetch, Took, Came, Done as Acknowledged, Notice, Stop as Ends}
 use Rattle.gb_alone.specs.declared.event.GroupStep.{GroupStep}
 use Rattle.gb_frame.specs.Items.{entry_of, items_for}
-use Rattle.gb_node.specs.StepLaw.{has_group_token_by}
+use Rattle.gb_node.specs.StepLaw.{has_group_token}
 use Rattle.gb_node.specs.NodeStep.{node_numbered}
-use Rattle.gb_node.specs.Past.{Happened, read, frames_to, is_acked, is_frame, came, is_stopped, watched}
+use Rattle.gb_node.specs.Past.{Happened, read, frames_to, is_acked, is_frame, came, is_stopped, tenants_in, watched}
 use Rattle.gb_node.specs.declared.answer.NodeAnswer.{NodeAnswer}
 use Rattle.gb_node.specs.declared.answer.NodeAnswer.TheVariants.{Reply as Replied, Taken, Sent, Ticked}
 use Rattle.gb_node.specs.declared.answer.PacketAnswer.TheVariants.{Good as TakenGood}
@@ -32,8 +33,6 @@ use Rattle.gb_node.specs.declared.answer.Sent.TheVariants.{Packet as SentPacket}
 use Rattle.gb_node.specs.declared.answer.Ticked.TheVariants.{Noticed}
 use Rattle.gb_node.specs.declared.event.NodeEvent.{NodeEvent}
 use Rattle.gb_node.specs.declared.event.NodeEvent.TheVariants.{Request as Asked, Packet as Brought, Pack, Tick}
-use Rattle.gb_node.specs.declared.plan.NodePlan.{NodePlan}
-use Rattle.gb_cluster.specs.ClusterValue.{node_plan}
 use Rattle.gb_cluster.specs.Run.{Did, past_at}
 use Rattle.gb_types.specs.declared.plan.Plan.{Plan}
 
@@ -50,10 +49,6 @@ group_items_of g (f ∷ fs) = group_items g f ++ group_items_of g fs
 -- how many items of the group there are in the first n of these frames
 abbrev pub offset : Addr → List (List Item) → ℕ → ℕ
 offset g fs n = length (group_items_of g (take n fs))
-
--- the frames that a text has: one where it is a packet
-abbrev pub frames_in : List ℕ → List ℕ → List (List Item)
-frames_in key text = map (λ (c : Content). c.items) (read key text)
 
 -- Packets.
 
@@ -76,7 +71,7 @@ is_named g (Fetch token addr from most) = is_addr g addr
 
 -- a request of the group at the node a: it names the group, and comes with the token that it needs by the tenants that were added there
 abbrev pub is_own_request : NodeId → Addr → List Happened → Request → Bool
-is_own_request a g past request = is_named g request && has_group_token_by a past request
+is_own_request a g past request = is_named g request && has_group_token a (tenants_in past) request
 
 -- the group's command that a request is
 abbrev pub command_for : Addr → NodeId → Request → List GroupStep
@@ -93,34 +88,30 @@ abbrev pub made_by : Addr → NodeEvent → NodeAnswer → Option Spec
 made_by g (Asked (Make token addr spec)) (Replied Done) = if is_addr g addr then Some spec else None
 made_by g event answer = None
 
-abbrev pub or_else : Option Spec → Option Spec → Option Spec
-or_else None later = later
-or_else (Some spec) later = Some spec
-
 unfoldable pub made_with : Addr → List Happened → Option Spec
 made_with g [] = None
-made_with g (h ∷ past) = or_else (made_by g h.event h.answer) (made_with g past)
+made_with g (h ∷ past) = option_or (made_by g h.event h.answer) (made_with g past)
 
--- a node is noticed at a node after this past: it is another one of the cluster, and was silent there for too long at some moment so far
-abbrev pub is_noticed_after : NodePlan → List Happened → ℕ → Bool
-is_noticed_after plan past b = (nat_lt b plan.nodes && not (nat_eq b plan.me.number)) && is_noticed plan.silence b (watched plan.cluster_key past)
+-- a node is noticed at the node a after this past: it is another one of the cluster, and was silent there for too long at some moment so far
+abbrev pub is_noticed_at : Plan → NodeId → List Happened → ℕ → Bool
+is_noticed_at plan a past b = (nat_lt b plan.nodes && not (nat_eq b a.number)) && is_noticed plan.silence b (watched plan.cluster_key past)
 
 -- the group's notices of other members for which the test holds, rising
 abbrev pub notices : NodeId → Spec → (ℕ → Bool) → List GroupStep
 notices a spec new = map (λ b. record { node = a; event = Notice (node_numbered b) }) (filter (λ b. is_other spec a.number b && new b) (range_with_len 0 NODES))
 
 -- what a request of the group gives it at a running node; made, it learns of the members that are noticed there
-abbrev pub own_requested : NodePlan → Addr → List Happened → Request → Reply → List GroupStep
-own_requested plan g past (Make token addr spec) Done = record { node = plan.me; event = AskMake spec } ∷ notices plan.me spec (is_noticed_after plan past)
-own_requested plan g past request reply = command_for g plan.me request
+abbrev pub own_requested : NodeId → Addr → (ℕ → Bool) → Request → Reply → List GroupStep
+own_requested a g noticed (Make token addr spec) Done = record { node = a; event = AskMake spec } ∷ notices a spec noticed
+own_requested a g noticed request reply = command_for g a request
 
 abbrev pub tenant_given : Addr → NodeId → Request → Reply → List GroupStep
 tenant_given g a (AddTenant token row) Done = if nat_eq row.tenant g.tenant then record { node = a; event = Tenant (reserve_of row) } ∷ [] else []
 tenant_given g a request reply = []
 
 -- what any request with its reply gives the group at a running node
-abbrev pub requested : NodePlan → Addr → List Happened → Request → Reply → List GroupStep
-requested plan g past request reply = tenant_given g plan.me request reply ++ (if is_own_request plan.me g past request then own_requested plan g past request reply else [])
+abbrev pub requested : NodeId → Addr → (ℕ → Bool) → List Happened → Request → Reply → List GroupStep
+requested a g noticed past request reply = tenant_given g a request reply ++ (if is_own_request a g past request then own_requested a g noticed request reply else [])
 
 -- a request of the group is asked at a node that has stopped
 abbrev pub is_met_by : NodeId → Addr → List Happened → NodeEvent → NodeAnswer → Bool
@@ -138,10 +129,10 @@ with_stop a met [] = []
 with_stop a met (c ∷ commands) = if met then c ∷ commands else record { node = a; event = Ends } ∷ c ∷ commands
 
 -- what a request with its reply gives the group: a node that has stopped gives its commands alone
-abbrev pub asked : NodePlan → Addr → List Happened → Request → Reply → List GroupStep
-asked plan g past request reply =
-    if is_stopped past then (if is_own_request plan.me g past request then with_stop plan.me (is_met plan.me g past) (command_for g plan.me request) else [])
-    else requested plan g past request reply
+abbrev pub asked : NodeId → Addr → (ℕ → Bool) → List Happened → Request → Reply → List GroupStep
+asked a g noticed past request reply =
+    if is_stopped past then (if is_own_request a g past request then with_stop a (is_met a g past) (command_for g a request) else [])
+    else requested a g noticed past request reply
 
 -- Links.
 
@@ -193,8 +184,8 @@ ticked a found (Some spec) = notices a spec found
 
 -- what an event at a node with its answer gives the group, after this run
 abbrev pub gives : Plan → Addr → List Did → NodeId → NodeEvent → NodeAnswer → List GroupStep
-gives plan g run a (Asked request) (Replied reply) = asked (node_plan plan a) g (past_at a run) request reply
-gives plan g run a (Pack b) (Sent (SentPacket text)) = took a b (length (group_items_of g (frames_in plan.cluster_key text)))
+gives plan g run a (Asked request) (Replied reply) = asked a g (is_noticed_at plan a (past_at a run)) (past_at a run) request reply
+gives plan g run a (Pack b) (Sent (SentPacket text)) = took a b (length (group_items_of g (map (λ (c : Content). c.items) (read plan.cluster_key text))))
 gives plan g run a (Brought bytes) (Taken (TakenGood good)) = flat_map (arrived plan g run a) (read plan.cluster_key bytes)
 gives plan g run a Tick (Ticked (Noticed found)) = ticked a (set.contains found) (made_with g (past_at a run))
 gives plan g run a event answer = []

@@ -2,7 +2,7 @@
 use Rattle.std.specs.Prelude.{ℕ, ◌+◌, ◌≡◌, ◌≢◌, ◌<◌, ◌||◌, ◌&&◌, not, Bool, true, false, All, List, [], ◌∷◌, ◌++◌, Option, Some, slice_get, if◌then◌else◌}
 use Rattle.std.specs.FinSet as set
 use Rattle.std.specs.Ordering.{nat_cmp}
-use Rattle.gb_types.specs.Version.{version_at}
+use Rattle.gb_types.specs.Version.{bounds_of, version_at}
 use Rattle.gb_types.specs.declared.address.Addr.{Addr}
 use Rattle.gb_types.specs.declared.entry.Entry.{Entry}
 use Rattle.gb_types.specs.declared.message.MsgId.{MsgId}
@@ -11,13 +11,15 @@ use Rattle.gb_types.specs.declared.refusal.Refusal.{Refusal}
 use Rattle.gb_types.specs.declared.reply.Reply.{Reply}
 use Rattle.gb_types.specs.declared.reply.Reply.TheVariants.{Done, Said, Refused}
 use Rattle.gb_types.specs.declared.request.Request.{Request}
-use Rattle.gb_types.specs.declared.request.Request.TheVariants.{DropGroup, Say}
+use Rattle.gb_types.specs.declared.request.Request.TheVariants.{DropGroup, Say, Fetch}
 use Rattle.gb_types.specs.declared.spec.Spec.{Spec}
 use Rattle.gb_types.specs.declared.version.Version.{Version}
 use Rattle.gb_frame.specs.declared.item.Item.{Item}
 use Rattle.gb_rules.specs.Address.{is_addr}
 use Rattle.gb_rules.specs.Group.{is_member}
 use Rattle.gb_history.specs.Messages.{has}
+use Rattle.gb_alone.specs.Alone.{running_reply}
+use Rattle.gb_alone.specs.declared.event.GroupEvent.TheVariants.{Fetch as AskFetch}
 use Rattle.gb_alone.specs.Laws.{Accepted, IsAccepted, KeepsIntegrity, KeepsOrder}
 use Rattle.gb_duties.specs.Agreement.{IsRunning, AreEnough, KeepsAgreement}
 use Rattle.gb_duties.specs.Duties.{HasHad, KeepsDuties, delivered_at}
@@ -34,7 +36,7 @@ use Rattle.gb_cluster.specs.ClusterValue.{ClusterValue, node_plan, node_at}
 use Rattle.gb_cluster.specs.Run.{Did, ComesTo, past_at}
 use Rattle.gb_types.specs.declared.plan.Plan.{Plan}
 use Rattle.gb_isolation.specs.Isolation.{seen_in, alone_in}
-use Rattle.gb_isolation.specs.Project.{project, group_items, is_noticed_after, is_own_request, made_with, is_fed}
+use Rattle.gb_isolation.specs.Project.{project, group_items, is_noticed_at, is_own_request, made_with, is_fed}
 
 -- What was accepted.
 
@@ -88,7 +90,7 @@ is_dropped g (h ∷ past) = is_dropped_by g h.event h.answer || is_dropped g pas
 
 -- a node is noticed at the node a in the run
 abbrev pub is_noticed_in : Plan → List Did → NodeId → ℕ → Bool
-is_noticed_in plan run a = is_noticed_after (node_plan plan a) (past_at a run)
+is_noticed_in plan run a = is_noticed_at plan a (past_at a run)
 
 -- the duties of the node b in the run, for each of these messages: what is noticed and put out is read there, what another node has had in the projection
 abbrev pub KeepsRunDuties : Plan → List Did → ClusterValue → Addr → NodeId → Spec → (MsgId → Bool) → Type 0
@@ -140,6 +142,21 @@ RunAgreement plan run v g = (runs : ℕ → Bool) (spec : Spec) → IsSettledIn 
 
 abbrev pub SettledGroupsAgree : Type 0
 SettledGroupsAgree = OfGroupsInRuns RunAgreement
+
+-- Logs.
+
+-- what the group alone answers to a request to fetch its log at a running node
+abbrev pub fetched_alone : Plan → List Did → Addr → NodeId → ℕ → ℕ → Reply
+fetched_alone plan run g a from most = running_reply (bounds_of plan) g.group a.number (AskFetch from most) (alone_in plan g run a.number)
+
+-- The run may go on by a request to fetch the group's log, at any running node, with the token that it needs: the answer is that of the group alone, and the cluster stays as it is.
+abbrev pub MayBeFetched : Plan → List Did → ClusterValue → Addr → Type 0
+MayBeFetched plan run v g =
+    (a : NodeId) (token : List ℕ) (from most : ℕ) → a.number < plan.nodes → is_stopped (past_at a run) ≡ false → is_own_request a g (past_at a run) (Fetch token g from most) ≡ true
+    → ComesTo plan (record { node = a; event = Asked (Fetch token g from most); answer = Replied (fetched_alone plan run g a from most) } ∷ run) v
+
+abbrev pub LogsMayBeFetched : Type 0
+LogsMayBeFetched = OfGroupsInRuns MayBeFetched
 
 -- Two runs.
 

@@ -1,6 +1,6 @@
 //! What holds of each group in every run of a cluster.
 ghost use Rattle.gb_isolation.specs.Isolation.{AmpleRunsFeedAll, GroupsAreIsolated};
-ghost use Rattle.gb_isolation.specs.RunLaws.{GroupsDoTheirDuties, GroupsKeepIntegrity, GroupsKeepOrder, RefusalsChangeNothing, RunsAgree, SettledGroupsAgree, TicksAnswerNewNotices};
+ghost use Rattle.gb_isolation.specs.RunLaws.{GroupsDoTheirDuties, GroupsKeepIntegrity, GroupsKeepOrder, LogsMayBeFetched, RefusalsChangeNothing, RunsAgree, SettledGroupsAgree, TicksAnswerNewNotices};
 
 use gb_alone::laws::{integrity, order};
 use gb_cluster::laws::{links_hold, nothing_is_outside};
@@ -25,6 +25,18 @@ pub fn groups_are_isolated()
 pub fn ample_runs_feed_all()
     ensures { AmpleRunsFeedAll }
 {}
+
+/// Logs in every run: it may go on by a request to fetch a group's log, at any node that has not stopped, with the token that
+/// it needs. The answer is what the group alone answers, and no node changes. So what a log is at a moment is what a fetch
+/// shows then. The function does nothing when it runs; its contract is the law.
+pub fn logs_may_be_fetched()
+    ensures { LogsMayBeFetched }
+{
+    pasts_say();
+    answers_say();
+    links_hold();
+    nothing_is_outside();
+}
 
 /// Two runs: in clusters of one size whose nodes send the same versions of the packet text, where the same happened to a
 /// group in both, its replies, its logs and the items that it put out are the same, whatever else happened in either and however its items were packed among others. The function

@@ -24,7 +24,7 @@ use Rattle.gb_table.specs.Requests.{table_did}
 use Rattle.gb_node.specs.NodeValue.{NodeValue}
 use Rattle.gb_node.specs.NodeStep.{window_to, receiver_from, node_did, stopped_answer, IsStarved}
 use Rattle.gb_node.specs.Past.{Happened, came, packed_for, numbered, is_ack, is_taken_by, ticks, added, stops}
-use Rattle.gb_node.specs.PastGroups.{Told, noticed_in, asked_told, told_after}
+use Rattle.gb_node.specs.PastGroups.{Told, noticed_after, asked_told, told_after}
 use Rattle.gb_node.specs.SendLaw.{StarvedSays}
 use Rattle.gb_node.specs.declared.plan.NodePlan.{NodePlan}
 use Rattle.gb_node.specs.declared.answer.NodeAnswer.{NodeAnswer}
@@ -281,7 +281,7 @@ LeavesGroup plan g past e a = ((o : Option (Option SlotState)) → o ≡ group_a
 
 -- so by a stopped node
 pub stopped_group : (plan : NodePlan) (g : Addr) (past : List Happened) (e : NodeEvent) → LeavesGroup plan g past e (stopped_answer e)
-stopped_group plan g past (Asked r) = (λ o. sym (asked_refused g plan.me (noticed_in plan past) r Stopped o), λ t. sym (asked_untold g plan.me (noticed_in plan past) r Stopped t))
+stopped_group plan g past (Asked r) = (λ o. sym (asked_refused g plan.me (noticed_after plan past) r Stopped o), λ t. sym (asked_untold g plan.me (noticed_after plan past) r Stopped t))
 stopped_group plan g past (Came bytes) = (λ o. refl, λ t. refl)
 stopped_group plan g past (Pack x) = (λ o. refl, λ t. refl)
 stopped_group plan g past (Again x n) = (λ o. refl, λ t. refl)
@@ -306,4 +306,4 @@ starved_group plan g past e should answer starved = by (starved_says e should an
     by (inl is) = subst (LeavesGroup plan g past e) (sym is) (unsent_group plan g past e)
     by (inr is) =
         subst (λ x. LeavesGroup plan g past x answer) (sym is.1) (subst (LeavesGroup plan g past (Asked is.0)) (sym is.2)
-        (λ o. sym (asked_refused g plan.me (noticed_in plan past) is.0 OutOfMemory o), λ t. sym (asked_untold g plan.me (noticed_in plan past) is.0 OutOfMemory t)))
+        (λ o. sym (asked_refused g plan.me (noticed_after plan past) is.0 OutOfMemory o), λ t. sym (asked_untold g plan.me (noticed_after plan past) is.0 OutOfMemory t)))

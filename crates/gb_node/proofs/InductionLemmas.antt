@@ -30,7 +30,7 @@ use Rattle.gb_detect.specs.Laws.{NoticedByCalls}
 use Rattle.gb_node.specs.NodeValue.{NodeValue, new_node, IsNodePlan}
 use Rattle.gb_node.specs.NodeStep.{fate, Turn, turn, running_turn, stopped_answer, IsTurn, IsSpelt, is_here, if_here, taken_answer, node_read, next_batch, sent, sent_batch, content_to, window_to, receiver_from, node_numbered, newly_done, heard, took_ack, without_done, receives, again_content, ack_content}
 use Rattle.gb_node.specs.Past.{Happened, ComesTo, read, packet_in, frames_to, numbered, is_acked, is_taken, watched, tenants_in, is_stopped}
-use Rattle.gb_node.specs.PastGroups.{noticed_in, taken_told, packed_told, told_after, told_of}
+use Rattle.gb_node.specs.PastGroups.{noticed_after, taken_told, packed_told, told_after, told_of}
 use Rattle.gb_node.specs.PastLaw.{IsOfPast, PastsSay}
 use Rattle.gb_node.proofs.SlotGroups.{taken_for, packed_from, group_after, group_of, IsTold, StandsForPast}
 use Rattle.gb_node.specs.declared.plan.NodePlan.{NodePlan}
@@ -66,7 +66,7 @@ module _ (law : WhatIsWrittenIsRead) (each : EachGroup) (stay : StayApart) (slot
   left g e a leaves = subst (λ o. IsTold plan.me o (told_after plan g past e a (told_of plan g past))) (leaves.0 (group_of plan g past)) (subst (IsTold plan.me (group_of plan g past)) (leaves.1 (told_of plan g past)) (was.told g))
 
   -- only nodes of the cluster are noticed
-  none_far : (b : ℕ) → NODES ≤ b → set.contains (noticed_in plan past) b ≡ false
+  none_far : (b : ℕ) → NODES ≤ b → set.contains (noticed_after plan past) b ≡ false
   none_far b far =
       let off : nat_lt b plan.nodes ≡ false = let most = few_nodes plan right in grind (arith, nat_tests, far, most) in
       few plan.me.number plan.nodes plan.silence (few_nodes plan right) right.least (watched plan.cluster_key past) b ∙ ap (λ t. (t && not (nat_eq b plan.me.number)) && is_noticed plan.silence b (watched plan.cluster_key past)) off
@@ -126,7 +126,7 @@ module _ (law : WhatIsWrittenIsRead) (each : EachGroup) (stay : StayApart) (slot
     tables = record { windows = has.windows; receivers = has.receivers };
     groups = λ g. asked_groups each plan past v was g r (table_reply r v.table);
     apart = did_apart stay v.watch.noticed r (table_reply r v.table) v.table refl ok;
-    told = λ g. asked_stands slots plan.me (noticed_in plan past) none_far v.table g (group_of plan g past) (sym (was.groups g)) (told_of plan g past) (was.told g) r (table_reply r v.table) refl;
+    told = λ g. asked_stands slots plan.me (noticed_after plan past) none_far v.table g (group_of plan g past) (sym (was.groups g)) (told_of plan g past) (was.told g) r (table_reply r v.table) refl;
   }
   running_goes (Came bytes) spelt = came_goes bytes (reading v.key bytes) refl
   running_goes (Pack b) spelt = pack_goes b (next_batch v b) refl spelt

@@ -17,7 +17,7 @@ use Rattle.gb_slot.specs.Slot.{shown, unfinished_of}
 use Rattle.gb_slot.specs.Slot as slot
 use Rattle.gb_slot.specs.SlotState.{SlotState}
 use Rattle.gb_groups.specs.OneGroup.{waiting_in}
-use Rattle.gb_node.specs.PastGroups.{Told, is_finished, unfinished_in, shown_of, shown_in, waiting_of}
+use Rattle.gb_node.specs.PastGroups.{Told, is_finished_told, unfinished_in, shown_of, shown_in, waiting_of}
 use Rattle.gb_node.proofs.SlotGroups.{SlotTold, IsTold}
 
 -- Which messages are finished.
@@ -31,7 +31,7 @@ all_alike p q (k ∷ ks) same =
     λ i. here i && rest i
 
 -- a message is finished for the slot where it is so by the past
-finished_is : (me : NodeId) (s : SlotState) (t : Told) (k : ℕ) → SlotTold me s t → k < length s.acknowledged → is_finished me.number t (k + 1) ≡ slot.is_finished s.spec s.noticed (get_or s.acknowledged k set.empty)
+finished_is : (me : NodeId) (s : SlotState) (t : Told) (k : ℕ) → SlotTold me s t → k < length s.acknowledged → is_finished_told me.number t (k + 1) ≡ slot.is_finished s.spec s.noticed (get_or s.acknowledged k set.empty)
 finished_is me s t k h low =
     all_alike (λ b. nat_eq b me.number || (has_noticed t.calls b || t.acknowledged (k + 1) b)) (λ b. set.contains s.noticed b || set.contains (get_or s.acknowledged k set.empty) b) (set.items t.spec.members)
     (λ b there. by b (set.contains-items t.spec.members b ∙ there) (nat_eq b me.number) refl ∙ ap (λ c. set.contains s.noticed b || c) (sym (h.acks.each k b low)))
@@ -62,8 +62,8 @@ counts finished spec noticed first (by ∷ acks) same =
 
 unfinished_is : (me : NodeId) (s : SlotState) (t : Told) → SlotTold me s t → unfinished_of s.spec s.noticed s.acknowledged ≡ unfinished_in me.number t
 unfinished_is me s t h =
-    counts (is_finished me.number t) s.spec s.noticed 1 s.acknowledged (λ k low. ap (is_finished me.number t) (swap k) ∙ finished_is me s t k h low)
-    ∙ ap (λ n. length (filter (λ seq. not (is_finished me.number t seq)) (range_with_len 1 n))) (h.stands.acknowledged ∙ h.stands.said)
+    counts (is_finished_told me.number t) s.spec s.noticed 1 s.acknowledged (λ k low. ap (is_finished_told me.number t) (swap k) ∙ finished_is me s t k h low)
+    ∙ ap (λ n. length (filter (λ seq. not (is_finished_told me.number t seq)) (range_with_len 1 n))) (h.stands.acknowledged ∙ h.stands.said)
   where
     swap : (k : ℕ) → 1 + k ≡ k + 1
     swap k = omega arith

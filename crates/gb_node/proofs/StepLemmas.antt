@@ -37,7 +37,7 @@ use Rattle.gb_table.specs.Requests.{is_admitted, admitted_reply, table_reply}
 use Rattle.gb_node.specs.NodeValue.{NodeValue, IsNodePlan}
 use Rattle.gb_node.specs.NodeStep.{turn, running_turn, window_to, receiver_from, content_to, next_batch, pack_content, is_here, if_here, taken_answer, good_of, fate, kind_of, IsTurn, IsSpelt, IsStarved}
 use Rattle.gb_node.specs.Past.{Happened, ComesTo, read, packet_in, is_first, watched, tenants_in}
-use Rattle.gb_node.specs.PastGroups.{Told, noticed_in, shown_in, told_of}
+use Rattle.gb_node.specs.PastGroups.{Told, noticed_after, shown_in, told_of}
 use Rattle.gb_node.specs.PastLaw.{IsOfPast}
 use Rattle.gb_node.specs.StepLaw.{is_admitted_by, group_answer, admitted_answer, past_answer, IsAsked, IsPacked, IsTakenIn, IsTicked, IsAnswered, AnswersSay}
 use Rattle.gb_node.specs.declared.plan.NodePlan.{NodePlan}
@@ -200,7 +200,7 @@ module _ (plan : NodePlan) (right : IsNodePlan plan) (past : List Happened) (v :
 -- Ticks.
 
 -- only other nodes of the cluster are noticed
-noticed_inside : NoticedByCalls → (plan : NodePlan) → IsNodePlan plan → (past : List Happened) (b : ℕ) → set.contains (noticed_in plan past) b ≡ true → (b < plan.nodes) × (b ≢ plan.me.number)
+noticed_inside : NoticedByCalls → (plan : NodePlan) → IsNodePlan plan → (past : List Happened) (b : ℕ) → set.contains (noticed_after plan past) b ≡ true → (b < plan.nodes) × (b ≢ plan.me.number)
 noticed_inside few plan right past b there =
     other_number b plan.nodes plan.me.number (by (nat_lt b plan.nodes && not (nat_eq b plan.me.number)) (sym (few plan.me.number plan.nodes plan.silence (few_nodes plan right) right.least (watched plan.cluster_key past) b) ∙ there))
   where
@@ -227,13 +227,13 @@ module _ (few : NoticedByCalls) (plan : NodePlan) (right : IsNodePlan plan) (pas
     found_is : found ≡ due (replay (start plan.me.number plan.nodes plan.silence) (watched plan.cluster_key past))
     found_is = same ∙ ap due was.beside.watch
 
-    later : (b : ℕ) → set.contains (noticed_in plan (record { event = Tick; answer = Ticked (Noticed found) } ∷ past)) b ≡ (set.contains found b || set.contains (noticed_in plan past) b)
+    later : (b : ℕ) → set.contains (noticed_after plan (record { event = Tick; answer = Ticked (Noticed found) } ∷ past)) b ≡ (set.contains found b || set.contains (noticed_after plan past) b)
     unfolding watched
     later b =
-        contains-either (noticed_in plan past) (due (replay (start plan.me.number plan.nodes plan.silence) (watched plan.cluster_key past))) b
-        ∙ (ap (λ s. set.contains (noticed_in plan past) b || set.contains s b) (sym found_is) ∙ either_way (set.contains (noticed_in plan past) b) (set.contains found b))
+        contains-either (noticed_after plan past) (due (replay (start plan.me.number plan.nodes plan.silence) (watched plan.cluster_key past))) b
+        ∙ (ap (λ s. set.contains (noticed_after plan past) b || set.contains s b) (sym found_is) ∙ either_way (set.contains (noticed_after plan past) b) (set.contains found b))
 
-    fresh : (b : ℕ) → set.contains found b ≡ true → set.contains (noticed_in plan past) b ≡ false
+    fresh : (b : ℕ) → set.contains found b ≡ true → set.contains (noticed_after plan past) b ≡ false
     fresh b there =
         let d = replay (start plan.me.number plan.nodes plan.silence) (watched plan.cluster_key past) in
         let is = sym (contains-nodes_where d.nodes (is_due d) b) ∙ (ap (λ s. set.contains s b) (sym found_is) ∙ there) in
@@ -242,7 +242,7 @@ module _ (few : NoticedByCalls) (plan : NodePlan) (right : IsNodePlan plan) (pas
     found_says : v.stopped ≡ false → IsTicked plan past found
     found_says running = record {
       running = sym was.beside.stopped ∙ running;
-      inside = λ b there. noticed_inside few plan right (record { event = Tick; answer = Ticked (Noticed found) } ∷ past) b (later b ∙ ap (λ p. p || set.contains (noticed_in plan past) b) there);
+      inside = λ b there. noticed_inside few plan right (record { event = Tick; answer = Ticked (Noticed found) } ∷ past) b (later b ∙ ap (λ p. p || set.contains (noticed_after plan past) b) there);
       fresh = fresh;
       later = later;
     }
@@ -298,5 +298,6 @@ answers_say law each stay slots few = record {
   each = λ plan past event answer v comes.
       let before = stands law each stay slots few plan past comes.0 comes.1 in
       answered law each few plan (started plan past comes.0 comes.1) past comes.0 (of_past slots plan past comes.0 before.says) before.apart v event answer comes.2 comes.3;
+  due = λ plan past v request comes. let now = stands law each stay slots few plan past v comes in should_reply plan past v (of_past slots plan past v now.says) request;
   noticed = λ plan past v b comes there. noticed_inside few plan (started plan past v comes) past b there;
 }

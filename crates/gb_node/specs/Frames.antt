@@ -43,6 +43,6 @@ pub record KeepsVersion (t : TableValue) (windows : List (SendWindow (List Item)
   pub frames : (b : ℕ) → AreFitting t.version (slice_index_or windows b new_window).undone
 
 -- the items of a frame that may be there
-abbrev pub items_in : Option (ℕ × List Item) → List Item
-items_in None = []
-items_in (Some u) = u.1
+abbrev pub items_of_frame : Option (ℕ × List Item) → List Item
+items_of_frame None = []
+items_of_frame (Some u) = u.1

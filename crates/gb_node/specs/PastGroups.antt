@@ -43,8 +43,8 @@ use Rattle.gb_node.specs.declared.event.NodeEvent.TheVariants.{Request as Asked,
 use Rattle.gb_node.specs.Past.{Happened, read, frames_to, numbered, is_acked, is_first, watched}
 
 -- the nodes that are noticed
-abbrev pub noticed_in : NodePlan → List Happened → set.FinSet nat_cmp
-noticed_in plan past = (replay (start plan.me.number plan.nodes plan.silence) (watched plan.cluster_key past)).noticed
+abbrev pub noticed_after : NodePlan → List Happened → set.FinSet nat_cmp
+noticed_after plan past = (replay (start plan.me.number plan.nodes plan.silence) (watched plan.cluster_key past)).noticed
 
 -- the frames for a packet's sender that its acknowledgement covers first, and their items in order
 abbrev pub freed_by : List ℕ → List Happened → Content → List (ℕ × List Item)
@@ -73,12 +73,12 @@ waiting_of (Some (Some t)) b = t.waiting b
 -- What the rules read of it.
 
 -- each other member is noticed, or acknowledged the message that was said here with this number
-abbrev pub is_finished : ℕ → Told → ℕ → Bool
-is_finished me t seq = list_all (λ b. nat_eq b me || (has_noticed t.calls b || t.acknowledged seq b)) (set.items t.spec.members)
+abbrev pub is_finished_told : ℕ → Told → ℕ → Bool
+is_finished_told me t seq = list_all (λ b. nat_eq b me || (has_noticed t.calls b || t.acknowledged seq b)) (set.items t.spec.members)
 
 -- how many of the messages said here are not
 abbrev pub unfinished_in : ℕ → Told → ℕ
-unfinished_in me t = length (filter (λ seq. not (is_finished me t seq)) (range_with_len 1 (said_in t.calls)))
+unfinished_in me t = length (filter (λ seq. not (is_finished_told me t seq)) (range_with_len 1 (said_in t.calls)))
 
 abbrev pub used_by : ℕ → Told → Usage
 used_by me t = record { said = said_in t.calls; bytes = bytes_in t.calls me; unfinished = unfinished_in me t }
@@ -177,7 +177,7 @@ noticed_told me o b = stepped (if_other me (node_numbered b)) o
 
 -- what an event with its answer makes of a group
 abbrev pub told_after : NodePlan → Addr → List Happened → NodeEvent → NodeAnswer → Option (Option Told) → Option (Option Told)
-told_after plan g past (Asked request) (Replied reply) o = asked_told g plan.me (noticed_in plan past) request reply o
+told_after plan g past (Asked request) (Replied reply) o = asked_told g plan.me (noticed_after plan past) request reply o
 told_after plan g past (Came bytes) (Taken (TakenGood good)) o = fold (taken_told plan.version plan.me plan.cluster_key g past good.frame) o (read plan.cluster_key bytes)
 told_after plan g past (Pack b) (Sent (SentPacket text)) o = fold (packed_told g b) o (read plan.cluster_key text)
 told_after plan g past Tick (Ticked (Noticed found)) o = fold (noticed_told plan.me) o (rising found)

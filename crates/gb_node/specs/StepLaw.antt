@@ -13,11 +13,12 @@ use Rattle.gb_frame.specs.Packet.{Content}
 use Rattle.gb_rules.specs.Group.{Shown, open_answer, shut_answer, drop_answer, say_answer, fetch_answer}
 use Rattle.gb_rules.specs.Tenant.{reserve_of, row_of, reserved, tenant_answer, make_answer, by_tenant}
 use Rattle.gb_frame.specs.Items.{items_for, item_for}
-use Rattle.gb_table.specs.Admission.{has_group_token, has_token}
+use Rattle.gb_table.specs.Admission.{has_token}
+pub use Rattle.gb_table.specs.Admission.{has_group_token}
 use Rattle.gb_node.specs.NodeValue.{NodeValue}
-use Rattle.gb_node.specs.NodeStep.{RequestTakesMemory}
+use Rattle.gb_node.specs.NodeStep.{turn, RequestTakesMemory}
 use Rattle.gb_node.specs.Past.{Happened, ComesTo, read, is_first, is_taken, tenants_in, is_stopped}
-use Rattle.gb_node.specs.PastGroups.{noticed_in, shown_in, waiting_of, told_of}
+use Rattle.gb_node.specs.PastGroups.{noticed_after, shown_in, waiting_of, told_of}
 use Rattle.gb_node.specs.declared.answer.Good.{Good}
 use Rattle.gb_node.specs.declared.answer.NodeAnswer.{NodeAnswer}
 use Rattle.gb_node.specs.declared.answer.NodeAnswer.TheVariants.{Reply as Replied, Taken, Sent, Ticked}
@@ -33,10 +34,6 @@ use Rattle.gb_node.specs.declared.plan.NodePlan.{NodePlan}
 -- the request has the token that it needs after this past
 abbrev pub is_admitted_by : NodePlan → List Happened → Request → Bool
 is_admitted_by plan past request = has_token plan.admin_key plan.me (tenants_in past) request
-
--- a request that names a group has the group's token at the node a after this past
-abbrev pub has_group_token_by : NodeId → List Happened → Request → Bool
-has_group_token_by a past request = has_group_token a (tenants_in past) request
 
 -- the reply to a command on a group that may have been made, and dropped since
 abbrev pub group_answer : (Shown → Reply) → Option (Option Shown) → Reply
@@ -89,8 +86,8 @@ pub record IsTakenIn (plan : NodePlan) (past : List Happened) (bytes : List ℕ)
 pub record IsTicked (plan : NodePlan) (past : List Happened) (found : set.FinSet nat_cmp) : Type 0 where
   pub running : is_stopped past ≡ false
   pub inside : (b : ℕ) → set.contains found b ≡ true → (b < plan.nodes) × (b ≢ plan.me.number)
-  pub fresh : (b : ℕ) → set.contains found b ≡ true → set.contains (noticed_in plan past) b ≡ false
-  pub later : (b : ℕ) → set.contains (noticed_in plan (record { event = Tick; answer = Ticked (Noticed found) } ∷ past)) b ≡ (set.contains found b || set.contains (noticed_in plan past) b)
+  pub fresh : (b : ℕ) → set.contains found b ≡ true → set.contains (noticed_after plan past) b ≡ false
+  pub later : (b : ℕ) → set.contains (noticed_after plan (record { event = Tick; answer = Ticked (Noticed found) } ∷ past)) b ≡ (set.contains found b || set.contains (noticed_after plan past) b)
 
 abbrev pub IsAnswered : NodePlan → List Happened → NodeEvent → NodeAnswer → Type 0
 IsAnswered plan past (Asked request) (Replied reply) = IsAsked plan past request reply
@@ -102,4 +99,6 @@ IsAnswered plan past event answer = Unit {0}
 -- every answer of every node is what its past says, and only other nodes of the cluster are noticed
 pub record AnswersSay : Type 0 where
   pub each : (plan : NodePlan) (past : List Happened) (event : NodeEvent) (answer : NodeAnswer) (v : NodeValue) → ComesTo plan (record { event = event; answer = answer } ∷ past) v → IsAnswered plan past event answer
-  pub noticed : (plan : NodePlan) (past : List Happened) (v : NodeValue) (b : ℕ) → ComesTo plan past v → set.contains (noticed_in plan past) b ≡ true → (b < plan.nodes) × (b ≢ plan.me.number)
+  -- where it has the memory that it takes, a node answers a request as its past says
+  pub due : (plan : NodePlan) (past : List Happened) (v : NodeValue) (request : Request) → ComesTo plan past v → (turn v (Asked request)).answer ≡ Replied (past_answer plan past request)
+  pub noticed : (plan : NodePlan) (past : List Happened) (v : NodeValue) (b : ℕ) → ComesTo plan past v → set.contains (noticed_after plan past) b ≡ true → (b < plan.nodes) × (b ≢ plan.me.number)

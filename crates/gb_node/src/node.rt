@@ -13,7 +13,7 @@ ghost use Rattle.gb_link.specs.SendWindow.{new_window, has_room, frame_again};
 ghost use Rattle.gb_groups.specs.GroupsValue.{batch};
 ghost use Rattle.gb_groups.specs.Packing.{size};
 ghost use Rattle.gb_table.specs.Requests.{is_admitted};
-ghost use Rattle.gb_node.specs.Frames.{items_in, IsHead};
+ghost use Rattle.gb_node.specs.Frames.{items_of_frame, IsHead};
 ghost use Rattle.gb_node.specs.NodeValue.{new_node};
 ghost use Rattle.gb_node.specs.Reads.{is_read, packet_room, IsWithin};
 ghost use Rattle.gb_node.specs.NodeStep.{window_to, is_another, is_reached, content_to, batch_to, sent_batch, read_at, good_of, node_took, IsTurn, IsSpelt, IsForReason};
@@ -275,11 +275,11 @@ impl Node {
         requires another { is_another self.now to ≡ true }
         requires number { 0 < number }
         requires frame { IsSome (frame_again (window_to self.now to.number) number) }
-        requires count { length (items_in (frame_again (window_to self.now to.number) number)) ≡ count }
+        requires count { length (items_of_frame (frame_again (window_to self.now to.number) number)) ≡ count }
         requires empty { packet.items ≡ [] }
-        requires room { SHORTEST + length (items_text (items_in (frame_again (window_to self.now to.number) number))) ≤ vec_capacity packet }
-        ensures text { result ≡ packet_text self.now.key (content_to self.now to number (items_in (frame_again (window_to self.now to.number) number))) }
-        ensures packet { IsPacket (content_to self.now to number (items_in (frame_again (window_to self.now to.number) number))) }
+        requires room { SHORTEST + length (items_text (items_of_frame (frame_again (window_to self.now to.number) number))) ≤ vec_capacity packet }
+        ensures text { result ≡ packet_text self.now.key (content_to self.now to number (items_of_frame (frame_again (window_to self.now to.number) number))) }
+        ensures packet { IsPacket (content_to self.now to number (items_of_frame (frame_again (window_to self.now to.number) number))) }
     {
         let Some((_, texts)) = self.undone(to, number) else {
             unreachable!()

@@ -1,5 +1,5 @@
 -- What requests give a group.
-use Rattle.std.proofs.Common.{◌≡◌, true, false, Bool, List, [], ◌∷◌, ◌++◌, refl, sym, ap, ◌∙◌, append_assoc}
+use Rattle.std.proofs.Common.{◌≡◌, ℕ, true, false, Bool, List, [], ◌∷◌, ◌++◌, refl, sym, ap, ◌∙◌, append_assoc}
 use Rattle.std.specs.Prelude.{Option, Some, None, if◌then◌else◌}
 use Rattle.std.proofs.lemmas.List.{append-nil}
 use Rattle.gb_types.specs.declared.address.Addr.{Addr}
@@ -11,43 +11,40 @@ use Rattle.gb_types.specs.declared.request.Request.TheVariants.{AddTenant, Make,
 use Rattle.gb_types.specs.declared.spec.Spec.{Spec}
 use Rattle.gb_alone.specs.declared.event.GroupEvent.TheVariants.{Make as AskMake, Stop}
 use Rattle.gb_alone.specs.declared.event.GroupStep.{GroupStep}
-use Rattle.gb_node.specs.Past.{Happened}
-use Rattle.gb_isolation.specs.Project.{is_noticed_after}
 use Rattle.gb_node.specs.declared.answer.NodeAnswer.TheVariants.{Reply as Replied}
 use Rattle.gb_node.specs.declared.event.NodeEvent.TheVariants.{Request as Asked}
-use Rattle.gb_node.specs.declared.plan.NodePlan.{NodePlan}
 use Rattle.gb_isolation.specs.Project.{is_named, command_for, made_by, notices, ticked, own_requested, with_stop}
 
 -- a request of the group gives its command, and the notices that a group which it makes has at once
-own_is : (plan : NodePlan) (g : Addr) (past : List Happened) (request : Request) (reply : Reply) → is_named g request ≡ true
-    → own_requested plan g past request reply ≡ command_for g plan.me request ++ ticked plan.me (is_noticed_after plan past) (made_by g (Asked request) (Replied reply))
-own_is plan g past (AddTenant token row) reply named = refl
-own_is plan g past (Make token addr spec) Done named =
-    ap (λ t. record { node = plan.me; event = AskMake spec } ∷ ticked plan.me (is_noticed_after plan past) (if t then Some spec else None)) (sym named)
-own_is plan g past (Make token addr spec) (Said seq) named = refl
-own_is plan g past (Make token addr spec) (Log entries) named = refl
-own_is plan g past (Make token addr spec) (Refused why) named = refl
-own_is plan g past (OpenGroup token addr) reply named = refl
-own_is plan g past (ShutGroup token addr) reply named = refl
-own_is plan g past (DropGroup token addr) reply named = refl
-own_is plan g past (Say token addr message) reply named = refl
-own_is plan g past (Fetch token addr from most) reply named = refl
+own_is : (a : NodeId) (g : Addr) (noticed : ℕ → Bool) (request : Request) (reply : Reply) → is_named g request ≡ true
+    → own_requested a g noticed request reply ≡ command_for g a request ++ ticked a noticed (made_by g (Asked request) (Replied reply))
+own_is a g noticed (AddTenant token row) reply named = refl
+own_is a g noticed (Make token addr spec) Done named =
+    ap (λ t. record { node = a; event = AskMake spec } ∷ ticked a noticed (if t then Some spec else None)) (sym named)
+own_is a g noticed (Make token addr spec) (Said seq) named = refl
+own_is a g noticed (Make token addr spec) (Log entries) named = refl
+own_is a g noticed (Make token addr spec) (Refused why) named = refl
+own_is a g noticed (OpenGroup token addr) reply named = refl
+own_is a g noticed (ShutGroup token addr) reply named = refl
+own_is a g noticed (DropGroup token addr) reply named = refl
+own_is a g noticed (Say token addr message) reply named = refl
+own_is a g noticed (Fetch token addr from most) reply named = refl
 
 -- it makes none
-pub own_alone : (plan : NodePlan) (g : Addr) (past : List Happened) (request : Request) (reply : Reply) (steps later given : List GroupStep) → is_named g request ≡ true → None ≡ made_by g (Asked request) (Replied reply)
-    → given ≡ command_for g plan.me request → later ≡ steps ++ given → later ≡ steps ++ own_requested plan g past request reply
-own_alone plan g past request reply steps later given named none is adds =
+pub own_alone : (a : NodeId) (g : Addr) (noticed : ℕ → Bool) (request : Request) (reply : Reply) (steps later given : List GroupStep) → is_named g request ≡ true → None ≡ made_by g (Asked request) (Replied reply)
+    → given ≡ command_for g a request → later ≡ steps ++ given → later ≡ steps ++ own_requested a g noticed request reply
+own_alone a g noticed request reply steps later given named none is adds =
     adds
-    ∙ ap (λ xs. steps ++ xs) (is ∙ (sym (append-nil (command_for g plan.me request))
-    ∙ (ap (λ (o : Option Spec). command_for g plan.me request ++ ticked plan.me (is_noticed_after plan past) o) none ∙ sym (own_is plan g past request reply named))))
+    ∙ ap (λ xs. steps ++ xs) (is ∙ (sym (append-nil (command_for g a request))
+    ∙ (ap (λ (o : Option Spec). command_for g a request ++ ticked a noticed o) none ∙ sym (own_is a g noticed request reply named))))
 
 -- it makes one
-pub own_made : (plan : NodePlan) (g : Addr) (past : List Happened) (request : Request) (reply : Reply) (spec : Spec) (steps later given : List GroupStep) → is_named g request ≡ true → Some spec ≡ made_by g (Asked request) (Replied reply)
-    → given ≡ command_for g plan.me request → later ≡ steps ++ given → later ++ notices plan.me spec (is_noticed_after plan past) ≡ steps ++ own_requested plan g past request reply
-own_made plan g past request reply spec steps later given named one is adds =
-    ap (λ xs. xs ++ notices plan.me spec (is_noticed_after plan past)) (adds ∙ ap (λ xs. steps ++ xs) is)
-    ∙ (append_assoc steps (command_for g plan.me request) (notices plan.me spec (is_noticed_after plan past))
-    ∙ ap (λ xs. steps ++ xs) (ap (λ (o : Option Spec). command_for g plan.me request ++ ticked plan.me (is_noticed_after plan past) o) one ∙ sym (own_is plan g past request reply named)))
+pub own_made : (a : NodeId) (g : Addr) (noticed : ℕ → Bool) (request : Request) (reply : Reply) (spec : Spec) (steps later given : List GroupStep) → is_named g request ≡ true → Some spec ≡ made_by g (Asked request) (Replied reply)
+    → given ≡ command_for g a request → later ≡ steps ++ given → later ++ notices a spec noticed ≡ steps ++ own_requested a g noticed request reply
+own_made a g noticed request reply spec steps later given named one is adds =
+    ap (λ xs. xs ++ notices a spec noticed) (adds ∙ ap (λ xs. steps ++ xs) is)
+    ∙ (append_assoc steps (command_for g a request) (notices a spec noticed)
+    ∙ ap (λ xs. steps ++ xs) (ap (λ (o : Option Spec). command_for g a request ++ ticked a noticed o) one ∙ sym (own_is a g noticed request reply named)))
 
 -- the stop stands before the command, unless one met it before
 pub stop_shown : (a : NodeId) (met : Bool) (step : GroupStep) (steps stopped later commands : List GroupStep) → commands ≡ step ∷ [] → stopped ≡ steps ++ (if met then [] else record { node = a; event = Stop } ∷ [])

@@ -14,7 +14,7 @@ use Rattle.gb_node.specs.Past.{Happened, read, packed_for, frames_to}
 use Rattle.gb_cluster.specs.Run.{past_at}
 use Rattle.gb_types.specs.declared.plan.Plan.{Plan}
 use Rattle.gb_isolation.proofs.MarkLemmas.{group_items_of-none, group_items_of-one}
-use Rattle.gb_isolation.specs.Project.{group_items, group_items_of, offset, frames_in, took, comes, acknowledged, all_acknowledged, is_new_ack, acknowledges}
+use Rattle.gb_isolation.specs.Project.{group_items, group_items_of, offset, took, comes, acknowledged, all_acknowledged, is_new_ack, acknowledges}
 use Rattle.gb_trace.specs.Counts.{counts_acknowledged}
 use Rattle.gb_trace.specs.Deeds.{past_in}
 
@@ -43,10 +43,10 @@ come_on from to place next k step steps pushed some is told adds =
     ∙ (ap (λ n. record { node = to; event = Came from n } ∷ comes from to n (k - 1)) is ∙ sym (comes_some from to place k some))))
 
 -- the items of a text that is no packet, and of one that is
-pub text_none : (g : Addr) (key text : List ℕ) → read key text ≡ [] → length (group_items_of g (frames_in key text)) ≡ 0
+pub text_none : (g : Addr) (key text : List ℕ) → read key text ≡ [] → length (group_items_of g (map (λ (c : Content). c.items) (read key text))) ≡ 0
 text_none g key text is = ap (λ (cs : List Content). length (group_items_of g (map (λ (c : Content). c.items) cs))) is ∙ ap length (group_items_of-none g)
 
-pub text_one : (g : Addr) (key text : List ℕ) (c : Content) → read key text ≡ c ∷ [] → length (group_items_of g (frames_in key text)) ≡ length (group_items g c.items)
+pub text_one : (g : Addr) (key text : List ℕ) (c : Content) → read key text ≡ c ∷ [] → length (group_items_of g (map (λ (c : Content). c.items) (read key text))) ≡ length (group_items g c.items)
 text_one g key text c is = ap (λ (cs : List Content). length (group_items_of g (map (λ (x : Content). x.items) cs))) is ∙ ap length (group_items_of-one g c.items)
 
 abbrev pub counted : Addr → List (List Item) → List ℕ

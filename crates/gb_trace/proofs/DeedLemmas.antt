@@ -1,11 +1,19 @@
 -- What happened in a run, from its front.
 use Rattle.std.proofs.Common.{◌≡◌, ℕ, zero, suc, ◌+◌, ◌<◌, List, [], ◌∷◌, ◌++◌, length, take, get_or, ◌∙◌, ap, sym, refl, arith, add-one, append_assoc}
-use Rattle.std.specs.Prelude.{min}
+use Rattle.std.specs.Prelude.{min, Option}
+use Rattle.std.specs.Option.{option_map_or}
 use Rattle.std.proofs.lemmas.List.{append-nil}
+use Rattle.gb_node.specs.declared.answer.NodeAnswer.{NodeAnswer}
+use Rattle.gb_node.specs.declared.event.NodeEvent.TheVariants.{Packet as Came}
+use Rattle.gb_cluster.specs.Run.{Did}
 use Rattle.gb_cluster.specs.declared.answer.Answer.{Answer}
 use Rattle.gb_cluster.specs.declared.event.Event.{Event}
 use Rattle.gb_cluster.specs.declared.posted.Posted.{Posted}
-use Rattle.gb_trace.specs.Trace.{did_in, all_did}
+use Rattle.gb_trace.specs.Trace.{did_with, did_in, all_did}
+
+-- a packet that arrives, where it was sent and the node answered
+abbrev pub did_arrive : Option Posted → Option NodeAnswer → List Did
+did_arrive o answer = option_map_or (λ (p : Posted). did_with p.to (Came p.text) answer) o []
 
 deeds_more : (ps : List Posted) (i : ℕ) (es : List Event) (rs : List Answer) (e : Event) (a : Answer) → i < length es → i < length rs
     → all_did ps (take (suc i) es) (take (suc i) rs) ≡ all_did ps (take i es) (take i rs) ++ did_in ps (get_or es i e) (get_or rs i a)

@@ -8,3 +8,4 @@ pub mod NoticesLemmas
 pub mod AskedLemmas
 pub mod RunLemmas
 pub mod RefusedLemmas
+pub mod LogLemmas

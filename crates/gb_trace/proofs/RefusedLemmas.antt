@@ -23,9 +23,9 @@ use Rattle.gb_cluster.specs.declared.event.Event.TheVariants.{At, Arrive}
 use Rattle.gb_cluster.specs.declared.posted.Posted.{Posted}
 use Rattle.gb_isolation.specs.Project.{is_starved_by, is_fed}
 use Rattle.gb_trace.specs.Refused.{is_untaken_by, is_refused_for, is_lacked_by, rows_by}
-use Rattle.gb_trace.specs.Trace.{did_in, did_with, did_arrive, own_answer, sent_as, run_of, all_did}
+use Rattle.gb_trace.specs.Trace.{did_in, did_with, own_answer, sent_as, run_of, all_did}
 use Rattle.gb_rules.specs.Tenant.{row_of}
-use Rattle.gb_trace.proofs.DeedLemmas.{newest_deed}
+use Rattle.gb_trace.proofs.DeedLemmas.{did_arrive, newest_deed}
 use Rattle.gb_trace.proofs.PastLemmas.{find_later}
 
 pub unrefused_fed : (g : Addr) (run : List Did) → is_refused_for g run ≡ false → is_fed g run ≡ true

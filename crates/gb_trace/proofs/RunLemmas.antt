@@ -29,7 +29,8 @@ use Rattle.gb_types.specs.declared.plan.Plan.{Plan}
 use Rattle.gb_cluster.specs.declared.posted.Posted.{Posted}
 use Rattle.gb_isolation.specs.Isolation.{wants_memory, is_ample}
 use Rattle.gb_trace.specs.Run.{is_refused_by, tells_want}
-use Rattle.gb_trace.specs.Trace.{own_answer, did_with, did_arrive, did_in, all_did, AreSteps, IsRun}
+use Rattle.gb_trace.specs.Trace.{own_answer, did_with, did_in, all_did, AreSteps, IsRun}
+use Rattle.gb_trace.proofs.DeedLemmas.{did_arrive}
 
 -- Packets by their numbers.
 
@@ -155,14 +156,14 @@ one_step law v w (Arrive k) a step = by (packet_numbered v.packets k) refl step
 
 -- Many.
 
-all_did_more : (ps : List Posted) (es : List Event) (rs : List Answer) (e : Event) (a : Answer) → length es ≡ length rs → all_did ps (es ++ e ∷ []) (rs ++ a ∷ []) ≡ all_did ps es rs ++ did_in ps e a
+pub all_did_more : (ps : List Posted) (es : List Event) (rs : List Answer) (e : Event) (a : Answer) → length es ≡ length rs → all_did ps (es ++ e ∷ []) (rs ++ a ∷ []) ≡ all_did ps es rs ++ did_in ps e a
 unfolding all_did
 all_did_more ps [] [] e a same = append-nil (did_in ps e a)
 all_did_more ps [] (x ∷ rs) e a same = absurd (omega (arith, same))
 all_did_more ps (x ∷ es) [] e a same = absurd (omega (arith, same))
 all_did_more ps (x ∷ es) (y ∷ rs) e a same = ap (λ ds. did_in ps x y ++ ds) (all_did_more ps es rs e a (omega (arith, same))) ∙ sym (append_assoc (did_in ps x y) (all_did ps es rs) (did_in ps e a))
 
-steps_more : (v w x : ClusterValue) (es : List Event) (rs : List Answer) (e : Event) (a : Answer) → AreSteps v es rs w → IsStep w e a x → AreSteps v (es ++ e ∷ []) (rs ++ a ∷ []) x
+pub steps_more : (v w x : ClusterValue) (es : List Event) (rs : List Answer) (e : Event) (a : Answer) → AreSteps v es rs w → IsStep w e a x → AreSteps v (es ++ e ∷ []) (rs ++ a ∷ []) x
 unfolding AreSteps
 steps_more v w x [] [] e a steps step = (x, subst (λ (n : ClusterValue). IsStep n e a x) steps step, refl)
 steps_more v w x [] (y ∷ rs) e a steps step = absurd steps

@@ -1,6 +1,5 @@
 -- What the plain programs see of an isolated group.
 use Rattle.std.proofs.Common.{◌≡◌, ℕ, ◌<◌, List, ◌++◌, length, take, sym, ◌∙◌, ap, subst, arith}
-use Rattle.std.proofs.lemmas.List.{take_all, take-append-le}
 use Rattle.gb_types.specs.Version.{bounds_of}
 use Rattle.gb_types.specs.declared.entry.Entry.{Entry}
 use Rattle.gb_alone.specs.Alone.{Group, alone, IsLegal}
@@ -14,14 +13,11 @@ use Rattle.gb_cluster.specs.ClusterValue.{node_at}
 use Rattle.gb_cluster.proofs.NodesLemmas.{stays}
 use Rattle.gb_cluster.specs.Run.{Did, past_at}
 use Rattle.gb_isolation.proofs.NoticeLemmas.{numbered_is}
+use Rattle.gb_isolation.proofs.SeenLemmas.{take_front}
 use Rattle.gb_isolation.specs.Isolation.{Seen, alone_in, IsIsolated, GroupsAreIsolated}
 use Rattle.gb_isolation.specs.Project.{group_items_of, replies_in}
 use Rattle.gb_trace.specs.Observed.{IsolatedGroupsAreSeenAlone, FedGroupsAreSeenAlone}
 use Rattle.gb_trace.specs.Trace.{run_of}
-
--- the first items of a list that is continued
-take_front : (xs ys : List Entry) → take (length xs) (xs ++ ys) ≡ xs
-take_front xs ys = take-append-le (length xs) xs ys (omega arith) ∙ take_all (length xs) xs (omega arith)
 
 pub seen_alone_too : IsolatedGroupsAreSeenAlone
 seen_alone_too plan run v g few alike =

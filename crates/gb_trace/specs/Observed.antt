@@ -34,12 +34,6 @@ observed plan g run = map (λ a. observed_at plan g run (node_numbered a)) (numb
 abbrev pub IsolatedGroupsAreSeenAlone : Type 0
 IsolatedGroupsAreSeenAlone = (plan : Plan) (run : List Did) (v : ClusterValue) (g : Addr) → plan.nodes ≤ NODES → IsIsolated plan run v g → observed plan g run ≡ observed_alone plan.nodes (alone_in plan g run)
 
--- Take a group none of whose requests was refused for want of memory. Its projection is legal. What is seen of the group is what the projection makes of it alone.
-abbrev pub AreSeenAlone : Plan → List Event → List Answer → List Posted → Type 0
-AreSeenAlone plan events answers packets = (g : Addr) → is_fed g (run_of events answers packets) ≡ true
-    → IsLegal (bounds_of plan) g.group (project plan g (run_of events answers packets))
-    × (observed plan g (run_of events answers packets) ≡ observed_alone plan.nodes (alone_in plan g (run_of events answers packets)))
-
 -- In a run, a group of which no request was refused for want of memory: the projection is legal, and what is seen of the group is what these steps make of it alone.
 abbrev pub FedGroupsAreSeenAlone : Type 0
 FedGroupsAreSeenAlone =

@@ -1,15 +1,23 @@
 -- What holds of every whole run of a cluster, and which answers are want of memory.
-use Rattle.std.specs.Prelude.{◌≡◌, Bool, true, false, List, [], Option, Some, None}
+use Rattle.std.specs.Prelude.{ℕ, ◌≡◌, ◌<◌, Bool, true, false, List, [], ◌∷◌, ◌++◌, Option, Some, None}
 use Rattle.gb_types.specs.declared.address.Addr.{Addr}
+use Rattle.gb_types.specs.declared.node.NodeId.{NodeId}
 use Rattle.gb_types.specs.declared.plan.Plan.{Plan}
+use Rattle.gb_types.specs.declared.request.Request.TheVariants.{Fetch}
+use Rattle.gb_node.specs.Past.{is_stopped}
 use Rattle.gb_node.specs.declared.answer.NodeAnswer.{NodeAnswer}
+use Rattle.gb_node.specs.declared.event.NodeEvent.TheVariants.{Request as Asked}
 use Rattle.gb_cluster.specs.ClusterValue.{ClusterValue}
+use Rattle.gb_cluster.specs.Run.{past_at}
 use Rattle.gb_cluster.specs.declared.answer.Answer.{Answer}
+use Rattle.gb_cluster.specs.declared.answer.Answer.TheVariants.{Reply as AnswerReply}
 use Rattle.gb_cluster.specs.declared.event.Event.{Event}
+use Rattle.gb_cluster.specs.declared.event.Event.TheVariants.{At}
 use Rattle.gb_cluster.specs.declared.posted.Posted.{Posted}
 use Rattle.gb_isolation.specs.Isolation.{IsIsolated, wants_memory}
-use Rattle.gb_isolation.specs.Project.{is_fed}
-use Rattle.gb_trace.specs.Trace.{own_answer, run_of}
+use Rattle.gb_isolation.specs.Project.{is_fed, is_own_request}
+use Rattle.gb_isolation.specs.RunLaws.{fetched_alone}
+use Rattle.gb_trace.specs.Trace.{own_answer, run_of, IsRun}
 
 -- each group of which no request was refused for want of memory is what it is alone
 abbrev pub IsIsolatedRun : Plan → List Event → List Answer → List Posted → ClusterValue → Type 0
@@ -18,6 +26,15 @@ IsIsolatedRun plan events answers packets v = (g : Addr) → is_fed g (run_of ev
 -- if no answer refuses for lack of memory, every group is isolated
 abbrev pub IsAmpleRun : Plan → List Event → List Answer → List Posted → ClusterValue → Bool → Type 0
 IsAmpleRun plan events answers packets v refused = refused ≡ false → (g : Addr) → IsIsolated plan (run_of events answers packets) v g
+
+-- A run may go on by a request to fetch a group's log, at any running node, with the token that it needs: the answer is that of the group alone, and no packet is sent.
+-- So what the group's log is after these events, at each node, is seen in the run that is longer by this event.
+abbrev pub LogsAreShown : Type 0
+LogsAreShown =
+    (plan : Plan) (events : List Event) (answers : List Answer) (packets : List Posted) (v : ClusterValue) → IsRun plan events answers packets v
+    → (g : Addr) → is_fed g (run_of events answers packets) ≡ true → (a : NodeId) (token : List ℕ) (from most : ℕ) → a.number < plan.nodes
+    → is_stopped (past_at a (run_of events answers packets)) ≡ false → is_own_request a g (past_at a (run_of events answers packets)) (Fetch token g from most) ≡ true
+    → IsRun plan (events ++ At a (Asked (Fetch token g from most)) ∷ []) (answers ++ AnswerReply (fetched_alone plan (run_of events answers packets) g a from most) ∷ []) packets v
 
 -- the node that acted refused for lack of memory
 abbrev pub is_refused_by : Option NodeAnswer → Bool

@@ -1,5 +1,7 @@
 -- Whole runs of a cluster, from events, answers and packets.
-use Rattle.std.specs.Prelude.{◌≡◌, List, [], ◌∷◌, ◌++◌, Option, Some, None, option_map, reverse}
+use Rattle.std.specs.Prelude.{◌≡◌, true, List, [], ◌∷◌, ◌++◌, Option, Some, None, option_map, reverse}
+use Rattle.std.specs.Option.{option_map_or, option_to_list}
+use Rattle.gb_types.specs.declared.address.Addr.{Addr}
 use Rattle.gb_types.specs.declared.node.NodeId.{NodeId}
 use Rattle.gb_node.specs.declared.answer.NodeAnswer.{NodeAnswer}
 use Rattle.gb_node.specs.declared.answer.NodeAnswer.TheVariants.{Reply as Replied, Taken, Sent, Ticked, Halted}
@@ -11,13 +13,15 @@ use Rattle.gb_cluster.specs.ClusterStep.{packet_numbered, IsStep}
 use Rattle.gb_cluster.specs.ClusterValue.{ClusterValue, new_cluster}
 use Rattle.gb_cluster.specs.Run.{Did, ComesTo}
 use Rattle.gb_cluster.specs.declared.answer.Answer.{Answer}
-use Rattle.gb_cluster.specs.declared.answer.Answer.TheVariants.{Reply as AnswerReply, Taken as AnswerTaken, Sent as AnswerSent, Ticked as AnswerTicked, Halted as AnswerHalted, NoPacket, NotNoise}
+use Rattle.gb_cluster.specs.declared.answer.Answer.TheVariants.{Reply as AnswerReply, Taken as AnswerTaken, Sent as AnswerSent, Ticked as AnswerTicked, Halted as AnswerHalted}
 use Rattle.gb_cluster.specs.declared.answer.Sending.{Sending}
 use Rattle.gb_cluster.specs.declared.answer.Sending.TheVariants.{Packet as SendingPacket, Nothing as SendingNothing, Refused as SendingRefused}
 use Rattle.gb_cluster.specs.declared.event.Event.{Event}
 use Rattle.gb_cluster.specs.declared.event.Event.TheVariants.{At, Arrive}
 use Rattle.gb_types.specs.declared.plan.Plan.{Plan}
 use Rattle.gb_cluster.specs.declared.posted.Posted.{Posted}
+use Rattle.gb_isolation.specs.Isolation.{IsSeenAlone}
+use Rattle.gb_isolation.specs.Project.{is_fed}
 
 -- what a node sent, where a packet's number stands for its text among the packets
 abbrev pub sent_as : List Posted → Sending → Option SentValue
@@ -32,22 +36,17 @@ own_answer packets (AnswerTaken taken) = Some (Taken taken)
 own_answer packets (AnswerSent s) = option_map Sent (sent_as packets s)
 own_answer packets (AnswerTicked ticked) = Some (Ticked ticked)
 own_answer packets (AnswerHalted halted) = Some (Halted halted)
-own_answer packets NoPacket = None
-own_answer packets NotNoise = None
+own_answer packets answer = None
 
+-- an event at a node, where the node answered
 abbrev pub did_with : NodeId → NodeEvent → Option NodeAnswer → List Did
-did_with a event None = []
-did_with a event (Some answer) = record { node = a; event = event; answer = answer } ∷ []
-
-abbrev pub did_arrive : Option Posted → Option NodeAnswer → List Did
-did_arrive None answer = []
-did_arrive (Some p) answer = did_with p.to (Came p.text) answer
+did_with a event o = option_to_list (option_map (λ answer. record { node = a; event = event; answer = answer }) o)
 
 -- What happened at a node by an event with its answer: an event at a node is its own, and a packet that arrives is its text, at the node that it was sent to.
 -- Where there was no such packet, or the noise was none, nothing happened.
 abbrev pub did_in : List Posted → Event → Answer → List Did
 did_in packets (At a event) answer = did_with a event (own_answer packets answer)
-did_in packets (Arrive k) answer = did_arrive (packet_numbered packets k) (own_answer packets answer)
+did_in packets (Arrive k) answer = option_map_or (λ (p : Posted). did_with p.to (Came p.text) (own_answer packets answer)) (packet_numbered packets k) []
 
 -- all that happened, in order; events beyond the answers do not count, nor answers beyond the events
 unfoldable pub all_did : List Posted → List Event → List Answer → List Did
@@ -58,6 +57,10 @@ all_did packets (e ∷ events) (a ∷ answers) = did_in packets e a ++ all_did p
 -- the run that these events, answers and packets tell, the newest first
 abbrev pub run_of : List Event → List Answer → List Posted → List Did
 run_of events answers packets = reverse (all_did packets events answers)
+
+-- each group of which no request was refused for lack of memory is seen in the run as what it is alone
+abbrev pub AreSeenAlone : Plan → List Event → List Answer → List Posted → Type 0
+AreSeenAlone plan events answers packets = (g : Addr) → is_fed g (run_of events answers packets) ≡ true → IsSeenAlone plan (run_of events answers packets) g
 
 -- each event in turn is answered so, and makes the second cluster of the first
 unfoldable pub AreSteps : ClusterValue → List Event → List Answer → ClusterValue → Type 0

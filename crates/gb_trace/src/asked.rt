@@ -4,8 +4,7 @@ ghost use Rattle.std.specs.Option.{option_to_list};
 ghost use Rattle.gb_types.specs.declared.limits.TheConstants.{SILENCE_MIN as LEAST};
 ghost use Rattle.gb_types.specs.declared.address.Addr.{Addr as AnyAddr};
 ghost use Rattle.gb_alone.specs.declared.event.GroupEvent.TheVariants.{Stop as Ends};
-ghost use Rattle.gb_cluster.specs.ClusterValue.{node_plan};
-ghost use Rattle.gb_isolation.specs.Project.{command_for, is_named, own_requested, tenant_given, requested, with_stop, is_met, asked};
+ghost use Rattle.gb_isolation.specs.Project.{command_for, is_named, is_noticed_at, own_requested, tenant_given, requested, with_stop, is_met, asked};
 ghost use Rattle.gb_trace.specs.Deeds.{past_in};
 
 use crate::deed::Deed;
@@ -54,7 +53,7 @@ fn of_own(
     requires named { is_named addr request.now ≡ true }
     requires least { LEAST ≤ plan.now.silence }
     requires key { key.now ≡ plan.now.cluster_key }
-    ensures { OnOk result (steps.new.items ≡ steps.old.items ++ own_requested (node_plan plan.now a) addr (past_in a before.now) request.now reply.now) }
+    ensures { OnOk result (steps.new.items ≡ steps.old.items ++ own_requested a addr (is_noticed_at plan.now a (past_in a before.now)) request.now reply.now) }
 {
     add(command(alloc, a, request)?, steps)?;
     match made(addr, request, reply) {
@@ -96,7 +95,7 @@ fn of_running(
 ) -> Result<(), OutOfMemory>
     requires least { LEAST ≤ plan.now.silence }
     requires key { key.now ≡ plan.now.cluster_key }
-    ensures { OnOk result (steps.new.items ≡ steps.old.items ++ requested (node_plan plan.now a) addr (past_in a before.now) request.now reply.now) }
+    ensures { OnOk result (steps.new.items ≡ steps.old.items ++ requested a addr (is_noticed_at plan.now a (past_in a before.now)) (past_in a before.now) request.now reply.now) }
 {
     add(tenant(addr, a, request, reply), steps)?;
     if is_own_request(addr, a, before, request) {
@@ -147,7 +146,7 @@ pub(crate) fn of_request(
 ) -> Result<(), OutOfMemory>
     requires least { LEAST ≤ plan.now.silence }
     requires key { key.now ≡ plan.now.cluster_key }
-    ensures { OnOk result (steps.new.items ≡ steps.old.items ++ asked (node_plan plan.now a) addr (past_in a before.now) request.now reply.now) }
+    ensures { OnOk result (steps.new.items ≡ steps.old.items ++ asked a addr (is_noticed_at plan.now a (past_in a before.now)) (past_in a before.now) request.now reply.now) }
 {
     if !was_stopped(a, before) {
         return of_running(alloc, plan, addr, key, before, a, request, reply, steps);

@@ -1,12 +1,13 @@
 //! What packets give a group in the projection of a run.
-ghost use Rattle.std.specs.Prelude.{◌≡◌, ◌++◌, [], OnOk, length, reverse, if◌then◌else◌};
+ghost use Rattle.std.specs.Prelude.{◌≡◌, ◌++◌, [], OnOk, length, reverse, if◌then◌else◌, map};
 ghost use Rattle.std.specs.List.{flat_map};
 ghost use Rattle.std.specs.Option.{option_to_list};
 ghost use Rattle.gb_node.specs.Past as packets;
 ghost use Rattle.gb_node.specs.NodeStep.{node_numbered};
-ghost use Rattle.gb_isolation.specs.Project.{group_items_of, frames_in, took, comes, acknowledged, is_new_ack, is_new_frame, acknowledges, brings, arrived};
+ghost use Rattle.gb_isolation.specs.Project.{group_items_of, took, comes, acknowledged, is_new_ack, is_new_frame, acknowledges, brings, arrived};
 ghost use Rattle.gb_trace.specs.Counts.{counts_acknowledged};
 ghost use Rattle.gb_trace.specs.Deeds.{past_in};
+ghost use Rattle.gb_frame.specs.Packet.{Content};
 
 use crate::deed::Deed;
 use crate::frames::{counts_to, first_of, has_come, was_acknowledged};
@@ -31,7 +32,7 @@ pub(crate) fn of_packed(
     b: NodeId,
     text: &[u8],
 ) -> Option<GroupStep>
-    ensures { option_to_list result ≡ took a b (length (group_items_of addr (frames_in key.now text.now))) }
+    ensures { option_to_list result ≡ took a b (length (group_items_of addr (map (λ (c : Content). c.items) (packets.read key.now text.now)))) }
 {
     let packet = read(key, text)?;
     let count = count_in(addr, &packet);

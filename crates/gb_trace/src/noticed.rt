@@ -4,8 +4,7 @@ ghost use Rattle.std.specs.FinSet as set;
 ghost use Rattle.gb_types.specs.declared.limits.TheConstants.{SILENCE_MIN as LEAST};
 ghost use Rattle.gb_rules.specs.Group.{is_other};
 ghost use Rattle.gb_alone.specs.declared.event.GroupEvent.TheVariants.{Notice};
-ghost use Rattle.gb_cluster.specs.ClusterValue.{node_plan};
-ghost use Rattle.gb_isolation.specs.Project.{is_noticed_after, notices, ticked};
+ghost use Rattle.gb_isolation.specs.Project.{is_noticed_at, notices, ticked};
 ghost use Rattle.gb_isolation.specs.Project as projected;
 ghost use Rattle.gb_trace.specs.Deeds.{past_in};
 
@@ -49,7 +48,7 @@ pub(crate) fn add_noticed(
 ) -> Result<(), OutOfMemory>
     requires least { LEAST ≤ plan.now.silence }
     requires key { key.now ≡ plan.now.cluster_key }
-    ensures { OnOk result (steps.new.items ≡ steps.old.items ++ notices a spec.now (is_noticed_after (node_plan plan.now a) (past_in a before.now))) }
+    ensures { OnOk result (steps.new.items ≡ steps.old.items ++ notices a spec.now (is_noticed_at plan.now a (past_in a before.now))) }
 {
     for b in 0..NODES {
         let other = NodeId::new(b as u8);

@@ -3,11 +3,9 @@ ghost use Rattle.std.specs.Prelude.{◌≡◌, ◌↔◌, All, IsTrue, IfOk};
 ghost use Rattle.std.specs.List.{list_any};
 ghost use Rattle.gb_cluster.specs.ClusterStep.{IsPlaced};
 ghost use Rattle.gb_cluster.specs.ClusterValue.{ClusterValue, IsClusterPlan};
-ghost use Rattle.gb_trace.specs.Observed.{AreSeenAlone};
-ghost use Rattle.gb_trace.specs.Trace.{IsRun};
+ghost use Rattle.gb_trace.specs.Trace.{AreSeenAlone, IsRun};
 ghost use Rattle.gb_trace.specs.Run.{tells_want, IsIsolatedRun, IsAmpleRun};
 
-use crate::laws::isolated_groups_are_seen_alone;
 use crate::trace::Trace;
 use gb_cluster::answer::{Answer, Sending};
 use gb_cluster::cluster::Cluster;
@@ -76,7 +74,6 @@ pub fn run(alloc: Global, plan: Plan, events: &[Event]) -> Result<Trace, OutOfMe
     ensures refused { IfOk result (λ t. t.refused ≡ list_any tells_want t.answers.items) }
 {
     groups_are_isolated();
-    isolated_groups_are_seen_alone();
     ample_runs_feed_all();
     packets_say();
     let mut cluster = Cluster::start(alloc, &plan)?;

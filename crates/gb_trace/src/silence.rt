@@ -4,8 +4,7 @@ ghost use Rattle.std.specs.List.{list_any};
 ghost use Rattle.gb_types.specs.declared.limits.TheConstants.{SILENCE_MIN as LEAST};
 ghost use Rattle.gb_detect.specs.Silence.{Tick, is_noticed};
 ghost use Rattle.gb_node.specs.Past.{came as taken_by, ticks as ticked_by, watched};
-ghost use Rattle.gb_cluster.specs.ClusterValue.{node_plan};
-ghost use Rattle.gb_isolation.specs.Project.{is_noticed_after};
+ghost use Rattle.gb_isolation.specs.Project.{is_noticed_at};
 ghost use Rattle.gb_trace.specs.Deeds.{is_from, past_in};
 
 use crate::deed::Deed;
@@ -77,7 +76,7 @@ fn was_silent(key: &HmacKey, a: NodeId, b: NodeId, silence: u16, deeds: &[Deed])
 pub(crate) fn was_noticed(plan: &Plan, key: &HmacKey, a: NodeId, b: NodeId, deeds: &[Deed]) -> bool
     requires least { LEAST ≤ plan.now.silence }
     requires key { key.now ≡ plan.now.cluster_key }
-    ensures { result ≡ is_noticed_after (node_plan plan.now a) (past_in a deeds.now) b.number }
+    ensures { result ≡ is_noticed_at plan.now a (past_in a deeds.now) b.number }
 {
     b.number < plan.nodes && b.number != a.number && was_silent(key, a, b, plan.silence, deeds)
 }

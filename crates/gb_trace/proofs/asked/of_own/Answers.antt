@@ -2,19 +2,19 @@ use Rattle.std.proofs.Common.{◌≡◌, List, subst}
 use Rattle.std.specs.Prelude.{OnOk}
 use Rattle.std.specs.Option.{option_to_list}
 use Rattle.gb_alone.specs.declared.event.GroupStep.{GroupStep}
-use Rattle.gb_cluster.specs.ClusterValue.{node_plan}
+use Rattle.gb_isolation.specs.Project.{is_noticed_at}
 use Rattle.gb_trace.specs.Deeds.{past_in}
 use Rattle.gb_trace.proofs.AskedLemmas.{own_alone, own_made}
 use Rattle.gb_trace.proofs.asked.of_own.Goals as goal
 
 pub returns-in-None : goal.returns-in-None
 returns-in-None c =
-    own_alone (node_plan c.args.plan.now c.args.a) c.args.addr (past_in c.args.a c.args.before.now) c.args.request.now c.args.reply.now c.args.steps.now.items c.add.new.steps.items (option_to_list c.in_ok-command.field-0)
+    own_alone c.args.a c.args.addr (is_noticed_at c.args.plan.now c.args.a (past_in c.args.a c.args.before.now)) c.args.request.now c.args.reply.now c.args.steps.now.items c.add.new.steps.items (option_to_list c.in_ok-command.field-0)
     c.requires.named c.in-None.ensures (c.in_ok-command.ensures c.args.addr) c.in_ok-add.ensures
 
 pub returns-in-Some : goal.returns-in-Some
 returns-in-Some c =
     subst (λ (xs : List GroupStep). OnOk c.add_noticed.result (c.add_noticed.new.steps.items ≡ xs))
-    (own_made (node_plan c.args.plan.now c.args.a) c.args.addr (past_in c.args.a c.args.before.now) c.args.request.now c.args.reply.now c.in-Some.spec.now c.args.steps.now.items c.add.new.steps.items (option_to_list c.in_ok-command.field-0)
+    (own_made c.args.a c.args.addr (is_noticed_at c.args.plan.now c.args.a (past_in c.args.a c.args.before.now)) c.args.request.now c.args.reply.now c.in-Some.spec.now c.args.steps.now.items c.add.new.steps.items (option_to_list c.in_ok-command.field-0)
     c.requires.named c.in-Some.ensures (c.in_ok-command.ensures c.args.addr) c.in_ok-add.ensures)
     c.add_noticed.ensures

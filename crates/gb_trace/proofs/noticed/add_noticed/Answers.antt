@@ -1,20 +1,19 @@
 use Rattle.std.proofs.Common.{◌≡◌, ◌∙◌, ap, arith}
 use Rattle.std.specs.Prelude.{◌++◌}
 use Rattle.gb_types.specs.declared.limits.TheConstants.{NODES}
-use Rattle.gb_isolation.specs.Project.{is_noticed_after}
-use Rattle.gb_cluster.specs.ClusterValue.{node_plan}
+use Rattle.gb_isolation.specs.Project.{is_noticed_at}
 use Rattle.gb_trace.specs.Deeds.{past_in}
 use Rattle.gb_trace.proofs.NoticesLemmas.{noticed_none, noticed_more, notices_below}
 use Rattle.gb_trace.proofs.noticed.add_noticed.Goals as goal
 
 pub loop-b-init : goal.loop-b-init
-loop-b-init c = noticed_none c.args.a c.args.spec.now (is_noticed_after (node_plan c.args.plan.now c.args.a) (past_in c.args.a c.args.before.now)) c.args.steps.now.items
+loop-b-init c = noticed_none c.args.a c.args.spec.now (is_noticed_at c.args.plan.now c.args.a (past_in c.args.a c.args.before.now)) c.args.steps.now.items
 
 pub loop-b-preserved : goal.loop-b-preserved
 loop-b-preserved c =
-    noticed_more c.args.a c.new-other.result c.args.spec.now (is_noticed_after (node_plan c.args.plan.now c.args.a) (past_in c.args.a c.args.before.now)) c.loop-b.b c.was_noticed-new.result c.args.steps.now.items c.loop-b.steps.items c.add_notice.new.steps.items c.new-other.ensures c.was_noticed-new.ensures c.in_ok-add_notice.ensures c.loop-b.invariant
+    noticed_more c.args.a c.new-other.result c.args.spec.now (is_noticed_at c.args.plan.now c.args.a (past_in c.args.a c.args.before.now)) c.loop-b.b c.was_noticed-new.result c.args.steps.now.items c.loop-b.steps.items c.add_notice.new.steps.items c.new-other.ensures c.was_noticed-new.ensures c.in_ok-add_notice.ensures c.loop-b.invariant
 
 pub returns : goal.returns
 returns c =
     let all : c.loop-b.b ≡ NODES = omega arith in
-    c.loop-b.invariant ∙ ap (λ n. c.args.steps.now.items ++ notices_below c.args.a c.args.spec.now (is_noticed_after (node_plan c.args.plan.now c.args.a) (past_in c.args.a c.args.before.now)) n) all
+    c.loop-b.invariant ∙ ap (λ n. c.args.steps.now.items ++ notices_below c.args.a c.args.spec.now (is_noticed_at c.args.plan.now c.args.a (past_in c.args.a c.args.before.now)) n) all

@@ -1,9 +1,8 @@
 use Rattle.std.proofs.Common.{◌≡◌, ◌++◌}
-use Rattle.gb_isolation.specs.Project.{is_noticed_after}
-use Rattle.gb_cluster.specs.ClusterValue.{node_plan}
+use Rattle.gb_isolation.specs.Project.{is_noticed_at}
 use Rattle.gb_trace.specs.Deeds.{past_in}
 use Rattle.gb_trace.proofs.NoticesLemmas.{notices_below}
 use Rattle.gb_trace.proofs.noticed.add_noticed.Given as goal
 
 abbrev pub invariant-loop-b : goal.invariant-loop-b
-invariant-loop-b l = l.steps.items ≡ l.fn.steps.items ++ notices_below l.a l.spec (is_noticed_after (node_plan l.plan l.a) (past_in l.a l.before)) l.b
+invariant-loop-b l = l.steps.items ≡ l.fn.steps.items ++ notices_below l.a l.spec (is_noticed_at l.plan l.a (past_in l.a l.before)) l.b

@@ -2,6 +2,7 @@ use Rattle.std.proofs.Common.{List, ◌++◌, ◌∷◌, [], take, sym, ◌∙�
 use Rattle.std.proofs.lemmas.List.{take_all, take_more}
 use Rattle.gb_cluster.specs.declared.event.Event.{Event}
 use Rattle.std.specs.List.{list_any}
+use Rattle.gb_isolation.proofs.SeenLemmas.{is_seen_alone}
 use Rattle.gb_trace.specs.Run.{tells_want}
 use Rattle.gb_trace.proofs.RunLemmas.{Goes, run_begins, run_goes, placed_at, is_run, ample}
 use Rattle.gb_trace.proofs.run.run.Goals as goal
@@ -29,10 +30,7 @@ returns-clause-run c =
 pub returns-clause-seen : goal.returns-clause-seen
 returns-clause-seen c =
     let run = returns-clause-run c in
-    λ g fed. (
-      (run.2 g fed).legal,
-      c.isolated_groups_are_seen_alone.ensures c.args.plan _ run.0 g c.requires.plan.few (run.2 g fed),
-    )
+    λ g fed. is_seen_alone c.args.plan _ run.0 g (run.2 g fed)
 
 pub step-requires : goal.step-requires
 step-requires c =
