@@ -60,7 +60,7 @@ AllFit group = (a : ℕ) → Fits (sayings group) (group a)
 event_fits : (bounds : Bounds) (number : ℕ) (said : ℕ → List Accepted) (me : NodeId) (event : GroupEvent) (group : Group) → said me.number ≡ own_said (group me.number).told ++ accepted_in event (reply_to bounds number me.number event (group me.number)) → ((a : ℕ) → Fits said (group a)) → Fits said (member_after bounds number me event group)
 event_fits bounds number said me event group now all =
     holds_after (IsAccepted said) bounds number me event group
-    (λ payload seq e h. said_now said me seq payload (group me.number).told (next_said me.number (group me.number) payload seq bounds number ((λ i. reply_to bounds number me.number (sym e i) (group me.number)) ∙ h))
+    (λ message seq e h. said_now said me seq message.payload (group me.number).told (next_said me.number (group me.number) message seq bounds number ((λ i. reply_to bounds number me.number (sym e i) (group me.number)) ∙ h))
     (now ∙ (λ i. own_said (group me.number).told ++ accepted_in (e i) (h i))))
     (λ from place x there short. all_at (IsAccepted said) ((group from.number).put me.number) (place - 1) x ((all from.number).put me.number) there) (all me.number)
 

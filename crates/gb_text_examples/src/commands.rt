@@ -290,14 +290,14 @@ fn the_first_line_with_versions(rt: HostRuntime) -> Result<(), Fail> {
 #[test]
 fn good_lines(rt: HostRuntime) -> Result<(), Fail> {
     let count = compare(&rt, rt.alloc(), Some(3), GOOD_LINES)?;
-    assert!(rt; count == 39);
+    assert!(rt; count == 42);
     Ok(())
 }
 
 #[test]
 fn bad_lines(rt: HostRuntime) -> Result<(), Fail> {
     let count = compare(&rt, rt.alloc(), Some(3), BAD_LINES)?;
-    assert!(rt; count == 134);
+    assert!(rt; count == 140);
     Ok(())
 }
 
