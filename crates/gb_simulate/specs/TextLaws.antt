@@ -2,9 +2,9 @@
 use Rattle.std.specs.Prelude.{ℕ, ◌≡◌, ◌<◌, true, List, [], ◌++◌, reverse, Option, Some, None, All, slice_get}
 use Rattle.gb_types.specs.declared.address.Addr.{Addr}
 use Rattle.gb_types.specs.declared.node.NodeId.{NodeId}
-use Rattle.gb_isolation.specs.Isolation.{IsIsolated, is_ample}
+use Rattle.gb_isolation.specs.Isolation.{IsIsolated, IsSeenAlone, is_ample}
 use Rattle.gb_isolation.specs.Project.{is_fed}
-use Rattle.gb_isolation.specs.RunLaws.{RunIntegrity, RunOrder, RunDuties, RunAgreement, IsSeenAlike, AtEachMoment, AnswersNewNotices, ChangesNothing}
+use Rattle.gb_isolation.specs.RunLaws.{RunIntegrity, RunOrder, RunDuties, RunAgreement, MayBeFetched, IsSeenAlike, AtEachMoment, AnswersNewNotices, ChangesNothing}
 use Rattle.gb_node.specs.Past.{ComesTo as NodeComesTo}
 use Rattle.gb_cluster.specs.Links.{IsHonest, IsAlwaysWhole, IsLink, CoversTaken, IsInside}
 use Rattle.gb_cluster.specs.ClusterStep.{AreRead}
@@ -19,10 +19,12 @@ use Rattle.gb_simulate.specs.RunTexts.{IsRunOf}
 use Rattle.gb_simulate.specs.Text.{Reaches, IsText}
 use Rattle.gb_simulate.specs.declared.outcome.SimEnd.TheVariants.{All as AllLines}
 
--- What a cluster promises of a group in a run: it is what it is alone, another run in which the same happened to it shows the same of it, and integrity, order, duties and
--- agreement hold.
+-- What a cluster promises of a group in a run: it is what it is alone, also in what is seen without a look into a node, its log may be fetched, another run in which the same
+-- happened to it shows the same of it, and integrity, order, duties and agreement hold.
 pub record IsServed (plan : Plan) (run : List Did) (v : ClusterValue) (g : Addr) : Type 0 where
   pub isolated : IsIsolated plan run v g
+  pub seen : IsSeenAlone plan run g
+  pub fetched : MayBeFetched plan run v g
   pub alike : IsSeenAlike plan run v g
   pub integrity : RunIntegrity plan run v g
   pub order : RunOrder plan run v g

@@ -7,8 +7,8 @@ use gb_cluster::laws::{
 };
 use gb_isolation::laws::{
     ample_runs_feed_all, groups_are_isolated, groups_do_their_duties, groups_keep_integrity,
-    groups_keep_order, refusals_change_nothing, runs_agree, settled_groups_agree,
-    ticks_answer_new_notices,
+    groups_keep_order, logs_may_be_fetched, refusals_change_nothing, runs_agree,
+    settled_groups_agree, ticks_answer_new_notices,
 };
 
 /// What `simulate` writes is the text of a run: a cluster is started, its events are those that the lines spell, and its
@@ -27,6 +27,7 @@ pub fn texts_are_of_runs()
     refusals_change_nothing();
     ample_runs_feed_all();
     groups_are_isolated();
+    logs_may_be_fetched();
     runs_agree();
     groups_keep_integrity();
     groups_keep_order();

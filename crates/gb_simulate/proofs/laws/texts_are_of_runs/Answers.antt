@@ -1,3 +1,4 @@
+use Rattle.gb_isolation.proofs.SeenLemmas.{is_seen_alone}
 use Rattle.gb_simulate.proofs.RunTextLemmas.{GroupsAreServed, texts_so}
 use Rattle.gb_simulate.proofs.laws.texts_are_of_runs.Goals as goal
 
@@ -5,6 +6,8 @@ pub returns : goal.returns
 returns c =
     let served : GroupsAreServed = λ plan run v comes g fed. record {
       isolated = c.groups_are_isolated.ensures plan run v comes g fed;
+      seen = is_seen_alone plan run v g (c.groups_are_isolated.ensures plan run v comes g fed);
+      fetched = c.logs_may_be_fetched.ensures plan run v comes g fed;
       alike = c.runs_agree.ensures plan run v comes g fed;
       integrity = c.groups_keep_integrity.ensures plan run v comes g fed;
       order = c.groups_keep_order.ensures plan run v comes g fed;
