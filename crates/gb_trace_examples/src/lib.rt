@@ -22,6 +22,8 @@ mod short;
 #[cfg(test)]
 mod stops;
 #[cfg(test)]
+mod theorem;
+#[cfg(test)]
 mod told;
 #[cfg(test)]
 mod unlike;
