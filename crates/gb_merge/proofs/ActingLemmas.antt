@@ -34,8 +34,9 @@ use Rattle.gb_types.specs.declared.plan.Plan.{Plan}
 use Rattle.gb_cluster.specs.declared.posted.Posted.{Posted}
 use Rattle.gb_cluster.proofs.NodesLemmas.{have_pasts}
 use Rattle.gb_cluster.proofs.CodeLemmas.{numbered_contains}
+use Rattle.gb_isolation.specs.Isolation.{wants_memory}
 use Rattle.gb_merge.specs.Interleaving.{is_good, sent_by, text_numbered, IsEventOf}
-use Rattle.gb_merge.specs.Merged.{told, is_starved}
+use Rattle.gb_merge.specs.Merged.{told}
 use Rattle.gb_merge.specs.Faults.{node_answer, node_after}
 use Rattle.gb_merge.specs.Woven.{is_refused}
 
@@ -137,29 +138,29 @@ acts pasts honest plan run w a sent (Came bytes) e x new comes within (inl came)
 
 -- Answers.
 
--- what is no want of memory is what the node should answer
-pub turned : StarvedSays → (old : NodeValue) (n : NodeEvent) (g : NodeAnswer) (new : NodeValue) → IsTurn old n g new → is_starved g ≡ false → (g ≡ node_answer old n) × (new ≡ node_after old n)
+-- what is no refusal for lack of memory is what the node should answer
+pub turned : StarvedSays → (old : NodeValue) (n : NodeEvent) (g : NodeAnswer) (new : NodeValue) → IsTurn old n g new → wants_memory g ≡ false → (g ≡ node_answer old n) × (new ≡ node_after old n)
 unfolding node_answer node_after
 turned starves old n g new (inr went) fed = went
 turned starves old n g new (inl starved) fed = absurd (by (starves n (turn old n).answer g starved.0))
   where
     by : (g ≡ Sent (Unsent OutOfMemory)) ⊎ ((r : Request) × (n ≡ Asked r) × (g ≡ Reply (Refused OutOfMemory))) → ⊥
-    by (inl is) = let e : true ≡ false = sym (ap is_starved is) ∙ fed in cc
-    by (inr is) = let e : true ≡ false = sym (ap is_starved is.2) ∙ fed in cc
+    by (inl is) = let e : true ≡ false = sym (ap wants_memory is) ∙ fed in cc
+    by (inr is) = let e : true ≡ false = sym (ap wants_memory is.2) ∙ fed in cc
 
--- an answer of the cluster that is no want of memory tells of none
-pub fed_is : (packets : List Posted) (x : Answer) (g : NodeAnswer) → told packets x ≡ Some g → is_refused x ≡ false → is_starved g ≡ false
-fed_is packets (AnswerReply reply) g is fed = let same : Reply reply ≡ g = cc in ap is_starved (sym same) ∙ fed
-fed_is packets (AnswerTaken taken) g is fed = let same : Taken taken ≡ g = cc in ap is_starved (sym same) ∙ fed
+-- an answer of the cluster that is no refusal for lack of memory tells of none
+pub fed_is : (packets : List Posted) (x : Answer) (g : NodeAnswer) → told packets x ≡ Some g → is_refused x ≡ false → wants_memory g ≡ false
+fed_is packets (AnswerReply reply) g is fed = let same : Reply reply ≡ g = cc in ap wants_memory (sym same) ∙ fed
+fed_is packets (AnswerTaken taken) g is fed = let same : Taken taken ≡ g = cc in ap wants_memory (sym same) ∙ fed
 fed_is packets (AnswerSent (SendingPacket k)) g is fed = by (packet_numbered packets k) is
   where
-    by : (o : Option Posted) → option_map (λ (p : Posted). Sent (SentPacket p.text)) o ≡ Some g → is_starved g ≡ false
+    by : (o : Option Posted) → option_map (λ (p : Posted). Sent (SentPacket p.text)) o ≡ Some g → wants_memory g ≡ false
     by None is = absurd (cc)
-    by (Some p) is = let same : Sent (SentPacket p.text) ≡ g = cc in ap is_starved (sym same)
-fed_is packets (AnswerSent SendingNothing) g is fed = let same : Sent Nothing ≡ g = cc in ap is_starved (sym same)
-fed_is packets (AnswerSent (SendingRefused why)) g is fed = let same : Sent (Unsent why) ≡ g = cc in ap is_starved (sym same) ∙ fed
-fed_is packets (AnswerTicked ticked) g is fed = let same : Ticked ticked ≡ g = cc in ap is_starved (sym same) ∙ fed
-fed_is packets (AnswerHalted halted) g is fed = let same : Halted halted ≡ g = cc in ap is_starved (sym same) ∙ fed
+    by (Some p) is = let same : Sent (SentPacket p.text) ≡ g = cc in ap wants_memory (sym same)
+fed_is packets (AnswerSent SendingNothing) g is fed = let same : Sent Nothing ≡ g = cc in ap wants_memory (sym same)
+fed_is packets (AnswerSent (SendingRefused why)) g is fed = let same : Sent (Unsent why) ≡ g = cc in ap wants_memory (sym same) ∙ fed
+fed_is packets (AnswerTicked ticked) g is fed = let same : Ticked ticked ≡ g = cc in ap wants_memory (sym same) ∙ fed
+fed_is packets (AnswerHalted halted) g is fed = let same : Halted halted ≡ g = cc in ap wants_memory (sym same) ∙ fed
 fed_is packets NoPacket g is fed = absurd (cc)
 fed_is packets NotNoise g is fed = absurd (cc)
 

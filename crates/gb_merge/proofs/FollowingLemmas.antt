@@ -21,8 +21,9 @@ use Rattle.gb_cluster.specs.declared.answer.Answer.{Answer}
 use Rattle.gb_cluster.specs.declared.event.Event.{Event}
 use Rattle.gb_types.specs.declared.plan.Plan.{Plan}
 use Rattle.gb_cluster.proofs.NodesLemmas.{stays, have_pasts, acting_is, other_is}
+use Rattle.gb_isolation.specs.Isolation.{wants_memory}
 use Rattle.gb_merge.specs.Interleaving.{Pick, entries_at, sent_by, IsEventOf, AreEvents}
-use Rattle.gb_merge.specs.Merged.{told, is_starved, did, run_of, Replays, AreFed}
+use Rattle.gb_merge.specs.Merged.{told, did, run_of, Replays, AreFed}
 use Rattle.gb_merge.specs.declared.fault.AuditFault.{AuditFault}
 use Rattle.gb_merge.specs.declared.fault.AuditFault.TheVariants.{Stranger, Stuck, Differs, OutOfMemory}
 use Rattle.gb_merge.specs.Faults.{node_answer, node_after, after_entry, replay}
@@ -69,7 +70,7 @@ goes laws honest plan done w p e x new stands within is step fed =
     record { acted = does; told_so = told_so; given = both.0; after = both.1 }
 
 -- it goes on, where the entry's answer is what the node gave
-stands_on : SendersRun → (plan : Plan) (done : List Pick) (w : ClusterValue) (p : Pick) (x : Answer) (new : ClusterValue) (g : Goes plan done w p x new) → Stands plan done w → p.node.number < plan.nodes → g.acted.own ≡ p.entry.answer → is_starved p.entry.answer ≡ false → Stands plan (done ++ p ∷ []) new
+stands_on : SendersRun → (plan : Plan) (done : List Pick) (w : ClusterValue) (p : Pick) (x : Answer) (new : ClusterValue) (g : Goes plan done w p x new) → Stands plan done w → p.node.number < plan.nodes → g.acted.own ≡ p.entry.answer → wants_memory p.entry.answer ≡ false → Stands plan (done ++ p ∷ []) new
 unfolding ComesTo
 stands_on sends plan done w p x new g stands within same fed = record {
   comes = subst (λ (run : List Did). ComesTo plan run new) (sym (run_of-push done p)) (w, stands.comes, g.acted.sent, acts_so);
@@ -110,7 +111,7 @@ replays-push old (d ∷ events) (q ∷ picks) w e p x new replays step so = (rep
 replays-push old [] (q ∷ picks) w e p x new replays step so = absurd replays
 replays-push old (d ∷ events) [] w e p x new replays step so = absurd replays
 
-fed-push : (picks : List Pick) (p : Pick) → AreFed picks → is_starved p.entry.answer ≡ false → AreFed (picks ++ p ∷ [])
+fed-push : (picks : List Pick) (p : Pick) → AreFed picks → wants_memory p.entry.answer ≡ false → AreFed (picks ++ p ∷ [])
 unfolding AreFed
 fed-push [] p fed last = (last, tt)
 fed-push (q ∷ picks) p fed last = (fed.0, fed-push picks p fed.1 last)
@@ -163,7 +164,7 @@ is_at-next laws honest plan events picks i w p e new are placed p_at e_at p_is e
     let within = placed_at plan.nodes picks i p placed p_at in
     let g = goes laws honest plan (take i picks) w p e so.answer new at.stands within (event_at plan [] picks events i p e are p_at e_at) so.step so.fed in
     let same : g.acted.own ≡ p.entry.answer = some_in (sym g.told_so ∙ so.told_is) in
-    let fed : is_starved p.entry.answer ≡ false = fed_is new.packets so.answer p.entry.answer so.told_is so.fed in
+    let fed : wants_memory p.entry.answer ≡ false = fed_is new.packets so.answer p.entry.answer so.told_is so.fed in
     let picks_are : take (i + 1) picks ≡ take i picks ++ p ∷ [] = take_more picks i p p_in ∙ ap (λ (r : Pick). take i picks ++ r ∷ []) (sym p_is) in
     let events_are : take (i + 1) events ≡ take i events ++ e ∷ [] = take_more events i e e_in ∙ ap (λ (r : Event). take i events ++ r ∷ []) (sym e_is) in
     record {

@@ -10,9 +10,10 @@ use Rattle.gb_node.specs.declared.tape.TapeEntry.{TapeEntry}
 use Rattle.gb_cluster.specs.Run.{Did, past_at}
 use Rattle.gb_cluster.specs.declared.event.Event.{Event}
 use Rattle.gb_types.specs.declared.plan.Plan.{Plan}
+use Rattle.gb_isolation.specs.Isolation.{wants_memory}
 use Rattle.gb_merge.specs.Interleaving.{Pick, entries_at, AreEvents, tape_of, sent_by}
 use Rattle.gb_merge.specs.Front.{IsFrontFault}
-use Rattle.gb_merge.specs.Merged.{is_starved, did, run_of, happened, past_of}
+use Rattle.gb_merge.specs.Merged.{did, run_of, happened, past_of}
 use Rattle.gb_merge.specs.Faults.{node_answer, replay, IsStranger, IsDifferent, IsFault}
 use Rattle.gb_merge.specs.Woven.{IsWoven, IsWhole, ArePlaced, IsWrong, IsWeaveFault, IsFollowFault}
 use Rattle.gb_merge.specs.declared.fault.AuditFault.{AuditFault}
@@ -81,7 +82,7 @@ different plan tapes left picks parts wrong =
       place = length before;
       entry = p.entry;
       there = ap (λ (xs : List TapeEntry). slice_get xs (length before)) here ∙ seam before p.entry behind;
-      differs = subst (λ (xs : List TapeEntry). (is_starved p.entry.answer ≡ true) ⊎ (p.entry.answer ≢ node_answer (replay plan p.node xs) p.entry.event)) (sym front) wrong.differs;
+      differs = subst (λ (xs : List TapeEntry). (wants_memory p.entry.answer ≡ true) ⊎ (p.entry.answer ≢ node_answer (replay plan p.node xs) p.entry.event)) (sym front) wrong.differs;
     }
 
 pub weave_faulty : (plan : Plan) (tapes : List (List TapeEntry)) (f : AuditFault) → (IsStranger plan tapes → ⊥) → IsWeaveFault plan tapes f → IsFault plan tapes f

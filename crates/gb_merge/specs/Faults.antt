@@ -11,7 +11,7 @@ use Rattle.gb_cluster.specs.ClusterValue.{node_plan}
 use Rattle.gb_cluster.specs.declared.event.Event.{Event}
 use Rattle.gb_types.specs.declared.plan.Plan.{Plan}
 use Rattle.gb_merge.specs.Interleaving.{is_good, sent_by, tape_of, IsInterleaving}
-use Rattle.gb_merge.specs.Merged.{is_starved}
+use Rattle.gb_isolation.specs.Isolation.{wants_memory}
 use Rattle.gb_merge.specs.declared.fault.AuditFault.{AuditFault}
 use Rattle.gb_merge.specs.declared.fault.AuditFault.TheVariants.{Stranger, Stuck, Differs, OutOfMemory}
 
@@ -49,21 +49,21 @@ node_answer v event = (turn v event).answer
 unfoldable pub node_after : NodeValue → NodeEvent → NodeValue
 node_after v event = (turn v event).value
 
--- a node after an entry: want of memory leaves it as it was
+-- a node after an entry: one that was refused for lack of memory leaves it as it was
 abbrev pub after_entry : NodeValue → TapeEntry → NodeValue
-after_entry v x = if is_starved x.answer then v else node_after v x.event
+after_entry v x = if wants_memory x.answer then v else node_after v x.event
 
 -- the replay of a tape: a node that is started and takes the tape's events in order
 abbrev pub replay : Plan → NodeId → List TapeEntry → NodeValue
 replay plan a entries = fold after_entry (new_node (node_plan plan a)) entries
 
--- an answer in a tape is want of memory, or is not the replay's
+-- an answer in a tape refuses for lack of memory, or is not the replay's
 pub record IsDifferent (plan : Plan) (tapes : List (List TapeEntry)) : Type 0 where
   pub node : NodeId
   pub place : ℕ
   pub entry : TapeEntry
   pub there : slice_get (tape_of tapes node.number) place ≡ Some entry
-  pub differs : (is_starved entry.answer ≡ true) ⊎ (entry.answer ≢ node_answer (replay plan node (take place (tape_of tapes node.number))) entry.event)
+  pub differs : (wants_memory entry.answer ≡ true) ⊎ (entry.answer ≢ node_answer (replay plan node (take place (tape_of tapes node.number))) entry.event)
 
 -- the fault is so; a stranger is told before the others
 abbrev pub IsFault : Plan → List (List TapeEntry) → AuditFault → Type 0

@@ -1,17 +1,10 @@
 -- What a merged list of events is: an interleaving of the tapes whose run gives the tapes' answers.
-use Rattle.std.specs.Prelude.{ℕ, ◌≡◌, Bool, true, false, List, [], ◌∷◌, map, reverse, Option, Some, None, option_map}
+use Rattle.std.specs.Prelude.{ℕ, ◌≡◌, false, List, [], ◌∷◌, map, reverse, Option, Some, None, option_map}
 use Rattle.gb_types.specs.declared.address.Addr.{Addr}
 use Rattle.gb_types.specs.declared.node.NodeId.{NodeId}
-use Rattle.gb_types.specs.declared.refusal.Refusal.{Refusal}
-use Rattle.gb_types.specs.declared.refusal.Refusal.TheVariants.{OutOfMemory}
-use Rattle.gb_types.specs.declared.reply.Reply.{Reply}
-use Rattle.gb_types.specs.declared.reply.Reply.TheVariants.{Refused}
 use Rattle.gb_node.specs.Past.{Happened}
 use Rattle.gb_node.specs.declared.answer.NodeAnswer.{NodeAnswer}
 use Rattle.gb_node.specs.declared.answer.NodeAnswer.TheVariants.{Reply as Replied, Taken, Sent, Ticked, Halted}
-use Rattle.gb_node.specs.declared.answer.PacketAnswer.TheVariants.{Refused as TakenRefused}
-use Rattle.gb_node.specs.declared.answer.Ticked.TheVariants.{Refused as TickRefused}
-use Rattle.gb_node.specs.declared.answer.Halted.TheVariants.{Refused as HaltRefused}
 use Rattle.gb_node.specs.declared.answer.Sent.TheVariants.{Packet as SentPacket, Nothing, Refused as SentRefused}
 use Rattle.gb_node.specs.declared.tape.TapeEntry.{TapeEntry}
 use Rattle.gb_cluster.specs.ClusterStep.{packet_numbered, IsStep}
@@ -23,7 +16,7 @@ use Rattle.gb_cluster.specs.declared.answer.Sending.TheVariants.{Packet as Sendi
 use Rattle.gb_cluster.specs.declared.event.Event.{Event}
 use Rattle.gb_types.specs.declared.plan.Plan.{Plan}
 use Rattle.gb_cluster.specs.declared.posted.Posted.{Posted}
-use Rattle.gb_isolation.specs.Isolation.{IsIsolated}
+use Rattle.gb_isolation.specs.Isolation.{IsIsolated, wants_memory}
 use Rattle.gb_merge.specs.Interleaving.{Pick, entries_at, AreEvents, tape_of}
 
 -- an answer of the cluster as the node's, with a packet's bytes in place of its number
@@ -38,23 +31,6 @@ told packets (AnswerHalted halted) = Some (Halted halted)
 told packets NoPacket = None
 told packets NotNoise = None
 
--- the answer is want of memory
-abbrev pub is_want : Refusal → Bool
-is_want OutOfMemory = true
-is_want why = false
-
-abbrev pub is_starved_reply : Reply → Bool
-is_starved_reply (Refused why) = is_want why
-is_starved_reply reply = false
-
-abbrev pub is_starved : NodeAnswer → Bool
-is_starved (Replied reply) = is_starved_reply reply
-is_starved (Taken (TakenRefused why)) = is_want why
-is_starved (Sent (SentRefused why)) = is_want why
-is_starved (Ticked (TickRefused why)) = is_want why
-is_starved (Halted (HaltRefused why)) = is_want why
-is_starved answer = false
-
 -- the events happen one after the other, and each is answered as its entry says, packets compared by their bytes
 unfoldable pub Replays : ClusterValue → List Event → List Pick → ClusterValue → Type 0
 Replays old [] [] new = new ≡ old
@@ -62,10 +38,10 @@ Replays old (e ∷ events) (p ∷ picks) new = (next : ClusterValue) × (answer 
 Replays old [] (p ∷ picks) new = ⊥
 Replays old (e ∷ events) [] new = ⊥
 
--- no answer is want of memory
+-- no answer refuses for lack of memory
 unfoldable pub AreFed : List Pick → Type 0
 AreFed [] = Unit {0}
-AreFed (p ∷ picks) = (is_starved p.entry.answer ≡ false) × AreFed picks
+AreFed (p ∷ picks) = (wants_memory p.entry.answer ≡ false) × AreFed picks
 
 -- what was taken as a run of the cluster, the newest first
 abbrev pub did : Pick → Did
@@ -81,7 +57,7 @@ happened x = record { event = x.event; answer = x.answer }
 abbrev pub past_of : List TapeEntry → List Happened
 past_of entries = reverse (map happened entries)
 
--- The events are an interleaving of the tapes. From a cluster in which nothing has happened they give each tape's answers, and none is want of memory.
+-- The events are an interleaving of the tapes. From a cluster in which nothing has happened they give each tape's answers, and none refuses for lack of memory.
 pub record IsMerged (plan : Plan) (tapes : List (List TapeEntry)) (events : List Event) : Type 0 where
   pub picks : List Pick
   pub are_events : AreEvents plan [] picks events

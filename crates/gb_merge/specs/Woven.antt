@@ -3,7 +3,8 @@ use Rattle.std.specs.Prelude.{ℕ, ◌≡◌, ◌≢◌, ◌<◌, ◌⊎◌, ◌
 use Rattle.gb_types.specs.declared.node.NodeId.{NodeId}
 use Rattle.gb_node.specs.NodeStep.{node_numbered}
 use Rattle.gb_node.specs.declared.answer.NodeAnswer.{NodeAnswer}
-use Rattle.gb_node.specs.declared.answer.NodeAnswer.TheVariants.{Taken, Ticked, Halted}
+use Rattle.gb_node.specs.declared.answer.NodeAnswer.TheVariants.{Reply as Replied, Taken, Sent, Ticked, Halted}
+use Rattle.gb_node.specs.declared.answer.Sent.TheVariants.{Refused as SentRefused}
 use Rattle.gb_node.specs.declared.event.NodeEvent.{NodeEvent}
 use Rattle.gb_node.specs.declared.event.NodeEvent.TheVariants.{Packet as Came}
 use Rattle.gb_node.specs.declared.tape.TapeEntry.{TapeEntry}
@@ -16,7 +17,8 @@ use Rattle.gb_cluster.specs.declared.answer.Sending.TheVariants.{Refused as Send
 use Rattle.gb_cluster.specs.declared.event.Event.{Event}
 use Rattle.gb_types.specs.declared.plan.Plan.{Plan}
 use Rattle.gb_merge.specs.Interleaving.{Pick, is_good, entries_at, sent_by, tape_of, IsEventOf, AreEvents}
-use Rattle.gb_merge.specs.Merged.{told, is_want, is_starved_reply, is_starved, run_of, Replays, AreFed}
+use Rattle.gb_isolation.specs.Isolation.{wants_memory}
+use Rattle.gb_merge.specs.Merged.{told, run_of, Replays, AreFed}
 use Rattle.gb_merge.specs.Faults.{IsBlocked, IsStuck, node_answer, replay}
 use Rattle.gb_merge.specs.declared.fault.AuditFault.{AuditFault}
 use Rattle.gb_merge.specs.declared.fault.AuditFault.TheVariants.{Stuck, Differs, OutOfMemory}
@@ -104,13 +106,13 @@ unfoldable pub ArePlaced : ℕ → List Pick → Type 0
 ArePlaced nodes [] = Unit {0}
 ArePlaced nodes (p ∷ picks) = (p.node.number < nodes) × ArePlaced nodes picks
 
--- the cluster's answer is want of memory
+-- the cluster's answer refuses for lack of memory
 abbrev pub is_refused : Answer → Bool
-is_refused (AnswerReply reply) = is_starved_reply reply
-is_refused (AnswerTaken taken) = is_starved (Taken taken)
-is_refused (AnswerSent (SendingRefused why)) = is_want why
-is_refused (AnswerTicked ticked) = is_starved (Ticked ticked)
-is_refused (AnswerHalted halted) = is_starved (Halted halted)
+is_refused (AnswerReply reply) = wants_memory (Replied reply)
+is_refused (AnswerTaken taken) = wants_memory (Taken taken)
+is_refused (AnswerSent (SendingRefused why)) = wants_memory (Sent (SentRefused why))
+is_refused (AnswerTicked ticked) = wants_memory (Ticked ticked)
+is_refused (AnswerHalted halted) = wants_memory (Halted halted)
 is_refused answer = false
 
 -- an event is answered by the cluster as the entry says
@@ -120,7 +122,7 @@ pub record IsTold (old : ClusterValue) (e : Event) (given : NodeAnswer) (new : C
   pub told_is : told new.packets answer ≡ Some given
   pub fed : is_refused answer ≡ false
 
--- it is answered otherwise, and that is no want of memory
+-- it is answered otherwise, and that is no refusal for lack of memory
 pub record IsUntold (old : ClusterValue) (e : Event) (given : NodeAnswer) : Type 0 where
   pub answer : Answer
   pub new : ClusterValue
@@ -145,7 +147,7 @@ pub record IsWrong (plan : Plan) (picks : List Pick) : Type 0 where
   pub pick : Pick
   pub others : List Pick
   pub parts : picks ≡ done ++ pick ∷ others
-  pub differs : (is_starved pick.entry.answer ≡ true) ⊎ (pick.entry.answer ≢ node_answer (replay plan pick.node (entries_at pick.node.number done)) pick.entry.event)
+  pub differs : (wants_memory pick.entry.answer ≡ true) ⊎ (pick.entry.answer ≢ node_answer (replay plan pick.node (entries_at pick.node.number done)) pick.entry.event)
 
 abbrev pub IsFollowFault : Plan → List Pick → AuditFault → Type 0
 IsFollowFault plan picks Differs = IsWrong plan picks

@@ -5,7 +5,7 @@ ghost use Rattle.gb_cluster.specs.ClusterStep.{packet_numbered, IsPlaced};
 ghost use Rattle.gb_cluster.specs.declared.posted.Posted.{Posted as PostedValue};
 ghost use Rattle.gb_cluster.specs.Run.{ComesTo};
 ghost use Rattle.gb_merge.specs.Interleaving.{AreEvents};
-ghost use Rattle.gb_merge.specs.Merged.{told, is_want};
+ghost use Rattle.gb_merge.specs.Merged.{told};
 ghost use Rattle.gb_merge.specs.Woven.{is_refused, ArePlaced, IsTold, IsStepFault, IsFollowed, IsFollowFault};
 
 use crate::fault::AuditFault;
@@ -20,23 +20,16 @@ use gb_node::past::{packets_say, pasts_say};
 use gb_types::refusal::Refusal;
 use gb_types::reply::Reply;
 
-/// Whether a request for memory was refused.
-fn is_want(why: Refusal) -> bool
-    ensures { result ≡ is_want why }
-{
-    why == Refusal::OutOfMemory
-}
-
-/// Whether the answer is want of memory.
+/// Whether the answer refuses for lack of memory.
 fn is_refused(answer: &Answer) -> bool
     ensures { result ≡ is_refused answer.now }
 {
     match answer {
-        Answer::Reply(Reply::Refused(why)) => is_want(*why),
-        Answer::Taken(PacketAnswer::Refused(why)) => is_want(*why),
-        Answer::Sent(Sending::Refused(why)) => is_want(*why),
-        Answer::Ticked(Ticked::Refused(why)) => is_want(*why),
-        Answer::Halted(Halted::Refused(why)) => is_want(*why),
+        Answer::Reply(Reply::Refused(Refusal::OutOfMemory)) => true,
+        Answer::Taken(PacketAnswer::Refused(Refusal::OutOfMemory)) => true,
+        Answer::Sent(Sending::Refused(Refusal::OutOfMemory)) => true,
+        Answer::Ticked(Ticked::Refused(Refusal::OutOfMemory)) => true,
+        Answer::Halted(Halted::Refused(Refusal::OutOfMemory)) => true,
         _ => false,
     }
 }
