@@ -19,6 +19,10 @@ REFUSED = 'refused 16 OutOfMemory'
 NO_MEMORY = 'no memory'  # the player's line where the cluster itself had no memory, so that nothing was answered
 OUT_OF_MEMORY = 'out of memory'
 
+# What a run of gb_sim came to, and how that is headed in a table.
+SEEN = (OUT_OF_MEMORY, 'refused, then out of memory', 'refused', 'as if none')
+HEADS = (f'`{OUT_OF_MEMORY}`', f'`{REFUSED}`, then `{OUT_OF_MEMORY}`', f'`{REFUSED}`', 'as if none')
+
 Schedule = collections.namedtuple('Schedule', 'lines answers')
 Run = collections.namedtuple('Run', 'text lines status made_before requests refused')
 
@@ -136,51 +140,53 @@ def without(bench, name, cache, place):
     return cache[name, place]
 
 
-def judged_sim(bench, name, ran, cache):
-    """What a run of gb_sim with one refused request came to: `answered`, `out of memory` or `as if none`; None where it is wrong."""
-    answers = SCHEDULES[name].answers
-    if ran.text and not ran.text.endswith('\n'):
-        return None
+def split(ran):
+    """The lines of a run of gb_sim but the last `out of memory`, and how many of them stand before the first refusal for memory."""
+    told = ran.lines[:-1] if ran.status == 3 and ran.lines[-1:] == [OUT_OF_MEMORY] else ran.lines
+    return told, told.index(REFUSED) if REFUSED in told else len(told)
+
+
+def is_served(schedule, ran):
+    """Whether the lines of a run of gb_sim are whole, are the schedule's answers up to the first refusal for memory, and are all that are due
+    unless the program says that it ended."""
+    told, first = split(ran)
+    return (ran.status in (0, 3) and (not ran.text or ran.text.endswith('\n')) and told[:first] == schedule.answers[:first]
+            and all(WORD.fullmatch(line) for line in told) and (ran.status == 3 or len(told) == len(schedule.answers)))
+
+
+def came_to(ran):
+    told, first = split(ran)
     if ran.status == 3:
-        told = ran.lines[:-1] if ran.lines[-1:] == [OUT_OF_MEMORY] else ran.lines
-        return OUT_OF_MEMORY if told == answers[:len(told)] else None
-    if ran.status != 0:
-        return None
-    if ran.lines == answers:
-        return 'as if none'
-    place = next((at for at, line in enumerate(ran.lines) if line == REFUSED), None)
-    if place is None or ran.lines[:place] != answers[:place]:
-        return None
-    return 'answered' if ran.lines[place + 1:] == without(bench, name, cache, place)[place:] else None
+        return 'refused, then out of memory' if first < len(told) else OUT_OF_MEMORY
+    return 'refused' if first < len(told) else 'as if none'
 
 
-def judged_sim_from_there(name, ran):
-    """The same where every request from one on is refused: answers up to the first refusal, then whole lines of the grammar."""
-    answers = SCHEDULES[name].answers
-    if ran.status not in (0, 3) or (ran.text and not ran.text.endswith('\n')):
-        return None
-    told = ran.lines[:-1] if ran.lines[-1:] == [OUT_OF_MEMORY] else ran.lines
-    first = told.index(REFUSED) if REFUSED in told else len(told)
-    if told[:first] != answers[:first] or not all(WORD.fullmatch(line) for line in told):
-        return None
-    return OUT_OF_MEMORY if ran.status == 3 else 'answered' if first < len(told) else 'as if none'
+def is_consistent(bench, name, ran, cache):
+    """Whether what follows the one event that was refused are the answers of the schedule without that event."""
+    found, (told, first) = came_to(ran), split(ran)
+    if found != 'refused':
+        return found != 'refused, then out of memory'
+    return told[first + 1:] == without(bench, name, cache, first)[first:]
 
 
 def sim_in_turn(bench, name, many):
-    """Every request of gb_sim on a schedule refused in turn: how many there are, and what the runs came to."""
-    lines, seen, cache = SCHEDULES[name].lines, collections.Counter(), {}
-    whole = bench.run([bench.sim], lines)
-    bench.judge(whole.lines == SCHEDULES[name].answers, name, 'without a refusal', whole.text)
+    """Every request of gb_sim on a schedule refused in turn: how many there are, and what the runs came to. A later request is refused no
+    earlier: no answer is lost before a refusal."""
+    each, seen, cache, least = SCHEDULES[name], collections.Counter(), {}, 0
+    whole = bench.run([bench.sim], each.lines)
+    bench.judge(whole.lines == each.answers, name, 'without a refusal', whole.text)
     start = 0
     while True:
         start += 1
-        ran = bench.run([bench.sim], lines, start, many)
+        ran = bench.run([bench.sim], each.lines, start, many)
         if ran.refused == 0:
             break
-        found = judged_sim(bench, name, ran, cache) if many == 1 else judged_sim_from_there(name, ran)
-        bench.judge(found, 'gb_sim', name, start, many, ran.status, repr(ran.text[-200:]))
+        found, first = came_to(ran), split(ran)[1]
+        is_right = is_served(each, ran) and (many == 'all' or is_consistent(bench, name, ran, cache)) and least <= first
+        bench.judge(is_right, 'gb_sim', name, start, many, ran.status, repr(ran.text[-200:]))
+        least = least if found == 'as if none' else first
         seen[found] += 1
-    bench.judge(ran.lines == SCHEDULES[name].answers and ran.requests == start - 1, name, 'beyond the last', start)
+    bench.judge(ran.lines == each.answers and ran.requests == start - 1, name, 'beyond the last', start)
     return start - 1, seen
 
 
@@ -188,23 +194,14 @@ def under_limit(bench, schedule, limit):
     """What gb_sim comes to with so many bytes of address space."""
     bench.runs += 1
     set_limit = lambda: resource.setrlimit(resource.RLIMIT_AS, (limit, limit))
-    ran = subprocess.run([bench.sim], input=text_of(schedule.lines).encode(), capture_output=True, timeout=60,
-                         preexec_fn=set_limit, check=False)
-    text = ran.stdout.decode('latin-1')
-    told = text.splitlines()
-    if told[-1:] == [OUT_OF_MEMORY] and ran.returncode == 3:
-        told.pop()
-    first = told.index(REFUSED) if REFUSED in told else len(told)
-    is_right = ((not text or text.endswith('\n')) and told[:first] == schedule.answers[:first]
-                and all(WORD.fullmatch(line) for line in told))
-    bench.judge(is_right, 'gb_sim', 'limit', limit, ran.returncode, repr(text[-200:]))
-    if ran.returncode == 127 and not text:
+    ended = subprocess.run([bench.sim], input=text_of(schedule.lines).encode(), capture_output=True, timeout=60,
+                           preexec_fn=set_limit, check=False)
+    text = ended.stdout.decode('latin-1')
+    if ended.returncode == 127 and not text:
         return 'not started'
-    if ran.returncode == 3:
-        return 'refused, then out of memory' if first < len(told) else OUT_OF_MEMORY
-    if ran.returncode == 0:
-        return 'refused' if first < len(told) else 'whole'
-    return f'status {ran.returncode}'
+    ran = Run(text, text.splitlines(), ended.returncode, [], 0, 0)
+    bench.judge(is_served(schedule, ran), 'gb_sim', 'limit', limit, ran.status, repr(text[-200:]))
+    return came_to(ran)
 
 
 def limits_in_turn(bench, schedule, step):
@@ -213,7 +210,7 @@ def limits_in_turn(bench, schedule, step):
     while True:
         found = under_limit(bench, schedule, limit)
         seen[found] += 1
-        if found == 'whole':
+        if found == 'as if none':
             return limit, seen
         limit += step
 
@@ -234,7 +231,9 @@ def judged_play(lines, whole, ran, start):
     places = [at for at, line in enumerate(ran.lines) if line in (REFUSED, NO_MEMORY)]
     if ran.status != 0 or len(places) > 1:
         return None
-    place = next(at for at, made in enumerate(ran.made_before) if start <= made)
+    place = next((at for at, made in enumerate(ran.made_before) if start <= made), None)
+    if place is None:
+        return None
     if not places:
         return 'as if none' if ran.text == whole.text and lines[place - 1].startswith('make ') else None
     is_there = places[0] == place and ran.text.endswith('\n')
@@ -245,7 +244,8 @@ def play_in_turn(bench, name):
     """Every request of the cluster on a schedule refused in turn, the refused event given again at once."""
     expected, seen = SCHEDULES[name], collections.Counter()
     whole = play(bench, expected.lines)
-    bench.judge(whole.lines[:1 + len(expected.lines)] == ['play'] + expected.answers and whole.status == 0, name, 'played', whole.text)
+    is_right = whole.lines[:1 + len(expected.lines)] == ['play'] + expected.answers and whole.status == 0
+    bench.judge(is_right, name, 'played', whole.text)
     start = begin = whole.made_before[0]
     while True:
         start += 1
@@ -281,7 +281,8 @@ def is_kept(lines, answers, ran):
     told = ran.lines[1:1 + len(lines)]
     mine = [at for at, line in enumerate(lines) if is_of(line, 7)]
     items = [item for line in ran.lines if line.startswith('sent ') for item in items_of(line) if item[0] == 7]
-    return ran.status == 0 and [told[at] for at in mine] == [answers[at] for at in mine] and items == [(7, '61'), (7, '62')]
+    return (ran.status == 0 and len(told) == len(lines) and [told[at] for at in mine] == [answers[at] for at in mine]
+            and items == [(7, '61'), (7, '62')])
 
 
 def other_tenant_in_turn(bench, schedule):
@@ -329,21 +330,18 @@ def head(*cells):
 
 def print_sim(bench):
     for many, title in ((1, 'gb_sim, one request refused'), ('all', 'gb_sim, that request and all later ones refused')):
-        head(title, 'Requests', f'`{OUT_OF_MEMORY}`', f'`{REFUSED}`', 'as if none')
+        head(title, 'Requests', *HEADS)
         for name in SCHEDULES:
             requests, seen = sim_in_turn(bench, name, many)
-            row(name, requests, *[seen[what] for what in (OUT_OF_MEMORY, 'answered', 'as if none')])
+            row(name, requests, *[seen[what] for what in SEEN])
 
 
 def print_limits(bench):
-    known = ('not started', OUT_OF_MEMORY, 'refused, then out of memory', 'refused')
-    head('gb_sim under a limit', 'Limits', 'does not start', f'`{OUT_OF_MEMORY}`', f'`{REFUSED}`, then `{OUT_OF_MEMORY}`',
-         f'`{REFUSED}`', 'other ends', 'whole from, in bytes')
+    head('gb_sim under a limit', 'Limits', 'does not start', *HEADS, 'all from, in bytes')
     limited = [(name, each, 4_096) for name, each in SCHEDULES.items()] + [('4,000 lines', long_one(bench), 16_384)]
     for name, each, step in limited:
         limit, seen = limits_in_turn(bench, each, step)
-        others = sum(count for what, count in seen.items() if what not in (*known, 'whole'))
-        row(name, sum(seen.values()), *[seen[what] for what in known], others, f'{limit:,}')
+        row(name, sum(seen.values()), seen['not started'], *[seen[what] for what in SEEN], f'{limit:,}')
 
 
 def print_plays(bench):
