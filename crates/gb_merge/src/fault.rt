@@ -12,7 +12,7 @@ pub enum AuditFault {
     /// The tapes have no interleaving: nodes wait for one another's packets.
     #[error("the tapes have no interleaving")]
     Stuck,
-    /// An answer in a tape is not its replay's, or is want of memory.
+    /// An answer in a tape is not its replay's, or refuses for lack of memory.
     #[error("an answer in a tape is not its replay's")]
     Differs,
     /// A request for memory was refused here. Nothing is said of the tapes.

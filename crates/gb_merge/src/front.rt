@@ -16,7 +16,7 @@ use std::alloc::Global;
 
 /// Merges the first entries of tapes, as many as can be: an entry is left out just where it, or one before it in its tape, is a
 /// packet for the node that no entry which was merged has sent. A tape that is missing is given as an empty one. Differs: an answer
-/// among these entries is not its replay's, or is want of memory.
+/// among these entries is not its replay's, or refuses for lack of memory.
 pub fn merge_front(alloc: Global, plan: &Plan, tapes: &[Tape]) -> Result<Vec<Event>, AuditFault>
     requires plan { IsClusterPlan plan.now }
     requires one_each { length tapes.now ≡ plan.now.nodes }

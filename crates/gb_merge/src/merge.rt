@@ -7,8 +7,9 @@ ghost use Rattle.gb_merge.specs.Merged.{IsMerged};
 use crate::fault::AuditFault;
 use crate::follow::follow;
 use crate::reader::Reader;
+use crate::rest::Rest;
 use crate::stranger::have_stranger;
-use crate::weave::weave;
+use crate::weave::{weave, whole};
 use gb_cluster::cluster::Cluster;
 use gb_cluster::event::Event;
 use gb_node::tape::Tape;
@@ -26,8 +27,23 @@ pub fn merge(alloc: Global, plan: &Plan, tapes: &[Tape]) -> Result<Vec<Event>, A
     ensures ok { IfOk result (λ v. IsMerged plan.now tapes.now v.items) }
     ensures err { IfErr result (IsFault plan.now tapes.now) }
 {
+    let tapes = whole(alloc, tapes)?;
+    merge_entries(alloc, plan, tapes)
+}
+
+/// The same of the entries of tapes that are read.
+pub(crate) fn merge_entries(
+    alloc: Global,
+    plan: &Plan,
+    tapes: Vec<Rest>,
+) -> Result<Vec<Event>, AuditFault>
+    requires plan { IsClusterPlan plan.now }
+    requires one_each { length tapes.items ≡ plan.now.nodes }
+    ensures ok { IfOk result (λ v. IsMerged plan.now tapes.entry.items v.items) }
+    ensures err { IfErr result (IsFault plan.now tapes.entry.items) }
+{
     let reader = Reader::new(plan);
-    if have_stranger(alloc, &reader, tapes)? {
+    if have_stranger(alloc, &reader, tapes.as_slice())? {
         return Err(AuditFault::Stranger);
     }
     let woven = weave(alloc, &reader, tapes)?;

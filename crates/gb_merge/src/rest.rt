@@ -1,19 +1,65 @@
 //! What is left of tapes, and what was taken of them.
 ghost use Rattle.std.specs.Prelude.{◌≡◌, ◌↔◌, ◌∷◌, ◌++◌, [], List, IsTrue, MatchOption, OnOk};
 ghost use Rattle.gb_node.specs.declared.tape.TapeEntry.{TapeEntry as Entry};
+ghost use Rattle.gb_isolation.specs.Isolation.{wants_memory};
+ghost use Rattle.gb_merge.specs.Fed.{fed_of, kept, StartsFed, IsReady};
 ghost use Rattle.gb_merge.specs.Interleaving.{sent_by};
 
 use crate::mail::Mail;
-use gb_node::answer::{NodeAnswer, Sent};
+use gb_node::answer::{Halted, NodeAnswer, PacketAnswer, Sent, Ticked};
 use gb_node::tape::TapeEntry;
 use gb_types::memory::OutOfMemory;
 use gb_types::node::NodeId;
+use gb_types::refusal::Refusal;
+use gb_types::reply::Reply;
 use std::marker::Model;
 
-/// What is left of a tape. Contracts see the list.
+/// Whether the answer refuses for lack of memory.
+pub(crate) fn wants_memory(answer: &NodeAnswer) -> bool
+    ensures { result ≡ wants_memory answer.now }
+{
+    match answer {
+        NodeAnswer::Reply(Reply::Refused(Refusal::OutOfMemory)) => true,
+        NodeAnswer::Taken(PacketAnswer::Refused(Refusal::OutOfMemory)) => true,
+        NodeAnswer::Sent(Sent::Refused(Refusal::OutOfMemory)) => true,
+        NodeAnswer::Ticked(Ticked::Refused(Refusal::OutOfMemory)) => true,
+        NodeAnswer::Halted(Halted::Refused(Refusal::OutOfMemory)) => true,
+        _ => false,
+    }
+}
+
+/// The entries from the first on that was not refused for lack of memory.
+fn after_refused(entries: &[TapeEntry]) -> &[TapeEntry]
+    ensures same { fed_of result.now ≡ fed_of entries.now }
+    ensures first { StartsFed result.now }
+{
+    let mut left = entries;
+    while let Some((first, rest)) = left.split_first() {
+        if !wants_memory(&first.answer) {
+            return left;
+        }
+        left = rest;
+    }
+    left
+}
+
+/// The same where entries are skipped that were refused so; else all entries.
+fn after_skipped(skips: bool, entries: &[TapeEntry]) -> &[TapeEntry]
+    ensures same { kept skips result.now ≡ kept skips entries.now }
+    ensures ready { IsReady skips result.now }
+{
+    if skips {
+        after_refused(entries)
+    } else {
+        entries
+    }
+}
+
+/// What is left of a tape: all its entries, or those that were not refused for lack of memory. Contracts see the list.
 #[derive(Drop)]
 pub(crate) struct Rest<'a> {
     entries: &'a [TapeEntry],
+    skips: bool,
 }
 
 impl<'a> Model for Rest<'a> {
@@ -22,19 +68,46 @@ impl<'a> Model for Rest<'a> {
     ghost use Rattle.std.specs.FinSet as set;
     ghost use Rattle.std.specs.Prelude.{List};
     ghost use Rattle.gb_node.specs.declared.tape.TapeEntry.{TapeEntry};
+    ghost use Rattle.gb_merge.specs.Fed.{kept, IsReady};
 
     ghost Value = { List TapeEntry };
 
     ghost coded = { Prim.hlevel (codes, set.code {R = nat_cmp} coded_ℕ) };
 
-    ghost view = { λ r. r.entries.now };
+    ghost view = { λ r. kept r.skips r.entries.now };
+
+    ghost invariant = { λ r. IsReady r.skips r.entries.now };
 }
 
 impl<'a> Rest<'a> {
+    /// All entries.
     pub(crate) fn new(entries: &'a [TapeEntry]) -> Rest<'a>
         ensures { result ≡ entries.now }
     {
-        Rest { entries }
+        Rest {
+            entries,
+            skips: false,
+        }
+    }
+
+    /// Those that were not refused for lack of memory.
+    pub(crate) fn fed(entries: &'a [TapeEntry]) -> Rest<'a>
+        ensures { result ≡ fed_of entries.now }
+    {
+        Rest {
+            entries: after_refused(entries),
+            skips: true,
+        }
+    }
+
+    /// A copy.
+    pub(crate) fn again(&self) -> Rest<'a>
+        ensures { result ≡ self.now }
+    {
+        Rest {
+            entries: self.entries,
+            skips: self.skips,
+        }
     }
 
     /// The next entry.
@@ -49,7 +122,7 @@ impl<'a> Rest<'a> {
         ensures { MatchOption result (self.old ≡ []) (λ x. self.old ≡ x.now ∷ self.new) }
     {
         let (first, rest) = self.entries.split_first()?;
-        self.entries = rest;
+        self.entries = after_skipped(self.skips, rest);
         Some(first)
     }
 

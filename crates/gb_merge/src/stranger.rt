@@ -8,30 +8,29 @@ ghost use Rattle.gb_node.specs.NodeStep.{node_numbered};
 
 use crate::mail::Mail;
 use crate::reader::Reader;
-use crate::rest::post;
+use crate::rest::{Rest, post};
 use gb_node::event::NodeEvent;
-use gb_node::tape::{Tape, TapeEntry};
 use gb_types::memory::OutOfMemory;
 use gb_types::node::NodeId;
 use std::alloc::Global;
 
 /// Notes what the answers sent.
-fn post_all<'a>(sent: &mut Mail<'a>, entries: &'a [TapeEntry]) -> Result<(), OutOfMemory>
-    ensures { OnOk result (sent.new ≡ sent.old ++ sent_of entries.now) }
+fn post_all<'a>(sent: &mut Mail<'a>, mut left: Rest<'a>) -> Result<(), OutOfMemory>
+    ensures { OnOk result (sent.new ≡ sent.old ++ sent_of left.entry) }
 {
-    for entry in entries {
+    while let Some(entry) = left.take() {
         post(sent, &entry.answer)?;
     }
     Ok(())
 }
 
 /// All that the tapes sent.
-fn all_sent<'a>(alloc: Global, tapes: &'a [Tape]) -> Result<Mail<'a>, OutOfMemory>
+fn all_sent<'a>(alloc: Global, tapes: &[Rest<'a>]) -> Result<Mail<'a>, OutOfMemory>
     ensures { IfOk result (λ m. m ≡ all_sent tapes.now) }
 {
     let mut sent = Mail::new(alloc);
     for tape in tapes {
-        match post_all(&mut sent, tape.as_slice()) {
+        match post_all(&mut sent, tape.again()) {
             Ok(()) => {}
             Err(fault) => {
                 drop(sent);
@@ -54,11 +53,11 @@ fn is_strange(reader: &Reader, a: NodeId, event: &NodeEvent, sent: &Mail) -> boo
 }
 
 /// Whether a packet for the node came to it that was not sent.
-fn has_stranger(reader: &Reader, a: NodeId, entries: &[TapeEntry], sent: &Mail) -> bool
-    ensures some { IsTrue result → HasStranger reader.now a sent.now entries.now }
-    ensures none { result ≡ false → HasStranger reader.now a sent.now entries.now → ⊥ }
+fn has_stranger(reader: &Reader, a: NodeId, mut left: Rest, sent: &Mail) -> bool
+    ensures some { IsTrue result → HasStranger reader.now a sent.now left.entry }
+    ensures none { result ≡ false → HasStranger reader.now a sent.now left.entry → ⊥ }
 {
-    for entry in entries {
+    while let Some(entry) = left.take() {
         if is_strange(reader, a, &entry.event, sent) {
             return true;
         }
@@ -67,14 +66,14 @@ fn has_stranger(reader: &Reader, a: NodeId, entries: &[TapeEntry], sent: &Mail) 
 }
 
 /// Whether a packet for a node came to it that was not sent.
-fn any_stranger(reader: &Reader, tapes: &[Tape], sent: &Mail) -> bool
+fn any_stranger(reader: &Reader, tapes: &[Rest], sent: &Mail) -> bool
     requires { length tapes.now ≤ NODES }
     ensures some { IsTrue result → (a : ℕ) × HasStranger reader.now (node_numbered a) sent.now (tape_of tapes.now a) }
     ensures none { result ≡ false → (a : ℕ) → HasStranger reader.now (node_numbered a) sent.now (tape_of tapes.now a) → ⊥ }
 {
     for i in 0..tapes.len() {
         let tape = &tapes[i];
-        if has_stranger(reader, NodeId::new(i as u8), tape.as_slice(), sent) {
+        if has_stranger(reader, NodeId::new(i as u8), tape.again(), sent) {
             return true;
         }
     }
@@ -85,7 +84,7 @@ fn any_stranger(reader: &Reader, tapes: &[Tape], sent: &Mail) -> bool
 pub(crate) fn have_stranger(
     alloc: Global,
     reader: &Reader,
-    tapes: &[Tape],
+    tapes: &[Rest],
 ) -> Result<bool, OutOfMemory>
     requires { length tapes.now ≤ NODES }
     ensures some { IfOk result (λ b. IsTrue b → IsStranger reader.now tapes.now) }

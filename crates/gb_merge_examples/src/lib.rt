@@ -7,6 +7,8 @@ mod arrivals;
 #[cfg(test)]
 mod faults;
 #[cfg(test)]
+mod lacking;
+#[cfg(test)]
 mod merged;
 #[cfg(test)]
 mod order;

@@ -5,6 +5,7 @@ use crate::requests::ADMIN_KEY;
 use crate::steps::{At, Taped, hand_over, lose, start, take_all};
 use gb_cluster::event::Event;
 use gb_merge::fault::AuditFault;
+use gb_merge::fed::{fed_is_one_run, merge_fed, refusals_leave_nodes};
 use gb_merge::front::merge_front;
 use gb_merge::merge::merge;
 use gb_node::event::NodeEvent;
@@ -86,6 +87,8 @@ pub enum Part {
     All,
     /// Their first entries, as many as are one run.
     Front,
+    /// The entries that were not refused for lack of memory, or nothing where they are not one run.
+    Fed,
 }
 
 /// Merges tapes, one for each node.
@@ -103,6 +106,11 @@ fn merge_part(
     match part {
         Part::All => merge(alloc, plan, tapes),
         Part::Front => merge_front(alloc, plan, tapes),
+        Part::Fed => {
+            fed_is_one_run();
+            refusals_leave_nodes();
+            merge_fed(alloc, plan, tapes)
+        }
     }
 }
 
@@ -157,10 +165,15 @@ fn faults(alloc: Global, part: Part, case: &Case, fault: AuditFault) -> bool {
     }
 }
 
-/// Whether merging gives what it must; tapes that are one run have all their entries in its front too.
+/// Whether merging gives what it must; tapes that are one run have all their entries in its front too, and none that was
+/// refused for lack of memory.
 fn holds(alloc: Global, case: &Case) -> bool {
     match case.told {
-        Ok(told) => gives(alloc, Part::All, case, told) && gives(alloc, Part::Front, case, told),
+        Ok(told) => {
+            gives(alloc, Part::All, case, told)
+                && gives(alloc, Part::Front, case, told)
+                && gives(alloc, Part::Fed, case, told)
+        }
         Err(fault) => faults(alloc, Part::All, case, fault),
     }
 }
@@ -180,5 +193,17 @@ pub fn judge_front(rt: &impl Abort, alloc: Global, case: &Case, front: &[&str]) 
 /// Merging the front of the case's tapes ends with this fault.
 pub fn judge_front_fault(rt: &impl Abort, alloc: Global, case: &Case, fault: AuditFault) {
     let held = faults(alloc, Part::Front, case, fault);
+    assert!(rt; held);
+}
+
+/// Merging the entries of the case's tapes that were not refused for lack of memory gives these events, in letters.
+pub fn judge_fed(rt: &impl Abort, alloc: Global, case: &Case, fed: &[&str]) {
+    let held = gives(alloc, Part::Fed, case, fed);
+    assert!(rt; held);
+}
+
+/// Merging those entries ends with this fault.
+pub fn judge_fed_fault(rt: &impl Abort, alloc: Global, case: &Case, fault: AuditFault) {
+    let held = faults(alloc, Part::Fed, case, fault);
     assert!(rt; held);
 }

@@ -12,6 +12,7 @@ use gb_types::memory::OutOfMemory;
 use gb_types::node::{NodeId, NodeSet};
 use gb_types::plan::Plan;
 use gb_types::refusal::Refusal;
+use gb_types::reply::Reply;
 use std::alloc::Global;
 use std::mem;
 
@@ -19,8 +20,12 @@ use std::mem;
 #[derive(Clone, Copy)]
 pub enum Step {
     Ask(Asked),
+    /// It is noted that the node had no memory for it, and the node does nothing.
+    AskRefused(Asked),
     /// What waits for another node is packed.
     Pack(u8),
+    /// It is noted that the node had no memory for that, and the node does nothing.
+    PackRefused(u8),
     /// Another node is sent an acknowledgement.
     Ack(u8),
     Tick,
@@ -109,8 +114,10 @@ fn event(
     step: Step,
 ) -> Result<NodeEvent, OutOfMemory> {
     Ok(match step {
-        Step::Ask(asked) => NodeEvent::Request(request(alloc, me, asked)?),
-        Step::Pack(to) => NodeEvent::Pack(node(to)),
+        Step::Ask(asked) | Step::AskRefused(asked) => {
+            NodeEvent::Request(request(alloc, me, asked)?)
+        }
+        Step::Pack(to) | Step::PackRefused(to) => NodeEvent::Pack(node(to)),
         Step::Ack(to) => NodeEvent::Ack(node(to)),
         Step::Tick | Step::ForgeTick(_) => NodeEvent::Tick,
         Step::Stop => NodeEvent::Stop,
@@ -137,6 +144,8 @@ fn forged(told: Result<&[u8], Refusal>) -> Ticked {
 /// What is noted as the answer to the event of a step.
 fn answer(node: &mut Node, step: Step, event: &NodeEvent) -> NodeAnswer {
     match step {
+        Step::AskRefused(_) => NodeAnswer::Reply(Reply::Refused(Refusal::OutOfMemory)),
+        Step::PackRefused(_) => NodeAnswer::Sent(Sent::Refused(Refusal::OutOfMemory)),
         Step::ForgeTick(told) => NodeAnswer::Ticked(forged(told)),
         _ => node.take(event),
     }

@@ -8,4 +8,4 @@ pub loop-tape-init : goal.loop-tape-init
 loop-tape-init c = c.new-sent.ensures ∙ sym none_of_all
 
 pub loop-tape-preserved : goal.loop-tape-preserved
-loop-tape-preserved c = all_more c.args.tapes.now c.loop-tape.tape-index c.tape-item.result c.loop-tape.sent c.post_all.new.sent c.loop-tape-test.true c.tape-item.is c.loop-tape.invariant (c.in-Ok.ensures ∙ ap (λ (t : List TapeEntry). c.loop-tape.sent ++ sent_of t) c.as_slice.ensures)
+loop-tape-preserved c = all_more c.args.tapes.now c.loop-tape.tape-index c.tape-item.result c.loop-tape.sent c.post_all.new.sent c.loop-tape-test.true c.tape-item.is c.loop-tape.invariant (c.in-Ok.ensures ∙ ap (λ (t : List TapeEntry). c.loop-tape.sent ++ sent_of t) c.again.ensures)

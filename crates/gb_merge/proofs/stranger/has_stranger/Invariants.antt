@@ -1,8 +1,11 @@
-use Rattle.std.proofs.Common.{◌≡◌, ◌<◌, ℕ, Some}
-use Rattle.std.specs.Prelude.{slice_get}
-use Rattle.gb_node.specs.declared.tape.TapeEntry.{TapeEntry}
-use Rattle.gb_merge.specs.Faults.{IsBlocked}
+use Rattle.std.proofs.Common.{length}
+use Rattle.gb_merge.specs.Woven.{HasStranger}
 use Rattle.gb_merge.proofs.stranger.has_stranger.Given as goal
 
+-- what is left has one just where the whole has one
 abbrev pub invariant-loop-entry : goal.invariant-loop-entry
-invariant-loop-entry l = (k : ℕ) (x : TapeEntry) → k < l.entry-index → slice_get l.entries k ≡ Some x → IsBlocked l.reader l.a l.sent x.event → ⊥
+invariant-loop-entry l =
+    (HasStranger l.reader l.a l.sent l.left → HasStranger l.reader l.a l.sent l.fn.left) × (HasStranger l.reader l.a l.sent l.fn.left → HasStranger l.reader l.a l.sent l.left)
+
+abbrev pub decreases-loop-entry : goal.decreases-loop-entry
+decreases-loop-entry l = length l.left

@@ -1,10 +1,18 @@
-use Rattle.std.proofs.Common.{◌++◌, List, ℕ, sym, ◌∙◌, ap}
+use Rattle.std.proofs.Common.{◌≡◌, ◌++◌, ℕ, List, sym, ◌∙◌, ap, subst}
 use Rattle.std.proofs.lemmas.List.{append-nil}
-use Rattle.gb_merge.proofs.TellingLemmas.{sent_more, none_sent}
+use Rattle.gb_node.specs.declared.tape.TapeEntry.{TapeEntry}
+use Rattle.gb_merge.specs.Faults.{sent_of}
+use Rattle.gb_merge.proofs.StrangerLemmas.{sent_on, sent_of-none}
 use Rattle.gb_merge.proofs.stranger.post_all.Goals as goal
 
-pub loop-entry-init : goal.loop-entry-init
-loop-entry-init c = sym (ap (λ (ps : List (List ℕ)). c.args.sent.now ++ ps) none_sent ∙ append-nil c.args.sent.now)
-
 pub loop-entry-preserved : goal.loop-entry-preserved
-loop-entry-preserved c = sent_more c.args.entries.now c.loop-entry.entry-index c.entry-item.result c.args.sent.now c.loop-entry.sent c.post.new.sent c.loop-entry-test.true c.entry-item.is c.loop-entry.invariant c.in_ok-post.ensures
+loop-entry-preserved c =
+    sent_on c.args.sent.now c.loop-entry.sent c.post.new.sent c.in-Some.entry.now c.take.new.self c.args.left c.in_ok-post.ensures
+    (subst (λ (left : List TapeEntry). c.loop-entry.sent ++ sent_of left ≡ c.args.sent.now ++ sent_of c.args.left) c.in-Some.ensures c.loop-entry.invariant)
+
+pub returns : goal.returns
+returns c =
+    let sent = c.loop-entry.sent in
+    sym (append-nil sent)
+    ∙ (ap (λ (ps : List (List ℕ)). sent ++ ps) (sym sent_of-none)
+    ∙ (ap (λ (left : List TapeEntry). sent ++ sent_of left) (sym c.in_default.ensures) ∙ c.loop-entry.invariant))

@@ -1,0 +1,43 @@
+//! Merging tapes in which memory was lacking.
+ghost use Rattle.std.specs.Prelude.{◌≡◌, length, IfOk, IfErr};
+ghost use Rattle.gb_cluster.specs.ClusterValue.{IsClusterPlan};
+ghost use Rattle.gb_merge.specs.Fed.{IsMergedFed, IsFedFault, FedIsOneRun, RefusalsLeaveNodes};
+
+use crate::fault::AuditFault;
+use crate::merge::merge_entries;
+use crate::weave::whole_fed;
+use gb_cluster::event::Event;
+use gb_isolation::laws::{ample_runs_feed_all, groups_are_isolated};
+use gb_node::past::packets_say;
+use gb_node::tape::Tape;
+use gb_types::plan::Plan;
+use std::alloc::Global;
+
+/// Merges the entries of tapes that were not refused for lack of memory, as `merge` merges all: a refused one changed
+/// nothing at its node. Each fault is one of those entries.
+pub fn merge_fed(alloc: Global, plan: &Plan, tapes: &[Tape]) -> Result<Vec<Event>, AuditFault>
+    requires plan { IsClusterPlan plan.now }
+    requires one_each { length tapes.now ≡ plan.now.nodes }
+    ensures ok { IfOk result (λ v. IsMergedFed plan.now tapes.now v.items) }
+    ensures err { IfErr result (IsFedFault plan.now tapes.now) }
+{
+    let tapes = whole_fed(alloc, tapes)?;
+    merge_entries(alloc, plan, tapes)
+}
+
+/// What is merged so is one run of a cluster, in which each group is what it is alone. Each node ends in it as the replay of
+/// its whole tape, and a group of which no request was refused for lack of memory at a node got there the replies of the
+/// run. The function does nothing when it runs; its contract is the law.
+pub fn fed_is_one_run()
+    ensures { FedIsOneRun }
+{
+    groups_are_isolated();
+    ample_runs_feed_all();
+    packets_say();
+}
+
+/// A node that refuses for lack of memory stays as it was, whatever was asked. The function does nothing when it runs; its
+/// contract is the law.
+pub fn refusals_leave_nodes()
+    ensures { RefusalsLeaveNodes }
+{}
