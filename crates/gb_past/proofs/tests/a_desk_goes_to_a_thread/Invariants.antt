@@ -1,0 +1,5 @@
+use Rattle.gb_past.proofs.tests.a_desk_goes_to_a_thread.Given as goal
+
+-- the ledger that was just made
+abbrev pub ghosts-on_a_thread : goal.ghosts-on_a_thread
+ghosts-on_a_thread g a = record { name = a.blank.name; parts = a.blank.parts }

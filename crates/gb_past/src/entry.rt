@@ -1,0 +1,136 @@
+//! How a past lies in a book of `logbook`. The owner holds a pen whose cell is not at home. An entry is added in the
+//! step that brings this cell home, with the key of the owner's next cell. So while a cell is not at home, no entry
+//! was added at it: what its owner knows is the whole past.
+ghost use Rattle.std.specs.Prelude.{List};
+
+use crate::story::Told;
+use logbook::{Gain, Pen, Plain, Play, Rule};
+use std::marker::PhantomData;
+
+/// An entry of a past, with its place in the book. No value of it is made.
+pub struct Place<E> {
+    /// The key of the past's first cell.
+    pub past: u64,
+    /// The key of the cell that came home.
+    pub at: u64,
+    /// The key of the owner's next cell.
+    pub next: u64,
+    pub entry: E,
+}
+
+/// What stands in the book. No value of it is made.
+pub enum Mark<E> {
+    /// A past begins, whose first cell has this key.
+    Begun(u64),
+    Added(Place<E>),
+}
+
+/// The rule of the book.
+pub struct Law;
+
+impl<E> Rule<Mark<E>, u64> for Law {
+    ghost use Rattle.std.specs.Prelude.{[]};
+    ghost use base.Fml.{ftrue};
+    ghost use Rattle.gb_past.specs.Marks.{IsKept};
+
+    ghost holds = { λ cells marks. IsKept cells marks };
+
+    ghost first = { [] };
+
+    ghost hinted = { λ n marks. Unit {0} };
+
+    ghost shows = { λ marks. [] };
+
+    ghost keeps = { λ names marks. ftrue };
+
+    ghost moves = { λ ask before after answer. Unit {0} };
+}
+
+/// Who steps trades nothing.
+pub struct Nothing;
+
+impl<E> Gain<Mark<E>, u64> for Nothing {
+    ghost use base.Fml.{ftrue};
+
+    ghost after = { λ names about answer. ftrue };
+}
+
+/// The step by which a past begins.
+pub struct Begin;
+
+impl<E> Play<Mark<E>, u64> for Begin {
+    ghost use Rattle.gb_past.specs.Marks.{Begins};
+
+    ghost then = { Begins };
+}
+
+/// The step that finds a new cell.
+pub struct Find;
+
+impl<E> Play<Mark<E>, u64> for Find {
+    ghost use Rattle.gb_past.specs.Marks.{Finds};
+
+    ghost then = { Finds };
+}
+
+/// The owner's step that changes nothing.
+pub struct Look;
+
+impl<E> Play<Mark<E>, u64> for Look {
+    ghost use Rattle.gb_past.specs.Marks.{Looks};
+
+    ghost then = { Looks };
+}
+
+/// The owner's step that adds an entry.
+pub struct Add;
+
+impl<E> Play<Mark<E>, u64> for Add {
+    ghost use Rattle.gb_past.specs.Marks.{Adds};
+
+    ghost then = { Adds };
+}
+
+/// A step that asks for nothing.
+impl<E> Plain<u64, Mark<E>, u64> for Look {
+    ghost use Rattle.std.specs.Prelude.{None};
+    ghost use Rattle.gb_past.specs.declared.entry.Mark.TheVariants.{Begun};
+
+    ghost ask = { λ n. Begun n };
+
+    ghost state = { λ n. None };
+}
+
+/// What is to be added, by whom.
+pub struct Asked<'a, X, E> {
+    pub marks: &'a logbook::Seen<Mark<E>, u64, Law>,
+    pub pen: &'a Pen,
+    pub next: &'a Pen,
+    pub about: &'a X,
+}
+
+impl<X, E> Drop for Asked<'_, X, E> {
+    fn drop(self) {
+        let Self {
+            marks: _,
+            pen: _,
+            next: _,
+            about: _,
+        } = self;
+    }
+}
+
+/// A step that asks for an entry.
+pub struct Telling<M> {
+    marker: PhantomData<M>,
+}
+
+impl<'a, X, E, M: Told<X, E>> Plain<Asked<'a, X, E>, Mark<E>, u64> for Telling<M> {
+    ghost use Rattle.std.specs.Prelude.{None};
+    ghost use Rattle.gb_past.specs.Marks.{last_past};
+    ghost use Rattle.gb_past.specs.declared.entry.Mark.TheVariants.{Added};
+
+    ghost ask = { λ a. Added (record { past = last_past a.marks.now.log; at = a.pen.now.nib.key; next = a.next.now.nib.key; entry = M.entry a.about.now }) };
+
+    ghost state = { λ a. None };
+}
