@@ -7,7 +7,7 @@ set -eu
 top=$(cd "$(dirname "$0")/.." && pwd)
 work=$top/bench/out/host
 mkdir -p "$work/crates"
-lower='types|cap|frame|link|detect|layer|reliable|uniform|fifo|records|stack|rules|history|slot|groups|table|node|session|port|host|worker'
+lower='types|cap|frame|link|detect|layer|reliable|uniform|fifo|records|stack|rules|history|slot|groups|table|node|session|port|past|host|worker'
 for crate in ${lower//|/ }; do
     from=$top/crates/gb_$crate to=$work/crates/gb_$crate
     mkdir -p "$to"

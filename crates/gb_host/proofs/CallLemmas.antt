@@ -1,6 +1,7 @@
 -- The calls in a tape and in a list, an entry further.
-use Rattle.std.proofs.Common.{◌≡◌, ◌≢◌, ℕ, zero, suc, ◌≤◌, List, [], ◌∷◌, length, refl, sym, ap, ◌∙◌, arith, cond, Option, Some, None, IfNone, get_or}
+use Rattle.std.proofs.Common.{◌≡◌, ◌≢◌, ℕ, zero, suc, ◌≤◌, List, [], ◌∷◌, ◌++◌, inl, inr, length, refl, sym, ap, ◌∙◌, arith, cond, Option, Some, None, IfNone, get_or}
 use Rattle.std.proofs.lemmas.Bool.{ne_eqb, eq-eqb}
+use Rattle.std.proofs.lemmas.Bool.Decides.{eqb_tells}
 use Rattle.gb_node.specs.declared.tape.TapeEntry.{TapeEntry}
 use Rattle.gb_host.specs.Calls.{Call, calls_of, calls_at, numbered}
 use Rattle.gb_host.specs.Closing.{list_at, IsOther}
@@ -13,6 +14,14 @@ at_hit node e es h = ap (λ b. cond b ((e.event, e.answer) ∷ calls_at node es)
 
 pub at_miss : (node : ℕ) (e : SeatEntry) (es : List SeatEntry) → e.node.number ≢ node → calls_at node (e ∷ es) ≡ calls_at node es
 at_miss node e es h = ap (λ b. cond b ((e.event, e.answer) ∷ calls_at node es) (calls_at node es)) (ne_eqb e.node.number node h)
+
+pub calls_at_append : (k : ℕ) (xs ys : List SeatEntry) → calls_at k (xs ++ ys) ≡ calls_at k xs ++ calls_at k ys
+calls_at_append k [] ys = refl
+calls_at_append k (x ∷ xs) ys =
+    elim (eqb_tells x.node.number k) [
+      | inl t ↦ at_hit k x (xs ++ ys) t.1 ∙ (ap (λ zs. (x.event, x.answer) ∷ zs) (calls_at_append k xs ys) ∙ ap (λ zs. zs ++ calls_at k ys) (sym (at_hit k x xs t.1)))
+      | inr t ↦ at_miss k x (xs ++ ys) t.1 ∙ (calls_at_append k xs ys ∙ ap (λ zs. zs ++ calls_at k ys) (sym (at_miss k x xs t.1)))
+    ]
 
 -- an entry with its count, as a call
 abbrev pub call_of : TapeEntry → ℕ × Call

@@ -1,9 +1,12 @@
 -- What follows where each list is its entries in the tapes.
-use Rattle.std.proofs.Common.{◌≡◌, ◌≢◌, ℕ, zero, suc, ◌+◌, ◌<◌, ◌≤◌, ◌==◌, Bool, true, false, List, [], ◌∷◌, ◌++◌, length, refl, sym, ap, ap₂, ◌∙◌, arith, cond, eqb, get_or, append_assoc, sum_by, inl, inr, ◌⊎◌, subst, add_assoc, add_comm, zero-add}
+use Rattle.std.proofs.Common.{◌≡◌, ◌≢◌, ℕ, zero, suc, ◌+◌, ◌<◌, ◌≤◌, ◌==◌, Bool, true, false, List, [], ◌∷◌, ◌++◌, length, refl, sym, ap, ap₂, ◌∙◌, arith, cond, eqb, get_or, append_assoc, sum_by, inl, inr, ◌⊎◌, subst, add_assoc, add_comm, zero-add, Option, Some, None, Result, Ok, Err, vec_len, vec_capacity}
+use Rattle.std.specs.Prelude.{OnOk}
+use Rattle.std.specs.FinSet as set
+use Rattle.std.specs.Ordering.{nat_cmp}
 use Rattle.std.proofs.lemmas.Bool.{eq-eqb, ne_eqb}
 use Rattle.std.proofs.lemmas.Bool.Decides.{eqb_tells}
 use Rattle.std.proofs.lemmas.List.Sums.{sum_by-append}
-use Rattle.std.proofs.lemmas.List.{get_or_append_left, append-nil}
+use Rattle.std.proofs.lemmas.List.{get_or_append_left, append-nil, length_push}
 use Rattle.std.proofs.Math.Seq.{get_or-append_seam}
 use Rattle.gb_types.proofs.SameLemmas.{same_number}
 use Rattle.gb_types.specs.declared.node.NodeId.{NodeId}
@@ -15,11 +18,14 @@ use Rattle.gb_host.specs.declared.plan.HostPlan.{HostPlan}
 use Rattle.gb_node.specs.declared.tape.TapeEntry.{TapeEntry}
 use Rattle.gb_host.specs.declared.entry.SeatEntry.{SeatEntry}
 use Rattle.gb_host.specs.SeatValue.{SeatValue}
+use Rattle.gb_host.specs.Placed.{AreSoFar, HasAdded}
 use Rattle.gb_host.specs.Plans.{plan_of}
+use Rattle.gb_host.specs.declared.closed.Closed.{Closed}
+use Rattle.gb_host.specs.declared.fault.HostFault.{HostFault}
 use Rattle.gb_host.specs.Calls.{Call, calls_of, calls_at, numbered}
 use Rattle.gb_host.specs.Replay.{happened, past_of, IsReplay}
-use Rattle.gb_host.specs.Closing.{tape_at, list_at, list_of, AreReplays, AreSame, AreFresh, tape_entries, seat_entries}
-use Rattle.gb_host.proofs.CallLemmas.{call_of, past_end, at_hit, at_miss, of_hit, of_miss}
+use Rattle.gb_host.specs.Closing.{tape_at, list_at, list_of, IsClosed, AreReplays, AreSame, AreFresh, tape_entries, seat_entries}
+use Rattle.gb_host.proofs.CallLemmas.{calls_at_append, call_of, past_end, at_hit, of_hit, of_miss}
 
 -- a sum over the numbers below n
 sum_to : ℕ → (ℕ → ℕ) → ℕ
@@ -135,25 +141,46 @@ same_entries tapes lists h =
     ∙ (sum_to_same m _ _ (λ s. sum_to_same n _ _ (λ k. here s k) ∙ by_list s)
     ∙ sym (lengths_to lists))))
 
--- a node more
-pub replays_more : (p : HostPlan) (me : NodeId) (n : ℕ) (nodes : List NodeValue) (tapes : List (List TapeEntry)) (node : NodeValue) (tape : List TapeEntry) → length nodes ≡ n → length tapes ≡ n → me.number ≡ n
-    → AreReplays p n nodes tapes → IsReplay p me node tape → AreReplays p (n + 1) (nodes ++ node ∷ []) (tapes ++ tape ∷ [])
-replays_more p me n nodes tapes node tape a b number h i other d under =
+-- a place more
+pub replays_more : (p : HostPlan) (here : set.FinSet nat_cmp) (me : NodeId) (n : ℕ) (nodes : List (Option NodeValue)) (tapes : List (List TapeEntry)) (node : Option NodeValue) (tape : List TapeEntry) → length nodes ≡ n → length tapes ≡ n → me.number ≡ n
+    → AreReplays p here n nodes tapes → IsClosed p (set.contains here me.number) me node tape → AreReplays p here (n + 1) (nodes ++ node ∷ []) (tapes ++ tape ∷ [])
+replays_more p here me n nodes tapes node tape a b number h i other d under =
     let k : ℕ = other.number in
     elim (eqb_tells k n) [
       | inl t ↦
           let x : get_or (nodes ++ node ∷ []) k d ≡ node = ap (λ j. get_or (nodes ++ node ∷ []) j d) (t.1 ∙ sym a) ∙ get_or-append_seam nodes node [] d in
           let y : get_or (tapes ++ tape ∷ []) k [] ≡ tape = ap (λ j. get_or (tapes ++ tape ∷ []) j []) (t.1 ∙ sym b) ∙ get_or-append_seam tapes tape [] [] in
           let same : me ≡ other = same_number me other (number ∙ sym t.1) in
-          rw (x, y) (subst (λ (m : NodeId). IsReplay p m node tape) same i)
+          rw (x, y) (subst (λ (m : NodeId). IsClosed p (set.contains here m.number) m node tape) same i)
       | inr t ↦
           rw (get_or_append_left nodes (node ∷ []) d k (omega (arith, t.1)), get_or_append_left tapes (tape ∷ []) [] k (omega (arith, t.1))) (h other d (omega (arith, t.1)))
     ]
 
-pub replays_step : (p q : HostPlan) (me : NodeId) (n most : ℕ) (nodes less : List NodeValue) (tapes fewer : List (List TapeEntry)) (node x : NodeValue) (tape t : List TapeEntry) → length less ≡ n → length fewer ≡ n
-    → AreReplays p n less fewer → IsReplay q me x t → p ≡ q → me.number ≡ n → node ≡ x → tape ≡ t → most ≡ n + 1 → nodes ≡ less ++ node ∷ [] → tapes ≡ fewer ++ tape ∷ [] → AreReplays p most nodes tapes
-replays_step p q me n most nodes less tapes fewer node x tape t a b h i plan number same_node same_tape up one_node one_tape =
-    rw (up, one_node, one_tape, same_node, same_tape) (replays_more p me n less fewer x t a b number h (rw plan i))
+pub replays_none : (p : HostPlan) (here : set.FinSet nat_cmp) (nodes : List (Option NodeValue)) (tapes : List (List TapeEntry)) (n : ℕ) → n ≡ 0 → AreReplays p here n nodes tapes
+replays_none p here nodes tapes n none b d under = absurd (omega (arith, none, under))
+
+pub replays_step : (p : HostPlan) (here : set.FinSet nat_cmp) (me : NodeId) (n most : ℕ) (nodes less : List (Option NodeValue)) (tapes fewer : List (List TapeEntry)) (node : Option NodeValue) (tape : List TapeEntry) → length less ≡ n → length fewer ≡ n
+    → AreReplays p here n less fewer → IsClosed p (set.contains here me.number) me node tape → me.number ≡ n → most ≡ n + 1 → nodes ≡ less ++ node ∷ [] → tapes ≡ fewer ++ tape ∷ [] → AreReplays p here most nodes tapes
+replays_step p here me n most nodes less tapes fewer node tape a b h i number up one_node one_tape =
+    rw (up, one_node, one_tape) (replays_more p here me n less fewer node tape a b number h i)
+
+so_far_next : (p : HostPlan) (here : set.FinSet nat_cmp) (me : NodeId) (is_here : Bool) (old new : Closed) → AreSoFar p here old → is_here ≡ set.contains here me.number → me.number ≡ vec_len old.nodes → HasAdded p is_here me old new
+    → (vec_capacity new.nodes ≡ vec_capacity old.nodes) × (vec_capacity new.tapes ≡ vec_capacity old.tapes) → AreSoFar p here new
+so_far_next p here me is_here old new so_far at number added capacity =
+    let one_node : vec_len new.nodes ≡ vec_len old.nodes + 1 = let l = ap length added.2 ∙ length_push old.nodes.items added.0 in omega (arith, l, old.nodes.ok.0, new.nodes.ok.0) in
+    let one_tape : vec_len new.tapes ≡ vec_len old.tapes + 1 = let l = ap length added.3 ∙ length_push old.tapes.items added.1 in omega (arith, l, old.tapes.ok.0, new.tapes.ok.0) in
+    record {
+      as_many = one_tape ∙ (ap (λ n. n + 1) so_far.as_many ∙ sym one_node);
+      node_room = let r = so_far.node_room in let e = capacity.0 in omega arith;
+      tape_room = let r = so_far.tape_room in let e = capacity.1 in omega arith;
+      replays = replays_step p here me (vec_len old.nodes) (vec_len new.nodes) new.nodes.items old.nodes.items new.tapes.items old.tapes.items added.0 added.1 (omega (arith, old.nodes.ok.0)) (omega (arith, old.tapes.ok.0, so_far.as_many)) so_far.replays
+          (subst (λ (b : Bool). IsClosed p b me added.0 added.1) at added.4) number one_node added.2 added.3;
+    }
+
+pub so_far_more : (p : HostPlan) (here : set.FinSet nat_cmp) (me : NodeId) (is_here : Bool) (old new : Closed) (result : Result Unit HostFault) → AreSoFar p here old → is_here ≡ set.contains here me.number → me.number ≡ vec_len old.nodes
+    → OnOk result (HasAdded p is_here me old new) → OnOk result ((vec_capacity new.nodes ≡ vec_capacity old.nodes) × (vec_capacity new.tapes ≡ vec_capacity old.tapes)) → OnOk result (AreSoFar p here new)
+so_far_more p here me is_here old new (Ok x) so_far at number added capacity = so_far_next p here me is_here old new so_far at number added capacity
+so_far_more p here me is_here old new (Err e) so_far at number added capacity = tt
 
 -- the place of a call in a tape
 pub record Placed (s : ℕ) (tape : List TapeEntry) (cs : List (ℕ × Call)) (c : ℕ × Call) : Type 0 where
@@ -220,29 +247,27 @@ answered_there plan before rest e v comes =
     answered_in plan (past_of rest) (past_of before) (happened e) v
     (subst (λ p. ComesTo plan p v) (past_append before (e ∷ rest) ∙ append_assoc (past_of rest) (happened e ∷ []) (past_of before)) comes)
 
-calls_at_append : (k : ℕ) (xs ys : List SeatEntry) → calls_at k (xs ++ ys) ≡ calls_at k xs ++ calls_at k ys
-calls_at_append k [] ys = refl
-calls_at_append k (x ∷ xs) ys =
-    elim (eqb_tells x.node.number k) [
-      | inl t ↦ at_hit k x (xs ++ ys) t.1 ∙ (ap (λ zs. (x.event, x.answer) ∷ zs) (calls_at_append k xs ys) ∙ ap (λ zs. zs ++ calls_at k ys) (sym (at_hit k x xs t.1)))
-      | inr t ↦ at_miss k x (xs ++ ys) t.1 ∙ (calls_at_append k xs ys ∙ ap (λ zs. zs ++ calls_at k ys) (sym (at_miss k x xs t.1)))
-    ]
-
 numbered_append : (n : ℕ) (xs ys : List Call) → (m : ℕ) × (numbered n (xs ++ ys) ≡ numbered n xs ++ numbered m ys)
 numbered_append n [] ys = (n, refl)
 numbered_append n (x ∷ xs) ys = let more = numbered_append (n + 1) xs ys in (more.0, ap (λ cs. (n, x) ∷ cs) more.1)
 
-pub all_fresh : (p : HostPlan) (nodes : List NodeValue) (tapes : List (List TapeEntry)) (lists : ℕ → List SeatEntry) → p.tape ≡ true → AreReplays p p.cluster.nodes nodes tapes → AreSame tapes lists → AreFresh p tapes lists
-all_fresh p nodes tapes lists on replays same s xs ys x split under =
+-- the state of a node that has a tape with an entry
+state_of : (p : HostPlan) (is_here : Bool) (b : NodeId) (node : Option NodeValue) (tape before rest : List TapeEntry) (e : TapeEntry) → p.tape ≡ true → IsClosed p is_here b node tape → tape ≡ before ++ e ∷ rest
+    → (v : NodeValue) × ComesTo (plan_of p b) (past_of tape) v
+state_of p is_here b (Some v) tape before rest e on closed place = (v, closed.1 on)
+state_of p is_here b None tape [] rest e on closed place = absurd (let g : [] ≡ e ∷ rest = sym closed.1 ∙ place in cc)
+state_of p is_here b None tape (x ∷ before) rest e on closed place = absurd (let g : [] ≡ x ∷ (before ++ e ∷ rest) = sym closed.1 ∙ place in cc)
+
+pub all_fresh : (p : HostPlan) (here : set.FinSet nat_cmp) (nodes : List (Option NodeValue)) (tapes : List (List TapeEntry)) (lists : ℕ → List SeatEntry) → p.tape ≡ true → AreReplays p here p.cluster.nodes nodes tapes → AreSame tapes lists → AreFresh p tapes lists
+all_fresh p here nodes tapes lists on replays same s xs ys x split under =
     let k : ℕ = x.node.number in
     let tape : List TapeEntry = tape_at tapes k in
-    let v : NodeValue = get_or nodes k (new_node (plan_of p x.node)) in
     let calls : calls_at k (lists s) ≡ calls_at k xs ++ (x.event, x.answer) ∷ calls_at k ys = ap (calls_at k) split ∙ (calls_at_append k xs (x ∷ ys) ∙ ap (λ zs. calls_at k xs ++ zs) (at_hit k x ys refl)) in
     let parted = numbered_append 0 (calls_at k xs) ((x.event, x.answer) ∷ calls_at k ys) in
     let at : Placed s tape (numbered 0 (calls_at k xs)) (parted.0, (x.event, x.answer)) =
     placed_at s tape (numbered 0 (calls_at k xs)) (numbered (parted.0 + 1) (calls_at k ys)) (parted.0, (x.event, x.answer)) (same s k ∙ (ap (numbered 0) calls ∙ parted.1)) in
-    let comes : ComesTo (plan_of p x.node) (past_of tape) v = replays x.node (new_node (plan_of p x.node)) under on in
-    let answered : Answered (plan_of p x.node) (past_of at.before) (happened at.entry) = answered_there (plan_of p x.node) at.before at.rest at.entry v (subst (λ es. ComesTo (plan_of p x.node) (past_of es) v) at.place comes) in
+    let v = state_of p (set.contains here k) x.node (get_or nodes k None) tape at.before at.rest at.entry on (replays x.node None under) at.place in
+    let answered : Answered (plan_of p x.node) (past_of at.before) (happened at.entry) = answered_there (plan_of p x.node) at.before at.rest at.entry v.0 (subst (λ es. ComesTo (plan_of p x.node) (past_of es) v.0) {y = at.before ++ at.entry ∷ at.rest} at.place v.1) in
     record {
       before = at.before;
       entry = at.entry;
@@ -265,6 +290,6 @@ closed_same tapes lists seats h same s k = same s k ∙ ap (λ xs. numbered 0 (c
 pub closed_entries : (tapes : List (List TapeEntry)) (lists : List (List SeatEntry)) (seats : List SeatValue) → sum_by length lists ≡ seat_entries seats → AreSame tapes (list_at lists) → tape_entries tapes ≡ seat_entries seats
 closed_entries tapes lists seats sum same = same_entries tapes lists same ∙ sum
 
-pub closed_fresh : (p : HostPlan) (nodes : List NodeValue) (tapes : List (List TapeEntry)) (lists : List (List SeatEntry)) (seats : List SeatValue) → p.tape ≡ true → AreReplays p p.cluster.nodes nodes tapes
+pub closed_fresh : (p : HostPlan) (here : set.FinSet nat_cmp) (nodes : List (Option NodeValue)) (tapes : List (List TapeEntry)) (lists : List (List SeatEntry)) (seats : List SeatValue) → p.tape ≡ true → AreReplays p here p.cluster.nodes nodes tapes
     → ((s : ℕ) → list_at lists s ≡ list_of seats s) → AreSame tapes (list_at lists) → AreFresh p tapes (list_of seats)
-closed_fresh p nodes tapes lists seats on replays h same = all_fresh p nodes tapes (list_of seats) on replays (closed_same tapes lists seats h same)
+closed_fresh p here nodes tapes lists seats on replays h same = all_fresh p here nodes tapes (list_of seats) on replays (closed_same tapes lists seats h same)

@@ -3,3 +3,4 @@ pub mod CallLemmas
 pub mod GatheringLemmas
 pub mod ClosingLemmas
 pub mod PlanLemmas
+pub mod HereLemmas

@@ -1,7 +1,11 @@
 -- An entry more in a tape, and a call more in a seat's list.
-use Rattle.std.proofs.Common.{◌≡◌, ℕ, suc, ◌+◌, ◌<◌, ◌≤◌, ◌==◌, Bool, true, false, List, [], ◌∷◌, ◌++◌, length, refl, sym, ap, subst, ◌∙◌, arith, cond, get_or, set, add_assoc, add_comm, replicate, true≢false}
+use Rattle.std.proofs.Common.{◌≡◌, ◌≢◌, ℕ, zero, suc, ◌+◌, ◌<◌, ◌≤◌, ◌==◌, Bool, true, false, List, [], ◌∷◌, ◌++◌, length, refl, sym, ap, subst, ◌∙◌, arith, cond, get_or, set, add_assoc, add_comm, replicate, inl, inr, Option, Some, None}
 use Rattle.std.proofs.lemmas.Grind.{common_steps}
-use Rattle.std.proofs.lemmas.List.{get_or-replicate, length-set, length_push}
+use Rattle.std.proofs.lemmas.Bool.Decides.{eqb_tells}
+use Rattle.std.proofs.lemmas.List.{append-nil, get_or-replicate, get_or-set_same, get_or-set_other, get_or_append_left, length-set, length_push}
+use Rattle.std.proofs.Math.Seq.{get_or-append_seam}
+use Rattle.gb_past.specs.Story.{Known}
+use Rattle.gb_types.proofs.SameLemmas.{same_number}
 use Rattle.gb_types.specs.declared.limits.TheConstants.{NODES}
 use Rattle.gb_types.specs.declared.node.NodeId.{NodeId}
 use Rattle.gb_node.specs.NodeValue.{NodeValue, new_node, IsNodePlan}
@@ -9,10 +13,17 @@ use Rattle.gb_node.specs.NodeStep.{IsTurn, IsSpelt}
 use Rattle.gb_node.specs.Past.{Happened, ComesTo}
 use Rattle.gb_node.specs.declared.plan.NodePlan.{NodePlan}
 use Rattle.gb_node.specs.declared.tape.TapeEntry.{TapeEntry}
-use Rattle.gb_host.specs.Calls.{calls_at}
+use Rattle.gb_node.specs.declared.answer.NodeAnswer.{NodeAnswer}
+use Rattle.gb_node.specs.declared.event.NodeEvent.{NodeEvent}
+use Rattle.gb_host.specs.Calls.{Call, calls_at}
+use Rattle.gb_host.specs.Copied.{AreCopies, list_copy, tape_copy}
+use Rattle.gb_host.specs.Happened.{AreAmong, GoesOn, HasHappened, HaveHappened}
+use Rattle.gb_host.specs.Pasts.{BookName, no_book, book_at, books_of, past_at, seen_at, AreOfBooks, AreUnseen}
+use Rattle.gb_host.specs.declared.copies.Copies.{Copies}
+use Rattle.gb_host.proofs.CallLemmas.{at_hit, at_miss, calls_at_append}
 use Rattle.gb_host.specs.Fits.{HostedFits, SeatFits}
 use Rattle.gb_host.specs.HostedValue.{HostedValue}
-use Rattle.gb_host.specs.Plans.{plan_of, kept, IsPlan}
+use Rattle.gb_host.specs.Plans.{plan_of, IsPlan}
 use Rattle.gb_host.specs.Replay.{happened, past_of}
 use Rattle.gb_host.specs.SeatValue.{SeatValue}
 use Rattle.gb_host.specs.declared.entry.SeatEntry.{SeatEntry}
@@ -38,26 +49,56 @@ comes_new plan v right is = (right, is)
 node_plan_right : (p : HostPlan) (me : NodeId) → IsPlan p → me.number < p.cluster.nodes → IsNodePlan (plan_of p me)
 node_plan_right p me right member = record { cluster = right.named me.number member; member = member; places = right.places; least = right.least; most = right.most }
 
-pub hosted_fits_new : (p : HostPlan) (h : HostedValue) → h.node ≡ new_node (plan_of p h.me) → h.tape ≡ [] → h.amount ≡ 0 → 0 < h.parts → IsPlan p → h.me.number < p.cluster.nodes → HostedFits p h
-hosted_fits_new p h node tape amount parts right member = record {
-  replayed = λ on. subst (λ es. ComesTo (plan_of p h.me) (past_of es) h.node) (sym tape) (comes_new (plan_of p h.me) h.node (node_plan_right p h.me right member) node);
-  empty = λ off. tape;
-  counted = amount ∙ ap length (sym tape);
-  backed = parts;
+none_kept : {X : Type 0} (b : Bool) → ◌≡◌ {A = List X} [] (cond b [] [])
+none_kept true = refl
+none_kept false = refl
+
+-- what is kept, with one more
+kept_more : {X : Type 0} (b : Bool) (all some : List X) (x : X) → some ≡ cond b all [] → some ++ cond b (x ∷ []) [] ≡ cond b (all ++ x ∷ []) []
+kept_more true all some x h = ap (λ xs. xs ++ x ∷ []) h
+kept_more false all some x h = ap (λ xs. xs ++ []) h
+
+pub hosted_fits_new : (p : HostPlan) (books : List BookName) (h : HostedValue) → h.node ≡ new_node (plan_of p h.me) → h.past ≡ [] → h.tape ≡ [] → h.book ≡ book_at books h.me.number → IsPlan p → h.me.number < p.cluster.nodes → HostedFits p books h
+hosted_fits_new p books h node past tape book right member = record {
+  member = member;
+  comes = subst (λ es. ComesTo (plan_of p h.me) (past_of es) h.node) (sym past) (comes_new (plan_of p h.me) h.node (node_plan_right p h.me right member) node);
+  kept = tape ∙ (none_kept p.tape ∙ ap (λ es. cond p.tape es []) (sym past));
+  booked = book;
 }
 
--- with tapes a thing is kept
-pub kept_one : {X : Type 0} (p : HostPlan) (x : X) → p.tape ≡ true → kept p x ≡ x ∷ []
-kept_one p x on = ap (λ b. cond b (x ∷ []) []) on
-
-pub hosted_fits_more : (p : HostPlan) (old new : HostedValue) (e : TapeEntry) → HostedFits p old → p.tape ≡ true → new.me ≡ old.me → IsTurn old.node e.event e.answer new.node → IsSpelt old.node e.event e.answer
-    → new.tape ≡ old.tape ++ e ∷ [] → new.amount ≡ old.amount + 1 → new.parts ≡ old.parts → HostedFits p new
-hosted_fits_more p old new e fits on me turn spelt tape amount parts = record {
-  replayed = λ _. rw (me, tape) (replay_more (plan_of p old.me) old.tape e old.node new.node (fits.replayed on) turn spelt);
-  empty = λ off. absurd (true≢false (sym on ∙ off));
-  counted = let l = ap length tape in let n = length_push old.tape e in let h = fits.counted in omega arith;
-  backed = rw parts fits.backed;
+pub hosted_fits_more : (p : HostPlan) (books : List BookName) (old new : HostedValue) (e : TapeEntry) → HostedFits p books old → new.me ≡ old.me → IsTurn old.node e.event e.answer new.node → IsSpelt old.node e.event e.answer
+    → new.past ≡ old.past ++ e ∷ [] → new.tape ≡ old.tape ++ cond p.tape (e ∷ []) [] → new.book ≡ old.book → HostedFits p books new
+hosted_fits_more p books old new e fits me turn spelt past tape book = record {
+  member = rw me fits.member;
+  comes = rw (me, past) (replay_more (plan_of p old.me) old.past e old.node new.node fits.comes turn spelt);
+  kept = tape ∙ (kept_more p.tape old.past old.tape e fits.kept ∙ ap (λ es. cond p.tape es []) (sym past));
+  booked = book ∙ (fits.booked ∙ ap (λ (b : NodeId). book_at books b.number) (sym me));
 }
+
+-- what copies there are of a call
+pub tape_kept : (b : Bool) (seat count : ℕ) (event : NodeEvent) (answer : NodeAnswer) (copies : Option Copies) → AreCopies b event answer copies → tape_copy seat count event copies ≡ cond b (record { seat = seat; count = count; event = event; answer = answer } ∷ []) []
+tape_kept true seat count event answer (Some c) h = ap (λ a. record { seat = seat; count = count; event = event; answer = a } ∷ []) h.2
+tape_kept true seat count event answer None h = absurd h
+tape_kept false seat count event answer (Some c) h = absurd h
+tape_kept false seat count event answer None h = refl
+
+pub list_kept : (b : Bool) (node : NodeId) (event : NodeEvent) (answer : NodeAnswer) (copies : Option Copies) → AreCopies b event answer copies → list_copy node copies ≡ cond b (record { node = node; event = event; answer = answer } ∷ []) []
+list_kept true node event answer (Some c) h = λ i. record { node = node; event = h.0 i; answer = h.1 i } ∷ []
+list_kept true node event answer None h = absurd h
+list_kept false node event answer (Some c) h = absurd h
+list_kept false node event answer None h = refl
+
+-- Calls among entries.
+
+among_one : (c : Call) (fs : List TapeEntry) (x : TapeEntry) → c ≡ (x.event, x.answer) → AreAmong (c ∷ []) (fs ++ x ∷ [])
+among_one c [] x h = inl (h, tt)
+among_one c (f ∷ fs) x h = inr (among_one c fs x h)
+
+among_snoc : (cs : List Call) (es fs : List TapeEntry) (c : Call) (x : TapeEntry) → c ≡ (x.event, x.answer) → AreAmong cs es → AreAmong (cs ++ c ∷ []) ((es ++ fs) ++ x ∷ [])
+among_snoc [] es fs c x h a = among_one c (es ++ fs) x h
+among_snoc (d ∷ cs) [] fs c x h a = absurd a
+among_snoc (d ∷ cs) (e ∷ es) fs c x h (inl a) = inl (a.0, among_snoc cs es fs c x h a.1)
+among_snoc (d ∷ cs) (e ∷ es) fs c x h (inr a) = inr (among_snoc (d ∷ cs) es fs c x h a)
 
 -- The counts of one call more.
 
@@ -102,20 +143,161 @@ counts_more counts list e one_each fits k under =
     let more : length (calls_at k (list ++ e ∷ [])) ≡ length (calls_at k list) + one_if (n == k) = calls_at_push k list e in
     grind (arith, common_steps)
 
-pub seat_fits_new : (s : SeatValue) → s.counts ≡ replicate NODES 0 → s.list ≡ [] → s.amount ≡ 0 → 0 < s.parts → SeatFits s
-seat_fits_new s counts list amount parts = record {
-  counts = λ k under. ap (λ (xs : List ℕ). get_or xs k 0) counts ∙ (get_or-replicate NODES k 0 0 under ∙ ap (λ (xs : List SeatEntry). length (calls_at k xs)) (sym list));
+-- what stands at a place, whatever would stand past the end
+pub any_default : {X : Type 0} (xs : List X) (k : ℕ) (d e : X) → k < length xs → get_or xs k d ≡ get_or xs k e
+any_default [] k d e h = absurd (omega arith)
+any_default (x ∷ xs) zero d e h = refl
+any_default (x ∷ xs) (suc k) d e h = any_default xs k d e (omega arith)
+
+seen_other : (seen : List (Known TapeEntry)) (i k : ℕ) (x d : Known TapeEntry) → k ≢ i → get_or (set seen i x) k d ≡ get_or seen k d
+seen_other seen i k x d ne = get_or-set_other seen i k x d ne
+
+pub seat_fits_new : (p : HostPlan) (books : List BookName) (s : SeatValue) → s.counts ≡ replicate NODES 0 → s.calls ≡ [] → s.list ≡ [] → length s.seen ≡ p.cluster.nodes → AreUnseen s.seen → AreOfBooks books s.seen → IsPlan p → SeatFits p books s
+seat_fits_new p books s counts calls list seen unseen booked right = record {
+  counts = λ k under. ap (λ (xs : List ℕ). get_or xs k 0) counts ∙ (get_or-replicate NODES k 0 0 under ∙ ap (λ (xs : List SeatEntry). length (calls_at k xs)) (sym calls));
   one_each = ap length counts;
-  counted = amount ∙ ap length (sym list);
-  backed = parts;
+  kept = list ∙ (none_kept p.tape ∙ ap (λ es. cond p.tape es []) (sym calls));
+  seen = seen;
+  booked = booked;
+  happened = λ b member. record {
+    state = new_node (plan_of p b);
+    comes = subst (λ es. ComesTo (plan_of p b) (past_of es) (new_node (plan_of p b))) (sym (unseen b.number)) (comes_new (plan_of p b) (new_node (plan_of p b)) (node_plan_right p b right member) refl);
+    among = subst (λ (xs : List SeatEntry). AreAmong (calls_at b.number xs) (past_at s.seen b.number)) (sym calls) tt;
+  };
 }
 
-pub seat_fits_more : (old new : SeatValue) (e : SeatEntry) → SeatFits old
-    → new.counts ≡ set old.counts e.node.number (get_or old.counts e.node.number 0 + 1) → new.list ≡ old.list ++ e ∷ [] → new.amount ≡ old.amount + 1 → new.parts ≡ old.parts
-    → SeatFits new
-seat_fits_more old new e fits counts list amount parts = record {
-  counts = rw (counts, list) (counts_more old.counts old.list e fits.one_each fits.counts);
-  one_each = rw counts (simp length-set fits.one_each);
-  counted = let l = ap length list in let n = length_push old.list e in let h = fits.counted in omega arith;
-  backed = rw parts fits.backed;
+-- One more that is seen.
+
+pub unseen_more : (seen : List (Known TapeEntry)) (x : Known TapeEntry) → AreUnseen seen → x.log ≡ [] → AreUnseen (seen ++ x ∷ [])
+unseen_more [] x h none zero = none
+unseen_more [] x h none (suc k) = refl
+unseen_more (s ∷ ss) x h none zero = h zero
+unseen_more (s ∷ ss) x h none (suc k) = unseen_more ss x (λ j. h (suc j)) none k
+
+pub books_push : (books : List BookName) (seen : List (Known TapeEntry)) (x : Known TapeEntry) → AreOfBooks books seen → x.book ≡ book_at books (length seen) → AreOfBooks books (seen ++ x ∷ [])
+books_push books seen x h e k under =
+    let d : Known TapeEntry = record { book = no_book; log = [] } in
+    let l = length_push seen x in
+    elim (eqb_tells k (length seen)) [
+      | inl t ↦ ap (λ j. (seen_at (seen ++ x ∷ []) j).book) t.1 ∙ (ap (λ (s : Known TapeEntry). s.book) (get_or-append_seam seen x [] d) ∙ (e ∙ ap (book_at books) (sym t.1)))
+      | inr t ↦ let lt : k < length seen = omega (arith, l, under, t.1) in ap (λ (s : Known TapeEntry). s.book) (get_or_append_left seen (x ∷ []) d k lt) ∙ h k lt
+    ]
+
+pub books_at : (pasts : List (Known TapeEntry)) (k : ℕ) (d : Known TapeEntry) → k < length pasts → book_at (books_of pasts) k ≡ (get_or pasts k d).book
+books_at [] k d h = absurd (omega arith)
+books_at (x ∷ xs) zero d h = refl
+books_at (x ∷ xs) (suc k) d h = books_at xs k d (omega arith)
+
+below_seam : {X : Type 0} (ys rest : List X) (x : X) → length ys < length (ys ++ x ∷ rest)
+below_seam [] rest x = omega arith
+below_seam (y ∷ ys) rest x = let h = below_seam ys rest x in let g : suc (length ys) < suc (length (ys ++ x ∷ rest)) = omega arith in g
+
+-- what stands at the place of the next item
+pub placed_next : {X : Type 0} (all ys rest : List X) (x : X) (n : ℕ) → all ≡ ys ++ x ∷ rest → length ys ≡ n → (n < length all) × ((d : X) → get_or all n d ≡ x)
+placed_next all ys rest x n split count = (
+  let h = below_seam ys rest x in let l = ap length split in omega arith,
+  λ d. (λ i. get_or (split i) (sym count i) d) ∙ get_or-append_seam ys x rest d,
+)
+
+-- a call more, as the node's past has it
+pub record NotedMore (p : HostPlan) (old new : SeatValue) (e : SeatEntry) (x : TapeEntry) (past others : List TapeEntry) (v w : NodeValue) (book : BookName) : Type 0 where
+  pub member : e.node.number < p.cluster.nodes
+  pub seat : x.seat ≡ old.number
+  pub event : x.event ≡ e.event
+  pub answer : x.answer ≡ e.answer
+  pub comes : ComesTo (plan_of p e.node) (past_of past) v
+  pub turn : IsTurn v e.event e.answer w
+  pub spelt : IsSpelt v e.event e.answer
+  pub past_is : past ≡ past_at old.seen e.node.number ++ others
+  pub counts : new.counts ≡ set old.counts e.node.number (get_or old.counts e.node.number 0 + 1)
+  pub calls : new.calls ≡ old.calls ++ e ∷ []
+  pub list : new.list ≡ old.list ++ cond p.tape (e ∷ []) []
+  pub seen : new.seen ≡ set old.seen e.node.number (record { book = book; log = past ++ x ∷ [] })
+  pub book_is : book ≡ (seen_at old.seen e.node.number).book
+
+comes_next : (p : HostPlan) (old new : SeatValue) (e : SeatEntry) (x : TapeEntry) (past others : List TapeEntry) (v w : NodeValue) (book : BookName) → NotedMore p old new e x past others v w book → ComesTo (plan_of p e.node) (past_of (past ++ x ∷ [])) w
+comes_next p old new e x past others v w book n =
+    replay_more (plan_of p e.node) past x v w n.comes (rw (n.event, n.answer) n.turn) (rw (n.event, n.answer) n.spelt)
+
+-- what is seen of the call's node, and of the others
+seen_here : (p : HostPlan) (old new : SeatValue) (e : SeatEntry) (x : TapeEntry) (past others : List TapeEntry) (v w : NodeValue) (book : BookName) → NotedMore p old new e x past others v w book → length old.seen ≡ p.cluster.nodes
+    → seen_at new.seen e.node.number ≡ record { book = book; log = past ++ x ∷ [] }
+seen_here p old new e x past others v w book n len =
+    let there : e.node.number < length old.seen = let m = n.member in omega arith in
+    let d : Known TapeEntry = record { book = no_book; log = [] } in
+    ap (λ ss. get_or ss e.node.number d) n.seen ∙ get_or-set_same old.seen e.node.number (record { book = book; log = past ++ x ∷ [] }) d there
+
+seen_there : (p : HostPlan) (old new : SeatValue) (e : SeatEntry) (x : TapeEntry) (past others : List TapeEntry) (v w : NodeValue) (book : BookName) → NotedMore p old new e x past others v w book → (k : ℕ) → k ≢ e.node.number
+    → seen_at new.seen k ≡ seen_at old.seen k
+seen_there p old new e x past others v w book n k ne =
+    let d : Known TapeEntry = record { book = no_book; log = [] } in
+    ap (λ ss. get_or ss k d) n.seen ∙ seen_other old.seen e.node.number k (record { book = book; log = past ++ x ∷ [] }) d ne
+
+happened_more : (p : HostPlan) (old new : SeatValue) (e : SeatEntry) (x : TapeEntry) (past others : List TapeEntry) (v w : NodeValue) (book : BookName) → NotedMore p old new e x past others v w book → length old.seen ≡ p.cluster.nodes
+    → HaveHappened p old → HaveHappened p new
+happened_more p old new e x past others v w book n len happened b member =
+    elim (eqb_tells b.number e.node.number) [
+      | inl t ↦
+          let me : e.node ≡ b = same_number e.node b (sym t.1) in
+          let here : past_at new.seen e.node.number ≡ past ++ x ∷ [] = ap (λ (s : Known TapeEntry). s.log) (seen_here p old new e x past others v w book n len) in
+          let was = happened e.node n.member in
+          let calls : calls_at e.node.number new.calls ≡ calls_at e.node.number old.calls ++ (e.event, e.answer) ∷ [] =
+          ap (calls_at e.node.number) n.calls ∙ (calls_at_append e.node.number old.calls (e ∷ []) ∙ ap (λ cs. calls_at e.node.number old.calls ++ cs) (at_hit e.node.number e [] refl)) in
+          let told : (e.event, e.answer) ≡ (x.event, x.answer) = λ i. (sym n.event i, sym n.answer i) in
+          let among : AreAmong (calls_at e.node.number old.calls ++ (e.event, e.answer) ∷ []) ((past_at old.seen e.node.number ++ others) ++ x ∷ []) =
+          among_snoc (calls_at e.node.number old.calls) (past_at old.seen e.node.number) others (e.event, e.answer) x told was.among in
+          subst (λ (c : NodeId). HasHappened p new c) me (record {
+            state = w;
+            comes = subst (λ es. ComesTo (plan_of p e.node) (past_of es) w) (sym here) (comes_next p old new e x past others v w book n);
+            among = rw (calls, here, n.past_is) among;
+          })
+      | inr t ↦
+          let there : past_at new.seen b.number ≡ past_at old.seen b.number = ap (λ (s : Known TapeEntry). s.log) (seen_there p old new e x past others v w book n b.number t.1) in
+          let was = happened b member in
+          let calls : calls_at b.number new.calls ≡ calls_at b.number old.calls =
+          ap (calls_at b.number) n.calls ∙ (calls_at_append b.number old.calls (e ∷ []) ∙ (ap (λ cs. calls_at b.number old.calls ++ cs) (at_miss b.number e [] (λ q. t.1 (sym q))) ∙ append-nil (calls_at b.number old.calls))) in
+          record {
+            state = was.state;
+            comes = subst (λ es. ComesTo (plan_of p b) (past_of es) was.state) (sym there) was.comes;
+            among = rw (calls, there) was.among;
+          }
+    ]
+
+books_more : (p : HostPlan) (books : List BookName) (old new : SeatValue) (e : SeatEntry) (x : TapeEntry) (past others : List TapeEntry) (v w : NodeValue) (book : BookName) → NotedMore p old new e x past others v w book → length old.seen ≡ p.cluster.nodes
+    → AreOfBooks books old.seen → AreOfBooks books new.seen
+books_more p books old new e x past others v w book n len booked k under =
+    let fewer : k < length old.seen = let l = ap length n.seen ∙ length-set old.seen e.node.number (record { book = book; log = past ++ x ∷ [] }) in omega arith in
+    elim (eqb_tells k e.node.number) [
+      | inl t ↦
+          let is : (seen_at new.seen e.node.number).book ≡ book = ap (λ (s : Known TapeEntry). s.book) (seen_here p old new e x past others v w book n len) in
+          let there : e.node.number < length old.seen = let m = n.member in omega arith in
+          ap (λ j. (seen_at new.seen j).book) t.1 ∙ (is ∙ (n.book_is ∙ (booked e.node.number there ∙ ap (book_at books) (sym t.1))))
+      | inr t ↦ ap (λ (s : Known TapeEntry). s.book) (seen_there p old new e x past others v w book n k t.1) ∙ booked k fewer
+    ]
+
+pub seat_fits_more : (p : HostPlan) (books : List BookName) (old new : SeatValue) (e : SeatEntry) (x : TapeEntry) (past others : List TapeEntry) (v w : NodeValue) (book : BookName) → SeatFits p books old → NotedMore p old new e x past others v w book → SeatFits p books new
+seat_fits_more p books old new e x past others v w book fits n = record {
+  counts = rw (n.counts, n.calls) (counts_more old.counts old.calls e fits.one_each fits.counts);
+  one_each = rw n.counts (simp length-set fits.one_each);
+  kept = n.list ∙ (kept_more p.tape old.calls old.list e fits.kept ∙ ap (λ es. cond p.tape es []) (sym n.calls));
+  seen = ap length n.seen ∙ (length-set old.seen e.node.number (record { book = book; log = past ++ x ∷ [] }) ∙ fits.seen);
+  booked = books_more p books old new e x past others v w book n fits.seen fits.booked;
+  happened = happened_more p old new e x past others v w book n fits.seen fits.happened;
+}
+
+-- so the past goes on
+pub goes_on : (p : HostPlan) (old new : SeatValue) (e : SeatEntry) (x : TapeEntry) (past others : List TapeEntry) (v w : NodeValue) (book : BookName) → length old.seen ≡ p.cluster.nodes → NotedMore p old new e x past others v w book → GoesOn p e.node old new e.event e.answer
+goes_on p old new e x past others v w book len n = record {
+  others = others;
+  entry = x;
+  state = v;
+  next = w;
+  seat = n.seat;
+  event = n.event;
+  answer = n.answer;
+  comes = subst (λ es. ComesTo (plan_of p e.node) (past_of es) v) n.past_is n.comes;
+  turn = n.turn;
+  spelt = n.spelt;
+  grown = ap (λ (s : Known TapeEntry). s.log) (seen_here p old new e x past others v w book n len) ∙ ap (λ es. es ++ x ∷ []) n.past_is;
+  elsewhere = λ k ne. ap (λ (s : Known TapeEntry). s.log) (seen_there p old new e x past others v w book n k ne);
 }

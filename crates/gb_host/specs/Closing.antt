@@ -1,5 +1,7 @@
 -- What stands after a host was closed.
-use Rattle.std.specs.Prelude.{ℕ, ◌≡◌, ◌≢◌, ◌<◌, ◌==◌, Bool, true, false, List, [], ◌∷◌, ◌++◌, length, slice_index_or, cond, sum_by}
+use Rattle.std.specs.Prelude.{ℕ, ◌≡◌, ◌≢◌, ◌<◌, ◌==◌, Bool, true, false, List, [], ◌∷◌, ◌++◌, length, slice_index_or, cond, sum_by, Option, Some, None}
+use Rattle.std.specs.FinSet as set
+use Rattle.std.specs.Ordering.{nat_cmp}
 use Rattle.gb_types.specs.declared.node.NodeId.{NodeId}
 use Rattle.gb_node.specs.NodeStep.{IsTurn}
 use Rattle.gb_node.specs.NodeValue.{NodeValue}
@@ -20,14 +22,19 @@ tape_at tapes k = slice_index_or tapes k []
 abbrev pub list_at : List (List SeatEntry) → ℕ → List SeatEntry
 list_at lists s = slice_index_or lists s []
 
--- the calls of the seat with a number, none where there is no such seat
+-- the calls that the seat with a number kept, none where there is no such seat
 abbrev pub list_of : List SeatValue → ℕ → List SeatEntry
 list_of [] s = []
 list_of (x ∷ xs) s = cond (x.number == s) x.list (list_of xs s)
 
--- the nodes with numbers below this are the replays of their tapes
-abbrev pub AreReplays : HostPlan → ℕ → List NodeValue → List (List TapeEntry) → Type 0
-AreReplays p n nodes tapes = (b : NodeId) (d : NodeValue) → b.number < n → IsReplay p b (slice_index_or nodes b.number d) (tape_at tapes b.number)
+-- a node that was here is the replay of its tape; of any other there is no node, and its tape is empty
+abbrev pub IsClosed : HostPlan → Bool → NodeId → Option NodeValue → List TapeEntry → Type 0
+IsClosed p is_here b (Some node) tape = (is_here ≡ true) × IsReplay p b node tape
+IsClosed p is_here b None tape = (is_here ≡ false) × (tape ≡ [])
+
+-- so it is of all nodes with numbers below this, of which those in the set were here
+abbrev pub AreReplays : HostPlan → set.FinSet nat_cmp → ℕ → List (Option NodeValue) → List (List TapeEntry) → Type 0
+AreReplays p here n nodes tapes = (b : NodeId) (d : Option NodeValue) → b.number < n → IsClosed p (set.contains here b.number) b (slice_index_or nodes b.number d) (tape_at tapes b.number)
 
 -- At each node the seat's entries in the tape are its calls there, in its order, each once and with its number among them.
 abbrev pub IsSame : List (List TapeEntry) → ℕ → List SeatEntry → Type 0

@@ -1,9 +1,13 @@
 pub mod Plans
+pub mod Pasts
 pub mod HostedValue
 pub mod SeatValue
 pub mod HostValue
 pub mod Replay
 pub mod Calls
+pub mod Copied
+pub mod Happened
 pub mod Fits
 pub mod Closing
+pub mod Placed
 pub mod Walk

@@ -1,7 +1,9 @@
 //! The end of a host.
-ghost use Rattle.std.specs.Prelude.{◌≡◌, ◌≢◌, ◌⊎◌, ◌<◌, ◌≤◌, ℕ, true, false, [], length, IfOk, IfErr, OnOk, slice_index_or, slice_set, vec_capacity, vec_len, sum_by};
+ghost use Rattle.std.specs.Prelude.{◌≡◌, ◌≢◌, ◌⊎◌, ◌<◌, ◌≤◌, ℕ, true, false, [], length, IfOk, IfErr, IfSome, OnOk, slice_index_or, slice_set, vec_capacity, vec_len, sum_by};
 ghost use Rattle.gb_types.specs.declared.limits.TheConstants.{NODES};
 ghost use Rattle.gb_host.specs.Closing.{list_at, list_of, AreReplays, AreSame, IsOther, AreFresh, tape_entries, seat_entries};
+ghost use Rattle.gb_host.specs.Placed.{HasAdded, AreSoFar};
+ghost use Rattle.gb_host.specs.Replay.{IsReplay};
 ghost use Rattle.gb_host.specs.declared.closed.Difference.{Difference as DifferenceValue};
 
 use crate::closed::{Closed, Difference};
@@ -13,16 +15,17 @@ use crate::hosted::Hosted;
 use crate::names::Tapes;
 use crate::plan::HostPlan;
 use crate::seat::Seat;
-use gb_types::node::NodeId;
+use gb_node::node::Node;
+use gb_node::tape::Tape;
+use gb_types::node::{NodeId, NodeSet};
 use std::alloc::Global;
 use std::sync::Mutex;
-use std::sync::ledger::Ledger;
 
 // The seats' lists by number. Each number below the count stands once, else a seat is foreign.
-fn by_number<M: Ledger>(
+fn by_number<L: Tapes>(
     alloc: Global,
     count: u32,
-    seats: Vec<Seat<M>>,
+    seats: Vec<Seat<L>>,
 ) -> Result<Vec<CallList>, HostFault>
     ensures len { IfOk result (λ v. vec_len v ≡ count) }
     ensures lists { IfOk result (λ v. (s : ℕ) → list_at v.items s ≡ list_of seats.items s) }
@@ -42,7 +45,7 @@ fn by_number<M: Ledger>(
     Ok(lists)
 }
 
-// So many empty lists, of which none was given.
+// This number of empty lists, of which none was given.
 fn blanks(alloc: Global, count: u32) -> Result<(Vec<CallList>, Vec<bool>), HostFault>
     ensures len { IfOk result (λ r. (vec_len r.0 ≡ count) × (vec_len r.1 ≡ count)) }
     ensures blank { IfOk result (λ r. (s : ℕ) → list_at r.0.items s ≡ []) }
@@ -59,7 +62,7 @@ fn blanks(alloc: Global, count: u32) -> Result<(Vec<CallList>, Vec<bool>), HostF
 }
 
 // Puts a seat's calls under its number. False where that is too high, or was given.
-fn put_list<M: Ledger>(seat: Seat<M>, lists: &mut [CallList], given: &mut [bool]) -> bool
+fn put_list<L: Tapes>(seat: Seat<L>, lists: &mut [CallList], given: &mut [bool]) -> bool
     requires { length given.old ≡ length lists.old }
     ensures free { result ≡ true → (seat.number < length lists.old) × (slice_index_or given.old seat.number true ≡ false) }
     ensures lists { result ≡ true → lists.new ≡ slice_set lists.old seat.number seat.list }
@@ -75,66 +78,137 @@ fn put_list<M: Ledger>(seat: Seat<M>, lists: &mut [CallList], given: &mut [bool]
     true
 }
 
-// Room for the node with this number and its tape, where it is the next one.
-fn make_room(closed: &mut Closed, me: NodeId) -> Result<(), HostFault>
-    ensures nodes { closed.new.nodes.items ≡ closed.old.nodes.items }
-    ensures tapes { closed.new.tapes.items ≡ closed.old.tapes.items }
-    ensures next { OnOk result (me.number ≡ vec_len closed.old.nodes) }
-    ensures room { OnOk result ((vec_len closed.new.nodes < vec_capacity closed.new.nodes) × (vec_len closed.new.tapes < vec_capacity closed.new.tapes)) }
-    ensures err { IfErr result (λ e. (e ≡ HostFault.NoNode) ⊎ (e ≡ HostFault.OutOfMemory)) }
+// The node of the next place, where there is one more.
+fn next_of(closed: &Closed, nodes: u8) -> Option<NodeId>
+    requires { nodes ≤ NODES }
+    ensures { IfSome result (λ b. (b.number ≡ vec_len closed.now.nodes) × (b.number < nodes)) }
 {
-    if usize::from(me.number) != closed.nodes.len() {
-        return Err(HostFault::NoNode);
+    if closed.nodes.len() >= usize::from(nodes) {
+        return None;
     }
-    if closed.nodes.reserve(1).is_err() || closed.tapes.reserve(1).is_err() {
-        return Err(HostFault::OutOfMemory);
-    }
-    Ok(())
+    Some(NodeId::new(closed.nodes.len() as u8))
 }
 
-// Adds the node and the tape that were under a lock, where they are the next ones.
-fn add_parts<L: Tapes>(closed: &mut Closed, hosted: Hosted<L>) -> Result<(), HostFault>
-    requires as_many { vec_len closed.old.tapes ≡ vec_len closed.old.nodes }
-    requires replays { AreReplays L.plan (vec_len closed.old.nodes) closed.old.nodes.items closed.old.tapes.items }
-    ensures as_many { OnOk result (vec_len closed.new.tapes ≡ vec_len closed.new.nodes) }
-    ensures replays { OnOk result (AreReplays L.plan (vec_len closed.new.nodes) closed.new.nodes.items closed.new.tapes.items) }
-    ensures err { IfErr result (λ e. (e ≡ HostFault.NoNode) ⊎ (e ≡ HostFault.OutOfMemory)) }
+// What stands under a lock, where this is the node.
+fn taken_of<L: Tapes>(lock: Mutex<Hosted<L>>, me: NodeId) -> Option<(Node, Tape)>
+    ensures { IfSome result (λ r. IsReplay L.plan me r.0 r.1) }
 {
-    match make_room(closed, hosted.me()) {
-        Ok(()) => {}
-        Err(fault) => {
-            drop(hosted);
-            return Err(fault);
-        }
+    let hosted = lock.into_inner();
+    if hosted.me().number != me.number {
+        drop(hosted);
+        return None;
     }
-    let (node, tape) = hosted.into_parts();
-    closed.nodes.push_reserved(node);
+    Some(hosted.into_parts())
+}
+
+// Adds what stands under the lock of a node that is here.
+fn add_node<L: Tapes>(
+    closed: &mut Closed,
+    me: NodeId,
+    lock: Mutex<Hosted<L>>,
+) -> Result<(), HostFault>
+    requires room { (vec_len closed.old.nodes < vec_capacity closed.old.nodes) × (vec_len closed.old.tapes < vec_capacity closed.old.tapes) }
+    ensures placed { OnOk result (HasAdded L.plan true me closed.old closed.new) }
+    ensures capacity { OnOk result ((vec_capacity closed.new.nodes ≡ vec_capacity closed.old.nodes) × (vec_capacity closed.new.tapes ≡ vec_capacity closed.old.tapes)) }
+    ensures err { IfErr result (λ e. e ≡ HostFault.NoNode) }
+{
+    let Some((node, tape)) = taken_of(lock, me) else {
+        return Err(HostFault::NoNode);
+    };
+    closed.nodes.push_reserved(Some(node));
     closed.tapes.push_reserved(tape);
     Ok(())
 }
 
-// The nodes and tapes of all locks.
+// Adds no node and an empty tape, for a node that is not here.
+fn add_none(alloc: Global, plan: &HostPlan, closed: &mut Closed, me: NodeId)
+    requires room { (vec_len closed.old.nodes < vec_capacity closed.old.nodes) × (vec_len closed.old.tapes < vec_capacity closed.old.tapes) }
+    ensures placed { HasAdded plan.now false me closed.old closed.new }
+    ensures capacity { (vec_capacity closed.new.nodes ≡ vec_capacity closed.old.nodes) × (vec_capacity closed.new.tapes ≡ vec_capacity closed.old.tapes) }
+{
+    closed.nodes.push_reserved(None);
+    closed.tapes.push_reserved(Tape::from(Vec::new(alloc)));
+}
+
+// Adds what stands at the place of a node.
+fn add_place<L: Tapes>(
+    alloc: Global,
+    plan: &HostPlan,
+    closed: &mut Closed,
+    me: NodeId,
+    is_here: bool,
+    place: Option<Mutex<Hosted<L>>>,
+) -> Result<(), HostFault>
+    requires plan { plan.now ≡ L.plan }
+    requires room { (vec_len closed.old.nodes < vec_capacity closed.old.nodes) × (vec_len closed.old.tapes < vec_capacity closed.old.tapes) }
+    ensures placed { OnOk result (HasAdded L.plan is_here me closed.old closed.new) }
+    ensures capacity { OnOk result ((vec_capacity closed.new.nodes ≡ vec_capacity closed.old.nodes) × (vec_capacity closed.new.tapes ≡ vec_capacity closed.old.tapes)) }
+    ensures err { IfErr result (λ e. e ≡ HostFault.NoNode) }
+{
+    match place {
+        Some(lock) => {
+            if !is_here {
+                drop(lock);
+                return Err(HostFault::NoNode);
+            }
+            add_node(closed, me, lock)
+        }
+        None => {
+            if is_here {
+                return Err(HostFault::NoNode);
+            }
+            add_none(alloc, plan, closed, me);
+            Ok(())
+        }
+    }
+}
+
+// Adds what stands at the next place.
+fn add_next<L: Tapes>(
+    alloc: Global,
+    closed: &mut Closed,
+    plan: HostPlan,
+    here: &NodeSet,
+    place: Option<Mutex<Hosted<L>>>,
+) -> Result<(), HostFault>
+    requires nodes { plan.cluster.nodes ≤ NODES }
+    requires plan { plan ≡ L.plan }
+    requires so_far { AreSoFar L.plan here.now closed.old }
+    ensures so_far { OnOk result (AreSoFar L.plan here.now closed.new) }
+    ensures err { IfErr result (λ e. e ≡ HostFault.NoNode) }
+{
+    let Some(me) = next_of(closed, plan.cluster.nodes) else {
+        drop(place);
+        return Err(HostFault::NoNode);
+    };
+    add_place(alloc, &plan, closed, me, here.contains(me), place)
+}
+
+// The nodes and tapes of all places.
 fn take_apart<L: Tapes>(
     alloc: Global,
     plan: HostPlan,
-    nodes: Vec<Mutex<Hosted<L>>>,
+    here: &NodeSet,
+    nodes: Vec<Option<Mutex<Hosted<L>>>>,
 ) -> Result<Closed, HostFault>
-    requires { plan ≡ L.plan }
+    requires nodes { plan.cluster.nodes ≤ NODES }
+    requires plan { plan ≡ L.plan }
     ensures len { IfOk result (λ c. (vec_len c.nodes ≡ plan.cluster.nodes) × (vec_len c.tapes ≡ plan.cluster.nodes)) }
-    ensures replays { IfOk result (λ c. AreReplays plan plan.cluster.nodes c.nodes.items c.tapes.items) }
+    ensures replays { IfOk result (λ c. AreReplays plan here.now plan.cluster.nodes c.nodes.items c.tapes.items) }
     ensures err { IfErr result (λ e. (e ≡ HostFault.NoNode) ⊎ (e ≡ HostFault.OutOfMemory)) }
 {
+    let count = usize::from(plan.cluster.nodes);
     let mut closed = Closed {
-        nodes: Vec::new(alloc),
-        tapes: Vec::new(alloc),
+        nodes: Vec::with_capacity(alloc, count)?,
+        tapes: Vec::with_capacity(alloc, count)?,
     };
-    for locked in nodes {
-        match add_parts(&mut closed, locked.into_inner()) {
+    for place in nodes {
+        match add_next(alloc, &mut closed, plan, here, place) {
             Ok(()) => {}
             Err(fault) => return Err(fault),
         }
     }
-    if closed.nodes.len() != usize::from(plan.cluster.nodes) {
+    if closed.nodes.len() != count {
         return Err(HostFault::NoNode);
     }
     Ok(closed)
@@ -152,25 +226,22 @@ fn list_with(alloc: Global, lists: Vec<CallList>, seat: u32) -> CallList
     }
 }
 
-/// Closes a host: each node is the replay of its tape, and each seat's calls are its entries in the tapes. Host and seats
-/// are given up in every case.
-pub fn close<L: Tapes, M: Ledger>(
-    host: Host<L, M>,
-    seats: Vec<Seat<M>>,
-) -> Result<Closed, HostFault>
+/// Closes a host: each node that was here is the replay of its tape, the tape of any other is empty, and each seat's calls are its
+/// entries in the tapes. Host and seats are given up in every case.
+pub fn close<L: Tapes>(host: Host<L>, seats: Vec<Seat<L>>) -> Result<Closed, HostFault>
     ensures len { IfOk result (λ c. (vec_len c.nodes ≡ host.plan.cluster.nodes) × (vec_len c.tapes ≡ host.plan.cluster.nodes)) }
-    ensures replays { IfOk result (λ c. AreReplays host.plan host.plan.cluster.nodes c.nodes.items c.tapes.items) }
+    ensures replays { IfOk result (λ c. AreReplays host.plan host.here host.plan.cluster.nodes c.nodes.items c.tapes.items) }
     ensures same { IfOk result (λ c. AreSame c.tapes.items (list_of seats.items)) }
     ensures entries { IfOk result (λ c. tape_entries c.tapes.items ≡ seat_entries seats.items) }
     ensures fresh { IfOk result (λ c. host.plan.tape ≡ true → AreFresh host.plan c.tapes.items (list_of seats.items)) }
     ensures differs { IfErr result (λ e. (d : DifferenceValue) → e ≡ HostFault.Differs d → (d.list ≡ list_of seats.items d.seat) × IsOther d.closed.tapes.items d.seat d.list) }
 {
-    let (alloc, plan, count, nodes) = host.into_parts();
+    let (alloc, plan, here, count, nodes) = host.into_parts();
     let lists = match by_number(alloc, count, seats) {
         Ok(lists) => lists,
         Err(fault) => return Err(fault),
     };
-    let closed = match take_apart(alloc, plan, nodes) {
+    let closed = match take_apart(alloc, plan, &here, nodes) {
         Ok(closed) => closed,
         Err(fault) => return Err(fault),
     };

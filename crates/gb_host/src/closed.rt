@@ -3,10 +3,10 @@ use crate::entry::CallList;
 use gb_node::node::Node;
 use gb_node::tape::Tape;
 
-/// The nodes and their tapes, by number.
+/// The nodes that were here and their tapes, each at the place of its number. A place of another node has none, and an empty tape.
 #[derive(Drop)]
 pub struct Closed {
-    pub nodes: Vec<Node>,
+    pub nodes: Vec<Option<Node>>,
     pub tapes: Vec<Tape>,
 }
 

@@ -8,7 +8,7 @@ use std::alloc::AllocError;
 /// Why a host refused. Nothing has changed then, but that `close` has given up host and seats.
 #[derive(Drop)]
 pub enum HostFault {
-    /// The host has no node with this number.
+    /// The node is not here. At the end: another node stands under a lock than the one with its number.
     NoNode,
     /// At the end, the seats are not those of the host: a number stands twice, or not at all.
     ForeignSeat,
@@ -16,7 +16,7 @@ pub enum HostFault {
     Differs(Difference),
     /// A request for memory was refused.
     OutOfMemory,
-    /// 2^64 - 1 calls are booked.
+    /// The seat has called the node 2^64 - 1 times.
     Full,
 }
 

@@ -1,80 +1,87 @@
 //! The host.
-ghost use Rattle.std.specs.Prelude.{◌≡◌, ◌+◌, ◌<◌, ◌≤◌, ◌++◌, [], IfOk, OnErr, vec_len};
+ghost use Rattle.std.specs.Prelude.{◌≡◌, ◌+◌, ◌<◌, ◌≤◌, ◌++◌, ◌∷◌, [], true, IfOk, IfErr, OnOk, OnErr, length, vec_len};
+ghost use Rattle.std.specs.FinSet as set;
 ghost use Rattle.gb_types.specs.declared.limits.TheConstants.{NODES};
-ghost use Rattle.gb_host.specs.Plans.{kept, IsPlan};
-ghost use Rattle.gb_host.specs.HostValue.{AreNew};
+ghost use Rattle.gb_host.specs.Happened.{GoesOn};
+ghost use Rattle.gb_host.specs.HostValue.{AreHere, AreNew, IsRefused};
+ghost use Rattle.gb_host.specs.Pasts.{AreBlank, AreOfBooks, AreUnseen, books_of};
+ghost use Rattle.gb_host.specs.Plans.{IsPlan};
 
-use crate::books::Books;
 use crate::fault::HostFault;
 use crate::gate::{Gate, Open};
 use crate::hosted::Hosted;
 use crate::names::Tapes;
+use crate::pasts::{NodePast, NodeSeen};
 use crate::plan::HostPlan;
 use crate::seat::Seat;
 use gb_node::answer::NodeAnswer;
 use gb_node::event::NodeEvent;
-use gb_types::node::NodeId;
+use gb_types::node::{NodeId, NodeSet};
 use std::alloc::Global;
 use std::marker::Model;
-use std::sync::ledger::{Blank, Ledger, Share};
 use std::sync::{Mutex, Wait};
 
-/// Nodes, each under a lock of its own, and the books under theirs. Contracts see the plan and the number of seats.
+/// Some nodes of a cluster, each under a lock of its own at the place of its number. Contracts see the plan, which nodes are here
+/// and the number of seats.
 #[derive(Drop)]
-pub struct Host<L: Tapes, M: Ledger> {
+pub struct Host<L: Tapes> {
     alloc: Global,
     plan: HostPlan,
+    here: NodeSet,
     seats: u32,
-    nodes: Vec<Mutex<Hosted<L>>>,
-    books: Mutex<Books<L, M>>,
+    nodes: Vec<Option<Mutex<Hosted<L>>>>,
 }
 
-impl<L: Tapes, M: Ledger> Model for Host<L, M> {
-    ghost use Rattle.std.specs.Prelude.{◌≡◌, vec_len};
-    ghost use Rattle.gb_host.specs.HostValue.{HostValue};
+impl<L: Tapes> Model for Host<L> {
+    ghost use Rattle.std.specs.Coded.{codes, coded_ℕ};
+    ghost use Rattle.std.specs.Ordering.{nat_cmp};
+    ghost use Rattle.std.specs.FinSet as set;
+    ghost use Rattle.std.specs.Prelude.{◌≡◌};
+    ghost use Rattle.gb_host.specs.HostValue.{AreHere, HostValue};
     ghost use Rattle.gb_host.specs.Plans.{IsPlan};
 
     ghost Value = { HostValue };
 
-    ghost view = { λ h. record { plan = h.plan; seats = h.seats } };
+    ghost coded = { Prim.hlevel (codes, set.code {R = nat_cmp} coded_ℕ) };
 
-    ghost invariant = { λ h. (h.plan ≡ L.plan) × IsPlan h.plan × (vec_len h.nodes ≡ h.plan.cluster.nodes) };
+    ghost view = { λ h. record { plan = h.plan; here = h.here; seats = h.seats } };
+
+    ghost invariant = { λ h. (h.plan ≡ L.plan) × IsPlan h.plan × AreHere h.plan h.here };
 }
 
-impl<L: Tapes, M: Ledger> Host<L, M> {
-    /// A host by the plan, and so many seats, numbered from 0. The blanks are those of the ledgers of the tapes and of the
-    /// seats, each in one part more than there are of these.
+impl<L: Tapes> Host<L> {
+    /// A host of these nodes of the plan, and this number of seats, numbered from 0. The pasts are those of all nodes of the plan, by
+    /// number, in which nothing has happened.
     pub fn open(
         alloc: Global,
         plan: HostPlan,
+        here: NodeSet,
         seats: u32,
-        tape_blank: Blank,
-        seat_blank: Blank,
-    ) -> Result<(Host<L, M>, Vec<Seat<M>>), HostFault>
+        pasts: Vec<NodePast>,
+    ) -> Result<(Host<L>, Vec<Seat<L>>), HostFault>
         requires plan { plan ≡ L.plan }
         requires limits { IsPlan plan }
-        requires tape_blank { (tape_blank.name ≡ L.name) × (tape_blank.parts ≡ L.parts) × (tape_blank.parts ≡ plan.cluster.nodes + 1) }
-        requires seat_blank { (seat_blank.name ≡ M.name) × (seat_blank.parts ≡ M.parts) × (seat_blank.parts ≡ seats + 1) }
-        ensures host { IfOk result (λ r. (r.0.plan ≡ plan) × (r.0.seats ≡ seats)) }
+        requires here { AreHere plan here }
+        requires pasts { (vec_len pasts ≡ plan.cluster.nodes) × AreBlank pasts.items }
+        requires books { books_of pasts.items ≡ L.books }
+        ensures host { IfOk result (λ r. (r.0.plan ≡ plan) × (r.0.here ≡ here) × (r.0.seats ≡ seats)) }
         ensures seats { IfOk result (λ r. (vec_len r.1 ≡ seats) × AreNew seats r.1.items) }
+        ensures fault { IfErr result (λ why. why ≡ HostFault.OutOfMemory) }
     {
-        let (tapes, mut tape_rest) = tape_blank.open::<L>();
-        let (lists, mut seat_rest) = seat_blank.open::<M>();
-        let books = Mutex::new(Books::new(tapes, lists));
-        let given = match open_seats(alloc, seats, &mut seat_rest) {
+        let given = match open_seats(alloc, seats, &pasts) {
             Ok(given) => given,
             Err(fault) => return Err(fault),
         };
-        let nodes = match open_nodes(alloc, plan, &mut tape_rest) {
+        let nodes = match open_nodes(alloc, plan, &here, pasts) {
             Ok(nodes) => nodes,
             Err(fault) => return Err(fault),
         };
         let host = Host {
             alloc,
             plan,
+            here,
             seats,
             nodes,
-            books,
         };
         Ok((host, given))
     }
@@ -87,16 +94,27 @@ impl<L: Tapes, M: Ledger> Host<L, M> {
         self.plan
     }
 
+    /// The nodes that are here.
+    pub fn here(&self) -> &NodeSet
+        ensures is { result.now ≡ self.now.here }
+        ensures within { AreHere self.now.plan result.now }
+    {
+        &self.here
+    }
+
     /// One event at a node.
     pub fn call<R: Wait>(
         &self,
         rt: &R,
-        seat: &mut Seat<M>,
+        seat: &mut Seat<L>,
         node: NodeId,
         event: NodeEvent,
     ) -> Result<NodeAnswer, HostFault>
-        ensures list { IfOk result (λ a. seat.new.list ≡ seat.old.list ++ kept L.plan (record { node = node; event = event; answer = a })) }
+        ensures here { OnOk result (set.contains self.now.here node.number ≡ true) }
+        ensures past { IfOk result (λ a. GoesOn L.plan node seat.old seat.new event a) }
+        ensures calls { IfOk result (λ a. seat.new.calls ≡ seat.old.calls ++ record { node = node; event = event; answer = a } ∷ []) }
         ensures number { seat.new.number ≡ seat.old.number }
+        ensures fault { IfErr result (IsRefused L.plan self.now.here seat.old node) }
         ensures err { OnErr result (seat.new ≡ seat.old) }
     {
         self.call_at(rt, seat, node, event, &mut Open)
@@ -106,77 +124,130 @@ impl<L: Tapes, M: Ledger> Host<L, M> {
     pub fn call_at<R: Wait, G: Gate>(
         &self,
         rt: &R,
-        seat: &mut Seat<M>,
+        seat: &mut Seat<L>,
         node: NodeId,
         event: NodeEvent,
         gate: &mut G,
     ) -> Result<NodeAnswer, HostFault>
-        ensures list { IfOk result (λ a. seat.new.list ≡ seat.old.list ++ kept L.plan (record { node = node; event = event; answer = a })) }
+        ensures here { OnOk result (set.contains self.now.here node.number ≡ true) }
+        ensures past { IfOk result (λ a. GoesOn L.plan node seat.old seat.new event a) }
+        ensures calls { IfOk result (λ a. seat.new.calls ≡ seat.old.calls ++ record { node = node; event = event; answer = a } ∷ []) }
         ensures number { seat.new.number ≡ seat.old.number }
+        ensures fault { IfErr result (IsRefused L.plan self.now.here seat.old node) }
         ensures err { OnErr result (seat.new ≡ seat.old) }
     {
-        if node.index() >= self.nodes.len() {
+        if !self.here.contains(node) {
             drop(event);
             return Err(HostFault::NoNode);
         }
-        let mut hosted = self.nodes[node.index()].lock(rt);
+        let mut hosted = self.lock_of(rt, node).lock(rt);
         if hosted.me().number != node.number {
-            drop(event);
-            return Err(HostFault::NoNode);
+            never(rt);
         }
         let _ = gate.pass();
-        hosted.step(rt, seat, &self.books, event)
+        hosted.step(seat, event)
+    }
+
+    // The lock at the place of a node that is here.
+    fn lock_of<R: Wait>(&self, rt: &R, node: NodeId) -> &Mutex<Hosted<L>> {
+        if let Some(Some(lock)) = self.nodes.get(node.index()) {
+            return lock;
+        }
+        never(rt)
     }
 
     /// Gives up the host for its parts.
-    pub(crate) fn into_parts(self) -> (Global, HostPlan, u32, Vec<Mutex<Hosted<L>>>)
+    pub(crate) fn into_parts(
+        self,
+    ) -> (
+        Global,
+        HostPlan,
+        NodeSet,
+        u32,
+        Vec<Option<Mutex<Hosted<L>>>>,
+    )
         ensures plan { (result.1 ≡ self.plan) × (result.1 ≡ L.plan) }
         ensures nodes { result.1.cluster.nodes ≤ NODES }
-        ensures seats { result.2 ≡ self.seats }
+        ensures here { result.2 ≡ self.here }
+        ensures seats { result.3 ≡ self.seats }
     {
         let Host {
             alloc,
             plan,
+            here,
             seats,
             nodes,
-            books: _,
         } = self;
-        (alloc, plan, seats, nodes)
+        (alloc, plan, here, seats, nodes)
     }
 }
 
-// The nodes of a plan, each with a part of a share that has one part more than there are of these.
+// Waits for ever. `open` puts each node that is here under the lock at its place, which no clause can say of a lock; so a call
+// does not go on where another node stood there.
+fn never<R: Wait>(rt: &R) -> ! {
+    for _ in rt.forever() {}
+    unreachable!()
+}
+
+// The nodes of a plan that are here, each with its past, at the places of their numbers.
 fn open_nodes<L: Tapes>(
     alloc: Global,
     plan: HostPlan,
-    rest: &mut Share<L>,
-) -> Result<Vec<Mutex<Hosted<L>>>, HostFault>
+    here: &NodeSet,
+    pasts: Vec<NodePast>,
+) -> Result<Vec<Option<Mutex<Hosted<L>>>>, HostFault>
     requires plan { plan ≡ L.plan }
     requires limits { IsPlan plan }
-    requires rest { (rest.old.parts ≡ plan.cluster.nodes + 1) × (rest.old.amount ≡ 0) }
-    ensures { IfOk result (λ nodes. vec_len nodes ≡ plan.cluster.nodes) }
+    requires pasts { (vec_len pasts ≡ plan.cluster.nodes) × AreBlank pasts.items }
+    requires books { books_of pasts.items ≡ L.books }
+    ensures fault { IfErr result (λ why. why ≡ HostFault.OutOfMemory) }
 {
     let mut nodes = Vec::with_capacity(alloc, usize::from(plan.cluster.nodes))?;
-    for number in 0..plan.cluster.nodes {
-        let share = rest.split_off(1, 0);
-        nodes.push_reserved(Mutex::new(Hosted::new(alloc, plan, NodeId::new(number), share)));
+    let mut number = 0u8;
+    for past in pasts {
+        let me = NodeId::new(number);
+        let place = if here.contains(me) {
+            Some(Mutex::new(Hosted::new(alloc, plan, me, past)))
+        } else {
+            None
+        };
+        nodes.push_reserved(place);
+        number += 1;
     }
     Ok(nodes)
 }
 
-// So many seats, each with a part of a share that has one part more than there are of these.
-fn open_seats<M: Ledger>(
+// What is seen of pasts in which nothing has happened.
+fn seen_of(alloc: Global, pasts: &[NodePast]) -> Result<Vec<NodeSeen>, HostFault>
+    requires { AreBlank pasts.now }
+    ensures len { IfOk result (λ seen. vec_len seen ≡ length pasts.now) }
+    ensures unseen { IfOk result (λ seen. AreUnseen seen.items) }
+    ensures books { IfOk result (λ seen. AreOfBooks (books_of pasts.now) seen.items) }
+    ensures fault { IfErr result (λ why. why ≡ HostFault.OutOfMemory) }
+{
+    let mut seen = Vec::with_capacity(alloc, pasts.len())?;
+    for past in pasts {
+        seen.push_reserved(past.seen());
+    }
+    Ok(seen)
+}
+
+// This number of seats, which have seen nothing of these pasts.
+fn open_seats<L: Tapes>(
     alloc: Global,
     seats: u32,
-    rest: &mut Share<M>,
-) -> Result<Vec<Seat<M>>, HostFault>
-    requires { (rest.old.parts ≡ seats + 1) × (rest.old.amount ≡ 0) }
-    ensures { IfOk result (λ given. (vec_len given ≡ seats) × AreNew seats given.items) }
+    pasts: &[NodePast],
+) -> Result<Vec<Seat<L>>, HostFault>
+    requires limits { IsPlan L.plan }
+    requires pasts { (length pasts.now ≡ L.plan.cluster.nodes) × AreBlank pasts.now }
+    requires books { books_of pasts.now ≡ L.books }
+    ensures seats { IfOk result (λ given. (vec_len given ≡ seats) × AreNew seats given.items) }
+    ensures fault { IfErr result (λ why. why ≡ HostFault.OutOfMemory) }
 {
     let mut given = Vec::with_capacity(alloc, seats as usize)?;
     for number in 0..seats {
-        let share = rest.split_off(1, 0);
-        given.push_reserved(Seat::new(alloc, number, share));
+        let seen = seen_of(alloc, pasts)?;
+        given.push_reserved(Seat::new(alloc, number, seen));
     }
     Ok(given)
 }

@@ -1,22 +1,30 @@
 //! Callers.
-ghost use Rattle.std.specs.Prelude.{◌≡◌, ◌<◌, []};
+ghost use Rattle.std.specs.Prelude.{◌≡◌, ◌<◌, [], vec_len};
+ghost use Rattle.gb_host.specs.Happened.{HaveHappened};
+ghost use Rattle.gb_host.specs.Pasts.{AreUnseen, AreOfBooks};
+ghost use Rattle.gb_host.specs.Plans.{IsPlan};
 
 use crate::entry::{CallList, SeatEntry};
+use crate::names::Tapes;
+use crate::pasts::{NodeSeen, SeatPast};
+use gb_past::past::Past;
 use gb_types::limits::NODES;
 use std::alloc::Global;
-use std::marker::Model;
-use std::sync::ledger::{Ledger, Share};
+use std::marker::{Model, PhantomData};
 
-/// A caller: its number, how often it called each node, and its calls. Its share is their number.
+/// A caller: its number, how often it called each node, its calls, and what it has seen of each node's past. No memory holds the
+/// calls but where tapes are kept.
 #[derive(Drop)]
-pub struct Seat<M: Ledger> {
+pub struct Seat<L: Tapes> {
     pub(crate) number: u32,
     pub(crate) counts: [u64; NODES],
+    pub(crate) calls: SeatPast,
     pub(crate) list: Vec<SeatEntry>,
-    pub(crate) share: Share<M>,
+    pub(crate) seen: Vec<NodeSeen>,
+    pub(crate) host: PhantomData<L>,
 }
 
-impl<M: Ledger> Model for Seat<M> {
+impl<L: Tapes> Model for Seat<L> {
     ghost use Rattle.std.specs.Coded.{codes, coded_ℕ};
     ghost use Rattle.std.specs.Ordering.{nat_cmp};
     ghost use Rattle.std.specs.FinSet as set;
@@ -28,30 +36,42 @@ impl<M: Ledger> Model for Seat<M> {
 
     ghost use Rattle.gb_host.specs.Fits.{SeatFits};
 
-    ghost view = { λ s. record { number = s.number; counts = s.counts; list = s.list.items; amount = s.share.amount; parts = s.share.parts } };
+    ghost view = { λ s. record { number = s.number; counts = s.counts; calls = s.calls.log; list = s.list.items; seen = s.seen.items } };
 
-    ghost invariant = { λ s. SeatFits (record { number = s.number; counts = s.counts; list = s.list.items; amount = s.share.amount; parts = s.share.parts }) };
+    ghost invariant = { λ s. SeatFits L.plan L.books (record { number = s.number; counts = s.counts; calls = s.calls.log; list = s.list.items; seen = s.seen.items }) };
 }
 
-impl<M: Ledger> Seat<M> {
-    /// A seat that made no call.
-    pub fn new(alloc: Global, number: u32, share: Share<M>) -> Seat<M>
-        requires { (0 < share.parts) × (share.amount ≡ 0) }
-        ensures { (result.number ≡ number) × (result.list ≡ []) }
+impl<L: Tapes> Seat<L> {
+    /// A seat that made no call and has seen nothing of any node's past.
+    pub fn new(alloc: Global, number: u32, seen: Vec<NodeSeen>) -> Seat<L>
+        requires limits { IsPlan L.plan }
+        requires seen { (vec_len seen ≡ L.plan.cluster.nodes) × AreUnseen seen.items × AreOfBooks L.books seen.items }
+        ensures { (result.number ≡ number) × (result.calls ≡ []) × (result.list ≡ []) × (result.seen ≡ seen.items) }
     {
         Seat {
             number,
             counts: [0; NODES],
+            calls: Past::new(),
             list: Vec::new(alloc),
-            share,
+            seen,
+            host: PhantomData,
         }
     }
 
-    /// The seat's calls, the oldest first.
+    /// The seat's calls, the oldest first; none where no tapes are kept.
     pub fn mine(&self) -> &[SeatEntry]
         ensures { result.now ≡ self.now.list }
     {
         self.list.as_slice()
+    }
+
+    /// Each call of the seat has happened at its node: the seat has seen the node's past, to which the node comes, and there its
+    /// calls at the node stand in their order. The function does nothing when it runs; its contract is the law.
+    pub fn have_happened(&self)
+        ensures { HaveHappened L.plan self.now }
+    {
+        // The proof reads what the type keeps.
+        let _ = &self.number;
     }
 
     /// Gives up the seat for its number and its calls.
@@ -61,8 +81,10 @@ impl<M: Ledger> Seat<M> {
         let Seat {
             number,
             counts: _,
+            calls: _,
             list,
-            share: _,
+            seen: _,
+            host: _,
         } = self;
         (number, CallList::from(list))
     }

@@ -8,7 +8,6 @@ use gb_host::seat::Seat;
 use gb_types::memory::OutOfMemory;
 use std::alloc::Global;
 use std::sync::Wait;
-use std::sync::ledger::Ledger;
 use std::thread;
 use std::thread::{JoinHandle, SpawnError, Threads};
 use std::time::Clock;
@@ -30,10 +29,10 @@ fn keep<T: Drop, F: Drop>(
 }
 
 // Waits until these threads have ended, and takes their seats back.
-fn join_all<M: Ledger, H: Threads>(
+fn join_all<L: Tapes, H: Threads>(
     rt: &H,
-    threads: Vec<JoinHandle<Seat<M>>>,
-    seats: &mut Vec<Seat<M>>,
+    threads: Vec<JoinHandle<Seat<L>>>,
+    seats: &mut Vec<Seat<L>>,
 ) {
     for thread in threads {
         let _ = seats.push(thread.join(rt));
@@ -43,20 +42,20 @@ fn join_all<M: Ledger, H: Threads>(
 /// Holds a server: a thread for each node's pump, one for its sessions and one for the ticker, with a seat each. When the
 /// sessions have ended, so do the others. Gives the seats back. OutOfMemory: not all threads could be made; no connection was
 /// served then.
-pub fn hold<L: Tapes + Send + Sync, M: Ledger + Send + Sync, H: Threads + Wait + Clock + Sync>(
+pub fn hold<L: Tapes + Send + Sync, H: Threads + Wait + Clock + Sync>(
     rt: &H,
     alloc: Global,
-    host: &Host<L, M>,
-    seats: Vec<Seat<M>>,
+    host: &Host<L>,
+    seats: Vec<Seat<L>>,
     sockets: Vec<Sockets>,
     connections: u16,
-) -> Result<Vec<Seat<M>>, OutOfMemory> {
+) -> Result<Vec<Seat<L>>, OutOfMemory> {
     let signals = Signals::new();
     let shared = &signals;
     thread::scope(
         thread::scope_env(),
         rt,
-        move |scope| -> Result<Vec<Seat<M>>, OutOfMemory> {
+        move |scope| -> Result<Vec<Seat<L>>, OutOfMemory> {
             let mut seats = seats;
             let mut workers = Vec::new(alloc);
             let mut sessions = Vec::new(alloc);

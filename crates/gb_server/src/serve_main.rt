@@ -1,8 +1,9 @@
 //! The server from its words to its exit status.
-ghost use Rattle.std.specs.Prelude.{◌≡◌, ◌≢◌, ◌≤◌, ◌+◌, ◌*◌, [], List, true, Ok, Err, codes, map};
+ghost use Rattle.std.specs.Prelude.{◌≡◌, ◌≢◌, ◌≤◌, ◌+◌, ◌*◌, [], List, true, Ok, Err, codes, map, vec_len};
 ghost use Rattle.std.specs.Io.KnownBytes.{Appends};
 ghost use Rattle.gb_serve_words.specs.Words.{IsWithin};
 ghost use Rattle.gb_server.specs.Told.{AreRefused, AreTaken, HasServed, end_line, host_of, lined, serving_line};
+ghost use Rattle.gb_host.specs.Pasts.{AreBlank, books_of};
 ghost use Rattle.gb_host.specs.Plans.{IsPlan};
 ghost use Rattle.gb_host.specs.SeatValue.{SeatValue};
 ghost use Rattle.gb_server.specs.Ended.{EndsSo, has_closed};
@@ -13,8 +14,10 @@ use crate::fault::ServeFault;
 use crate::keys::{Keys, read_keys};
 use crate::sockets::{Sockets, open_sockets};
 use crate::told::{serving_line, status_of, tell, tell_end};
+use gb_host::here::all_nodes;
 use gb_host::host::Host;
 use gb_host::names::Tapes;
+use gb_host::pasts::{NodePast, new_pasts};
 use gb_host::plan::HostPlan;
 use gb_serve_words::plan::ServePlan;
 use gb_serve_words::words::read_words;
@@ -26,7 +29,6 @@ use std::io::{Read, Write};
 use std::marker::Brand;
 use std::net::{Net, TcpListener, TcpStream};
 use std::sync::Wait;
-use std::sync::ledger::{Blank, Ledger};
 use std::thread::Threads;
 use std::time::Clock;
 
@@ -65,32 +67,27 @@ fn announce<W: Write>(alloc: Global, plan: ServePlan, writer: &mut W) -> Result<
 }
 
 // Serves on sockets that are bound.
-fn serve_host<
-    L: Tapes + Send + Sync,
-    M: Ledger + Send + Sync,
-    H: Threads + Wait + Clock + Sync,
-    W: Write,
->(
+fn serve_host<L: Tapes + Send + Sync, H: Threads + Wait + Clock + Sync, W: Write>(
     rt: &H,
     alloc: Global,
     plan: HostPlan,
     serve: ServePlan,
     sockets: Vec<Sockets>,
     writer: &mut W,
-    tape_blank: Blank,
-    seat_blank: Blank,
+    pasts: Vec<NodePast>,
 ) -> Result<Ended, ServeFault>
     requires plan { plan ≡ L.plan }
     requires limits { IsPlan plan }
     requires some { 1 ≤ plan.cluster.nodes }
-    requires tape_blank { (tape_blank.name ≡ L.name) × (tape_blank.parts ≡ L.parts) × (tape_blank.parts ≡ plan.cluster.nodes + 1) }
-    requires seat_blank { (seat_blank.name ≡ M.name) × (seat_blank.parts ≡ M.parts) × (seat_blank.parts ≡ 2 * plan.cluster.nodes + 2) }
+    requires pasts { (vec_len pasts ≡ plan.cluster.nodes) × AreBlank pasts.items }
+    requires books { books_of pasts.items ≡ L.books }
     ensures told { has_closed result ≡ true → Appends (W.contents writer.old) (W.contents writer.new) (serving_line serve.nodes serve.base_port) }
     ensures ends { has_closed result ≡ true → (seats : List SeatValue) × EndsSo plan seats result }
     ensures taken { result ≢ Err ServeFault.RefusedWords }
 {
     let seats = 2 * u32::from(plan.cluster.nodes) + 1;
-    let (host, seats) = Host::<L, M>::open(alloc, plan, seats, tape_blank, seat_blank)?;
+    let here = all_nodes(plan.cluster.nodes);
+    let (host, seats) = Host::<L>::open(alloc, plan, here, seats, pasts)?;
     if !announce(alloc, serve, writer)? {
         return Err(ServeFault::Write);
     }
@@ -109,16 +106,15 @@ fn serve_plan<
     ensures taken { result ≢ Err ServeFault.RefusedWords }
 {
     let sockets = open_sockets(rt, alloc, plan.nodes, plan.base_port)?;
-    let nodes = u64::from(plan.nodes);
-    serve_host::<Brand, Brand, H, W>(
+    let pasts = new_pasts(alloc, plan.nodes)?;
+    serve_host::<Brand, H, W>(
         rt,
         alloc,
         host_plan(plan, keys),
         plan,
         sockets,
         writer,
-        Blank::new(nodes + 1),
-        Blank::new(2 * nodes + 2),
+        pasts,
     )
 }
 

@@ -12,7 +12,6 @@ use gb_worker::ticker::ticker;
 use std::alloc::Global;
 use std::net::{TcpListener, TcpStream};
 use std::sync::Wait;
-use std::sync::ledger::Ledger;
 use std::thread;
 use std::time::{Clock, Duration};
 
@@ -20,14 +19,14 @@ use std::time::{Clock, Duration};
 const REST: u64 = 10;
 
 /// Carries a node's packets until the server is over.
-pub fn pump_packets<L: Tapes, M: Ledger, H: Wait + Clock>(
+pub fn pump_packets<L: Tapes, H: Wait + Clock>(
     rt: &H,
-    host: &Host<L, M>,
-    seat: Seat<M>,
+    host: &Host<L>,
+    seat: Seat<L>,
     node: NodeId,
     port: UdpPort,
     signals: &Signals,
-) -> Seat<M> {
+) -> Seat<L> {
     let (mut seat, mut port) = (seat, port);
     let mut gate = PumpGate::new(rt, signals, node.number == 0);
     let _ = pump(rt, host, &mut seat, node, &mut port, &mut gate, u64::MAX);
@@ -35,12 +34,12 @@ pub fn pump_packets<L: Tapes, M: Ledger, H: Wait + Clock>(
 }
 
 /// Makes the time tick at all nodes until the server is over.
-pub fn tick<L: Tapes, M: Ledger, H: Wait + Clock>(
+pub fn tick<L: Tapes, H: Wait + Clock>(
     rt: &H,
-    host: &Host<L, M>,
-    seat: Seat<M>,
+    host: &Host<L>,
+    seat: Seat<L>,
     signals: &Signals,
-) -> Seat<M> {
+) -> Seat<L> {
     let mut seat = seat;
     let mut gate = TickGate::new(rt, signals);
     let _ = ticker(rt, host, &mut seat, &mut gate, u64::MAX);
@@ -48,11 +47,11 @@ pub fn tick<L: Tapes, M: Ledger, H: Wait + Clock>(
 }
 
 // Serves a connection to its end, whatever that is.
-fn serve_one<L: Tapes, M: Ledger, H: Wait>(
+fn serve_one<L: Tapes, H: Wait>(
     rt: &H,
     alloc: Global,
-    host: &Host<L, M>,
-    seat: &mut Seat<M>,
+    host: &Host<L>,
+    seat: &mut Seat<L>,
     node: NodeId,
     stream: &TcpStream,
     signals: &Signals,
@@ -72,16 +71,16 @@ fn serve_one<L: Tapes, M: Ledger, H: Wait>(
 }
 
 /// Serves connections at a node, one after the other, once the server has begun; so many of them, or for ever where that is 0.
-pub fn serve_connections<L: Tapes, M: Ledger, H: Wait + Clock>(
+pub fn serve_connections<L: Tapes, H: Wait + Clock>(
     rt: &H,
     alloc: Global,
-    host: &Host<L, M>,
-    seat: Seat<M>,
+    host: &Host<L>,
+    seat: Seat<L>,
     node: NodeId,
     listener: TcpListener,
     connections: u16,
     signals: &Signals,
-) -> Seat<M> {
+) -> Seat<L> {
     let mut seat = seat;
     let mut left = connections;
     wait_to_begin(rt, signals);

@@ -1,12 +1,15 @@
 //! Sessions of a host of two nodes with its clients.
-ghost use Rattle.std.specs.Prelude.{◌≡◌, ◌+◌, vec_len, IfSome};
+ghost use Rattle.std.specs.Prelude.{◌≡◌, vec_len, IfSome};
+ghost use Rattle.gb_host.specs.Pasts.{AreBlank, books_of};
 ghost use Rattle.gb_host.specs.Plans.{IsPlan};
 
 use crate::client_streams::{Asking, Held, Told};
 use gb_host::close::close;
 use gb_host::gate::Open;
+use gb_host::here::all_nodes;
 use gb_host::host::Host;
 use gb_host::names::Tapes;
+use gb_host::pasts::{NodePast, new_pasts};
 use gb_host::plan::HostPlan;
 use gb_host::seat::Seat;
 use gb_session::serve::{SessionEnd, SessionFault};
@@ -21,7 +24,6 @@ use std::marker::Brand;
 use std::rt::HostRuntime;
 use std::sync::Wait;
 use std::sync::atomic::{AtomicU64, Ordering};
-use std::sync::ledger::{Blank, Ledger};
 use std::thread::Threads;
 use std::time::Clock;
 
@@ -92,11 +94,11 @@ fn pair<T: Drop>(alloc: Global, first: T, second: T) -> Option<Vec<T>>
 }
 
 // How both sessions ended.
-fn ends_of<L: Tapes + Send + Sync, M: Ledger + Send + Sync, R: Threads + Wait + Clock + Sync>(
+fn ends_of<L: Tapes + Send + Sync, R: Threads + Wait + Clock + Sync>(
     rt: &R,
     alloc: Global,
-    host: &Host<L, M>,
-    seats: &mut [Seat<M>],
+    host: &Host<L>,
+    seats: &mut [Seat<L>],
     both: &Both<'_>,
 ) -> Option<Vec<Ending>> {
     let (first, second) = both.denied;
@@ -121,11 +123,11 @@ fn ends_of<L: Tapes + Send + Sync, M: Ledger + Send + Sync, R: Threads + Wait + 
 }
 
 // Holds both sessions at once. How many ended well.
-fn hold_both<L: Tapes + Send + Sync, M: Ledger + Send + Sync, R: Threads + Wait + Clock + Sync>(
+fn hold_both<L: Tapes + Send + Sync, R: Threads + Wait + Clock + Sync>(
     rt: &R,
     alloc: Global,
-    host: &Host<L, M>,
-    seats: &mut [Seat<M>],
+    host: &Host<L>,
+    seats: &mut [Seat<L>],
     both: &Both<'_>,
 ) -> u64 {
     let mut count: u64 = 0;
@@ -138,11 +140,11 @@ fn hold_both<L: Tapes + Send + Sync, M: Ledger + Send + Sync, R: Threads + Wait 
 }
 
 // Holds a session with a client of node 1. Whether it ended as it is to.
-fn converse<L: Tapes, M: Ledger, R: Wait>(
+fn converse<L: Tapes, R: Wait>(
     rt: &R,
     alloc: Global,
-    host: &Host<L, M>,
-    seat: &mut Seat<M>,
+    host: &Host<L>,
+    seat: &mut Seat<L>,
     client: &mut Client<'_>,
 ) -> bool {
     let (reader, writer) = (&mut client.reader, &mut client.writer);
@@ -151,11 +153,11 @@ fn converse<L: Tapes, M: Ledger, R: Wait>(
 }
 
 // How many sessions of a talk ended as they are to.
-fn count_ended<L: Tapes + Send + Sync, M: Ledger + Send + Sync, R: Threads + Wait + Clock + Sync>(
+fn count_ended<L: Tapes + Send + Sync, R: Threads + Wait + Clock + Sync>(
     rt: &R,
     alloc: Global,
-    host: &Host<L, M>,
-    seats: &mut [Seat<M>],
+    host: &Host<L>,
+    seats: &mut [Seat<L>],
     talk: &mut Talk<'_>,
 ) -> u64 {
     match talk {
@@ -168,7 +170,7 @@ fn count_ended<L: Tapes + Send + Sync, M: Ledger + Send + Sync, R: Threads + Wai
 }
 
 // How many calls the first two seats noted.
-fn calls_of<M: Ledger>(seats: &[Seat<M>]) -> [usize; 2] {
+fn calls_of<L: Tapes>(seats: &[Seat<L>]) -> [usize; 2] {
     let mut calls = [0; 2];
     for i in 0..2 {
         if let Some(seat) = seats.get(i) {
@@ -180,20 +182,20 @@ fn calls_of<M: Ledger>(seats: &[Seat<M>]) -> [usize; 2] {
 
 // Opens a host with two seats, holds a talk, and closes the host: how many sessions ended as they are to, and how many calls each
 // seat noted. None where the host was refused, or its end.
-fn run<L: Tapes + Send + Sync, M: Ledger + Send + Sync, R: Threads + Wait + Clock + Sync>(
+fn run<L: Tapes + Send + Sync, R: Threads + Wait + Clock + Sync>(
     rt: &R,
     alloc: Global,
     plan: HostPlan,
     held: &mut Talk<'_>,
-    tape_blank: Blank,
-    seat_blank: Blank,
+    pasts: Vec<NodePast>,
 ) -> Option<(u64, [usize; 2])>
     requires plan { plan ≡ L.plan }
     requires limits { IsPlan plan }
-    requires tape_blank { (tape_blank.name ≡ L.name) × (tape_blank.parts ≡ L.parts) × (tape_blank.parts ≡ plan.cluster.nodes + 1) }
-    requires seat_blank { (seat_blank.name ≡ M.name) × (seat_blank.parts ≡ M.parts) × (seat_blank.parts ≡ 3) }
+    requires pasts { (vec_len pasts ≡ plan.cluster.nodes) × AreBlank pasts.items }
+    requires books { books_of pasts.items ≡ L.books }
 {
-    let opened = Host::<L, M>::open(alloc, plan, 2, tape_blank, seat_blank);
+    let here = all_nodes(plan.cluster.nodes);
+    let opened = Host::<L>::open(alloc, plan, here, 2, pasts);
     let Some((host, mut seats)) = opened.ok() else {
         return None;
     };
@@ -211,7 +213,8 @@ fn hold<R: Threads + Wait + Clock + Sync>(
     alloc: Global,
     held: &mut Talk<'_>,
 ) -> Option<(u64, [usize; 2])> {
-    run::<Brand, Brand, R>(rt, alloc, two_nodes(), held, Blank::new(3), Blank::new(3))
+    let pasts = new_pasts(alloc, 2).ok()?;
+    run::<Brand, R>(rt, alloc, two_nodes(), held, pasts)
 }
 
 #[test]

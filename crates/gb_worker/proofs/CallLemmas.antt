@@ -1,33 +1,69 @@
 -- A request that is asked by a call, and what the client is told.
-use Rattle.std.proofs.Common.{◌≡◌, ◌⊎◌, inl, inr, List, [], ◌∷◌, ◌++◌, ap, ◌∙◌, Result, Ok, Err}
-use Rattle.std.specs.Prelude.{IfOk, IfErr, OnErr}
+use Rattle.std.proofs.Common.{◌≡◌, ◌≢◌, ◌⊎◌, ◌+◌, ◌∙◌, ℕ, inl, inr, true, false, true≢false, List, [], ◌∷◌, ◌++◌, ap, arith, cond, refl, subst, sym, Result, Ok, Err}
+use Rattle.std.specs.FinSet as set
+use Rattle.std.specs.Ordering.{nat_cmp}
+use Rattle.std.specs.Prelude.{IfOk, IfErr, OnErr, slice_index}
 use Rattle.gb_types.specs.declared.node.NodeId.{NodeId}
 use Rattle.gb_types.specs.declared.refusal.Refusal.TheVariants.{Stopped, OutOfMemory}
 use Rattle.gb_types.specs.declared.reply.Reply.{Reply}
 use Rattle.gb_types.specs.declared.reply.Reply.TheVariants.{Refused}
 use Rattle.gb_types.specs.declared.request.Request.{Request}
 use Rattle.gb_node.specs.declared.answer.NodeAnswer.{NodeAnswer}
+use Rattle.gb_node.specs.declared.event.NodeEvent.{NodeEvent}
 use Rattle.gb_node.specs.declared.event.NodeEvent.TheVariants.{Request as Asked}
+use Rattle.gb_host.specs.HostValue.{IsRefused}
+use Rattle.gb_host.specs.SeatValue.{SeatValue}
 use Rattle.gb_host.specs.declared.entry.SeatEntry.{SeatEntry}
+use Rattle.gb_host.specs.declared.plan.HostPlan.{HostPlan}
 use Rattle.gb_host.specs.declared.fault.HostFault.{HostFault}
 use Rattle.gb_host.specs.declared.fault.HostFault.TheVariants.{NoNode, ForeignSeat, Differs, OutOfMemory as NoMemory, Full}
+use Rattle.gb_worker.specs.Answered.{is_stopped, stops_in}
+use Rattle.gb_worker.specs.Ended.{IsLost, IsUncounted}
 use Rattle.gb_worker.specs.Asked.{AnswersAt, reply_at, reply_of}
 
--- what a seat notes of an answer, where it notes anything
-abbrev noted : NodeId → Request → NodeAnswer → List SeatEntry
-noted node request answer = record { node = node; event = Asked request; answer = answer } ∷ []
+told_at : {reply : Reply} (p : HostPlan) (here : set.FinSet nat_cmp) (seat : SeatValue) (node : NodeId) (why : HostFault) → IsRefused p here seat node why → reply ≡ reply_at why → (reply ≡ Refused Stopped) ⊎ ((reply ≡ Refused OutOfMemory) × (p.tape ≡ true))
+told_at p here seat node NoMemory why is = inr (is, why.1)
+told_at p here seat node NoNode why is = inl is
+told_at p here seat node ForeignSeat why is = absurd why
+told_at p here seat node (Differs difference) why is = absurd why
+told_at p here seat node Full why is = inl is
 
-told_at : {reply : Reply} (why : HostFault) → reply ≡ reply_at why → (reply ≡ Refused Stopped) ⊎ (reply ≡ Refused OutOfMemory)
-told_at NoMemory is = inr is
-told_at NoNode is = inl is
-told_at ForeignSeat is = inl is
-told_at (Differs difference) is = inl is
-told_at Full is = inl is
-
--- where the seat notes the call, the client is told the node's reply, or that nothing was asked
-pub told : {S : Type 0} {reply : Reply} (seen : S → List SeatEntry) (s t : S) (node : NodeId) (request : Request) (outcome : Result NodeAnswer HostFault) (kept : NodeAnswer → List SeatEntry) → ((a : NodeAnswer) → kept a ≡ noted node request a)
-    → IfOk outcome (λ a. seen t ≡ seen s ++ kept a) → OnErr outcome (t ≡ s)
+-- where the call was made, the client is told the node's reply, else that nothing was asked
+pub told : {reply : Reply} (p : HostPlan) (here : set.FinSet nat_cmp) (s t : SeatValue) (node : NodeId) (request : Request) (outcome : Result NodeAnswer HostFault)
+    → IfOk outcome (λ a. t.calls ≡ s.calls ++ record { node = node; event = Asked request; answer = a } ∷ []) → OnErr outcome (t ≡ s) → IfErr outcome (IsRefused p here s node)
     → IfOk outcome (λ a. reply ≡ reply_of a) → IfErr outcome (λ why. reply ≡ reply_at why)
-    → AnswersAt node (seen s) request reply (seen t)
-told seen s t node request (Ok a) kept is list err answered fault = inl (a, list ∙ ap (λ l. seen s ++ l) (is a), answered)
-told seen s t node request (Err why) kept is list err answered fault = inr (ap seen err, told_at why fault)
+    → AnswersAt p node s.calls request reply t.calls
+told p here s t node request (Ok a) calls err why answered fault = inl (a, calls, answered)
+told p here s t node request (Err e) calls err why answered fault = inr (ap (λ (x : SeatValue). x.calls) err, told_at p here s node e why fault)
+
+-- What a fault is to a worker.
+
+-- a call lacks memory only where tapes are kept, at a node that is here
+pub not_uncounted : (p : HostPlan) (here : set.FinSet nat_cmp) (seat : SeatValue) (node : NodeId) (why : HostFault) → IsRefused p here seat node why → why ≡ NoMemory → IsUncounted p here node → ⊥
+not_uncounted p here seat node why refused memory (inl off) =
+    let r : IsRefused p here seat node NoMemory = subst (IsRefused p here seat node) memory refused in true≢false (sym r.1 ∙ off)
+not_uncounted p here seat node why refused memory (inr away) =
+    let r : IsRefused p here seat node NoMemory = subst (IsRefused p here seat node) memory refused in true≢false (sym r.0 ∙ away)
+
+-- any other fault is that the host does not take the seat's calls there
+pub lost_by : (p : HostPlan) (here : set.FinSet nat_cmp) (old new : SeatValue) (node : NodeId) (why : HostFault) → IsRefused p here old node why → why ≢ NoMemory → new ≡ old → IsLost here node new
+lost_by p here old new node NoNode refused not same = inl refused
+lost_by p here old new node ForeignSeat refused not same = absurd refused
+lost_by p here old new node (Differs difference) refused not same = absurd refused
+lost_by p here old new node NoMemory refused not same = absurd (not refl)
+lost_by p here old new node Full refused not same = inr (ap (λ (s : SeatValue). slice_index s.counts node.number) same ∙ refused.1)
+
+-- Answers Stopped.
+
+stops_snoc : (es : List SeatEntry) (e : SeatEntry) → stops_in (es ++ e ∷ []) ≡ stops_in es + cond (is_stopped e.answer) 1 0
+stops_snoc [] e = omega arith
+stops_snoc (x ∷ es) e = let h = stops_snoc es e in let g : cond (is_stopped x.answer) 1 0 + stops_in (es ++ e ∷ []) ≡ (cond (is_stopped x.answer) 1 0 + stops_in es) + cond (is_stopped e.answer) 1 0 = omega arith in g
+
+-- a call that was not answered Stopped, and one that was
+pub stops_same : (old new : List SeatEntry) (node : NodeId) (event : NodeEvent) (a : NodeAnswer) → new ≡ old ++ record { node = node; event = event; answer = a } ∷ [] → is_stopped a ≡ false → stops_in new ≡ stops_in old
+stops_same old new node event a is not =
+    let h = ap stops_in is ∙ stops_snoc old (record { node = node; event = event; answer = a }) in let k : cond (is_stopped a) 1 0 ≡ 0 = ap {B = ℕ} (λ b. cond b 1 0) not in omega (arith, h, k)
+
+pub stops_once : (old new : List SeatEntry) (node : NodeId) (event : NodeEvent) (a : NodeAnswer) → new ≡ old ++ record { node = node; event = event; answer = a } ∷ [] → is_stopped a ≡ true → stops_in new ≡ stops_in old + 1
+stops_once old new node event a is stopped =
+    let h = ap stops_in is ∙ stops_snoc old (record { node = node; event = event; answer = a }) in let k : cond (is_stopped a) 1 0 ≡ 1 = ap {B = ℕ} (λ b. cond b 1 0) stopped in omega (arith, h, k)

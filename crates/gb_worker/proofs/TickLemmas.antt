@@ -1,24 +1,36 @@
 -- What ticks add to a list.
-use Rattle.std.proofs.Common.{◌≡◌, ℕ, ◌+◌, List, [], ◌∷◌, ◌++◌, refl, sym, ap, ◌∙◌, append_assoc, add-one}
+use Rattle.std.proofs.Common.{◌≡◌, ℕ, ◌+◌, true, false, List, [], ◌∷◌, ◌++◌, cond, refl, sym, ap, ◌∙◌, append_assoc, add-one}
+use Rattle.std.specs.FinSet as set
+use Rattle.std.specs.Ordering.{nat_cmp}
+use Rattle.gb_types.specs.declared.node.NodeId.{NodeId}
+use Rattle.gb_node.specs.declared.answer.NodeAnswer.{NodeAnswer}
 use Rattle.gb_node.specs.declared.event.NodeEvent.{NodeEvent}
 use Rattle.gb_node.specs.declared.event.NodeEvent.TheVariants.{Tick}
 use Rattle.gb_host.specs.declared.entry.SeatEntry.{SeatEntry}
-use Rattle.gb_worker.specs.Gained.{Gains}
-use Rattle.gb_worker.specs.Ticks.{events_of, ticks_to, tick_turns, AreTicks}
-use Rattle.gb_worker.proofs.GainLemmas.{joined}
+use Rattle.gb_worker.specs.Gained.{Gains, noted}
+use Rattle.gb_worker.specs.Ticks.{events_of, tick_at, ticks_to, tick_turns, AreTicks, IsTick}
+use Rattle.gb_worker.proofs.GainLemmas.{append_nil, joined}
 
-events_snoc : (es : List SeatEntry) (x : SeatEntry) → events_of (es ++ x ∷ []) ≡ events_of es ++ (x.node.number, x.event) ∷ []
-events_snoc [] x = refl
-events_snoc (e ∷ es) x = ap (λ ys. (e.node.number, e.event) ∷ ys) (events_snoc es x)
+events_append : (xs ys : List SeatEntry) → events_of (xs ++ ys) ≡ events_of xs ++ events_of ys
+events_append [] ys = refl
+events_append (x ∷ xs) ys = ap (λ zs. (x.node.number, x.event) ∷ zs) (events_append xs ys)
 
-ticks_snoc : (nodes t k : ℕ) (es : List SeatEntry) (x : SeatEntry) → x.event ≡ Tick → x.node.number ≡ k → AreTicks nodes t k es → AreTicks nodes t (k + 1) (es ++ x ∷ [])
-ticks_snoc nodes t k es x event node so_far =
-    let turns : List (ℕ × NodeEvent) = tick_turns nodes t in
-    let tick : (x.node.number, x.event) ≡ (k, Tick) = ap (λ n. (n, x.event)) node ∙ ap (λ e. (k, e)) event in
-    let more : ticks_to (k + 1) ≡ ticks_to k ++ (k, Tick) ∷ [] = rw add-one in
-    events_snoc es x ∙ (ap (λ ys. ys ++ (x.node.number, x.event) ∷ []) so_far
-    ∙ (ap (λ y. (turns ++ ticks_to k) ++ y ∷ []) tick ∙ (append_assoc turns (ticks_to k) ((k, Tick) ∷ []) ∙ ap (λ ys. turns ++ ys) (sym more))))
+-- no tick, at a node that is not here
+pub ticked_none : (here : set.FinSet nat_cmp) (node : NodeId) (list : List SeatEntry) → set.contains here node.number ≡ false → Gains (IsTick here node) list list
+ticked_none here node list not = ([], sym (append_nil list), sym (ap (λ b. cond b ((node.number, Tick) ∷ []) []) not))
 
--- a tick more
-pub ticked_more : (nodes t k : ℕ) (old now new : List SeatEntry) (x : SeatEntry) → x.event ≡ Tick → x.node.number ≡ k → Gains (AreTicks nodes t k) old now → new ≡ now ++ x ∷ [] → Gains (AreTicks nodes t (k + 1)) old new
-ticked_more nodes t k old now new x event node g h = (g.0 ++ x ∷ [], joined old now new g.0 (x ∷ []) g.1 h, ticks_snoc nodes t k g.0 x event node g.2)
+-- a tick
+pub ticked_one : (here : set.FinSet nat_cmp) (node : NodeId) (a : NodeAnswer) (old new : List SeatEntry) → set.contains here node.number ≡ true → new ≡ old ++ noted node Tick a ∷ [] → Gains (IsTick here node) old new
+ticked_one here node a old new is h = (noted node Tick a ∷ [], h, sym (ap (λ b. cond b ((node.number, Tick) ∷ []) []) is))
+
+-- what a node more adds
+pub ticked_more : (here : set.FinSet nat_cmp) (nodes t k : ℕ) (node : NodeId) (old now new : List SeatEntry) → node.number ≡ k → Gains (AreTicks here nodes t k) old now → Gains (IsTick here node) now new → Gains (AreTicks here nodes t (k + 1)) old new
+ticked_more here nodes t k node old now new is g h =
+    let turns : List (ℕ × NodeEvent) = tick_turns here nodes t in
+    let more : ticks_to here (k + 1) ≡ ticks_to here k ++ tick_at here k = rw add-one in (
+      g.0 ++ h.0,
+      joined old now new g.0 h.0 g.1 h.1,
+      events_append g.0 h.0
+          ∙ (ap (λ ys. ys ++ events_of h.0) g.2
+          ∙ (ap (λ ys. (turns ++ ticks_to here k) ++ ys) (h.2 ∙ ap (tick_at here) is) ∙ (append_assoc turns (ticks_to here k) (tick_at here k) ∙ ap (λ ys. turns ++ ys) (sym more)))),
+    )

@@ -1,5 +1,5 @@
 -- What a worker reads from an answer.
-use Rattle.std.specs.Prelude.{Bool, true, false, List, fold, Option, Some, None}
+use Rattle.std.specs.Prelude.{ℕ, ◌+◌, Bool, true, false, cond, List, [], ◌∷◌, fold, Option, Some, None}
 use Rattle.std.specs.FinSet as set
 use Rattle.std.specs.Ordering.{nat_cmp}
 use Rattle.gb_types.specs.declared.refusal.Refusal.TheVariants.{Stopped}
@@ -11,12 +11,24 @@ use Rattle.gb_node.specs.declared.answer.NodeAnswer.TheVariants.{Taken, Sent}
 use Rattle.gb_node.specs.declared.answer.PacketAnswer.TheVariants.{Good as TakenGood, Refused as TakenRefused}
 use Rattle.gb_node.specs.declared.answer.Sent.TheVariants.{Packet as SentPacket, Refused as SentRefused}
 use Rattle.gb_host.specs.declared.entry.SeatEntry.{SeatEntry}
+use Rattle.gb_worker.specs.declared.end.Why.{Why}
+use Rattle.gb_worker.specs.declared.end.Why.TheVariants.{Stopped as StoppedThere}
 
 -- a packet that came, or a packet to be sent, was answered Stopped
 abbrev pub is_stopped : NodeAnswer → Bool
 is_stopped (Taken (TakenRefused Stopped)) = true
 is_stopped (Sent (SentRefused Stopped)) = true
 is_stopped other = false
+
+-- how many calls were answered Stopped
+abbrev pub stops_in : List SeatEntry → ℕ
+stops_in [] = 0
+stops_in (e ∷ es) = cond (is_stopped e.answer) 1 0 + stops_in es
+
+-- how many such answers a worker had that ended for this
+abbrev pub stops_by : Why → ℕ
+stops_by StoppedThere = 1
+stops_by other = 0
 
 -- the answer gives a packet
 abbrev pub gives_packet : NodeAnswer → Bool

@@ -1,5 +1,5 @@
--- What a session adds to its seat's list.
-use Rattle.std.specs.Prelude.{◌≡◌, ◌⊎◌, List, [], ◌∷◌, ◌++◌}
+-- What a session adds to its seat's calls.
+use Rattle.std.specs.Prelude.{◌≡◌, ◌⊎◌, true, List, [], ◌∷◌, ◌++◌}
 use Rattle.gb_types.specs.declared.node.NodeId.{NodeId}
 use Rattle.gb_types.specs.declared.refusal.Refusal.TheVariants.{Stopped, OutOfMemory}
 use Rattle.gb_types.specs.declared.reply.Reply.{Reply}
@@ -11,6 +11,7 @@ use Rattle.gb_node.specs.declared.event.NodeEvent.TheVariants.{Request as Asked}
 use Rattle.gb_host.specs.declared.entry.SeatEntry.{SeatEntry}
 use Rattle.gb_host.specs.declared.fault.HostFault.{HostFault}
 use Rattle.gb_host.specs.declared.fault.HostFault.TheVariants.{OutOfMemory as NoMemory}
+use Rattle.gb_host.specs.declared.plan.HostPlan.{HostPlan}
 
 -- The reply that an answer is. A node answers each request with one; any other answer would be told as Stopped.
 abbrev pub reply_of : NodeAnswer → Reply
@@ -27,10 +28,10 @@ abbrev pub IsAsked : NodeId → List SeatEntry → Request → Reply → List Se
 IsAsked node old request reply new =
     (answer : NodeAnswer) × (new ≡ old ++ record { node = node; event = Asked request; answer = answer } ∷ []) × (reply ≡ reply_of answer)
 
--- nothing was asked, and the reply says Stopped or OutOfMemory
-abbrev pub IsUnasked : List SeatEntry → Reply → List SeatEntry → Type 0
-IsUnasked old reply new = (new ≡ old) × ((reply ≡ Refused Stopped) ⊎ (reply ≡ Refused OutOfMemory))
+-- Nothing was asked, and the reply says Stopped, or OutOfMemory where the host keeps tapes: without these it takes no memory.
+abbrev pub IsUnasked : HostPlan → List SeatEntry → Reply → List SeatEntry → Type 0
+IsUnasked p old reply new = (new ≡ old) × ((reply ≡ Refused Stopped) ⊎ ((reply ≡ Refused OutOfMemory) × (p.tape ≡ true)))
 
--- a reply to a request, and what it leaves of the seat's list
-abbrev pub AnswersAt : NodeId → List SeatEntry → Request → Reply → List SeatEntry → Type 0
-AnswersAt node old request reply new = IsAsked node old request reply new ⊎ IsUnasked old reply new
+-- a reply to a request, and what it leaves of the seat's calls
+abbrev pub AnswersAt : HostPlan → NodeId → List SeatEntry → Request → Reply → List SeatEntry → Type 0
+AnswersAt p node old request reply new = IsAsked node old request reply new ⊎ IsUnasked p old reply new

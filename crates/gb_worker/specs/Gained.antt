@@ -1,5 +1,5 @@
 -- What calls add to a seat's list.
-use Rattle.std.specs.Prelude.{◌≡◌, ◌⊎◌, Bool, true, false, List, [], ◌∷◌, ◌++◌}
+use Rattle.std.specs.Prelude.{◌≡◌, ◌⊎◌, Bool, true, false, List, [], ◌∷◌, ◌++◌, Option, Some, None}
 use Rattle.gb_types.specs.declared.node.NodeId.{NodeId}
 use Rattle.gb_node.specs.declared.answer.NodeAnswer.{NodeAnswer}
 use Rattle.gb_node.specs.declared.event.NodeEvent.{NodeEvent}
@@ -13,6 +13,11 @@ Gains P old new = (es : List SeatEntry) × (new ≡ old ++ es) × P es
 -- a call, as a seat notes it
 abbrev pub noted : NodeId → NodeEvent → NodeAnswer → SeatEntry
 noted node event answer = record { node = node; event = event; answer = answer }
+
+-- one call with its answer, or none
+abbrev pub IsCalled : NodeId → NodeEvent → Option NodeAnswer → List SeatEntry → List SeatEntry → Type 0
+IsCalled node event (Some answer) old new = new ≡ old ++ noted node event answer ∷ []
+IsCalled node event None old new = new ≡ old
 
 -- one call, which was answered Stopped
 abbrev pub IsStopped : NodeId → NodeEvent → List SeatEntry → Type 0

@@ -1,4 +1,5 @@
 pub mod Answered
+pub mod Ended
 pub mod Gained
 pub mod Ticks
 pub mod Turns

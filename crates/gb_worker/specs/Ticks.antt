@@ -1,5 +1,8 @@
--- What a ticker adds to its seat's list.
-use Rattle.std.specs.Prelude.{ℕ, zero, suc, ◌≡◌, ◌≢◌, ◌≤◌, List, [], ◌∷◌, ◌++◌}
+-- What a ticker adds to its seat's calls.
+use Rattle.std.specs.Prelude.{ℕ, zero, suc, ◌≡◌, ◌≢◌, ◌≤◌, cond, List, [], ◌∷◌, ◌++◌}
+use Rattle.std.specs.FinSet as set
+use Rattle.std.specs.Ordering.{nat_cmp}
+use Rattle.gb_types.specs.declared.node.NodeId.{NodeId}
 use Rattle.gb_node.specs.declared.event.NodeEvent.{NodeEvent}
 use Rattle.gb_node.specs.declared.event.NodeEvent.TheVariants.{Tick}
 use Rattle.gb_host.specs.declared.entry.SeatEntry.{SeatEntry}
@@ -12,24 +15,32 @@ abbrev pub events_of : List SeatEntry → List (ℕ × NodeEvent)
 events_of [] = []
 events_of (e ∷ es) = (e.node.number, e.event) ∷ events_of es
 
--- a tick at each of the first so many nodes, rising
-abbrev pub ticks_to : ℕ → List (ℕ × NodeEvent)
-ticks_to zero = []
-ticks_to (suc n) = ticks_to n ++ (n, Tick) ∷ []
+-- a tick at a node, if it is one of these
+abbrev pub tick_at : set.FinSet nat_cmp → ℕ → List (ℕ × NodeEvent)
+tick_at here k = cond (set.contains here k) ((k, Tick) ∷ []) []
 
--- so many turns of ticks
-abbrev pub tick_turns : ℕ → ℕ → List (ℕ × NodeEvent)
-tick_turns nodes zero = []
-tick_turns nodes (suc t) = tick_turns nodes t ++ ticks_to nodes
+-- a tick at each of these nodes with a number below this, rising
+abbrev pub ticks_to : set.FinSet nat_cmp → ℕ → List (ℕ × NodeEvent)
+ticks_to here zero = []
+ticks_to here (suc n) = ticks_to here n ++ tick_at here n
 
--- so many whole turns, and ticks at the first so many nodes of one more
-abbrev pub AreTicks : ℕ → ℕ → ℕ → List SeatEntry → Type 0
-AreTicks nodes turns part es = events_of es ≡ tick_turns nodes turns ++ ticks_to part
+-- this number of turns of ticks
+abbrev pub tick_turns : set.FinSet nat_cmp → ℕ → ℕ → List (ℕ × NodeEvent)
+tick_turns here nodes zero = []
+tick_turns here nodes (suc t) = tick_turns here nodes t ++ ticks_to here nodes
 
--- The list has gained the ticks of all whole turns, and those at the first nodes of one more where the ticker ended by a
+-- the events of a tick at the node, if it is one of these
+abbrev pub IsTick : set.FinSet nat_cmp → NodeId → List SeatEntry → Type 0
+IsTick here node es = events_of es ≡ tick_at here node.number
+
+-- this number of whole turns, and ticks at the first nodes of one more
+abbrev pub AreTicks : set.FinSet nat_cmp → ℕ → ℕ → ℕ → List SeatEntry → Type 0
+AreTicks here nodes turns part es = events_of es ≡ tick_turns here nodes turns ++ ticks_to here part
+
+-- The calls have gained the ticks of all whole turns, and those at the first nodes of one more where the ticker ended by a
 -- fault.
-pub record HasTicked (nodes : ℕ) (end : WorkerEnd) (old new : List SeatEntry) : Type 0 where
+pub record HasTicked (here : set.FinSet nat_cmp) (nodes : ℕ) (end : WorkerEnd) (old new : List SeatEntry) : Type 0 where
   pub part : ℕ
   pub within : part ≤ nodes
   pub whole : end.why ≢ Fault → part ≡ 0
-  pub gained : Gains (AreTicks nodes end.turns part) old new
+  pub gained : Gains (AreTicks here nodes end.turns part) old new

@@ -1,8 +1,10 @@
 //! One call of a worker.
-ghost use Rattle.std.specs.Prelude.{◌≡◌, ◌⊎◌, ◌++◌, ◌∷◌, [], true, Some, Err, IfOk, IfErr};
+ghost use Rattle.std.specs.Prelude.{◌≡◌, ◌≢◌, ◌⊎◌, ◌+◌, ◌++◌, ◌∷◌, [], Some, Err, IfOk, IfErr, OnOk, OnErr};
+ghost use Rattle.std.specs.Bool.{MatchBool};
 ghost use Rattle.gb_node.specs.declared.answer.NodeAnswer.{NodeAnswer as AnswerValue};
-ghost use Rattle.gb_worker.specs.Answered.{is_stopped};
-ghost use Rattle.gb_worker.specs.Gained.{Gains, IsStopped};
+ghost use Rattle.gb_worker.specs.Answered.{is_stopped, stops_by, stops_in};
+ghost use Rattle.gb_worker.specs.Ended.{IsLost, IsUncounted};
+ghost use Rattle.gb_worker.specs.Gained.{Gains, IsCalled, IsStopped};
 
 use crate::end::Why;
 use gb_host::fault::HostFault;
@@ -14,7 +16,6 @@ use gb_node::event::NodeEvent;
 use gb_types::node::NodeId;
 use gb_types::refusal::Refusal;
 use std::sync::Wait;
-use std::sync::ledger::Ledger;
 
 // Whether a packet that came, or a packet to be sent, was answered Stopped.
 fn is_stopped(answer: &NodeAnswer) -> bool
@@ -27,50 +28,70 @@ fn is_stopped(answer: &NodeAnswer) -> bool
     }
 }
 
-// One event at a node, and its answer; or None where the host had no memory for it, which is counted. Any other fault of the
-// host ends the worker.
-pub(crate) fn ask<L: Tapes, M: Ledger, H: Wait>(
-    rt: &H,
-    host: &Host<L, M>,
-    seat: &mut Seat<M>,
-    node: NodeId,
-    event: NodeEvent,
-    refused: &mut u64,
-) -> Result<Option<NodeAnswer>, Why>
-    ensures made { L.plan.tape ≡ true → refused.new ≡ 0 → IfOk result (λ o. (a : AnswerValue) × (o ≡ Some a)
-        × (seat.new.list ≡ seat.old.list ++ record { node = node; event = event; answer = a } ∷ [])) }
-    ensures fault { IfErr result (λ why. (why ≡ Why.Fault) × (seat.new.list ≡ seat.old.list)) }
-    ensures counts { refused.new ≡ 0 → refused.old ≡ 0 }
-    ensures number { seat.new.number ≡ seat.old.number }
+// Whether a fault of the host is want of memory.
+fn is_memory(fault: &HostFault) -> bool
+    ensures { MatchBool result (fault.now ≡ HostFault.OutOfMemory) (fault.now ≢ HostFault.OutOfMemory) }
 {
-    match host.call(rt, seat, node, event) {
-        Ok(answer) => Ok(Some(answer)),
-        Err(HostFault::OutOfMemory) => {
-            *refused = refused.saturating_add(1);
-            Ok(None)
-        }
-        Err(_) => Err(Why::Fault),
+    match fault {
+        HostFault::OutOfMemory => true,
+        _ => false,
     }
 }
 
-// The same of packets that come or are to be sent; the answer Stopped ends the worker too.
-pub(crate) fn make<L: Tapes, M: Ledger, H: Wait>(
+// One event at a node, and its answer; or None where the host had no memory for it, which is counted. Any other fault of the
+// host ends the worker.
+pub(crate) fn ask<L: Tapes, H: Wait>(
     rt: &H,
-    host: &Host<L, M>,
-    seat: &mut Seat<M>,
+    host: &Host<L>,
+    seat: &mut Seat<L>,
     node: NodeId,
     event: NodeEvent,
     refused: &mut u64,
 ) -> Result<Option<NodeAnswer>, Why>
-    ensures made { L.plan.tape ≡ true → refused.new ≡ 0 → IfOk result (λ o. (a : AnswerValue) × (o ≡ Some a)
-        × (seat.new.list ≡ seat.old.list ++ record { node = node; event = event; answer = a } ∷ [])) }
-    ensures stopped { L.plan.tape ≡ true → refused.new ≡ 0 → result ≡ Err Why.Stopped → Gains (IsStopped node event) seat.old.list seat.new.list }
-    ensures fault { result ≡ Err Why.Fault → seat.new.list ≡ seat.old.list }
+    ensures called { IfOk result (λ o. IsCalled node event o seat.old.calls seat.new.calls) }
+    ensures made { refused.new ≡ 0 → IfOk result (λ o. (a : AnswerValue) × (o ≡ Some a)
+        × (seat.new.calls ≡ seat.old.calls ++ record { node = node; event = event; answer = a } ∷ [])) }
+    ensures fault { IfErr result (λ why. (why ≡ Why.Fault) × (seat.new.calls ≡ seat.old.calls)) }
+    ensures counts { refused.new ≡ 0 → refused.old ≡ 0 }
+    ensures number { seat.new.number ≡ seat.old.number }
+    ensures uncounted { IsUncounted L.plan host.now.here node → refused.new ≡ refused.old }
+    ensures lost { OnErr result (IsLost host.now.here node seat.new) }
+{
+    let fault = match host.call(rt, seat, node, event) {
+        Ok(answer) => return Ok(Some(answer)),
+        Err(fault) => fault,
+    };
+    if !is_memory(&fault) {
+        drop(fault);
+        return Err(Why::Fault);
+    }
+    drop(fault);
+    *refused = refused.saturating_add(1);
+    Ok(None)
+}
+
+// The same of packets that come or are to be sent; the answer Stopped ends the worker too.
+pub(crate) fn make<L: Tapes, H: Wait>(
+    rt: &H,
+    host: &Host<L>,
+    seat: &mut Seat<L>,
+    me: NodeId,
+    event: NodeEvent,
+    refused: &mut u64,
+) -> Result<Option<NodeAnswer>, Why>
+    ensures made { refused.new ≡ 0 → IfOk result (λ o. (a : AnswerValue) × (o ≡ Some a)
+        × (seat.new.calls ≡ seat.old.calls ++ record { node = me; event = event; answer = a } ∷ [])) }
+    ensures halted { refused.new ≡ 0 → result ≡ Err Why.Stopped → Gains (IsStopped me event) seat.old.calls seat.new.calls }
+    ensures fault { result ≡ Err Why.Fault → seat.new.calls ≡ seat.old.calls }
     ensures why { IfErr result (λ why. (why ≡ Why.Stopped) ⊎ (why ≡ Why.Fault)) }
     ensures counts { refused.new ≡ 0 → refused.old ≡ 0 }
     ensures number { seat.new.number ≡ seat.old.number }
+    ensures uncounted { IsUncounted L.plan host.now.here me → refused.new ≡ refused.old }
+    ensures stops { OnOk result (stops_in seat.new.calls ≡ stops_in seat.old.calls) }
+    ensures stopped { IfErr result (λ why. stops_in seat.new.calls ≡ stops_in seat.old.calls + stops_by why) }
+    ensures lost { IfErr result (λ why. why ≡ Why.Fault → IsLost host.now.here me seat.new) }
 {
-    let answer = match ask(rt, host, seat, node, event, refused) {
+    let answer = match ask(rt, host, seat, me, event, refused) {
         Ok(Some(answer)) => answer,
         Ok(None) => return Ok(None),
         Err(why) => return Err(why),

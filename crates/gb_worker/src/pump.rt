@@ -1,5 +1,5 @@
 //! The worker that carries a node's packets.
-ghost use Rattle.std.specs.Prelude.{◌≡◌, ◌≢◌, ◌⊎◌, ◌≤◌, ◌&&◌, ◌==◌, ◌%◌, not, ℕ, Option, Result, Ok, Some, Err, true, false, IfOk, IfErr, IfSome, IfNone, OnOk, OnErr};
+ghost use Rattle.std.specs.Prelude.{◌≡◌, ◌≢◌, ◌⊎◌, ◌≤◌, ◌+◌, ◌&&◌, ◌==◌, ◌%◌, not, ℕ, Option, Result, Ok, Some, Err, true, false, IfOk, IfErr, IfSome, IfNone, OnOk, OnErr};
 ghost use Rattle.std.specs.FinSet as set;
 ghost use Rattle.std.specs.declared.vec.Vec.{Vec as Bytes};
 ghost use Rattle.std.specs.declared.alloc.Global.{Global as TheGlobal};
@@ -8,7 +8,8 @@ ghost use Rattle.gb_node.specs.declared.answer.NodeAnswer.{NodeAnswer as AnswerV
 ghost use Rattle.gb_node.specs.declared.answer.NodeAnswer.TheVariants.{Sent as WasSent};
 ghost use Rattle.gb_node.specs.declared.answer.Sent.TheVariants.{Packet as SentPacket};
 ghost use Rattle.gb_port.specs.declared.port.PortFault.{PortFault as TheFault};
-ghost use Rattle.gb_worker.specs.Answered.{and_heard, destination, gives_packet};
+ghost use Rattle.gb_worker.specs.Answered.{and_heard, destination, gives_packet, stops_by, stops_in};
+ghost use Rattle.gb_worker.specs.Ended.{IsLost, IsUncounted};
 ghost use Rattle.gb_worker.specs.Carried.{HasCarried, GivesNothing};
 ghost use Rattle.gb_worker.specs.Gained.{Gains, IfDue, IsBegun, IsMade, IsNoted};
 ghost use Rattle.gb_worker.specs.Turns.{is_ack_due, SendsTo, IsPartTo, SendsAll, IsPartAll, IsReceived, HasReceived, IsTurn, IsPart, HasPumped};
@@ -25,15 +26,14 @@ use gb_node::packet_text::PacketText;
 use gb_port::port::Port;
 use gb_types::node::{NodeId, NodeSet};
 use std::sync::Wait;
-use std::sync::ledger::Ledger;
 
 /// How many packets a turn receives at most.
 pub const PACKETS: usize = 16;
 
-/// In every so manieth turn a frame that was not acknowledged is sent again to a node for which nothing waits.
+/// In each turn whose number this divides a frame that was not acknowledged is sent again to a node for which nothing waits.
 pub const AGAIN: u64 = 8;
 
-/// In every so manieth turn an acknowledgement is sent to a node that was not heard.
+/// In each turn whose number this divides an acknowledgement is sent to a node that was not heard.
 pub const ACK: u64 = 16;
 
 // Definitions cite these values.
@@ -83,22 +83,26 @@ fn packet_of(answer: NodeAnswer) -> Option<PacketText>
     }
 }
 
-// At most 16 packets that have come. Gives the nodes of which a good one came. Nothing there, or a fault of the port, ends
+// At most 16 packets that have come. Returns the nodes of which a good one came. Nothing there, or a fault of the port, ends
 // the receiving.
-fn receive<L: Tapes, M: Ledger, H: Wait, P: Port>(
+fn receive<L: Tapes, H: Wait, P: Port>(
     rt: &H,
-    host: &Host<L, M>,
-    seat: &mut Seat<M>,
+    host: &Host<L>,
+    seat: &mut Seat<L>,
     me: NodeId,
     port: &mut P,
     refused: &mut u64,
 ) -> Result<NodeSet, Why>
-    ensures received { L.plan.tape ≡ true → refused.new ≡ 0 → IfOk result (λ heard. Gains (HasReceived me PACKETS heard) seat.old.list seat.new.list) }
-    ensures ended { L.plan.tape ≡ true → refused.new ≡ 0 → OnErr result (Gains (IsReceived me PACKETS) seat.old.list seat.new.list) }
-    ensures carried { L.plan.tape ≡ true → refused.new ≡ 0 → result ≢ Err Why.Fault → HasCarried P.sends P.receives port.old port.new seat.old.list seat.new.list }
+    ensures received { refused.new ≡ 0 → IfOk result (λ heard. Gains (HasReceived me PACKETS heard) seat.old.calls seat.new.calls) }
+    ensures ended { refused.new ≡ 0 → OnErr result (Gains (IsReceived me PACKETS) seat.old.calls seat.new.calls) }
+    ensures carried { refused.new ≡ 0 → result ≢ Err Why.Fault → HasCarried P.sends P.receives port.old port.new seat.old.calls seat.new.calls }
     ensures why { IfErr result (λ why. (why ≡ Why.Stopped) ⊎ (why ≡ Why.Fault)) }
     ensures counts { refused.new ≡ 0 → refused.old ≡ 0 }
     ensures number { seat.new.number ≡ seat.old.number }
+    ensures uncounted { IsUncounted L.plan host.now.here me → refused.new ≡ refused.old }
+    ensures stops { OnOk result (stops_in seat.new.calls ≡ stops_in seat.old.calls) }
+    ensures stopped { IfErr result (λ why. stops_in seat.new.calls ≡ stops_in seat.old.calls + stops_by why) }
+    ensures lost { IfErr result (λ why. why ≡ Why.Fault → IsLost host.now.here me seat.new) }
 {
     let mut heard = NodeSet::new();
     for _i in 0..PACKETS {
@@ -115,11 +119,11 @@ fn receive<L: Tapes, M: Ledger, H: Wait, P: Port>(
     Ok(heard)
 }
 
-// One event by which a node sends to another. What it gives is sent at once. Gives whether it gave a packet.
-fn send_one<L: Tapes, M: Ledger, H: Wait, P: Port>(
+// One event by which a node sends to another. What it gives is sent at once. Returns whether it gave a packet.
+fn send_one<L: Tapes, H: Wait, P: Port>(
     rt: &H,
-    host: &Host<L, M>,
-    seat: &mut Seat<M>,
+    host: &Host<L>,
+    seat: &mut Seat<L>,
     me: NodeId,
     event: NodeEvent,
     to: NodeId,
@@ -127,12 +131,16 @@ fn send_one<L: Tapes, M: Ledger, H: Wait, P: Port>(
     refused: &mut u64,
 ) -> Result<bool, Why>
     requires { destination event ≡ Some to }
-    ensures sent { L.plan.tape ≡ true → refused.new ≡ 0 → IfOk result (λ is_given. Gains (IsMade me event is_given) seat.old.list seat.new.list) }
-    ensures ended { L.plan.tape ≡ true → refused.new ≡ 0 → OnErr result (Gains (IsBegun me event) seat.old.list seat.new.list) }
-    ensures carried { L.plan.tape ≡ true → refused.new ≡ 0 → result ≢ Err Why.Fault → HasCarried P.sends P.receives port.old port.new seat.old.list seat.new.list }
+    ensures sent { refused.new ≡ 0 → IfOk result (λ is_given. Gains (IsMade me event is_given) seat.old.calls seat.new.calls) }
+    ensures ended { refused.new ≡ 0 → OnErr result (Gains (IsBegun me event) seat.old.calls seat.new.calls) }
+    ensures carried { refused.new ≡ 0 → result ≢ Err Why.Fault → HasCarried P.sends P.receives port.old port.new seat.old.calls seat.new.calls }
     ensures why { IfErr result (λ why. (why ≡ Why.Stopped) ⊎ (why ≡ Why.Fault)) }
     ensures counts { refused.new ≡ 0 → refused.old ≡ 0 }
     ensures number { seat.new.number ≡ seat.old.number }
+    ensures uncounted { IsUncounted L.plan host.now.here me → refused.new ≡ refused.old }
+    ensures stops { OnOk result (stops_in seat.new.calls ≡ stops_in seat.old.calls) }
+    ensures stopped { IfErr result (λ why. stops_in seat.new.calls ≡ stops_in seat.old.calls + stops_by why) }
+    ensures lost { IfErr result (λ why. why ≡ Why.Fault → IsLost host.now.here me seat.new) }
 {
     let answer = match make(rt, host, seat, me, event, refused) {
         Ok(Some(answer)) => answer,
@@ -147,10 +155,10 @@ fn send_one<L: Tapes, M: Ledger, H: Wait, P: Port>(
 }
 
 // The same where it is due.
-fn send_due<L: Tapes, M: Ledger, H: Wait, P: Port>(
+fn send_due<L: Tapes, H: Wait, P: Port>(
     rt: &H,
-    host: &Host<L, M>,
-    seat: &mut Seat<M>,
+    host: &Host<L>,
+    seat: &mut Seat<L>,
     me: NodeId,
     is_due: bool,
     event: NodeEvent,
@@ -159,12 +167,16 @@ fn send_due<L: Tapes, M: Ledger, H: Wait, P: Port>(
     refused: &mut u64,
 ) -> Result<(), Why>
     requires { destination event ≡ Some to }
-    ensures sent { L.plan.tape ≡ true → refused.new ≡ 0 → OnOk result (Gains (IfDue is_due (IsNoted me event)) seat.old.list seat.new.list) }
-    ensures ended { L.plan.tape ≡ true → refused.new ≡ 0 → OnErr result ((is_due ≡ true) × Gains (IsBegun me event) seat.old.list seat.new.list) }
-    ensures carried { L.plan.tape ≡ true → refused.new ≡ 0 → result ≢ Err Why.Fault → HasCarried P.sends P.receives port.old port.new seat.old.list seat.new.list }
+    ensures sent { refused.new ≡ 0 → OnOk result (Gains (IfDue is_due (IsNoted me event)) seat.old.calls seat.new.calls) }
+    ensures ended { refused.new ≡ 0 → OnErr result ((is_due ≡ true) × Gains (IsBegun me event) seat.old.calls seat.new.calls) }
+    ensures carried { refused.new ≡ 0 → result ≢ Err Why.Fault → HasCarried P.sends P.receives port.old port.new seat.old.calls seat.new.calls }
     ensures why { IfErr result (λ why. (why ≡ Why.Stopped) ⊎ (why ≡ Why.Fault)) }
     ensures counts { refused.new ≡ 0 → refused.old ≡ 0 }
     ensures number { seat.new.number ≡ seat.old.number }
+    ensures uncounted { IsUncounted L.plan host.now.here me → refused.new ≡ refused.old }
+    ensures stops { OnOk result (stops_in seat.new.calls ≡ stops_in seat.old.calls) }
+    ensures stopped { IfErr result (λ why. stops_in seat.new.calls ≡ stops_in seat.old.calls + stops_by why) }
+    ensures lost { IfErr result (λ why. why ≡ Why.Fault → IsLost host.now.here me seat.new) }
 {
     if !is_due {
         drop(event);
@@ -191,22 +203,26 @@ fn is_ack_due(turn: u64, is_heard: bool) -> bool
 }
 
 // What a turn sends to one node.
-fn send_to<L: Tapes, M: Ledger, H: Wait, P: Port>(
+fn send_to<L: Tapes, H: Wait, P: Port>(
     rt: &H,
-    host: &Host<L, M>,
-    seat: &mut Seat<M>,
+    host: &Host<L>,
+    seat: &mut Seat<L>,
     turn: Turn,
     to: NodeId,
     is_heard: bool,
     port: &mut P,
     refused: &mut u64,
 ) -> Result<(), Why>
-    ensures sent { L.plan.tape ≡ true → refused.new ≡ 0 → OnOk result (Gains (SendsTo turn.number turn.me to.number is_heard) seat.old.list seat.new.list) }
-    ensures ended { L.plan.tape ≡ true → refused.new ≡ 0 → OnErr result (Gains (IsPartTo turn.number turn.me to.number is_heard) seat.old.list seat.new.list) }
-    ensures carried { L.plan.tape ≡ true → refused.new ≡ 0 → result ≢ Err Why.Fault → HasCarried P.sends P.receives port.old port.new seat.old.list seat.new.list }
+    ensures sent { refused.new ≡ 0 → OnOk result (Gains (SendsTo turn.number turn.me to.number is_heard) seat.old.calls seat.new.calls) }
+    ensures ended { refused.new ≡ 0 → OnErr result (Gains (IsPartTo turn.number turn.me to.number is_heard) seat.old.calls seat.new.calls) }
+    ensures carried { refused.new ≡ 0 → result ≢ Err Why.Fault → HasCarried P.sends P.receives port.old port.new seat.old.calls seat.new.calls }
     ensures why { IfErr result (λ why. (why ≡ Why.Stopped) ⊎ (why ≡ Why.Fault)) }
     ensures counts { refused.new ≡ 0 → refused.old ≡ 0 }
     ensures number { seat.new.number ≡ seat.old.number }
+    ensures uncounted { IsUncounted L.plan host.now.here turn.me → refused.new ≡ refused.old }
+    ensures stops { OnOk result (stops_in seat.new.calls ≡ stops_in seat.old.calls) }
+    ensures stopped { IfErr result (λ why. stops_in seat.new.calls ≡ stops_in seat.old.calls + stops_by why) }
+    ensures lost { IfErr result (λ why. why ≡ Why.Fault → IsLost host.now.here turn.me seat.new) }
 {
     let me = turn.me;
     let is_given = match send_one(rt, host, seat, me, NodeEvent::Pack(to), to, port, refused) {
@@ -246,22 +262,26 @@ fn send_to<L: Tapes, M: Ledger, H: Wait, P: Port>(
 }
 
 // What a turn sends to the other nodes, rising.
-fn send_all<L: Tapes, M: Ledger, H: Wait, P: Port>(
+fn send_all<L: Tapes, H: Wait, P: Port>(
     rt: &H,
-    host: &Host<L, M>,
-    seat: &mut Seat<M>,
+    host: &Host<L>,
+    seat: &mut Seat<L>,
     turn: Turn,
     heard: &NodeSet,
     port: &mut P,
     refused: &mut u64,
 ) -> Result<(), Why>
     requires { turn.nodes ≤ NODES }
-    ensures sent { L.plan.tape ≡ true → refused.new ≡ 0 → OnOk result (Gains (SendsAll turn.number turn.me heard.now turn.nodes) seat.old.list seat.new.list) }
-    ensures ended { L.plan.tape ≡ true → refused.new ≡ 0 → OnErr result (Gains (IsPartAll turn.number turn.me heard.now turn.nodes) seat.old.list seat.new.list) }
-    ensures carried { L.plan.tape ≡ true → refused.new ≡ 0 → result ≢ Err Why.Fault → HasCarried P.sends P.receives port.old port.new seat.old.list seat.new.list }
+    ensures sent { refused.new ≡ 0 → OnOk result (Gains (SendsAll turn.number turn.me heard.now turn.nodes) seat.old.calls seat.new.calls) }
+    ensures ended { refused.new ≡ 0 → OnErr result (Gains (IsPartAll turn.number turn.me heard.now turn.nodes) seat.old.calls seat.new.calls) }
+    ensures carried { refused.new ≡ 0 → result ≢ Err Why.Fault → HasCarried P.sends P.receives port.old port.new seat.old.calls seat.new.calls }
     ensures why { IfErr result (λ why. (why ≡ Why.Stopped) ⊎ (why ≡ Why.Fault)) }
     ensures counts { refused.new ≡ 0 → refused.old ≡ 0 }
     ensures number { seat.new.number ≡ seat.old.number }
+    ensures uncounted { IsUncounted L.plan host.now.here turn.me → refused.new ≡ refused.old }
+    ensures stops { OnOk result (stops_in seat.new.calls ≡ stops_in seat.old.calls) }
+    ensures stopped { IfErr result (λ why. stops_in seat.new.calls ≡ stops_in seat.old.calls + stops_by why) }
+    ensures lost { IfErr result (λ why. why ≡ Why.Fault → IsLost host.now.here turn.me seat.new) }
 {
     for number in 0..turn.nodes {
         if number != turn.me.number {
@@ -276,21 +296,25 @@ fn send_all<L: Tapes, M: Ledger, H: Wait, P: Port>(
 }
 
 // One turn.
-fn make_turn<L: Tapes, M: Ledger, H: Wait, P: Port>(
+fn make_turn<L: Tapes, H: Wait, P: Port>(
     rt: &H,
-    host: &Host<L, M>,
-    seat: &mut Seat<M>,
+    host: &Host<L>,
+    seat: &mut Seat<L>,
     turn: Turn,
     port: &mut P,
     refused: &mut u64,
 ) -> Result<(), Why>
     requires { turn.nodes ≤ NODES }
-    ensures turned { L.plan.tape ≡ true → refused.new ≡ 0 → OnOk result (Gains (IsTurn turn.number turn.me turn.nodes) seat.old.list seat.new.list) }
-    ensures ended { L.plan.tape ≡ true → refused.new ≡ 0 → OnErr result (Gains (IsPart turn.number turn.me turn.nodes) seat.old.list seat.new.list) }
-    ensures carried { L.plan.tape ≡ true → refused.new ≡ 0 → result ≢ Err Why.Fault → HasCarried P.sends P.receives port.old port.new seat.old.list seat.new.list }
+    ensures turned { refused.new ≡ 0 → OnOk result (Gains (IsTurn turn.number turn.me turn.nodes) seat.old.calls seat.new.calls) }
+    ensures ended { refused.new ≡ 0 → OnErr result (Gains (IsPart turn.number turn.me turn.nodes) seat.old.calls seat.new.calls) }
+    ensures carried { refused.new ≡ 0 → result ≢ Err Why.Fault → HasCarried P.sends P.receives port.old port.new seat.old.calls seat.new.calls }
     ensures why { IfErr result (λ why. (why ≡ Why.Stopped) ⊎ (why ≡ Why.Fault)) }
     ensures counts { refused.new ≡ 0 → refused.old ≡ 0 }
     ensures number { seat.new.number ≡ seat.old.number }
+    ensures uncounted { IsUncounted L.plan host.now.here turn.me → refused.new ≡ refused.old }
+    ensures stops { OnOk result (stops_in seat.new.calls ≡ stops_in seat.old.calls) }
+    ensures stopped { IfErr result (λ why. stops_in seat.new.calls ≡ stops_in seat.old.calls + stops_by why) }
+    ensures lost { IfErr result (λ why. why ≡ Why.Fault → IsLost host.now.here turn.me seat.new) }
 {
     let heard = match receive(rt, host, seat, turn.me, port, refused) {
         Ok(heard) => heard,
@@ -302,26 +326,30 @@ fn make_turn<L: Tapes, M: Ledger, H: Wait, P: Port>(
     }
 }
 
-/// Makes so many turns, numbered from 1. Each passes the gate, then receives at most 16 packets from the port, each of which
+/// Makes this number of turns, numbered from 1. Each passes the gate, then receives at most 16 packets from the port, each of which
 /// is an event at the node, and then does this for each other node, rising: a pack; where that gave no packet and 8 divides
 /// the turn's number, an again of the lowest frame that is not acknowledged; where a good packet of that node came in this
 /// turn or 16 divides its number, an ack. What each gives is handed to the port at once; what the port does not take is lost.
-/// False at the gate ends the pump, and so does the answer Stopped, and a fault of the host other than want of memory; an
-/// event for which there was no memory did not happen, and is counted, and a packet that was to be its event is lost.
-pub fn pump<L: Tapes, M: Ledger, H: Wait, P: Port, G: Gate>(
+/// False at the gate ends the pump, and so does the answer Stopped, of which there is one at most, and a fault of the host other
+/// than want of memory; an event for which there was no memory did not happen, and is counted, and a packet that was to be its
+/// event is lost. None is counted where the host keeps no tapes.
+pub fn pump<L: Tapes, H: Wait, P: Port, G: Gate>(
     rt: &H,
-    host: &Host<L, M>,
-    seat: &mut Seat<M>,
+    host: &Host<L>,
+    seat: &mut Seat<L>,
     node: NodeId,
     port: &mut P,
     gate: &mut G,
     turns: u64,
 ) -> WorkerEnd
-    ensures pumped { L.plan.tape ≡ true → result.refused ≡ 0 → HasPumped node host.now.plan.cluster.nodes result seat.old.list seat.new.list }
-    ensures carried { L.plan.tape ≡ true → result.refused ≡ 0 → result.why ≢ Why.Fault → HasCarried P.sends P.receives port.old port.new seat.old.list seat.new.list }
+    ensures pumped { result.refused ≡ 0 → HasPumped node host.now.plan.cluster.nodes result seat.old.calls seat.new.calls }
+    ensures carried { result.refused ≡ 0 → result.why ≢ Why.Fault → HasCarried P.sends P.receives port.old port.new seat.old.calls seat.new.calls }
     ensures asked { result.why ≡ Why.Turns → result.turns ≡ turns }
     ensures most { result.turns ≤ turns }
     ensures number { seat.new.number ≡ seat.old.number }
+    ensures uncounted { IsUncounted L.plan host.now.here node → result.refused ≡ 0 }
+    ensures stopped { stops_in seat.new.calls ≡ stops_in seat.old.calls + stops_by result.why }
+    ensures lost { result.why ≡ Why.Fault → IsLost host.now.here node seat.new }
 {
     let nodes = host.plan().cluster.nodes;
     let mut refused = 0u64;

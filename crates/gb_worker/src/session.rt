@@ -1,5 +1,5 @@
 //! The worker that answers a client's requests.
-ghost use Rattle.std.specs.Prelude.{◌≡◌, true, IfOk, IfErr, OnErr};
+ghost use Rattle.std.specs.Prelude.{◌≡◌, IfOk, IfErr, OnErr};
 ghost use Rattle.gb_session.specs.Runs.{HasAsked};
 ghost use Rattle.gb_session.specs.Sessions.{IsSession};
 ghost use Rattle.gb_worker.specs.Asked.{AnswersAt, reply_at, reply_of};
@@ -20,7 +20,6 @@ use gb_types::request::Request;
 use std::alloc::Global;
 use std::io::{Read, Write};
 use std::sync::Wait;
-use std::sync::ledger::Ledger;
 
 // What a client is told of a call.
 fn reply_of(outcome: Result<NodeAnswer, HostFault>) -> Reply
@@ -36,21 +35,21 @@ fn reply_of(outcome: Result<NodeAnswer, HostFault>) -> Reply
 
 // Who answers a session's requests: a node of a host, asked from a seat, as long as a gate is passed.
 #[derive(Drop)]
-struct Desk<'a, L: Tapes, M: Ledger, H, G> {
+struct Desk<'a, L: Tapes, H, G> {
     rt: &'a H,
-    host: &'a Host<L, M>,
+    host: &'a Host<L>,
     node: NodeId,
     is_shut: bool,
     gate: &'a mut G,
-    seat: &'a mut Seat<M>,
+    seat: &'a mut Seat<L>,
 }
 
-impl<'a, L: Tapes, M: Ledger, H: Wait, G: Gate> Answers for Desk<'a, L, M, H, G> {
-    ghost use Rattle.std.specs.Prelude.{◌≡◌, true};
+impl<'a, L: Tapes, H: Wait, G: Gate> Answers for Desk<'a, L, H, G> {
+    ghost use Rattle.std.specs.Prelude.{◌≡◌};
     ghost use Rattle.gb_worker.specs.Asked.{AnswersAt};
 
     ghost answers = { λ s request reply t. (t.node ≡ s.node) × (t.seat.ghost_name ≡ s.seat.ghost_name)
-        × (L.plan.tape ≡ true → AnswersAt s.node s.seat.now.list request reply t.seat.now.list) };
+        × AnswersAt L.plan s.node s.seat.now.calls request reply t.seat.now.calls };
 
     fn answer(&mut self, request: Request) -> Reply {
         if self.is_shut || !self.gate.pass() {
@@ -66,19 +65,19 @@ impl<'a, L: Tapes, M: Ledger, H: Wait, G: Gate> Answers for Desk<'a, L, M, H, G>
 /// `gb_session::serve::serve`, whose result it gives. The gate is passed before each call; from its first false on no call is
 /// made and each reply is Stopped. Where the host had no memory for a call the reply is OutOfMemory, and Stopped at any other
 /// fault of the host: then nothing happened at the node.
-pub fn session<L: Tapes, M: Ledger, H: Wait, R: Read, W: Write, G: Gate>(
+pub fn session<L: Tapes, H: Wait, R: Read, W: Write, G: Gate>(
     rt: &H,
     alloc: Global,
-    host: &Host<L, M>,
-    seat: &mut Seat<M>,
+    host: &Host<L>,
+    seat: &mut Seat<L>,
     node: NodeId,
     reader: &mut R,
     writer: &mut W,
     gate: &mut G,
 ) -> Result<SessionEnd, SessionFault>
-    ensures ok { L.plan.tape ≡ true → IfOk result (IsSession (AnswersAt node) seat.old.list seat.new.list
+    ensures ok { IfOk result (IsSession (AnswersAt L.plan node) seat.old.calls seat.new.calls
         (R.remaining reader.old) (R.remaining reader.new) (W.contents writer.old) (W.contents writer.new)) }
-    ensures asked { L.plan.tape ≡ true → OnErr result (HasAsked (AnswersAt node) seat.old.list seat.new.list) }
+    ensures asked { OnErr result (HasAsked (AnswersAt L.plan node) seat.old.calls seat.new.calls) }
 {
     let mut desk = Desk {
         rt,

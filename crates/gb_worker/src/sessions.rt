@@ -13,7 +13,6 @@ use gb_types::node::NodeId;
 use std::alloc::Global;
 use std::io::{Read, Write};
 use std::sync::Wait;
-use std::sync::ledger::Ledger;
 use std::thread;
 use std::thread::Threads;
 
@@ -33,7 +32,6 @@ pub type Ending = Result<SessionEnd, SessionFault>;
 /// sessions are held one after the other.
 pub fn sessions<
     L: Tapes + Send + Sync,
-    M: Ledger + Send + Sync,
     H: Threads + Wait + Sync,
     R: Read + Send + Drop,
     W: Write + Send + Drop,
@@ -41,8 +39,8 @@ pub fn sessions<
 >(
     rt: &H,
     alloc: Global,
-    host: &Host<L, M>,
-    seats: &mut [Seat<M>],
+    host: &Host<L>,
+    seats: &mut [Seat<L>],
     streams: Vec<Stream<R, W>>,
     gates: Vec<G>,
 ) -> Result<Vec<Ending>, OutOfMemory>
@@ -72,11 +70,11 @@ pub fn sessions<
 }
 
 // One of the sessions.
-fn hold<L: Tapes, M: Ledger, H: Wait, R: Read + Drop, W: Write + Drop, G: Gate + Drop>(
+fn hold<L: Tapes, H: Wait, R: Read + Drop, W: Write + Drop, G: Gate + Drop>(
     rt: &H,
     alloc: Global,
-    host: &Host<L, M>,
-    seat: &mut Seat<M>,
+    host: &Host<L>,
+    seat: &mut Seat<L>,
     stream: Stream<R, W>,
     gate: G,
 ) -> Ending {

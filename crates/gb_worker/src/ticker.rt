@@ -1,6 +1,7 @@
 //! The worker that makes the time tick.
-ghost use Rattle.std.specs.Prelude.{◌≡◌, ◌≢◌, ◌≤◌, true};
-ghost use Rattle.gb_worker.specs.Ticks.{HasTicked};
+ghost use Rattle.std.specs.Prelude.{ℕ, ◌≡◌, ◌≢◌, ◌≤◌, ◌-◌, ◌^◌, false, slice_index, IfErr, OnOk, OnErr};
+ghost use Rattle.gb_worker.specs.Gained.{Gains};
+ghost use Rattle.gb_worker.specs.Ticks.{HasTicked, IsTick};
 
 use crate::calling::ask;
 use crate::end::{Why, WorkerEnd};
@@ -11,23 +12,49 @@ use gb_host::seat::Seat;
 use gb_node::event::NodeEvent;
 use gb_types::node::NodeId;
 use std::sync::Wait;
-use std::sync::ledger::Ledger;
 
-/// Makes so many turns. Each passes the gate and then makes a tick at each node of the host, rising; a node that has stopped
-/// is asked too. False at the gate ends the ticker, and so does a fault of the host other than want of memory; a tick for
-/// which there was no memory did not happen, and is counted.
-pub fn ticker<L: Tapes, M: Ledger, H: Wait, G: Gate>(
+// A tick at a node, if it is here.
+fn tick<L: Tapes, H: Wait>(
     rt: &H,
-    host: &Host<L, M>,
-    seat: &mut Seat<M>,
+    host: &Host<L>,
+    seat: &mut Seat<L>,
+    node: NodeId,
+    refused: &mut u64,
+) -> Result<(), Why>
+    ensures made { refused.new ≡ 0 → OnOk result (Gains (IsTick host.now.here node) seat.old.calls seat.new.calls) }
+    ensures fault { IfErr result (λ why. (why ≡ Why.Fault) × (seat.new.calls ≡ seat.old.calls)) }
+    ensures counts { refused.new ≡ 0 → refused.old ≡ 0 }
+    ensures number { seat.new.number ≡ seat.old.number }
+    ensures uncounted { L.plan.tape ≡ false → refused.new ≡ refused.old }
+    ensures full { OnErr result (slice_index seat.new.counts node.number ≡ 2 ^ 64 - 1) }
+{
+    if !host.here().contains(node) {
+        return Ok(());
+    }
+    match ask(rt, host, seat, node, NodeEvent::Tick, refused) {
+        Ok(_) => Ok(()),
+        Err(why) => Err(why),
+    }
+}
+
+/// Makes this number of turns. Each passes the gate and then makes a tick at each node that is here, rising; a node that has
+/// stopped is asked too. False at the gate ends the ticker, and so does a fault of the host other than want of memory, which is
+/// that the seat called a node 2^64 - 1 times; a tick for which there was no memory did not happen, and is counted. None is
+/// counted where the host keeps no tapes.
+pub fn ticker<L: Tapes, H: Wait, G: Gate>(
+    rt: &H,
+    host: &Host<L>,
+    seat: &mut Seat<L>,
     gate: &mut G,
     turns: u64,
 ) -> WorkerEnd
-    ensures ticked { L.plan.tape ≡ true → result.refused ≡ 0 → HasTicked host.now.plan.cluster.nodes result seat.old.list seat.new.list }
+    ensures ticked { result.refused ≡ 0 → HasTicked host.now.here host.now.plan.cluster.nodes result seat.old.calls seat.new.calls }
     ensures asked { result.why ≡ Why.Turns → result.turns ≡ turns }
     ensures most { result.turns ≤ turns }
     ensures why { result.why ≢ Why.Stopped }
     ensures number { seat.new.number ≡ seat.old.number }
+    ensures uncounted { L.plan.tape ≡ false → result.refused ≡ 0 }
+    ensures full { result.why ≡ Why.Fault → (k : ℕ) × (slice_index seat.new.counts k ≡ 2 ^ 64 - 1) }
 {
     let nodes = host.plan().cluster.nodes;
     let mut refused = 0u64;
@@ -40,15 +67,8 @@ pub fn ticker<L: Tapes, M: Ledger, H: Wait, G: Gate>(
             };
         }
         for node in 0..nodes {
-            match ask(
-                rt,
-                host,
-                seat,
-                NodeId::new(node),
-                NodeEvent::Tick,
-                &mut refused,
-            ) {
-                Ok(_) => {}
+            match tick(rt, host, seat, NodeId::new(node), &mut refused) {
+                Ok(()) => {}
                 Err(why) => {
                     return WorkerEnd {
                         turns: turn,

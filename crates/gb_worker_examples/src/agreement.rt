@@ -1,10 +1,10 @@
 // Whether the tapes of a closed host tell of each seat what its list did.
 use gb_host::entry::SeatEntry;
+use gb_host::names::Tapes;
 use gb_host::seat::Seat;
 use gb_node::tape::{Tape, TapeEntry};
 use gb_types::memory::OutOfMemory;
 use std::alloc::Global;
-use std::sync::ledger::Ledger;
 
 // The calls of a seat, copied.
 fn copied(alloc: Global, calls: &[SeatEntry]) -> Result<Vec<SeatEntry>, OutOfMemory> {
@@ -21,9 +21,9 @@ fn copied(alloc: Global, calls: &[SeatEntry]) -> Result<Vec<SeatEntry>, OutOfMem
 }
 
 /// Adds the calls of each seat, copied.
-pub fn copy_lists<M: Ledger>(
+pub fn copy_lists<L: Tapes>(
     alloc: Global,
-    seats: &[Seat<M>],
+    seats: &[Seat<L>],
     lists: &mut Vec<Vec<SeatEntry>>,
 ) -> Result<(), OutOfMemory> {
     for seat in seats {

@@ -20,7 +20,6 @@ use gb_types::request::Request;
 use gb_types::spec::{Spec, TenantRow};
 use std::alloc::Global;
 use std::sync::Wait;
-use std::sync::ledger::Ledger;
 use std::thread;
 use std::time::{Clock, Duration};
 
@@ -65,10 +64,10 @@ pub enum Unanswered {
 }
 
 /// Calls a node, the gate being passed while the node's lock is held.
-pub fn call<L: Tapes, M: Ledger, R: Wait, G: Gate>(
+pub fn call<L: Tapes, R: Wait, G: Gate>(
     rt: &R,
-    host: &Host<L, M>,
-    seat: &mut Seat<M>,
+    host: &Host<L>,
+    seat: &mut Seat<L>,
     node: NodeId,
     event: NodeEvent,
     gate: &mut G,
@@ -82,11 +81,11 @@ pub fn call<L: Tapes, M: Ledger, R: Wait, G: Gate>(
 }
 
 // Asks once. Want of memory is the caller's, the host's or the node's.
-fn ask_once<L: Tapes, M: Ledger, R: Wait>(
+fn ask_once<L: Tapes, R: Wait>(
     rt: &R,
     alloc: Global,
-    host: &Host<L, M>,
-    seat: &mut Seat<M>,
+    host: &Host<L>,
+    seat: &mut Seat<L>,
     node: NodeId,
     event: &NodeEvent,
 ) -> Result<NodeAnswer, Unanswered> {
@@ -101,11 +100,11 @@ fn ask_once<L: Tapes, M: Ledger, R: Wait>(
 
 /// Asks a node, and again where there was no memory for it. None where that takes too long, or the host refuses for another
 /// reason.
-pub fn ask<L: Tapes, M: Ledger, R: Wait + Clock>(
+pub fn ask<L: Tapes, R: Wait + Clock>(
     rt: &R,
     alloc: Global,
-    host: &Host<L, M>,
-    seat: &mut Seat<M>,
+    host: &Host<L>,
+    seat: &mut Seat<L>,
     node: NodeId,
     event: &NodeEvent,
 ) -> Option<NodeAnswer> {
@@ -120,11 +119,11 @@ pub fn ask<L: Tapes, M: Ledger, R: Wait + Clock>(
 }
 
 // The answer to a request.
-fn answer<L: Tapes, M: Ledger, R: Wait + Clock>(
+fn answer<L: Tapes, R: Wait + Clock>(
     rt: &R,
     alloc: Global,
-    host: &Host<L, M>,
-    seat: &mut Seat<M>,
+    host: &Host<L>,
+    seat: &mut Seat<L>,
     node: NodeId,
     request: Request,
 ) -> Option<NodeAnswer> {
@@ -132,11 +131,11 @@ fn answer<L: Tapes, M: Ledger, R: Wait + Clock>(
 }
 
 // Makes a request, whatever is answered.
-fn tell<L: Tapes, M: Ledger, R: Wait + Clock>(
+fn tell<L: Tapes, R: Wait + Clock>(
     rt: &R,
     alloc: Global,
-    host: &Host<L, M>,
-    seat: &mut Seat<M>,
+    host: &Host<L>,
+    seat: &mut Seat<L>,
     node: NodeId,
     request: Request,
 ) {
@@ -175,11 +174,11 @@ fn make(node: NodeId, addr: Addr) -> Request {
 }
 
 /// Adds the tenant at a node, makes a group there, and opens it.
-pub fn prepare<L: Tapes, M: Ledger, R: Wait + Clock>(
+pub fn prepare<L: Tapes, R: Wait + Clock>(
     rt: &R,
     alloc: Global,
-    host: &Host<L, M>,
-    seat: &mut Seat<M>,
+    host: &Host<L>,
+    seat: &mut Seat<L>,
     node: NodeId,
     addr: Addr,
 ) {
@@ -190,11 +189,11 @@ pub fn prepare<L: Tapes, M: Ledger, R: Wait + Clock>(
 }
 
 /// Makes the group of both nodes at each of them, from the last seat.
-pub fn prepare_both<L: Tapes, M: Ledger, R: Wait + Clock>(
+pub fn prepare_both<L: Tapes, R: Wait + Clock>(
     rt: &R,
     alloc: Global,
-    host: &Host<L, M>,
-    seats: &mut [Seat<M>],
+    host: &Host<L>,
+    seats: &mut [Seat<L>],
 ) {
     if let Some(seat) = seats.last_mut() {
         prepare(rt, alloc, host, seat, FIRST, BOTH);
@@ -211,11 +210,11 @@ fn said(answer: &Option<NodeAnswer>) -> Option<u16> {
 }
 
 /// Says words in a group at a node. The number of the message, where it was said.
-pub fn say<L: Tapes, M: Ledger, R: Wait + Clock>(
+pub fn say<L: Tapes, R: Wait + Clock>(
     rt: &R,
     alloc: Global,
-    host: &Host<L, M>,
-    seat: &mut Seat<M>,
+    host: &Host<L>,
+    seat: &mut Seat<L>,
     node: NodeId,
     addr: Addr,
     words: &[u8],
@@ -227,11 +226,11 @@ pub fn say<L: Tapes, M: Ledger, R: Wait + Clock>(
 }
 
 /// The answer to a fetch in a group at a node.
-pub fn log<L: Tapes, M: Ledger, R: Wait + Clock>(
+pub fn log<L: Tapes, R: Wait + Clock>(
     rt: &R,
     alloc: Global,
-    host: &Host<L, M>,
-    seat: &mut Seat<M>,
+    host: &Host<L>,
+    seat: &mut Seat<L>,
     node: NodeId,
     addr: Addr,
 ) -> Option<NodeAnswer> {
@@ -241,11 +240,11 @@ pub fn log<L: Tapes, M: Ledger, R: Wait + Clock>(
 }
 
 /// Fetches in a group at a node. Whether its log is the first message of a node, which is these words, and just that.
-pub fn fetch<L: Tapes, M: Ledger, R: Wait + Clock>(
+pub fn fetch<L: Tapes, R: Wait + Clock>(
     rt: &R,
     alloc: Global,
-    host: &Host<L, M>,
-    seat: &mut Seat<M>,
+    host: &Host<L>,
+    seat: &mut Seat<L>,
     node: NodeId,
     addr: Addr,
     origin: NodeId,

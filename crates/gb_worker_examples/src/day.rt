@@ -15,7 +15,6 @@ use std::alloc::Global;
 use std::rt::HostRuntime;
 use std::sync::Wait;
 use std::sync::atomic::AtomicU64;
-use std::sync::ledger::Ledger;
 use std::thread;
 use std::thread::Threads;
 use std::time::Clock;
@@ -24,11 +23,11 @@ use std::time::Clock;
 const BASE: u16 = 47_330;
 
 // Each seat with its role; nothing where there was no memory.
-fn jobs_of<'s, 'r, 'a, M: Ledger, P>(
+fn jobs_of<'s, 'r, 'a, L: Tapes, P>(
     alloc: Global,
-    seats: &'s mut [Seat<M>],
+    seats: &'s mut [Seat<L>],
     roles: &'r mut [Role<'a, P>],
-) -> Vec<(&'s mut Seat<M>, &'r mut Role<'a, P>)> {
+) -> Vec<(&'s mut Seat<L>, &'r mut Role<'a, P>)> {
     match seats.iter_mut().zip(roles.iter_mut()).collect(alloc) {
         Ok(jobs) => jobs,
         Err(_) => Vec::new(alloc),
@@ -36,16 +35,11 @@ fn jobs_of<'s, 'r, 'a, M: Ledger, P>(
 }
 
 /// What each of at most four roles counted, each in a thread of its own from the seat with its number.
-pub fn all_work<
-    L: Tapes + Send + Sync,
-    M: Ledger + Send + Sync,
-    P: Port + Send + Drop,
-    R: Threads + Wait + Clock + Sync,
->(
+pub fn all_work<L: Tapes + Send + Sync, P: Port + Send + Drop, R: Threads + Wait + Clock + Sync>(
     rt: &R,
     alloc: Global,
-    host: &Host<L, M>,
-    seats: &mut [Seat<M>],
+    host: &Host<L>,
+    seats: &mut [Seat<L>],
     roles: &mut [Role<'_, P>],
 ) -> [u64; 4] {
     let callers = AtomicU64::new(count_callers(roles));
@@ -54,7 +48,7 @@ pub fn all_work<
     let counts = thread::map_vec(
         rt,
         jobs,
-        &|(seat, role): (&mut Seat<M>, &mut Role<'_, P>)| {
+        &|(seat, role): (&mut Seat<L>, &mut Role<'_, P>)| {
             work(rt, alloc, host, left, seat, role)
         },
     );
@@ -98,6 +92,22 @@ pub fn day_of_two<R: Threads + Wait + Clock + Sync>(
     second: Role<'_, RingPort>,
 ) -> Option<Left> {
     let roles = pair(alloc, first, second)?;
+    day(rt, alloc, Version::One, tape, false, roles)
+}
+
+/// A day of three roles, without the group of both nodes.
+pub fn day_of_three<R: Threads + Wait + Clock + Sync>(
+    rt: &R,
+    alloc: Global,
+    tape: bool,
+    first: Role<'_, RingPort>,
+    second: Role<'_, RingPort>,
+    third: Role<'_, RingPort>,
+) -> Option<Left> {
+    let mut roles = Vec::with_capacity(alloc, 3).ok()?;
+    roles.push_reserved(first);
+    roles.push_reserved(second);
+    roles.push_reserved(third);
     day(rt, alloc, Version::One, tape, false, roles)
 }
 

@@ -13,14 +13,9 @@ use gb_types::node::NodeId;
 use gb_types::version::Version;
 use std::rt::HostRuntime;
 use std::sync::Wait;
-use std::sync::ledger::Ledger;
 
 /// Whether a tick at a node that the host does not have is refused, and nothing is noted.
-pub fn is_refused<L: Tapes, M: Ledger, R: Wait>(
-    rt: &R,
-    host: &Host<L, M>,
-    seat: &mut Seat<M>,
-) -> bool {
+pub fn is_refused<L: Tapes, R: Wait>(rt: &R, host: &Host<L>, seat: &mut Seat<L>) -> bool {
     let node = NodeId { number: 2 };
     let is_missing = match call(rt, host, seat, node, NodeEvent::Tick, &mut Open) {
         Err(Unanswered::NoNode) => true,

@@ -17,6 +17,8 @@ mod host_locks;
 #[cfg(test)]
 mod long;
 #[cfg(test)]
+mod one_node;
+#[cfg(test)]
 mod plans;
 #[cfg(test)]
 mod roles;

@@ -15,7 +15,6 @@ use gb_types::version::Version;
 use std::alloc::Global;
 use std::rt::HostRuntime;
 use std::sync::Wait;
-use std::sync::ledger::Ledger;
 use std::time::Clock;
 
 const LAST: &[u8] = &[b'b'; 4_021];
@@ -24,11 +23,11 @@ const LAST: &[u8] = &[b'b'; 4_021];
 static SAID: [&[u8]; 4] = [LONG, LONG, LONG, LAST];
 
 // Says the messages at node 0. How many were said.
-fn say_all<L: Tapes, M: Ledger, R: Wait + Clock>(
+fn say_all<L: Tapes, R: Wait + Clock>(
     rt: &R,
     alloc: Global,
-    host: &Host<L, M>,
-    seat: &mut Seat<M>,
+    host: &Host<L>,
+    seat: &mut Seat<L>,
 ) -> u64 {
     let mut count: u64 = 0;
     for words in &SAID {
@@ -40,11 +39,11 @@ fn say_all<L: Tapes, M: Ledger, R: Wait + Clock>(
 }
 
 // The bytes of the packet that node 0 packs for node 1; none where it packs none.
-fn packed<L: Tapes, M: Ledger, R: Wait + Clock>(
+fn packed<L: Tapes, R: Wait + Clock>(
     rt: &R,
     alloc: Global,
-    host: &Host<L, M>,
-    seat: &mut Seat<M>,
+    host: &Host<L>,
+    seat: &mut Seat<L>,
 ) -> Vec<u8> {
     match ask(rt, alloc, host, seat, FIRST, &NodeEvent::Pack(SECOND)) {
         Some(NodeAnswer::Sent(Sent::Packet(text))) => text.into_vec(),
@@ -64,11 +63,11 @@ fn count_said(entries: &[Entry]) -> u64 {
 }
 
 // How many of the messages are found at node 1.
-fn count_found<L: Tapes, M: Ledger, R: Wait + Clock>(
+fn count_found<L: Tapes, R: Wait + Clock>(
     rt: &R,
     alloc: Global,
-    host: &Host<L, M>,
-    seat: &mut Seat<M>,
+    host: &Host<L>,
+    seat: &mut Seat<L>,
 ) -> u64 {
     match log(rt, alloc, host, seat, SECOND, BOTH) {
         Some(NodeAnswer::Reply(Reply::Log(entries))) => count_said(entries.as_slice()),
@@ -78,11 +77,11 @@ fn count_found<L: Tapes, M: Ledger, R: Wait + Clock>(
 
 /// Says the messages at node 0, packs them there, and brings the packet to node 1. How many were said, how many bytes the packet
 /// has, and how many messages are found at node 1.
-pub fn fill_a_packet<L: Tapes, M: Ledger, R: Wait + Clock>(
+pub fn fill_a_packet<L: Tapes, R: Wait + Clock>(
     rt: &R,
     alloc: Global,
-    host: &Host<L, M>,
-    seats: &mut [Seat<M>],
+    host: &Host<L>,
+    seats: &mut [Seat<L>],
 ) -> [u64; 4] {
     let Some(seat) = seats.first_mut() else {
         return [0; 4];

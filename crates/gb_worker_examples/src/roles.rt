@@ -1,7 +1,7 @@
 // What each thread of a day does, from a seat of its own.
 use crate::asking::{ALONE, BOTH, PATIENCE, WORDS, ask, fetch, prepare, say};
 use crate::host_faults::is_refused;
-use crate::host_locks::{call_beside, hold};
+use crate::host_locks::{call_behind, call_beside, hold};
 use crate::plans::SECOND;
 use gb_host::gate::{Gate, Open};
 use gb_host::host::Host;
@@ -15,7 +15,6 @@ use gb_worker::ticker::ticker;
 use std::alloc::Global;
 use std::sync::Wait;
 use std::sync::atomic::{AtomicU64, Ordering};
-use std::sync::ledger::Ledger;
 use std::thread;
 use std::time::{Clock, Duration};
 
@@ -39,6 +38,8 @@ pub enum Role<'a, P> {
     Holder(&'a AtomicU64),
     /// Calls node 1 once node 0's lock is held.
     Beside(&'a AtomicU64),
+    /// Calls node 0 too, once its lock is held.
+    Behind(&'a AtomicU64),
     /// Calls a node that the host does not have.
     Lost,
 }
@@ -81,10 +82,10 @@ pub fn count_callers<P>(roles: &[Role<'_, P>]) -> u64 {
     count
 }
 
-fn carry<L: Tapes, M: Ledger, P: Port, R: Wait + Clock>(
+fn carry<L: Tapes, P: Port, R: Wait + Clock>(
     rt: &R,
-    host: &Host<L, M>,
-    seat: &mut Seat<M>,
+    host: &Host<L>,
+    seat: &mut Seat<L>,
     node: NodeId,
     port: &mut P,
     callers: &AtomicU64,
@@ -98,11 +99,11 @@ fn carry<L: Tapes, M: Ledger, P: Port, R: Wait + Clock>(
     port.failures()
 }
 
-fn say_all<L: Tapes, M: Ledger, R: Wait + Clock>(
+fn say_all<L: Tapes, R: Wait + Clock>(
     rt: &R,
     alloc: Global,
-    host: &Host<L, M>,
-    seat: &mut Seat<M>,
+    host: &Host<L>,
+    seat: &mut Seat<L>,
     node: NodeId,
     words: &[u8],
     times: u64,
@@ -117,11 +118,11 @@ fn say_all<L: Tapes, M: Ledger, R: Wait + Clock>(
     count
 }
 
-fn wait_for_message<L: Tapes, M: Ledger, R: Wait + Clock>(
+fn wait_for_message<L: Tapes, R: Wait + Clock>(
     rt: &R,
     alloc: Global,
-    host: &Host<L, M>,
-    seat: &mut Seat<M>,
+    host: &Host<L>,
+    seat: &mut Seat<L>,
     node: NodeId,
     origin: NodeId,
     words: &[u8],
@@ -137,11 +138,11 @@ fn wait_for_message<L: Tapes, M: Ledger, R: Wait + Clock>(
 
 // Makes a group of a node alone, says something and fetches it, and packs for the other node. Whether the message was its first
 // one, and the fetch gave just that.
-fn keep_to_itself<L: Tapes, M: Ledger, R: Wait + Clock>(
+fn keep_to_itself<L: Tapes, R: Wait + Clock>(
     rt: &R,
     alloc: Global,
-    host: &Host<L, M>,
-    seat: &mut Seat<M>,
+    host: &Host<L>,
+    seat: &mut Seat<L>,
     node: NodeId,
 ) -> bool {
     prepare(rt, alloc, host, seat, node, ALONE);
@@ -153,12 +154,12 @@ fn keep_to_itself<L: Tapes, M: Ledger, R: Wait + Clock>(
 
 /// Does what the role says. What it counted: failures of a port, turns of a ticker, messages said or found, calls that were
 /// answered, or refused where they are to be.
-pub fn work<L: Tapes, M: Ledger, P: Port, R: Wait + Clock>(
+pub fn work<L: Tapes, P: Port, R: Wait + Clock>(
     rt: &R,
     alloc: Global,
-    host: &Host<L, M>,
+    host: &Host<L>,
     callers: &AtomicU64,
-    seat: &mut Seat<M>,
+    seat: &mut Seat<L>,
     role: &mut Role<'_, P>,
 ) -> u64 {
     let count = match role {
@@ -171,6 +172,7 @@ pub fn work<L: Tapes, M: Ledger, P: Port, R: Wait + Clock>(
         Role::Loner(node) => keep_to_itself(rt, alloc, host, seat, *node) as u64,
         Role::Holder(state) => hold(rt, host, seat, state) as u64,
         Role::Beside(state) => call_beside(rt, host, seat, state) as u64,
+        Role::Behind(state) => call_behind(rt, host, seat, state) as u64,
         Role::Lost => is_refused(rt, host, seat) as u64,
     };
     if is_caller(role) {

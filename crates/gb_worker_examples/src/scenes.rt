@@ -1,5 +1,6 @@
 // What is done on a host of two nodes, from its opening to its end, and what it leaves.
-ghost use Rattle.std.specs.Prelude.{◌≡◌, ◌+◌};
+ghost use Rattle.std.specs.Prelude.{◌≡◌, vec_len};
+ghost use Rattle.gb_host.specs.Pasts.{AreBlank, books_of};
 ghost use Rattle.gb_host.specs.Plans.{IsPlan};
 
 use crate::agreement::{agree, copy_lists, count_entries, entries_of};
@@ -12,8 +13,10 @@ use gb_host::close::close;
 use gb_host::closed::Closed;
 use gb_host::entry::SeatEntry;
 use gb_host::fault::HostFault;
+use gb_host::here::all_nodes;
 use gb_host::host::Host;
 use gb_host::names::Tapes;
+use gb_host::pasts::{NodePast, new_pasts};
 use gb_host::plan::HostPlan;
 use gb_host::seat::Seat;
 use gb_merge::merge::merge;
@@ -24,7 +27,6 @@ use gb_types::version::Version;
 use std::alloc::Global;
 use std::marker::Brand;
 use std::sync::Wait;
-use std::sync::ledger::{Blank, Ledger};
 use std::thread::Threads;
 use std::time::Clock;
 
@@ -42,16 +44,11 @@ pub enum Scene<'a, P> {
 }
 
 // Plays a scene. What was counted.
-fn play<
-    L: Tapes + Send + Sync,
-    M: Ledger + Send + Sync,
-    P: Port + Send + Drop,
-    R: Threads + Wait + Clock + Sync,
->(
+fn play<L: Tapes + Send + Sync, P: Port + Send + Drop, R: Threads + Wait + Clock + Sync>(
     rt: &R,
     alloc: Global,
-    host: &Host<L, M>,
-    seats: &mut Vec<Seat<M>>,
+    host: &Host<L>,
+    seats: &mut Vec<Seat<L>>,
     scene: &mut Scene<'_, P>,
 ) -> [u64; 4] {
     match scene {
@@ -156,27 +153,22 @@ fn left_of(
     })
 }
 
-// Opens a host with so many seats, plays a scene on it, and closes it.
-fn run<
-    L: Tapes + Send + Sync,
-    M: Ledger + Send + Sync,
-    P: Port + Send + Drop,
-    R: Threads + Wait + Clock + Sync,
->(
+// Opens a host with this number of seats, plays a scene on it, and closes it.
+fn run<L: Tapes + Send + Sync, P: Port + Send + Drop, R: Threads + Wait + Clock + Sync>(
     rt: &R,
     alloc: Global,
     plan: HostPlan,
     count: u32,
     scene: &mut Scene<'_, P>,
-    tape_blank: Blank,
-    seat_blank: Blank,
+    pasts: Vec<NodePast>,
 ) -> Result<Left, Refused>
     requires plan { plan ≡ L.plan }
     requires limits { IsPlan plan }
-    requires tape_blank { (tape_blank.name ≡ L.name) × (tape_blank.parts ≡ L.parts) × (tape_blank.parts ≡ plan.cluster.nodes + 1) }
-    requires seat_blank { (seat_blank.name ≡ M.name) × (seat_blank.parts ≡ M.parts) × (seat_blank.parts ≡ count + 1) }
+    requires pasts { (vec_len pasts ≡ plan.cluster.nodes) × AreBlank pasts.items }
+    requires books { books_of pasts.items ≡ L.books }
 {
-    let opened = Host::<L, M>::open(alloc, plan, count, tape_blank, seat_blank);
+    let here = all_nodes(plan.cluster.nodes);
+    let opened = Host::<L>::open(alloc, plan, here, count, pasts);
     let Some((host, mut seats)) = opened.ok() else {
         return Err(Refused::Other);
     };
@@ -195,14 +187,8 @@ pub fn whole<P: Port + Send + Drop, R: Threads + Wait + Clock + Sync>(
     count: u32,
     scene: &mut Scene<'_, P>,
 ) -> Result<Left, Refused> {
-    let parts = count as u64 + 1;
-    run::<Brand, Brand, P, R>(
-        rt,
-        alloc,
-        two_nodes(version, tape),
-        count,
-        scene,
-        Blank::new(3),
-        Blank::new(parts),
-    )
+    let Ok(pasts) = new_pasts(alloc, 2) else {
+        return Err(Refused::Other);
+    };
+    run::<Brand, P, R>(rt, alloc, two_nodes(version, tape), count, scene, pasts)
 }

@@ -15,6 +15,6 @@ returns-in-Ok-None-clause-entries g c =
 
 pub returns-in-Ok-None-clause-fresh : goal.returns-in-Ok-None-clause-fresh
 returns-in-Ok-None-clause-fresh g c = λ on.
-    let replays : AreReplays c.args.host.plan c.args.host.plan.cluster.nodes c.in-Ok-take_apart.closed.nodes.items c.in-Ok-take_apart.closed.tapes.items = rw c.into_parts-count.ensures.plan.0 at c.in-Ok-take_apart.ensures.replays in
+    let replays : AreReplays c.args.host.plan c.args.host.here c.args.host.plan.cluster.nodes c.in-Ok-take_apart.closed.nodes.items c.in-Ok-take_apart.closed.tapes.items = search rules in
     let same : AreSame c.in-Ok-take_apart.closed.tapes.items (list_at c.in-Ok.lists.items) = search rules in
-    closed_fresh c.args.host.plan c.in-Ok-take_apart.closed.nodes.items c.in-Ok-take_apart.closed.tapes.items c.in-Ok.lists.items c.args.seats.items on replays c.in-Ok.ensures.lists same
+    closed_fresh c.args.host.plan c.args.host.here c.in-Ok-take_apart.closed.nodes.items c.in-Ok-take_apart.closed.tapes.items c.in-Ok.lists.items c.args.seats.items on replays c.in-Ok.ensures.lists same

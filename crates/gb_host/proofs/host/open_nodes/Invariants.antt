@@ -1,5 +1,10 @@
-use Rattle.std.proofs.Common.{◌≡◌, ◌+◌, vec_len, vec_capacity, ◌≤◌}
+use Rattle.std.proofs.Common.{◌≡◌, ◌≤◌, ◌++◌, length, vec_len, vec_capacity}
 use Rattle.gb_host.proofs.host.open_nodes.Given as goal
 
-abbrev pub invariant-loop-number : goal.invariant-loop-number
-invariant-loop-number g l = (l.rest.parts + l.number ≡ l.plan.cluster.nodes + 1) × (l.rest.amount ≡ 0) × (vec_len l.nodes ≡ l.number) × (l.plan.cluster.nodes ≤ vec_capacity l.nodes)
+abbrev pub invariant-loop-past : goal.invariant-loop-past
+invariant-loop-past g l = record {
+  split : l.fn.pasts.items ≡ l.yielded ++ l.past-iterator.rest.items;
+  count : length l.yielded ≡ l.number;
+  many : vec_len l.nodes ≡ l.number;
+  room : l.plan.cluster.nodes ≤ vec_capacity l.nodes;
+}

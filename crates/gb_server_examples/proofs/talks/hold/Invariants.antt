@@ -1,10 +1,5 @@
+use Rattle.gb_host.specs.Pasts.{books_of}
 use Rattle.gb_server_examples.proofs.talks.hold.Given as goal
 
-abbrev pub ghosts-run-L-Tapes : goal.ghosts-run-L-Tapes
-ghosts-run-L-Tapes g a = record { plan = a.plan }
-
-abbrev pub ghosts-run-L-Ledger : goal.ghosts-run-L-Ledger
-ghosts-run-L-Ledger g a = record { name = a.tape_blank.name; parts = a.tape_blank.parts }
-
-abbrev pub ghosts-run-M-Ledger : goal.ghosts-run-M-Ledger
-ghosts-run-M-Ledger g a = record { name = a.seat_blank.name; parts = a.seat_blank.parts }
+abbrev pub ghosts-run : goal.ghosts-run
+ghosts-run g a = record { plan = a.plan; books = books_of a.pasts.items }

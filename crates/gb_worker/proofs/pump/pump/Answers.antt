@@ -8,37 +8,41 @@ use Rattle.gb_worker.proofs.pump.pump.Goals as goal
 
 pub loop-made-init : goal.loop-made-init
 loop-made-init g c = record {
-  turned = λ on none. turns_none c.args.node c.plan-nodes.result.cluster.nodes c.args.seat.now.list;
-  carried = λ on none. carried_none g.P.Port.sends g.P.Port.receives c.args.port.now c.args.seat.now.list;
+  turned = λ none. turns_none c.args.node c.plan-nodes.result.cluster.nodes c.args.seat.now.calls;
+  carried = λ none. carried_none g.P.Port.sends g.P.Port.receives c.args.port.now c.args.seat.now.calls;
   same = refl;
+  uncounted = λ _. refl;
+  stops = refl;
 }
 
 pub returns-then-not-pass-clause-pumped : goal.returns-then-not-pass-clause-pumped
-returns-then-not-pass-clause-pumped g c = λ on none.
+returns-then-not-pass-clause-pumped g c = λ none.
     let end : WorkerEnd = record { turns = c.loop-made.made; refused = c.loop-made.refused; why = Gate } in
-    let P : ℕ → Type 0 = λ n. HasPumped c.args.node n end c.args.seat.now.list c.loop-made.seat.list in
+    let P : ℕ → Type 0 = λ n. HasPumped c.args.node n end c.args.seat.now.calls c.loop-made.seat.calls in
     subst P (ap (λ p. p.cluster.nodes) c.plan-nodes.ensures.is.0)
-    (pumped_whole c.args.node c.plan-nodes.result.cluster.nodes end c.args.seat.now.list c.loop-made.seat.list c.plan-nodes.ensures.limits.nodes (c.loop-made.invariant.turned on none))
+    (pumped_whole c.args.node c.plan-nodes.result.cluster.nodes end c.args.seat.now.calls c.loop-made.seat.calls c.plan-nodes.ensures.limits.nodes (c.loop-made.invariant.turned none))
 
 pub returns-in-Err-clause-carried : goal.returns-in-Err-clause-carried
-returns-in-Err-clause-carried g c = λ on none not_fault.
-    carried_more g.P.Port.sends g.P.Port.receives c.args.port.now c.loop-made.port c.make_turn.new.port c.args.seat.now.list c.loop-made.seat.list c.make_turn.new.seat.list
-    (c.loop-made.invariant.carried on (c.in-Err.ensures.counts none)) (c.in-Err.ensures.carried on none (err_is_no_fault c.in-Err.why not_fault))
+returns-in-Err-clause-carried g c = λ none not_fault.
+    carried_more g.P.Port.sends g.P.Port.receives c.args.port.now c.loop-made.port c.make_turn.new.port c.args.seat.now.calls c.loop-made.seat.calls c.make_turn.new.seat.calls
+    (c.loop-made.invariant.carried (c.in-Err.ensures.counts none)) (c.in-Err.ensures.carried none (err_is_no_fault c.in-Err.why not_fault))
 
 pub loop-made-preserved : goal.loop-made-preserved
 loop-made-preserved g c = record {
-  turned = λ on none.
-      turns_more c.args.node c.plan-nodes.result.cluster.nodes c.loop-made.made c.args.seat.now.list c.loop-made.seat.list c.make_turn.new.seat.list (c.loop-made.invariant.turned on (c.in-Ok.ensures.counts none)) (c.in-Ok.ensures.turned on none);
-  carried = λ on none.
-      carried_more g.P.Port.sends g.P.Port.receives c.args.port.now c.loop-made.port c.make_turn.new.port c.args.seat.now.list c.loop-made.seat.list c.make_turn.new.seat.list
-      (c.loop-made.invariant.carried on (c.in-Ok.ensures.counts none)) (c.in-Ok.ensures.carried on none (ok_is_no_fault c.in-Ok.field-0));
+  turned = λ none.
+      turns_more c.args.node c.plan-nodes.result.cluster.nodes c.loop-made.made c.args.seat.now.calls c.loop-made.seat.calls c.make_turn.new.seat.calls (c.loop-made.invariant.turned (c.in-Ok.ensures.counts none)) (c.in-Ok.ensures.turned none);
+  carried = λ none.
+      carried_more g.P.Port.sends g.P.Port.receives c.args.port.now c.loop-made.port c.make_turn.new.port c.args.seat.now.calls c.loop-made.seat.calls c.make_turn.new.seat.calls
+      (c.loop-made.invariant.carried (c.in-Ok.ensures.counts none)) (c.in-Ok.ensures.carried none (ok_is_no_fault c.in-Ok.field-0));
   same = c.in-Ok.ensures.number ∙ c.loop-made.invariant.same;
+  uncounted = λ sure. c.in-Ok.ensures.uncounted sure ∙ c.loop-made.invariant.uncounted sure;
+  stops = c.in-Ok.ensures.stops ∙ c.loop-made.invariant.stops;
 }
 
 pub returns-clause-pumped : goal.returns-clause-pumped
-returns-clause-pumped g c = λ on none.
+returns-clause-pumped g c = λ none.
     let end : WorkerEnd = record { turns = c.args.turns; refused = c.loop-made.refused; why = Turns } in
-    let P : ℕ → Type 0 = λ n. HasPumped c.args.node n end c.args.seat.now.list c.loop-made.seat.list in
+    let P : ℕ → Type 0 = λ n. HasPumped c.args.node n end c.args.seat.now.calls c.loop-made.seat.calls in
     let all : c.loop-made.made ≡ c.args.turns = omega arith in
     subst P (ap (λ p. p.cluster.nodes) c.plan-nodes.ensures.is.0)
-    (pumped_whole c.args.node c.plan-nodes.result.cluster.nodes end c.args.seat.now.list c.loop-made.seat.list c.plan-nodes.ensures.limits.nodes (rw all at (c.loop-made.invariant.turned on none)))
+    (pumped_whole c.args.node c.plan-nodes.result.cluster.nodes end c.args.seat.now.calls c.loop-made.seat.calls c.plan-nodes.ensures.limits.nodes (rw all at (c.loop-made.invariant.turned none)))

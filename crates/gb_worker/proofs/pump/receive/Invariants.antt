@@ -1,13 +1,17 @@
 use Rattle.std.proofs.Common.{◌≡◌, true}
+use Rattle.gb_worker.specs.Answered.{stops_in}
 use Rattle.gb_worker.specs.Carried.{HasCarried}
+use Rattle.gb_worker.specs.Ended.{IsUncounted}
 use Rattle.gb_worker.specs.Gained.{Gains}
 use Rattle.gb_worker.specs.Turns.{HasReceived}
 use Rattle.gb_worker.proofs.pump.receive.Given as goal
 
 abbrev pub invariant-loop-i : goal.invariant-loop-i
 invariant-loop-i g l = record {
-  received : g.L.Tapes.plan.tape ≡ true → l.refused ≡ 0 → Gains (HasReceived l.me l._i l.heard) l.fn.seat.list l.seat.list;
-  carried : g.L.Tapes.plan.tape ≡ true → l.refused ≡ 0 → HasCarried g.P.Port.sends g.P.Port.receives l.fn.port l.port l.fn.seat.list l.seat.list;
+  received : l.refused ≡ 0 → Gains (HasReceived l.me l._i l.heard) l.fn.seat.calls l.seat.calls;
+  carried : l.refused ≡ 0 → HasCarried g.P.Port.sends g.P.Port.receives l.fn.port l.port l.fn.seat.calls l.seat.calls;
   counts : l.refused ≡ 0 → l.fn.refused ≡ 0;
   number : l.seat.number ≡ l.fn.seat.number;
+  uncounted : IsUncounted g.L.Tapes.plan l.host.here l.me → l.refused ≡ l.fn.refused;
+  stops : stops_in l.seat.calls ≡ stops_in l.fn.seat.calls;
 }

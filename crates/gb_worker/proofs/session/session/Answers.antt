@@ -1,4 +1,4 @@
-use Rattle.std.proofs.Common.{◌≡◌, true, refl, subst, sym, ◌∙◌}
+use Rattle.std.proofs.Common.{◌≡◌, refl, subst, sym, ◌∙◌}
 use Rattle.std.specs.Prelude.{IfOk, OnErr}
 use Rattle.gb_types.specs.declared.node.NodeId.{NodeId}
 use Rattle.gb_session.specs.Runs.{HasAsked}
@@ -11,19 +11,17 @@ use Rattle.gb_worker.proofs.session.session.Goals as goal
 
 pub returns : goal.returns
 returns g c =
-    let D : Type 0 = Desk g.row.L.Denot g.row.M.Denot g.row.H.Denot g.row.G.Denot in
+    let D : Type 0 = Desk g.row.L.Denot g.row.H.Denot g.row.G.Denot in
     let Kept : D → D → Type 0 = λ s d. (d.node ≡ s.node) × (d.seat.ghost_name ≡ s.seat.ghost_name) in
-    let all = λ (on : g.L.Tapes.plan.tape ≡ true).
+    let h =
     shown (g.R.Read.remaining c.args.reader.now) (g.R.Read.remaining c.serve.new.reader) (g.W.Write.contents c.args.writer.now) (g.W.Write.contents c.serve.new.writer)
-    Kept (λ d. d.seat.now.list) (AnswersAt c.args.node) c.serve.result c.serve.ensures.ok c.serve.ensures.asked
-    (λ s request reply t kept h. ((h.0 ∙ kept.0, h.1 ∙ kept.1), subst (λ (n : NodeId). AnswersAt n s.seat.now.list request reply t.seat.now.list) kept.0 (h.2 on))) (refl, refl) in
+    Kept (λ d. d.seat.now.calls) (AnswersAt g.L.Tapes.plan c.args.node) c.serve.result c.serve.ensures.ok c.serve.ensures.asked
+    (λ s request reply t kept h. ((h.0 ∙ kept.0, h.1 ∙ kept.1), subst (λ (n : NodeId). AnswersAt g.L.Tapes.plan n s.seat.now.calls request reply t.seat.now.calls) kept.0 h.2)) (refl, refl) in
     record {
-      ok = λ on.
-          let h = all on in
-          let P : SeatValue → Type 0 = λ x. IfOk c.serve.result (IsSession (AnswersAt c.args.node) c.args.seat.now.list x.list (g.R.Read.remaining c.args.reader.now) (g.R.Read.remaining c.serve.new.reader) (g.W.Write.contents c.args.writer.now) (g.W.Write.contents c.serve.new.writer)) in
+      ok =
+          let P : SeatValue → Type 0 = λ x. IfOk c.serve.result (IsSession (AnswersAt g.L.Tapes.plan c.args.node) c.args.seat.now.calls x.calls (g.R.Read.remaining c.args.reader.now) (g.R.Read.remaining c.serve.new.reader) (g.W.Write.contents c.args.writer.now) (g.W.Write.contents c.serve.new.writer)) in
           subst P (sym (c.seat-1.given.1 (sym h.0.1))) h.1.0;
-      asked = λ on.
-          let h = all on in
-          let P : SeatValue → Type 0 = λ x. OnErr c.serve.result (HasAsked (AnswersAt c.args.node) c.args.seat.now.list x.list) in
+      asked =
+          let P : SeatValue → Type 0 = λ x. OnErr c.serve.result (HasAsked (AnswersAt g.L.Tapes.plan c.args.node) c.args.seat.now.calls x.calls) in
           subst P (sym (c.seat-1.given.1 (sym h.0.1))) h.1.1;
     }

@@ -1,14 +1,12 @@
-use Rattle.std.proofs.Common.{refl, ◌∙◌}
-use Rattle.gb_node.specs.declared.event.NodeEvent.TheVariants.{Tick}
-use Rattle.gb_worker.specs.Gained.{noted}
+use Rattle.std.proofs.Common.{◌∙◌}
 use Rattle.gb_worker.proofs.TickLemmas.{ticked_more}
 use Rattle.gb_worker.proofs.ticker.ticker.Goals as goal
 
 pub loop-node-preserved : goal.loop-node-preserved
 loop-node-preserved g c = record {
-  ticked = λ on none.
-      let m = c.in-Ok.ensures.made on none in
-      ticked_more c.plan-nodes.result.cluster.nodes c.loop-turn.turn c.loop-node.node c.args.seat.now.list c.loop-node.seat.list c.ask.new.seat.list (noted c.new.result Tick m.0) refl c.new.ensures
-      (c.loop-node.invariant.ticked on (c.in-Ok.ensures.counts none)) m.2;
+  ticked = λ none.
+      ticked_more c.args.host.now.here c.plan-nodes.result.cluster.nodes c.loop-turn.turn c.loop-node.node c.new.result c.args.seat.now.calls c.loop-node.seat.calls c.tick.new.seat.calls c.new.ensures
+      (c.loop-node.invariant.ticked (c.in-Ok.ensures.counts none)) (c.in-Ok.ensures.made none);
   number = c.in-Ok.ensures.number ∙ c.loop-node.invariant.number;
+  uncounted = λ off. c.in-Ok.ensures.uncounted off ∙ c.loop-node.invariant.uncounted off;
 }

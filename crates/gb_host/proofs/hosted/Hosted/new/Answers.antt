@@ -5,4 +5,4 @@ use Rattle.gb_host.proofs.ReplayLemmas.{hosted_fits_new}
 use Rattle.gb_host.proofs.hosted.Hosted.new.Goals as goal
 
 pub invariant_of-result : goal.invariant_of-result
-invariant_of-result g c = (c.requires.plan, hosted_fits_new g.L.Tapes.plan _ (search rules) (search rules) (search rules) (search rules) (subst IsPlan c.requires.plan c.requires.limits) (subst (λ (p : HostPlan). c.args.me.number < p.cluster.nodes) c.requires.plan c.requires.member))
+invariant_of-result g c = (c.requires.plan, hosted_fits_new g.L.Tapes.plan g.L.Tapes.books _ (search rules) (search rules) (search rules) (search rules) (subst IsPlan c.requires.plan c.requires.limits) (subst (λ (p : HostPlan). c.args.me.number < p.cluster.nodes) c.requires.plan c.requires.member))

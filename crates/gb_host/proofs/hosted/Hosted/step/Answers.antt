@@ -1,59 +1,113 @@
-use Rattle.std.proofs.Common.{rules, arith, ◌≡◌, true, ◌++◌, [], ◌∷◌, ◌∙◌, ap, refl, sym, subst, get_or}
-use Rattle.gb_node.specs.NodeStep.{IsTurn, IsSpelt}
-use Rattle.gb_node.specs.declared.answer.NodeAnswer.{NodeAnswer}
+use Rattle.std.proofs.Common.{arith, ◌≡◌, ◌+◌, ◌<◌, ◌++◌, [], ◌∷◌, ◌∙◌, ap, cond, length, refl, sym, subst, get_or, set}
+use Rattle.gb_past.specs.Story.{Known}
 use Rattle.gb_node.specs.declared.tape.TapeEntry.{TapeEntry}
+use Rattle.gb_host.specs.Copied.{list_copy, tape_copy}
+use Rattle.gb_host.specs.Happened.{GoesOn}
 use Rattle.gb_host.specs.HostedValue.{HostedValue}
+use Rattle.gb_host.specs.Pasts.{no_book, seen_at}
 use Rattle.gb_host.specs.SeatValue.{SeatValue}
 use Rattle.gb_host.specs.declared.entry.SeatEntry.{SeatEntry}
 use Rattle.gb_host.specs.declared.plan.HostPlan.{HostPlan}
-use Rattle.gb_host.proofs.ReplayLemmas.{calls_at_le, hosted_fits_more, kept_one, seat_fits_more}
+use Rattle.gb_host.proofs.ReplayLemmas.{any_default, goes_on, hosted_fits_more, list_kept, seat_fits_more, tape_kept, NotedMore}
 use Rattle.gb_host.proofs.hosted.Hosted.step.Goals as goal
-
-pub overflow_add-counts : goal.overflow_add-counts
-overflow_add-counts g c =
-    let n = c.self.inside.me.number in
-    let fits = c.seat.invariant.counts n c.self.inside.me.below in
-    let le = calls_at_le n c.seat.inside.list.items in
-    rw c.index-at.ensures.value (omega (arith, fits, le, c.in-Ok.ensures.few))
 
 pub invariant_of-self-2 : goal.invariant_of-self-2
 invariant_of-self-2 g c =
-    let old : HostedValue = record { me = c.self.inside.me; node = c.self.inside.node; tape = c.self.inside.tape.items; amount = c.self.inside.share.amount; parts = c.self.inside.share.parts } in
-    let given = c.in-Ok-answers.answers in
+    let h = c.self.inside in
+    let old : HostedValue = record { me = h.me; node = h.node; book = h.past.book; past = h.past.log; tape = h.tape.items } in
+    let count = get_or c.seat.inside.counts c.index-at.result 0 in
+    let answer = c.in-Ok-answers.answers.0 in
+    let copies = c.in-Ok-answers.answers.1 in
     let told = c.in-Ok-answers.ensures in
-    let e : TapeEntry = record { seat = c.seat.inside.number; count = get_or c.seat.inside.counts c.index-at.result 0; event = c.args.event; answer = given.1 } in (
+    let e : TapeEntry = record { seat = c.seat.inside.number; count = count; event = c.args.event; answer = answer } in (
       c.self.invariant.0,
-      hosted_fits_more g.L.Tapes.plan old _ e c.self.invariant.1 (search rules) refl
-          (subst (λ (a : NodeAnswer). IsTurn c.self.inside.node c.args.event a c.answers.new.node) (sym told.copies.0) told.turn)
-          (subst (λ (a : NodeAnswer). IsSpelt c.self.inside.node c.args.event a) (sym told.copies.0) told.spelt)
-          (c.push_reserved.ensures.items ∙ ap (λ xs. xs ++ e ∷ []) c.make_room.ensures.items.0)
-          told.added.0 c.answers.ensures.parts.0,
+      hosted_fits_more g.L.Tapes.plan g.L.Tapes.books old _ e c.self.invariant.1 refl told.turn told.spelt c.note.ensures.past
+          (c.keep.ensures.tape
+          ∙ (ap (λ xs. xs ++ tape_copy c.seat.inside.number count c.args.event copies) c.make_room.ensures.items.0
+          ∙ ap (λ xs. h.tape.items ++ xs) (tape_kept h.plan.tape c.seat.inside.number count c.args.event answer copies told.copies ∙ ap (λ (p : HostPlan). cond p.tape (e ∷ []) []) c.self.invariant.0)))
+          c.note.ensures.book,
     )
 
 pub invariant_of-seat-2 : goal.invariant_of-seat-2
 invariant_of-seat-2 g c =
-    let old : SeatValue = record { number = c.seat.inside.number; counts = c.seat.inside.counts; list = c.seat.inside.list.items; amount = c.seat.inside.share.amount; parts = c.seat.inside.share.parts } in
-    let e : SeatEntry = record { node = c.self.inside.me; event = c.in-Ok.copy; answer = c.in-Ok-answers.answers.2 } in
-    seat_fits_more old _ e c.seat.invariant (rw c.index-at.ensures.value refl)
-    (c.push_reserved-2.ensures.items ∙ ap (λ xs. xs ++ e ∷ []) c.make_room.ensures.items.1)
-    c.in-Ok-answers.ensures.added.1 c.answers.ensures.parts.1
+    let h = c.self.inside in
+    let s = c.seat.inside in
+    let p : HostPlan = g.L.Tapes.plan in
+    let me = h.me.number in
+    let at = c.index-at.result in
+    let at_is : at ≡ me = c.index-at.ensures.value in
+    let count = get_or s.counts at 0 in
+    let answer = c.in-Ok-answers.answers.0 in
+    let copies = c.in-Ok-answers.answers.1 in
+    let told = c.in-Ok-answers.ensures in
+    let x : TapeEntry = record { seat = s.number; count = count; event = c.args.event; answer = answer } in
+    let e : SeatEntry = record { node = h.me; event = c.args.event; answer = answer } in
+    let old : SeatValue = record { number = s.number; counts = s.counts; calls = s.calls.log; list = s.list.items; seen = s.seen.items } in
+    let new : SeatValue = record { number = s.number; counts = set s.counts at (count + 1); calls = c.note.new.calls.log; list = c.keep.new.list.items; seen = set s.seen.items at c.note.new.seen } in
+    let there : me < length s.seen.items = let m = c.self.invariant.1.member in let l = c.seat.invariant.seen in omega (arith, m, l) in
+    let was : c.index_mut.result.now ≡ seen_at s.seen.items me =
+    c.index_mut.ensures.value ∙ (ap (λ k. get_or s.seen.items k c.index_mut.result.now) at_is ∙ any_default s.seen.items me c.index_mut.result.now (record { book = no_book; log = [] }) there) in
+    let others = c.note.ensures.before.0 in
+    let known : c.note.new.seen ≡ record { book = h.past.book; log = h.past.log ++ x ∷ [] } = c.note.ensures.seen ∙ (λ i. record { book = c.note.ensures.book i; log = c.note.ensures.past i }) in
+    let noted : NotedMore p old new e x h.past.log others h.node c.answers.new.node h.past.book = record {
+      member = c.self.invariant.1.member;
+      seat = refl;
+      event = refl;
+      answer = refl;
+      comes = c.self.invariant.1.comes;
+      turn = told.turn;
+      spelt = told.spelt;
+      past_is = c.note.ensures.before.1 ∙ ap (λ (k : Known TapeEntry). k.log ++ others) was;
+      counts = ap (λ k. set s.counts k (get_or s.counts k 0 + 1)) at_is;
+      calls = c.note.ensures.calls;
+      list =
+          c.keep.ensures.list
+          ∙ (ap (λ xs. xs ++ list_copy h.me copies) c.make_room.ensures.items.1
+          ∙ ap (λ xs. s.list.items ++ xs) (list_kept h.plan.tape h.me c.args.event answer copies told.copies ∙ ap (λ (q : HostPlan). cond q.tape (e ∷ []) []) c.self.invariant.0));
+      seen = λ i. set s.seen.items (at_is i) (known i);
+      book_is = c.self.invariant.1.booked ∙ sym (c.seat.invariant.booked me there);
+    } in
+    seat_fits_more p g.L.Tapes.books old new e x h.past.log others h.node c.answers.new.node h.past.book c.seat.invariant noted
 
-pub returns-clause-tape : goal.returns-clause-tape
-returns-clause-tape g c =
-    let on : g.L.Tapes.plan.tape ≡ true = sym (ap (λ (p : HostPlan). p.tape) c.self.invariant.0) ∙ c.if-not-plan.false in
-    let tape = c.make_room.ensures.items.0 ∙ ap (λ (h : HostedValue). h.tape) c.self.view_is in
-    let number = ap (λ (s : SeatValue). s.number) c.seat.view_is in
-    let counts = ap (λ (s : SeatValue). s.counts) c.seat.view_is in
-    let at = c.index-at.ensures.value ∙ ap (λ (h : HostedValue). h.me.number) c.self.view_is in
-    c.push_reserved.ensures.items
-    ∙ ((λ i. tape i ++ record { seat = number i; count = get_or (counts i) (at i) 0; event = c.args.event; answer = c.in-Ok-answers.ensures.copies.0 i } ∷ [])
-    ∙ ap (λ es. c.args.self.now.tape ++ es) (sym (kept_one g.L.Tapes.plan _ on)))
-
-pub returns-clause-list : goal.returns-clause-list
-returns-clause-list g c =
-    let on : g.L.Tapes.plan.tape ≡ true = sym (ap (λ (p : HostPlan). p.tape) c.self.invariant.0) ∙ c.if-not-plan.false in
-    let list = c.make_room.ensures.items.1 ∙ ap (λ (s : SeatValue). s.list) c.seat.view_is in
-    let me = ap (λ (h : HostedValue). h.me) c.self.view_is in
-    c.push_reserved-2.ensures.items
-    ∙ ((λ i. list i ++ record { node = me i; event = c.in-Ok.ensures.copy i; answer = c.in-Ok-answers.ensures.copies.1 i } ∷ [])
-    ∙ ap (λ es. c.args.seat.now.list ++ es) (sym (kept_one g.L.Tapes.plan _ on)))
+pub returns-clause-goes_on : goal.returns-clause-goes_on
+returns-clause-goes_on g c =
+    let h = c.self.inside in
+    let s = c.seat.inside in
+    let p : HostPlan = g.L.Tapes.plan in
+    let me = h.me.number in
+    let at = c.index-at.result in
+    let at_is : at ≡ me = c.index-at.ensures.value in
+    let count = get_or s.counts at 0 in
+    let answer = c.in-Ok-answers.answers.0 in
+    let copies = c.in-Ok-answers.answers.1 in
+    let told = c.in-Ok-answers.ensures in
+    let x : TapeEntry = record { seat = s.number; count = count; event = c.args.event; answer = answer } in
+    let e : SeatEntry = record { node = h.me; event = c.args.event; answer = answer } in
+    let old : SeatValue = record { number = s.number; counts = s.counts; calls = s.calls.log; list = s.list.items; seen = s.seen.items } in
+    let new : SeatValue = record { number = s.number; counts = set s.counts at (count + 1); calls = c.note.new.calls.log; list = c.keep.new.list.items; seen = set s.seen.items at c.note.new.seen } in
+    let there : me < length s.seen.items = let m = c.self.invariant.1.member in let l = c.seat.invariant.seen in omega (arith, m, l) in
+    let was : c.index_mut.result.now ≡ seen_at s.seen.items me =
+    c.index_mut.ensures.value ∙ (ap (λ k. get_or s.seen.items k c.index_mut.result.now) at_is ∙ any_default s.seen.items me c.index_mut.result.now (record { book = no_book; log = [] }) there) in
+    let others = c.note.ensures.before.0 in
+    let known : c.note.new.seen ≡ record { book = h.past.book; log = h.past.log ++ x ∷ [] } = c.note.ensures.seen ∙ (λ i. record { book = c.note.ensures.book i; log = c.note.ensures.past i }) in
+    let noted : NotedMore p old new e x h.past.log others h.node c.answers.new.node h.past.book = record {
+      member = c.self.invariant.1.member;
+      seat = refl;
+      event = refl;
+      answer = refl;
+      comes = c.self.invariant.1.comes;
+      turn = told.turn;
+      spelt = told.spelt;
+      past_is = c.note.ensures.before.1 ∙ ap (λ (k : Known TapeEntry). k.log ++ others) was;
+      counts = ap (λ k. set s.counts k (get_or s.counts k 0 + 1)) at_is;
+      calls = c.note.ensures.calls;
+      list =
+          c.keep.ensures.list
+          ∙ (ap (λ xs. xs ++ list_copy h.me copies) c.make_room.ensures.items.1
+          ∙ ap (λ xs. s.list.items ++ xs) (list_kept h.plan.tape h.me c.args.event answer copies told.copies ∙ ap (λ (q : HostPlan). cond q.tape (e ∷ []) []) c.self.invariant.0));
+      seen = λ i. set s.seen.items (at_is i) (known i);
+      book_is = c.self.invariant.1.booked ∙ sym (c.seat.invariant.booked me there);
+    } in
+    let goes : GoesOn p h.me old new c.args.event answer = goes_on p old new e x h.past.log others h.node c.answers.new.node h.past.book c.seat.invariant.seen noted in
+    subst (λ (v : SeatValue). GoesOn p c.args.self.now.me v new c.args.event answer) c.seat.view_is
+    (subst (λ (v : HostedValue). GoesOn p v.me old new c.args.event answer) c.self.view_is goes)

@@ -1,6 +1,6 @@
-use Rattle.std.proofs.Common.{refl}
+use Rattle.std.proofs.Common.{arith, refl}
 use Rattle.gb_host.proofs.ReplayLemmas.{seat_fits_new}
 use Rattle.gb_host.proofs.seat.Seat.new.Goals as goal
 
 pub invariant_of-result : goal.invariant_of-result
-invariant_of-result g c = seat_fits_new _ refl c.new.ensures.items c.requires.1 c.requires.0
+invariant_of-result g c = seat_fits_new g.L.Tapes.plan g.L.Tapes.books _ refl c.new.ensures c.new-2.ensures.items (omega (arith, c.args.seen.ok.0, c.requires.seen.0)) c.requires.seen.1 c.requires.seen.2 c.requires.limits

@@ -1,0 +1,80 @@
+use Rattle.std.proofs.Common.{arith, ◌≡◌, ◌+◌, ◌<◌, ◌∙◌, ◌++◌, [], ◌∷◌, ap, append_assoc, refl, sym}
+use Rattle.std.proofs.lemmas.List.{length_push}
+use Rattle.gb_past.specs.Story.{Known}
+use Rattle.gb_node.specs.declared.tape.TapeEntry.{TapeEntry}
+use Rattle.gb_host.specs.Pasts.{book_at}
+use Rattle.gb_host.proofs.ReplayLemmas.{books_at, placed_next}
+use Rattle.gb_host.proofs.host.open_nodes.Goals as goal
+
+pub loop-past-init : goal.loop-past-init
+loop-past-init g c = record {
+  split = sym c.into_iter-past-iterator.ensures.into_iter_gives.0;
+  count = refl;
+  many = c.in_ok-nodes.ensures.len;
+  room = omega (arith, c.in_ok-nodes.ensures.capacity, c.from.ensures);
+}
+
+pub new-me-requires : goal.new-me-requires
+new-me-requires g c =
+    let inv = c.loop-past.invariant in
+    let past = c.in-Some.past in
+    let items = c.args.pasts.items in
+    let split : items ≡ c.loop-past.yielded ++ past ∷ c.next.new.self.rest.items = inv.split ∙ ap (λ xs. c.loop-past.yielded ++ xs) c.in-Some.ensures.steps.0 in
+    let at = placed_next items c.loop-past.yielded c.next.new.self.rest.items past c.loop-past.number split inv.count in
+    omega (arith, at.0, c.args.pasts.ok.0, c.requires.pasts.0, c.requires.limits.nodes)
+
+pub new-requires-clause-member : goal.new-requires-clause-member
+new-requires-clause-member g c =
+    let inv = c.loop-past.invariant in
+    let past = c.in-Some.past in
+    let items = c.args.pasts.items in
+    let split : items ≡ c.loop-past.yielded ++ past ∷ c.next.new.self.rest.items = inv.split ∙ ap (λ xs. c.loop-past.yielded ++ xs) c.in-Some.ensures.steps.0 in
+    let at = placed_next items c.loop-past.yielded c.next.new.self.rest.items past c.loop-past.number split inv.count in
+    omega (arith, at.0, c.args.pasts.ok.0, c.requires.pasts.0, c.new-me.ensures)
+
+pub new-requires-clause-past : goal.new-requires-clause-past
+new-requires-clause-past g c =
+    let inv = c.loop-past.invariant in
+    let past = c.in-Some.past in
+    let items = c.args.pasts.items in
+    let split : items ≡ c.loop-past.yielded ++ past ∷ c.next.new.self.rest.items = inv.split ∙ ap (λ xs. c.loop-past.yielded ++ xs) c.in-Some.ensures.steps.0 in
+    let at = placed_next items c.loop-past.yielded c.next.new.self.rest.items past c.loop-past.number split inv.count in
+    let number = c.loop-past.number in
+    let same = sym (at.1 past) in (
+      ap (λ (k : Known TapeEntry). k.log) same ∙ c.requires.pasts.1 number past at.0,
+      ap (λ (k : Known TapeEntry). k.book) same
+          ∙ (sym (books_at items number past at.0) ∙ (ap (λ books. book_at books number) c.requires.books ∙ ap (book_at g.L.Tapes.books) (sym c.new-me.ensures))),
+    )
+
+pub push_reserved-requires : goal.push_reserved-requires
+push_reserved-requires g c =
+    let inv = c.loop-past.invariant in
+    let past = c.in-Some.past in
+    let items = c.args.pasts.items in
+    let split : items ≡ c.loop-past.yielded ++ past ∷ c.next.new.self.rest.items = inv.split ∙ ap (λ xs. c.loop-past.yielded ++ xs) c.in-Some.ensures.steps.0 in
+    let at = placed_next items c.loop-past.yielded c.next.new.self.rest.items past c.loop-past.number split inv.count in
+    omega (arith, at.0, c.args.pasts.ok.0, c.requires.pasts.0, inv.many, inv.room)
+
+pub loop-past-preserved-then-if-drop : goal.loop-past-preserved-then-if-drop
+loop-past-preserved-then-if-drop g c =
+    let inv = c.loop-past.invariant in
+    let past = c.in-Some.past in
+    let rest = c.next.new.self.rest.items in
+    record {
+      split = inv.split ∙ (ap (λ xs. c.loop-past.yielded ++ xs) c.in-Some.ensures.steps.0 ∙ sym (append_assoc c.loop-past.yielded (past ∷ []) rest));
+      count = length_push c.loop-past.yielded past ∙ ap (λ n. n + 1) inv.count;
+      many = omega (arith, c.push_reserved.ensures.len, inv.many);
+      room = omega (arith, c.push_reserved.ensures.capacity, inv.room);
+    }
+
+pub loop-past-preserved : goal.loop-past-preserved
+loop-past-preserved g c =
+    let inv = c.loop-past.invariant in
+    let past = c.in-Some.past in
+    let rest = c.next.new.self.rest.items in
+    record {
+      split = inv.split ∙ (ap (λ xs. c.loop-past.yielded ++ xs) c.in-Some.ensures.steps.0 ∙ sym (append_assoc c.loop-past.yielded (past ∷ []) rest));
+      count = length_push c.loop-past.yielded past ∙ ap (λ n. n + 1) inv.count;
+      many = omega (arith, c.push_reserved.ensures.len, inv.many);
+      room = omega (arith, c.push_reserved.ensures.capacity, inv.room);
+    }

@@ -1,0 +1,47 @@
+-- Calls of seats, as the pasts of nodes have them.
+use Rattle.std.specs.Prelude.{ℕ, ◌≡◌, ◌≢◌, ◌⊎◌, ◌<◌, List, [], ◌∷◌, ◌++◌}
+use Rattle.gb_types.specs.declared.node.NodeId.{NodeId}
+use Rattle.gb_node.specs.NodeStep.{IsTurn, IsSpelt}
+use Rattle.gb_node.specs.NodeValue.{NodeValue}
+use Rattle.gb_node.specs.Past.{ComesTo}
+use Rattle.gb_node.specs.declared.answer.NodeAnswer.{NodeAnswer}
+use Rattle.gb_node.specs.declared.event.NodeEvent.{NodeEvent}
+use Rattle.gb_node.specs.declared.tape.TapeEntry.{TapeEntry}
+use Rattle.gb_host.specs.Calls.{Call, calls_at}
+use Rattle.gb_host.specs.Pasts.{past_at}
+use Rattle.gb_host.specs.Plans.{plan_of}
+use Rattle.gb_host.specs.Replay.{past_of}
+use Rattle.gb_host.specs.SeatValue.{SeatValue}
+use Rattle.gb_host.specs.declared.plan.HostPlan.{HostPlan}
+
+-- The answer to an event is the one that the node gives after its past. That is what the seat had seen of it, with what others
+-- did since, and it goes on with this event; of the other nodes' pasts the seat has seen what it had.
+pub record GoesOn (p : HostPlan) (me : NodeId) (old new : SeatValue) (asked : NodeEvent) (told : NodeAnswer) : Type 0 where
+  pub others : List TapeEntry
+  pub entry : TapeEntry
+  pub state : NodeValue
+  pub next : NodeValue
+  pub seat : entry.seat ≡ old.number
+  pub event : entry.event ≡ asked
+  pub answer : entry.answer ≡ told
+  pub comes : ComesTo (plan_of p me) (past_of (past_at old.seen me.number ++ others)) state
+  pub turn : IsTurn state asked told next
+  pub spelt : IsSpelt state asked told
+  pub grown : past_at new.seen me.number ≡ (past_at old.seen me.number ++ others) ++ entry ∷ []
+  pub elsewhere : (k : ℕ) → k ≢ me.number → past_at new.seen k ≡ past_at old.seen k
+
+-- these calls stand among the entries, in their order
+abbrev pub AreAmong : List Call → List TapeEntry → Type 0
+AreAmong [] es = Unit {0}
+AreAmong (c ∷ cs) [] = ⊥
+AreAmong (c ∷ cs) (e ∷ es) = ((c ≡ (e.event, e.answer)) × AreAmong cs es) ⊎ AreAmong (c ∷ cs) es
+
+-- a node came to some state by the past that a seat has seen of it, and there the seat's calls at the node stand
+pub record HasHappened (p : HostPlan) (s : SeatValue) (b : NodeId) : Type 0 where
+  pub state : NodeValue
+  pub comes : ComesTo (plan_of p b) (past_of (past_at s.seen b.number)) state
+  pub among : AreAmong (calls_at b.number s.calls) (past_at s.seen b.number)
+
+-- so it is at each node
+abbrev pub HaveHappened : HostPlan → SeatValue → Type 0
+HaveHappened p s = (b : NodeId) → b.number < p.cluster.nodes → HasHappened p s b

@@ -1,0 +1,80 @@
+//! Pasts of nodes and of seats: lists that contracts see and no memory holds.
+ghost use Rattle.std.specs.Prelude.{◌≡◌, ◌≤◌, ◌++◌, ◌∷◌, [], IfOk, List, vec_len, vec_capacity};
+ghost use Rattle.gb_node.specs.declared.tape.TapeEntry.{TapeEntry as Noted};
+ghost use Rattle.gb_host.specs.Pasts.{AreBlank};
+
+use crate::entry::SeatEntry;
+use gb_node::answer::NodeAnswer;
+use gb_node::event::NodeEvent;
+use gb_node::tape::TapeEntry;
+use gb_past::past::{Past, Seen};
+use gb_past::story::{Story, Told};
+use gb_types::memory::OutOfMemory;
+use gb_types::node::NodeId;
+use std::alloc::Global;
+
+/// A story of which anything may be told.
+pub struct Anything;
+
+impl<E> Story<E> for Anything {
+    ghost goes_on = { λ before x. Unit {0} };
+}
+
+/// What happened at a node, the oldest first.
+pub type NodePast = Past<TapeEntry, Anything>;
+
+/// What was seen of a node's past.
+pub type NodeSeen = Seen<TapeEntry, Anything>;
+
+/// The calls of a seat, the oldest first.
+pub type SeatPast = Past<SeatEntry, Anything>;
+
+/// A call that happens: at which node, the seat's number, how often the seat called the node before, the event and its answer.
+#[derive(Clone, Copy)]
+pub struct Made<'a> {
+    pub node: NodeId,
+    pub seat: u32,
+    pub count: u64,
+    pub event: &'a NodeEvent,
+    pub answer: &'a NodeAnswer,
+}
+
+/// What a node's past is told of a call.
+pub struct AtNode;
+
+impl<'a> Told<Made<'a>, TapeEntry> for AtNode {
+    ghost entry = { λ m. record { seat = m.seat; count = m.count; event = m.event.now; answer = m.answer.now } };
+}
+
+/// What a seat's past is told of a call.
+pub struct AtSeat;
+
+impl<'a> Told<Made<'a>, SeatEntry> for AtSeat {
+    ghost entry = { λ m. record { node = m.node; event = m.event.now; answer = m.answer.now } };
+}
+
+/// The pasts of this number of nodes at which nothing has happened.
+pub fn new_pasts(alloc: Global, nodes: u8) -> Result<Vec<NodePast>, OutOfMemory>
+    ensures { IfOk result (λ pasts. (vec_len pasts ≡ nodes) × AreBlank pasts.items) }
+{
+    let mut pasts = Vec::with_capacity(alloc, usize::from(nodes))?;
+    for _number in 0..nodes {
+        pasts.push_reserved(Past::new());
+    }
+    Ok(pasts)
+}
+
+// Notes a call in its node's past and among its seat's calls, and shows the past to the seat.
+pub(crate) fn note(past: &mut NodePast, seen: &mut NodeSeen, calls: &mut SeatPast, call: &Made<'_>)
+    requires { seen.old.book ≡ past.old.book }
+    ensures past { past.new.log ≡ past.old.log ++ record { seat = call.now.seat; count = call.now.count; event = call.now.event.now; answer = call.now.answer.now } ∷ [] }
+    ensures book { past.new.book ≡ past.old.book }
+    ensures before { (others : List Noted) × (past.old.log ≡ seen.old.log ++ others) }
+    ensures seen { seen.new ≡ past.new }
+    ensures calls { calls.new.log ≡ calls.old.log ++ record { node = call.now.node; event = call.now.event.now; answer = call.now.answer.now } ∷ [] }
+{
+    seen.learn(past);
+    past.add::<Made<'_>, AtNode>(call);
+    *seen = past.seen();
+    calls.add::<Made<'_>, AtSeat>(call);
+}

@@ -1,0 +1,95 @@
+// A host of one of two nodes.
+ghost use Rattle.std.specs.Prelude.{◌≡◌, vec_len};
+ghost use Rattle.gb_host.specs.Pasts.{AreBlank, books_of};
+ghost use Rattle.gb_host.specs.Plans.{IsPlan};
+
+use crate::asking::{Unanswered, call};
+use crate::plans::{FIRST, SECOND, two_nodes};
+use gb_host::close::close;
+use gb_host::closed::Closed;
+use gb_host::gate::Open;
+use gb_host::here::only;
+use gb_host::host::Host;
+use gb_host::names::Tapes;
+use gb_host::pasts::{NodePast, new_pasts};
+use gb_host::plan::HostPlan;
+use gb_host::seat::Seat;
+use gb_node::event::NodeEvent;
+use gb_types::node::NodeId;
+use gb_types::version::Version;
+use gb_worker::ticker::ticker;
+use std::alloc::Global;
+use std::marker::Brand;
+use std::rt::HostRuntime;
+use std::sync::Wait;
+
+// How a tick is answered.
+#[derive(Clone, Copy, PartialEq, Eq)]
+enum Answered {
+    Well,
+    NoNode,
+    Other,
+}
+
+// Asks for a tick at a node.
+fn tick<L: Tapes, R: Wait>(rt: &R, host: &Host<L>, seat: &mut Seat<L>, node: NodeId) -> Answered {
+    match call(rt, host, seat, node, NodeEvent::Tick, &mut Open) {
+        Ok(_) => Answered::Well,
+        Err(Unanswered::NoNode) => Answered::NoNode,
+        Err(_) => Answered::Other,
+    }
+}
+
+// How many entries the tape of each node has, and whether the node was here.
+fn left_of(closed: &Closed) -> [(bool, usize); 2] {
+    let mut left = [(false, 0); 2];
+    for node in 0..2 {
+        if let (Some(there), Some(tape)) = (closed.nodes.get(node), closed.tapes.get(node)) {
+            left[node] = (there.is_some(), tape.as_slice().len());
+        }
+    }
+    left
+}
+
+// Opens a host of node 1 alone, asks for a tick at each of both nodes, and makes three turns of ticks. How the ticks were answered,
+// and what is left of each node.
+fn run<L: Tapes, R: Wait>(
+    rt: &R,
+    alloc: Global,
+    plan: HostPlan,
+    pasts: Vec<NodePast>,
+) -> Option<([Answered; 2], [(bool, usize); 2])>
+    requires plan { plan ≡ L.plan }
+    requires limits { IsPlan plan }
+    requires two { plan.cluster.nodes ≡ 2 }
+    requires pasts { (vec_len pasts ≡ plan.cluster.nodes) × AreBlank pasts.items }
+    requires books { books_of pasts.items ≡ L.books }
+{
+    let opened = Host::<L>::open(alloc, plan, only(SECOND), 1, pasts);
+    let (host, mut seats) = opened.ok()?;
+    let mut answered = [Answered::Other; 2];
+    if let Some(seat) = seats.first_mut() {
+        answered = [tick(rt, &host, seat, FIRST), tick(rt, &host, seat, SECOND)];
+        let _ = ticker(rt, &host, seat, &mut Open, 3);
+    }
+    let closed = close(host, seats).ok()?;
+    Some((answered, left_of(&closed)))
+}
+
+fn ticks<R: Wait>(
+    rt: &R,
+    alloc: Global,
+    tape: bool,
+) -> Option<([Answered; 2], [(bool, usize); 2])> {
+    let pasts = new_pasts(alloc, 2).ok()?;
+    run::<Brand, R>(rt, alloc, two_nodes(Version::One, tape), pasts)
+}
+
+#[test]
+fn one_node_alone(rt: HostRuntime) {
+    for (tape, entries) in [(true, 4), (false, 0)] {
+        let (answered, left) = ticks(&rt, rt.alloc(), tape).expect(&rt, "a host");
+        let is_answered = answered == [Answered::NoNode, Answered::Well];
+        assert!(rt; is_answered && left == [(false, 0), (true, entries)]);
+    }
+}
