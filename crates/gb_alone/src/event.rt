@@ -1,7 +1,7 @@
 //! What happens to one group, by itself.
 use gb_rules::reserve::Reserve;
-use gb_types::node::NodeId;
 use gb_types::new_message::NewMessage;
+use gb_types::node::NodeId;
 use gb_types::spec::Spec;
 
 /// What happens to a group at a node. Items go by numbers, never by what is in them.

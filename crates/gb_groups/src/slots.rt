@@ -264,13 +264,7 @@ impl Slots {
     /// Says something in the group at a place, at a node that sends this version of the packet text, under the number `seq` if
     /// the caller names one. Spent where it was dropped. What gets a number is put out: something waits then for each node
     /// that the group reaches.
-    pub fn say(
-        &mut self,
-        version: Version,
-        place: usize,
-        seq: Option<u32>,
-        payload: &[u8],
-    ) -> Reply
+    pub fn say(&mut self, version: Version, place: usize, seq: Option<u32>, payload: &[u8]) -> Reply
         ensures reply { result ≡ unless_gone (λ s. say_answer version s (record { payload = payload.now; seq = seq })) (row_at self.old.rows place).slot }
         ensures rows { self.new.rows ≡ slice_set self.old.rows place (on_slot (slot_said payload.now result) (row_at self.old.rows place)) }
         ensures put_out { (seq : ℕ) → result ≡ Reply.Said seq → IsPutOut (row_at self.new.rows place).slot }
