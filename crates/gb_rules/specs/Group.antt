@@ -61,7 +61,7 @@ drop_answer s = Done
 abbrev pub is_too_long : Version → List ℕ → Bool
 is_too_long version payload = nat_lt (limits_of version).payload (length payload)
 
--- the caller names the number that the message must get, and another is next after so many messages
+-- the caller names the number that the message must get, and it is not the next one here
 abbrev pub is_out_of_turn : ℕ → Option ℕ → Bool
 is_out_of_turn said None = false
 is_out_of_turn said (Some seq) = not (nat_eq seq (said + 1))
