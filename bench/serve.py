@@ -1,6 +1,6 @@
-"""Requests a second at a server over loopback, by one connection and by one to each of four nodes, beside PUBLISH at a Redis server
-without pipelining where redis-server is there: the best of some rounds, and the server's processor time in that round. Words:
-gb_serve, the program that plays requests (bench/serve/play.rs), how many requests each connection makes, and how many rounds."""
+"""What gb_serve does over loopback, beside a Redis server where redis-server is there; one program asks both (bench/serve/play.rs).
+Words: gb_serve, that program, the library that loses datagrams (bench/serve/lossy.c), how many requests are made in each measurement,
+and how many rounds. Of rates the best of the rounds is told at the end, of times the round with the least median."""
 import os
 import shutil
 import struct
@@ -13,117 +13,192 @@ sys.path.insert(0, os.path.join(os.path.dirname(os.path.abspath(__file__)), ".."
 import client
 
 PORT = 23000
-TENANTS = 4  # with 256 groups each, of 1,024 messages each
 PAYLOAD = b"0123456789abcdef"
+CASES = ((1, 1), (1, 32), (64, 1), (64, 32))  # connections, and requests ahead on each
 
 
 def framed(body):
     return struct.pack(">I", len(body)) + body
 
 
-def words_of(command, node, tenant, group, words):
-    return f"{command} {client.token_for(command, node, tenant, group)} {tenant} {group} {words}".encode("ascii")
+def message(command, node, tenant, group, words, head=None):
+    token = client.token_for(command, node, tenant, group)
+    return framed(f"{head or command} {token} {tenant} {group} {words}".encode("ascii"))
 
 
-def prepare(node, groups):
-    """Makes so many groups with the node as their only member."""
-    session = client.Session(PORT, node)
-    for place in range(groups):
-        tenant, group = 1 + place // 256, place % 256
-        if group == 0:
-            assert session.ask("tenant", tenant, 256, 1024, 65536, 1024) == "ok"
-        assert session.ask("make", tenant, group, "beb", node, 1024, 65536, 1024) == "ok"
-        assert session.ask("open", tenant, group) == "ok"
-    session.close()
+def prepare(members, groups, kind="beb"):
+    """Makes groups of these members, each for 1,024 messages of a member."""
+    for node in members:
+        session = client.Session(PORT, node)
+        assert session.ask("tenant", 1, 256, 1024, 65536, 1024) == "ok"
+        for group in range(groups):
+            assert session.ask("make", 1, group, kind, ",".join(map(str, members)), 1024, 65536, 1024) == "ok"
+            assert session.ask("open", 1, group) == "ok"
+        session.close()
 
 
-def says(node, count):
-    """Says, 1,000 in each group: none is refused."""
-    for place in range(-(-count // 1000)):
-        message = framed(words_of("say", node, 1 + place // 256, place % 256, PAYLOAD.hex()))
-        yield message * min(1000, count - 1000 * place)
+class Server:
+    """A server in a process of its own."""
+
+    def __init__(self, words, keys=True, lossy=None):
+        environment = dict(os.environ, LD_PRELOAD=lossy, LOSSY="50") if lossy else None
+        self.process = subprocess.Popen(words, stdin=subprocess.PIPE, stdout=subprocess.PIPE, text=True, env=environment)
+        if keys:
+            self.process.stdin.write(client.CLUSTER_KEY.hex() + "\n" + client.ADMIN_KEY.hex() + "\n")
+            self.process.stdin.close()
+            assert self.process.stdout.readline().startswith("serving")
+        else:
+            time.sleep(1)
+
+    def __enter__(self):
+        return self
+
+    def __exit__(self, *_):
+        self.process.kill()
+        self.process.wait()
+
+    def seconds(self):
+        """Its processor time."""
+        with open(f"/proc/{self.process.pid}/stat") as file:
+            fields = file.read().rpartition(")")[2].split()
+        return (int(fields[11]) + int(fields[12])) / os.sysconf("SC_CLK_TCK")
+
+    def kilobytes(self):
+        with open(f"/proc/{self.process.pid}/status") as file:
+            return next(int(line.split()[1]) for line in file if line.startswith("VmRSS"))
 
 
-def fetches(node, count):
-    """Fetches of one entry."""
-    yield framed(words_of("fetch", node, 1, 0, "0 1")) * count
+class Bench:
+    def __init__(self, program, play, lossy, count):
+        self.program, self.play, self.lossy, self.count = program, play, lossy, count
+        self.folder = tempfile.mkdtemp()
+        self.best = {}
+
+    def serve(self, nodes, lossy=False):
+        return Server([self.program, "--nodes", str(nodes), "--base-port", str(PORT)], lossy=self.lossy if lossy else None)
+
+    def redis(self):
+        return Server(["redis-server", "--port", str(PORT), "--save", "", "--appendonly", "no"], keys=False)
+
+    def written(self, name, messages):
+        path = os.path.join(self.folder, name)
+        with open(path, "wb") as file:
+            file.writelines(messages)
+        return path
+
+    def played(self, *words):
+        done = subprocess.run([self.play, *map(str, words)], capture_output=True, text=True, timeout=300)
+        assert done.returncode == 0, done.stderr
+        return [int(word) for word in done.stdout.split()]
+
+    def told(self, what, text, order):
+        print(f"  {what}: {text}", flush=True)
+        if what not in self.best or order > self.best[what][0]:
+            self.best[what] = (order, text)
+
+    def rate(self, what, server, kind, port, connections, ahead, path):
+        each = self.count // connections
+        before = server.seconds()
+        count, refused, rate = self.played("rate", kind, port, connections, ahead, path, each)
+        cost = (server.seconds() - before) / count * 1e6
+        said = f", {refused} refused" if refused else ""
+        self.told(f"{what}, {connections} connections, {ahead} ahead", f"{rate:,} a second, {cost:.1f} us of processor time each{said}", rate)
+
+    def rates(self):
+        says = self.written("says", (message("say", 0, 1, group, PAYLOAD.hex()) for group in range(256)))
+        fetches = self.written("fetches", [message("fetch", 0, 1, 0, "0 1")])
+        publishes = self.written("publishes", [framed(b"*3\r\n$7\r\nPUBLISH\r\n$4\r\nchat\r\n$%d\r\n%s\r\n" % (len(PAYLOAD), PAYLOAD))])
+        for connections, ahead in CASES:
+            for name, path in (("say", says), ("fetch", fetches)):
+                with self.serve(1) as server:
+                    prepare([0], 256)
+                    session = client.Session(PORT, 0)
+                    session.ask("say", 1, 0, PAYLOAD.hex())
+                    session.close()
+                    self.rate(f"gb_serve {name}", server, "session", PORT + 64, connections, ahead, path)
+            if shutil.which("redis-server"):
+                with self.redis() as server:
+                    self.rate("Redis PUBLISH", server, "redis", PORT, connections, ahead, publishes)
+
+    def waits(self, count=1000):
+        for kind in ("beb", "allack"):
+            with self.serve(3) as server:
+                prepare([0, 1, 2], 1, kind)
+                says = self.written("wait-says", [message("say", 0, 1, 0, PAYLOAD.hex())] * count)
+                awaits = self.written("awaits", (message("fetch", 1, 1, 0, f"{place} 1 30000", "await") for place in range(count)))
+                before = server.seconds()
+                _, median, late, most = self.played("wait", PORT + 64, says, PORT + 65, awaits)
+                spent = server.seconds() - before
+                self.told(f"gb_serve say to another node's waiting fetch, {kind}",
+                          f"median {median} us, 99th percentile {late} us, most {most} us; {spent:.2f} s of processor time for {count}", -median)
+        if shutil.which("redis-server"):
+            with self.redis():
+                _, median, late, most = self.played("publish", PORT, count)
+                self.told("Redis PUBLISH to subscriber", f"median {median} us, 99th percentile {late} us, most {most} us", -median)
+
+    def delivered(self, groups=64, each=1000):
+        for lossy in (False, True):
+            for kind in ("beb", "eager", "allack"):
+                with self.serve(3, lossy) as server:
+                    prepare([0, 1, 2], groups, kind)
+                    says = self.written("group-says", (message("say", 0, 1, group, PAYLOAD.hex()) for _ in range(each) for group in range(groups)))
+                    others = []
+                    for node in (1, 2):
+                        lasts = (message("fetch", node, 1, group, f"{each - 1} 1") for group in range(groups))
+                        others += [self.written(f"lasts{node}", lasts), PORT + 64 + node]
+                    count, refused, rate = self.played("deliver", PORT + 64, says, 256, *others)
+                    said = f", {refused} refused" if refused else ""
+                    self.told(f"gb_serve delivers at three members, {kind}{', 5 % of datagrams lost' if lossy else ''}", f"{rate:,} a second{said}", rate)
+
+    def idle(self, seconds=4):
+        for nodes in (1, 3, 16):
+            with self.serve(nodes) as server:
+                time.sleep(1)
+                before = server.seconds()
+                time.sleep(seconds)
+                cores = (server.seconds() - before) / seconds
+                prepare([0], 1)
+                session = client.Session(PORT, 0)
+                before, begun = server.seconds(), time.time()
+                while time.time() - begun < seconds:
+                    session.ask("fetch", 1, 0, 0, 1)
+                    time.sleep(0.25)
+                asked = (server.seconds() - before) / (time.time() - begun)
+                session.close()
+                self.told(f"gb_serve of {nodes} nodes", f"{cores:.3f} of a core idle, {asked:.3f} at 4 requests a second", -asked)
+
+    def crowd(self, connections=1000):
+        fetches = self.written("fetches", [message("fetch", 0, 1, 0, "0 1")])
+        with self.serve(1) as server:
+            prepare([0], 1)
+            before = server.kilobytes()
+            others = subprocess.Popen([self.play, "idle", str(PORT + 64), str(connections), "60"], stdout=subprocess.PIPE, text=True)
+            others.stdout.readline()
+            time.sleep(0.2)
+            each = (server.kilobytes() - before) * 1024 / connections
+            begun = server.seconds()
+            time.sleep(2)
+            cores = (server.seconds() - begun) / 2
+            count, refused, rate = self.played("rate", "session", PORT + 64, 1, 1, fetches, self.count)
+            others.kill()
+            others.wait()
+            self.told(f"gb_serve with {connections} idle connections", f"{rate:,} fetches a second on one more, {cores:.3f} of a core idle, {each:.0f} bytes each", rate)
 
 
-def publishes(_, count):
-    """The same payload to a channel of Redis."""
-    yield framed(b"*3\r\n$7\r\nPUBLISH\r\n$4\r\nchat\r\n$%d\r\n%s\r\n" % (len(PAYLOAD), PAYLOAD)) * count
-
-
-def processor_seconds(server):
-    with open(f"/proc/{server.pid}/stat") as file:
-        fields = file.read().rpartition(")")[2].split()
-    return (int(fields[11]) + int(fields[12])) / os.sysconf("SC_CLK_TCK")
-
-
-def played(server, play, kind, ports, paths):
-    """Requests a second, and microseconds of the server's processor time for each."""
-    before = processor_seconds(server)
-    words = [play, kind] + [f"{port}={path}" for port, path in zip(ports, paths)]
-    count, refused, rate = subprocess.run(words, check=True, capture_output=True, text=True).stdout.split()
-    assert refused == "0", f"{refused} of {count} were refused"
-    return int(rate), (processor_seconds(server) - before) / int(count) * 1e6
-
-
-def written(folder, write, nodes, count):
-    paths = []
-    for node in range(nodes):
-        paths.append(os.path.join(folder, f"{write.__name__}{node}"))
-        if not os.path.exists(paths[-1]):
-            with open(paths[-1], "wb") as file:
-                file.writelines(write(node, count))
-    return paths
-
-
-def gb_serve(program, play, folder, nodes, count, told):
-    server = subprocess.Popen([program, "--nodes", str(nodes), "--base-port", str(PORT)],
-                              stdin=subprocess.PIPE, stdout=subprocess.DEVNULL, text=True)
-    server.stdin.write(client.CLUSTER_KEY.hex() + "\n" + client.ADMIN_KEY.hex() + "\n")
-    server.stdin.close()
-    for node in range(nodes):
-        prepare(node, -(-count // 1000))
-    for write in (says, fetches):
-        paths = written(folder, write, nodes, count)
-        ports = [PORT + 64 + node for node in range(nodes)]
-        told(f"gb_serve, {write.__name__}, {nodes} connections", played(server, play, "session", ports, paths))
-    server.kill()
-    server.wait()
-
-
-def redis(play, folder, connections, count, told):
-    server = subprocess.Popen(["redis-server", "--port", str(PORT), "--save", "", "--appendonly", "no"], stdout=subprocess.DEVNULL)
-    time.sleep(1)
-    paths = written(folder, publishes, connections, count)
-    told(f"Redis, PUBLISH, {connections} connections", played(server, play, "redis", [PORT] * connections, paths))
-    server.kill()
-    server.wait()
-
-
-def main(program, play, count, rounds):
-    if count > 256_000 * TENANTS:
-        sys.exit("too many requests: a member says 1,024 messages in a group, and a node has 1,024 groups")
-    best = {}
-
-    def told(what, result):
-        print(f"  {what}: {result[0]} a second, {result[1]:.1f} us", flush=True)
-        best[what] = max(best.get(what, (0, 0)), result)
-
-    folder = tempfile.mkdtemp()
+def main(program, play, lossy, count, rounds):
+    if count > 256_000:
+        sys.exit("too many requests: a member says 1,024 messages in each of 256 groups")
+    bench = Bench(program, play, lossy, count)
     for number in range(rounds):
         print(f"round {number + 1}", flush=True)
-        for connections in (1, 4):
-            gb_serve(program, play, folder, connections, count, told)
-            if shutil.which("redis-server"):
-                redis(play, folder, connections, count, told)
-    shutil.rmtree(folder)
-    print(f"the best of {rounds} rounds: requests a second, and the server's processor time for one")
-    for what, (rate, micros) in best.items():
-        print(f"{what}: {rate} a second, {micros:.1f} us")
+        bench.rates()
+        bench.waits()
+        bench.delivered()
+        bench.idle()
+        bench.crowd()
+    print(f"the best of {rounds} rounds")
+    for what, (_, text) in bench.best.items():
+        print(f"  {what}: {text}")
 
 
-if __name__ == "__main__":
-    main(sys.argv[1], sys.argv[2], int(sys.argv[3]), int(sys.argv[4]))
+main(sys.argv[1], sys.argv[2], sys.argv[3], int(sys.argv[4]), int(sys.argv[5]))

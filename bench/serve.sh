@@ -1,8 +1,9 @@
 #!/usr/bin/env bash
-# Prints how many requests a second gb_serve answers over loopback, by one connection and by one to each of four nodes, beside
-# PUBLISH without pipelining at a Redis server where one is installed (Debian: redis-server, redis-tools). Both are asked by one
-# program, bench/serve/play.rs, which plain rustc compiles into bench/out. gb_serve is built first, unless SERVE names it.
-# Words: how many requests each connection makes, 100,000 if not given, and how many rounds are made, 3 if not given.
+# Measures gb_serve over loopback beside a Redis server where one is installed (Debian: redis-server): requests a second with 1 and 64
+# connections and 1 and 32 requests ahead, the time from a say to another node's waiting fetch, delivered messages a second with three
+# members, also with 5 % of datagrams lost, idle processor time, and 1,000 idle connections. Both servers are asked by one program,
+# bench/serve/play.rs, which plain rustc compiles into bench/out. gb_serve is built first, unless SERVE names it.
+# Words: how many requests are made in each measurement of a rate, 100,000 if not given, and how many rounds are made, 3 if not given.
 set -eu
 top=$(cd "$(dirname "$0")/.." && pwd)
 if [ -z "${SERVE:-}" ]; then
@@ -10,4 +11,6 @@ if [ -z "${SERVE:-}" ]; then
 fi
 mkdir -p "$top/bench/out/serve"
 rustc --edition 2021 -O -o "$top/bench/out/serve/play" "$top/bench/serve/play.rs"
-exec python3 "$top/bench/serve.py" "${SERVE:-$top/crates/gb_serve/out/gb_serve}" "$top/bench/out/serve/play" "${1:-100000}" "${2:-3}"
+"${CC:-cc}" -O2 -shared -fPIC -o "$top/bench/out/serve/lossy.so" "$top/bench/serve/lossy.c" -ldl
+exec python3 "$top/bench/serve.py" "${SERVE:-$top/crates/gb_serve/out/gb_serve}" "$top/bench/out/serve/play" \
+    "$top/bench/out/serve/lossy.so" "${1:-100000}" "${2:-3}"

@@ -1,5 +1,5 @@
 -- What a client asks.
-use Rattle.std.specs.Prelude.{◌≡◌, ℕ, List, ◌∷◌, ◌++◌, codes, decimal}
+use Rattle.std.specs.Prelude.{◌≡◌, ℕ, List, ◌∷◌, ◌++◌, codes, decimal, drop}
 use Rattle.std.specs.List.{flat_map}
 use Rattle.hex.specs.Hex.{encode_lower}
 use Rattle.gb_types.specs.RequestWords.{IsShort}
@@ -13,6 +13,10 @@ use Rattle.gb_session.specs.Head.{head_word}
 -- a head, a token and the words behind them, with single spaces between them
 abbrev pub body_of : Head → List ℕ → List (List ℕ) → List ℕ
 body_of head token words = head_word head ++ codes " " ++ encode_lower token ++ flat_map (λ word. codes " " ++ word) words
+
+-- a fetch with `await` in the place of its first word, and how many milliseconds are waited behind the others
+abbrev pub await_of : List ℕ → ℕ → List ℕ
+await_of fetch wait = codes "await" ++ drop 5 fetch ++ codes " " ++ decimal wait
 
 -- words that begin with a tenant ask for what the tenant may do
 abbrev pub NeedsTenant : Need → List (List ℕ) → Type 0

@@ -5,6 +5,7 @@
 #![tactic(auto)]
 
 pub mod answer;
+pub mod awaiting;
 pub mod exchange;
 pub mod fault;
 pub mod need;

@@ -165,7 +165,7 @@ const FIRST: ArgWords = ArgWords {
 
 const TIMES: ArgWords = ArgWords {
     name: "times",
-    help: "fetch so many times at most, half a second after one that gave nothing",
+    help: "wait for new entries so many times at most, up to 30 seconds each time",
     form: Form::Defaulted("N", "1000"),
 };
 
@@ -258,7 +258,7 @@ static SUBCOMMANDS: &[SubcommandWords] = &[
     SubcommandWords {
         name: "follow",
         purpose: Purpose::Follow,
-        about: "Fetches a group's log as it grows, and prints its new entries",
+        about: "Waits for what comes into a group's log, and prints its new entries",
         args: &[T, G, FIRST, TIMES, ENTRIES_AS_TEXT],
     },
 ];

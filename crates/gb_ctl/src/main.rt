@@ -6,6 +6,7 @@ ghost use Rattle.gb_session.specs.declared.grammar.TheConstants.{BODY};
 
 use clap::error::ErrorKind;
 use gb_client::answer::{count_of, status_of};
+use gb_client::awaiting::await_text;
 use gb_client::exchange::{receive, send};
 use gb_client::fault::{ClientFault, fault_status};
 use gb_client::secrets::{Secrets, read_secrets};
@@ -14,11 +15,11 @@ use gb_client::task::{Asked, Task, fetch_of, request_of};
 use gb_client_words::words::{Plan, command, plan_of};
 use std::alloc::Global;
 use std::fs::File;
+use std::io;
 use std::io::{Read, Write};
 use std::net::{Ipv4Addr, SocketAddr, SocketAddrV4, TcpStream};
 use std::process::ExitCode;
 use std::time::Duration;
-use std::{io, thread};
 
 // The bytes of the longest text of secrets.
 const SECRETS: u64 = 65_536;
@@ -51,20 +52,30 @@ fn secrets_of(rt: &HostRuntime, path: Option<&str>) -> Result<Secrets, ClientFau
     }
 }
 
-// The reply of a node to a request, over a connection of its own. A node that gives none for ten seconds has failed.
-fn ask(rt: &HostRuntime, port: u16, body: &[u8]) -> Result<Vec<u8>, ClientFault>
-    requires { length body.now ≤ BODY }
-{
+// How many milliseconds `follow` lets the node wait at most, and how many seconds a node may take for a reply beyond that.
+const WAIT: u32 = 30_000;
+
+const PATIENCE: u64 = 10;
+
+// A connection to a node on which a reply may take so many seconds.
+fn connect(rt: &HostRuntime, port: u16, seconds: u64) -> Result<TcpStream, ClientFault> {
     let address = SocketAddr::V4(SocketAddrV4::new(Ipv4Addr::LOCALHOST, port));
-    let Ok(mut stream) = TcpStream::connect(rt, address) else {
+    let Ok(stream) = TcpStream::connect(rt, address) else {
         return Err(ClientFault::Connection);
     };
-    let wait = Some(Duration::from_secs(10));
+    let wait = Some(Duration::from_secs(seconds));
     if stream.set_nodelay(true).is_err() || stream.set_read_timeout(wait).is_err() {
         return Err(ClientFault::Connection);
     }
-    send(&mut stream, body)?;
-    receive(rt.alloc(), &mut stream)
+    Ok(stream)
+}
+
+// The reply of a node to a message.
+fn ask(rt: &HostRuntime, stream: &mut TcpStream, body: &[u8]) -> Result<Vec<u8>, ClientFault>
+    requires { length body.now ≤ BODY }
+{
+    send(stream, body)?;
+    receive(rt.alloc(), stream)
 }
 
 // Writes to standard output. A reader that went away is told nothing.
@@ -88,11 +99,12 @@ fn ask_once(
     asked: &Asked<'_>,
 ) -> Result<u8, ClientFault> {
     let body = request_of(rt.alloc(), secrets, plan.node, asked)?;
-    let reply = ask(rt, plan.sessions_port(), &body)?;
+    let mut stream = connect(rt, plan.sessions_port(), PATIENCE)?;
+    let reply = ask(rt, &mut stream, &body)?;
     print_reply(rt, &reply, asked.is_text)
 }
 
-// Fetches a log as it grows, and prints its new entries.
+// Waits for what comes into a log, on one connection, and prints its new entries.
 fn follow(
     rt: &HostRuntime,
     plan: &Plan<'_>,
@@ -102,17 +114,17 @@ fn follow(
     times: u32,
 ) -> Result<u8, ClientFault> {
     let mut place = from;
+    let seconds = u64::from(WAIT) / 1_000 + PATIENCE;
+    let mut stream = connect(rt, plan.sessions_port(), seconds)?;
     for _ in 0..times {
-        let body = fetch_of(rt.alloc(), secrets, plan.node, asked, place)?;
-        let reply = ask(rt, plan.sessions_port(), &body)?;
+        let fetch = fetch_of(rt.alloc(), secrets, plan.node, asked, place)?;
+        let body = await_text(rt.alloc(), &fetch, WAIT)?;
+        let reply = ask(rt, &mut stream, &body)?;
         let Some(count) = count_of(rt.alloc(), &reply)? else {
             return print_reply(rt, &reply, asked.is_text);
         };
         print(rt, &entry_lines(rt.alloc(), &reply, asked.is_text)?);
         place = place.saturating_add(count);
-        if count == 0 {
-            thread::sleep(rt, Duration::from_millis(500));
-        }
     }
     Ok(0)
 }

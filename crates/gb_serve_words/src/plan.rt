@@ -12,8 +12,16 @@ pub struct ServePlan {
     pub base_port: u16,
     /// How many ticks without a good packet make a node noticed, 2 to 1,000.
     pub silence: u16,
-    /// How many connections each node serves, one after the other, 0 to 1,000. 0: it serves them for ever.
+    /// How many connections each node serves in all, 0 to 1,000. 0: it serves them for ever.
     pub sessions: u16,
+    /// The time between two ticks in milliseconds, 1 to 60,000.
+    pub tick: u16,
+    /// After how many seconds without a byte a connection is closed that asked something, 0 to 60,000. 0: never.
+    pub idle: u16,
+    /// How many connections each node serves at once, 1 to 60,000.
+    pub connections: u16,
+    /// How many messages a connection may ask, 0 to 4,000,000,000. 0: there is no limit.
+    pub session_requests: u32,
     /// Whether the tapes of the nodes are kept and merged at the end.
     pub tape: bool,
 }

@@ -18,11 +18,19 @@ pub const SILENCE: u16 = 50;
 /// The byte of the version of packets where words give none.
 pub const VERSION: u8 = 1;
 
+/// The milliseconds between two ticks where words give none.
+pub const TICK: u16 = 64;
+
+/// How many connections a node serves at once where words give no number.
+pub const CONNECTIONS: u16 = 1_024;
+
 // Definitions cite these values.
 const _: () = prove!(SILENCE == 50 && VERSION == 1);
 
+const _: () = prove!(TICK == 64 && CONNECTIONS == 1_024);
+
 // An option with a number from `least` to `most`.
-fn number_arg<'a>(alloc: Global, name: &'static str, least: u16, most: u16) -> Arg<'a>
+fn number_arg<'a>(alloc: Global, name: &'static str, least: u16, most: u32) -> Arg<'a>
     ensures rule { rule_of result ≡ number_rule name.entry.now least most false }
     ensures local { result.global ≡ false }
 {
@@ -51,7 +59,7 @@ fn command<'a>(alloc: Global) -> Result<Command<'a>, AllocError>
     let bare = Command::new(alloc, "gb_serve")
         .about("Serves groups that broadcast messages among their members")
         .after_help(AFTER);
-    let nodes = number_arg(alloc, "nodes", 1, NODES as u16)
+    let nodes = number_arg(alloc, "nodes", 1, NODES as u32)
         .required(true)
         .value_name("N")
         .help("how many nodes the cluster has");
@@ -74,13 +82,33 @@ fn command<'a>(alloc: Global) -> Result<Command<'a>, AllocError>
     );
     let with_silence = with_version.arg(silence)?;
     let sessions = number_arg(alloc, "sessions", 0, 1_000).value_name("K").help(
-        "how many connections each node serves, one after the other; 0, or not given: for ever",
+        "how many connections each node serves in all; 0, or not given: for ever",
     );
     let with_sessions = with_silence.arg(sessions)?;
+    let tick = number_arg(alloc, "tick", 1, 60_000)
+        .value_name("MS")
+        .help("milliseconds between two ticks; 64 if not given");
+    let with_tick = with_sessions.arg(tick)?;
+    let idle = number_arg(alloc, "idle", 0, 60_000)
+        .value_name("SECONDS")
+        .help(
+            "after how long without a byte a connection is closed that asked something; 0, or not given: never",
+        );
+    let with_idle = with_tick.arg(idle)?;
+    let connections = number_arg(alloc, "connections", 1, 60_000)
+        .value_name("C")
+        .help(
+            "how many connections each node serves at once, one more is closed; 1,024 if not given",
+        );
+    let with_connections = with_idle.arg(connections)?;
+    let requests = number_arg(alloc, "session-requests", 0, 4_000_000_000)
+        .value_name("R")
+        .help("how many messages a connection may ask; 0, or not given: there is no limit");
+    let with_requests = with_connections.arg(requests)?;
     let tape = flag_arg(alloc, "tape").help(
         "keep what happens at each node, and merge it at the end into one run of the cluster",
     );
-    with_sessions.arg(tape)
+    with_requests.arg(tape)
 }
 
 /// What the help says behind the options.
@@ -111,6 +139,10 @@ fn plan_of(matches: &ArgMatches<'_>) -> Option<ServePlan>
     let byte = matches.get_one::<u8>("packet-version");
     let silence = matches.get_one::<u16>("silence");
     let sessions = matches.get_one::<u16>("sessions");
+    let tick = matches.get_one::<u16>("tick");
+    let idle = matches.get_one::<u16>("idle");
+    let connections = matches.get_one::<u16>("connections");
+    let requests = matches.get_one::<u32>("session-requests");
     let tape = matches.get_flag("tape");
     let version = Version::from_byte(byte.unwrap_or(VERSION))?;
     if nodes > version.limits().nodes {
@@ -122,6 +154,10 @@ fn plan_of(matches: &ArgMatches<'_>) -> Option<ServePlan>
         base_port,
         silence: silence.unwrap_or(SILENCE),
         sessions: sessions.unwrap_or(0),
+        tick: tick.unwrap_or(TICK),
+        idle: idle.unwrap_or(0),
+        connections: connections.unwrap_or(CONNECTIONS),
+        session_requests: requests.unwrap_or(0),
         tape,
     })
 }

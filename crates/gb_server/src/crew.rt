@@ -1,12 +1,15 @@
 //! The threads of a server.
 use crate::signals::Signals;
 use crate::sockets::Sockets;
-use crate::work::{pump_packets, serve_connections, tick};
+use crate::work::run_node;
 use gb_host::host::Host;
 use gb_host::names::Tapes;
 use gb_host::seat::Seat;
+use gb_loop::node_loop::Ending;
+use gb_loop::options::LoopOptions;
 use gb_types::memory::OutOfMemory;
 use std::alloc::Global;
+use std::net::{Net, TcpListener, TcpStream};
 use std::sync::Wait;
 use std::thread;
 use std::thread::{JoinHandle, SpawnError, Threads};
@@ -39,59 +42,41 @@ fn join_all<L: Tapes, H: Threads>(
     }
 }
 
-/// Holds a server: a thread for each node's pump, one for its sessions and one for the ticker, with a seat each. When the
-/// sessions have ended, so do the others. Gives the seats back. OutOfMemory: not all threads could be made; no connection was
-/// served then.
-pub fn hold<L: Tapes + Send + Sync, H: Threads + Wait + Clock + Sync>(
+/// Holds a server: a thread for each node's loop, with a seat each. When all connections were served they end. Gives the
+/// seats back. OutOfMemory: not all threads could be made, and no connection was served; or a loop could not begin.
+pub fn hold<
+    L: Tapes + Send + Sync,
+    H: Net<Listener = TcpListener, Stream = TcpStream> + Threads + Wait + Clock + Sync,
+>(
     rt: &H,
     alloc: Global,
     host: &Host<L>,
     seats: Vec<Seat<L>>,
     sockets: Vec<Sockets>,
-    connections: u16,
+    options: LoopOptions,
 ) -> Result<Vec<Seat<L>>, OutOfMemory> {
-    let signals = Signals::new();
+    let signals = Signals::new(sockets.len() as u64);
     let shared = &signals;
     thread::scope(
         thread::scope_env(),
         rt,
         move |scope| -> Result<Vec<Seat<L>>, OutOfMemory> {
             let mut seats = seats;
-            let mut workers = Vec::new(alloc);
-            let mut sessions = Vec::new(alloc);
+            let mut loops = Vec::new(alloc);
             for own in sockets {
-                let Sockets {
-                    node,
-                    port,
-                    listener,
-                } = own;
-                let (Some(first), Some(second)) = (seats.pop(), seats.pop()) else {
+                let Some(seat) = seats.pop() else {
                     shared.end();
                     break;
                 };
-                let pump = scope.spawn(move || pump_packets(rt, host, first, node, port, shared));
-                keep(&mut workers, pump, shared);
-                let session = scope.spawn(move || {
-                    serve_connections(rt, alloc, host, second, node, listener, connections, shared)
-                });
-                keep(&mut sessions, session, shared);
-            }
-            match seats.pop() {
-                Some(seat) => {
-                    keep(
-                        &mut workers,
-                        scope.spawn(move || tick(rt, host, seat, shared)),
-                        shared,
-                    )
-                }
-                None => shared.end(),
+                let made = scope.spawn(move || run_node(
+                    rt, alloc, host, seat, own, options, shared,
+                ));
+                keep(&mut loops, made, shared);
             }
             let is_whole = !shared.is_over();
             shared.begin();
-            join_all(rt, sessions, &mut seats);
-            shared.end();
-            join_all(rt, workers, &mut seats);
-            if is_whole {
+            join_all(rt, loops, &mut seats);
+            if is_whole && !shared.has_failed() {
                 Ok(seats)
             } else {
                 Err(OutOfMemory)

@@ -2,6 +2,7 @@
 ghost use Rattle.std.specs.Prelude.{◌≡◌, ◌≢◌, ◌≤◌, ◌+◌, ◌*◌, [], List, true, Ok, Err, codes, map, vec_len};
 ghost use Rattle.std.specs.Io.KnownBytes.{Appends};
 ghost use Rattle.gb_serve_words.specs.Words.{IsWithin};
+ghost use Rattle.gb_server.specs.Behaviour.{AreOptions};
 ghost use Rattle.gb_server.specs.Told.{AreRefused, AreTaken, HasServed, end_line, host_of, lined, serving_line};
 ghost use Rattle.gb_host.specs.Pasts.{AreBlank, books_of};
 ghost use Rattle.gb_host.specs.Plans.{IsPlan};
@@ -19,6 +20,7 @@ use gb_host::host::Host;
 use gb_host::names::Tapes;
 use gb_host::pasts::{NodePast, new_pasts};
 use gb_host::plan::HostPlan;
+use gb_loop::options::LoopOptions;
 use gb_serve_words::plan::ServePlan;
 use gb_serve_words::words::read_words;
 use gb_types::limits::NODES;
@@ -58,6 +60,34 @@ fn host_plan(plan: ServePlan, keys: Keys) -> HostPlan
     }
 }
 
+// How long a connection may be silent that asked nothing yet, in microseconds.
+const FIRST: u64 = 10_000_000;
+
+// How the loops behave: a sign of life eight times in the silence that makes a node noticed, and at least every tick.
+fn options_of(plan: ServePlan) -> LoopOptions
+    ensures { AreOptions plan result }
+{
+    let tick = u64::from(plan.tick) * 1_000;
+    let beat = if plan.silence < 8 {
+        tick / 2
+    } else {
+        tick * (u64::from(plan.silence) / 8)
+    };
+    LoopOptions {
+        tick,
+        beat,
+        idle: u64::from(plan.idle) * 1_000_000,
+        first: FIRST,
+        sessions: u64::from(plan.sessions),
+        connections: u64::from(plan.connections),
+        requests: if plan.session_requests == 0 {
+            u64::MAX
+        } else {
+            u64::from(plan.session_requests)
+        },
+    }
+}
+
 // Writes the line that tells what is served. False: it could not be written.
 fn announce<W: Write>(alloc: Global, plan: ServePlan, writer: &mut W) -> Result<bool, OutOfMemory>
     ensures { result ≡ Ok true → Appends (W.contents writer.old) (W.contents writer.new) (serving_line plan.nodes plan.base_port) }
@@ -67,7 +97,11 @@ fn announce<W: Write>(alloc: Global, plan: ServePlan, writer: &mut W) -> Result<
 }
 
 // Serves on sockets that are bound.
-fn serve_host<L: Tapes + Send + Sync, H: Threads + Wait + Clock + Sync, W: Write>(
+fn serve_host<
+    L: Tapes + Send + Sync,
+    H: Net<Listener = TcpListener, Stream = TcpStream> + Threads + Wait + Clock + Sync,
+    W: Write,
+>(
     rt: &H,
     alloc: Global,
     plan: HostPlan,
@@ -85,13 +119,13 @@ fn serve_host<L: Tapes + Send + Sync, H: Threads + Wait + Clock + Sync, W: Write
     ensures ends { has_closed result ≡ true → (seats : List SeatValue) × EndsSo plan seats result }
     ensures taken { result ≢ Err ServeFault.RefusedWords }
 {
-    let seats = 2 * u32::from(plan.cluster.nodes) + 1;
+    let seats = u32::from(plan.cluster.nodes);
     let here = all_nodes(plan.cluster.nodes);
     let (host, seats) = Host::<L>::open(alloc, plan, here, seats, pasts)?;
     if !announce(alloc, serve, writer)? {
         return Err(ServeFault::Write);
     }
-    let seats = hold(rt, alloc, &host, seats, sockets, serve.sessions)?;
+    let seats = hold(rt, alloc, &host, seats, sockets, options_of(serve))?;
     end(alloc, host, seats)
 }
 

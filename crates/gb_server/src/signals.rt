@@ -1,23 +1,24 @@
 //! What the threads of a server tell one another.
+use gb_loop::node_loop::Ending;
 use std::sync::atomic::{AtomicBool, AtomicU64, Ordering};
 
 /// How far a server is. Any thread may look, at any time.
 #[derive(Drop)]
 pub struct Signals {
-    turns: AtomicU64,
-    requests: AtomicU64,
+    left: AtomicU64,
     is_begun: AtomicBool,
     is_over: AtomicBool,
+    has_failed: AtomicBool,
 }
 
 impl Signals {
-    /// A server that has not begun.
-    pub fn new() -> Signals {
+    /// A server that has not begun, of so many nodes.
+    pub fn new(nodes: u64) -> Signals {
         Signals {
-            turns: AtomicU64::new(0),
-            requests: AtomicU64::new(0),
+            left: AtomicU64::new(nodes),
             is_begun: AtomicBool::new(false),
             is_over: AtomicBool::new(false),
+            has_failed: AtomicBool::new(false),
         }
     }
 
@@ -26,7 +27,7 @@ impl Signals {
         self.is_begun.store(true, Ordering::SeqCst);
     }
 
-    /// No connection is served any more: pumps and ticker end.
+    /// The loops end.
     pub fn end(&self) {
         self.is_over.store(true, Ordering::SeqCst);
     }
@@ -35,27 +36,25 @@ impl Signals {
         self.is_begun.load(Ordering::SeqCst)
     }
 
-    pub fn is_over(&self) -> bool {
+    /// Returns true if a loop could not begin.
+    pub fn has_failed(&self) -> bool {
+        self.has_failed.load(Ordering::SeqCst)
+    }
+}
+
+impl Ending for Signals {
+    fn served(&self) {
+        if self.left.fetch_sub(1, Ordering::SeqCst) <= 1 {
+            self.end();
+        }
+    }
+
+    fn fail(&self) {
+        self.has_failed.store(true, Ordering::SeqCst);
+        self.end();
+    }
+
+    fn is_over(&self) -> bool {
         self.is_over.load(Ordering::SeqCst)
-    }
-
-    /// The pump of node 0 begins a turn.
-    pub fn count_turn(&self) {
-        let _ = self.turns.fetch_add(1, Ordering::SeqCst);
-    }
-
-    /// How many turns the pump of node 0 has begun.
-    pub fn turns(&self) -> u64 {
-        self.turns.load(Ordering::SeqCst)
-    }
-
-    /// A node is asked by a client.
-    pub fn count_request(&self) {
-        let _ = self.requests.fetch_add(1, Ordering::SeqCst);
-    }
-
-    /// How many requests there were.
-    pub fn requests(&self) -> u64 {
-        self.requests.load(Ordering::SeqCst)
     }
 }

@@ -1,4 +1,4 @@
-//! Worked uses of the server, as tests: its keys, the gates and the sessions of its workers, and whole servers with clients on
+//! Worked uses of the server, as tests: its keys, sessions of workers, and whole servers with clients on
 //! sockets of this machine. There is nothing here but tests.
 #![tactic(auto)]
 
@@ -6,8 +6,6 @@
 mod chat;
 #[cfg(test)]
 mod client_streams;
-#[cfg(test)]
-mod gates;
 #[cfg(test)]
 mod keys;
 #[cfg(test)]

@@ -128,6 +128,10 @@ fn words_are_plans(rt: HostRuntime) {
             base_port: *base_port,
             silence: *silence,
             sessions: *sessions,
+            tick: 64,
+            idle: 0,
+            connections: 1_024,
+            session_requests: 0,
             tape: *tape,
         };
         let found = read(rt.alloc(), line);
@@ -135,8 +139,68 @@ fn words_are_plans(rt: HostRuntime) {
     }
 }
 
+// Lines with options of the loops, and the milliseconds of a tick, the idle seconds, the connections and the requests that they are.
+static BEHAVIOURS: [(&str, u16, u16, u16, u32); 6] = [
+    ("gb_serve --nodes 1 --base-port 1024", 64, 0, 1_024, 0),
+    (
+        "gb_serve --nodes 1 --base-port 1024 --tick 1",
+        1,
+        0,
+        1_024,
+        0,
+    ),
+    (
+        "gb_serve --nodes 1 --base-port 1024 --tick 60000 --idle 60000",
+        60_000,
+        60_000,
+        1_024,
+        0,
+    ),
+    (
+        "gb_serve --nodes 1 --base-port 1024 --connections 1 --idle 0",
+        64,
+        0,
+        1,
+        0,
+    ),
+    (
+        "gb_serve --nodes 1 --base-port 1024 --connections 60000 --session-requests 1",
+        64,
+        0,
+        60_000,
+        1,
+    ),
+    (
+        "gb_serve --session-requests=4000000000 --nodes 1 --base-port 1024",
+        64,
+        0,
+        1_024,
+        4_000_000_000,
+    ),
+];
+
+#[test]
+fn words_say_how_loops_behave(rt: HostRuntime) {
+    for (line, tick, idle, connections, session_requests) in &BEHAVIOURS {
+        let want = ServePlan {
+            nodes: 1,
+            version: Version::One,
+            base_port: 1_024,
+            silence: 50,
+            sessions: 0,
+            tick: *tick,
+            idle: *idle,
+            connections: *connections,
+            session_requests: *session_requests,
+            tape: false,
+        };
+        let found = read(rt.alloc(), line);
+        assert!(rt; found == Ok(want), "{line}");
+    }
+}
+
 // Each number's first value outside its range, words that are too few, too many, unknown, or given twice.
-static REFUSED: [&str; 33] = [
+static REFUSED: [&str; 39] = [
     "gb_serve ",
     "gb_serve --nodes 2",
     "gb_serve --base-port 42000",
@@ -162,6 +226,12 @@ static REFUSED: [&str; 33] = [
     "gb_serve --nodes 2 --base-port 42000 --silence 1001",
     "gb_serve --nodes 2 --base-port 42000 --sessions 1001",
     "gb_serve --nodes 2 --base-port 42000 --sessions -1",
+    "gb_serve --nodes 2 --base-port 42000 --tick 0",
+    "gb_serve --nodes 2 --base-port 42000 --tick 60001",
+    "gb_serve --nodes 2 --base-port 42000 --idle 60001",
+    "gb_serve --nodes 2 --base-port 42000 --connections 0",
+    "gb_serve --nodes 2 --base-port 42000 --connections 60001",
+    "gb_serve --nodes 2 --base-port 42000 --session-requests 4000000001",
     "gb_serve --nodes two --base-port 42000",
     "gb_serve --nodes 99999999999999999999 --base-port 42000",
     "gb_serve --nodes 2 --nodes 2 --base-port 42000",

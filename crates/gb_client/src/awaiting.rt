@@ -1,0 +1,52 @@
+//! The text of a fetch that waits.
+ghost use Rattle.std.specs.Prelude.{◌≡◌, ◌⊎◌, ◌++◌, ◌≤◌, vec_len, IfOk, IfErr, IfSome};
+ghost use Rattle.gb_session.specs.Asks.{IsAwaitText};
+ghost use Rattle.gb_session.specs.declared.ask.Awaited.{Awaited as TheAwaited};
+ghost use Rattle.gb_session.specs.declared.grammar.TheConstants.{BODY};
+ghost use Rattle.gb_client.specs.Requests.{await_of};
+
+use crate::fault::ClientFault;
+use gb_session::ask::{Ask, Awaited, read_ask};
+use gb_types::memory::OutOfMemory;
+use gb_types::number::put_number;
+use std::alloc::Global;
+
+// The bytes of the word `fetch`.
+const FETCH: usize = 5;
+
+// Returns the body of a fetch with `await` in the place of its first word, and how long is waited behind the others.
+fn await_body(alloc: Global, fetch: &[u8], wait: u32) -> Result<Vec<u8>, OutOfMemory>
+    ensures { IfOk result (λ body. body.items ≡ await_of fetch.now wait) }
+{
+    let mut body = Vec::from_slice(alloc, b"await")?;
+    body.extend_from_slice(&fetch[FETCH.min(fetch.len())..])?;
+    body.extend_from_slice(b" ")?;
+    put_number(&mut body, u64::from(wait))?;
+    Ok(body)
+}
+
+// Returns what the body of a message awaits, or None if it awaits nothing.
+fn awaited_by(alloc: Global, body: &[u8]) -> Result<Option<Awaited>, OutOfMemory>
+    ensures { IfOk result (λ found. IfSome found (IsAwaitText body.now)) }
+{
+    match read_ask(alloc, body)? {
+        Some(Ask::Await(awaited)) => Ok(Some(awaited)),
+        Some(Ask::Now(_)) => Ok(None),
+        None => Ok(None),
+    }
+}
+
+/// The body of a message that asks what a fetch does, and waits for at most `wait` milliseconds until there is something. `Words`:
+/// there is no such message.
+pub fn await_text(alloc: Global, fetch: &[u8], wait: u32) -> Result<Vec<u8>, ClientFault>
+    ensures body { IfOk result (λ body. body.items ≡ await_of fetch.now wait) }
+    ensures spelt { IfOk result (λ body. (awaited : TheAwaited) × IsAwaitText body.items awaited) }
+    ensures short { IfOk result (λ body. vec_len body ≤ BODY) }
+    ensures fault { IfErr result (λ why. (why ≡ ClientFault.Words) ⊎ (why ≡ ClientFault.OutOfMemory)) }
+{
+    let body = await_body(alloc, fetch, wait)?;
+    match awaited_by(alloc, &body)? {
+        Some(_) => Ok(body),
+        None => Err(ClientFault::Words),
+    }
+}

@@ -1,0 +1,5 @@
+use Rattle.std.proofs.Common.{◌≡◌}
+use Rattle.gb_loop.proofs.node_loop.NodeLoop.keep_links.Given as goal
+
+abbrev pub invariant-nodes : goal.invariant-nodes
+invariant-nodes g l = l.self.mail.origin ≡ l.fn.self.mail.origin

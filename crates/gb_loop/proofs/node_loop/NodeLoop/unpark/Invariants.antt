@@ -1,0 +1,5 @@
+use Rattle.std.proofs.Common.{◌≡◌}
+use Rattle.gb_loop.proofs.node_loop.NodeLoop.unpark.Given as goal
+
+abbrev pub invariant-groups : goal.invariant-groups
+invariant-groups g l = l.self.mail.origin ≡ l.fn.self.mail.origin

@@ -1,0 +1,2 @@
+pub mod Mailed
+pub mod Turned

@@ -1,0 +1,200 @@
+//! The packets of a loop: those that come, and those that are owed to other nodes.
+ghost use Rattle.std.specs.Prelude.{◌≡◌};
+
+use crate::hint::Hint;
+use crate::links::Link;
+use crate::mail::Arrival;
+use crate::node_loop::NodeLoop;
+use gb_host::names::Tapes;
+use gb_node::answer::{Frame, Good};
+use gb_node::event::NodeEvent;
+use gb_port::port::Port;
+use gb_types::limits::NODES;
+use gb_types::node::NodeId;
+use std::sync::Wait;
+use std::time::Clock;
+
+/// How many packets a round takes at most, and how many frames it packs for a node.
+pub const PACKETS: usize = 64;
+
+pub const FRAMES: usize = 64;
+
+impl<'a, L: Tapes, H: Wait + Clock, P: Port> NodeLoop<'a, L, H, P> {
+    // Returns the node with this number, if it is another one.
+    fn other(&self, number: u8) -> Option<NodeId> {
+        if number == self.mail.origin.node.number || usize::from(number) >= NODES {
+            None
+        } else {
+            Some(NodeId::new(number))
+        }
+    }
+
+    // Keeps what is known of the link to a node.
+    fn set_link(&mut self, to: NodeId, link: Link)
+        ensures origin { self.new.mail.origin ≡ self.old.mail.origin }
+    {
+        let at = to.index();
+        if at < self.links.len() {
+            self.links[at] = link;
+        }
+    }
+
+    fn link(&self, to: NodeId) -> Link {
+        let at = to.index();
+        if at < self.links.len() {
+            self.links[at]
+        } else {
+            Link::new()
+        }
+    }
+
+    // A good packet came.
+    fn heed(&mut self, good: Good, hint: Hint)
+        ensures origin { self.new.mail.origin ≡ self.old.mail.origin }
+    {
+        let from = good.from;
+        let has_frame = good.frame != Frame::Nothing;
+        let mut link = self.link(from);
+        link.done(u64::from(good.done), self.now);
+        link.owes = link.owes || has_frame;
+        self.set_link(from, link);
+        if good.items > 0 || good.done > 0 {
+            self.is_dirty = true;
+        }
+        if hint.mask != 0 {
+            self.repair(from, hint);
+        }
+        if good.items > 0 && !self.parked.is_empty() {
+            self.wake_came();
+        }
+    }
+
+    // Sends a frame again that the other node lacks, if it was not sent again yet.
+    fn fill(&mut self, to: NodeId, number: u64)
+        ensures origin { self.new.mail.origin ≡ self.old.mail.origin }
+    {
+        let mut link = self.link(to);
+        if number <= link.repaired {
+            return;
+        }
+        link.repaired = number;
+        if self.mail.send(NodeEvent::Again(to, number), to) {
+            link.sent(self.now);
+        }
+        self.set_link(to, link);
+    }
+
+    // Sends again the frames below the highest that came, each once.
+    fn repair(&mut self, to: NodeId, hint: Hint)
+        ensures origin { self.new.mail.origin ≡ self.old.mail.origin }
+    {
+        let highest = 63 - u64::from(hint.mask.leading_zeros().min(63));
+        let before = self.link(to).repaired;
+        'holes: for bit in 0..highest {
+            if bit == 0 || hint.mask >> bit & 1 == 0 {
+                self.fill(to, hint.base.saturating_add(bit));
+            }
+        }
+        let mut link = self.link(to);
+        if link.repaired != before {
+            link.lost();
+            self.set_link(to, link);
+        }
+    }
+
+    // Takes packets that came, `PACKETS` at most.
+    pub(crate) fn receive(&mut self)
+        ensures origin { self.new.mail.origin ≡ self.old.mail.origin }
+    {
+        'packets: for _ in 0..PACKETS {
+            let is_wanted = !self.parked.is_empty();
+            let Some(arrival) = self.mail.receive(is_wanted, &mut self.came) else {
+                self.has_packets = false;
+                return;
+            };
+            let Arrival { good, hint } = arrival;
+            if let Some(good) = good {
+                self.heed(good, hint);
+            }
+        }
+    }
+
+    // Packs what waits for a node, while its frames have room.
+    fn pack(&mut self, to: NodeId)
+        ensures origin { self.new.mail.origin ≡ self.old.mail.origin }
+    {
+        'frames: for _ in 0..FRAMES {
+            let mut link = self.link(to);
+            if link.open >= link.room || !self.mail.send(NodeEvent::Pack(to), to) {
+                return;
+            }
+            link.packed(self.now);
+            self.set_link(to, link);
+        }
+    }
+
+    // Packs what waits for each other node.
+    pub(crate) fn pack_all(&mut self)
+        ensures origin { self.new.mail.origin ≡ self.old.mail.origin }
+    {
+        self.is_dirty = false;
+        'nodes: for number in 0..self.nodes {
+            if let Some(to) = self.other(number) {
+                self.pack(to);
+            }
+        }
+    }
+
+    // Sends a node the lowest frame that it did not acknowledge in time, and an acknowledgement if one is owed, or as a sign of life.
+    fn keep_link(&mut self, to: NodeId)
+        ensures origin { self.new.mail.origin ≡ self.old.mail.origin }
+    {
+        let now = self.now;
+        let mut link = self.link(to);
+        if link.open > 0 && link.again_at <= now {
+            if self.mail.send(NodeEvent::Again(to, 0), to) {
+                link.sent(now);
+            } else {
+                // No frame is open: the other node is noticed.
+                link.open = 0;
+            }
+            link.lost();
+            link.repeated(now);
+        }
+        if link.owes || link.sent_at.saturating_add(self.options.beat) <= now {
+            let _ = self.mail.send(NodeEvent::Ack(to), to);
+            link.sent(now);
+        }
+        self.set_link(to, link);
+    }
+
+    // Does for each link what is due.
+    pub(crate) fn keep_links(&mut self)
+        ensures origin { self.new.mail.origin ≡ self.old.mail.origin }
+    {
+        'nodes: for number in 0..self.nodes {
+            if let Some(to) = self.other(number) {
+                self.keep_link(to);
+            }
+        }
+    }
+
+    // Returns how many microseconds nothing is to be done, if nothing happens.
+    pub(crate) fn patience(&self) -> u64 {
+        if self.has_packets
+            || self.has_clients
+            || !self.listed.is_empty()
+            || self.is_dirty
+            || self.mail.is_touched
+        {
+            return 0;
+        }
+        let mut next = self.next_tick;
+        'nodes: for number in 0..self.nodes {
+            if let Some(to) = self.other(number) {
+                next = next.min(self.link(to).due_at(self.options.beat));
+            }
+        }
+        next.saturating_sub(self.now)
+    }
+}

@@ -1,0 +1,46 @@
+//! What the bytes of a packet say, before it is known that they are one.
+use gb_frame::limits::{HEADER, TAG};
+use gb_frame::view::ItemViews;
+use gb_types::address::Addr;
+
+/// What a packet acknowledges: every frame below `base`, and `base + i` where bit i of the mask is set.
+#[derive(Clone, Copy)]
+pub struct Hint {
+    pub base: u64,
+    pub mask: u64,
+}
+
+// Returns eight bytes as a number, the high byte first, or 0 if there are fewer.
+fn number_at(bytes: &[u8], at: usize) -> u64 {
+    match bytes.get(at..at.saturating_add(8)) {
+        Some([a, b, c, d, e, f, g, h]) => u64::from_be_bytes([*a, *b, *c, *d, *e, *f, *g, *h]),
+        _ => 0,
+    }
+}
+
+/// Returns what bytes acknowledge, if they are a packet. It decides only which frames are sent again, and when.
+pub fn hint_of(bytes: &[u8]) -> Hint {
+    Hint {
+        base: number_at(bytes, 5),
+        mask: number_at(bytes, 13),
+    }
+}
+
+/// Puts the addresses of the items of bytes, if they are a packet, in the place of what was there. Those for which there is no
+/// memory are left out. They decide only who is asked again, and when.
+pub fn put_addresses(bytes: &[u8], addresses: &mut Vec<Addr>) {
+    addresses.clear();
+    if bytes.len() < HEADER + TAG {
+        return;
+    }
+    let texts = &bytes[HEADER..bytes.len() - TAG];
+    for item in ItemViews::of_texts(texts) {
+        let address = Addr {
+            tenant: item.tenant,
+            group: item.group,
+        };
+        if addresses.last() != Some(&address) {
+            let _ = addresses.push(address);
+        }
+    }
+}

@@ -1,0 +1,359 @@
+//! A node with its port: all that is asked of it, comes to it and goes from it.
+ghost use Rattle.std.specs.Prelude.{◌≡◌, ◌++◌, ◌∷◌, [], true, false, Ok, Some, IfOk, IfErr, OnErr, IfSome, IfNone};
+ghost use Rattle.gb_node.specs.declared.answer.NodeAnswer.{NodeAnswer as AnswerValue};
+ghost use Rattle.gb_node.specs.declared.answer.NodeAnswer.TheVariants.{Sent as WasSent};
+ghost use Rattle.gb_node.specs.declared.answer.Sent.TheVariants.{Packet as SentPacket};
+ghost use Rattle.gb_host.specs.HostValue.{IsRefused};
+ghost use Rattle.gb_worker.specs.Answered.{destination, gives_packet};
+ghost use Rattle.gb_worker.specs.Asked.{reply_at, reply_of};
+ghost use Rattle.gb_node.specs.declared.event.NodeEvent.TheVariants.{Packet as PacketEvent};
+ghost use Rattle.gb_worker.specs.Carried.{GivesNothing, HasCarried};
+ghost use Rattle.gb_worker.specs.Gained.{noted};
+ghost use Rattle.gb_loop.specs.Mailed.{HasCalled, HasMailed};
+
+use crate::hint::{Hint, hint_of, put_addresses};
+use gb_host::fault::HostFault;
+use gb_host::host::Host;
+use gb_host::names::Tapes;
+use gb_host::seat::Seat;
+use gb_node::answer::{Good, NodeAnswer, PacketAnswer, Sent};
+use gb_node::event::NodeEvent;
+use gb_node::packet_text::PacketText;
+use gb_port::port::Port;
+use gb_session::answers::Answers;
+use gb_types::address::Addr;
+use gb_types::node::NodeId;
+use gb_types::refusal::Refusal;
+use gb_types::reply::Reply;
+use gb_types::request::Request;
+use std::alloc::Global;
+use std::snapshot::Snapshot;
+use std::sync::Wait;
+
+/// A node, and its port and its seat as they were at first.
+pub struct Origin<L: Tapes, P> {
+    pub node: NodeId,
+    pub port: Snapshot<P>,
+    pub seat: Snapshot<Seat<L>>,
+}
+
+/// What a packet that came was.
+pub struct Arrival {
+    /// None if it was no packet for this node, or there was no memory for it.
+    pub good: Option<Good>,
+    pub hint: Hint,
+}
+
+/// What is left when no more is asked of a node: the node, its seat and its port. `lost` is the number of packets that came and for
+/// which there was no memory, up to 2^64 - 1.
+#[derive(Drop)]
+pub struct Parts<L: Tapes, P> {
+    pub node: NodeId,
+    pub seat: Seat<L>,
+    pub port: P,
+    pub lost: u64,
+}
+
+/// A node of a host that is asked from one seat, and its port.
+pub struct Mail<'a, L: Tapes, H, P: Port> {
+    rt: &'a H,
+    host: &'a Host<L>,
+    pub origin: Origin<L, P>,
+    pub seat: Seat<L>,
+    pub port: P,
+    pub lost: u64,
+    /// The groups that requests changed, and whether some could not be noted. The loop empties this.
+    pub touched: Vec<Addr>,
+    pub is_touched: bool,
+    pub ghost here: { ∥ HasCalled origin.node origin.seat.value.calls seat.calls ∥₁ },
+    pub ghost mailed: { ∥ HasMailed P.sends P.receives lost origin.port.value port origin.seat.value.calls seat.calls ∥₁ },
+}
+
+// One event at a node: the only call of the host here.
+fn ask<L: Tapes, H: Wait>(
+    rt: &H,
+    host: &Host<L>,
+    seat: &mut Seat<L>,
+    node: NodeId,
+    event: NodeEvent,
+) -> Result<NodeAnswer, HostFault>
+    ensures made { IfOk result (λ a. seat.new.calls ≡ seat.old.calls ++ noted node event a ∷ []) }
+    ensures none { OnErr result (seat.new.calls ≡ seat.old.calls) }
+    ensures err { OnErr result (seat.new ≡ seat.old) }
+    ensures fault { IfErr result (IsRefused L.plan host.now.here seat.old node) }
+    ensures here { HasCalled node seat.old.calls seat.new.calls }
+{
+    host.call(rt, seat, node, event)
+}
+
+// What a client is told of a call.
+fn reply_of(outcome: Result<NodeAnswer, HostFault>) -> Reply
+    ensures answered { IfOk outcome (λ a. result ≡ reply_of a) }
+    ensures fault { IfErr outcome (λ why. result ≡ reply_at why) }
+{
+    match outcome {
+        Ok(NodeAnswer::Reply(reply)) => reply,
+        Err(HostFault::OutOfMemory) => Reply::Refused(Refusal::OutOfMemory),
+        _ => Reply::Refused(Refusal::Stopped),
+    }
+}
+
+// Returns the group that a request may change.
+fn changed_by(request: &Request) -> Option<Addr> {
+    match request {
+        Request::Make(_, address, _)
+        | Request::OpenGroup(_, address)
+        | Request::ShutGroup(_, address)
+        | Request::DropGroup(_, address)
+        | Request::Say(_, address, _) => Some(*address),
+        Request::AddTenant(_, _) | Request::Fetch(_, _, _, _) => None,
+    }
+}
+
+// Returns the packet that came next. None: none came, or the port failed.
+fn next_packet<P: Port>(port: &mut P) -> Option<Vec<u8>>
+    ensures some { IfSome result (λ bytes. P.receives port.old (Ok (Some bytes)) port.new) }
+    ensures none { IfNone result (GivesNothing P.receives port.old port.new) }
+{
+    match port.recv() {
+        Ok(Some(bytes)) => Some(bytes),
+        Ok(None) => None,
+        Err(_) => None,
+    }
+}
+
+// Returns the packet that an answer gives.
+fn packet_of(answer: NodeAnswer) -> Option<PacketText>
+    ensures some { IfSome result (λ text. answer ≡ WasSent (SentPacket text)) }
+    ensures none { IfNone result (gives_packet answer ≡ false) }
+{
+    match answer {
+        NodeAnswer::Sent(Sent::Packet(text)) => Some(text),
+        _ => None,
+    }
+}
+
+// Returns what a node made of a good packet.
+fn good_of(answer: NodeAnswer) -> Option<Good> {
+    match answer {
+        NodeAnswer::Taken(PacketAnswer::Good(good)) => Some(good),
+        _ => None,
+    }
+}
+
+// A packet that came is one event at a node. Returns what the node made of it if it was a good one. If the host refuses the call,
+// the packet is lost and counted.
+fn take_packet<L: Tapes, H: Wait>(
+    rt: &H,
+    host: &Host<L>,
+    seat: &mut Seat<L>,
+    node: NodeId,
+    bytes: Vec<u8>,
+    lost: &mut u64,
+) -> Option<Good>
+    ensures made { lost.new ≡ 0 → (a : AnswerValue)
+        × (seat.new.calls ≡ seat.old.calls ++ noted node (PacketEvent bytes.items) a ∷ []) }
+    ensures lost { lost.new ≡ 0 → lost.old ≡ 0 }
+    ensures here { HasCalled node seat.old.calls seat.new.calls }
+{
+    let event = NodeEvent::Packet(PacketText::from(bytes));
+    match ask(rt, host, seat, node, event) {
+        Ok(answer) => good_of(answer),
+        Err(_) => {
+            *lost = lost.saturating_add(1);
+            None
+        }
+    }
+}
+
+// One event by which a node sends to another. What it gives is handed to the port at once. Returns true if it gave a packet.
+fn send_at<L: Tapes, H: Wait, P: Port>(
+    rt: &H,
+    host: &Host<L>,
+    seat: &mut Seat<L>,
+    node: NodeId,
+    event: NodeEvent,
+    to: NodeId,
+    port: &mut P,
+) -> bool
+    requires { destination event ≡ Some to }
+    ensures carried { HasCarried P.sends P.receives port.old port.new seat.old.calls seat.new.calls }
+    ensures here { HasCalled node seat.old.calls seat.new.calls }
+{
+    let answer = match ask(rt, host, seat, node, event) {
+        Ok(answer) => answer,
+        Err(_) => return false,
+    };
+    let text = match packet_of(answer) {
+        Some(text) => text,
+        None => return false,
+    };
+    let _ = port.send(to, text.as_slice());
+    true
+}
+
+impl<'a, L: Tapes, H: Wait, P: Port> Mail<'a, L, H, P> {
+    /// A node of which nothing was asked from this seat since.
+    pub fn new(
+        rt: &'a H,
+        host: &'a Host<L>,
+        alloc: Global,
+        node: NodeId,
+        seat: Seat<L>,
+        port: P,
+    ) -> Mail<'a, L, H, P>
+        ensures origin { (result.origin.node ≡ node) × (result.origin.port.value ≡ port) × (result.origin.seat.value ≡ seat) }
+    {
+        let origin = Origin {
+            node,
+            port: Snapshot::of(&port),
+            seat: Snapshot::of(&seat),
+        };
+        Mail {
+            rt,
+            host,
+            origin,
+            seat,
+            port,
+            lost: 0,
+            touched: Vec::new(alloc),
+            is_touched: false,
+        }
+    }
+
+    /// Gives up the node for its parts.
+    pub fn into_parts(self) -> Parts<L, P>
+        ensures node { result.node ≡ self.entry.origin.node }
+        ensures here { ∥ HasCalled result.node self.entry.origin.seat.value.calls result.seat.calls ∥₁ }
+        ensures mailed { ∥ HasMailed P.sends P.receives result.lost self.entry.origin.port.value result.port self.entry.origin.seat.value.calls result.seat.calls ∥₁ }
+    {
+        let Mail {
+            rt: _,
+            host: _,
+            origin,
+            seat,
+            port,
+            lost,
+            touched: _,
+            is_touched: _,
+        } = self;
+        let Origin {
+            node,
+            port: _,
+            seat: _,
+        } = origin;
+        Parts {
+            node,
+            seat,
+            port,
+            lost,
+        }
+    }
+
+    /// Time passes at the node. None: the host refused the call.
+    pub fn tick(&mut self) -> Option<NodeAnswer>
+        ensures origin { self.new.origin ≡ self.old.origin }
+    {
+        match ask(
+            self.rt,
+            self.host,
+            &mut self.seat,
+            self.origin.node,
+            NodeEvent::Tick,
+        ) {
+            Ok(answer) => Some(answer),
+            Err(_) => None,
+        }
+    }
+
+    /// Takes the next packet that came; it is one event at the node. Its items' groups are put into `came` if `is_wanted`. None:
+    /// none came, or the port failed.
+    pub fn receive(&mut self, is_wanted: bool, came: &mut Vec<Addr>) -> Option<Arrival>
+        ensures mailed { HasMailed P.sends P.receives self.new.lost self.old.port self.new.port self.old.seat.calls self.new.seat.calls }
+        ensures lost { self.new.lost ≡ 0 → self.old.lost ≡ 0 }
+        ensures origin { self.new.origin ≡ self.old.origin }
+    {
+        let bytes = match next_packet(&mut self.port) {
+            Some(bytes) => bytes,
+            None => return None,
+        };
+        let hint = hint_of(&bytes);
+        if is_wanted {
+            put_addresses(&bytes, came);
+        }
+        let node = self.origin.node;
+        let good = take_packet(
+            self.rt,
+            self.host,
+            &mut self.seat,
+            node,
+            bytes,
+            &mut self.lost,
+        );
+        Some(Arrival { good, hint })
+    }
+
+    /// One event by which the node sends to another. What it gives is handed to the port at once. Returns true if it gave a packet.
+    pub fn send(&mut self, event: NodeEvent, to: NodeId) -> bool
+        requires { destination event ≡ Some to }
+        ensures mailed { HasMailed P.sends P.receives self.new.lost self.old.port self.new.port self.old.seat.calls self.new.seat.calls }
+        ensures lost { self.new.lost ≡ self.old.lost }
+        ensures origin { self.new.origin ≡ self.old.origin }
+    {
+        let node = self.origin.node;
+        send_at(
+            self.rt,
+            self.host,
+            &mut self.seat,
+            node,
+            event,
+            to,
+            &mut self.port,
+        )
+    }
+
+    // Notes a group that a request changed.
+    fn touch(&mut self, address: Addr)
+        ensures seat { self.new.seat ≡ self.old.seat }
+        ensures origin { self.new.origin ≡ self.old.origin }
+    {
+        self.is_touched = true;
+        if self.touched.last() != Some(&address) {
+            let _ = self.touched.push(address);
+        }
+    }
+
+    /// Forgets the groups that requests changed.
+    pub fn forget_touched(&mut self)
+        ensures origin { self.new.origin ≡ self.old.origin }
+    {
+        self.is_touched = false;
+        self.touched.clear();
+    }
+
+    /// Takes the groups that requests changed, and forgets them.
+    pub fn take_touched(&mut self, alloc: Global) -> Vec<Addr>
+        ensures origin { self.new.origin ≡ self.old.origin }
+    {
+        self.is_touched = false;
+        std::mem::replace(&mut self.touched, Vec::new(alloc))
+    }
+}
+
+impl<'a, L: Tapes, H: Wait, P: Port> Answers for Mail<'a, L, H, P> {
+    ghost use Rattle.std.specs.Prelude.{◌≡◌, true};
+    ghost use Rattle.gb_worker.specs.Asked.{AnswersAt};
+
+    ghost answers = { λ s request reply t. (t.origin ≡ s.origin)
+        × AnswersAt L.plan s.origin.node s.seat.calls request reply t.seat.calls };
+
+    fn answer(&mut self, request: Request) -> Reply {
+        let address = changed_by(&request);
+        let event = NodeEvent::Request(request);
+        let reply = reply_of(ask(self.rt, self.host, &mut self.seat, self.origin.node, event));
+        if let Some(address) = address {
+            self.touch(address);
+        }
+        reply
+    }
+}

@@ -1,0 +1,307 @@
+//! The loop of a node.
+ghost use Rattle.std.specs.Prelude.{◌≡◌, [], true, IfOk, IfErr};
+ghost use Rattle.gb_loop.specs.Mailed.{HasCalled, HasMailed};
+
+use crate::clock::LoopClock;
+use crate::connection::Connection;
+use crate::links::Link;
+use crate::mail::{Mail, Parts};
+use crate::options::LoopOptions;
+use crate::parked::Parked;
+use gb_host::host::Host;
+use gb_host::names::Tapes;
+use gb_host::seat::Seat;
+use gb_port::port::Port;
+use gb_types::address::Addr;
+use gb_types::memory::OutOfMemory;
+use gb_types::node::NodeId;
+use mio::event::Event;
+use mio::net::{TcpListener, TcpStream};
+use mio::unix::SourceFd;
+use mio::{Events, Interest, Poll, Token};
+use slab::Slab;
+use std::alloc::Global;
+use std::io;
+use std::net::Net;
+use std::os::fd::RawFd;
+use std::sync::Wait;
+use std::time::{Clock, Duration};
+
+/// The bytes that one read takes at most.
+pub const PIECE: usize = 65_536;
+
+// The tokens of the two sockets that are no connection.
+const UDP: usize = usize::MAX;
+
+const LISTENER: usize = usize::MAX - 1;
+
+/// What a loop is told, and what it tells. Asked once a round.
+pub trait Ending {
+    /// All connections that are to be served were.
+    fn served(&self);
+
+    /// A loop could not begin: its sockets could not be waited for.
+    fn fail(&self);
+
+    /// Returns true if the loop is to end.
+    fn is_over(&self) -> bool;
+}
+
+/// A node's loop: its sockets, its clients and its links.
+pub struct NodeLoop<'a, L: Tapes, H, P: Port> {
+    pub(crate) rt: &'a H,
+    pub(crate) alloc: Global,
+    pub(crate) mail: Mail<'a, L, H, P>,
+    pub(crate) nodes: u8,
+    pub(crate) options: LoopOptions,
+    pub(crate) listener: TcpListener,
+    pub(crate) clock: LoopClock,
+    pub(crate) now: u64,
+    pub(crate) next_tick: u64,
+    pub(crate) links: Vec<Link>,
+    pub(crate) connections: Slab<Connection>,
+    pub(crate) listed: Vec<usize>,
+    pub(crate) parked: Parked,
+    // Bytes read, replies made and groups of items that came in one call.
+    pub(crate) space: Vec<u8>,
+    pub(crate) out: Vec<u8>,
+    pub(crate) came: Vec<Addr>,
+    // Something may wait for other nodes.
+    pub(crate) is_dirty: bool,
+    pub(crate) has_packets: bool,
+    pub(crate) has_clients: bool,
+    pub(crate) accepted: u64,
+    pub(crate) turned_away: u64,
+    pub(crate) open: u64,
+    pub(crate) is_served: bool,
+}
+
+// A link to each node of a cluster.
+fn new_links(alloc: Global, nodes: u8) -> Result<Vec<Link>, OutOfMemory> {
+    let mut links = Vec::new(alloc);
+    for _ in 0..nodes {
+        links.push(Link::new())?;
+    }
+    Ok(links)
+}
+
+/// What a loop stands on besides its node: the number of its port at the system, and who listens for clients.
+#[derive(Drop)]
+pub struct LoopSockets {
+    pub fd: RawFd,
+    pub listener: TcpListener,
+}
+
+impl<'a, L: Tapes, H: Wait + Clock, P: Port> NodeLoop<'a, L, H, P> {
+    // A loop that has not begun. Without memory the node's parts are given back.
+    fn new(
+        rt: &'a H,
+        alloc: Global,
+        mail: Mail<'a, L, H, P>,
+        nodes: u8,
+        options: LoopOptions,
+        listener: TcpListener,
+    ) -> Result<NodeLoop<'a, L, H, P>, Mail<'a, L, H, P>>
+        ensures made { IfOk result (λ made. made.mail.origin ≡ mail.entry.origin) }
+        ensures back { IfErr result (λ back. back.origin ≡ mail.entry.origin) }
+    {
+        let Ok(space) = Vec::from_elem(alloc, 0u8, PIECE) else {
+            return Err(mail);
+        };
+        let Ok(links) = new_links(alloc, nodes) else {
+            return Err(mail);
+        };
+        Ok(NodeLoop {
+            rt,
+            alloc,
+            mail,
+            nodes,
+            options,
+            listener,
+            clock: LoopClock::new(rt),
+            now: 0,
+            next_tick: options.tick,
+            links,
+            connections: Slab::new(alloc),
+            listed: Vec::new(alloc),
+            parked: Parked::new(alloc),
+            space,
+            out: Vec::new(alloc),
+            came: Vec::new(alloc),
+            is_dirty: false,
+            has_packets: true,
+            has_clients: true,
+            accepted: 0,
+            turned_away: 0,
+            open: 0,
+            is_served: false,
+        })
+    }
+
+    // Registers the sockets.
+    fn begin<N: Net>(&mut self, net: &N, fd: RawFd) -> io::Result<(Poll, Events)>
+        ensures origin { self.new.mail.origin ≡ self.old.mail.origin }
+    {
+        let poll = Poll::new(net)?;
+        let events = Events::with_capacity(self.alloc, 1_024)?;
+        poll.registry()
+            .register(&mut SourceFd(&fd), Token(UDP), Interest::READABLE)?;
+        poll.registry()
+            .register(&mut self.listener, Token(LISTENER), Interest::READABLE)?;
+        Ok((poll, events))
+    }
+
+    // Notes that the system told something of a connection.
+    fn hear(&mut self, key: usize, event: &Event)
+        ensures origin { self.new.mail.origin ≡ self.old.mail.origin }
+    {
+        if let Some(connection) = self.connections.get_mut(key) {
+            let is_closed = event.is_read_closed() || event.is_error();
+            if event.is_readable() || is_closed {
+                connection.is_drained = false;
+            }
+            if is_closed {
+                connection.is_read_closed = true;
+            }
+        }
+        self.list(key);
+    }
+
+    // Notes what the system told.
+    fn hear_all(&mut self, events: &Events)
+        ensures origin { self.new.mail.origin ≡ self.old.mail.origin }
+    {
+        'events: for event in events.iter() {
+            match event.token().0 {
+                UDP => self.has_packets = true,
+                LISTENER => self.has_clients = true,
+                key => self.hear(key, event),
+            }
+        }
+    }
+
+    // Does what there is to do.
+    fn work(&mut self, poll: &Poll)
+        ensures origin { self.new.mail.origin ≡ self.old.mail.origin }
+    {
+        if self.has_packets {
+            self.receive();
+        }
+        if self.has_clients {
+            self.accept(poll);
+        }
+        self.look_all();
+        if self.next_tick <= self.now {
+            self.tick();
+        }
+        if self.mail.is_touched {
+            self.wake_touched();
+        }
+        if self.is_dirty {
+            self.pack_all();
+        }
+        self.keep_links();
+    }
+
+    // One round: waits, and does what there is to do.
+    fn round<E: Ending>(&mut self, poll: &mut Poll, events: &mut Events, ending: &E)
+        ensures origin { self.new.mail.origin ≡ self.old.mail.origin }
+    {
+        let millis = self.patience().saturating_add(999) / 1_000;
+        let _ = poll.poll(events, Some(Duration::from_millis(millis)));
+        self.now = self.clock.now(self.rt);
+        self.hear_all(events);
+        self.work(poll);
+        let most = self.options.sessions;
+        if most > 0 && self.accepted >= most && self.open == 0 && !self.is_served {
+            self.is_served = true;
+            ending.served();
+        }
+    }
+
+    // Runs until the end is told.
+    fn run<N: Net, E: Ending>(&mut self, net: &N, fd: RawFd, ending: &E)
+        ensures origin { self.new.mail.origin ≡ self.old.mail.origin }
+    {
+        let Ok((mut poll, mut events)) = self.begin(net, fd) else {
+            ending.fail();
+            return;
+        };
+        'rounds: for _ in self.rt.forever() {
+            if ending.is_over() {
+                break;
+            }
+            self.round(&mut poll, &mut events, ending);
+        }
+        self.finish();
+    }
+
+    // Gives up the loop for its node's parts.
+    fn into_parts(self) -> Parts<L, P>
+        ensures node { result.node ≡ self.entry.mail.origin.node }
+        ensures here { ∥ HasCalled result.node self.entry.mail.origin.seat.value.calls result.seat.calls ∥₁ }
+        ensures mailed { ∥ HasMailed P.sends P.receives result.lost self.entry.mail.origin.port.value result.port self.entry.mail.origin.seat.value.calls result.seat.calls ∥₁ }
+    {
+        let NodeLoop {
+            rt: _,
+            alloc: _,
+            mail,
+            nodes: _,
+            options: _,
+            listener: _,
+            clock: _,
+            now: _,
+            next_tick: _,
+            links: _,
+            connections: _,
+            listed: _,
+            parked: _,
+            space: _,
+            out: _,
+            came: _,
+            is_dirty: _,
+            has_packets: _,
+            has_clients: _,
+            accepted: _,
+            turned_away: _,
+            open: _,
+            is_served: _,
+        } = self;
+        mail.into_parts()
+    }
+}
+
+/// Runs the loop of a node until its end is told: carries the packets of its port, answers the clients of its listener, and makes
+/// its time tick. Gives node, seat and port back. Each call of the seat is one at the node; what travelled at the port is what
+/// these calls say.
+pub fn run_loop<L: Tapes, H: Wait + Clock, N: Net, P: Port, E: Ending>(
+    rt: &H,
+    net: &N,
+    alloc: Global,
+    host: &Host<L>,
+    seat: Seat<L>,
+    node: NodeId,
+    port: P,
+    sockets: LoopSockets,
+    options: LoopOptions,
+    ending: &E,
+) -> Parts<L, P>
+    ensures node { result.node ≡ node }
+    ensures here { ∥ HasCalled node seat.calls result.seat.calls ∥₁ }
+    ensures mailed { ∥ HasMailed P.sends P.receives result.lost port result.port seat.calls result.seat.calls ∥₁ }
+{
+    let LoopSockets { fd, listener } = sockets;
+    let nodes = host.plan().cluster.nodes;
+    let mail = Mail::new(rt, host, alloc, node, seat, port);
+    match NodeLoop::new(rt, alloc, mail, nodes, options, listener) {
+        Ok(made) => {
+            let mut node_loop = made;
+            node_loop.run(net, fd, ending);
+            node_loop.into_parts()
+        }
+        Err(mail) => {
+            ending.fail();
+            mail.into_parts()
+        }
+    }
+}

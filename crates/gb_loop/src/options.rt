@@ -1,0 +1,20 @@
+//! How a loop behaves.
+
+/// How a loop behaves: times in microseconds.
+#[derive(Clone, Copy)]
+pub struct LoopOptions {
+    /// Between two ticks.
+    pub tick: u64,
+    /// After so long without anything sent to a node an acknowledgement is sent, so that it hears this one.
+    pub beat: u64,
+    /// After so long without a byte a connection that asked something is closed; 0: never.
+    pub idle: u64,
+    /// After so long without a byte a connection that asked nothing yet is closed.
+    pub first: u64,
+    /// How many connections are served in all; 0: for ever.
+    pub sessions: u64,
+    /// How many connections are served at once. One more is closed when it is accepted.
+    pub connections: u64,
+    /// How many messages a connection may ask.
+    pub requests: u64,
+}

@@ -1,0 +1,429 @@
+//! The clients of a loop.
+ghost use Rattle.std.specs.Prelude.{◌≡◌};
+
+use crate::client::{Turn, Way};
+use crate::connection::Connection;
+use crate::node_loop::NodeLoop;
+use gb_host::names::Tapes;
+use gb_node::answer::{NodeAnswer, Ticked};
+use gb_node::event::NodeEvent;
+use gb_port::port::Port;
+use gb_session::ask::Awaited;
+use gb_session::session::Step;
+use gb_types::address::Addr;
+use mio::net::TcpStream;
+use mio::{Interest, Poll, Token};
+use std::alloc::Global;
+use std::sync::Wait;
+use std::time::Clock;
+
+/// How many connections a round accepts at most.
+pub const ACCEPTS: usize = 64;
+
+/// The bytes of replies that a turn makes before they are written.
+pub const ROOM: usize = 65_536;
+
+// A turn that reads, one that looks again at what came before, one that answers the message in front as late, and the last turn.
+const READS: Way = Way {
+    reads: true,
+    is_late: false,
+    room: ROOM,
+};
+
+const AGAIN: Way = Way {
+    reads: false,
+    is_late: false,
+    room: ROOM,
+};
+
+const LATE: Way = Way {
+    reads: false,
+    is_late: true,
+    room: 1,
+};
+
+const LAST: Way = Way {
+    reads: false,
+    is_late: true,
+    room: ROOM,
+};
+
+// Returns true if an answer tells of nodes that are noticed from now on, or that the node stopped.
+fn has_news(answer: Option<NodeAnswer>) -> bool {
+    let Some(answer) = answer else {
+        return false;
+    };
+    let NodeAnswer::Ticked(ticked) = answer else {
+        return false;
+    };
+    match ticked {
+        Ticked::Noticed(noticed) => !noticed.is_empty(),
+        Ticked::Refused(_) => true,
+    }
+}
+
+// Returns the groups of the places, or None if there is no memory.
+fn groups_of(alloc: Global, awaited: &Awaited) -> Option<Vec<Addr>> {
+    let mut groups = Vec::new(alloc);
+    for place in &awaited.places {
+        if groups.push(place.address).is_err() {
+            return None;
+        }
+    }
+    Some(groups)
+}
+
+impl<'a, L: Tapes, H: Wait + Clock, P: Port> NodeLoop<'a, L, H, P> {
+    // Lists a connection to be looked at in this round.
+    pub(crate) fn list(&mut self, key: usize)
+        ensures origin { self.new.mail.origin ≡ self.old.mail.origin }
+    {
+        let Some(connection) = self.connections.get_mut(key) else {
+            return;
+        };
+        if !connection.is_listed && self.listed.push(key).is_ok() {
+            connection.is_listed = true;
+        }
+    }
+
+    // Closes a connection.
+    fn close(&mut self, key: usize)
+        ensures origin { self.new.mail.origin ≡ self.old.mail.origin }
+    {
+        self.unpark(key);
+        if let Some(connection) = self.connections.try_remove(key) {
+            drop(connection);
+            self.open = self.open.saturating_sub(1);
+        }
+    }
+
+    // Accepts connections that wait, `ACCEPTS` at most.
+    pub(crate) fn accept(&mut self, poll: &Poll)
+        ensures origin { self.new.mail.origin ≡ self.old.mail.origin }
+    {
+        'accepts: for _ in 0..ACCEPTS {
+            let most = self.options.sessions;
+            if most > 0 && self.accepted >= most {
+                self.has_clients = false;
+                return;
+            }
+            match self.listener.accept() {
+                Ok((stream, _)) => self.admit(poll, stream),
+                // None waits; or the system has no room for one, and is asked again at a tick.
+                Err(_) => {
+                    self.has_clients = false;
+                    return;
+                }
+            }
+        }
+    }
+
+    // Takes a connection in, or closes it if there are as many as are allowed.
+    fn admit(&mut self, poll: &Poll, stream: TcpStream)
+        ensures origin { self.new.mail.origin ≡ self.old.mail.origin }
+    {
+        if self.open >= self.options.connections {
+            drop(stream);
+            self.turned_away = self.turned_away.saturating_add(1);
+            return;
+        }
+        let _ = stream.set_nodelay(true);
+        let connection = Connection::new(self.alloc, stream, self.options.requests, self.now);
+        self.accepted = self.accepted.saturating_add(1);
+        if let Ok(key) = self.connections.insert(connection) {
+            self.open = self.open.saturating_add(1);
+            self.join(poll, key);
+        }
+    }
+
+    // Registers a new connection, and lists it.
+    fn join(&mut self, poll: &Poll, key: usize)
+        ensures origin { self.new.mail.origin ≡ self.old.mail.origin }
+    {
+        let is_in = match self.connections.get_mut(key) {
+            Some(connection) => poll
+                .registry()
+                .register(
+                    &mut connection.stream,
+                    Token(key),
+                    Interest::READABLE | Interest::WRITABLE,
+                )
+                .is_ok(),
+            None => return,
+        };
+        if is_in {
+            self.list(key);
+        } else {
+            self.close(key);
+        }
+    }
+
+    // Makes a turn of a connection. Returns None if there is no such connection.
+    fn turn(&mut self, key: usize, way: Way) -> Option<Turn>
+        ensures origin { self.new.mail.origin ≡ self.old.mail.origin }
+    {
+        let NodeLoop {
+            alloc,
+            mail,
+            connections,
+            space,
+            out,
+            ..
+        } = self;
+        let connection = connections.get_mut(key)?;
+        let (mut reader, mut writer) = (&connection.stream, &connection.stream);
+        let turn = connection.client.turn(
+            *alloc,
+            mail,
+            &mut reader,
+            &mut writer,
+            way,
+            space.as_mut_slice(),
+            out,
+        );
+        Some(turn)
+    }
+
+    // Makes a turn of a connection, and notes what came of it. Returns true if there may be more to do at once.
+    fn look(&mut self, key: usize, way: Way) -> bool
+        ensures origin { self.new.mail.origin ≡ self.old.mail.origin }
+    {
+        let is_more = match self.turn(key, way) {
+            None => false,
+            Some(Turn::Blocked) => false,
+            Some(Turn::Dry) => {
+                self.drain(key);
+                false
+            }
+            Some(Turn::Again) => true,
+            Some(Turn::Closed) | Some(Turn::Failed) => {
+                self.close(key);
+                false
+            }
+            Some(Turn::Took(step, count)) => self.note(key, step, way.reads, count),
+        };
+        self.is_dirty = self.is_dirty || self.mail.is_touched;
+        is_more
+    }
+
+    // The system has no more bytes of a connection for now.
+    fn drain(&mut self, key: usize)
+        ensures origin { self.new.mail.origin ≡ self.old.mail.origin }
+    {
+        if let Some(connection) = self.connections.get_mut(key) {
+            connection.is_drained = true;
+        }
+    }
+
+    // Notes that a connection did something in this round: `count` bytes came, if it read.
+    fn move_on(&mut self, key: usize, step: &Step, reads: bool, count: usize)
+        ensures origin { self.new.mail.origin ≡ self.old.mail.origin }
+    {
+        let has_answered = !self.out.is_empty();
+        let size = self.space.len();
+        let now = self.now;
+        let Some(connection) = self.connections.get_mut(key) else {
+            return;
+        };
+        if count > 0 || has_answered {
+            connection.moved_at = now;
+        }
+        if reads && count < size && !connection.is_read_closed {
+            connection.is_drained = true;
+        }
+        let is_parked = matches!(step, Step::Parked(_));
+        connection.has_asked = connection.has_asked || has_answered || is_parked;
+        connection.is_full = matches!(step, Step::Full);
+        if !is_parked {
+            connection.parked_until = None;
+        }
+    }
+
+    // Notes what a turn came to. Returns true if there may be more to do at once.
+    fn note(&mut self, key: usize, step: Step, reads: bool, count: usize) -> bool
+        ensures origin { self.new.mail.origin ≡ self.old.mail.origin }
+    {
+        self.move_on(key, &step, reads, count);
+        if let Step::Parked(awaited) = step {
+            self.park(key, &awaited);
+            return false;
+        }
+        let Some(connection) = self.connections.get_mut(key) else {
+            return false;
+        };
+        if !connection.client.unsent.is_empty() {
+            return false;
+        }
+        if connection.client.is_over {
+            self.close(key);
+            return false;
+        }
+        connection.is_full || !connection.is_drained
+    }
+
+    // Lets a connection wait for the groups that its next message names. Without memory it is closed.
+    fn park(&mut self, key: usize, awaited: &Awaited)
+        ensures origin { self.new.mail.origin ≡ self.old.mail.origin }
+    {
+        let until = self
+            .now
+            .saturating_add(u64::from(awaited.wait).saturating_mul(1_000));
+        let Some(groups) = groups_of(self.alloc, awaited) else {
+            self.close(key);
+            return;
+        };
+        let mut is_in = true;
+        'groups: for group in &groups {
+            is_in = self.parked.add(*group, key) && is_in;
+        }
+        if let Some(connection) = self.connections.get_mut(key) {
+            connection.parked = Some(groups);
+            connection.parked_until = Some(connection.parked_until.unwrap_or(until));
+        }
+        if !is_in {
+            self.close(key);
+        }
+    }
+
+    // A connection waits no longer. Returns true if it did.
+    fn unpark(&mut self, key: usize) -> bool
+        ensures origin { self.new.mail.origin ≡ self.old.mail.origin }
+    {
+        let Some(connection) = self.connections.get_mut(key) else {
+            return false;
+        };
+        let Some(groups) = std::mem::replace(&mut connection.parked, None) else {
+            return false;
+        };
+        'groups: for group in &groups {
+            self.parked.remove(*group, key);
+        }
+        true
+    }
+
+    // Tries the message of a connection that waits again.
+    fn try_again(&mut self, key: usize, way: Way)
+        ensures origin { self.new.mail.origin ≡ self.old.mail.origin }
+    {
+        if self.unpark(key) {
+            let _ = self.look(key, way);
+            self.list(key);
+        }
+    }
+
+    // Tries all that wait for a group again.
+    fn wake(&mut self, address: Addr)
+        ensures origin { self.new.mail.origin ≡ self.old.mail.origin }
+    {
+        let keys = self.parked.waiting(address);
+        'keys: for key in &keys {
+            self.try_again(*key, AGAIN);
+        }
+    }
+
+    // Tries those again that wait for groups of the items that came.
+    pub(crate) fn wake_came(&mut self)
+        ensures origin { self.new.mail.origin ≡ self.old.mail.origin }
+    {
+        let came = std::mem::replace(&mut self.came, Vec::new(self.alloc));
+        'groups: for address in &came {
+            self.wake(*address);
+        }
+        self.came = came;
+    }
+
+    // Tries those again that wait for groups that requests changed.
+    pub(crate) fn wake_touched(&mut self)
+        ensures origin { self.new.mail.origin ≡ self.old.mail.origin }
+    {
+        if self.parked.is_empty() {
+            self.mail.forget_touched();
+            return;
+        }
+        let touched = self.mail.take_touched(self.alloc);
+        'groups: for address in &touched {
+            self.wake(*address);
+        }
+    }
+
+    // Looks at a listed connection. Returns true if there may be more to do at once.
+    fn look_once(&mut self, key: usize) -> bool
+        ensures origin { self.new.mail.origin ≡ self.old.mail.origin }
+    {
+        let Some(connection) = self.connections.get_mut(key) else {
+            return false;
+        };
+        connection.is_listed = false;
+        let waits = !connection.client.unsent.is_empty();
+        let is_parked = connection.parked.is_some();
+        let reads = !is_parked && !connection.is_full && !connection.is_drained;
+        if !(reads || waits || connection.is_full && !is_parked) {
+            return false;
+        }
+        let _ = self.unpark(key);
+        self.look(key, if reads { READS } else { AGAIN })
+    }
+
+    // Looks at each listed connection once.
+    pub(crate) fn look_all(&mut self)
+        ensures origin { self.new.mail.origin ≡ self.old.mail.origin }
+    {
+        let listed = std::mem::replace(&mut self.listed, Vec::new(self.alloc));
+        'keys: for key in &listed {
+            if self.look_once(*key) {
+                self.list(*key);
+            }
+            if self.mail.is_touched {
+                self.wake_touched();
+            }
+        }
+    }
+
+    // A tick: time passes at the node, clients that waited long enough are answered, and those that were idle too long leave.
+    pub(crate) fn tick(&mut self)
+        ensures origin { self.new.mail.origin ≡ self.old.mail.origin }
+    {
+        self.next_tick = self.now.saturating_add(self.options.tick);
+        self.has_clients = true;
+        let answer = self.mail.tick();
+        let has_news = has_news(answer);
+        self.is_dirty = self.is_dirty || has_news;
+        'keys: for key in 0..self.connections.capacity() {
+            self.check(key, has_news);
+        }
+    }
+
+    // Looks at a connection at a tick.
+    fn check(&mut self, key: usize, has_news: bool)
+        ensures origin { self.new.mail.origin ≡ self.old.mail.origin }
+    {
+        let Some(connection) = self.connections.get(key) else {
+            return;
+        };
+        if connection.parked.is_none() {
+            if connection.is_stale(self.now, self.options.first, self.options.idle) {
+                self.close(key);
+            }
+            return;
+        }
+        match connection.parked_until {
+            Some(until) if until > self.now => {
+                if has_news {
+                    self.try_again(key, AGAIN);
+                }
+            }
+            _ => self.try_again(key, LATE),
+        }
+    }
+
+    // The last turn of each connection: those that wait are answered as late, and what is whole is answered. Then it is closed.
+    pub(crate) fn finish(&mut self)
+        ensures origin { self.new.mail.origin ≡ self.old.mail.origin }
+    {
+        'keys: for key in 0..self.connections.capacity() {
+            let _ = self.unpark(key);
+            let _ = self.turn(key, LAST);
+            self.close(key);
+        }
+    }
+}

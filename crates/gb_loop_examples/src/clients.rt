@@ -1,0 +1,161 @@
+// What the clients of these tests share: a server's lines, connections, and requests with their tokens.
+ghost use Rattle.std.specs.Prelude.{◌≤◌, vec_len, IfOk};
+ghost use Rattle.gb_session.specs.declared.grammar.TheConstants.{BODY};
+
+use gb_client::awaiting::await_text;
+use gb_client::exchange::{receive, send};
+use gb_client::fault::ClientFault;
+use gb_client::secrets::Secrets;
+use gb_client::task::{Asked, request_of};
+use gb_server::serve_main::serve_main;
+use gb_session::head::Head;
+use gb_types::node::NodeId;
+use std::alloc::Global;
+use std::net::{Ipv4Addr, Net, SocketAddr, SocketAddrV4, TcpListener, TcpStream};
+use std::sync::Wait;
+use std::thread;
+use std::thread::Threads;
+use std::time::{Clock, Duration, Instant};
+
+/// The keys of the servers here: the cluster's, 32 bytes 11, and the administrator's, 32 bytes 22.
+static KEYS: &[u8] =
+    b"1111111111111111111111111111111111111111111111111111111111111111\n2222222222222222222222222222222222222222222222222222222222222222\n";
+
+/// A request of a group of a tenant that is not there, whose token no node gave out.
+pub static OPEN: &[u8] =
+    b"\x00\x00\x00\x49open 0000000000000000000000000000000000000000000000000000000000000000 7 1";
+
+/// How a running node answers it.
+pub static DENIED: &[u8] = b"\x00\x00\x00\x10refused 1 Denied";
+
+// What the members know: the administrator's key, which the server reads in its second line, and the tenant's.
+const SECRETS: Secrets = Secrets {
+    admin: Some([0x22; 32]),
+    tenant: Some([0x33; 32]),
+    token: None,
+};
+
+/// Whether a server with these words serves, and ends well with these lines.
+pub fn serves<H: Net<Listener = TcpListener, Stream = TcpStream> + Threads + Wait + Clock + Sync>(
+    rt: &H,
+    alloc: Global,
+    words: &[&str],
+    lines: &[u8],
+) -> bool {
+    let mut reader = KEYS;
+    let mut found = Vec::new(alloc);
+    let status = serve_main(rt, alloc, words, &mut reader, &mut found);
+    status == 0 && found.as_slice() == lines
+}
+
+/// A port of this machine.
+pub fn address(port: u16) -> SocketAddr {
+    SocketAddr::V4(SocketAddrV4::new(Ipv4Addr::LOCALHOST, port))
+}
+
+/// A connection to a port of this machine, as soon as somebody listens there; ten seconds are waited for that, and for each read.
+pub fn connect<H: Net<Stream = TcpStream> + Clock>(rt: &H, port: u16) -> Option<TcpStream> {
+    for _ in 0..1_000 {
+        if let Ok(stream) = TcpStream::connect(rt, address(port)) {
+            let _ = stream.set_nodelay(true);
+            let _ = stream.set_read_timeout(Some(Duration::from_secs(10)));
+            return Some(stream);
+        }
+        thread::sleep(rt, Duration::from_millis(10));
+    }
+    None
+}
+
+/// A member: its node, and its connection to it.
+#[derive(Drop)]
+pub struct Member {
+    node: NodeId,
+    stream: TcpStream,
+}
+
+/// A member of a server with this base port.
+pub fn joined<H: Net<Stream = TcpStream> + Clock>(
+    rt: &H,
+    base_port: u16,
+    node: NodeId,
+) -> Result<Member, ClientFault> {
+    let port = base_port
+        .saturating_add(64)
+        .saturating_add(u16::from(node.number));
+    match connect(rt, port) {
+        Some(stream) => Ok(Member { node, stream }),
+        None => Err(ClientFault::Connection),
+    }
+}
+
+// The request that is asked at a node by these words, which are those that gb_ctl takes.
+fn body_of(alloc: Global, node: NodeId, head: Head, line: &str) -> Result<Vec<u8>, ClientFault>
+    ensures { IfOk result (λ body. vec_len body ≤ BODY) }
+{
+    let asked = Asked {
+        head,
+        words: line.split(' ').collect(alloc)?,
+        is_text: true,
+    };
+    request_of(alloc, &SECRETS, node, &asked)
+}
+
+/// The reply of a member's node to a request, whose words are those that gb_ctl takes.
+pub fn reply(
+    alloc: Global,
+    member: &mut Member,
+    head: Head,
+    line: &str,
+) -> Result<Vec<u8>, ClientFault> {
+    let body = body_of(alloc, member.node, head, line)?;
+    send(&mut member.stream, &body)?;
+    receive(alloc, &mut member.stream)
+}
+
+/// Whether a member's node gives these replies.
+pub fn gives(
+    alloc: Global,
+    member: &mut Member,
+    table: &[(Head, &str, &str)],
+) -> Result<bool, ClientFault> {
+    for (head, line, want) in table {
+        let found = reply(alloc, member, *head, line)?;
+        if found.as_slice() != want.as_bytes() {
+            return Ok(false);
+        }
+    }
+    Ok(true)
+}
+
+// The body of fetches that wait, at the places of these lines.
+fn wait_of(alloc: Global, node: NodeId, lines: &[&str], wait: u32) -> Result<Vec<u8>, ClientFault>
+    ensures { IfOk result (λ body. vec_len body ≤ BODY) }
+{
+    let mut fetches = Vec::from_slice(alloc, b"fetch")?;
+    for line in lines {
+        let fetch = body_of(alloc, node, Head::Fetch, line)?;
+        fetches.extend_from_slice(fetch.strip_prefix(b"fetch".as_slice()).unwrap_or(b""))?;
+    }
+    await_text(alloc, &fetches, wait)
+}
+
+/// The reply of a member's node to fetches that wait for at most `wait` milliseconds, at the places of these lines, whose words are
+/// those that gb_ctl takes for a fetch; and how many milliseconds it took.
+pub fn waits<H: Clock>(
+    rt: &H,
+    alloc: Global,
+    member: &mut Member,
+    lines: &[&str],
+    wait: u32,
+) -> Result<(u128, Vec<u8>), ClientFault> {
+    let body = wait_of(alloc, member.node, lines, wait)?;
+    let Ok(begun) = Instant::now(rt) else {
+        return Err(ClientFault::Connection);
+    };
+    send(&mut member.stream, &body)?;
+    let text = receive(alloc, &mut member.stream)?;
+    match begun.elapsed(rt) {
+        Ok(took) => Ok((took.as_millis(), text)),
+        Err(_) => Err(ClientFault::Connection),
+    }
+}

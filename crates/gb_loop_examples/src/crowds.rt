@@ -1,0 +1,201 @@
+// Many clients of one node at once, whatever some of them do.
+use crate::clients::{DENIED, OPEN, address, connect, serves};
+use std::alloc::Global;
+use std::io::{Read, Write};
+use std::net::{Net, TcpListener, TcpStream, UdpSocket};
+use std::rt::HostRuntime;
+use std::thread;
+use std::time::{Clock, Duration};
+
+// Connections to a port, on which nothing is sent.
+fn idle_ones<H: Net<Stream = TcpStream> + Clock>(
+    rt: &H,
+    alloc: Global,
+    port: u16,
+    count: usize,
+) -> Vec<TcpStream> {
+    let mut streams = Vec::new(alloc);
+    for _ in 0..count {
+        if let Some(stream) = connect(rt, port) {
+            let _ = streams.push(stream);
+        }
+    }
+    streams
+}
+
+// Asks so often on one connection, one at a time. Returns how many replies were right.
+fn ask_often<H: Net<Stream = TcpStream> + Clock>(rt: &H, port: u16, count: u32) -> u32 {
+    let Some(mut stream) = connect(rt, port) else {
+        return 0;
+    };
+    let mut right = 0u32;
+    let mut reply = [0u8; 20];
+    for _ in 0..count {
+        if stream.write_all(OPEN).is_err() || stream.read_exact(&mut reply).is_err() {
+            return right;
+        }
+        if reply.as_slice() == DENIED {
+            right = right.saturating_add(1);
+        }
+    }
+    right
+}
+
+// Sends requests without ever reading, until the system takes no more of them for a while. Returns the connection.
+fn flood_requests<H: Net<Stream = TcpStream> + Clock>(rt: &H, port: u16) -> Option<TcpStream> {
+    let mut stream = connect(rt, port)?;
+    let _ = stream.set_write_timeout(Some(Duration::from_millis(200)));
+    for _ in 0..1_000_000u32 {
+        if stream.write_all(OPEN).is_err() {
+            return Some(stream);
+        }
+    }
+    None
+}
+
+static MANY: [&str; 7] = [
+    "gb_serve",
+    "--nodes",
+    "1",
+    "--base-port",
+    "44000",
+    "--sessions",
+    "102",
+];
+
+// What a busy client is told beside 100 that are idle and one that never reads.
+fn busy_beside_others<H: Net<Stream = TcpStream> + Clock>(
+    rt: &H,
+    alloc: Global,
+) -> (usize, bool, u32) {
+    let idle = idle_ones(rt, alloc, 44_064, 100);
+    let deaf = flood_requests(rt, 44_064);
+    let right = ask_often(rt, 44_064, 1_000);
+    (idle.len(), deaf.is_some(), right)
+}
+
+#[test]
+fn idle_and_deaf_clients_hold_up_nobody(rt: HostRuntime) {
+    let alloc = rt.alloc();
+    let (is_served, (idle, is_deaf, right)) = thread::join(
+        &rt,
+        || serves(
+            &rt,
+            alloc,
+            &MANY,
+            b"serving 1 nodes from port 44000\nclosed\n",
+        ),
+        || busy_beside_others(&rt, alloc),
+    );
+    assert!(rt; is_served && idle == 100 && is_deaf && right == 1_000);
+}
+
+static SLOW: [&str; 7] = [
+    "gb_serve",
+    "--nodes",
+    "1",
+    "--base-port",
+    "44200",
+    "--sessions",
+    "1",
+];
+
+// Sends so many requests, and then reads so many bytes of their replies at a time. Returns how many bytes were right.
+fn read_slowly<H: Net<Stream = TcpStream> + Clock>(
+    rt: &H,
+    port: u16,
+    requests: u32,
+    piece: usize,
+) -> usize {
+    let Some(mut stream) = connect(rt, port) else {
+        return 0;
+    };
+    for _ in 0..requests {
+        if stream.write_all(OPEN).is_err() {
+            return 0;
+        }
+    }
+    count_right(&mut stream, requests as usize * 20, piece)
+}
+
+// Reads so many bytes, a piece at a time. Returns how many stand where they do in replies.
+fn count_right(stream: &mut TcpStream, total: usize, piece: usize) -> usize {
+    let mut space = [0u8; 1_000];
+    let piece = piece.min(space.len());
+    let mut at = 0usize;
+    for _ in 0..total {
+        let Ok(count) = stream.read(&mut space[..piece]) else {
+            return at;
+        };
+        for byte in &space[..count.min(piece)] {
+            if *byte != DENIED[at % 20] {
+                return at;
+            }
+            at = at.saturating_add(1);
+        }
+        if at >= total {
+            return at;
+        }
+    }
+    at
+}
+
+#[test]
+fn a_slow_reader_gets_every_reply_in_order(rt: HostRuntime) {
+    let alloc = rt.alloc();
+    let (is_served, right) = thread::join(
+        &rt,
+        || serves(
+            &rt,
+            alloc,
+            &SLOW,
+            b"serving 1 nodes from port 44200\nclosed\n",
+        ),
+        || read_slowly(&rt, 44_264, 20_000, 777),
+    );
+    assert!(rt; is_served && right == 400_000);
+}
+
+static FLOODED: [&str; 7] = [
+    "gb_serve",
+    "--nodes",
+    "1",
+    "--base-port",
+    "44300",
+    "--sessions",
+    "1",
+];
+
+// Sends datagrams that are no packets to a port. Returns how many the system took.
+fn flood_packets<H: Net>(rt: &H, port: u16, count: u32) -> u32 {
+    let Ok(socket) = UdpSocket::bind(rt, address(0)) else {
+        return 0;
+    };
+    let mut taken = 0u32;
+    for _ in 0..count {
+        if socket.send_to(b"no packet", address(port)).is_ok() {
+            taken = taken.saturating_add(1);
+        }
+    }
+    taken
+}
+
+#[test]
+fn a_flood_of_datagrams_starves_no_request(rt: HostRuntime) {
+    let alloc = rt.alloc();
+    let (is_served, (right, taken)) = thread::join(
+        &rt,
+        || serves(
+            &rt,
+            alloc,
+            &FLOODED,
+            b"serving 1 nodes from port 44300\nclosed\n",
+        ),
+        || thread::join(
+            &rt,
+            || ask_often(&rt, 44_364, 2_000),
+            || flood_packets(&rt, 44_300, 50_000),
+        ),
+    );
+    assert!(rt; is_served && right == 2_000 && taken > 0);
+}
