@@ -29,7 +29,7 @@ pub struct Way {
     pub reads: bool,
     /// An `await` that finds nothing is answered as late.
     pub is_late: bool,
-    /// No message is answered once there are so many bytes of replies.
+    /// The limit, in bytes, of replies that wait: a message is answered below it alone.
     pub room: usize,
 }
 

@@ -100,7 +100,7 @@ static SLOW: [&str; 7] = [
     "1",
 ];
 
-// Sends so many requests, and then reads so many bytes of their replies at a time. Returns how many bytes were right.
+// Sends a number of requests, and then reads their replies a number of bytes at a time. Returns how many bytes were right.
 fn read_slowly<H: Net<Stream = TcpStream> + Clock>(
     rt: &H,
     port: u16,
@@ -118,7 +118,7 @@ fn read_slowly<H: Net<Stream = TcpStream> + Clock>(
     count_right(&mut stream, requests as usize * 20, piece)
 }
 
-// Reads so many bytes, a piece at a time. Returns how many stand where they do in replies.
+// Reads a number of bytes, a piece at a time. Returns how many stand where they do in replies.
 fn count_right(stream: &mut TcpStream, total: usize, piece: usize) -> usize {
     let mut space = [0u8; 1_000];
     let piece = piece.min(space.len());

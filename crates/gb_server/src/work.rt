@@ -14,10 +14,7 @@ use std::sync::Wait;
 use std::time::Clock;
 
 /// Runs the loop of a node until the server is over.
-pub fn run_node<
-    L: Tapes,
-    H: Net<Listener = TcpListener, Stream = TcpStream> + Wait + Clock,
->(
+pub fn run_node<L: Tapes, H: Net<Listener = TcpListener, Stream = TcpStream> + Wait + Clock>(
     rt: &H,
     alloc: Global,
     host: &Host<L>,
