@@ -57,7 +57,7 @@ const WAIT: u32 = 30_000;
 
 const PATIENCE: u64 = 10;
 
-// A connection to a node on which a reply may take so many seconds.
+// A connection to a node, on which a reply may take this number of seconds.
 fn connect(rt: &HostRuntime, port: u16, seconds: u64) -> Result<TcpStream, ClientFault> {
     let address = SocketAddr::V4(SocketAddrV4::new(Ipv4Addr::LOCALHOST, port));
     let Ok(stream) = TcpStream::connect(rt, address) else {

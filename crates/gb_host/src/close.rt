@@ -45,7 +45,7 @@ fn by_number<L: Tapes>(
     Ok(lists)
 }
 
-// This number of empty lists, of which none was given.
+// This number of empty lists. None of them was given.
 fn blanks(alloc: Global, count: u32) -> Result<(Vec<CallList>, Vec<bool>), HostFault>
     ensures len { IfOk result (λ r. (vec_len r.0 ≡ count) × (vec_len r.1 ≡ count)) }
     ensures blank { IfOk result (λ r. (s : ℕ) → list_at r.0.items s ≡ []) }

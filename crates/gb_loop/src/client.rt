@@ -44,7 +44,7 @@ pub enum Turn {
     Again,
     /// The peer sends no more, or the session has ended.
     Closed,
-    /// So many bytes were read and answered.
+    /// This number of bytes was read and answered.
     Took(Step, usize),
     /// The stream failed, or there was no memory: the client is over.
     Failed,

@@ -58,7 +58,7 @@ impl Link {
         self.sent_at = now;
     }
 
-    /// So many frames are acknowledged newly.
+    /// This number of frames is acknowledged newly.
     pub fn done(&mut self, count: u64, now: u64) {
         if count > 0 {
             self.open = self.open.saturating_sub(count);

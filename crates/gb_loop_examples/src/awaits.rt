@@ -60,7 +60,7 @@ fn enter<H: Net<Stream = TcpStream> + Clock>(
     })
 }
 
-// Whether a client that waits at these places is told this, after so many milliseconds at least and at most; a fifth of a second
+// Whether a client that waits at these places is told this, after a least and a most number of milliseconds; a fifth of a second
 // after it began another one asks this.
 fn is_woken<H: Clock + Threads + Sync>(
     rt: &H,

@@ -12,7 +12,7 @@ pub struct Signals {
 }
 
 impl Signals {
-    /// A server that has not begun, of so many nodes.
+    /// A server that has not begun, with this number of nodes.
     pub fn new(nodes: u64) -> Signals {
         Signals {
             left: AtomicU64::new(nodes),
