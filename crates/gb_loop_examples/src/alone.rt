@@ -235,7 +235,7 @@ fn a_node_that_never_runs_is_noticed_in_time(rt: HostRuntime) {
         is_told(
             &rt,
             rt.alloc(),
-            47_000,
+            27_000,
             Deed::Nothing,
             b"log 1 0:1:6869",
             3_000
@@ -249,7 +249,7 @@ fn a_wait_ends_when_its_node_stops(rt: HostRuntime) {
         is_told(
             &rt,
             rt.alloc(),
-            47_200,
+            27_200,
             Deed::Stop,
             b"refused 15 Stopped",
             5_000
@@ -259,5 +259,5 @@ fn a_wait_ends_when_its_node_stops(rt: HostRuntime) {
 
 #[test]
 fn a_wait_ends_when_the_end_is_told(rt: HostRuntime) {
-    assert!(rt; is_told(&rt, rt.alloc(), 47_400, Deed::End, b"log 0", 5_000));
+    assert!(rt; is_told(&rt, rt.alloc(), 27_400, Deed::End, b"log 0", 5_000));
 }

@@ -13,7 +13,7 @@ use std::time::{Clock, Duration};
 static WORDS: [&str; 7] = [
     "gb_serve",
     "--nodes=2",
-    "--base-port=45000",
+    "--base-port=25000",
     "--sessions",
     "2",
     "--tick",
@@ -43,10 +43,10 @@ fn enter<H: Net<Stream = TcpStream> + Clock>(
     rt: &H,
     alloc: Global,
 ) -> Result<Clients, ClientFault> {
-    let mut first = joined(rt, 45_000, NodeId::new(0))?;
-    let second = joined(rt, 45_000, NodeId::new(0))?;
-    let mut third = joined(rt, 45_000, NodeId::new(1))?;
-    let fourth = joined(rt, 45_000, NodeId::new(1))?;
+    let mut first = joined(rt, 25_000, NodeId::new(0))?;
+    let second = joined(rt, 25_000, NodeId::new(0))?;
+    let mut third = joined(rt, 25_000, NodeId::new(1))?;
+    let fourth = joined(rt, 25_000, NodeId::new(1))?;
     let is_first_ready = gives(alloc, &mut first, &PREPARATIONS)?;
     let is_third_ready = gives(alloc, &mut third, &PREPARATIONS)?;
     if !is_first_ready || !is_third_ready {
@@ -166,7 +166,7 @@ fn waits_end_when_they_should(rt: HostRuntime) {
             &rt,
             alloc,
             &WORDS,
-            b"serving 2 nodes from port 45000\nclosed\n",
+            b"serving 2 nodes from port 25000\nclosed\n",
         ),
         || all_wait(&rt, alloc),
     );

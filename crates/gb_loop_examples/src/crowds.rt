@@ -58,7 +58,7 @@ static MANY: [&str; 7] = [
     "--nodes",
     "1",
     "--base-port",
-    "44000",
+    "24000",
     "--sessions",
     "102",
 ];
@@ -68,9 +68,9 @@ fn busy_beside_others<H: Net<Stream = TcpStream> + Clock>(
     rt: &H,
     alloc: Global,
 ) -> (usize, bool, u32) {
-    let idle = idle_ones(rt, alloc, 44_064, 100);
-    let deaf = flood_requests(rt, 44_064);
-    let right = ask_often(rt, 44_064, 1_000);
+    let idle = idle_ones(rt, alloc, 24_064, 100);
+    let deaf = flood_requests(rt, 24_064);
+    let right = ask_often(rt, 24_064, 1_000);
     (idle.len(), deaf.is_some(), right)
 }
 
@@ -83,7 +83,7 @@ fn idle_and_deaf_clients_hold_up_nobody(rt: HostRuntime) {
             &rt,
             alloc,
             &MANY,
-            b"serving 1 nodes from port 44000\nclosed\n",
+            b"serving 1 nodes from port 24000\nclosed\n",
         ),
         || busy_beside_others(&rt, alloc),
     );
@@ -95,7 +95,7 @@ static SLOW: [&str; 7] = [
     "--nodes",
     "1",
     "--base-port",
-    "44200",
+    "24200",
     "--sessions",
     "1",
 ];
@@ -149,9 +149,9 @@ fn a_slow_reader_gets_every_reply_in_order(rt: HostRuntime) {
             &rt,
             alloc,
             &SLOW,
-            b"serving 1 nodes from port 44200\nclosed\n",
+            b"serving 1 nodes from port 24200\nclosed\n",
         ),
-        || read_slowly(&rt, 44_264, 20_000, 777),
+        || read_slowly(&rt, 24_264, 20_000, 777),
     );
     assert!(rt; is_served && right == 400_000);
 }
@@ -161,7 +161,7 @@ static FLOODED: [&str; 7] = [
     "--nodes",
     "1",
     "--base-port",
-    "44300",
+    "24300",
     "--sessions",
     "1",
 ];
@@ -189,12 +189,12 @@ fn a_flood_of_datagrams_starves_no_request(rt: HostRuntime) {
             &rt,
             alloc,
             &FLOODED,
-            b"serving 1 nodes from port 44300\nclosed\n",
+            b"serving 1 nodes from port 24300\nclosed\n",
         ),
         || thread::join(
             &rt,
-            || ask_often(&rt, 44_364, 2_000),
-            || flood_packets(&rt, 44_300, 50_000),
+            || ask_often(&rt, 24_364, 2_000),
+            || flood_packets(&rt, 24_300, 50_000),
         ),
     );
     assert!(rt; is_served && right == 2_000 && taken > 0);

@@ -64,7 +64,7 @@ fn is_turned_away<H: Net<Stream = TcpStream> + Clock>(rt: &H, alloc: Global, por
 static TWO_AT_ONCE: [&str; 6] = [
     "gb_serve",
     "--nodes=1",
-    "--base-port=46000",
+    "--base-port=26000",
     "--sessions=3",
     "--connections",
     "2",
@@ -79,9 +79,9 @@ fn one_more_connection_is_closed(rt: HostRuntime) {
             &rt,
             alloc,
             &TWO_AT_ONCE,
-            b"serving 1 nodes from port 46000\nclosed\n",
+            b"serving 1 nodes from port 26000\nclosed\n",
         ),
-        || is_turned_away(&rt, alloc, 46_064),
+        || is_turned_away(&rt, alloc, 26_064),
     );
     assert!(rt; is_served && is_closed);
 }
@@ -89,7 +89,7 @@ fn one_more_connection_is_closed(rt: HostRuntime) {
 static SHORT: [&str; 8] = [
     "gb_serve",
     "--nodes=1",
-    "--base-port=46100",
+    "--base-port=26100",
     "--sessions=2",
     "--idle",
     "1",
@@ -107,17 +107,17 @@ fn silence_and_many_requests_end_a_connection(rt: HostRuntime) {
             &rt,
             alloc,
             &SHORT,
-            b"serving 1 nodes from port 46100\nclosed\n",
+            b"serving 1 nodes from port 26100\nclosed\n",
         ),
         || {
             let three = [OPEN, OPEN, OPEN];
             let two = [DENIED, DENIED];
-            let is_idle = is_closed_after(&rt, alloc, 46_164, OPEN, DENIED);
+            let is_idle = is_closed_after(&rt, alloc, 26_164, OPEN, DENIED);
             let asked = joined(alloc, &three);
             let replies = joined(alloc, &two);
             (
                 is_idle,
-                is_closed_after(&rt, alloc, 46_164, &asked, &replies),
+                is_closed_after(&rt, alloc, 26_164, &asked, &replies),
             )
         },
     );

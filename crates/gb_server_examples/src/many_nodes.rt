@@ -18,7 +18,7 @@ static WORDS: [&str; 9] = [
     "--version",
     "2",
     "--base-port",
-    "43000",
+    "29000",
     "--sessions",
     "1",
 ];
@@ -51,8 +51,8 @@ fn is_heard<H: Net<Stream = TcpStream> + Clock>(
     rt: &H,
     alloc: Global,
 ) -> Result<bool, ClientFault> {
-    let mut first = joined(rt, 43_000, NodeId::new(0))?;
-    let mut last = joined(rt, 43_000, NodeId::new(31))?;
+    let mut first = joined(rt, 29_000, NodeId::new(0))?;
+    let mut last = joined(rt, 29_000, NodeId::new(31))?;
     let is_first_ready = gives(alloc, &mut first, &PREPARATIONS)?;
     let is_last_ready = gives(alloc, &mut last, &PREPARATIONS)?;
     let is_said = gives(alloc, &mut last, &SAY)?;
@@ -63,7 +63,7 @@ fn is_heard<H: Net<Stream = TcpStream> + Clock>(
 fn ask_others<H: Net<Stream = TcpStream> + Clock>(rt: &H, alloc: Global) -> u16 {
     let mut count: u16 = 0;
     for node in 1..31 {
-        if is_told(rt, alloc, 43_064 + node, OPEN, DENIED) {
+        if is_told(rt, alloc, 29_064 + node, OPEN, DENIED) {
             count = count.saturating_add(1);
         }
     }
@@ -81,7 +81,7 @@ fn thirty_two_nodes_are_served(rt: HostRuntime) {
             &WORDS,
             KEYS,
             0,
-            b"serving 32 nodes from port 43000\nclosed\n",
+            b"serving 32 nodes from port 29000\nclosed\n",
         ),
         || (
             is_heard(&rt, alloc).unwrap_or(false),

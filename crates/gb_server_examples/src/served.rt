@@ -59,7 +59,7 @@ static KEYLESS: [&str; 7] = [
     "--nodes",
     "2",
     "--base-port",
-    "42600",
+    "28600",
     "--sessions",
     "1",
 ];
@@ -69,7 +69,7 @@ static TOO_MANY: [&str; 7] = [
     "--nodes",
     "17",
     "--base-port",
-    "42600",
+    "28600",
     "--version",
     "1",
 ];
@@ -88,7 +88,7 @@ static TWO_NODES: [&str; 7] = [
     "--nodes",
     "2",
     "--base-port",
-    "42000",
+    "28000",
     "--sessions",
     "1",
 ];
@@ -105,12 +105,12 @@ fn two_nodes_are_served(rt: HostRuntime) {
             &TWO_NODES,
             KEYS,
             0,
-            b"serving 2 nodes from port 42000\nclosed\n",
+            b"serving 2 nodes from port 28000\nclosed\n",
         ),
         || thread::join(
             &rt,
-            || is_told(&rt, alloc, 42_064, OPEN, DENIED),
-            || is_told(&rt, alloc, 42_065, b"", b""),
+            || is_told(&rt, alloc, 28_064, OPEN, DENIED),
+            || is_told(&rt, alloc, 28_065, b"", b""),
         ),
     );
     assert!(rt; is_served && first && second);
@@ -129,7 +129,7 @@ static WITH_TAPES: [&str; 8] = [
     "--nodes",
     "2",
     "--base-port",
-    "42750",
+    "28750",
     "--sessions",
     "1",
 ];
@@ -140,7 +140,7 @@ fn merges<H: Net<Listener = TcpListener, Stream = TcpStream> + Threads + Wait + 
     alloc: Global,
 ) -> bool {
     let (status, lines) = printed(rt, alloc, &WITH_TAPES, KEYS);
-    let count = merged(&lines, b"serving 2 nodes from port 42750\n");
+    let count = merged(&lines, b"serving 2 nodes from port 28750\n");
     status == 0 && count.unwrap_or(0) > 2
 }
 
@@ -153,8 +153,8 @@ fn what_was_done_is_merged(rt: HostRuntime) {
         || merges(&rt, alloc),
         || thread::join(
             &rt,
-            || is_told(&rt, alloc, 42_814, OPEN, DENIED),
-            || is_told(&rt, alloc, 42_815, OPEN, DENIED),
+            || is_told(&rt, alloc, 28_814, OPEN, DENIED),
+            || is_told(&rt, alloc, 28_815, OPEN, DENIED),
         ),
     );
     assert!(rt; are_merged && first && second);
@@ -177,7 +177,7 @@ static ONE_NODE: [&str; 7] = [
     "--nodes",
     "1",
     "--base-port",
-    "42300",
+    "28300",
     "--sessions",
     "6",
 ];
@@ -194,9 +194,9 @@ fn bad_clients_end_their_own_sessions(rt: HostRuntime) {
             &ONE_NODE,
             KEYS,
             0,
-            b"serving 1 nodes from port 42300\nclosed\n",
+            b"serving 1 nodes from port 28300\nclosed\n",
         ),
-        || bad_clients(&rt, alloc, 42_364),
+        || bad_clients(&rt, alloc, 28_364),
     );
     assert!(rt; is_served && are_right);
 }
@@ -206,7 +206,7 @@ static BOUND: [&str; 7] = [
     "--nodes",
     "2",
     "--base-port",
-    "42450",
+    "28450",
     "--sessions",
     "1",
 ];
@@ -225,9 +225,9 @@ fn is_free<H: Net<Listener = TcpListener, Stream = TcpStream>>(
 // A port that is bound already is told. Then no socket is left: all ports can be bound.
 #[test]
 fn bound_ports_are_told(rt: HostRuntime) {
-    let holder = UdpSocket::bind(&rt, address(42_451)).expect(&rt, "a socket");
+    let holder = UdpSocket::bind(&rt, address(28_451)).expect(&rt, "a socket");
     let is_refused = prints(&rt, rt.alloc(), &BOUND, KEYS, 1, b"host fault 3\n");
     drop(holder);
-    let (first, second) = (is_free(&rt, 42_450, 42_514), is_free(&rt, 42_451, 42_515));
+    let (first, second) = (is_free(&rt, 28_450, 28_514), is_free(&rt, 28_451, 28_515));
     assert!(rt; is_refused && first && second);
 }

@@ -54,7 +54,7 @@ fn a_version_bounds_what_is_said(rt: HostRuntime) {
             "gb_serve",
             "--nodes=1",
             version,
-            "--base-port=43200",
+            "--base-port=29200",
             "--sessions=1",
         ];
         let (is_served, is_answered) = thread::join(
@@ -65,9 +65,9 @@ fn a_version_bounds_what_is_said(rt: HostRuntime) {
                 &words,
                 KEYS,
                 0,
-                b"serving 1 nodes from port 43200\nclosed\n",
+                b"serving 1 nodes from port 29200\nclosed\n",
             ),
-            || is_answered(&rt, alloc, 43_200, *bytes, want).unwrap_or(false),
+            || is_answered(&rt, alloc, 29_200, *bytes, want).unwrap_or(false),
         );
         assert!(rt; is_served && is_answered, "{version}, {bytes} bytes");
     }
