@@ -1,9 +1,7 @@
-//! Worked uses of a node's loop, as tests: servers with many clients at once on sockets of this machine, and loops whose other
-//! node never runs, stops, or whose end is told. There is nothing here but tests.
+//! Worked uses of a node's loop, as tests: servers with many clients at once on sockets of this machine. There is nothing here but
+//! tests.
 #![tactic(auto)]
 
-#[cfg(test)]
-mod alone;
 #[cfg(test)]
 mod awaits;
 #[cfg(test)]
