@@ -28,7 +28,7 @@ fn is_stopped(answer: &NodeAnswer) -> bool
     }
 }
 
-// Whether a fault of the host is want of memory.
+// Whether a fault of the host is lack of memory.
 fn is_memory(fault: &HostFault) -> bool
     ensures { MatchBool result (fault.now ≡ HostFault.OutOfMemory) (fault.now ≢ HostFault.OutOfMemory) }
 {

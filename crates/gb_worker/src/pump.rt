@@ -331,7 +331,7 @@ fn make_turn<L: Tapes, H: Wait, P: Port>(
 /// the turn's number, an again of the lowest frame that is not acknowledged; where a good packet of that node came in this
 /// turn or 16 divides its number, an ack. What each gives is handed to the port at once; what the port does not take is lost.
 /// False at the gate ends the pump, and so does the answer Stopped, of which there is one at most, and a fault of the host other
-/// than want of memory; an event for which there was no memory did not happen, and is counted, and a packet that was to be its
+/// than lack of memory; an event for which there was no memory did not happen, and is counted, and a packet that was to be its
 /// event is lost. None is counted where the host keeps no tapes.
 pub fn pump<L: Tapes, H: Wait, P: Port, G: Gate>(
     rt: &H,

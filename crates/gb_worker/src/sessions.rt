@@ -28,7 +28,7 @@ pub struct Stream<R, W> {
 pub type Ending = Result<SessionEnd, SessionFault>;
 
 /// Holds a session with each client, all at once, each in a thread of its own, from a seat and by a gate of its own. Gives how
-/// each ended, in the order of the clients; or, once all have ended, want of memory for that. Where no thread can be made the
+/// each ended, in the order of the clients; or, once all have ended, lack of memory for that. Where no thread can be made the
 /// sessions are held one after the other.
 pub fn sessions<
     L: Tapes + Send + Sync,

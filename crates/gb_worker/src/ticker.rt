@@ -38,7 +38,7 @@ fn tick<L: Tapes, H: Wait>(
 }
 
 /// Makes this number of turns. Each passes the gate and then makes a tick at each node that is here, rising; a node that has
-/// stopped is asked too. False at the gate ends the ticker, and so does a fault of the host other than want of memory, which is
+/// stopped is asked too. False at the gate ends the ticker, and so does a fault of the host other than lack of memory, which is
 /// that the seat called a node 2^64 - 1 times; a tick for which there was no memory did not happen, and is counted. None is
 /// counted where the host keeps no tapes.
 pub fn ticker<L: Tapes, H: Wait, G: Gate>(
