@@ -1,0 +1,377 @@
+"""A client of one node, over one connection."""
+
+from __future__ import annotations
+
+import time
+from types import TracebackType
+from typing import Dict, Generic, Iterator, List, Optional, Sequence, Tuple, Type, TypeVar, Union
+
+from .errors import FoqradeshError
+from .link import Link, Sent
+from .operations import Answer, Operation, Operations, Place, Step
+from .replies import Entry, GroupRow, Listing, Log
+from .tokens import Secrets, secrets_of
+from .words import MOST_ENTRIES, MOST_ROWS, Spec, check_address
+
+T = TypeVar("T")
+
+FOLLOW_WAIT = 30.0
+"""How long a follower waits in the server at a time, in seconds."""
+
+
+def wait_until(end: Optional[float]) -> float:
+    """Return how long a follower waits that ends at a time of the monotonic clock, or never."""
+    return FOLLOW_WAIT if end is None else min(FOLLOW_WAIT, max(0.0, end - time.monotonic()))
+
+
+def node_address(base_port: int, node: int, host: str = "127.0.0.1") -> Tuple[str, int]:
+    """Return where a node is asked: its host, and the server's base port + 64 + the node."""
+    return host, base_port + 64 + node
+
+
+class Ticket(Generic[T]):
+    """A request that was sent ahead, and its result."""
+
+    def __init__(self, link: Link, operation: Operation[T]) -> None:
+        """Begins the operation: sends its first request.
+
+        Wrong arguments raise here, before anything is sent.
+        """
+        self._link = link
+        self._operation = operation
+        self._step: Optional[Step] = None
+        self._sent: Optional[Sent] = None
+        self._result: Optional[Tuple[T]] = None
+        self._error: Optional[FoqradeshError] = None
+        self._advance(None)
+        self._send()
+
+    def is_done(self) -> bool:
+        """Return True if the result is there: `result` will not wait."""
+        return self._result is not None or self._error is not None
+
+    def result(self) -> T:
+        """Return the result, or raise what the word of this name of `Client` would.
+
+        Waits until it is there.
+        """
+        while not self.is_done():
+            self._send()
+            if self._sent is not None:
+                self._link.settle(self._sent)
+        if self._error is not None:
+            raise self._error
+        assert self._result is not None
+        return self._result[0]
+
+    def _send(self) -> None:
+        if self._step is not None:
+            step, self._step = self._step, None
+            self._sent = Sent(step, self._advance)
+            self._link.put(self._sent)
+
+    def _advance(self, outcome: Union[Answer, FoqradeshError, None]) -> None:
+        """Go on with the operation. Its next request is sent when the result is asked for."""
+        try:
+            if outcome is None:
+                self._step = next(self._operation)
+            elif isinstance(outcome, Answer):
+                self._step = self._operation.send(outcome)
+            else:
+                self._step = self._operation.throw(outcome)
+        except StopIteration as end:
+            self._result = (end.value,)
+        except FoqradeshError as error:
+            self._error = error
+
+
+class Pipeline:
+    """Requests that are sent ahead of their replies.
+
+    Each word returns a ticket for what the client's word returns. The server does them in turn,
+    and answers them in turn. Leaving the context takes all replies, and raises nothing for those
+    that were refused: ask each ticket for its `result`, within the context or after it.
+
+    **Says.** A say in a group whose next number the client does not know waits for its own reply.
+    All others are sent ahead with numbers that follow one another. So if one of them is refused,
+    those behind it are refused BadPlace, and are not said: what was said of them is a front part,
+    in order, as long as no other client speaks for the member.
+    """
+
+    def __init__(self, operations: Operations, link: Link) -> None:
+        """Makes a pipeline of a client."""
+        self._operations = operations
+        self._link = link
+        self._tickets: List[Ticket[object]] = []
+
+    def __enter__(self) -> Pipeline:
+        """Begin."""
+        return self
+
+    def __exit__(
+        self,
+        kind: Optional[Type[BaseException]],
+        error: Optional[BaseException],
+        trace: Optional[TracebackType],
+    ) -> None:
+        """Take all replies."""
+        self.settle()
+
+    def settle(self) -> None:
+        """Take all replies to what was sent until now."""
+        tickets, self._tickets = self._tickets, []
+        for ticket in tickets:
+            try:
+                ticket.result()
+            except FoqradeshError:
+                pass  # The ticket keeps it.
+
+    def _start(self, operation: Operation[T]) -> Ticket[T]:
+        ticket = Ticket(self._link, operation)
+        self._tickets.append(ticket)  # type: ignore[arg-type]
+        return ticket
+
+    def tenant(
+        self, tenant: int, key: bytes, groups: int, messages: int, bytes: int, window: int
+    ) -> Ticket[None]:
+        """Take a tenant in, as `Client.tenant`."""
+        return self._start(self._operations.tenant(tenant, key, groups, messages, bytes, window))
+
+    def make(self, tenant: int, group: int, spec: Spec) -> Ticket[None]:
+        """Make a group, as `Client.make`."""
+        return self._start(self._operations.make(tenant, group, spec))
+
+    def open(self, tenant: int, group: int) -> Ticket[None]:
+        """Open a group, as `Client.open`."""
+        return self._start(self._operations.open(tenant, group))
+
+    def shut(self, tenant: int, group: int) -> Ticket[None]:
+        """Shut a group, as `Client.shut`."""
+        return self._start(self._operations.shut(tenant, group))
+
+    def drop(self, tenant: int, group: int) -> Ticket[None]:
+        """Drop a group, as `Client.drop`."""
+        return self._start(self._operations.drop(tenant, group))
+
+    def say(
+        self,
+        tenant: int,
+        group: int,
+        payload: bytes,
+        *,
+        number: Optional[int] = None,
+        repeated: bool = False,
+    ) -> Ticket[int]:
+        """Say a message, as `Client.say`. BadPlace is raised also if no number was given."""
+        if number is None and self._operations.numbers.next((tenant, group)) is None:
+            self.settle()
+        is_learned = number is None and self._operations.numbers.next((tenant, group)) is None
+        ticket = self._start(self._operations.say(tenant, group, payload, number, repeated, False))
+        if is_learned:
+            self.settle()
+        return ticket
+
+    def fetch(
+        self, tenant: int, group: int, place: int = 0, most: int = MOST_ENTRIES
+    ) -> Ticket[Tuple[Entry, ...]]:
+        """Fetch entries of a log, as `Client.fetch`."""
+        return self._start(self._operations.fetch(tenant, group, place, most))
+
+
+class Client:
+    """A client of one node, for one thread at a time.
+
+    Its connection is opened at the first request, serves all of them, and is opened again when it
+    ended. What only reads (`fetch`, `wait`, `status`, `list`) and a say with a number are then
+    sent again. The others are not: where such a request may have been done it raises
+    ConnectionFailed or TimedOut, with `is_unknown` True.
+
+    Each word raises the refusal that it was answered (`Refused` and its classes),
+    ConnectionFailed, TimedOut, BadReply, or MissingToken if the client has no token for it.
+    """
+
+    def __init__(
+        self, address: Tuple[str, int], secrets: Union[Secrets, str], *, time_limit: float = 10.0
+    ) -> None:
+        """Makes a client. Nothing is sent yet.
+
+        `address` is the host and the port of the node's sessions (`node_address` makes it).
+        `secrets` are `Keys` or `Tokens`, or a single token, as text, for all that is asked.
+        `time_limit` is how long a reply may take, in seconds.
+        """
+        self.operations = Operations(secrets_of(secrets), time_limit, time.monotonic)
+        self._link = Link(check_address(address))
+
+    def __enter__(self) -> Client:
+        """Return the client."""
+        return self
+
+    def __exit__(
+        self,
+        kind: Optional[Type[BaseException]],
+        error: Optional[BaseException],
+        trace: Optional[TracebackType],
+    ) -> None:
+        """Close the connection."""
+        self.close()
+
+    def close(self) -> None:
+        """Close the connection. A later request opens another one."""
+        self._link.close()
+
+    def run(self, operation: Operation[T]) -> T:
+        """Run an operation to its end, and return its result."""
+        return Ticket(self._link, operation).result()
+
+    def tenant(
+        self, tenant: int, key: bytes, groups: int, messages: int, bytes: int, window: int
+    ) -> None:
+        """Have the node take a tenant in, with its key and its reserve.
+
+        Needs the administrator's token. The tenant may make `groups` groups (1 to 256). In each of
+        them a member may say at most `messages` messages (1 to 1,024) of `bytes` bytes in all (0
+        to 65,536), and have `window` of them unfinished at once (1 to 1,024).
+        """
+        self.run(self.operations.tenant(tenant, key, groups, messages, bytes, window))
+
+    def make(self, tenant: int, group: int, spec: Spec) -> None:
+        """Make a group at this node.
+
+        Make it at every member's node before it is opened at any: `Group` does.
+        """
+        self.run(self.operations.make(tenant, group, spec))
+
+    def open(self, tenant: int, group: int) -> None:
+        """Open a group at this node, so that its member may say messages."""
+        self.run(self.operations.open(tenant, group))
+
+    def shut(self, tenant: int, group: int) -> None:
+        """Shut an open group at this node: its member says nothing more. Its log grows still."""
+        self.run(self.operations.shut(tenant, group))
+
+    def drop(self, tenant: int, group: int) -> None:
+        """Drop a group at this node for good, with its log."""
+        self.run(self.operations.drop(tenant, group))
+
+    def say(
+        self,
+        tenant: int,
+        group: int,
+        payload: bytes,
+        *,
+        number: Optional[int] = None,
+        repeated: bool = False,
+    ) -> int:
+        """Say a message in a group, and return its number.
+
+        A member's messages in a group are numbered from 1. A message carries its payload and
+        nothing else, also no time. Its number goes with the say wherever the client knows it, so
+        that the say can be sent again when its answer was lost: a number is given to one message
+        only.
+
+        The client knows a group's next number if it opened the group, if it has said something
+        there, by `set_number`, or if `number` is given. Else the say goes without a number, is
+        sent once, and teaches the next one.
+
+        What is certain:
+
+        - What is returned is the number of a message with this payload, which stands. It is this
+          say's own, unless a say was repeated (by the client after a lost connection, or with
+          `repeated`) and another client of the same member had said the very same bytes with this
+          number. Put something into the payload that tells clients apart if several speak for one
+          member.
+        - Where a refusal is raised the message was not said, and will not be.
+        - BadPlace to a say that was sent once means that it was not said: its number is not the
+          next one. Where the number was the client's own belief it says the message again,
+          without a number; where `number` was given it raises BadPlace.
+        - BadPlace to a say that was repeated: the member's own message with that number is looked
+          for in its log, for as long as the time limit, since some groups show it only when it is
+          delivered. With the same payload it is taken as this one; with another one this say was
+          not done, which is BadPlace again. If it is not found, or the node's number is not known
+          (`Tokens` without `node`), UnknownOutcome is raised, and so it is for each other refusal
+          after which a message may have been said.
+        - ConnectionFailed, TimedOut, BadReply and UnknownOutcome with `is_unknown`: the message
+          may or may not be said, once at most. If their `number` is not None, `say` with this
+          number and `repeated=True` goes on where it ended, also in another client. Of a say
+          without a number only the log can tell.
+
+        Numbers are one node's, as long as its server runs: a server that was started anew has none
+        of its messages. A payload of more than 4,096 bytes raises TooLong and is not sent.
+        """
+        return self.run(self.operations.say(tenant, group, payload, number, repeated, True))
+
+    def set_number(self, tenant: int, group: int, number: int) -> None:
+        """Know the member's next number in a group: the next say comes with it."""
+        self.operations.set_number(tenant, group, number)
+
+    def next_number(self, tenant: int, group: int) -> Optional[int]:
+        """Return the number of the next say in a group, or None if it is not known."""
+        return self.operations.numbers.next((tenant, group))
+
+    def fetch(
+        self, tenant: int, group: int, place: int = 0, most: int = MOST_ENTRIES
+    ) -> Tuple[Entry, ...]:
+        """Return at most `most` entries, up to 16, of a group's log, from a place on.
+
+        The first entry has place 0.
+        """
+        return self.run(self.operations.fetch(tenant, group, place, most))
+
+    def wait(
+        self, places: Sequence[Place], *, most: int = MOST_ENTRIES, seconds: float = FOLLOW_WAIT
+    ) -> Log:
+        """Wait in the server until one of some places has entries.
+
+        It waits at most `seconds`, 0 to 60. Each place, 1 to 16 of them, is a tenant, a group, and
+        the first place of its log that is wanted. They are looked at in turn. Returns the entries,
+        `most` at most, with the index of their place, or no entries.
+        """
+        return self.run(self.operations.wait(places, most, seconds))
+
+    def follow(
+        self, tenant: int, group: int, place: int = 0, *, idle: Optional[float] = None
+    ) -> Iterator[Entry]:
+        """Yield the entries of a log from a place on, each once and in order, as they come.
+
+        It waits in the server, and connects again where the connection ended. It ends when nothing
+        came for `idle` seconds, and never if that is None. Nothing is asked while the caller has
+        an entry in hand. A server that was started anew has other logs: follow it from the start.
+        """
+        end = None if idle is None else time.monotonic() + idle
+        while True:
+            seconds = wait_until(end)
+            entries = self.wait([(tenant, group, place)], seconds=seconds).entries
+            for entry in entries:
+                place += 1
+                yield entry
+            if entries and idle is not None:
+                end = time.monotonic() + idle
+            elif end is not None and time.monotonic() >= end:
+                return
+
+    def status(self) -> Dict[str, int]:
+        """Return the figures of the node, each by its name. Needs the administrator's token."""
+        return self.run(self.operations.status())
+
+    def list(self, start: int = 0, most: int = MOST_ROWS) -> Listing:
+        """Return how many groups were made at the node, and some of them.
+
+        These are at most `most`, up to 64, from `start` on. The groups come in the order of
+        making, and the first is 0. Needs the administrator's token.
+        """
+        return self.run(self.operations.list(start, most))
+
+    def groups(self) -> Tuple[GroupRow, ...]:
+        """Return all groups that were made at the node, in the order of making.
+
+        Needs the administrator's token.
+        """
+        return self.run(self.operations.groups())
+
+    def stop(self) -> None:
+        """Have the server end in order. Needs the administrator's token."""
+        self.run(self.operations.stop())
+
+    def pipeline(self) -> Pipeline:
+        """Return a context in which requests are sent ahead of their replies."""
+        return Pipeline(self.operations, self._link)

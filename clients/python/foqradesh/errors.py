@@ -1,0 +1,206 @@
+"""What can go wrong with a request, as exceptions."""
+
+from __future__ import annotations
+
+from typing import ClassVar, Dict, Optional, Tuple, Type
+
+
+class FoqradeshError(Exception):
+    """All exceptions of this package, except ValueError and TypeError for wrong arguments."""
+
+
+class MissingToken(FoqradeshError):
+    """The client was given neither the token that the request needs nor the key that makes it.
+
+    Nothing was sent.
+    """
+
+
+class Refused(FoqradeshError):
+    """The service refused a request. Nothing has changed by it.
+
+    Each refusal is a class of its own, with its number and its name. docs/FORMATS.md says when
+    each comes.
+    """
+
+    number: ClassVar[int] = 0
+    name: ClassVar[str] = ""
+
+    def __init__(self, message: Optional[str] = None) -> None:
+        """Makes the refusal, with its text as the message if none is given."""
+        super().__init__(message if message is not None else self.text())
+
+    @classmethod
+    def text(cls) -> str:
+        """Return the text of the reply, as `refused 1 Denied`."""
+        return f"refused {cls.number} {cls.name}"
+
+
+class Denied(Refused):
+    """The request has not the token that it needs, or the node has not taken the tenant in."""
+
+    number, name = 1, "Denied"
+
+
+class NoGroup(Refused):
+    """The node has not made the group.
+
+    At `make`: the group's number is not below the tenant's GROUPS.
+    """
+
+    number, name = 2, "NoGroup"
+
+
+class Spent(Refused):
+    """The node has dropped the group. At `make`: the node has made the group before."""
+
+    number, name = 3, "Spent"
+
+
+class BadMembers(Refused):
+    """The members are without this node, or beyond the cluster."""
+
+    number, name = 4, "BadMembers"
+
+
+class OverReserve(Refused):
+    """More is asked than the tenant has or the service gives, or 0 where more is needed."""
+
+    number, name = 5, "OverReserve"
+
+
+class WrongPhase(Refused):
+    """A say before `open` or after `shut`, a second `open`, or `shut` of one that is not open."""
+
+    number, name = 6, "WrongPhase"
+
+
+class TooLong(Refused):
+    """The payload has more than 1,024 bytes in version 1, or 4,096 bytes in version 2."""
+
+    number, name = 7, "TooLong"
+
+
+class Budget(Refused):
+    """The member has said as many messages in the group as the group allows it."""
+
+    number, name = 8, "Budget"
+
+
+class BytesSpent(Refused):
+    """With this payload the member would have said more bytes than the group allows it."""
+
+    number, name = 9, "Bytes"
+
+
+class Window(Refused):
+    """As many messages of the member are unfinished as the group allows. It may be said later."""
+
+    number, name = 10, "Window"
+
+
+class BadPlace(Refused):
+    """At a say: its number is not the member's next.
+
+    At a fetch: the place is beyond the log, or too many are asked for.
+    """
+
+    number, name = 11, "BadPlace"
+
+
+class NoRoom(Refused):
+    """The node's tenants would have more than 1,024 groups in all."""
+
+    number, name = 12, "NoRoom"
+
+
+class TenantThere(Refused):
+    """The node has taken this tenant in before."""
+
+    number, name = 13, "TenantThere"
+
+
+class Malformed(Refused):
+    """The request is none that the server knows. The server ends the connection then."""
+
+    number, name = 14, "Malformed"
+
+
+class Stopped(Refused):
+    """The node has stopped."""
+
+    number, name = 15, "Stopped"
+
+
+class OutOfMemory(Refused):
+    """The node was out of memory."""
+
+    number, name = 16, "OutOfMemory"
+
+
+REFUSALS: Tuple[Type[Refused], ...] = (
+    Denied,
+    NoGroup,
+    Spent,
+    BadMembers,
+    OverReserve,
+    WrongPhase,
+    TooLong,
+    Budget,
+    BytesSpent,
+    Window,
+    BadPlace,
+    NoRoom,
+    TenantThere,
+    Malformed,
+    Stopped,
+    OutOfMemory,
+)
+"""All refusals, by number."""
+
+REFUSAL_TEXTS: Dict[str, Type[Refused]] = {refusal.text(): refusal for refusal in REFUSALS}
+"""The refusal of each reply's text."""
+
+
+class Unanswered(FoqradeshError):
+    """A request got no answer that could be read.
+
+    `is_unknown` is True if the request may have been done, and False if it was certainly not sent
+    whole. `number` is the number that a say came with, or None. A say with a number may be said
+    again with `number` and `repeated=True`, also by another client, and is done once at most.
+    """
+
+    def __init__(self, message: str, *, is_unknown: bool, number: Optional[int] = None) -> None:
+        """Makes the exception."""
+        super().__init__(message)
+        self.is_unknown = is_unknown
+        self.number = number
+
+
+class ConnectionFailed(Unanswered):
+    """There is no connection, or it ended before the reply."""
+
+
+class TimedOut(Unanswered):
+    """The time limit passed before the reply."""
+
+
+class BadReply(Unanswered):
+    """What came is not the text of a reply to the request. The connection is closed then."""
+
+    def __init__(
+        self, message: str, *, is_unknown: bool = True, number: Optional[int] = None
+    ) -> None:
+        """Makes the exception."""
+        super().__init__(message, is_unknown=is_unknown, number=number)
+
+
+class UnknownOutcome(Unanswered):
+    """A request was answered, but the answer and the log do not tell whether it was done.
+
+    `__cause__` is the refusal of the repeated request, where there was one.
+    """
+
+    def __init__(self, message: str, *, number: Optional[int] = None) -> None:
+        """Makes the exception."""
+        super().__init__(message, is_unknown=True, number=number)

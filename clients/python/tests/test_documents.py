@@ -1,0 +1,102 @@
+"""The conversations of docs/CLIENTS.md, as they stand on the wire."""
+
+from __future__ import annotations
+
+import contextlib
+import io
+import pathlib
+import re
+import socket
+import struct
+import unittest
+from typing import List, Tuple
+
+from foqradesh import Entry, admin_token, member_token, tenant_token
+
+from .fake import ADMIN_KEY, TENANT_KEY, FakeNode, FakeServer
+from .serving import Serving, program
+
+CLIENTS = pathlib.Path(__file__).resolve().parents[3] / "docs" / "CLIENTS.md"
+PORT = 32_300
+NAMES = {
+    "ADMIN": admin_token(ADMIN_KEY),
+    "TENANT": tenant_token(TENANT_KEY, 7),
+    "MEMBER": member_token(TENANT_KEY, 7, 1, 0),
+    "KEY": TENANT_KEY.hex(),
+}
+
+Rows = List[Tuple[List[bytes], List[bytes]]]
+
+
+def messages(cell: str) -> List[bytes]:
+    """Return the messages of a table's cell. The lengths are those that stand there."""
+    found = []
+    for length, body in re.findall(r"`([0-9a-f]{8})` `([^`]*)`", cell):
+        words = [NAMES.get(word, word) for word in body.split(" ")]
+        found.append(bytes.fromhex(length) + " ".join(words).encode("ascii"))
+    return found
+
+
+def conversation(heading: str) -> Tuple[str, Rows]:
+    """Return the text of a section, and the rows of its table."""
+    text = CLIENTS.read_text(encoding="utf-8")
+    section = text.split(f"\n## {heading}\n")[1].split("\n## ")[0]
+    cells = re.findall(r"^\| (`.*) \| (`.*) \|$", section, re.MULTILINE)
+    return section, [(messages(sent), messages(received)) for sent, received in cells]
+
+
+@unittest.skipUnless(CLIENTS.exists(), "docs/CLIENTS.md is not there")
+class ConversationTests(unittest.TestCase):
+    """What is sent, and what comes back."""
+
+    def test_lengths(self) -> None:
+        for heading, count in (("A conversation as text", 9), ("A conversation in Python", 6)):
+            _, rows = conversation(heading)
+            self.assertEqual(len(rows), count)
+            for message in (it for row in rows for side in row for it in side):
+                self.assertEqual(message[:4], struct.pack(">I", len(message) - 4))
+
+    def play(self, address: Tuple[str, int]) -> None:
+        """Send the conversation as text, and compare what comes."""
+        with socket.create_connection(address, timeout=10) as connection:
+            for sent, received in conversation("A conversation as text")[1]:
+                connection.sendall(b"".join(sent))
+                wanted, found = b"".join(received), b""
+                while len(found) < len(wanted):
+                    piece = connection.recv(len(wanted) - len(found))
+                    self.assertTrue(piece)
+                    found += piece
+                self.assertEqual(found, wanted)
+
+    def run_code(self, port: int) -> None:
+        """Run the conversation in Python."""
+        section, _ = conversation("A conversation in Python")
+        (code,) = re.findall(r"```python\n(.*?)```", section, re.DOTALL)
+        self.assertEqual(code.count("42000"), 1)
+        printed = io.StringIO()
+        with contextlib.redirect_stdout(printed):
+            exec(compile(code.replace("42000", str(port)), str(CLIENTS), "exec"), {})
+        entries = [Entry(0, 1, b"hello"), Entry(0, 2, b"a"), Entry(0, 3, b"")]
+        self.assertEqual(printed.getvalue(), f"[2, 3]\n{entries}\n")
+
+    def test_text_at_a_fake_node(self) -> None:
+        with FakeServer(FakeNode().serve) as server:
+            self.play(server.address)
+
+    def test_python_at_a_fake_node(self) -> None:
+        with FakeServer(FakeNode().serve) as server:
+            self.run_code(server.address[1] - 64)
+            _, rows = conversation("A conversation in Python")
+            sent = [message[4:].decode("ascii") for row in rows for message in row[0]]
+            self.assertEqual(server.bodies, sent)
+
+    @unittest.skipIf(program() is None, "no gb_serve")
+    def test_at_a_server(self) -> None:
+        with Serving(PORT, nodes=1):
+            self.play(("127.0.0.1", PORT + 64))
+        with Serving(PORT, nodes=1):
+            self.run_code(PORT)
+
+
+if __name__ == "__main__":
+    unittest.main()

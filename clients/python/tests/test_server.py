@@ -1,0 +1,333 @@
+"""The clients against a gb_serve that the tests start, on ports from 31,000 to 32,300."""
+
+from __future__ import annotations
+
+import asyncio
+import random
+import sys
+import threading
+import time
+import unittest
+from typing import Callable, List, Tuple, Type
+
+from foqradesh import (
+    AsyncGroup,
+    BadMembers,
+    BadPlace,
+    Budget,
+    BytesSpent,
+    Client,
+    Denied,
+    Entry,
+    Group,
+    Malformed,
+    NoGroup,
+    NoRoom,
+    OverReserve,
+    Refused,
+    Spec,
+    Spent,
+    TenantThere,
+    Tokens,
+    TooLong,
+    Window,
+    WrongPhase,
+    member_token,
+)
+
+from .fake import TENANT_KEY, keys
+from .serving import Cutter, Serving, program
+
+PORT = 31_000
+ALL = (0, 1, 2)
+
+
+def setUpModule() -> None:
+    """Skip all of this where there is no server to start."""
+    if program() is None:
+        told = "no gb_serve: set GB_SERVE to its path, or build bin/gb_serve"
+        print(f"tests against a server are skipped: {told}", file=sys.stderr)
+        raise unittest.SkipTest(told)
+
+
+def started(server: Serving, spec: Spec, tenant: int = 7, group: int = 1) -> Group:
+    """Take the tenant in and start a group, and return it."""
+    clients = server.clients()
+    for client in clients.values():
+        client.tenant(tenant, TENANT_KEY, 4, 1024, 65_536, 1024)
+    made = Group(clients, tenant, group, spec)
+    made.start()
+    return made
+
+
+def hear(client: Client, count: int) -> List[Entry]:
+    """Return the entries of a log, when it has this many."""
+    heard: List[Entry] = []
+    for entry in client.follow(7, 1, idle=20):
+        heard.append(entry)
+        if len(heard) == count:
+            break
+    return heard + list(client.follow(7, 1, len(heard), idle=0.05))
+
+
+class ServerTests(unittest.TestCase):
+    """The blocking client."""
+
+    def test_chat(self) -> None:
+        for kind in ("beb", "flazy", "feager", "fallack", "fmajority"):
+            with self.subTest(kind=kind), Serving(PORT) as server:
+                started(server, Spec(kind, ALL, 100, 4096, 100))
+                clients = server.clients()
+                for node in ALL:
+                    self.assertEqual(clients[node].say(7, 1, f"I am {node}".encode()), 1)
+                    self.assertEqual(clients[node].say(7, 1, b""), 2)
+                logs = []
+                for node in ALL:
+                    follower = clients[node].follow(7, 1)
+                    logs.append([next(follower) for _ in range(6)])
+                    self.assertEqual(list(clients[node].follow(7, 1, 6, idle=0.05)), [])
+                wanted = [Entry(node, 1, f"I am {node}".encode()) for node in ALL]
+                wanted += [Entry(node, 2, b"") for node in ALL]
+                for log in logs:
+                    self.assertEqual(sorted(log, key=lambda it: (it.number, it.origin)), wanted)
+
+    def test_refusals(self) -> None:
+        with Serving(PORT + 100, nodes=2) as server:
+            client, spec = server.client(), Spec("beb", (0,), 4, 8, 2)
+            stranger = Client(("127.0.0.1", PORT + 164), "0" * 64)
+            client.tenant(7, TENANT_KEY, 4, 4, 8, 2)
+            for group in (1, 2, 3):
+                client.make(7, group, spec)
+            client.open(7, 1)
+            client.open(7, 2)
+            client.drop(7, 2)
+            self.assertEqual([client.say(7, 1, text) for text in (b"aaaa", b"bbb")], [1, 2])
+            rows: Tuple[Tuple[Type[Refused], Callable[[], object]], ...] = (
+                (Denied, lambda: stranger.fetch(7, 1)),
+                (Denied, lambda: stranger.tenant(8, TENANT_KEY, 1, 1, 1, 1)),
+                (NoGroup, lambda: client.open(7, 0)),
+                (NoGroup, lambda: client.make(7, 4, spec)),
+                (Spent, lambda: client.make(7, 1, spec)),
+                (Spent, lambda: client.fetch(7, 2)),
+                (BadMembers, lambda: client.make(7, 0, Spec("beb", (1,), 4, 8, 2))),
+                (BadMembers, lambda: client.make(7, 0, Spec("beb", (0, 2), 4, 8, 2))),
+                (OverReserve, lambda: client.make(7, 0, Spec("beb", (0,), 5, 8, 2))),
+                (OverReserve, lambda: client.tenant(8, TENANT_KEY, 257, 1, 1, 1)),
+                (WrongPhase, lambda: client.open(7, 1)),
+                (WrongPhase, lambda: client.say(7, 3, b"a")),
+                (TooLong, lambda: client.say(7, 1, bytes(4097))),
+                (BytesSpent, lambda: client.say(7, 1, b"cc")),
+                (BadPlace, lambda: client.fetch(7, 1, 3)),
+                (BadPlace, lambda: client.fetch(7, 1, 0, 17)),
+                (BadPlace, lambda: client.say(7, 1, b"", number=9)),
+                (TenantThere, lambda: client.tenant(7, TENANT_KEY, 4, 4, 8, 2)),
+            )
+            for kind, call in rows:
+                with self.subTest(kind=kind.__name__):
+                    self.assertRaises(kind, call)
+            self.assertEqual([client.say(7, 1, b""), client.say(7, 1, b"")], [3, 4])
+            self.assertRaises(Budget, client.say, 7, 1, b"")
+            for tenant in (1, 2, 3):
+                client.tenant(tenant, TENANT_KEY, 256, 4, 8, 2)
+            self.assertRaises(NoRoom, client.tenant, 4, TENANT_KEY, 256, 4, 8, 2)
+            stranger.close()
+
+    def test_window(self) -> None:
+        with Serving(PORT + 200) as server:
+            clients = server.clients()
+            for node in (0, 1):
+                clients[node].tenant(7, TENANT_KEY, 4, 100, 4096, 100)
+            clients[0].make(7, 1, Spec("allack", (0, 1, 2), 100, 4096, 2))
+            clients[0].open(7, 1)
+            # Nodes 1 and 2 have not made the group: what comes there is let fall.
+            with clients[0].pipeline() as pipeline:
+                tickets = [pipeline.say(7, 1, b"x") for _ in range(4)]
+            self.assertEqual([tickets[0].result(), tickets[1].result()], [1, 2])
+            self.assertRaises(Window, tickets[2].result)
+            self.assertRaises(BadPlace, tickets[3].result)
+            self.assertEqual(clients[0].next_number(7, 1), 3)
+
+    def test_pipeline(self) -> None:
+        with Serving(PORT + 300) as server:
+            started(server, Spec("beb", ALL, 1024, 65_536, 1024))
+            clients = server.clients()
+            clients[0].set_number(7, 1, 1)
+            with clients[0].pipeline() as pipeline:
+                says = [pipeline.say(7, 1, str(count).encode()) for count in range(1000)]
+                fetches = [pipeline.fetch(7, 1, place, 16) for place in range(0, 992, 16)]
+            self.assertEqual([ticket.result() for ticket in says], list(range(1, 1001)))
+            entries = [entry for ticket in fetches for entry in ticket.result()]
+            self.assertEqual(
+                [entry.payload for entry in entries], [str(count).encode() for count in range(992)]
+            )
+            heard = hear(clients[2], 1000)
+            self.assertEqual([entry.number for entry in heard], list(range(1, 1001)))
+
+    def test_long_payloads(self) -> None:
+        with Serving(PORT + 400) as server:
+            started(server, Spec("feager", ALL, 100, 65_536, 100))
+            clients = server.clients()
+            payload = bytes(range(256)) * 16
+            for count in range(16):
+                self.assertEqual(clients[1].say(7, 1, payload), count + 1)
+            heard = hear(clients[2], 16)
+            self.assertEqual(heard, [Entry(1, count + 1, payload) for count in range(16)])
+
+    def test_several_clients_of_one_member(self) -> None:
+        with Serving(PORT + 500) as server:
+            started(server, Spec("fallack", ALL, 1000, 65_536, 1000))
+            said: List[Tuple[int, str]] = []
+
+            def speak(who: str) -> None:
+                client = server.client()
+                for count in range(50):
+                    text = f"{who}{count}"
+                    said.append((client.say(7, 1, text.encode()), text))
+
+            threads = [threading.Thread(target=speak, args=(who,)) for who in "abc"]
+            for thread in threads:
+                thread.start()
+            for thread in threads:
+                thread.join()
+            heard = [
+                (entry.number, entry.payload.decode()) for entry in hear(server.client(), 150)
+            ]
+            self.assertEqual(heard, sorted(said))
+            self.assertEqual([number for number, _ in heard], list(range(1, 151)))
+
+    def test_lost_answers(self) -> None:
+        for kind in ("beb", "fallack", "majority"):
+            with self.subTest(kind=kind), Serving(PORT + 600) as server:
+                started(server, Spec(kind, ALL, 1000, 65_536, 1000))
+                numbers = random.Random(kind)
+                fates = ["carry"] * 4 + ["lose request", "lose reply"]
+                with Cutter(PORT + 664, lambda _: numbers.choice(fates)) as cutter:
+                    with Client(cutter.address, keys()) as client:
+                        client.set_number(7, 1, 1)
+                        texts = [str(count) for count in range(60)]
+                        said = [client.say(7, 1, text.encode()) for text in texts]
+                        self.assertEqual(said, list(range(1, 61)))
+                        heard = [entry.payload.decode() for entry in hear(client, 60)]
+                    self.assertEqual(sorted(heard), sorted(texts))
+                    self.assertGreater(cutter.lost, 10)
+                elsewhere = [entry.payload.decode() for entry in hear(server.client(1), 60)]
+                self.assertEqual(sorted(elsewhere), sorted(texts))
+
+    def test_connections_of_few_requests(self) -> None:
+        with Serving(PORT + 700, "--session-requests", "3", nodes=1) as server:
+            started(server, Spec("beb", (0,), 100, 4096, 100))
+            client = server.client()
+            client.set_number(7, 1, 1)
+            self.assertEqual([client.say(7, 1, b"a") for _ in range(20)], list(range(1, 21)))
+            self.assertEqual(
+                [entry.number for entry in client.follow(7, 1, idle=0.2)], list(range(1, 21))
+            )
+
+    def test_idle_connections(self) -> None:
+        with Serving(PORT + 800, "--idle", "1", nodes=1) as server:
+            group = started(server, Spec("beb", (0,), 100, 4096, 100))
+            time.sleep(1.5)
+            group.shut()
+            time.sleep(1.5)
+            group.drop()
+
+    def test_ready_tokens(self) -> None:
+        with Serving(PORT + 900, nodes=1) as server:
+            started(server, Spec("beb", (0,), 100, 4096, 100))
+            tokens = Tokens(members={(7, 1): member_token(TENANT_KEY, 7, 1, 0)})
+            with Client(("127.0.0.1", PORT + 964), tokens) as client:
+                self.assertEqual(client.say(7, 1, b"a"), 1)
+                self.assertEqual(client.fetch(7, 1), (Entry(0, 1, b"a"),))
+
+    def test_operating(self) -> None:
+        with Serving(PORT + 1000, nodes=1) as server:
+            group = started(server, Spec("beb", (0,), 100, 4096, 100))
+            client = server.client()
+            client.say(7, 1, b"a")
+            try:
+                figures = client.status()
+            except Malformed:
+                self.skipTest("this gb_serve does not answer status, list and stop")
+            self.assertTrue(figures)
+            group.start()
+            (row,) = client.groups()
+            self.assertEqual(
+                (row.tenant, row.group, row.spec, row.phase, row.log),
+                (7, 1, group.spec, "open", 1),
+            )
+            with self.assertRaises(BadPlace):
+                client.list(2)
+            with self.assertRaises(BadPlace):
+                client.list(0, 65)
+            stranger = Client(("127.0.0.1", PORT + 1064), "0" * 64)
+            self.assertRaises(Denied, stranger.status)
+            self.assertRaises(Denied, stranger.list)
+            self.assertRaises(Denied, stranger.stop)
+            stranger.close()
+            group.drop()
+            self.assertEqual(
+                [(row.spec, row.phase) for row in client.groups()], [(None, "dropped")]
+            )
+            client.stop()
+            self.assertEqual(server.process.wait(10), 0)
+
+
+class AsyncServerTests(unittest.IsolatedAsyncioTestCase):
+    """The asyncio client."""
+
+    async def test_chat(self) -> None:
+        with Serving(PORT + 1100) as server:
+            clients = server.async_clients()
+            for client in clients.values():
+                await client.tenant(7, TENANT_KEY, 4, 1000, 65_536, 1000)
+            await AsyncGroup(clients, 7, 1, Spec("fallack", ALL, 1000, 65_536, 1000)).start()
+
+            async def hear(node: int) -> List[Entry]:
+                heard: List[Entry] = []
+                async for entry in clients[node].follow(7, 1):
+                    heard.append(entry)
+                    if len(heard) == 300:
+                        break
+                return heard
+
+            async def speak(node: int) -> List[int]:
+                says = (
+                    clients[node].say(7, 1, f"{node} {count}".encode()) for count in range(100)
+                )
+                return await asyncio.gather(*says)
+
+            heard_and_said = await asyncio.gather(*map(hear, ALL), *map(speak, ALL))
+            for said in heard_and_said[3:]:
+                self.assertEqual(said, list(range(1, 101)))
+            for heard in heard_and_said[:3]:
+                for node in ALL:
+                    own = [
+                        entry.payload
+                        for entry in heard
+                        if isinstance(entry, Entry) and entry.origin == node
+                    ]
+                    self.assertEqual(own, [f"{node} {count}".encode() for count in range(100)])
+            for client in clients.values():
+                await client.close()
+
+    async def test_waiting_at_two_places(self) -> None:
+        with Serving(PORT + 1200, nodes=1) as server:
+            client = server.async_clients()[0]
+            await client.tenant(7, TENANT_KEY, 4, 100, 4096, 100)
+            for group in (1, 2):
+                await client.make(7, group, Spec("beb", (0,), 100, 4096, 100))
+                await client.open(7, group)
+            waiting = asyncio.ensure_future(client.wait([(7, 1, 0), (7, 2, 0)], seconds=10))
+            await asyncio.sleep(0.1)
+            self.assertFalse(waiting.done())
+            await client.say(7, 2, b"here")
+            log = await waiting
+            self.assertEqual((log.index, log.entries), (1, (Entry(0, 1, b"here"),)))
+            with self.assertRaises(NoGroup):
+                await client.wait([(7, 1, 0), (7, 3, 0)])
+            self.assertEqual((await client.wait([(7, 1, 0)], seconds=0.01)).entries, ())
+            await client.close()
+
+
+if __name__ == "__main__":
+    unittest.main()
