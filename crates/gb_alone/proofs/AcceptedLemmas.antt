@@ -29,6 +29,7 @@ use Rattle.gb_alone.proofs.UsageLemmas.{shown_of}
 use Rattle.gb_rules.specs.declared.reserve.Reserve.{Reserve}
 use Rattle.gb_types.specs.declared.new_message.NewMessage.{NewMessage}
 use Rattle.gb_rules.proofs.SayLemmas.{said_is}
+use Rattle.gb_types.specs.declared.address.Addr.{Addr}
 
 -- what was said here, in order
 unfoldable pub own_said : List GroupCall → List Accepted
@@ -45,8 +46,8 @@ length-own_said (Other p x ∷ told) = length-own_said told
 length-own_said (Crashed q ∷ told) = length-own_said told
 
 -- an accepted message has the next number
-pub next_said : (me : ℕ) (m : Member) (message : NewMessage) (seq : ℕ) (bounds : Bounds) (number : ℕ) → reply_to bounds number me (AskSay message) m ≡ Said seq → seq ≡ said_in m.told + 1
-next_said me m message seq bounds number = running m.stopped
+pub next_said : (me : ℕ) (m : Member) (message : NewMessage) (seq : ℕ) (bounds : Bounds) (addr : Addr) → reply_to bounds addr me (AskSay message) m ≡ Said seq → seq ≡ said_in m.told + 1
+next_said me m message seq bounds addr = running m.stopped
   where
     present : (s : Shown) → s.usage.said ≡ said_in m.told → (gone : Bool) → (if gone then Refused Spent else say_answer (version_at bounds.versions me) s message) ≡ Said seq → seq ≡ said_in m.told + 1
     present s is true h = cc
@@ -80,32 +81,32 @@ unfolding own_said
 noticed_said me q None m = refl
 noticed_said me q (Some spec) m = elim (is_other spec me q.number) as (λ b. own_said (if b then called me (Crashed q) (cut q m) else m).told ≡ own_said m.told) [ true ↦ refl | false ↦ refl ]
 
-pub event_said : (bounds : Bounds) (number : ℕ) (me : NodeId) (event : GroupEvent) (group : Group)
-    → own_said (member_after bounds number me event group).told ≡ own_said (group me.number).told ++ accepted_in event (reply_to bounds number me.number event (group me.number))
-event_said bounds number me (Tenant reserve) group = sym (append-nil (own_said (group me.number).told))
-event_said bounds number me (Took b count) group = sym (append-nil (own_said (group me.number).told))
-event_said bounds number me (Came from place) group = taken_said (version_at bounds.versions me.number) me.number from place (slice_get ((group from.number).put me.number) (place - 1)) (group me.number) ∙ sym (append-nil (own_said (group me.number).told))
-event_said bounds number me (Acknowledged b place count) group = sym (append-nil (own_said (group me.number).told))
-event_said bounds number me (Notice q) group = noticed_said me.number q (held_spec (group me.number).phase (group me.number).spec) (group me.number) ∙ sym (append-nil (own_said (group me.number).told))
-event_said bounds number me Stop group = sym (append-nil (own_said (group me.number).told))
-event_said bounds number me event group = did_said me event (reply_to bounds number me.number event (group me.number)) (group me.number)
+pub event_said : (bounds : Bounds) (addr : Addr) (me : NodeId) (event : GroupEvent) (group : Group)
+    → own_said (member_after bounds addr me event group).told ≡ own_said (group me.number).told ++ accepted_in event (reply_to bounds addr me.number event (group me.number))
+event_said bounds addr me (Tenant reserve) group = sym (append-nil (own_said (group me.number).told))
+event_said bounds addr me (Took b count) group = sym (append-nil (own_said (group me.number).told))
+event_said bounds addr me (Came from place) group = taken_said (version_at bounds.versions me.number) me.number from place (slice_get ((group from.number).put me.number) (place - 1)) (group me.number) ∙ sym (append-nil (own_said (group me.number).told))
+event_said bounds addr me (Acknowledged b place count) group = sym (append-nil (own_said (group me.number).told))
+event_said bounds addr me (Notice q) group = noticed_said me.number q (held_spec (group me.number).phase (group me.number).spec) (group me.number) ∙ sym (append-nil (own_said (group me.number).told))
+event_said bounds addr me Stop group = sym (append-nil (own_said (group me.number).told))
+event_said bounds addr me event group = did_said me event (reply_to bounds addr me.number event (group me.number)) (group me.number)
 
-pub step_said : (bounds : Bounds) (number : ℕ) (group : Group) (step : GroupStep) (s : ℕ) → own_said (after bounds number group step s).told ≡ own_said (group s).told ++ accepted_at bounds number group step s
+pub step_said : (bounds : Bounds) (addr : Addr) (group : Group) (step : GroupStep) (s : ℕ) → own_said (after bounds addr group step s).told ≡ own_said (group s).told ++ accepted_at bounds addr group step s
 unfolding after
-step_said bounds number group step s = go (nat_eq s step.node.number) refl
+step_said bounds addr group step s = go (nat_eq s step.node.number) refl
   where
-    go : (b : Bool) → nat_eq s step.node.number ≡ b → own_said (if b then member_after bounds number step.node step.event group else group s).told ≡ own_said (group s).told ++ (if b then accepted_in step.event (reply_to bounds number s step.event (group s)) else [])
-    go true here = subst (λ y. own_said (member_after bounds number step.node step.event group).told ≡ own_said (group y).told ++ accepted_in step.event (reply_to bounds number y step.event (group y))) (sym (eqb-true s step.node.number here)) (event_said bounds number step.node step.event group)
+    go : (b : Bool) → nat_eq s step.node.number ≡ b → own_said (if b then member_after bounds addr step.node step.event group else group s).told ≡ own_said (group s).told ++ (if b then accepted_in step.event (reply_to bounds addr s step.event (group s)) else [])
+    go true here = subst (λ y. own_said (member_after bounds addr step.node step.event group).told ≡ own_said (group y).told ++ accepted_in step.event (reply_to bounds addr y step.event (group y))) (sym (eqb-true s step.node.number here)) (event_said bounds addr step.node step.event group)
     go false here = sym (append-nil (own_said (group s).told))
 
-run_said : (bounds : Bounds) (number s : ℕ) (steps : List GroupStep) (group : Group) → own_said (alone_from bounds number group steps s).told ≡ own_said (group s).told ++ accepted_from bounds number group steps s
+run_said : (bounds : Bounds) (addr : Addr) (s : ℕ) (steps : List GroupStep) (group : Group) → own_said (alone_from bounds addr group steps s).told ≡ own_said (group s).told ++ accepted_from bounds addr group steps s
 unfolding accepted_from
-run_said bounds number s [] group = sym (append-nil (own_said (group s).told))
-run_said bounds number s (step ∷ steps) group =
-    run_said bounds number s steps (after bounds number group step)
-    ∙ (ap (λ ps. ps ++ accepted_from bounds number (after bounds number group step) steps s) (step_said bounds number group step s)
-    ∙ append_assoc (own_said (group s).told) (accepted_at bounds number group step s) (accepted_from bounds number (after bounds number group step) steps s))
+run_said bounds addr s [] group = sym (append-nil (own_said (group s).told))
+run_said bounds addr s (step ∷ steps) group =
+    run_said bounds addr s steps (after bounds addr group step)
+    ∙ (ap (λ ps. ps ++ accepted_from bounds addr (after bounds addr group step) steps s) (step_said bounds addr group step s)
+    ∙ append_assoc (own_said (group s).told) (accepted_at bounds addr group step s) (accepted_from bounds addr (after bounds addr group step) steps s))
 
-pub alone_said : (bounds : Bounds) (number s : ℕ) (steps : List GroupStep) → own_said (alone bounds number steps s).told ≡ accepted bounds number steps s
+pub alone_said : (bounds : Bounds) (addr : Addr) (s : ℕ) (steps : List GroupStep) → own_said (alone bounds addr steps s).told ≡ accepted bounds addr steps s
 unfolding own_said
-alone_said bounds number s steps = run_said bounds number s steps nobody
+alone_said bounds addr s steps = run_said bounds addr s steps nobody

@@ -17,6 +17,7 @@ use Rattle.gb_alone.specs.Laws.{Accepted, accepted_in, accepted_at, accepted_fro
 use Rattle.gb_alone.specs.declared.event.GroupEvent.{GroupEvent}
 use Rattle.gb_alone.specs.declared.event.GroupEvent.TheVariants.{Tenant, Took, Came, Done as Acknowledged, Notice, Stop}
 use Rattle.gb_alone.specs.declared.event.GroupStep.{GroupStep}
+use Rattle.gb_types.specs.declared.address.Addr.{Addr}
 
 abbrev pub command_in : GroupEvent → List GroupEvent
 command_in (Tenant reserve) = []
@@ -79,12 +80,12 @@ reply_of (Notice q) reply = []
 reply_of Stop reply = []
 reply_of event reply = reply ∷ []
 
-abbrev replies_at : Bounds → ℕ → Group → GroupStep → ℕ → List Reply
-replies_at bounds number group step s = if nat_eq s step.node.number then reply_of step.event (reply_to bounds number s step.event (group s)) else []
+abbrev replies_at : Bounds → Addr → Group → GroupStep → ℕ → List Reply
+replies_at bounds addr group step s = if nat_eq s step.node.number then reply_of step.event (reply_to bounds addr s step.event (group s)) else []
 
-unfoldable pub replies_from : Bounds → ℕ → Group → List GroupStep → ℕ → List Reply
-replies_from bounds number group [] s = []
-replies_from bounds number group (step ∷ steps) s = replies_at bounds number group step s ++ replies_from bounds number (after bounds number group step) steps s
+unfoldable pub replies_from : Bounds → Addr → Group → List GroupStep → ℕ → List Reply
+replies_from bounds addr group [] s = []
+replies_from bounds addr group (step ∷ steps) s = replies_at bounds addr group step s ++ replies_from bounds addr (after bounds addr group step) steps s
 
 taken_replies : (version : Version) (me : ℕ) (from : NodeId) (place : ℕ) (o : Option Entry) (m : Member) → (taken_in version me from place o m).replies ≡ m.replies
 taken_replies version me from place None m = refl
@@ -94,30 +95,30 @@ noticed_replies : (me : ℕ) (q : NodeId) (o : Option Spec) (m : Member) → (to
 noticed_replies me q None m = refl
 noticed_replies me q (Some spec) m = elim (is_other spec me q.number) as (λ b. (if b then called me (Crashed q) (cut q m) else m).replies ≡ m.replies) [ true ↦ refl | false ↦ refl ]
 
-event_replies : (bounds : Bounds) (number : ℕ) (me : NodeId) (event : GroupEvent) (group : Group) → (member_after bounds number me event group).replies ≡ (group me.number).replies ++ reply_of event (reply_to bounds number me.number event (group me.number))
-event_replies bounds number me (Tenant reserve) group = sym (append-nil (group me.number).replies)
-event_replies bounds number me (Took b count) group = sym (append-nil (group me.number).replies)
-event_replies bounds number me (Came from place) group = taken_replies (version_at bounds.versions me.number) me.number from place (slice_get ((group from.number).put me.number) (place - 1)) (group me.number) ∙ sym (append-nil (group me.number).replies)
-event_replies bounds number me (Acknowledged b place count) group = sym (append-nil (group me.number).replies)
-event_replies bounds number me (Notice q) group = noticed_replies me.number q (held_spec (group me.number).phase (group me.number).spec) (group me.number) ∙ sym (append-nil (group me.number).replies)
-event_replies bounds number me Stop group = sym (append-nil (group me.number).replies)
-event_replies bounds number me event group = refl
+event_replies : (bounds : Bounds) (addr : Addr) (me : NodeId) (event : GroupEvent) (group : Group) → (member_after bounds addr me event group).replies ≡ (group me.number).replies ++ reply_of event (reply_to bounds addr me.number event (group me.number))
+event_replies bounds addr me (Tenant reserve) group = sym (append-nil (group me.number).replies)
+event_replies bounds addr me (Took b count) group = sym (append-nil (group me.number).replies)
+event_replies bounds addr me (Came from place) group = taken_replies (version_at bounds.versions me.number) me.number from place (slice_get ((group from.number).put me.number) (place - 1)) (group me.number) ∙ sym (append-nil (group me.number).replies)
+event_replies bounds addr me (Acknowledged b place count) group = sym (append-nil (group me.number).replies)
+event_replies bounds addr me (Notice q) group = noticed_replies me.number q (held_spec (group me.number).phase (group me.number).spec) (group me.number) ∙ sym (append-nil (group me.number).replies)
+event_replies bounds addr me Stop group = sym (append-nil (group me.number).replies)
+event_replies bounds addr me event group = refl
 
-step_replies : (bounds : Bounds) (number : ℕ) (group : Group) (step : GroupStep) (s : ℕ) → (after bounds number group step s).replies ≡ (group s).replies ++ replies_at bounds number group step s
+step_replies : (bounds : Bounds) (addr : Addr) (group : Group) (step : GroupStep) (s : ℕ) → (after bounds addr group step s).replies ≡ (group s).replies ++ replies_at bounds addr group step s
 unfolding after
-step_replies bounds number group step s = go (nat_eq s step.node.number) refl
+step_replies bounds addr group step s = go (nat_eq s step.node.number) refl
   where
-    go : (b : Bool) → nat_eq s step.node.number ≡ b → (if b then member_after bounds number step.node step.event group else group s).replies ≡ (group s).replies ++ (if b then reply_of step.event (reply_to bounds number s step.event (group s)) else [])
-    go true here = subst (λ y. (member_after bounds number step.node step.event group).replies ≡ (group y).replies ++ reply_of step.event (reply_to bounds number y step.event (group y))) (sym (eqb-true s step.node.number here)) (event_replies bounds number step.node step.event group)
+    go : (b : Bool) → nat_eq s step.node.number ≡ b → (if b then member_after bounds addr step.node step.event group else group s).replies ≡ (group s).replies ++ (if b then reply_of step.event (reply_to bounds addr s step.event (group s)) else [])
+    go true here = subst (λ y. (member_after bounds addr step.node step.event group).replies ≡ (group y).replies ++ reply_of step.event (reply_to bounds addr y step.event (group y))) (sym (eqb-true s step.node.number here)) (event_replies bounds addr step.node step.event group)
     go false here = sym (append-nil (group s).replies)
 
-pub run_replies : (bounds : Bounds) (number s : ℕ) (steps : List GroupStep) (group : Group) → (alone_from bounds number group steps s).replies ≡ (group s).replies ++ replies_from bounds number group steps s
+pub run_replies : (bounds : Bounds) (addr : Addr) (s : ℕ) (steps : List GroupStep) (group : Group) → (alone_from bounds addr group steps s).replies ≡ (group s).replies ++ replies_from bounds addr group steps s
 unfolding replies_from
-run_replies bounds number s [] group = sym (append-nil (group s).replies)
-run_replies bounds number s (step ∷ steps) group =
-    run_replies bounds number s steps (after bounds number group step)
-    ∙ (ap (λ rs. rs ++ replies_from bounds number (after bounds number group step) steps s) (step_replies bounds number group step s)
-    ∙ append_assoc (group s).replies (replies_at bounds number group step s) (replies_from bounds number (after bounds number group step) steps s))
+run_replies bounds addr s [] group = sym (append-nil (group s).replies)
+run_replies bounds addr s (step ∷ steps) group =
+    run_replies bounds addr s steps (after bounds addr group step)
+    ∙ (ap (λ rs. rs ++ replies_from bounds addr (after bounds addr group step) steps s) (step_replies bounds addr group step s)
+    ∙ append_assoc (group s).replies (replies_at bounds addr group step s) (replies_from bounds addr (after bounds addr group step) steps s))
 
 event_pairs : (event : GroupEvent) (reply : Reply) → Pairs (command_in event) (reply_of event reply) (accepted_in event reply)
 event_pairs (Tenant reserve) reply = no_pairs
@@ -128,12 +129,12 @@ event_pairs (Notice q) reply = no_pairs
 event_pairs Stop reply = no_pairs
 event_pairs event reply = one_pair event reply
 
-pub alone_pairs : (bounds : Bounds) (number s : ℕ) (steps : List GroupStep) (group : Group) → Pairs (commands s steps) (replies_from bounds number group steps s) (accepted_from bounds number group steps s)
+pub alone_pairs : (bounds : Bounds) (addr : Addr) (s : ℕ) (steps : List GroupStep) (group : Group) → Pairs (commands s steps) (replies_from bounds addr group steps s) (accepted_from bounds addr group steps s)
 unfolding commands replies_from accepted_from
-alone_pairs bounds number s [] group = no_pairs
-alone_pairs bounds number s (step ∷ steps) group =
-    let reply : Reply = reply_to bounds number s step.event (group s) in
-    let first : Pairs (commands_at s step) (replies_at bounds number group step s) (accepted_at bounds number group step s) =
+alone_pairs bounds addr s [] group = no_pairs
+alone_pairs bounds addr s (step ∷ steps) group =
+    let reply : Reply = reply_to bounds addr s step.event (group s) in
+    let first : Pairs (commands_at s step) (replies_at bounds addr group step s) (accepted_at bounds addr group step s) =
     elim (nat_eq s step.node.number) as (λ b. Pairs (if b then command_in step.event else []) (if b then reply_of step.event reply else []) (if b then accepted_in step.event reply else [])) [ true ↦ event_pairs step.event reply | false ↦ no_pairs ] in
-    pairs_append (commands_at s step) (commands s steps) (replies_at bounds number group step s) (replies_from bounds number (after bounds number group step) steps s) (accepted_at bounds number group step s) (accepted_from bounds number (after bounds number group step) steps s)
-    first (alone_pairs bounds number s steps (after bounds number group step))
+    pairs_append (commands_at s step) (commands s steps) (replies_at bounds addr group step s) (replies_from bounds addr (after bounds addr group step) steps s) (accepted_at bounds addr group step s) (accepted_from bounds addr (after bounds addr group step) steps s)
+    first (alone_pairs bounds addr s steps (after bounds addr group step))

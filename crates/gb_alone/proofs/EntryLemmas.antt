@@ -21,6 +21,7 @@ use Rattle.gb_alone.specs.declared.event.GroupEvent.{GroupEvent}
 use Rattle.gb_alone.specs.declared.event.GroupEvent.TheVariants.{Tenant, Make as AskMake, Open as AskOpen, Shut as AskShut, Drop as AskDrop, Say as AskSay, Took, Came, Done as Acknowledged, Notice, Stop}
 use Rattle.gb_alone.proofs.KnownLemmas.{HoldsOfTold, all_known, all_puts}
 use Rattle.gb_types.specs.declared.new_message.NewMessage.{NewMessage}
+use Rattle.gb_types.specs.declared.address.Addr.{Addr}
 
 -- it holds of all that is known at the node, and of all that is put out there
 pub record HoldsAt (P : Entry → Type 0) (m : Member) : Type 0 where
@@ -90,19 +91,19 @@ holds_did P me (AskSay message) (Said seq) m says holds = holds_called P me.numb
 holds_did P me event reply m says holds = holds
 
 -- after an event, where it holds of what is said, and of what comes and is not too long
-pub holds_after : (P : Entry → Type 0) (bounds : Bounds) (number : ℕ) (me : NodeId) (event : GroupEvent) (group : Group)
-    → ((message : NewMessage) (seq : ℕ) → event ≡ AskSay message → reply_to bounds number me.number event (group me.number) ≡ Said seq → P (record { origin = me; seq = seq; payload = message.payload }))
+pub holds_after : (P : Entry → Type 0) (bounds : Bounds) (addr : Addr) (me : NodeId) (event : GroupEvent) (group : Group)
+    → ((message : NewMessage) (seq : ℕ) → event ≡ AskSay message → reply_to bounds addr me.number event (group me.number) ≡ Said seq → P (record { origin = me; seq = seq; payload = message.payload }))
     → ((from : NodeId) (place : ℕ) (x : Entry) → slice_get ((group from.number).put me.number) (place - 1) ≡ Some x → is_too_long (version_at bounds.versions me.number) x.payload ≡ false → P x)
-    → HoldsAt P (group me.number) → HoldsAt P (member_after bounds number me event group)
-holds_after P bounds number me (Tenant reserve) group says comes holds = record { known = holds.known; put = holds.put }
-holds_after P bounds number me (Took b count) group says comes holds = record { known = holds.known; put = holds.put }
-holds_after P bounds number me (Came from place) group says comes holds =
+    → HoldsAt P (group me.number) → HoldsAt P (member_after bounds addr me event group)
+holds_after P bounds addr me (Tenant reserve) group says comes holds = record { known = holds.known; put = holds.put }
+holds_after P bounds addr me (Took b count) group says comes holds = record { known = holds.known; put = holds.put }
+holds_after P bounds addr me (Came from place) group says comes holds =
     holds_taken P (version_at bounds.versions me.number) me.number from place (slice_get ((group from.number).put me.number) (place - 1)) (group me.number) (comes from place) holds
-holds_after P bounds number me (Acknowledged b place count) group says comes holds = record { known = holds.known; put = holds.put }
-holds_after P bounds number me (Notice q) group says comes holds =
+holds_after P bounds addr me (Acknowledged b place count) group says comes holds = record { known = holds.known; put = holds.put }
+holds_after P bounds addr me (Notice q) group says comes holds =
     let next = holds_noticed P me.number q (held_spec (group me.number).phase (group me.number).spec) (group me.number) holds in
     record { known = next.known; put = next.put }
-holds_after P bounds number me Stop group says comes holds = record { known = holds.known; put = holds.put }
-holds_after P bounds number me event group says comes holds =
-    let next = holds_did P me event (reply_to bounds number me.number event (group me.number)) (group me.number) says holds in
+holds_after P bounds addr me Stop group says comes holds = record { known = holds.known; put = holds.put }
+holds_after P bounds addr me event group says comes holds =
+    let next = holds_did P me event (reply_to bounds addr me.number event (group me.number)) (group me.number) says holds in
     record { known = next.known; put = next.put }

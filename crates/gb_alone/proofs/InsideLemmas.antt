@@ -26,13 +26,14 @@ use Rattle.gb_alone.specs.declared.event.GroupEvent.TheVariants.{Tenant, Make as
 use Rattle.gb_alone.specs.declared.event.GroupStep.{GroupStep}
 use Rattle.gb_alone.proofs.UsageLemmas.{shown_of}
 use Rattle.gb_rules.specs.declared.reserve.Reserve.{Reserve}
+use Rattle.gb_types.specs.declared.address.Addr.{Addr}
 
 -- the node and the members are nodes of a cluster of so many
 abbrev pub IsWithin : ℕ → ℕ → Spec → Type 0
 IsWithin nodes me spec = (me < nodes) × ((b : ℕ) → is_member spec b ≡ true → b < nodes)
 
-make_inside : (bounds : Bounds) (number me : ℕ) (spec : Spec) (m : Member) → reply_to bounds number me (AskMake spec) m ≡ Done → IsWithin bounds.nodes me spec
-make_inside bounds number me spec m = running m.stopped
+make_inside : (bounds : Bounds) (addr : Addr) (me : ℕ) (spec : Spec) (m : Member) → reply_to bounds addr me (AskMake spec) m ≡ Done → IsWithin bounds.nodes me spec
+make_inside bounds addr me spec m = running m.stopped
   where
     fine : (x y : Bool) → (not x || not y) ≡ false → (x ≡ true) × (y ≡ true)
     fine true true h = (refl, refl)
@@ -57,11 +58,11 @@ make_inside bounds number me spec m = running m.stopped
     admitted false false false true good h = cc
     admitted false false false false good h = inside good
 
-    by : (reserve : Option Reserve) → by_tenant (make_answer bounds.nodes me number (is_some m.spec) spec) reserve ≡ Done → IsWithin bounds.nodes me spec
+    by : (reserve : Option Reserve) → by_tenant (make_answer bounds.nodes me addr (is_some m.spec) spec) reserve ≡ Done → IsWithin bounds.nodes me spec
     by None h = cc
-    by (Some reserve) h = admitted (nat_le reserve.groups number) (is_some m.spec) (is_bad bounds.nodes me spec) (is_over reserve spec) refl h
+    by (Some reserve) h = admitted (nat_le reserve.groups addr.group) (is_some m.spec) (is_bad bounds.nodes me spec) (nat_lt 0 addr.generation || is_over reserve spec) refl h
 
-    running : (stopped : Bool) → (if stopped then Refused Stopped else by_tenant (make_answer bounds.nodes me number (is_some m.spec) spec) m.reserve) ≡ Done → IsWithin bounds.nodes me spec
+    running : (stopped : Bool) → (if stopped then Refused Stopped else by_tenant (make_answer bounds.nodes me addr (is_some m.spec) spec) m.reserve) ≡ Done → IsWithin bounds.nodes me spec
     running true h = cc
     running false h = by m.reserve h
 
@@ -69,13 +70,13 @@ make_inside bounds number me spec m = running m.stopped
 abbrev pub IsInside : ℕ → ℕ → Member → Type 0
 IsInside nodes a m = (spec : Spec) → m.spec ≡ Some spec → IsWithin nodes a spec
 
-did_inside : (bounds : Bounds) (number : ℕ) (me : NodeId) (event : GroupEvent) (reply : Reply) (m : Member) → reply_to bounds number me.number event m ≡ reply → IsInside bounds.nodes me.number m → IsInside bounds.nodes me.number (did me event reply m)
-did_inside bounds number me (AskMake spec) Done m e old = λ s is. subst (IsWithin bounds.nodes me.number) (some_same spec s is) (make_inside bounds number me.number spec m e)
-did_inside bounds number me AskOpen Done m e old = old
-did_inside bounds number me AskShut Done m e old = old
-did_inside bounds number me AskDrop Done m e old = old
-did_inside bounds number me (AskSay message) (Said seq) m e old = old
-did_inside bounds number me event reply m e old = old
+did_inside : (bounds : Bounds) (addr : Addr) (me : NodeId) (event : GroupEvent) (reply : Reply) (m : Member) → reply_to bounds addr me.number event m ≡ reply → IsInside bounds.nodes me.number m → IsInside bounds.nodes me.number (did me event reply m)
+did_inside bounds addr me (AskMake spec) Done m e old = λ s is. subst (IsWithin bounds.nodes me.number) (some_same spec s is) (make_inside bounds addr me.number spec m e)
+did_inside bounds addr me AskOpen Done m e old = old
+did_inside bounds addr me AskShut Done m e old = old
+did_inside bounds addr me AskDrop Done m e old = old
+did_inside bounds addr me (AskSay message) (Said seq) m e old = old
+did_inside bounds addr me event reply m e old = old
 
 taken_inside : (version : Version) (nodes me : ℕ) (from : NodeId) (place : ℕ) (o : Option Entry) (m : Member) → IsInside nodes me m → IsInside nodes me (taken_in version me from place o m)
 taken_inside version nodes me from place None m old = old
@@ -85,29 +86,29 @@ noticed_inside : (nodes me : ℕ) (q : NodeId) (o : Option Spec) (m : Member) �
 noticed_inside nodes me q None m old = old
 noticed_inside nodes me q (Some made) m old = elim (is_other made me q.number) as (λ b. (spec : Spec) → (if b then called me (Crashed q) (cut q m) else m).spec ≡ Some spec → IsWithin nodes me spec) [ true ↦ old | false ↦ old ]
 
-event_inside : (bounds : Bounds) (number : ℕ) (me : NodeId) (event : GroupEvent) (group : Group) → IsInside bounds.nodes me.number (group me.number) → IsInside bounds.nodes me.number (member_after bounds number me event group)
-event_inside bounds number me (Tenant reserve) group old = old
-event_inside bounds number me (Took b count) group old = old
-event_inside bounds number me (Came from place) group old = taken_inside (version_at bounds.versions me.number) bounds.nodes me.number from place (slice_get ((group from.number).put me.number) (place - 1)) (group me.number) old
-event_inside bounds number me (Acknowledged b place count) group old = old
-event_inside bounds number me (Notice q) group old = noticed_inside bounds.nodes me.number q (held_spec (group me.number).phase (group me.number).spec) (group me.number) old
-event_inside bounds number me Stop group old = old
-event_inside bounds number me event group old = did_inside bounds number me event (reply_to bounds number me.number event (group me.number)) (group me.number) refl old
+event_inside : (bounds : Bounds) (addr : Addr) (me : NodeId) (event : GroupEvent) (group : Group) → IsInside bounds.nodes me.number (group me.number) → IsInside bounds.nodes me.number (member_after bounds addr me event group)
+event_inside bounds addr me (Tenant reserve) group old = old
+event_inside bounds addr me (Took b count) group old = old
+event_inside bounds addr me (Came from place) group old = taken_inside (version_at bounds.versions me.number) bounds.nodes me.number from place (slice_get ((group from.number).put me.number) (place - 1)) (group me.number) old
+event_inside bounds addr me (Acknowledged b place count) group old = old
+event_inside bounds addr me (Notice q) group old = noticed_inside bounds.nodes me.number q (held_spec (group me.number).phase (group me.number).spec) (group me.number) old
+event_inside bounds addr me Stop group old = old
+event_inside bounds addr me event group old = did_inside bounds addr me event (reply_to bounds addr me.number event (group me.number)) (group me.number) refl old
 
 abbrev pub AllInside : ℕ → Group → Type 0
 AllInside nodes group = (a : ℕ) → IsInside nodes a (group a)
 
-pub step_inside : (bounds : Bounds) (number : ℕ) (group : Group) (step : GroupStep) → AllInside bounds.nodes group → AllInside bounds.nodes (after bounds number group step)
+pub step_inside : (bounds : Bounds) (addr : Addr) (group : Group) (step : GroupStep) → AllInside bounds.nodes group → AllInside bounds.nodes (after bounds addr group step)
 unfolding after
-step_inside bounds number group step all x = go (nat_eq x step.node.number) refl
+step_inside bounds addr group step all x = go (nat_eq x step.node.number) refl
   where
-    go : (b : Bool) → nat_eq x step.node.number ≡ b → IsInside bounds.nodes x (if b then member_after bounds number step.node step.event group else group x)
-    go true here = subst (λ y. IsInside bounds.nodes y (member_after bounds number step.node step.event group)) (sym (eqb-true x step.node.number here)) (event_inside bounds number step.node step.event group (all step.node.number))
+    go : (b : Bool) → nat_eq x step.node.number ≡ b → IsInside bounds.nodes x (if b then member_after bounds addr step.node step.event group else group x)
+    go true here = subst (λ y. IsInside bounds.nodes y (member_after bounds addr step.node step.event group)) (sym (eqb-true x step.node.number here)) (event_inside bounds addr step.node step.event group (all step.node.number))
     go false here = all x
 
 -- and so nothing is accepted elsewhere
-refused_beyond : (bounds : Bounds) (number s : ℕ) (event : GroupEvent) (m : Member) → bounds.nodes ≤ s → IsInside bounds.nodes s m → accepted_in event (reply_to bounds number s event m) ≡ []
-refused_beyond bounds number s (AskSay message) m beyond inside = running m.stopped
+refused_beyond : (bounds : Bounds) (addr : Addr) (s : ℕ) (event : GroupEvent) (m : Member) → bounds.nodes ≤ s → IsInside bounds.nodes s m → accepted_in event (reply_to bounds addr s event m) ≡ []
+refused_beyond bounds addr s (AskSay message) m beyond inside = running m.stopped
   where
     by : (reserve : Option Reserve) (o : Option Spec) → m.spec ≡ o → accepted_in (AskSay message) (by_tenant (λ _. on_made (λ x. say_answer (version_at bounds.versions s) x message) (shown_of s m.phase m.told m.put m.done o)) reserve) ≡ []
     by None o is = refl
@@ -117,19 +118,19 @@ refused_beyond bounds number s (AskSay message) m beyond inside = running m.stop
     running : (stopped : Bool) → accepted_in (AskSay message) (if stopped then Refused Stopped else by_tenant (λ _. on_made (λ x. say_answer (version_at bounds.versions s) x message) (shown_of s m.phase m.told m.put m.done m.spec)) m.reserve) ≡ []
     running true = refl
     running false = by m.reserve m.spec refl
-refused_beyond bounds number s event m beyond inside = refl
+refused_beyond bounds addr s event m beyond inside = refl
 
-pub none_beyond : (bounds : Bounds) (number s : ℕ) → bounds.nodes ≤ s → (steps : List GroupStep) (group : Group) → AllInside bounds.nodes group → accepted_from bounds number group steps s ≡ []
+pub none_beyond : (bounds : Bounds) (addr : Addr) (s : ℕ) → bounds.nodes ≤ s → (steps : List GroupStep) (group : Group) → AllInside bounds.nodes group → accepted_from bounds addr group steps s ≡ []
 unfolding accepted_from
-none_beyond bounds number s beyond [] group all = refl
-none_beyond bounds number s beyond (step ∷ steps) group all =
-    let first : accepted_at bounds number group step s ≡ [] = elim (nat_eq s step.node.number) as (λ b. (if b then accepted_in step.event (reply_to bounds number s step.event (group s)) else []) ≡ []) [
-      | true ↦ refused_beyond bounds number s step.event (group s) beyond (all s)
+none_beyond bounds addr s beyond [] group all = refl
+none_beyond bounds addr s beyond (step ∷ steps) group all =
+    let first : accepted_at bounds addr group step s ≡ [] = elim (nat_eq s step.node.number) as (λ b. (if b then accepted_in step.event (reply_to bounds addr s step.event (group s)) else []) ≡ []) [
+      | true ↦ refused_beyond bounds addr s step.event (group s) beyond (all s)
       | false ↦ refl
     ] in
-    ap (λ ps. ps ++ accepted_from bounds number (after bounds number group step) steps s) first ∙ none_beyond bounds number s beyond steps (after bounds number group step) (step_inside bounds number group step all)
+    ap (λ ps. ps ++ accepted_from bounds addr (after bounds addr group step) steps s) first ∙ none_beyond bounds addr s beyond steps (after bounds addr group step) (step_inside bounds addr group step all)
 
 -- so it is after all events
-pub run_inside : (bounds : Bounds) (number : ℕ) (steps : List GroupStep) (group : Group) → AllInside bounds.nodes group → AllInside bounds.nodes (alone_from bounds number group steps)
-run_inside bounds number [] group all = all
-run_inside bounds number (step ∷ steps) group all = run_inside bounds number steps (after bounds number group step) (step_inside bounds number group step all)
+pub run_inside : (bounds : Bounds) (addr : Addr) (steps : List GroupStep) (group : Group) → AllInside bounds.nodes group → AllInside bounds.nodes (alone_from bounds addr group steps)
+run_inside bounds addr [] group all = all
+run_inside bounds addr (step ∷ steps) group all = run_inside bounds addr steps (after bounds addr group step) (step_inside bounds addr group step all)

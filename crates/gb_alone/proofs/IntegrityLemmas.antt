@@ -17,6 +17,7 @@ use Rattle.gb_alone.specs.declared.event.GroupStep.{GroupStep}
 use Rattle.gb_alone.proofs.AcceptedLemmas.{own_said, length-own_said, next_said, step_said, alone_said}
 use Rattle.gb_alone.proofs.EntryLemmas.{HoldsAt, holds_after}
 use Rattle.gb_alone.proofs.KnownLemmas.{all_at, all_log, copies-log}
+use Rattle.gb_types.specs.declared.address.Addr.{Addr}
 
 -- what holds of a node, where these are the payloads of what each node said
 abbrev pub Fits : (ℕ → List Accepted) → Member → Type 0
@@ -57,46 +58,46 @@ sayings group s = own_said (group s).told
 abbrev pub AllFit : Group → Type 0
 AllFit group = (a : ℕ) → Fits (sayings group) (group a)
 
-event_fits : (bounds : Bounds) (number : ℕ) (said : ℕ → List Accepted) (me : NodeId) (event : GroupEvent) (group : Group) → said me.number ≡ own_said (group me.number).told ++ accepted_in event (reply_to bounds number me.number event (group me.number)) → ((a : ℕ) → Fits said (group a)) → Fits said (member_after bounds number me event group)
-event_fits bounds number said me event group now all =
-    holds_after (IsAccepted said) bounds number me event group
-    (λ message seq e h. said_now said me seq message.payload (group me.number).told (next_said me.number (group me.number) message seq bounds number ((λ i. reply_to bounds number me.number (sym e i) (group me.number)) ∙ h))
+event_fits : (bounds : Bounds) (addr : Addr) (said : ℕ → List Accepted) (me : NodeId) (event : GroupEvent) (group : Group) → said me.number ≡ own_said (group me.number).told ++ accepted_in event (reply_to bounds addr me.number event (group me.number)) → ((a : ℕ) → Fits said (group a)) → Fits said (member_after bounds addr me event group)
+event_fits bounds addr said me event group now all =
+    holds_after (IsAccepted said) bounds addr me event group
+    (λ message seq e h. said_now said me seq message.payload (group me.number).told (next_said me.number (group me.number) message seq bounds addr ((λ i. reply_to bounds addr me.number (sym e i) (group me.number)) ∙ h))
     (now ∙ (λ i. own_said (group me.number).told ++ accepted_in (e i) (h i))))
     (λ from place x there short. all_at (IsAccepted said) ((group from.number).put me.number) (place - 1) x ((all from.number).put me.number) there) (all me.number)
 
 -- every node keeps it through every event
-step_fits : (bounds : Bounds) (number : ℕ) (group : Group) (step : GroupStep) → AllFit group → AllFit (after bounds number group step)
+step_fits : (bounds : Bounds) (addr : Addr) (group : Group) (step : GroupStep) → AllFit group → AllFit (after bounds addr group step)
 unfolding after
-step_fits bounds number group step all x = at (nat_eq x step.node.number) refl
+step_fits bounds addr group step all x = at (nat_eq x step.node.number) refl
   where
     said : ℕ → List Accepted
-    said = sayings (after bounds number group step)
+    said = sayings (after bounds addr group step)
 
     later : Later (sayings group) said
-    later s = (accepted_at bounds number group step s, step_said bounds number group step s)
+    later s = (accepted_at bounds addr group step s, step_said bounds addr group step s)
 
     old : (a : ℕ) → Fits said (group a)
     old a = fits_later (sayings group) said later (group a) (all a)
 
-    now : said step.node.number ≡ own_said (group step.node.number).told ++ accepted_in step.event (reply_to bounds number step.node.number step.event (group step.node.number))
+    now : said step.node.number ≡ own_said (group step.node.number).told ++ accepted_in step.event (reply_to bounds addr step.node.number step.event (group step.node.number))
     now =
-        step_said bounds number group step step.node.number
-        ∙ ap (λ (b : Bool). own_said (group step.node.number).told ++ (if b then accepted_in step.event (reply_to bounds number step.node.number step.event (group step.node.number)) else [])) (eq-eqb step.node.number step.node.number refl)
+        step_said bounds addr group step step.node.number
+        ∙ ap (λ (b : Bool). own_said (group step.node.number).told ++ (if b then accepted_in step.event (reply_to bounds addr step.node.number step.event (group step.node.number)) else [])) (eq-eqb step.node.number step.node.number refl)
 
-    at : (b : Bool) → nat_eq x step.node.number ≡ b → Fits said (if b then member_after bounds number step.node step.event group else group x)
-    at true here = event_fits bounds number said step.node step.event group now old
+    at : (b : Bool) → nat_eq x step.node.number ≡ b → Fits said (if b then member_after bounds addr step.node step.event group else group x)
+    at true here = event_fits bounds addr said step.node step.event group now old
     at false here = old x
 
-run_fits : (bounds : Bounds) (number : ℕ) (steps : List GroupStep) (group : Group) → AllFit group → AllFit (alone_from bounds number group steps)
-run_fits bounds number [] group all = all
-run_fits bounds number (step ∷ steps) group all = run_fits bounds number steps (after bounds number group step) (step_fits bounds number group step all)
+run_fits : (bounds : Bounds) (addr : Addr) (steps : List GroupStep) (group : Group) → AllFit group → AllFit (alone_from bounds addr group steps)
+run_fits bounds addr [] group all = all
+run_fits bounds addr (step ∷ steps) group all = run_fits bounds addr steps (after bounds addr group step) (step_fits bounds addr group step all)
 
 nobody_fits : AllFit nobody
 unfolding known
 nobody_fits a = record { known = All-nil (IsAccepted (sayings nobody)); put = λ b. All-nil (IsAccepted (sayings nobody)) }
 
-pub alone_fits : (bounds : Bounds) (number : ℕ) (steps : List GroupStep) → AllFit (alone bounds number steps)
-alone_fits bounds number steps = run_fits bounds number steps nobody nobody_fits
+pub alone_fits : (bounds : Bounds) (addr : Addr) (steps : List GroupStep) → AllFit (alone bounds addr steps)
+alone_fits bounds addr steps = run_fits bounds addr steps nobody nobody_fits
 
 -- The law.
 
@@ -109,16 +110,16 @@ copies-log_at me None told m = omega arith
 copies-log_at me (Some spec) told m = copies-log spec me told m
 
 pub is_integral : IsIntegral
-is_integral bounds number steps legal = record {
+is_integral bounds addr steps legal = record {
   logs = λ b. record {
     no_duplication = λ m. copies-log_at b (held_spec (group b).phase (group b).spec) (group b).told m;
-    no_creation = all_log_at (IsAccepted (accepted bounds number steps)) b (held_spec (group b).phase (group b).spec) (group b).told (accepts (known (group b).told) (alone_fits bounds number steps b).known);
+    no_creation = all_log_at (IsAccepted (accepted bounds addr steps)) b (held_spec (group b).phase (group b).spec) (group b).told (accepts (known (group b).told) (alone_fits bounds addr steps b).known);
   };
-  items = λ b c. accepts ((group b).put c) ((alone_fits bounds number steps b).put c);
+  items = λ b c. accepts ((group b).put c) ((alone_fits bounds addr steps b).put c);
 }
   where
     group : Group
-    group = alone bounds number steps
+    group = alone bounds addr steps
 
-    accepts : (xs : List Entry) → All (IsAccepted (sayings group)) xs → All (IsAccepted (accepted bounds number steps)) xs
-    accepts xs all = All-weaker (IsAccepted (sayings group)) (IsAccepted (accepted bounds number steps)) (λ x is. (is.0, ap (λ ps. slice_get ps (x.seq - 1)) (sym (alone_said bounds number x.origin.number steps)) ∙ is.1)) xs all
+    accepts : (xs : List Entry) → All (IsAccepted (sayings group)) xs → All (IsAccepted (accepted bounds addr steps)) xs
+    accepts xs all = All-weaker (IsAccepted (sayings group)) (IsAccepted (accepted bounds addr steps)) (λ x is. (is.0, ap (λ ps. slice_get ps (x.seq - 1)) (sym (alone_said bounds addr x.origin.number steps)) ∙ is.1)) xs all

@@ -32,6 +32,7 @@ use Rattle.gb_alone.specs.declared.event.GroupEvent.{GroupEvent}
 use Rattle.gb_alone.specs.declared.event.GroupEvent.TheVariants.{Tenant, Make as AskMake, Open as AskOpen, Shut as AskShut, Drop as AskDrop, Say as AskSay, Fetch as AskFetch, Took, Came, Done as Acknowledged, Notice, Stop}
 use Rattle.gb_alone.specs.declared.event.GroupStep.{GroupStep}
 use Rattle.gb_rules.specs.declared.reserve.Reserve.{Reserve}
+use Rattle.gb_types.specs.declared.address.Addr.{Addr}
 
 -- An item of a list over numbers.
 
@@ -78,21 +79,21 @@ shown_listed me v m h =
 by_both : (answer : Shown → Reply) (r r' : Option Reserve) (s s' : Option Shown) → r ≡ r' → s ≡ s' → by_tenant (λ _. on_made answer s) r ≡ by_tenant (λ _. on_made answer s') r'
 by_both answer r r' s s' e f = ap (λ (x : Option Reserve). by_tenant (λ _. on_made answer s) x) e ∙ ap (λ (x : Option Shown). by_tenant (λ _. on_made answer x) r') f
 
-running_listed : (bounds : Bounds) (number me : ℕ) (event : GroupEvent) (v : MemberValue) (m : Member) → StandsForMember v m → running_reply bounds number me event (member_of v) ≡ running_reply bounds number me event m
-running_listed bounds number me (AskMake spec) v m h =
-    ap (λ (r : Option Reserve). by_tenant (make_answer bounds.nodes me number (is_some v.spec) spec) r) h.reserve
-    ∙ ap (λ (s : Option Spec). by_tenant (make_answer bounds.nodes me number (is_some s) spec) m.reserve) h.spec
-running_listed bounds number me AskOpen v m h = by_both open_answer v.reserve m.reserve (shown me (member_of v)) (shown me m) h.reserve (shown_listed me v m h)
-running_listed bounds number me AskShut v m h = by_both shut_answer v.reserve m.reserve (shown me (member_of v)) (shown me m) h.reserve (shown_listed me v m h)
-running_listed bounds number me AskDrop v m h = by_both drop_answer v.reserve m.reserve (shown me (member_of v)) (shown me m) h.reserve (shown_listed me v m h)
-running_listed bounds number me (AskSay message) v m h = by_both (λ s. say_answer (version_at bounds.versions me) s message) v.reserve m.reserve (shown me (member_of v)) (shown me m) h.reserve (shown_listed me v m h)
-running_listed bounds number me (AskFetch from most) v m h = by_both (λ s. fetch_answer s from most) v.reserve m.reserve (shown me (member_of v)) (shown me m) h.reserve (shown_listed me v m h)
-running_listed bounds number me event v m h = refl
+running_listed : (bounds : Bounds) (addr : Addr) (me : ℕ) (event : GroupEvent) (v : MemberValue) (m : Member) → StandsForMember v m → running_reply bounds addr me event (member_of v) ≡ running_reply bounds addr me event m
+running_listed bounds addr me (AskMake spec) v m h =
+    ap (λ (r : Option Reserve). by_tenant (make_answer bounds.nodes me addr (is_some v.spec) spec) r) h.reserve
+    ∙ ap (λ (s : Option Spec). by_tenant (make_answer bounds.nodes me addr (is_some s) spec) m.reserve) h.spec
+running_listed bounds addr me AskOpen v m h = by_both open_answer v.reserve m.reserve (shown me (member_of v)) (shown me m) h.reserve (shown_listed me v m h)
+running_listed bounds addr me AskShut v m h = by_both shut_answer v.reserve m.reserve (shown me (member_of v)) (shown me m) h.reserve (shown_listed me v m h)
+running_listed bounds addr me AskDrop v m h = by_both drop_answer v.reserve m.reserve (shown me (member_of v)) (shown me m) h.reserve (shown_listed me v m h)
+running_listed bounds addr me (AskSay message) v m h = by_both (λ s. say_answer (version_at bounds.versions me) s message) v.reserve m.reserve (shown me (member_of v)) (shown me m) h.reserve (shown_listed me v m h)
+running_listed bounds addr me (AskFetch from most) v m h = by_both (λ s. fetch_answer s from most) v.reserve m.reserve (shown me (member_of v)) (shown me m) h.reserve (shown_listed me v m h)
+running_listed bounds addr me event v m h = refl
 
-reply_listed : (bounds : Bounds) (number me : ℕ) (event : GroupEvent) (v : MemberValue) (m : Member) → StandsForMember v m → reply_to bounds number me event (member_of v) ≡ reply_to bounds number me event m
-reply_listed bounds number me event v m h =
-    ap (λ (b : Bool). if b then Refused Stopped else running_reply bounds number me event (member_of v)) h.stopped
-    ∙ ap (λ (r : Reply). if m.stopped then Refused Stopped else r) (running_listed bounds number me event v m h)
+reply_listed : (bounds : Bounds) (addr : Addr) (me : ℕ) (event : GroupEvent) (v : MemberValue) (m : Member) → StandsForMember v m → reply_to bounds addr me event (member_of v) ≡ reply_to bounds addr me event m
+reply_listed bounds addr me event v m h =
+    ap (λ (b : Bool). if b then Refused Stopped else running_reply bounds addr me event (member_of v)) h.stopped
+    ∙ ap (λ (r : Reply). if m.stopped then Refused Stopped else r) (running_listed bounds addr me event v m h)
 
 rows_listed : (me : ℕ) (spec : Option Spec) (c : GroupCall) (told : List GroupCall) (rows : List (List Entry)) (put : ℕ → List Entry) → ((b : ℕ) → b < NODES → slice_index_or rows b [] ≡ put b)
     → (b : ℕ) → b < NODES → slice_index_or (rows_with me spec c told rows) b [] ≡ put_to me spec c told put b
@@ -266,61 +267,61 @@ notice_listed : (me : ℕ) (q : NodeId) (o : Option Spec) (v : MemberValue) (m :
 notice_listed me q None v m h = h
 notice_listed me q (Some spec) v m h = either_listed (is_other spec me q.number) (value_called me (Crashed q) (value_cut q v)) v (called me (Crashed q) (cut q m)) m (called_listed me (Crashed q) (value_cut q v) (cut q m) (cut_listed q v m h)) h
 
-command_listed : (bounds : Bounds) (number : ℕ) (me : NodeId) (event : GroupEvent) (v : MemberValue) (m : Member) → StandsForMember v m
-    → StandsForMember (value_commanded me event (reply_to bounds number me.number event (member_of v)) v) (commanded me event (reply_to bounds number me.number event m) m)
-command_listed bounds number me event v m h =
-    let P : Reply → Type 0 = λ r. StandsForMember (value_commanded me event r v) (commanded me event (reply_to bounds number me.number event m) m) in
-    subst P (sym (reply_listed bounds number me.number event v m h)) (commanded_listed me event (reply_to bounds number me.number event m) v m h)
+command_listed : (bounds : Bounds) (addr : Addr) (me : NodeId) (event : GroupEvent) (v : MemberValue) (m : Member) → StandsForMember v m
+    → StandsForMember (value_commanded me event (reply_to bounds addr me.number event (member_of v)) v) (commanded me event (reply_to bounds addr me.number event m) m)
+command_listed bounds addr me event v m h =
+    let P : Reply → Type 0 = λ r. StandsForMember (value_commanded me event r v) (commanded me event (reply_to bounds addr me.number event m) m) in
+    subst P (sym (reply_listed bounds addr me.number event v m h)) (commanded_listed me event (reply_to bounds addr me.number event m) v m h)
 
-member_listed : (bounds : Bounds) (number : ℕ) (me : NodeId) (event : GroupEvent) (vs : List MemberValue) (group : Group) → StandForMembers vs group → StandsForMember (value_after bounds number me event vs) (member_after bounds number me event group)
-member_listed bounds number me (Tenant reserve) vs group h =
+member_listed : (bounds : Bounds) (addr : Addr) (me : NodeId) (event : GroupEvent) (vs : List MemberValue) (group : Group) → StandForMembers vs group → StandsForMember (value_after bounds addr me event vs) (member_after bounds addr me event group)
+member_listed bounds addr me (Tenant reserve) vs group h =
     let here = h.members me.number me.below in
     record { reserve = refl; spec = here.spec; phase = here.phase; told = here.told; replies = here.replies; put = here.put; taken = here.taken; size = here.size; done = here.done; rows = here.rows; stopped = here.stopped }
-member_listed bounds number me (Took b count) vs group h = took_listed b.number count (value_at vs me.number) (group me.number) b.below (h.members me.number me.below)
-member_listed bounds number me (Came from place) vs group h =
-    let P : List Entry → Type 0 = λ row. StandsForMember (value_taken_in (version_at bounds.versions me.number) me.number from (slice_get row (place - 1)) (value_at vs me.number)) (member_after bounds number me (Came from place) group) in
+member_listed bounds addr me (Took b count) vs group h = took_listed b.number count (value_at vs me.number) (group me.number) b.below (h.members me.number me.below)
+member_listed bounds addr me (Came from place) vs group h =
+    let P : List Entry → Type 0 = λ row. StandsForMember (value_taken_in (version_at bounds.versions me.number) me.number from (slice_get row (place - 1)) (value_at vs me.number)) (member_after bounds addr me (Came from place) group) in
     subst P (sym ((h.members from.number from.below).put me.number me.below))
     (taken_in_listed (version_at bounds.versions me.number) me.number from place (slice_get ((group from.number).put me.number) (place - 1)) (value_at vs me.number) (group me.number) (h.members me.number me.below))
-member_listed bounds number me (Acknowledged b place count) vs group h = done_listed b place count (value_at vs me.number) (group me.number) (h.members me.number me.below)
-member_listed bounds number me (Notice q) vs group h =
+member_listed bounds addr me (Acknowledged b place count) vs group h = done_listed b place count (value_at vs me.number) (group me.number) (h.members me.number me.below)
+member_listed bounds addr me (Notice q) vs group h =
     let v : MemberValue = value_at vs me.number in
     let m : Member = group me.number in
     let next = subst (λ (o : Option Spec). StandsForMember (value_noticed me.number q o v) (took_notice me.number q (held_spec m.phase m.spec) m)) (sym (held_listed v m (h.members me.number me.below)))
     (notice_listed me.number q (held_spec m.phase m.spec) v m (h.members me.number me.below)) in
     record { reserve = next.reserve; spec = next.spec; phase = next.phase; told = next.told; replies = next.replies; put = next.put; taken = next.taken; size = next.size; done = next.done; rows = next.rows; stopped = next.stopped }
-member_listed bounds number me Stop vs group h =
+member_listed bounds addr me Stop vs group h =
     let here = h.members me.number me.below in
     record { reserve = here.reserve; spec = here.spec; phase = here.phase; told = here.told; replies = here.replies; put = here.put; taken = here.taken; size = here.size; done = here.done; rows = here.rows; stopped = refl }
-member_listed bounds number me (AskMake spec) vs group h = command_listed bounds number me (AskMake spec) (value_at vs me.number) (group me.number) (h.members me.number me.below)
-member_listed bounds number me AskOpen vs group h = command_listed bounds number me AskOpen (value_at vs me.number) (group me.number) (h.members me.number me.below)
-member_listed bounds number me AskShut vs group h = command_listed bounds number me AskShut (value_at vs me.number) (group me.number) (h.members me.number me.below)
-member_listed bounds number me AskDrop vs group h = command_listed bounds number me AskDrop (value_at vs me.number) (group me.number) (h.members me.number me.below)
-member_listed bounds number me (AskSay message) vs group h = command_listed bounds number me (AskSay message) (value_at vs me.number) (group me.number) (h.members me.number me.below)
-member_listed bounds number me (AskFetch from most) vs group h = command_listed bounds number me (AskFetch from most) (value_at vs me.number) (group me.number) (h.members me.number me.below)
+member_listed bounds addr me (AskMake spec) vs group h = command_listed bounds addr me (AskMake spec) (value_at vs me.number) (group me.number) (h.members me.number me.below)
+member_listed bounds addr me AskOpen vs group h = command_listed bounds addr me AskOpen (value_at vs me.number) (group me.number) (h.members me.number me.below)
+member_listed bounds addr me AskShut vs group h = command_listed bounds addr me AskShut (value_at vs me.number) (group me.number) (h.members me.number me.below)
+member_listed bounds addr me AskDrop vs group h = command_listed bounds addr me AskDrop (value_at vs me.number) (group me.number) (h.members me.number me.below)
+member_listed bounds addr me (AskSay message) vs group h = command_listed bounds addr me (AskSay message) (value_at vs me.number) (group me.number) (h.members me.number me.below)
+member_listed bounds addr me (AskFetch from most) vs group h = command_listed bounds addr me (AskFetch from most) (value_at vs me.number) (group me.number) (h.members me.number me.below)
 
 -- The group after each step.
 
-step_listed : (bounds : Bounds) (number : ℕ) (step : GroupStep) (vs : List MemberValue) (group : Group) → StandForMembers vs group → StandForMembers (values_after bounds number vs step) (after bounds number group step)
+step_listed : (bounds : Bounds) (addr : Addr) (step : GroupStep) (vs : List MemberValue) (group : Group) → StandForMembers vs group → StandForMembers (values_after bounds addr vs step) (after bounds addr group step)
 unfolding after
-step_listed bounds number step vs group h = record {
+step_listed bounds addr step vs group h = record {
   members = λ x lt.
       let me = step.node in
-      let w = value_after bounds number me step.event vs in
-      let m = member_after bounds number me step.event group in
+      let w = value_after bounds addr me step.event vs in
+      let m = member_after bounds addr me step.event group in
       let P : Bool → MemberValue → Type 0 = λ e v. StandsForMember v (if e then m else group x) in
       elim (eqb_tells x me.number) [
         | inl p ↦
             let is : value_at (slice_set vs me.number w) x ≡ w = ap (λ k. value_at (slice_set vs me.number w) k) p.1 ∙ get_or-set_same vs me.number w new_member (omega (arith, h.size, me.below)) in
-            subst (λ (v : MemberValue). P (nat_eq x me.number) v) (sym is) (subst (λ (e : Bool). P e w) (sym p.0) (member_listed bounds number me step.event vs group h))
+            subst (λ (v : MemberValue). P (nat_eq x me.number) v) (sym is) (subst (λ (e : Bool). P e w) (sym p.0) (member_listed bounds addr me step.event vs group h))
         | inr p ↦
             subst (λ (v : MemberValue). P (nat_eq x me.number) v) (sym (get_or-set_other vs me.number x w new_member p.1)) (subst (λ (e : Bool). P e (value_at vs x)) (sym p.0) (h.members x lt))
       ];
-  size = length-set vs step.node.number (value_after bounds number step.node step.event vs) ∙ h.size;
+  size = length-set vs step.node.number (value_after bounds addr step.node step.event vs) ∙ h.size;
 }
 
-steps_listed : (bounds : Bounds) (number : ℕ) (steps : List GroupStep) (vs : List MemberValue) (group : Group) → StandForMembers vs group → StandForMembers (fold (values_after bounds number) vs steps) (alone_from bounds number group steps)
-steps_listed bounds number [] vs group h = h
-steps_listed bounds number (s ∷ steps) vs group h = steps_listed bounds number steps (values_after bounds number vs s) (after bounds number group s) (step_listed bounds number s vs group h)
+steps_listed : (bounds : Bounds) (addr : Addr) (steps : List GroupStep) (vs : List MemberValue) (group : Group) → StandForMembers vs group → StandForMembers (fold (values_after bounds addr) vs steps) (alone_from bounds addr group steps)
+steps_listed bounds addr [] vs group h = h
+steps_listed bounds addr (s ∷ steps) vs group h = steps_listed bounds addr steps (values_after bounds addr vs s) (after bounds addr group s) (step_listed bounds addr s vs group h)
 
 new_listed : (x : ℕ) → StandsForMember new_member (nobody x)
 new_listed x = record {
@@ -344,16 +345,16 @@ start_listed = record {
 }
 
 -- the plain program's lists after all steps are the group alone
-pub alone_listed : (bounds : Bounds) (number : ℕ) (steps : List GroupStep) → StandForMembers (fold (values_after bounds number) (replicate NODES new_member) steps) (alone bounds number steps)
-alone_listed bounds number steps = steps_listed bounds number steps (replicate NODES new_member) nobody start_listed
+pub alone_listed : (bounds : Bounds) (addr : Addr) (steps : List GroupStep) → StandForMembers (fold (values_after bounds addr) (replicate NODES new_member) steps) (alone bounds addr steps)
+alone_listed bounds addr steps = steps_listed bounds addr steps (replicate NODES new_member) nobody start_listed
 
 -- one step more
-pub more_values : (bounds : Bounds) (number : ℕ) (steps : List GroupStep) (vs : List MemberValue) (i : ℕ) (s : GroupStep) → i < length steps → s ≡ get_or steps i s
-    → fold (values_after bounds number) vs (take (i + 1) steps) ≡ values_after bounds number (fold (values_after bounds number) vs (take i steps)) s
-more_values bounds number steps vs i s lt is =
-    ap (fold (values_after bounds number) vs) (take_more steps i s lt)
-    ∙ (fold-append (values_after bounds number) vs (take i steps) (get_or steps i s ∷ [])
-    ∙ ap (λ (t : GroupStep). values_after bounds number (fold (values_after bounds number) vs (take i steps)) t) (sym is))
+pub more_values : (bounds : Bounds) (addr : Addr) (steps : List GroupStep) (vs : List MemberValue) (i : ℕ) (s : GroupStep) → i < length steps → s ≡ get_or steps i s
+    → fold (values_after bounds addr) vs (take (i + 1) steps) ≡ values_after bounds addr (fold (values_after bounds addr) vs (take i steps)) s
+more_values bounds addr steps vs i s lt is =
+    ap (fold (values_after bounds addr) vs) (take_more steps i s lt)
+    ∙ (fold-append (values_after bounds addr) vs (take i steps) (get_or steps i s ∷ [])
+    ∙ ap (λ (t : GroupStep). values_after bounds addr (fold (values_after bounds addr) vs (take i steps)) t) (sym is))
 
-pub length_after : (bounds : Bounds) (number : ℕ) (vs : List MemberValue) (s : GroupStep) → length (values_after bounds number vs s) ≡ length vs
-length_after bounds number vs s = length-set vs s.node.number (value_after bounds number s.node s.event vs)
+pub length_after : (bounds : Bounds) (addr : Addr) (vs : List MemberValue) (s : GroupStep) → length (values_after bounds addr vs s) ≡ length vs
+length_after bounds addr vs s = length-set vs s.node.number (value_after bounds addr s.node s.event vs)

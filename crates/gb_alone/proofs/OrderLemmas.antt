@@ -25,4 +25,4 @@ held_in_order me true o told = empty_in_order o
 held_in_order me false o told = log_in_order me o told
 
 pub in_order : IsInOrder
-in_order bounds number steps legal b = held_in_order b (is_gone (alone bounds number steps b).phase) (alone bounds number steps b).spec (alone bounds number steps b).told
+in_order bounds addr steps legal b = held_in_order b (is_gone (alone bounds addr steps b).phase) (alone bounds addr steps b).spec (alone bounds addr steps b).told

@@ -24,6 +24,7 @@ use Rattle.gb_alone.specs.declared.event.GroupEvent.{GroupEvent}
 use Rattle.gb_alone.specs.declared.event.GroupEvent.TheVariants.{Tenant, Make as AskMake, Open as AskOpen, Shut as AskShut, Drop as AskDrop, Say as AskSay, Fetch as AskFetch, Took, Came, Done as Acknowledged, Notice, Stop}
 use Rattle.gb_alone.specs.declared.event.GroupStep.{GroupStep}
 use Rattle.gb_rules.specs.declared.reserve.Reserve.{Reserve}
+use Rattle.gb_types.specs.declared.address.Addr.{Addr}
 
 -- the group at one node
 pub record Member : Type 0 where
@@ -99,19 +100,19 @@ shown me m = option_map (shown_in me m.phase m.told m.put m.done) m.spec
 abbrev pub on_group : (Shown → Reply) → ℕ → Member → Reply
 on_group answer me m = by_tenant (λ _. on_made answer (shown me m)) m.reserve
 
--- the reply to a command at a running node of a cluster with these bounds, to the group with this number
-abbrev pub running_reply : Bounds → ℕ → ℕ → GroupEvent → Member → Reply
-running_reply bounds number me (AskMake spec) m = by_tenant (make_answer bounds.nodes me number (is_some m.spec) spec) m.reserve
-running_reply bounds number me AskOpen m = on_group open_answer me m
-running_reply bounds number me AskShut m = on_group shut_answer me m
-running_reply bounds number me AskDrop m = on_group drop_answer me m
-running_reply bounds number me (AskSay message) m = on_group (λ s. say_answer (version_at bounds.versions me) s message) me m
-running_reply bounds number me (AskFetch from most) m = on_group (λ s. fetch_answer s from most) me m
-running_reply bounds number me event m = Done
+-- the reply to a command at a running node of a cluster with these bounds, to the group with this address
+abbrev pub running_reply : Bounds → Addr → ℕ → GroupEvent → Member → Reply
+running_reply bounds addr me (AskMake spec) m = by_tenant (make_answer bounds.nodes me addr (is_some m.spec) spec) m.reserve
+running_reply bounds addr me AskOpen m = on_group open_answer me m
+running_reply bounds addr me AskShut m = on_group shut_answer me m
+running_reply bounds addr me AskDrop m = on_group drop_answer me m
+running_reply bounds addr me (AskSay message) m = on_group (λ s. say_answer (version_at bounds.versions me) s message) me m
+running_reply bounds addr me (AskFetch from most) m = on_group (λ s. fetch_answer s from most) me m
+running_reply bounds addr me event m = Done
 
 -- the reply to a command
-abbrev pub reply_to : Bounds → ℕ → ℕ → GroupEvent → Member → Reply
-reply_to bounds number me event m = if m.stopped then Refused Stopped else running_reply bounds number me event m
+abbrev pub reply_to : Bounds → Addr → ℕ → GroupEvent → Member → Reply
+reply_to bounds addr me event m = if m.stopped then Refused Stopped else running_reply bounds addr me event m
 
 -- what a call makes the group broadcast is put out to each other member that was not noticed
 abbrev pub put_to : ℕ → Option Spec → GroupCall → List GroupCall → (ℕ → List Entry) → ℕ → List Entry
@@ -173,30 +174,30 @@ abbrev pub node_noticed : ℕ → NodeId → Member → Member
 node_noticed me q m = let next = took_notice me q (held_spec m.phase m.spec) m in record next { noticed = q.number ∷ m.noticed }
 
 -- the group's part at a node after an event there
-abbrev pub member_after : Bounds → ℕ → NodeId → GroupEvent → Group → Member
-member_after bounds number me (Tenant reserve) group = let m = group me.number in record m { reserve = Some reserve }
-member_after bounds number me (Took b count) group = let m = group me.number in record m { taken = λ x. if nat_eq x b.number then m.taken x + count else m.taken x }
-member_after bounds number me (Came from place) group = taken_in (version_at bounds.versions me.number) me.number from place (slice_get ((group from.number).put me.number) (place - 1)) (group me.number)
-member_after bounds number me (Acknowledged b place count) group = item_done b place count (group me.number)
-member_after bounds number me (Notice q) group = node_noticed me.number q (group me.number)
-member_after bounds number me Stop group = let m = group me.number in record m { stopped = true }
-member_after bounds number me event group = commanded me event (reply_to bounds number me.number event (group me.number)) (group me.number)
+abbrev pub member_after : Bounds → Addr → NodeId → GroupEvent → Group → Member
+member_after bounds addr me (Tenant reserve) group = let m = group me.number in record m { reserve = Some reserve }
+member_after bounds addr me (Took b count) group = let m = group me.number in record m { taken = λ x. if nat_eq x b.number then m.taken x + count else m.taken x }
+member_after bounds addr me (Came from place) group = taken_in (version_at bounds.versions me.number) me.number from place (slice_get ((group from.number).put me.number) (place - 1)) (group me.number)
+member_after bounds addr me (Acknowledged b place count) group = item_done b place count (group me.number)
+member_after bounds addr me (Notice q) group = node_noticed me.number q (group me.number)
+member_after bounds addr me Stop group = let m = group me.number in record m { stopped = true }
+member_after bounds addr me event group = commanded me event (reply_to bounds addr me.number event (group me.number)) (group me.number)
 
 -- the group after an event
-unfoldable pub after : Bounds → ℕ → Group → GroupStep → Group
-after bounds number group step x = if nat_eq x step.node.number then member_after bounds number step.node step.event group else group x
+unfoldable pub after : Bounds → Addr → Group → GroupStep → Group
+after bounds addr group step x = if nat_eq x step.node.number then member_after bounds addr step.node step.event group else group x
 
 -- nothing has happened
 abbrev pub nobody : Group
 nobody x = record { reserve = None; spec = None; phase = Made; told = []; replies = []; put = λ b. []; taken = λ b. 0; come = λ b. []; done = λ b. []; noticed = []; stopped = false }
 
--- the group with this number among its tenant's, in a cluster with these bounds, after these events
-abbrev pub alone : Bounds → ℕ → List GroupStep → Group
-alone bounds number steps = fold (after bounds number) nobody steps
+-- the group with this address, in a cluster with these bounds, after these events
+abbrev pub alone : Bounds → Addr → List GroupStep → Group
+alone bounds addr steps = fold (after bounds addr) nobody steps
 
 -- a group after more events
-abbrev pub alone_from : Bounds → ℕ → Group → List GroupStep → Group
-alone_from bounds number group steps = fold (after bounds number) group steps
+abbrev pub alone_from : Bounds → Addr → Group → List GroupStep → Group
+alone_from bounds addr group steps = fold (after bounds addr) group steps
 
 -- What may happen next: what waits is taken, what is carried comes once, what came is acknowledged once, a node is noticed once at another, and none of these
 -- happens at a stopped node.
@@ -210,10 +211,10 @@ MayHappen me (Acknowledged b place count) group =
 MayHappen me (Notice q) group = ((group me.number).stopped ≡ false) × (is_marked q.number (group me.number).noticed ≡ false)
 MayHappen me event group = Unit {0}
 
-abbrev pub IsLegalFrom : Bounds → ℕ → Group → List GroupStep → Type 0
-IsLegalFrom bounds number group [] = Unit {0}
-IsLegalFrom bounds number group (step ∷ steps) = MayHappen step.node step.event group × IsLegalFrom bounds number (after bounds number group step) steps
+abbrev pub IsLegalFrom : Bounds → Addr → Group → List GroupStep → Type 0
+IsLegalFrom bounds addr group [] = Unit {0}
+IsLegalFrom bounds addr group (step ∷ steps) = MayHappen step.node step.event group × IsLegalFrom bounds addr (after bounds addr group step) steps
 
 -- each event may happen when it does
-abbrev pub IsLegal : Bounds → ℕ → List GroupStep → Type 0
-IsLegal bounds number steps = IsLegalFrom bounds number nobody steps
+abbrev pub IsLegal : Bounds → Addr → List GroupStep → Type 0
+IsLegal bounds addr steps = IsLegalFrom bounds addr nobody steps

@@ -15,6 +15,7 @@ use Rattle.gb_alone.specs.Alone.{Group, Member, reply_to, after, nobody, alone, 
 use Rattle.gb_alone.specs.declared.event.GroupEvent.{GroupEvent}
 use Rattle.gb_alone.specs.declared.event.GroupEvent.TheVariants.{Say as AskSay}
 use Rattle.gb_alone.specs.declared.event.GroupStep.{GroupStep}
+use Rattle.gb_types.specs.declared.address.Addr.{Addr}
 
 -- a message that was accepted, with the number that its origin was told
 pub record Accepted : Type 0 where
@@ -25,16 +26,16 @@ abbrev pub accepted_in : GroupEvent → Reply → List Accepted
 accepted_in (AskSay message) (Said seq) = record { seq = seq; payload = message.payload } ∷ []
 accepted_in event reply = []
 
-abbrev pub accepted_at : Bounds → ℕ → Group → GroupStep → ℕ → List Accepted
-accepted_at bounds number group step s = if nat_eq s step.node.number then accepted_in step.event (reply_to bounds number s step.event (group s)) else []
+abbrev pub accepted_at : Bounds → Addr → Group → GroupStep → ℕ → List Accepted
+accepted_at bounds addr group step s = if nat_eq s step.node.number then accepted_in step.event (reply_to bounds addr s step.event (group s)) else []
 
-unfoldable pub accepted_from : Bounds → ℕ → Group → List GroupStep → ℕ → List Accepted
-accepted_from bounds number group [] s = []
-accepted_from bounds number group (step ∷ steps) s = accepted_at bounds number group step s ++ accepted_from bounds number (after bounds number group step) steps s
+unfoldable pub accepted_from : Bounds → Addr → Group → List GroupStep → ℕ → List Accepted
+accepted_from bounds addr group [] s = []
+accepted_from bounds addr group (step ∷ steps) s = accepted_at bounds addr group step s ++ accepted_from bounds addr (after bounds addr group step) steps s
 
 -- the messages that were accepted at a node, in order
-abbrev pub accepted : Bounds → ℕ → List GroupStep → ℕ → List Accepted
-accepted bounds number steps s = accepted_from bounds number nobody steps s
+abbrev pub accepted : Bounds → Addr → List GroupStep → ℕ → List Accepted
+accepted bounds addr steps s = accepted_from bounds addr nobody steps s
 
 -- The entry is the message to whose say its origin was told its number, with its payload; and it is the seq-th that was accepted there, counted from 1. These are
 -- the messages accepted at each node.
@@ -58,12 +59,12 @@ abbrev pub log_of_member : ℕ → Member → List Entry
 log_of_member b m = log_at b (held_spec m.phase m.spec) m.told
 
 -- the log of each node keeps integrity, and each item that a node puts out was accepted at its origin
-pub record Integrity (bounds : Bounds) (number : ℕ) (steps : List GroupStep) : Type 0 where
-  pub logs : (b : ℕ) → KeepsIntegrity (accepted bounds number steps) (log_of_member b (alone bounds number steps b))
-  pub items : (b c : ℕ) → All (IsAccepted (accepted bounds number steps)) ((alone bounds number steps b).put c)
+pub record Integrity (bounds : Bounds) (addr : Addr) (steps : List GroupStep) : Type 0 where
+  pub logs : (b : ℕ) → KeepsIntegrity (accepted bounds addr steps) (log_of_member b (alone bounds addr steps b))
+  pub items : (b c : ℕ) → All (IsAccepted (accepted bounds addr steps)) ((alone bounds addr steps b).put c)
 
 abbrev pub IsIntegral : Type 0
-IsIntegral = (bounds : Bounds) (number : ℕ) (steps : List GroupStep) → IsLegal bounds number steps → Integrity bounds number steps
+IsIntegral = (bounds : Bounds) (addr : Addr) (steps : List GroupStep) → IsLegal bounds addr steps → Integrity bounds addr steps
 
 -- Order.
 
@@ -74,4 +75,4 @@ KeepsOrder (Some spec) log = is_fifo spec.kind ≡ true → RunsFromOne (map mes
 
 -- in each legal list of steps the log of each node keeps the order of the kind that was chosen at the node
 abbrev pub IsInOrder : Type 0
-IsInOrder = (bounds : Bounds) (number : ℕ) (steps : List GroupStep) → IsLegal bounds number steps → (b : ℕ) → KeepsOrder (alone bounds number steps b).spec (log_of_member b (alone bounds number steps b))
+IsInOrder = (bounds : Bounds) (addr : Addr) (steps : List GroupStep) → IsLegal bounds addr steps → (b : ℕ) → KeepsOrder (alone bounds addr steps b).spec (log_of_member b (alone bounds addr steps b))

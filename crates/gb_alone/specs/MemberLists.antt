@@ -22,6 +22,7 @@ use Rattle.gb_alone.specs.declared.event.GroupEvent.TheVariants.{Tenant, Make as
 use Rattle.gb_alone.specs.declared.event.GroupEvent.{GroupEvent}
 use Rattle.gb_alone.specs.declared.event.GroupStep.{GroupStep}
 use Rattle.gb_rules.specs.declared.reserve.Reserve.{Reserve}
+use Rattle.gb_types.specs.declared.address.Addr.{Addr}
 
 -- the group at one node: a place for each node in `put` and in `taken`
 pub record MemberValue : Type 0 where
@@ -109,18 +110,18 @@ value_noticed me q (Some spec) v = if is_other spec me q.number then value_calle
 abbrev pub value_at : List MemberValue → ℕ → MemberValue
 value_at vs a = slice_index_or vs a new_member
 
-abbrev pub value_after : Bounds → ℕ → NodeId → GroupEvent → List MemberValue → MemberValue
-value_after bounds number me (Tenant reserve) vs = let v = value_at vs me.number in record v { reserve = Some reserve }
-value_after bounds number me (Took b count) vs = value_took b.number count (value_at vs me.number)
-value_after bounds number me (Came from place) vs =
+abbrev pub value_after : Bounds → Addr → NodeId → GroupEvent → List MemberValue → MemberValue
+value_after bounds addr me (Tenant reserve) vs = let v = value_at vs me.number in record v { reserve = Some reserve }
+value_after bounds addr me (Took b count) vs = value_took b.number count (value_at vs me.number)
+value_after bounds addr me (Came from place) vs =
     value_taken_in (version_at bounds.versions me.number) me.number from (slice_get (slice_index_or (value_at vs from.number).put me.number []) (place - 1)) (value_at vs me.number)
-value_after bounds number me (Acknowledged b place count) vs = value_done b.number place count (value_at vs me.number)
-value_after bounds number me (Notice q) vs = let v = value_at vs me.number in value_noticed me.number q (held_spec v.phase v.spec) v
-value_after bounds number me Stop vs = let v = value_at vs me.number in record v { stopped = true }
-value_after bounds number me event vs = value_commanded me event (reply_to bounds number me.number event (member_of (value_at vs me.number))) (value_at vs me.number)
+value_after bounds addr me (Acknowledged b place count) vs = value_done b.number place count (value_at vs me.number)
+value_after bounds addr me (Notice q) vs = let v = value_at vs me.number in value_noticed me.number q (held_spec v.phase v.spec) v
+value_after bounds addr me Stop vs = let v = value_at vs me.number in record v { stopped = true }
+value_after bounds addr me event vs = value_commanded me event (reply_to bounds addr me.number event (member_of (value_at vs me.number))) (value_at vs me.number)
 
-abbrev pub values_after : Bounds → ℕ → List MemberValue → GroupStep → List MemberValue
-values_after bounds number vs step = slice_set vs step.node.number (value_after bounds number step.node step.event vs)
+abbrev pub values_after : Bounds → Addr → List MemberValue → GroupStep → List MemberValue
+values_after bounds addr vs step = slice_set vs step.node.number (value_after bounds addr step.node step.event vs)
 
 -- the lists are the member, as far as there are nodes
 pub record StandsForMember (v : MemberValue) (m : Member) : Type 0 where

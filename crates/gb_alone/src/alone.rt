@@ -33,16 +33,16 @@ fn members(alloc: Global) -> Result<Vec<Member>, OutOfMemory>
 fn command_at(
     alloc: Global,
     bounds: &Bounds,
-    number: u16,
+    address: Addr,
     group: &mut Vec<Member>,
     me: NodeId,
     event: &GroupEvent,
 ) -> Result<(), OutOfMemory>
     requires { length group.old.items ≡ MOST }
-    ensures { OnOk result (group.new.items ≡ slice_set group.old.items me.number (value_commanded me event.now (one_group.reply_to bounds.now number me.number event.now (member_of (value_at group.old.items me.number))) (value_at group.old.items me.number))) }
+    ensures { OnOk result (group.new.items ≡ slice_set group.old.items me.number (value_commanded me event.now (one_group.reply_to bounds.now address me.number event.now (member_of (value_at group.old.items me.number))) (value_at group.old.items me.number))) }
 {
     let at = me.index();
-    let reply = group[at].reply(alloc, bounds, number, me, event)?;
+    let reply = group[at].reply(alloc, bounds, address, me, event)?;
     group[at].command(alloc, me, event, reply)
 }
 
@@ -66,12 +66,12 @@ fn item_at(
 fn step_at(
     alloc: Global,
     bounds: &Bounds,
-    number: u16,
+    address: Addr,
     group: &mut Vec<Member>,
     step: &GroupStep,
 ) -> Result<(), OutOfMemory>
     requires { length group.old.items ≡ MOST }
-    ensures { OnOk result (group.new.items ≡ values_after bounds.now number group.old.items step.now) }
+    ensures { OnOk result (group.new.items ≡ values_after bounds.now address group.old.items step.now) }
 {
     let me = step.node;
     match &step.event {
@@ -94,7 +94,7 @@ fn step_at(
         | GroupEvent::Shut
         | GroupEvent::Drop
         | GroupEvent::Say(_)
-        | GroupEvent::Fetch(_, _) => command_at(alloc, bounds, number, group, me, &step.event),
+        | GroupEvent::Fetch(_, _) => command_at(alloc, bounds, address, group, me, &step.event),
     }
 }
 
@@ -124,19 +124,19 @@ fn all_seen(alloc: Global, nodes: u8, group: &[Member]) -> Result<Observation, O
     Ok(Observation::from(seen))
 }
 
-/// What is seen of the group with this number, alone, in a cluster with these bounds.
+/// What is seen of the group with this address, alone, in a cluster with these bounds.
 fn seen_alone(
     alloc: Global,
     bounds: &Bounds,
-    number: u16,
+    address: Addr,
     steps: &[GroupStep],
 ) -> Result<Observation, OutOfMemory>
     requires { bounds.now.nodes ≤ MOST }
-    ensures { IfOk result (λ o. o ≡ observed_alone bounds.now.nodes (one_group.alone bounds.now number steps.now)) }
+    ensures { IfOk result (λ o. o ≡ observed_alone bounds.now.nodes (one_group.alone bounds.now address steps.now)) }
 {
     let mut group = members(alloc)?;
     for step in steps {
-        step_at(alloc, bounds, number, &mut group, step)?;
+        step_at(alloc, bounds, address, &mut group, step)?;
     }
     all_seen(alloc, bounds.nodes, &group)
 }
@@ -150,7 +150,7 @@ pub fn alone(
     steps: &[GroupStep],
 ) -> Result<Observation, OutOfMemory>
     requires { plan.now.nodes ≤ MOST }
-    ensures { IfOk result (λ o. o ≡ observed_alone plan.now.nodes (one_group.alone (bounds_of plan.now) addr.group steps.now)) }
+    ensures { IfOk result (λ o. o ≡ observed_alone plan.now.nodes (one_group.alone (bounds_of plan.now) addr steps.now)) }
 {
-    seen_alone(alloc, &plan.bounds(), addr.group, steps)
+    seen_alone(alloc, &plan.bounds(), addr, steps)
 }

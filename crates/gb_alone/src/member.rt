@@ -7,6 +7,7 @@ ghost use Rattle.gb_alone.specs.Alone.{Member as Prior, held_spec, is_acknowledg
 ghost use Rattle.gb_alone.specs.MemberLists.{member_of, StandsForMember};
 ghost use Rattle.gb_history.specs.History.{calls_of};
 ghost use Rattle.gb_rules.specs.Group.{Shown, fetch_answer};
+ghost use Rattle.gb_types.specs.declared.address.Addr.{Addr as AnyAddress};
 ghost use Rattle.gb_types.specs.declared.reply.Reply.{Reply as Answer};
 
 use crate::event::GroupEvent;
@@ -21,6 +22,7 @@ use gb_rules::phase::Phase;
 use gb_rules::reserve::Reserve;
 use gb_rules::tenant::answer_make;
 use gb_rules::usage::Usage;
+use gb_types::address::Addr;
 use gb_types::entry::{Entries, Entry};
 use gb_types::limits::NODES;
 use gb_types::memory::OutOfMemory;
@@ -152,7 +154,7 @@ impl Member {
 
     /// The reply to a command to open the group.
     fn open_reply(&self) -> Reply
-        ensures { (bounds : Bounds) (number me : ℕ) → result ≡ one_group.running_reply bounds number me GroupEvent.Open (member_of self.now) }
+        ensures { (bounds : Bounds) (addr : AnyAddress) (me : ℕ) → result ≡ one_group.running_reply bounds addr me GroupEvent.Open (member_of self.now) }
     {
         if let Err(why) = self.made_spec() {
             return Reply::Refused(why);
@@ -165,7 +167,7 @@ impl Member {
 
     /// The reply to a command to shut the group.
     fn shut_reply(&self) -> Reply
-        ensures { (bounds : Bounds) (number me : ℕ) → result ≡ one_group.running_reply bounds number me GroupEvent.Shut (member_of self.now) }
+        ensures { (bounds : Bounds) (addr : AnyAddress) (me : ℕ) → result ≡ one_group.running_reply bounds addr me GroupEvent.Shut (member_of self.now) }
     {
         if let Err(why) = self.made_spec() {
             return Reply::Refused(why);
@@ -178,7 +180,7 @@ impl Member {
 
     /// The reply to a command to drop the group.
     fn drop_reply(&self) -> Reply
-        ensures { (bounds : Bounds) (number me : ℕ) → result ≡ one_group.running_reply bounds number me GroupEvent.Drop (member_of self.now) }
+        ensures { (bounds : Bounds) (addr : AnyAddress) (me : ℕ) → result ≡ one_group.running_reply bounds addr me GroupEvent.Drop (member_of self.now) }
     {
         match self.made_spec() {
             Ok(_) => Reply::Done,
@@ -254,7 +256,7 @@ impl Member {
         me: NodeId,
         message: &NewMessage,
     ) -> Result<Reply, OutOfMemory>
-        ensures { (number : ℕ) → IfOk result (λ r. r ≡ one_group.running_reply bounds.now number me.number (GroupEvent.Say message.now) (member_of self.now)) }
+        ensures { (address : AnyAddress) → IfOk result (λ r. r ≡ one_group.running_reply bounds.now address me.number (GroupEvent.Say message.now) (member_of self.now)) }
     {
         let spec = match self.made_spec() {
             Ok(spec) => spec,
@@ -283,7 +285,7 @@ impl Member {
         from: u32,
         max: u32,
     ) -> Result<Reply, OutOfMemory>
-        ensures { (bounds : Bounds) (number : ℕ) → IfOk result (λ r. r ≡ one_group.running_reply bounds number me.number (GroupEvent.Fetch from max) (member_of self.now)) }
+        ensures { (bounds : Bounds) (address : AnyAddress) → IfOk result (λ r. r ≡ one_group.running_reply bounds address me.number (GroupEvent.Fetch from max) (member_of self.now)) }
     {
         let spec = match self.made_spec() {
             Ok(spec) => spec,
@@ -294,15 +296,15 @@ impl Member {
     }
 
     /// The reply to a command to make the group.
-    fn make_reply(&self, bounds: &Bounds, number: u16, me: NodeId, spec: &Spec) -> Reply
-        ensures { result ≡ one_group.running_reply bounds.now number me.number (GroupEvent.Make spec.now) (member_of self.now) }
+    fn make_reply(&self, bounds: &Bounds, address: Addr, me: NodeId, spec: &Spec) -> Reply
+        ensures { result ≡ one_group.running_reply bounds.now address me.number (GroupEvent.Make spec.now) (member_of self.now) }
     {
         match &self.reserve {
             None => Reply::Refused(Refusal::Denied),
             Some(reserve) => answer_make(
                 usize::from(bounds.nodes),
                 me,
-                number,
+                address,
                 self.spec.is_some(),
                 spec,
                 reserve,
@@ -315,14 +317,14 @@ impl Member {
         &self,
         alloc: Global,
         bounds: &Bounds,
-        number: u16,
+        address: Addr,
         me: NodeId,
         event: &GroupEvent,
     ) -> Result<Reply, OutOfMemory>
-        ensures { IfOk result (λ r. r ≡ one_group.running_reply bounds.now number me.number event.now (member_of self.now)) }
+        ensures { IfOk result (λ r. r ≡ one_group.running_reply bounds.now address me.number event.now (member_of self.now)) }
     {
         match event {
-            GroupEvent::Make(spec) => Ok(self.make_reply(bounds, number, me, spec)),
+            GroupEvent::Make(spec) => Ok(self.make_reply(bounds, address, me, spec)),
             GroupEvent::Open => Ok(self.open_reply()),
             GroupEvent::Shut => Ok(self.shut_reply()),
             GroupEvent::Drop => Ok(self.drop_reply()),
@@ -342,16 +344,16 @@ impl Member {
         &self,
         alloc: Global,
         bounds: &Bounds,
-        number: u16,
+        address: Addr,
         me: NodeId,
         event: &GroupEvent,
     ) -> Result<Reply, OutOfMemory>
-        ensures { IfOk result (λ r. r ≡ one_group.reply_to bounds.now number me.number event.now (member_of self.now)) }
+        ensures { IfOk result (λ r. r ≡ one_group.reply_to bounds.now address me.number event.now (member_of self.now)) }
     {
         if self.stopped {
             return Ok(Reply::Refused(Refusal::Stopped));
         }
-        self.running_reply(alloc, bounds, number, me, event)
+        self.running_reply(alloc, bounds, address, me, event)
     }
 
     /// The group is told something here.

@@ -29,6 +29,7 @@ use Rattle.gb_alone.specs.declared.event.GroupEvent.TheVariants.{Tenant, Make as
 use Rattle.gb_alone.specs.declared.event.GroupStep.{GroupStep}
 use Rattle.gb_duties.proofs.InvariantLemmas.{Later}
 use Rattle.gb_duties.proofs.StepLemmas.{calls_in, AllFit, step_fits, nobody_fits}
+use Rattle.gb_types.specs.declared.address.Addr.{Addr}
 
 -- What was accepted was said.
 
@@ -45,48 +46,48 @@ did_said me AskDrop Done m = tt
 did_said me (AskSay message) (Said seq) m = (or_first (same (numbered me seq) (numbered me seq)) (was_said (calls_of m.told) (numbered me seq)) (same_itself (numbered me seq)), tt)
 did_said me event reply m = tt
 
-event_said : (bounds : Bounds) (number : ℕ) (me : NodeId) (event : GroupEvent) (group : Group) → AllByRecursion (IsSaidBy me (member_after bounds number me event group).told) (accepted_in event (reply_to bounds number me.number event (group me.number)))
-event_said bounds number me (Tenant reserve) group = tt
-event_said bounds number me (Took b count) group = tt
-event_said bounds number me (Came from place) group = tt
-event_said bounds number me (Acknowledged b place count) group = tt
-event_said bounds number me (Notice q) group = tt
-event_said bounds number me Stop group = tt
-event_said bounds number me event group = did_said me event (reply_to bounds number me.number event (group me.number)) (group me.number)
+event_said : (bounds : Bounds) (addr : Addr) (me : NodeId) (event : GroupEvent) (group : Group) → AllByRecursion (IsSaidBy me (member_after bounds addr me event group).told) (accepted_in event (reply_to bounds addr me.number event (group me.number)))
+event_said bounds addr me (Tenant reserve) group = tt
+event_said bounds addr me (Took b count) group = tt
+event_said bounds addr me (Came from place) group = tt
+event_said bounds addr me (Acknowledged b place count) group = tt
+event_said bounds addr me (Notice q) group = tt
+event_said bounds addr me Stop group = tt
+event_said bounds addr me event group = did_said me event (reply_to bounds addr me.number event (group me.number)) (group me.number)
 
-step_said : (bounds : Bounds) (number : ℕ) (group : Group) (step : GroupStep) (s : NodeId) → AllByRecursion (IsSaidBy s (after bounds number group step s.number).told) (accepted_at bounds number group step s.number)
+step_said : (bounds : Bounds) (addr : Addr) (group : Group) (step : GroupStep) (s : NodeId) → AllByRecursion (IsSaidBy s (after bounds addr group step s.number).told) (accepted_at bounds addr group step s.number)
 unfolding after
-step_said bounds number group step s = go (nat_eq s.number step.node.number) refl
+step_said bounds addr group step s = go (nat_eq s.number step.node.number) refl
   where
     go : (t : Bool) → nat_eq s.number step.node.number ≡ t
-        → AllByRecursion (IsSaidBy s (if t then member_after bounds number step.node step.event group else group s.number).told) (if t then accepted_in step.event (reply_to bounds number s.number step.event (group s.number)) else [])
+        → AllByRecursion (IsSaidBy s (if t then member_after bounds addr step.node step.event group else group s.number).told) (if t then accepted_in step.event (reply_to bounds addr s.number step.event (group s.number)) else [])
     go true is =
-        subst (λ (y : NodeId). AllByRecursion (IsSaidBy y (member_after bounds number step.node step.event group).told) (accepted_in step.event (reply_to bounds number y.number step.event (group y.number))))
-        (sym (same_number s step.node (eqb-true s.number step.node.number is))) (event_said bounds number step.node step.event group)
+        subst (λ (y : NodeId). AllByRecursion (IsSaidBy y (member_after bounds addr step.node step.event group).told) (accepted_in step.event (reply_to bounds addr y.number step.event (group y.number))))
+        (sym (same_number s step.node (eqb-true s.number step.node.number is))) (event_said bounds addr step.node step.event group)
     go false is = tt
 
-run_later : (bounds : Bounds) (number : ℕ) (steps : List GroupStep) (group : Group) → AllFit group → Later (calls_in group) (calls_in (alone_from bounds number group steps))
-run_later bounds number [] group fits = record { mentioned = λ a m h. h; said = λ a m h. h }
-run_later bounds number (step ∷ steps) group fits =
-    let one = step_fits bounds number group step fits in
-    let rest = run_later bounds number steps (after bounds number group step) one.0 in
+run_later : (bounds : Bounds) (addr : Addr) (steps : List GroupStep) (group : Group) → AllFit group → Later (calls_in group) (calls_in (alone_from bounds addr group steps))
+run_later bounds addr [] group fits = record { mentioned = λ a m h. h; said = λ a m h. h }
+run_later bounds addr (step ∷ steps) group fits =
+    let one = step_fits bounds addr group step fits in
+    let rest = run_later bounds addr steps (after bounds addr group step) one.0 in
     record { mentioned = λ a m h. rest.mentioned a m (one.1.mentioned a m h); said = λ a m h. rest.said a m (one.1.said a m h) }
 
-run_said : (bounds : Bounds) (number : ℕ) (s : NodeId) (steps : List GroupStep) (group : Group) → AllFit group → AllByRecursion (IsSaidBy s (alone_from bounds number group steps s.number).told) (accepted_from bounds number group steps s.number)
+run_said : (bounds : Bounds) (addr : Addr) (s : NodeId) (steps : List GroupStep) (group : Group) → AllFit group → AllByRecursion (IsSaidBy s (alone_from bounds addr group steps s.number).told) (accepted_from bounds addr group steps s.number)
 unfolding accepted_from
-run_said bounds number s [] group fits = tt
-run_said bounds number s (step ∷ steps) group fits =
-    let next = after bounds number group step in
-    let end = alone_from bounds number next steps in
-    let fit = (step_fits bounds number group step fits).0 in
-    let later = run_later bounds number steps next fit in
-    all_append (IsSaidBy s (end s.number).told) (accepted_at bounds number group step s.number) (accepted_from bounds number next steps s.number)
-    (all_weaker (IsSaidBy s (next s.number).told) (IsSaidBy s (end s.number).told) (λ x h. later.said s.number (numbered s x.seq) h) (accepted_at bounds number group step s.number) (step_said bounds number group step s))
-    (run_said bounds number s steps next fit)
+run_said bounds addr s [] group fits = tt
+run_said bounds addr s (step ∷ steps) group fits =
+    let next = after bounds addr group step in
+    let end = alone_from bounds addr next steps in
+    let fit = (step_fits bounds addr group step fits).0 in
+    let later = run_later bounds addr steps next fit in
+    all_append (IsSaidBy s (end s.number).told) (accepted_at bounds addr group step s.number) (accepted_from bounds addr next steps s.number)
+    (all_weaker (IsSaidBy s (next s.number).told) (IsSaidBy s (end s.number).told) (λ x h. later.said s.number (numbered s x.seq) h) (accepted_at bounds addr group step s.number) (step_said bounds addr group step s))
+    (run_said bounds addr s steps next fit)
 
 -- each accepted message was said
-pub accepted_said : (bounds : Bounds) (number : ℕ) (s : NodeId) (steps : List GroupStep) → AllByRecursion (λ (x : Accepted). was_said (calls_in (alone bounds number steps) s.number) (numbered s x.seq) ≡ true) (accepted bounds number steps s.number)
-accepted_said bounds number s steps = run_said bounds number s steps nobody nobody_fits
+pub accepted_said : (bounds : Bounds) (addr : Addr) (s : NodeId) (steps : List GroupStep) → AllByRecursion (λ (x : Accepted). was_said (calls_in (alone bounds addr steps) s.number) (numbered s x.seq) ≡ true) (accepted bounds addr steps s.number)
+accepted_said bounds addr s steps = run_said bounds addr s steps nobody nobody_fits
 
 -- Where nothing was accepted nothing was said.
 
@@ -116,40 +117,40 @@ notice_silent a q (Some spec) m x h = go (is_other spec a q.number) h
     go true h = h
     go false h = h
 
-event_silent : (bounds : Bounds) (number : ℕ) (me : NodeId) (event : GroupEvent) (group : Group) → accepted_in event (reply_to bounds number me.number event (group me.number)) ≡ [] → (x : MsgId)
-    → was_said (calls_of (member_after bounds number me event group).told) x ≡ true → was_said (calls_of (group me.number).told) x ≡ true
-event_silent bounds number me (Tenant reserve) group none x h = h
-event_silent bounds number me (Took b count) group none x h = h
-event_silent bounds number me (Came from place) group none x h = taken_silent (version_at bounds.versions me.number) me.number from place (slice_get ((group from.number).put me.number) (place - 1)) (group me.number) x h
-event_silent bounds number me (Acknowledged b place count) group none x h = h
-event_silent bounds number me (Notice q) group none x h = notice_silent me.number q (held_spec (group me.number).phase (group me.number).spec) (group me.number) x h
-event_silent bounds number me Stop group none x h = h
-event_silent bounds number me event group none x h = did_silent me event (reply_to bounds number me.number event (group me.number)) (group me.number) none x h
+event_silent : (bounds : Bounds) (addr : Addr) (me : NodeId) (event : GroupEvent) (group : Group) → accepted_in event (reply_to bounds addr me.number event (group me.number)) ≡ [] → (x : MsgId)
+    → was_said (calls_of (member_after bounds addr me event group).told) x ≡ true → was_said (calls_of (group me.number).told) x ≡ true
+event_silent bounds addr me (Tenant reserve) group none x h = h
+event_silent bounds addr me (Took b count) group none x h = h
+event_silent bounds addr me (Came from place) group none x h = taken_silent (version_at bounds.versions me.number) me.number from place (slice_get ((group from.number).put me.number) (place - 1)) (group me.number) x h
+event_silent bounds addr me (Acknowledged b place count) group none x h = h
+event_silent bounds addr me (Notice q) group none x h = notice_silent me.number q (held_spec (group me.number).phase (group me.number).spec) (group me.number) x h
+event_silent bounds addr me Stop group none x h = h
+event_silent bounds addr me event group none x h = did_silent me event (reply_to bounds addr me.number event (group me.number)) (group me.number) none x h
 
-step_silent : (bounds : Bounds) (number : ℕ) (group : Group) (step : GroupStep) → ((s : ℕ) → accepted_at bounds number group step s ≡ []) → (a : ℕ) (x : MsgId) → was_said (calls_in (after bounds number group step) a) x ≡ true → was_said (calls_in group a) x ≡ true
+step_silent : (bounds : Bounds) (addr : Addr) (group : Group) (step : GroupStep) → ((s : ℕ) → accepted_at bounds addr group step s ≡ []) → (a : ℕ) (x : MsgId) → was_said (calls_in (after bounds addr group step) a) x ≡ true → was_said (calls_in group a) x ≡ true
 unfolding after
-step_silent bounds number group step none a x h = go (nat_eq a step.node.number) refl (none a) h
+step_silent bounds addr group step none a x h = go (nat_eq a step.node.number) refl (none a) h
   where
-    go : (t : Bool) → nat_eq a step.node.number ≡ t → (if t then accepted_in step.event (reply_to bounds number a step.event (group a)) else []) ≡ []
-        → was_said (calls_of (if t then member_after bounds number step.node step.event group else group a).told) x ≡ true → was_said (calls_of (group a).told) x ≡ true
+    go : (t : Bool) → nat_eq a step.node.number ≡ t → (if t then accepted_in step.event (reply_to bounds addr a step.event (group a)) else []) ≡ []
+        → was_said (calls_of (if t then member_after bounds addr step.node step.event group else group a).told) x ≡ true → was_said (calls_of (group a).told) x ≡ true
     go true is none h =
         let same_node = eqb-true a step.node.number is in
         subst (λ y. was_said (calls_of (group y).told) x ≡ true) (sym same_node)
-        (event_silent bounds number step.node step.event group (subst (λ y. accepted_in step.event (reply_to bounds number y step.event (group y)) ≡ []) same_node none) x h)
+        (event_silent bounds addr step.node step.event group (subst (λ y. accepted_in step.event (reply_to bounds addr y step.event (group y)) ≡ []) same_node none) x h)
     go false is none h = h
 
 none_first : (xs ys : List Accepted) → xs ++ ys ≡ [] → (xs ≡ []) × (ys ≡ [])
 none_first [] ys h = (refl, h)
 none_first (x ∷ xs) ys h = absurd (cc)
 
-run_silent : (bounds : Bounds) (number : ℕ) (steps : List GroupStep) (group : Group) → ((s : ℕ) → accepted_from bounds number group steps s ≡ []) → (a : ℕ) (x : MsgId) → was_said (calls_in (alone_from bounds number group steps) a) x ≡ true → was_said (calls_in group a) x ≡ true
+run_silent : (bounds : Bounds) (addr : Addr) (steps : List GroupStep) (group : Group) → ((s : ℕ) → accepted_from bounds addr group steps s ≡ []) → (a : ℕ) (x : MsgId) → was_said (calls_in (alone_from bounds addr group steps) a) x ≡ true → was_said (calls_in group a) x ≡ true
 unfolding accepted_from
-run_silent bounds number [] group none a x h = h
-run_silent bounds number (step ∷ steps) group none a x h =
-    let parts : (s : ℕ) → (accepted_at bounds number group step s ≡ []) × (accepted_from bounds number (after bounds number group step) steps s ≡ []) =
-    λ s. none_first (accepted_at bounds number group step s) (accepted_from bounds number (after bounds number group step) steps s) (none s) in
-    step_silent bounds number group step (λ s. (parts s).0) a x (run_silent bounds number steps (after bounds number group step) (λ s. (parts s).1) a x h)
+run_silent bounds addr [] group none a x h = h
+run_silent bounds addr (step ∷ steps) group none a x h =
+    let parts : (s : ℕ) → (accepted_at bounds addr group step s ≡ []) × (accepted_from bounds addr (after bounds addr group step) steps s ≡ []) =
+    λ s. none_first (accepted_at bounds addr group step s) (accepted_from bounds addr (after bounds addr group step) steps s) (none s) in
+    step_silent bounds addr group step (λ s. (parts s).0) a x (run_silent bounds addr steps (after bounds addr group step) (λ s. (parts s).1) a x h)
 
-pub none_said : (bounds : Bounds) (number : ℕ) (steps : List GroupStep) → ((s : ℕ) → accepted bounds number steps s ≡ []) → (a : ℕ) (x : MsgId) → was_said (calls_in (alone bounds number steps) a) x ≡ true → ⊥
+pub none_said : (bounds : Bounds) (addr : Addr) (steps : List GroupStep) → ((s : ℕ) → accepted bounds addr steps s ≡ []) → (a : ℕ) (x : MsgId) → was_said (calls_in (alone bounds addr steps) a) x ≡ true → ⊥
 unfolding calls_of
-none_said bounds number steps none a x h = let e : was_said (calls_of []) x ≡ true = run_silent bounds number steps nobody none a x h in absurd (cc)
+none_said bounds addr steps none a x h = let e : was_said (calls_of []) x ≡ true = run_silent bounds addr steps nobody none a x h in absurd (cc)

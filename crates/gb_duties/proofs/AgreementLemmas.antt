@@ -37,6 +37,7 @@ use Rattle.gb_duties.proofs.DutyLemmas.{of_member}
 use Rattle.gb_duties.proofs.FlowLemmas.{Flow, IsSound, Taking, nobody_flows, run_flows, legal_parts, run_takes, first_taking}
 use Rattle.gb_duties.proofs.AcceptedLemmas.{accepted_said, none_said}
 use Rattle.gb_duties.proofs.OrderLemmas.{log_more, log_has}
+use Rattle.gb_types.specs.declared.address.Addr.{Addr}
 
 -- a settled group, as it is
 record Calm (runs : ℕ → Bool) (spec : Spec) (group : Group) : Type 0 where
@@ -213,10 +214,10 @@ module _ (runs : ℕ → Bool) (spec : Spec) (group : Group) (calm : Calm runs s
 
 module _ (has_delivered : ModuleLogHasDelivered) (numbers : (origin : NodeId) (delivered : List MsgId) → numbers_of origin.number (in_order delivered) ≡ upto (top origin delivered))
     (stand : (origin : NodeId) (delivered : List MsgId) (seq : ℕ) → 1 ≤ seq → seq ≤ top origin delivered → is_in delivered (numbered origin seq) ≡ true) (ends : (origin : NodeId) (delivered : List MsgId) → is_in delivered (numbered origin (top origin delivered + 1)) ≡ false) where
-  agreed : (bounds : Bounds) (number : ℕ) (steps : List GroupStep) (runs : ℕ → Bool) (spec : Spec) → Calm runs spec (alone bounds number steps) → AreEnough runs spec → KeepsAgreement (accepted bounds number steps) (logs_of (alone bounds number steps)) runs spec
-  agreed bounds number steps runs spec calm enough = record {
-    validity = λ s b run_s run_b. All-from_recursion (λ (x : Accepted). has (logs_of group b) (numbered s x.seq) ≡ true) (accepted bounds number steps s.number)
-        (all_weaker (λ (x : Accepted). was_said (calls_of (group s.number).told) (numbered s x.seq) ≡ true) (λ (x : Accepted). has (logs_of group b) (numbered s x.seq) ≡ true) (λ x said. valid s b run_s run_b x.seq said) (accepted bounds number steps s.number) (accepted_said bounds number s steps));
+  agreed : (bounds : Bounds) (addr : Addr) (steps : List GroupStep) (runs : ℕ → Bool) (spec : Spec) → Calm runs spec (alone bounds addr steps) → AreEnough runs spec → KeepsAgreement (accepted bounds addr steps) (logs_of (alone bounds addr steps)) runs spec
+  agreed bounds addr steps runs spec calm enough = record {
+    validity = λ s b run_s run_b. All-from_recursion (λ (x : Accepted). has (logs_of group b) (numbered s x.seq) ≡ true) (accepted bounds addr steps s.number)
+        (all_weaker (λ (x : Accepted). was_said (calls_of (group s.number).told) (numbered s x.seq) ≡ true) (λ (x : Accepted). has (logs_of group b) (numbered s x.seq) ≡ true) (λ x said. valid s b run_s run_b x.seq said) (accepted bounds addr steps s.number) (accepted_said bounds addr s steps));
     agreement = λ reliable b c run_b run_c m. both_ways (has (logs_of group b) m) (has (logs_of group c) m)
         (more b c run_b.0 (calm.kept b run_b) run_c (λ k up. up_more runs spec group calm enough b c k run_b run_c up (module_of spec.kind) refl reliable) m)
         (more c b run_c.0 (calm.kept c run_c) run_b (λ k up. up_more runs spec group calm enough c b k run_c run_b up (module_of spec.kind) refl reliable) m);
@@ -224,7 +225,7 @@ module _ (has_delivered : ModuleLogHasDelivered) (numbers : (origin : NodeId) (d
   }
     where
       group : Group
-      group = alone bounds number steps
+      group = alone bounds addr steps
 
       is_log : (b : ℕ) → is_member spec b ≡ true → is_gone (group b).phase ≡ false → (m : MsgId) → has (logs_of group b) m ≡ is_in (kind_log spec.kind b (set.items spec.members) (calls_of (group b).told)) m
       is_log b in_b here m = logged-is b (held_spec (group b).phase (group b).spec) spec (group b).told m (ap (λ (gone : Bool). if gone then None else (group b).spec) here ∙ calm.taking.made b in_b)
@@ -250,9 +251,9 @@ module _ (has_delivered : ModuleLogHasDelivered) (numbers : (origin : NodeId) (d
           (λ k some le. said_up runs spec group calm enough s.number b (numbered s k) refl run_s run_b (fits.said_all (numbered s k) refl some (omega (arith, le, few)))) seq fair.counted (omega arith)
 
   pub is_agreed : IsAgreed
-  is_agreed bounds number steps legal runs spec settled enough = agreed bounds number steps runs spec (record {
-    flow = run_flows bounds number steps nobody legal nobody_flows;
-    taking = subst (λ (g : Group). Taking spec g) (sym split) (run_takes bounds number spec settled.version settled.versions settled.later (alone bounds number settled.earlier) (λ earlier later is. sound earlier) parts.1 before (run_short bounds number settled.earlier nobody (nobody_short bounds)) (first_taking spec (alone bounds number settled.earlier) before.fits settled.made (none_said bounds number settled.earlier settled.silent)));
+  is_agreed bounds addr steps legal runs spec settled enough = agreed bounds addr steps runs spec (record {
+    flow = run_flows bounds addr steps nobody legal nobody_flows;
+    taking = subst (λ (g : Group). Taking spec g) (sym split) (run_takes bounds addr spec settled.version settled.versions settled.later (alone bounds addr settled.earlier) (λ earlier later is. sound earlier) parts.1 before (run_short bounds addr settled.earlier nobody (nobody_short bounds)) (first_taking spec (alone bounds addr settled.earlier) before.fits settled.made (none_said bounds addr settled.earlier settled.silent)));
     kept = settled.kept;
     carried = λ a b run_a run_b other. settled.carried a b run_a run_b (differ a b other);
     came = λ a b run_a run_b other. settled.came a b run_a run_b (differ a b other);
@@ -263,14 +264,14 @@ module _ (has_delivered : ModuleLogHasDelivered) (numbers : (origin : NodeId) (d
       differ : (a b : ℕ) → nat_eq a b ≡ false → a ≢ b
       differ a b other is = let e = eq-eqb a b is in absurd (cc)
 
-      parts : IsLegal bounds number settled.earlier × IsLegalFrom bounds number (alone bounds number settled.earlier) settled.later
-      parts = legal_parts bounds number settled.earlier settled.later nobody (subst (λ (ss : List GroupStep). IsLegal bounds number ss) settled.moment legal)
+      parts : IsLegal bounds addr settled.earlier × IsLegalFrom bounds addr (alone bounds addr settled.earlier) settled.later
+      parts = legal_parts bounds addr settled.earlier settled.later nobody (subst (λ (ss : List GroupStep). IsLegal bounds addr ss) settled.moment legal)
 
-      before : Flow (alone bounds number settled.earlier)
-      before = run_flows bounds number settled.earlier nobody parts.0 nobody_flows
+      before : Flow (alone bounds addr settled.earlier)
+      before = run_flows bounds addr settled.earlier nobody parts.0 nobody_flows
 
-      sound : (late : List GroupStep) → IsSound (alone_from bounds number (alone bounds number settled.earlier) late)
-      sound late = subst IsSound (fold-append (after bounds number) nobody settled.earlier late) (alone_fits bounds number (settled.earlier ++ late))
+      sound : (late : List GroupStep) → IsSound (alone_from bounds addr (alone bounds addr settled.earlier) late)
+      sound late = subst IsSound (fold-append (after bounds addr) nobody settled.earlier late) (alone_fits bounds addr (settled.earlier ++ late))
 
-      split : alone bounds number steps ≡ alone_from bounds number (alone bounds number settled.earlier) settled.later
-      split = ap (λ (ss : List GroupStep). alone bounds number ss) settled.moment ∙ fold-append (after bounds number) nobody settled.earlier settled.later
+      split : alone bounds addr steps ≡ alone_from bounds addr (alone bounds addr settled.earlier) settled.later
+      split = ap (λ (ss : List GroupStep). alone bounds addr ss) settled.moment ∙ fold-append (after bounds addr) nobody settled.earlier settled.later

@@ -18,7 +18,7 @@ use Rattle.gb_alone.specs.Laws.{accepted_in, accepted_from, accepted, log_of_mem
 use Rattle.gb_alone.specs.declared.event.GroupEvent.TheVariants.{Say, Took, Came, Notice, Stop}
 use Rattle.gb_alone.specs.declared.event.GroupStep.{GroupStep}
 use Rattle.gb_duties.specs.Agreement.{IsRunning, IsSettled, AreEnough}
-use Rattle.gb_duties.specs.Examples.{bounds, first, second, third, message, one_byte, members, spec_of, at, opened, to_one, loss, crash, runs, left_alone, only_first, log_in}
+use Rattle.gb_duties.specs.Examples.{bounds, first, second, third, message, one_byte, members, spec_of, at, opened, to_one, loss, crash, runs, left_alone, only_first, log_in, address}
 use Rattle.gb_duties.proofs.ExampleLemmas.{in_0, in_1, in_2, most_of, majority_of, One, is_0, is_1, is_2, member, with_at, ready, group_open, all_open, zero_said, carries, has_come, one_took, group_one, comes, Leads, stop_here, and_then, join, open_all, length_one, lead_one, notices, noticed_is}
 
 -- Node 0 stops, and the others notice that.
@@ -98,28 +98,28 @@ run_crash kind relay = join nobody (group_open kind) (group_crashed kind) (opene
 -- When such a group is settled.
 
 -- nothing is said while the group is opened
-unaccepted : (g : Group) (step : GroupStep) (s : ℕ) (rest : List GroupStep) → ((reply : Reply) → accepted_in step.event reply ≡ []) → accepted_from bounds 0 (after bounds 0 g step) rest s ≡ [] → accepted_from bounds 0 g (step ∷ rest) s ≡ []
+unaccepted : (g : Group) (step : GroupStep) (s : ℕ) (rest : List GroupStep) → ((reply : Reply) → accepted_in step.event reply ≡ []) → accepted_from bounds address (after bounds address g step) rest s ≡ [] → accepted_from bounds address g (step ∷ rest) s ≡ []
 unfolding accepted_from
-unaccepted g step s rest none later = ap (λ xs. xs ++ accepted_from bounds 0 (after bounds 0 g step) rest s) (go (nat_eq s step.node.number)) ∙ later
+unaccepted g step s rest none later = ap (λ xs. xs ++ accepted_from bounds address (after bounds address g step) rest s) (go (nat_eq s step.node.number)) ∙ later
   where
     reply : Reply
-    reply = reply_to bounds 0 s step.event (g s)
+    reply = reply_to bounds address s step.event (g s)
 
     go : (t : Bool) → (if t then accepted_in step.event reply else []) ≡ []
     go true = none reply
     go false = refl
 
-nothing : (g : Group) (s : ℕ) → accepted_from bounds 0 g [] s ≡ []
+nothing : (g : Group) (s : ℕ) → accepted_from bounds address g [] s ≡ []
 unfolding accepted_from
 nothing g s = refl
 
-silent : (kind : Kind) (s : ℕ) → accepted bounds 0 (opened kind) s ≡ []
+silent : (kind : Kind) (s : ℕ) → accepted bounds address (opened kind) s ≡ []
 silent kind s =
     unaccepted _ _ s _ (λ r. refl) (unaccepted _ _ s _ (λ r. refl) (unaccepted _ _ s _ (λ r. refl)
     (unaccepted _ _ s _ (λ r. refl) (unaccepted _ _ s _ (λ r. refl) (unaccepted _ _ s _ (λ r. refl)
     (unaccepted _ _ s _ (λ r. refl) (unaccepted _ _ s _ (λ r. refl) (unaccepted _ _ s _ (λ r. refl) (nothing _ s)))))))))
 
-made : (kind : Kind) (a : ℕ) → set.contains members a ≡ true → (alone bounds 0 (opened kind) a).spec ≡ Some (spec_of kind)
+made : (kind : Kind) (a : ℕ) → set.contains members a ≡ true → (alone bounds address (opened kind) a).spec ≡ Some (spec_of kind)
 made kind a inside = ap (λ (g : Group). (g a).spec) (all_open kind) ∙ by (member a inside)
   where
     by : One a → (group_open kind a).spec ≡ Some (spec_of kind)
@@ -159,13 +159,13 @@ for_pair kind p one two a b run_a run_b other = by (running kind a run_a) (runni
     by (inr e) (inr f) = absurd (other (e ∙ sym f))
 
 -- these facts about the nodes are all that is asked
-settle : (kind : Kind) (steps : List GroupStep) (g : Group) → alone bounds 0 (opened kind ++ steps) ≡ g
+settle : (kind : Kind) (steps : List GroupStep) (g : Group) → alone bounds address (opened kind ++ steps) ≡ g
     → is_gone (g 1).phase ≡ false → is_gone (g 2).phase ≡ false
     → (g 1).taken 2 ≡ length ((g 1).put 2) → (g 2).taken 1 ≡ length ((g 2).put 1)
     → ((place : ℕ) → 0 < place → place ≤ (g 1).taken 2 → is_marked place ((g 2).come 1) ≡ true) → ((place : ℕ) → 0 < place → place ≤ (g 2).taken 1 → is_marked place ((g 1).come 2) ≡ true)
     → was_noticed (calls_of (g 1).told) 0 ≡ true → was_noticed (calls_of (g 2).told) 0 ≡ true
     → ((b : ℕ) → (b ≡ 1) ⊎ (b ≡ 2) → (was_noticed (calls_of (g 0).told) b ≡ false) × (was_noticed (calls_of (g 1).told) b ≡ false) × (was_noticed (calls_of (g 2).told) b ≡ false))
-    → IsSettled bounds 0 (opened kind ++ steps) runs (spec_of kind)
+    → IsSettled bounds address (opened kind ++ steps) runs (spec_of kind)
 settle kind steps g is here_one here_two carried_one carried_two came_one came_two noticed_one noticed_two unnoticed = record {
   earlier = opened kind;
   later = steps;
@@ -175,9 +175,9 @@ settle kind steps g is here_one here_two carried_one carried_two came_one came_t
   version = texts.One;
   versions = λ a inside. one_version a (member a inside);
   kept = λ a run_a. subst (λ (h : Group). is_gone (h a).phase ≡ false) (sym is) (kept a (running kind a run_a));
-  carried = for_pair kind (λ a b. (alone bounds 0 (opened kind ++ steps) a).taken b ≡ length ((alone bounds 0 (opened kind ++ steps) a).put b))
+  carried = for_pair kind (λ a b. (alone bounds address (opened kind ++ steps) a).taken b ≡ length ((alone bounds address (opened kind ++ steps) a).put b))
       (subst (λ (h : Group). (h 1).taken 2 ≡ length ((h 1).put 2)) (sym is) carried_one) (subst (λ (h : Group). (h 2).taken 1 ≡ length ((h 2).put 1)) (sym is) carried_two);
-  came = for_pair kind (λ a b. (place : ℕ) → 0 < place → place ≤ (alone bounds 0 (opened kind ++ steps) a).taken b → is_marked place ((alone bounds 0 (opened kind ++ steps) b).come a) ≡ true)
+  came = for_pair kind (λ a b. (place : ℕ) → 0 < place → place ≤ (alone bounds address (opened kind ++ steps) a).taken b → is_marked place ((alone bounds address (opened kind ++ steps) b).come a) ≡ true)
       (subst (λ (h : Group). (place : ℕ) → 0 < place → place ≤ (h 1).taken 2 → is_marked place ((h 2).come 1) ≡ true) (sym is) came_one)
       (subst (λ (h : Group). (place : ℕ) → 0 < place → place ≤ (h 2).taken 1 → is_marked place ((h 1).come 2) ≡ true) (sym is) came_two);
   noticed = λ a b run_a inside stop. subst (λ (h : Group). was_noticed (calls_of (h a).told) b ≡ true) (sym is) (ap (λ z. was_noticed (calls_of (g a).told) z) (stopped b stop) ∙ crashed a (running kind a run_a));
@@ -203,7 +203,7 @@ settle kind steps g is here_one here_two carried_one carried_two came_one came_t
 only_one : (p : ℕ → Type 0) (count : ℕ) → count ≡ 1 → p 1 → (place : ℕ) → 0 < place → place ≤ count → p place
 only_one p count is h place low high = let e : 1 ≡ place = omega (arith, is, low, high) in subst p e h
 
-crash_settles : (kind : Kind) → BothRelay kind → IsSettled bounds 0 (opened kind ++ crash) runs (spec_of kind)
+crash_settles : (kind : Kind) → BothRelay kind → IsSettled bounds address (opened kind ++ crash) runs (spec_of kind)
 unfolding calls_of known
 crash_settles kind relay =
     settle kind crash (group_crashed kind) (run_crash kind relay).end refl refl (sym (ap length relay.later)) (sym (ap length relay.two))
@@ -213,10 +213,10 @@ crash_settles kind relay =
     unseen b (inl e) = (refl, ap (λ z. was_noticed (calls_of (group_crashed kind 1).told) z) e, ap (λ z. was_noticed (calls_of (group_crashed kind 2).told) z) e)
     unseen b (inr e) = (refl, ap (λ z. was_noticed (calls_of (group_crashed kind 1).told) z) e, ap (λ z. was_noticed (calls_of (group_crashed kind 2).told) z) e)
 
-pub crash_legal : IsLegal bounds 0 (opened kinds.FifoLazy ++ crash)
+pub crash_legal : IsLegal bounds address (opened kinds.FifoLazy ++ crash)
 crash_legal = (run_crash kinds.FifoLazy lazy_relays).legal
 
-pub crash_settled : IsSettled bounds 0 (opened kinds.FifoLazy ++ crash) runs (spec_of kinds.FifoLazy)
+pub crash_settled : IsSettled bounds address (opened kinds.FifoLazy ++ crash) runs (spec_of kinds.FifoLazy)
 crash_settled = crash_settles kinds.FifoLazy lazy_relays
 
 pub crash_one : log_in kinds.FifoLazy crash 1 ≡ message ∷ []
@@ -229,10 +229,10 @@ crash_two = ap (λ (g : Group). log_of_member 2 (g 2)) (run_crash kinds.FifoLazy
 
 -- With majority-ack two of three members run on.
 
-pub majority_crash_legal : IsLegal bounds 0 (opened kinds.FifoMajority ++ crash)
+pub majority_crash_legal : IsLegal bounds address (opened kinds.FifoMajority ++ crash)
 majority_crash_legal = (run_crash kinds.FifoMajority majority_relays).legal
 
-pub majority_crash_settled : IsSettled bounds 0 (opened kinds.FifoMajority ++ crash) runs (spec_of kinds.FifoMajority)
+pub majority_crash_settled : IsSettled bounds address (opened kinds.FifoMajority ++ crash) runs (spec_of kinds.FifoMajority)
 majority_crash_settled = crash_settles kinds.FifoMajority majority_relays
 
 pub two_are_enough : AreEnough runs (spec_of kinds.FifoMajority)
@@ -275,10 +275,10 @@ lead_alone kind =
 run_alone : Leads nobody (opened kinds.Majority ++ left_alone) (group_alone kinds.Majority)
 run_alone = join nobody (group_open kinds.Majority) (group_alone kinds.Majority) (opened kinds.Majority) left_alone (open_all kinds.Majority) (lead_alone kinds.Majority)
 
-pub alone_legal : IsLegal bounds 0 (opened kinds.Majority ++ left_alone)
+pub alone_legal : IsLegal bounds address (opened kinds.Majority ++ left_alone)
 alone_legal = run_alone.legal
 
-pub alone_settled : IsSettled bounds 0 (opened kinds.Majority ++ left_alone) only_first (spec_of kinds.Majority)
+pub alone_settled : IsSettled bounds address (opened kinds.Majority ++ left_alone) only_first (spec_of kinds.Majority)
 unfolding calls_of known
 alone_settled = record {
   earlier = opened kinds.Majority;
@@ -298,7 +298,7 @@ alone_settled = record {
     g : Group
     g = group_alone kinds.Majority
 
-    seen : (P : Group → Type 0) → P (group_alone kinds.Majority) → P (alone bounds 0 (opened kinds.Majority ++ left_alone))
+    seen : (P : Group → Type 0) → P (group_alone kinds.Majority) → P (alone bounds address (opened kinds.Majority ++ left_alone))
     seen P = subst P (sym run_alone.end)
 
     missed : (b : ℕ) → One b → only_first b ≡ false → was_noticed (calls_of (group_alone kinds.Majority 0).told) b ≡ true
@@ -318,10 +318,10 @@ pub alone_undelivered : log_in kinds.Majority left_alone 0 ≡ []
 unfolding calls_of known
 alone_undelivered = ap (λ (g : Group). log_of_member 0 (g 0)) run_alone.end ∙ simp most_of refl
 
-pub loss_legal : IsLegal bounds 0 (opened kinds.Beb ++ loss)
+pub loss_legal : IsLegal bounds address (opened kinds.Beb ++ loss)
 loss_legal = run_loss.legal
 
-pub loss_settled : IsSettled bounds 0 (opened kinds.Beb ++ loss) runs (spec_of kinds.Beb)
+pub loss_settled : IsSettled bounds address (opened kinds.Beb ++ loss) runs (spec_of kinds.Beb)
 unfolding calls_of known
 loss_settled =
     settle kinds.Beb loss (group_lost kinds.Beb) run_loss.end refl refl (sym (ap length none_one)) (sym (ap length none_two)) (λ place low high. absurd (omega (arith, low, high))) (λ place low high. absurd (omega (arith, low, high))) refl refl unseen

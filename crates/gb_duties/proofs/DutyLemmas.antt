@@ -30,6 +30,7 @@ use Rattle.gb_duties.proofs.ReplyLemmas.{held_made}
 use Rattle.gb_duties.proofs.InvariantLemmas.{FitsAt}
 use Rattle.gb_duties.proofs.LogLemmas.{in_log, logged-is, kind_delivered}
 use Rattle.gb_duties.proofs.StepLemmas.{calls_in, alone_fits}
+use Rattle.gb_types.specs.declared.address.Addr.{Addr}
 
 -- a member passes what all members pass
 pub of_member : (p : ℕ → Bool) (spec : Spec) (b : ℕ) → list_all p (set.items spec.members) ≡ true → is_member spec b ≡ true → p b ≡ true
@@ -84,18 +85,18 @@ module _ (calls : ℕ → List Call) (b : ℕ) (member : Member) (spec : Spec) (
   duty had here is MajorityAck kind up = put_out MajorityAck kind (and_both (and_left (mentions (calls_of member.told) m) _ up) refl)
 
 pub is_dutiful : ModuleLogHasDelivered → ((D : List MsgId) → AllIn D (in_order D)) → IsDutiful
-is_dutiful has_delivered within bounds number steps legal = record {
+is_dutiful has_delivered within bounds addr steps legal = record {
   delivered = done;
   logged = λ b spec held. fewer b spec held (done b spec held);
 }
   where
     group : Group
-    group = alone bounds number steps
+    group = alone bounds addr steps
 
     done : (b : ℕ) (spec : Spec) → held_spec (group b).phase (group b).spec ≡ Some spec → KeepsDuties spec b (noticed_at (group b)) (group b).put (HasHad group) (delivered_at spec b (group b))
     done b spec held = record {
-      others = λ c other m up. duty (calls_in group) b (group b) spec held (alone_fits bounds number steps b) c other m (HasHad group) (λ had. had) refl (module_of spec.kind) refl (due m up);
-      majority = λ kind m up. majority_had (calls_in group) b (group b) (alone_fits bounds number steps b) refl m spec (HasHad group) (λ c had. had)
+      others = λ c other m up. duty (calls_in group) b (group b) spec held (alone_fits bounds addr steps b) c other m (HasHad group) (λ had. had) refl (module_of spec.kind) refl (due m up);
+      majority = λ kind m up. majority_had (calls_in group) b (group b) (alone_fits bounds addr steps b) refl m spec (HasHad group) (λ c had. had)
           (ap (λ k. now_delivered k b (set.items spec.members) (calls_of (group b).told) m) (sym kind) ∙ due m up);
     }
       where
@@ -115,19 +116,19 @@ is_dutiful has_delivered within bounds number steps legal = record {
 
 -- What is delivered is of a member.
 
-module _ (has_delivered : ModuleLogHasDelivered) (bounds : Bounds) (number : ℕ) (steps : List GroupStep) (b : ℕ) (spec : Spec) where
-  pub delivered_origin : (alone bounds number steps b).spec ≡ Some spec → (m : MsgId) → delivered_at spec b (alone bounds number steps b) m ≡ true → is_member spec m.origin.number ≡ true
+module _ (has_delivered : ModuleLogHasDelivered) (bounds : Bounds) (addr : Addr) (steps : List GroupStep) (b : ℕ) (spec : Spec) where
+  pub delivered_origin : (alone bounds addr steps b).spec ≡ Some spec → (m : MsgId) → delivered_at spec b (alone bounds addr steps b) m ≡ true → is_member spec m.origin.number ≡ true
   delivered_origin made m h =
-      let up = sym (in_log has_delivered (module_of spec.kind) b (set.items spec.members) (calls_of (alone bounds number steps b).told) m) ∙ h in
-      ((alone_fits bounds number steps b).fair spec made m (and_left (mentions (calls_of (alone bounds number steps b).told) m) _ up)).member
+      let up = sym (in_log has_delivered (module_of spec.kind) b (set.items spec.members) (calls_of (alone bounds addr steps b).told) m) ∙ h in
+      ((alone_fits bounds addr steps b).fair spec made m (and_left (mentions (calls_of (alone bounds addr steps b).told) m) _ up)).member
 
   -- what stands in a log is delivered, and the group was not dropped there
-  pub logged_here : ((D : List MsgId) → AllIn D (in_order D)) → (alone bounds number steps b).spec ≡ Some spec → (m : MsgId) → logged_at b (alone bounds number steps b) m ≡ true
-      → (is_gone (alone bounds number steps b).phase ≡ false) × (delivered_at spec b (alone bounds number steps b) m ≡ true)
-  logged_here within made m = go (is_gone (alone bounds number steps b).phase) refl
+  pub logged_here : ((D : List MsgId) → AllIn D (in_order D)) → (alone bounds addr steps b).spec ≡ Some spec → (m : MsgId) → logged_at b (alone bounds addr steps b) m ≡ true
+      → (is_gone (alone bounds addr steps b).phase ≡ false) × (delivered_at spec b (alone bounds addr steps b) m ≡ true)
+  logged_here within made m = go (is_gone (alone bounds addr steps b).phase) refl
     where
       member : Member
-      member = alone bounds number steps b
+      member = alone bounds addr steps b
 
       go : (gone : Bool) → is_gone member.phase ≡ gone → has (log_at b (if gone then None else member.spec) member.told) m ≡ true → (gone ≡ false) × (delivered_at spec b member m ≡ true)
       go true is h = absurd (cc)

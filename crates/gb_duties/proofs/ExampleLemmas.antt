@@ -28,7 +28,7 @@ use Rattle.gb_alone.specs.Laws.{log_of_member}
 use Rattle.gb_alone.specs.declared.event.GroupEvent.TheVariants.{Tenant, Make, Open, Drop, Say, Took, Came, Notice}
 use Rattle.gb_alone.specs.declared.event.GroupStep.{GroupStep}
 use Rattle.gb_duties.specs.Duties.{HasHad, noticed_at}
-use Rattle.gb_duties.specs.Examples.{bounds, first, second, third, message, one_byte, members, spec_of, at, opened_at, opened, to_one, to_all, third_drops, log_in, put_in}
+use Rattle.gb_duties.specs.Examples.{bounds, first, second, third, message, one_byte, members, spec_of, at, opened_at, opened, to_one, to_all, third_drops, log_in, put_in, address}
 
 pub in_0 : set.contains members 0 ≡ true
 in_0 = set.contains-from_list_nat (0 ∷ 1 ∷ 2 ∷ []) 0
@@ -97,7 +97,7 @@ majority_of p = λ i. has_majority (λ b. set.contains-from_list_nat (0 ∷ 1 �
 abbrev pub with_at : Group → ℕ → Member → Group
 with_at g a m x = if nat_eq x a then m else g x
 
-pub step_is : (g : Group) (step : GroupStep) (m : Member) → member_after bounds 0 step.node step.event g ≡ m → after bounds 0 g step ≡ with_at g step.node.number m
+pub step_is : (g : Group) (step : GroupStep) (m : Member) → member_after bounds address step.node step.event g ≡ m → after bounds address g step ≡ with_at g step.node.number m
 unfolding after
 step_is g step m is = λ i x. if nat_eq x step.node.number then is i else g x
 
@@ -116,7 +116,7 @@ row = record { groups = 4; msgs = 8; bytes = 64; window = 4 }
 abbrev pub ready : Kind → Member
 ready kind = record { reserve = Some row; spec = Some (spec_of kind); phase = Opened; told = []; replies = Done ∷ Done ∷ []; put = λ b. []; taken = λ b. 0; come = λ b. []; done = λ b. []; noticed = []; stopped = false }
 
-node_opens : (kind : Kind) (g : Group) (a : NodeId) → set.contains members a.number ≡ true → g a.number ≡ nobody a.number → alone_from bounds 0 g (opened_at kind a) ≡ with_at g a.number (ready kind)
+node_opens : (kind : Kind) (g : Group) (a : NodeId) → set.contains members a.number ≡ true → g a.number ≡ nobody a.number → alone_from bounds address g (opened_at kind a) ≡ with_at g a.number (ready kind)
 unfolding said_in calls_of known
 node_opens kind g a inside fresh =
     let m1 : Member = record (nobody 0) { reserve = Some row } in
@@ -124,17 +124,17 @@ node_opens kind g a inside fresh =
     let one = step_is g (at a (Tenant row)) m1 (ap (λ (m : Member). record m { reserve = Some row }) fresh) in
     let two = step_is (with_at g a.number m1) (at a (Make (spec_of kind))) m2 (simp (eq-eqb a.number a.number refl, inside, all_of) refl) in
     let three = step_is (with_at (with_at g a.number m1) a.number m2) (at a Open) (ready kind) (simp (eq-eqb a.number a.number refl) refl) in
-    ap (λ (h : Group). alone_from bounds 0 h (at a (Make (spec_of kind)) ∷ at a Open ∷ [])) one
-    ∙ (ap (λ (h : Group). alone_from bounds 0 h (at a Open ∷ [])) two
+    ap (λ (h : Group). alone_from bounds address h (at a (Make (spec_of kind)) ∷ at a Open ∷ [])) one
+    ∙ (ap (λ (h : Group). alone_from bounds address h (at a Open ∷ [])) two
     ∙ (three ∙ (again (with_at g a.number m1) a.number m2 (ready kind) ∙ again g a.number m1 (ready kind))))
 
 abbrev pub group_open : Kind → Group
 group_open kind = with_at (with_at (with_at nobody 0 (ready kind)) 1 (ready kind)) 2 (ready kind)
 
-pub all_open : (kind : Kind) → alone bounds 0 (opened kind) ≡ group_open kind
+pub all_open : (kind : Kind) → alone bounds address (opened kind) ≡ group_open kind
 all_open kind =
-    ap (λ (h : Group). alone_from bounds 0 h (opened_at kind second ++ opened_at kind third)) (node_opens kind nobody first in_0 refl)
-    ∙ (ap (λ (h : Group). alone_from bounds 0 h (opened_at kind third)) (node_opens kind (with_at nobody 0 (ready kind)) second in_1 refl)
+    ap (λ (h : Group). alone_from bounds address h (opened_at kind second ++ opened_at kind third)) (node_opens kind nobody first in_0 refl)
+    ∙ (ap (λ (h : Group). alone_from bounds address h (opened_at kind third)) (node_opens kind (with_at nobody 0 (ready kind)) second in_1 refl)
     ∙ node_opens kind (with_at (with_at nobody 0 (ready kind)) 1 (ready kind)) third in_2 refl)
 
 -- node 0 says the message
@@ -187,25 +187,25 @@ comes kind me from place m held stands xs there =
 
 -- a legal run from one group to another
 pub record Leads (g : Group) (steps : List GroupStep) (h : Group) : Type 0 where
-  pub legal : IsLegalFrom bounds 0 g steps
-  pub end : alone_from bounds 0 g steps ≡ h
+  pub legal : IsLegalFrom bounds address g steps
+  pub end : alone_from bounds address g steps ≡ h
 
 pub stop_here : (g : Group) → Leads g [] g
 stop_here g = record { legal = tt; end = refl }
 
-pub and_then : (g : Group) (step : GroupStep) (m : Member) (rest : List GroupStep) (h : Group) → MayHappen step.node step.event g → member_after bounds 0 step.node step.event g ≡ m → Leads (with_at g step.node.number m) rest h → Leads g (step ∷ rest) h
+pub and_then : (g : Group) (step : GroupStep) (m : Member) (rest : List GroupStep) (h : Group) → MayHappen step.node step.event g → member_after bounds address step.node step.event g ≡ m → Leads (with_at g step.node.number m) rest h → Leads g (step ∷ rest) h
 and_then g step m rest h may is run =
     let e = step_is g step m is in
-    record { legal = (may, subst (λ (k : Group). IsLegalFrom bounds 0 k rest) (sym e) run.legal); end = ap (λ (k : Group). alone_from bounds 0 k rest) e ∙ run.end }
+    record { legal = (may, subst (λ (k : Group). IsLegalFrom bounds address k rest) (sym e) run.legal); end = ap (λ (k : Group). alone_from bounds address k rest) e ∙ run.end }
 
-legal_join : (g : Group) (xs ys : List GroupStep) → IsLegalFrom bounds 0 g xs → IsLegalFrom bounds 0 (alone_from bounds 0 g xs) ys → IsLegalFrom bounds 0 g (xs ++ ys)
+legal_join : (g : Group) (xs ys : List GroupStep) → IsLegalFrom bounds address g xs → IsLegalFrom bounds address (alone_from bounds address g xs) ys → IsLegalFrom bounds address g (xs ++ ys)
 legal_join g [] ys l k = k
-legal_join g (x ∷ xs) ys l k = (l.0, legal_join (after bounds 0 g x) xs ys l.1 k)
+legal_join g (x ∷ xs) ys l k = (l.0, legal_join (after bounds address g x) xs ys l.1 k)
 
 pub join : (g h k : Group) (xs ys : List GroupStep) → Leads g xs h → Leads h ys k → Leads g (xs ++ ys) k
 join g h k xs ys a b = record {
-  legal = legal_join g xs ys a.legal (subst (λ (z : Group). IsLegalFrom bounds 0 z ys) (sym a.end) b.legal);
-  end = fold-append (after bounds 0) g xs ys ∙ (ap (λ (z : Group). alone_from bounds 0 z ys) a.end ∙ b.end);
+  legal = legal_join g xs ys a.legal (subst (λ (z : Group). IsLegalFrom bounds address z ys) (sym a.end) b.legal);
+  end = fold-append (after bounds address) g xs ys ∙ (ap (λ (z : Group). alone_from bounds address z ys) a.end ∙ b.end);
 }
 
 pub open_all : (kind : Kind) → Leads nobody (opened kind) (group_open kind)
@@ -222,7 +222,7 @@ lead_one kind =
     (and_then (group_said kind) (at second (Came first 1)) (one_took kind) [] (group_one kind) (refl, omega arith, omega arith, refl)
     (comes kind second first 1 (ready kind) refl (simp in_0 refl) ((zero_said kind).put 1) (ap (λ xs. slice_get xs 0) (put_out kind 1 in_1 refl))) (stop_here (group_one kind))))
 
-pub to_one_is : (kind : Kind) → alone bounds 0 (opened kind ++ to_one) ≡ group_one kind
+pub to_one_is : (kind : Kind) → alone bounds address (opened kind ++ to_one) ≡ group_one kind
 to_one_is kind = (join nobody (group_open kind) (group_one kind) (opened kind) to_one (open_all kind) (lead_one kind)).end
 
 -- A node is noticed.
@@ -239,7 +239,7 @@ abbrev pub noticed_one : Kind → Group
 noticed_one kind = with_at (group_one kind) 1 (notices 1 first (one_took kind))
 
 -- node 1 notices node 0
-pub notice_is : (kind : Kind) → alone bounds 0 (opened kind ++ (to_one ++ at second (Notice first) ∷ [])) ≡ noticed_one kind
+pub notice_is : (kind : Kind) → alone bounds address (opened kind ++ (to_one ++ at second (Notice first) ∷ [])) ≡ noticed_one kind
 notice_is kind =
     (join nobody (group_open kind) (noticed_one kind) (opened kind) (to_one ++ at second (Notice first) ∷ []) (open_all kind)
     (join (group_open kind) (group_one kind) (noticed_one kind) to_one (at second (Notice first) ∷ []) (lead_one kind)
@@ -333,7 +333,7 @@ lead_back g here there carried =
     and_then g (at second (Came third 1)) one_took_again [] (with_at g 1 one_took_again) (ap (λ (m : Member). m.stopped) here, omega arith, carried, ap (λ (m : Member). is_marked 1 (m.come 2)) here)
     (ap (λ (m : Member). taken_in texts.One 1 third 1 (slice_get ((g 2).put 1) 0) m) here ∙ comes kinds.AllAck second third 1 (one_took kinds.AllAck) refl (simp (in_0, in_2) refl) ((g 2).put 1) there) (stop_here (with_at g 1 one_took_again))
 
-to_all_is : alone bounds 0 (opened kinds.AllAck ++ to_all) ≡ group_all
+to_all_is : alone bounds address (opened kinds.AllAck ++ to_all) ≡ group_all
 to_all_is =
     (join nobody (group_open kinds.AllAck) group_all (opened kinds.AllAck) to_all (open_all kinds.AllAck)
     (join (group_open kinds.AllAck) (group_one kinds.AllAck) group_all to_one (at first (Took third 1) ∷ at third (Came first 1) ∷ at third (Took second 1) ∷ at second (Came third 1) ∷ []) (lead_one kinds.AllAck)
@@ -349,7 +349,7 @@ group_dropping = with_at group_back 2 two_dropped
 abbrev group_dropped : Group
 group_dropped = with_at group_dropping 1 one_took_again
 
-dropped_is : alone bounds 0 (opened kinds.AllAck ++ third_drops) ≡ group_dropped
+dropped_is : alone bounds address (opened kinds.AllAck ++ third_drops) ≡ group_dropped
 dropped_is =
     (join nobody (group_open kinds.AllAck) group_dropped (opened kinds.AllAck) third_drops (open_all kinds.AllAck)
     (join (group_open kinds.AllAck) (group_one kinds.AllAck) group_dropped to_one (at first (Took third 1) ∷ at third (Came first 1) ∷ at third (Took second 1) ∷ at third Drop ∷ at second (Came third 1) ∷ []) (lead_one kinds.AllAck)
@@ -360,7 +360,7 @@ dropped_is =
 abbrev without_two : Group
 without_two = with_at (group_one kinds.AllAck) 1 (notices 1 third (one_took kinds.AllAck))
 
-without_two_is : alone bounds 0 (opened kinds.AllAck ++ (to_one ++ at second (Notice third) ∷ [])) ≡ without_two
+without_two_is : alone bounds address (opened kinds.AllAck ++ (to_one ++ at second (Notice third) ∷ [])) ≡ without_two
 without_two_is =
     (join nobody (group_open kinds.AllAck) without_two (opened kinds.AllAck) (to_one ++ at second (Notice third) ∷ []) (open_all kinds.AllAck)
     (join (group_open kinds.AllAck) (group_one kinds.AllAck) without_two to_one (at second (Notice third) ∷ []) (lead_one kinds.AllAck)
@@ -374,7 +374,7 @@ pub all_ack_delivered : log_in kinds.AllAck to_all 1 ≡ message ∷ []
 unfolding calls_of known
 all_ack_delivered = ap (λ (g : Group). log_of_member 1 (g 1)) to_all_is ∙ simp all_of refl
 
-pub all_ack_had : HasHad (alone bounds 0 (opened kinds.AllAck ++ to_all)) 2 (message_of message)
+pub all_ack_had : HasHad (alone bounds address (opened kinds.AllAck ++ to_all)) 2 (message_of message)
 unfolding calls_of known
 all_ack_had = ap (λ (g : Group). mentions (calls_of (g 2).told) (message_of message)) to_all_is
 
@@ -391,11 +391,11 @@ pub dropped_delivered : log_in kinds.AllAck third_drops 1 ≡ message ∷ []
 unfolding calls_of known
 dropped_delivered = ap (λ (g : Group). log_of_member 1 (g 1)) dropped_is ∙ simp all_of refl
 
-pub dropped_unnoticed : noticed_at (alone bounds 0 (opened kinds.AllAck ++ third_drops) 1) 2 ≡ false
+pub dropped_unnoticed : noticed_at (alone bounds address (opened kinds.AllAck ++ third_drops) 1) 2 ≡ false
 unfolding calls_of
 dropped_unnoticed = ap (λ (g : Group). noticed_at (g 1) 2) dropped_is
 
-pub dropped_had : HasHad (alone bounds 0 (opened kinds.AllAck ++ third_drops)) 2 (message_of message)
+pub dropped_had : HasHad (alone bounds address (opened kinds.AllAck ++ third_drops)) 2 (message_of message)
 unfolding calls_of known
 dropped_had = ap (λ (g : Group). mentions (calls_of (g 2).told) (message_of message)) dropped_is
 
@@ -409,10 +409,10 @@ pub majority_delivered : log_in kinds.Majority to_one 1 ≡ message ∷ []
 unfolding calls_of known
 majority_delivered = ap (λ (g : Group). log_of_member 1 (g 1)) (to_one_is kinds.Majority) ∙ simp most_of refl
 
-pub majority_had_first : HasHad (alone bounds 0 (opened kinds.Majority ++ to_one)) 0 (message_of message)
+pub majority_had_first : HasHad (alone bounds address (opened kinds.Majority ++ to_one)) 0 (message_of message)
 unfolding calls_of known
 majority_had_first = ap (λ (g : Group). mentions (calls_of (g 0).told) (message_of message)) (to_one_is kinds.Majority)
 
-pub majority_had_second : HasHad (alone bounds 0 (opened kinds.Majority ++ to_one)) 1 (message_of message)
+pub majority_had_second : HasHad (alone bounds address (opened kinds.Majority ++ to_one)) 1 (message_of message)
 unfolding calls_of known
 majority_had_second = ap (λ (g : Group). mentions (calls_of (g 1).told) (message_of message)) (to_one_is kinds.Majority)

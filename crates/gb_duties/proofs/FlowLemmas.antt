@@ -36,6 +36,7 @@ use Rattle.gb_duties.proofs.ReplyLemmas.{IsFair, fall_why}
 use Rattle.gb_duties.proofs.ShortLemmas.{IsShort, AllShort, step_short}
 use Rattle.gb_duties.proofs.StepLemmas.{calls_in, AllFit, step_fits, nobody_fits}
 use Rattle.gb_duties.proofs.MoveLemmas.{Bounded, Goes, event_moves}
+use Rattle.gb_types.specs.declared.address.Addr.{Addr}
 
 pub record Flow (group : Group) : Type 0 where
   pub fits : AllFit group
@@ -43,12 +44,12 @@ pub record Flow (group : Group) : Type 0 where
   pub come : (a b place : ℕ) → is_marked place ((group b).come a) ≡ true → (0 < place) × (place ≤ (group a).taken b)
 
 -- every node goes on
-all_goes : (bounds : Bounds) (number : ℕ) (group : Group) (step : GroupStep) → MayHappen step.node step.event group → ((a : ℕ) → Bounded (group a)) → (x : ℕ) → Goes x (group x) (after bounds number group step x)
+all_goes : (bounds : Bounds) (addr : Addr) (group : Group) (step : GroupStep) → MayHappen step.node step.event group → ((a : ℕ) → Bounded (group a)) → (x : ℕ) → Goes x (group x) (after bounds addr group step x)
 unfolding after
-all_goes bounds number group step may bounded x = go (nat_eq x step.node.number) refl
+all_goes bounds addr group step may bounded x = go (nat_eq x step.node.number) refl
   where
-    go : (t : Bool) → nat_eq x step.node.number ≡ t → Goes x (group x) (if t then member_after bounds number step.node step.event group else group x)
-    go true is = subst (λ y. Goes y (group y) (member_after bounds number step.node step.event group)) (sym (eqb-true x step.node.number is)) (event_moves bounds number group step.node step.event may (bounded step.node.number))
+    go : (t : Bool) → nat_eq x step.node.number ≡ t → Goes x (group x) (if t then member_after bounds addr step.node step.event group else group x)
+    go true is = subst (λ y. Goes y (group y) (member_after bounds addr step.node step.event group)) (sym (eqb-true x step.node.number is)) (event_moves bounds addr group step.node step.event may (bounded step.node.number))
     go false is = record { spec = λ s is. is; here = λ h. h; from = λ p y h. h; stable = λ b i lt. refl; taken = λ b. omega arith; bounded = bounded x }
 
 -- The places that have come.
@@ -83,21 +84,21 @@ taken_come version a from place (Some x) m y k h = go (nat_eq y from.number) ref
         by (inr old) = inl old
     go false is h = inl h
 
-event_come : (bounds : Bounds) (number : ℕ) (group : Group) (me : NodeId) (event : GroupEvent) (y k : ℕ) → is_marked k ((member_after bounds number me event group).come y) ≡ true → (is_marked k ((group me.number).come y) ≡ true) ⊎ IsArrival event y k
-event_come bounds number group me (Tenant reserve) y k h = inl h
-event_come bounds number group me (Took b count) y k h = inl h
-event_come bounds number group me (Came from place) y k h = taken_come (version_at bounds.versions me.number) me.number from place (slice_get ((group from.number).put me.number) (place - 1)) (group me.number) y k h
-event_come bounds number group me (Acknowledged b place count) y k h = inl h
-event_come bounds number group me (Notice q) y k h = inl (ap (λ (come : ℕ → List ℕ). is_marked k (come y)) (sym (notice_come me.number q (held_spec (group me.number).phase (group me.number).spec) (group me.number))) ∙ h)
-event_come bounds number group me Stop y k h = inl h
-event_come bounds number group me event y k h = inl (ap (λ (come : ℕ → List ℕ). is_marked k (come y)) (sym (did_come me event (reply_to bounds number me.number event (group me.number)) (group me.number))) ∙ h)
+event_come : (bounds : Bounds) (addr : Addr) (group : Group) (me : NodeId) (event : GroupEvent) (y k : ℕ) → is_marked k ((member_after bounds addr me event group).come y) ≡ true → (is_marked k ((group me.number).come y) ≡ true) ⊎ IsArrival event y k
+event_come bounds addr group me (Tenant reserve) y k h = inl h
+event_come bounds addr group me (Took b count) y k h = inl h
+event_come bounds addr group me (Came from place) y k h = taken_come (version_at bounds.versions me.number) me.number from place (slice_get ((group from.number).put me.number) (place - 1)) (group me.number) y k h
+event_come bounds addr group me (Acknowledged b place count) y k h = inl h
+event_come bounds addr group me (Notice q) y k h = inl (ap (λ (come : ℕ → List ℕ). is_marked k (come y)) (sym (notice_come me.number q (held_spec (group me.number).phase (group me.number).spec) (group me.number))) ∙ h)
+event_come bounds addr group me Stop y k h = inl h
+event_come bounds addr group me event y k h = inl (ap (λ (come : ℕ → List ℕ). is_marked k (come y)) (sym (did_come me event (reply_to bounds addr me.number event (group me.number)) (group me.number))) ∙ h)
 
-step_come : (bounds : Bounds) (number : ℕ) (group : Group) (step : GroupStep) (b y k : ℕ) → is_marked k ((after bounds number group step b).come y) ≡ true → (is_marked k ((group b).come y) ≡ true) ⊎ ((b ≡ step.node.number) × IsArrival step.event y k)
+step_come : (bounds : Bounds) (addr : Addr) (group : Group) (step : GroupStep) (b y k : ℕ) → is_marked k ((after bounds addr group step b).come y) ≡ true → (is_marked k ((group b).come y) ≡ true) ⊎ ((b ≡ step.node.number) × IsArrival step.event y k)
 unfolding after
-step_come bounds number group step b y k h = go (nat_eq b step.node.number) refl h
+step_come bounds addr group step b y k h = go (nat_eq b step.node.number) refl h
   where
-    go : (t : Bool) → nat_eq b step.node.number ≡ t → is_marked k ((if t then member_after bounds number step.node step.event group else group b).come y) ≡ true → (is_marked k ((group b).come y) ≡ true) ⊎ ((b ≡ step.node.number) × IsArrival step.event y k)
-    go true is h = by (event_come bounds number group step.node step.event y k h)
+    go : (t : Bool) → nat_eq b step.node.number ≡ t → is_marked k ((if t then member_after bounds addr step.node step.event group else group b).come y) ≡ true → (is_marked k ((group b).come y) ≡ true) ⊎ ((b ≡ step.node.number) × IsArrival step.event y k)
+    go true is h = by (event_come bounds addr group step.node step.event y k h)
       where
         by : ((is_marked k ((group step.node.number).come y) ≡ true) ⊎ IsArrival step.event y k) → (is_marked k ((group b).come y) ≡ true) ⊎ ((b ≡ step.node.number) × IsArrival step.event y k)
         by (inl old) = inl (ap (λ z. is_marked k ((group z).come y)) (eqb-true b step.node.number is) ∙ old)
@@ -110,17 +111,17 @@ came_legal group me y place event new may =
     let h = subst (λ (e : GroupEvent). MayHappen me e group) new.is may in
     (h.1, subst (λ z. place ≤ (group z).taken me.number) (sym new.here) h.2)
 
-pub flow_after : (bounds : Bounds) (number : ℕ) (group : Group) (step : GroupStep) → MayHappen step.node step.event group → Flow group → Flow (after bounds number group step)
-flow_after bounds number group step may flow = record {
-  fits = (step_fits bounds number group step flow.fits).0;
+pub flow_after : (bounds : Bounds) (addr : Addr) (group : Group) (step : GroupStep) → MayHappen step.node step.event group → Flow group → Flow (after bounds addr group step)
+flow_after bounds addr group step may flow = record {
+  fits = (step_fits bounds addr group step flow.fits).0;
   bounded = λ a. (goes a).bounded;
-  come = λ a b place h. by a b place (step_come bounds number group step b a place h);
+  come = λ a b place h. by a b place (step_come bounds addr group step b a place h);
 }
   where
-    goes : (x : ℕ) → Goes x (group x) (after bounds number group step x)
-    goes = all_goes bounds number group step may flow.bounded
+    goes : (x : ℕ) → Goes x (group x) (after bounds addr group step x)
+    goes = all_goes bounds addr group step may flow.bounded
 
-    by : (a b place : ℕ) → ((is_marked place ((group b).come a) ≡ true) ⊎ ((b ≡ step.node.number) × IsArrival step.event a place)) → (0 < place) × (place ≤ (after bounds number group step a).taken b)
+    by : (a b place : ℕ) → ((is_marked place ((group b).come a) ≡ true) ⊎ ((b ≡ step.node.number) × IsArrival step.event a place)) → (0 < place) × (place ≤ (after bounds addr group step a).taken b)
     by a b place (inl old) = let was = flow.come a b place old in let some = was.0 in let few = was.1 in let more = (goes a).taken b in (some, omega (arith, few, more))
     by a b place (inr new) =
         let was = came_legal group step.node a place step.event new.1 may in
@@ -131,20 +132,20 @@ flow_after bounds number group step may flow = record {
 pub nobody_flows : Flow nobody
 nobody_flows = record { fits = nobody_fits; bounded = λ a b. omega arith; come = λ a b place h. absurd (cc) }
 
-pub run_flows : (bounds : Bounds) (number : ℕ) (steps : List GroupStep) (group : Group) → IsLegalFrom bounds number group steps → Flow group → Flow (alone_from bounds number group steps)
-run_flows bounds number [] group legal flow = flow
-run_flows bounds number (step ∷ steps) group legal flow = run_flows bounds number steps (after bounds number group step) legal.1 (flow_after bounds number group step legal.0 flow)
+pub run_flows : (bounds : Bounds) (addr : Addr) (steps : List GroupStep) (group : Group) → IsLegalFrom bounds addr group steps → Flow group → Flow (alone_from bounds addr group steps)
+run_flows bounds addr [] group legal flow = flow
+run_flows bounds addr (step ∷ steps) group legal flow = run_flows bounds addr steps (after bounds addr group step) legal.1 (flow_after bounds addr group step legal.0 flow)
 
 -- a group that was made stays so
-pub made_stays : (bounds : Bounds) (number : ℕ) (steps : List GroupStep) (group : Group) → IsLegalFrom bounds number group steps → Flow group → (a : ℕ) (spec : Spec) → (group a).spec ≡ Some spec → (alone_from bounds number group steps a).spec ≡ Some spec
-made_stays bounds number [] group legal flow a spec made = made
-made_stays bounds number (step ∷ steps) group legal flow a spec made =
-    made_stays bounds number steps (after bounds number group step) legal.1 (flow_after bounds number group step legal.0 flow) a spec ((all_goes bounds number group step legal.0 flow.bounded a).spec spec made)
+pub made_stays : (bounds : Bounds) (addr : Addr) (steps : List GroupStep) (group : Group) → IsLegalFrom bounds addr group steps → Flow group → (a : ℕ) (spec : Spec) → (group a).spec ≡ Some spec → (alone_from bounds addr group steps a).spec ≡ Some spec
+made_stays bounds addr [] group legal flow a spec made = made
+made_stays bounds addr (step ∷ steps) group legal flow a spec made =
+    made_stays bounds addr steps (after bounds addr group step) legal.1 (flow_after bounds addr group step legal.0 flow) a spec ((all_goes bounds addr group step legal.0 flow.bounded a).spec spec made)
 
 -- a list is legal in both its parts
-pub legal_parts : (bounds : Bounds) (number : ℕ) (early late : List GroupStep) (group : Group) → IsLegalFrom bounds number group (early ++ late) → IsLegalFrom bounds number group early × IsLegalFrom bounds number (alone_from bounds number group early) late
-legal_parts bounds number [] late group legal = (tt, legal)
-legal_parts bounds number (step ∷ early) late group legal = let rest = legal_parts bounds number early late (after bounds number group step) legal.1 in ((legal.0, rest.0), rest.1)
+pub legal_parts : (bounds : Bounds) (addr : Addr) (early late : List GroupStep) (group : Group) → IsLegalFrom bounds addr group (early ++ late) → IsLegalFrom bounds addr group early × IsLegalFrom bounds addr (alone_from bounds addr group early) late
+legal_parts bounds addr [] late group legal = (tt, legal)
+legal_parts bounds addr (step ∷ early) late group legal = let rest = legal_parts bounds addr early late (after bounds addr group step) legal.1 in ((legal.0, rest.0), rest.1)
 
 -- What came was taken in.
 
@@ -218,15 +219,15 @@ arrival version spec group from b place x fits sound taking in_a in_b other here
         subst (λ (long : Bool). came_from b (calls_of (if long || falls b from.number x (group b).told (held_spec (group b).phase (group b).spec) then group b else called b (Other from x) (group b)).told) from.number (message_of x) ≡ true) (sym short)
         (subst (λ (o : Option Spec). came_from b (calls_of (if falls b from.number x (group b).told o then group b else called b (Other from x) (group b)).told) from.number (message_of x) ≡ true) (sym held) (by (falls_after spec b (group b).told from.number x) refl))
 
-taking_after : (bounds : Bounds) (number : ℕ) (spec : Spec) (version : Version) → SendAlike bounds spec version → (group : Group) (step : GroupStep) → MayHappen step.node step.event group → Flow group → IsSound group → AllShort bounds group → Taking spec group → Taking spec (after bounds number group step)
+taking_after : (bounds : Bounds) (addr : Addr) (spec : Spec) (version : Version) → SendAlike bounds spec version → (group : Group) (step : GroupStep) → MayHappen step.node step.event group → Flow group → IsSound group → AllShort bounds group → Taking spec group → Taking spec (after bounds addr group step)
 unfolding after
-taking_after bounds number spec version alike group step may flow sound short taking = record {
+taking_after bounds addr spec version alike group step may flow sound short taking = record {
   made = λ a in_a. (goes a).spec spec (taking.made a in_a);
-  taken = λ a b in_a in_b other here place x come item. by a b in_a in_b other here place x item (step_come bounds number group step b a place come);
+  taken = λ a b in_a in_b other here place x come item. by a b in_a in_b other here place x item (step_come bounds addr group step b a place come);
 }
   where
-    goes : (x : ℕ) → Goes x (group x) (after bounds number group step x)
-    goes = all_goes bounds number group step may flow.bounded
+    goes : (x : ℕ) → Goes x (group x) (after bounds addr group step x)
+    goes = all_goes bounds addr group step may flow.bounded
 
     -- what one member put out is not too long for another
     brief : (a place : ℕ) (x : Entry) → is_member spec a ≡ true → is_member spec step.node.number ≡ true → slice_get ((group a).put step.node.number) (place - 1) ≡ Some x → is_too_long (version_at bounds.versions step.node.number) x.payload ≡ false
@@ -234,29 +235,29 @@ taking_after bounds number spec version alike group step may flow sound short ta
         ap (λ v. is_too_long v x.payload) (alike step.node.number in_b ∙ sym (alike a in_a)) ∙ all_at (IsShort bounds a) ((group a).put step.node.number) (place - 1) x ((short a).put step.node.number) item
 
     -- a carried item stands where it stood
-    before : (a b place : ℕ) (x : Entry) → (0 < place) × (place ≤ (group a).taken b) → slice_get ((after bounds number group step a).put b) (place - 1) ≡ Some x → slice_get ((group a).put b) (place - 1) ≡ Some x
+    before : (a b place : ℕ) (x : Entry) → (0 < place) × (place ≤ (group a).taken b) → slice_get ((after bounds addr group step a).put b) (place - 1) ≡ Some x → slice_get ((group a).put b) (place - 1) ≡ Some x
     before a b place x at item = let some = at.0 in let few = at.1 in sym ((goes a).stable b (place - 1) (omega (arith, some, few))) ∙ item
 
     new_one : (a b : ℕ) → is_member spec a ≡ true → is_member spec b ≡ true → nat_eq a b ≡ false → is_gone (group b).phase ≡ false → (place : ℕ) (x : Entry) → slice_get ((group a).put b) (place - 1) ≡ Some x → b ≡ step.node.number → IsArrival step.event a place
-        → came_from b (calls_of (after bounds number group step b).told) a (message_of x) ≡ true
+        → came_from b (calls_of (after bounds addr group step b).told) a (message_of x) ≡ true
     new_one a b in_a in_b other here place x item there new =
-        subst (λ z. slice_get ((group a).put z) (place - 1) ≡ Some x → is_member spec z ≡ true → nat_eq a z ≡ false → is_gone (group z).phase ≡ false → came_from z (calls_of (after bounds number group step z).told) a (message_of x) ≡ true) (sym there) at_node item in_b other here
+        subst (λ z. slice_get ((group a).put z) (place - 1) ≡ Some x → is_member spec z ≡ true → nat_eq a z ≡ false → is_gone (group z).phase ≡ false → came_from z (calls_of (after bounds addr group step z).told) a (message_of x) ≡ true) (sym there) at_node item in_b other here
       where
         from_node : slice_get ((group new.from.number).put step.node.number) (place - 1) ≡ Some x → is_member spec new.from.number ≡ true → is_member spec step.node.number ≡ true → nat_eq new.from.number step.node.number ≡ false → is_gone (group step.node.number).phase ≡ false
-            → came_from step.node.number (calls_of (member_after bounds number step.node step.event group).told) new.from.number (message_of x) ≡ true
+            → came_from step.node.number (calls_of (member_after bounds addr step.node step.event group).told) new.from.number (message_of x) ≡ true
         from_node item in_a in_b other here =
-            subst (λ (e : GroupEvent). came_from step.node.number (calls_of (member_after bounds number step.node e group).told) new.from.number (message_of x) ≡ true) (sym new.is)
+            subst (λ (e : GroupEvent). came_from step.node.number (calls_of (member_after bounds addr step.node e group).told) new.from.number (message_of x) ≡ true) (sym new.is)
             (arrival (version_at bounds.versions step.node.number) spec group new.from step.node.number place x flow.fits sound taking in_a in_b other here item (brief new.from.number place x in_a in_b item))
 
-        at_node : slice_get ((group a).put step.node.number) (place - 1) ≡ Some x → is_member spec step.node.number ≡ true → nat_eq a step.node.number ≡ false → is_gone (group step.node.number).phase ≡ false → came_from step.node.number (calls_of (after bounds number group step step.node.number).told) a (message_of x) ≡ true
+        at_node : slice_get ((group a).put step.node.number) (place - 1) ≡ Some x → is_member spec step.node.number ≡ true → nat_eq a step.node.number ≡ false → is_gone (group step.node.number).phase ≡ false → came_from step.node.number (calls_of (after bounds addr group step step.node.number).told) a (message_of x) ≡ true
         at_node item in_b other here =
-            let done : came_from step.node.number (calls_of (member_after bounds number step.node step.event group).told) a (message_of x) ≡ true =
-            subst (λ z. slice_get ((group z).put step.node.number) (place - 1) ≡ Some x → is_member spec z ≡ true → nat_eq z step.node.number ≡ false → came_from step.node.number (calls_of (member_after bounds number step.node step.event group).told) z (message_of x) ≡ true) (sym new.here)
+            let done : came_from step.node.number (calls_of (member_after bounds addr step.node step.event group).told) a (message_of x) ≡ true =
+            subst (λ z. slice_get ((group z).put step.node.number) (place - 1) ≡ Some x → is_member spec z ≡ true → nat_eq z step.node.number ≡ false → came_from step.node.number (calls_of (member_after bounds addr step.node step.event group).told) z (message_of x) ≡ true) (sym new.here)
             (λ i ia o. from_node i ia in_b o here) item in_a other in
-            ap (λ (t : Bool). came_from step.node.number (calls_of (if t then member_after bounds number step.node step.event group else group step.node.number).told) a (message_of x)) (eq-eqb step.node.number step.node.number refl) ∙ done
+            ap (λ (t : Bool). came_from step.node.number (calls_of (if t then member_after bounds addr step.node step.event group else group step.node.number).told) a (message_of x)) (eq-eqb step.node.number step.node.number refl) ∙ done
 
-    by : (a b : ℕ) → is_member spec a ≡ true → is_member spec b ≡ true → nat_eq a b ≡ false → is_gone (after bounds number group step b).phase ≡ false → (place : ℕ) (x : Entry) → slice_get ((after bounds number group step a).put b) (place - 1) ≡ Some x
-        → ((is_marked place ((group b).come a) ≡ true) ⊎ ((b ≡ step.node.number) × IsArrival step.event a place)) → came_from b (calls_of (after bounds number group step b).told) a (message_of x) ≡ true
+    by : (a b : ℕ) → is_member spec a ≡ true → is_member spec b ≡ true → nat_eq a b ≡ false → is_gone (after bounds addr group step b).phase ≡ false → (place : ℕ) (x : Entry) → slice_get ((after bounds addr group step a).put b) (place - 1) ≡ Some x
+        → ((is_marked place ((group b).come a) ≡ true) ⊎ ((b ≡ step.node.number) × IsArrival step.event a place)) → came_from b (calls_of (after bounds addr group step b).told) a (message_of x) ≡ true
     by a b in_a in_b other here place x item (inl old) = (goes b).from a (message_of x) (taking.taken a b in_a in_b other ((goes b).here here) place x old (before a b place x (flow.come a b place old) item))
     by a b in_a in_b other here place x item (inr new) =
         let at = came_legal group step.node a place step.event new.1 may in
@@ -264,12 +265,12 @@ taking_after bounds number spec version alike group step may flow sound short ta
         new_one a b in_a in_b other ((goes b).here here) place x (before a b place x (at.0, few) item) new.0 new.1
 
 -- so it stays, where the group is sound at every moment
-pub run_takes : (bounds : Bounds) (number : ℕ) (spec : Spec) (version : Version) → SendAlike bounds spec version → (steps : List GroupStep) (group : Group) → ((earlier later : List GroupStep) → steps ≡ earlier ++ later → IsSound (alone_from bounds number group earlier)) → IsLegalFrom bounds number group steps → Flow group → AllShort bounds group → Taking spec group
-    → Taking spec (alone_from bounds number group steps)
-run_takes bounds number spec version alike [] group sound legal flow short taking = taking
-run_takes bounds number spec version alike (step ∷ steps) group sound legal flow short taking =
-    run_takes bounds number spec version alike steps (after bounds number group step) (λ earlier later is. sound (step ∷ earlier) later (ap (λ rest. step ∷ rest) is)) legal.1 (flow_after bounds number group step legal.0 flow) (step_short bounds number group step short)
-    (taking_after bounds number spec version alike group step legal.0 flow (sound [] (step ∷ steps) refl) short taking)
+pub run_takes : (bounds : Bounds) (addr : Addr) (spec : Spec) (version : Version) → SendAlike bounds spec version → (steps : List GroupStep) (group : Group) → ((earlier later : List GroupStep) → steps ≡ earlier ++ later → IsSound (alone_from bounds addr group earlier)) → IsLegalFrom bounds addr group steps → Flow group → AllShort bounds group → Taking spec group
+    → Taking spec (alone_from bounds addr group steps)
+run_takes bounds addr spec version alike [] group sound legal flow short taking = taking
+run_takes bounds addr spec version alike (step ∷ steps) group sound legal flow short taking =
+    run_takes bounds addr spec version alike steps (after bounds addr group step) (λ earlier later is. sound (step ∷ earlier) later (ap (λ rest. step ∷ rest) is)) legal.1 (flow_after bounds addr group step legal.0 flow) (step_short bounds addr group step short)
+    (taking_after bounds addr spec version alike group step legal.0 flow (sound [] (step ∷ steps) refl) short taking)
 
 -- where nothing was said yet nothing was put out
 pub first_taking : (spec : Spec) (group : Group) → AllFit group → ((a : ℕ) → is_member spec a ≡ true → (group a).spec ≡ Some spec) → ((a : ℕ) (m : MsgId) → was_said (calls_in group a) m ≡ true → ⊥) → Taking spec group

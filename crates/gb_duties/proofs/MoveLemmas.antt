@@ -22,6 +22,7 @@ use Rattle.gb_alone.specs.declared.event.GroupEvent.{GroupEvent}
 use Rattle.gb_alone.specs.declared.event.GroupEvent.TheVariants.{Tenant, Make as AskMake, Open as AskOpen, Shut as AskShut, Drop as AskDrop, Say as AskSay, Took, Came, Done as Acknowledged, Notice, Stop}
 use Rattle.gb_duties.proofs.ReplyLemmas.{open_accepts, shut_accepts, make_accepts}
 use Rattle.gb_stack.proofs.DeliveryLemmas.{came_stays}
+use Rattle.gb_types.specs.declared.address.Addr.{Addr}
 
 -- no more is carried than was put out
 abbrev pub Bounded : Member → Type 0
@@ -119,16 +120,16 @@ notice_moves a q (Some spec) m bounded = by (is_other spec a q.number)
     by true = called_moves a (Crashed q) m (cut q m) (cut_moves a q m m (stays a m bounded))
     by false = stays a m bounded
 
-did_moves : (bounds : Bounds) (number : ℕ) (me : NodeId) (event : GroupEvent) (reply : Reply) (m : Member) → reply_to bounds number me.number event m ≡ reply → Bounded m → Goes me.number m (did me event reply m)
-did_moves bounds number me (AskMake spec) Done m e bounded =
-    let new = (make_accepts bounds number me.number spec m e).new in
+did_moves : (bounds : Bounds) (addr : Addr) (me : NodeId) (event : GroupEvent) (reply : Reply) (m : Member) → reply_to bounds addr me.number event m ≡ reply → Bounded m → Goes me.number m (did me event reply m)
+did_moves bounds addr me (AskMake spec) Done m e bounded =
+    let new = (make_accepts bounds addr me.number spec m e).new in
     record { spec = λ s is. absurd (other s (sym new ∙ is)); here = λ h. h; from = λ p x h. h; stable = λ b i lt. refl; taken = λ b. omega arith; bounded = bounded }
   where
     other : (s : Spec) → None ≡ Some s → ⊥
     other s h = absurd (cc)
-did_moves bounds number me AskOpen Done m e bounded = record { spec = λ s is. is; here = λ h. open_accepts bounds number me.number m e; from = λ p x h. h; stable = λ b i lt. refl; taken = λ b. omega arith; bounded = bounded }
-did_moves bounds number me AskShut Done m e bounded = record { spec = λ s is. is; here = λ h. shut_accepts bounds number me.number m e; from = λ p x h. h; stable = λ b i lt. refl; taken = λ b. omega arith; bounded = bounded }
-did_moves bounds number me AskDrop Done m e bounded = record {
+did_moves bounds addr me AskOpen Done m e bounded = record { spec = λ s is. is; here = λ h. open_accepts bounds addr me.number m e; from = λ p x h. h; stable = λ b i lt. refl; taken = λ b. omega arith; bounded = bounded }
+did_moves bounds addr me AskShut Done m e bounded = record { spec = λ s is. is; here = λ h. shut_accepts bounds addr me.number m e; from = λ p x h. h; stable = λ b i lt. refl; taken = λ b. omega arith; bounded = bounded }
+did_moves bounds addr me AskDrop Done m e bounded = record {
   spec = λ s is. is;
   here = λ h. absurd (cc);
   from = λ p x h. h;
@@ -136,8 +137,8 @@ did_moves bounds number me AskDrop Done m e bounded = record {
   taken = λ b. omega arith;
   bounded = λ b. let few = length-take-le (m.taken b) (m.put b) (bounded b) in omega (arith, few);
 }
-did_moves bounds number me (AskSay message) (Said seq) m e bounded = called_moves me.number (Own (record { origin = me; seq = seq; payload = message.payload })) m m (stays me.number m bounded)
-did_moves bounds number me event reply m e bounded = stays me.number m bounded
+did_moves bounds addr me (AskSay message) (Said seq) m e bounded = called_moves me.number (Own (record { origin = me; seq = seq; payload = message.payload })) m m (stays me.number m bounded)
+did_moves bounds addr me event reply m e bounded = stays me.number m bounded
 
 took_moves : (a : ℕ) (b : NodeId) (count : ℕ) (m : Member) → m.taken b.number + count ≤ length (m.put b.number) → Bounded m → Goes a m (record m { taken = λ x. if nat_eq x b.number then m.taken x + count else m.taken x })
 took_moves a b count m room bounded = record { spec = λ s is. is; here = λ h. h; from = λ p x h. h; stable = λ y i lt. refl; taken = λ y. more y (nat_eq y b.number); bounded = λ y. few y (nat_eq y b.number) refl }
@@ -150,15 +151,15 @@ took_moves a b count m room bounded = record { spec = λ s is. is; here = λ h. 
     few y true is = subst (λ z. m.taken z + count ≤ length (m.put z)) (sym (eqb-true y b.number is)) room
     few y false is = bounded y
 
-pub event_moves : (bounds : Bounds) (number : ℕ) (group : Group) (me : NodeId) (event : GroupEvent) → MayHappen me event group → Bounded (group me.number) → Goes me.number (group me.number) (member_after bounds number me event group)
-event_moves bounds number group me (Tenant reserve) may bounded = record { spec = λ s is. is; here = λ h. h; from = λ p x h. h; stable = λ b i lt. refl; taken = λ b. omega arith; bounded = bounded }
-event_moves bounds number group me (Took b count) may bounded = took_moves me.number b count (group me.number) may.2 bounded
-event_moves bounds number group me (Came from place) may bounded = taken_moves (version_at bounds.versions me.number) me.number from place (slice_get ((group from.number).put me.number) (place - 1)) (group me.number) bounded
-event_moves bounds number group me (Acknowledged b place count) may bounded = record { spec = λ s is. is; here = λ h. h; from = λ p x h. h; stable = λ b i lt. refl; taken = λ b. omega arith; bounded = bounded }
-event_moves bounds number group me (Notice q) may bounded =
+pub event_moves : (bounds : Bounds) (addr : Addr) (group : Group) (me : NodeId) (event : GroupEvent) → MayHappen me event group → Bounded (group me.number) → Goes me.number (group me.number) (member_after bounds addr me event group)
+event_moves bounds addr group me (Tenant reserve) may bounded = record { spec = λ s is. is; here = λ h. h; from = λ p x h. h; stable = λ b i lt. refl; taken = λ b. omega arith; bounded = bounded }
+event_moves bounds addr group me (Took b count) may bounded = took_moves me.number b count (group me.number) may.2 bounded
+event_moves bounds addr group me (Came from place) may bounded = taken_moves (version_at bounds.versions me.number) me.number from place (slice_get ((group from.number).put me.number) (place - 1)) (group me.number) bounded
+event_moves bounds addr group me (Acknowledged b place count) may bounded = record { spec = λ s is. is; here = λ h. h; from = λ p x h. h; stable = λ b i lt. refl; taken = λ b. omega arith; bounded = bounded }
+event_moves bounds addr group me (Notice q) may bounded =
     let g = notice_moves me.number q (held_spec (group me.number).phase (group me.number).spec) (group me.number) bounded in
     record { spec = g.spec; here = g.here; from = g.from; stable = g.stable; taken = g.taken; bounded = g.bounded }
-event_moves bounds number group me Stop may bounded = record { spec = λ s is. is; here = λ h. h; from = λ p x h. h; stable = λ b i lt. refl; taken = λ b. omega arith; bounded = bounded }
-event_moves bounds number group me event may bounded =
-    let g = did_moves bounds number me event (reply_to bounds number me.number event (group me.number)) (group me.number) refl bounded in
+event_moves bounds addr group me Stop may bounded = record { spec = λ s is. is; here = λ h. h; from = λ p x h. h; stable = λ b i lt. refl; taken = λ b. omega arith; bounded = bounded }
+event_moves bounds addr group me event may bounded =
+    let g = did_moves bounds addr me event (reply_to bounds addr me.number event (group me.number)) (group me.number) refl bounded in
     record { spec = g.spec; here = g.here; from = g.from; stable = g.stable; taken = g.taken; bounded = g.bounded }

@@ -20,6 +20,7 @@ use Rattle.gb_alone.specs.declared.event.GroupEvent.{GroupEvent}
 use Rattle.gb_alone.specs.declared.event.GroupEvent.TheVariants.{Tenant, Make as AskMake, Open as AskOpen, Shut as AskShut, Drop as AskDrop, Say as AskSay, Took, Came, Done as Acknowledged, Notice, Stop}
 use Rattle.gb_alone.specs.declared.event.GroupStep.{GroupStep}
 use Rattle.gb_duties.proofs.ReplyLemmas.{open_accepts, shut_accepts, make_accepts}
+use Rattle.gb_types.specs.declared.address.Addr.{Addr}
 
 pub record Marked (a : ℕ) (m : Member) : Type 0 where
   -- the group is told only of what is marked
@@ -34,20 +35,20 @@ abbrev pub IsDue : GroupEvent → Member → Type 0
 IsDue (Notice q) m = is_some m.spec ≡ true
 IsDue event m = Unit {0}
 
-did_marked : (bounds : Bounds) (number : ℕ) (me : NodeId) (event : GroupEvent) (reply : Reply) (m : Member) → reply_to bounds number me.number event m ≡ reply → Marked me.number m → Marked me.number (did me event reply m)
+did_marked : (bounds : Bounds) (addr : Addr) (me : NodeId) (event : GroupEvent) (reply : Reply) (m : Member) → reply_to bounds addr me.number event m ≡ reply → Marked me.number m → Marked me.number (did me event reply m)
 unfolding calls_of
-did_marked bounds number me (AskMake spec) Done m e old = record {
+did_marked bounds addr me (AskMake spec) Done m e old = record {
   told = old.told;
   unmade = λ is. absurd (cc);
   here = λ still s is q other marked.
-      let none = ap (is_marked q) (old.unmade (make_accepts bounds number me.number spec m e).new) in
+      let none = ap (is_marked q) (old.unmade (make_accepts bounds addr me.number spec m e).new) in
       absurd (cc);
 }
-did_marked bounds number me AskOpen Done m e old = record { told = old.told; unmade = old.unmade; here = λ still. old.here (open_accepts bounds number me.number m e) }
-did_marked bounds number me AskShut Done m e old = record { told = old.told; unmade = old.unmade; here = λ still. old.here (shut_accepts bounds number me.number m e) }
-did_marked bounds number me AskDrop Done m e old = record { told = old.told; unmade = old.unmade; here = λ still. absurd (cc) }
-did_marked bounds number me (AskSay message) (Said seq) m e old = record { told = old.told; unmade = old.unmade; here = old.here }
-did_marked bounds number me event reply m e old = old
+did_marked bounds addr me AskOpen Done m e old = record { told = old.told; unmade = old.unmade; here = λ still. old.here (open_accepts bounds addr me.number m e) }
+did_marked bounds addr me AskShut Done m e old = record { told = old.told; unmade = old.unmade; here = λ still. old.here (shut_accepts bounds addr me.number m e) }
+did_marked bounds addr me AskDrop Done m e old = record { told = old.told; unmade = old.unmade; here = λ still. absurd (cc) }
+did_marked bounds addr me (AskSay message) (Said seq) m e old = record { told = old.told; unmade = old.unmade; here = old.here }
+did_marked bounds addr me event reply m e old = old
 
 taken_marked : (version : Version) (a : ℕ) (from : NodeId) (place : ℕ) (o : Option Entry) (m : Member) → Marked a m → Marked a (taken_in version a from place o m)
 unfolding calls_of
@@ -104,36 +105,36 @@ notice_marked a q m due old = by (is_gone m.phase) refl m.spec refl
     by false here None is = absurd (made is)
     by false here (Some spec) is = joined spec is here (is_other spec a q.number) refl
 
-event_marked : (bounds : Bounds) (number : ℕ) (me : NodeId) (event : GroupEvent) (group : Group) → IsDue event (group me.number) → Marked me.number (group me.number) → Marked me.number (member_after bounds number me event group)
-event_marked bounds number me (Tenant reserve) group due old = record { told = old.told; unmade = old.unmade; here = old.here }
-event_marked bounds number me (Took b count) group due old = record { told = old.told; unmade = old.unmade; here = old.here }
-event_marked bounds number me (Came from place) group due old = taken_marked (version_at bounds.versions me.number) me.number from place (slice_get ((group from.number).put me.number) (place - 1)) (group me.number) old
-event_marked bounds number me (Acknowledged b place count) group due old = record { told = old.told; unmade = old.unmade; here = old.here }
-event_marked bounds number me (Notice q) group due old = notice_marked me.number q (group me.number) due old
-event_marked bounds number me Stop group due old = record { told = old.told; unmade = old.unmade; here = old.here }
-event_marked bounds number me event group due old =
-    let next = did_marked bounds number me event (reply_to bounds number me.number event (group me.number)) (group me.number) refl old in
+event_marked : (bounds : Bounds) (addr : Addr) (me : NodeId) (event : GroupEvent) (group : Group) → IsDue event (group me.number) → Marked me.number (group me.number) → Marked me.number (member_after bounds addr me event group)
+event_marked bounds addr me (Tenant reserve) group due old = record { told = old.told; unmade = old.unmade; here = old.here }
+event_marked bounds addr me (Took b count) group due old = record { told = old.told; unmade = old.unmade; here = old.here }
+event_marked bounds addr me (Came from place) group due old = taken_marked (version_at bounds.versions me.number) me.number from place (slice_get ((group from.number).put me.number) (place - 1)) (group me.number) old
+event_marked bounds addr me (Acknowledged b place count) group due old = record { told = old.told; unmade = old.unmade; here = old.here }
+event_marked bounds addr me (Notice q) group due old = notice_marked me.number q (group me.number) due old
+event_marked bounds addr me Stop group due old = record { told = old.told; unmade = old.unmade; here = old.here }
+event_marked bounds addr me event group due old =
+    let next = did_marked bounds addr me event (reply_to bounds addr me.number event (group me.number)) (group me.number) refl old in
     record { told = next.told; unmade = next.unmade; here = next.here }
 
 abbrev pub AllMarked : Group → Type 0
 AllMarked group = (a : ℕ) → Marked a (group a)
 
-step_marked : (bounds : Bounds) (number : ℕ) (group : Group) (step : GroupStep) → IsDue step.event (group step.node.number) → AllMarked group → AllMarked (after bounds number group step)
+step_marked : (bounds : Bounds) (addr : Addr) (group : Group) (step : GroupStep) → IsDue step.event (group step.node.number) → AllMarked group → AllMarked (after bounds addr group step)
 unfolding after
-step_marked bounds number group step due all a = go (nat_eq a step.node.number) refl
+step_marked bounds addr group step due all a = go (nat_eq a step.node.number) refl
   where
-    go : (t : Bool) → nat_eq a step.node.number ≡ t → Marked a (if t then member_after bounds number step.node step.event group else group a)
-    go true is = subst (λ y. Marked y (member_after bounds number step.node step.event group)) (sym (eqb-true a step.node.number is)) (event_marked bounds number step.node step.event group due (all step.node.number))
+    go : (t : Bool) → nat_eq a step.node.number ≡ t → Marked a (if t then member_after bounds addr step.node step.event group else group a)
+    go true is = subst (λ y. Marked y (member_after bounds addr step.node step.event group)) (sym (eqb-true a step.node.number is)) (event_marked bounds addr step.node step.event group due (all step.node.number))
     go false is = all a
 
 -- so each notice of these events
-abbrev pub AreDue : Bounds → ℕ → Group → List GroupStep → Type 0
-AreDue bounds number group [] = Unit {0}
-AreDue bounds number group (step ∷ steps) = IsDue step.event (group step.node.number) × AreDue bounds number (after bounds number group step) steps
+abbrev pub AreDue : Bounds → Addr → Group → List GroupStep → Type 0
+AreDue bounds addr group [] = Unit {0}
+AreDue bounds addr group (step ∷ steps) = IsDue step.event (group step.node.number) × AreDue bounds addr (after bounds addr group step) steps
 
-pub run_marked : (bounds : Bounds) (number : ℕ) (steps : List GroupStep) (group : Group) → AreDue bounds number group steps → AllMarked group → AllMarked (alone_from bounds number group steps)
-run_marked bounds number [] group due all = all
-run_marked bounds number (step ∷ steps) group due all = run_marked bounds number steps (after bounds number group step) due.1 (step_marked bounds number group step due.0 all)
+pub run_marked : (bounds : Bounds) (addr : Addr) (steps : List GroupStep) (group : Group) → AreDue bounds addr group steps → AllMarked group → AllMarked (alone_from bounds addr group steps)
+run_marked bounds addr [] group due all = all
+run_marked bounds addr (step ∷ steps) group due all = run_marked bounds addr steps (after bounds addr group step) due.1 (step_marked bounds addr group step due.0 all)
 
 pub nobody_marked : AllMarked nobody
 unfolding calls_of

@@ -6,7 +6,7 @@ use Rattle.std.proofs.lemmas.Bool.Decides.{nat_tests}
 use Rattle.gb_types.specs.Entry.{message_of}
 use Rattle.gb_types.specs.declared.entry.Entry.{Entry}
 use Rattle.gb_types.specs.declared.message.MsgId.{MsgId}
-use Rattle.gb_types.specs.declared.refusal.Refusal.TheVariants.{NoGroup, Spent, BadMembers, OverReserve, TooLong, Budget, Bytes, Window, Stopped}
+use Rattle.gb_types.specs.declared.refusal.Refusal.TheVariants.{NoGroup, Spent, BadMembers, OverReserve, Stopped}
 use Rattle.gb_types.specs.declared.reply.Reply.{Reply}
 use Rattle.gb_types.specs.declared.reply.Reply.TheVariants.{Done, Said, Refused}
 use Rattle.gb_types.specs.declared.plan.Bounds.{Bounds}
@@ -14,18 +14,18 @@ use Rattle.gb_types.specs.declared.spec.Spec.{Spec}
 use Rattle.gb_types.specs.declared.version.Version.{Version}
 use Rattle.gb_types.specs.Version.{version_at}
 use Rattle.gb_types.proofs.BoolLemmas.{not_false, or_left, or_right}
-use Rattle.gb_history.specs.History.{said_in, bytes_in, log_of}
+use Rattle.gb_history.specs.History.{said_in, bytes_in}
 use Rattle.gb_rules.specs.Group.{Shown, is_gone, open_answer, shut_answer, is_too_long, say_answer, is_member, on_made}
 use Rattle.gb_rules.specs.LetFall.{is_let_fall}
 use Rattle.gb_rules.specs.Tenant.{is_bad, is_over, make_answer, by_tenant}
 use Rattle.gb_rules.specs.declared.phase.Phase.{Phase}
-use Rattle.gb_rules.specs.declared.phase.Phase.TheVariants.{Made, Opened, Shut, Gone}
 use Rattle.gb_rules.specs.declared.reserve.Reserve.{Reserve}
-use Rattle.gb_alone.specs.Alone.{Member, held_spec, reply_to, on_group, usage_of, shown_in}
+use Rattle.gb_alone.specs.Alone.{Member, held_spec, reply_to, on_group, shown_in}
 use Rattle.gb_alone.specs.declared.event.GroupEvent.TheVariants.{Make as AskMake, Open as AskOpen, Shut as AskShut, Say as AskSay}
 use Rattle.gb_alone.proofs.UsageLemmas.{shown_of}
 use Rattle.gb_types.specs.declared.new_message.NewMessage.{NewMessage}
 use Rattle.gb_rules.proofs.SayLemmas.{said_is}
+use Rattle.gb_types.specs.declared.address.Addr.{Addr}
 
 -- a group that is held was made and not dropped
 pub held_made : (phase : Phase) (o : Option Spec) (spec : Spec) → held_spec phase o ≡ Some spec → (is_gone phase ≡ false) × (o ≡ Some spec)
@@ -48,15 +48,15 @@ awake answer me m = by m.reserve m.spec
     by (Some reserve) None h = absurd (cc)
     by (Some reserve) (Some spec) h = present (shown_in me m.phase m.told m.put m.done spec) (is_gone m.phase) h
 
-pub open_accepts : (bounds : Bounds) (number me : ℕ) (m : Member) → reply_to bounds number me AskOpen m ≡ Done → is_gone m.phase ≡ false
-open_accepts bounds number me m = running m.stopped
+pub open_accepts : (bounds : Bounds) (addr : Addr) (me : ℕ) (m : Member) → reply_to bounds addr me AskOpen m ≡ Done → is_gone m.phase ≡ false
+open_accepts bounds addr me m = running m.stopped
   where
     running : (stopped : Bool) → (if stopped then Refused Stopped else on_group open_answer me m) ≡ Done → is_gone m.phase ≡ false
     running true h = absurd (cc)
     running false h = awake open_answer me m h
 
-pub shut_accepts : (bounds : Bounds) (number me : ℕ) (m : Member) → reply_to bounds number me AskShut m ≡ Done → is_gone m.phase ≡ false
-shut_accepts bounds number me m = running m.stopped
+pub shut_accepts : (bounds : Bounds) (addr : Addr) (me : ℕ) (m : Member) → reply_to bounds addr me AskShut m ≡ Done → is_gone m.phase ≡ false
+shut_accepts bounds addr me m = running m.stopped
   where
     running : (stopped : Bool) → (if stopped then Refused Stopped else on_group shut_answer me m) ≡ Done → is_gone m.phase ≡ false
     running true h = absurd (cc)
@@ -71,8 +71,8 @@ pub record Accepts (version : Version) (me : ℕ) (payload : List ℕ) (m : Memb
   pub light : bytes_in m.told me + length payload ≤ spec.bytes
   pub short : is_too_long version payload ≡ false
 
-pub say_accepts : (bounds : Bounds) (number me : ℕ) (message : NewMessage) (seq : ℕ) (m : Member) → reply_to bounds number me (AskSay message) m ≡ Said seq → Accepts (version_at bounds.versions me) me message.payload m seq
-say_accepts bounds number me message seq m = running m.stopped
+pub say_accepts : (bounds : Bounds) (addr : Addr) (me : ℕ) (message : NewMessage) (seq : ℕ) (m : Member) → reply_to bounds addr me (AskSay message) m ≡ Said seq → Accepts (version_at bounds.versions me) me message.payload m seq
+say_accepts bounds addr me message seq m = running m.stopped
   where
     version : Version
     version = version_at bounds.versions me
@@ -99,8 +99,8 @@ pub record Makes (me : ℕ) (spec : Spec) (m : Member) : Type 0 where
   pub new : m.spec ≡ None
   pub inside : is_member spec me ≡ true
 
-pub make_accepts : (bounds : Bounds) (number me : ℕ) (spec : Spec) (m : Member) → reply_to bounds number me (AskMake spec) m ≡ Done → Makes me spec m
-make_accepts bounds number me spec m = running m.stopped
+pub make_accepts : (bounds : Bounds) (addr : Addr) (me : ℕ) (spec : Spec) (m : Member) → reply_to bounds addr me (AskMake spec) m ≡ Done → Makes me spec m
+make_accepts bounds addr me spec m = running m.stopped
   where
     unmade : (o : Option Spec) → is_some o ≡ false → o ≡ None
     unmade None e = refl
@@ -113,11 +113,11 @@ make_accepts bounds number me spec m = running m.stopped
     admitted false false false true new good h = absurd (cc)
     admitted false false false false new good h = record { new = unmade m.spec new; inside = not_false (is_member spec me) (or_left (not (is_member spec me)) _ good) }
 
-    by : (reserve : Option Reserve) → by_tenant (make_answer bounds.nodes me number (is_some m.spec) spec) reserve ≡ Done → Makes me spec m
+    by : (reserve : Option Reserve) → by_tenant (make_answer bounds.nodes me addr (is_some m.spec) spec) reserve ≡ Done → Makes me spec m
     by None h = absurd (cc)
-    by (Some reserve) h = admitted (nat_le reserve.groups number) (is_some m.spec) (is_bad bounds.nodes me spec) (is_over reserve spec) refl refl h
+    by (Some reserve) h = admitted (nat_le reserve.groups addr.group) (is_some m.spec) (is_bad bounds.nodes me spec) (nat_lt 0 addr.generation || is_over reserve spec) refl refl h
 
-    running : (stopped : Bool) → (if stopped then Refused Stopped else by_tenant (make_answer bounds.nodes me number (is_some m.spec) spec) m.reserve) ≡ Done → Makes me spec m
+    running : (stopped : Bool) → (if stopped then Refused Stopped else by_tenant (make_answer bounds.nodes me addr (is_some m.spec) spec) m.reserve) ≡ Done → Makes me spec m
     running true h = absurd (cc)
     running false h = by m.reserve h
 

@@ -12,6 +12,7 @@ use Rattle.gb_alone.specs.Alone.{Group, reply_to, member_after, after, nobody, a
 use Rattle.gb_alone.specs.declared.event.GroupStep.{GroupStep}
 use Rattle.gb_alone.proofs.EntryLemmas.{HoldsAt, holds_after}
 use Rattle.gb_duties.proofs.ReplyLemmas.{say_accepts}
+use Rattle.gb_types.specs.declared.address.Addr.{Addr}
 
 -- the node may say it
 abbrev pub IsShort : Bounds → ℕ → Entry → Type 0
@@ -20,24 +21,24 @@ IsShort bounds a x = is_too_long (version_at bounds.versions a) x.payload ≡ fa
 abbrev pub AllShort : Bounds → Group → Type 0
 AllShort bounds group = (a : ℕ) → HoldsAt (IsShort bounds a) (group a)
 
-pub step_short : (bounds : Bounds) (number : ℕ) (group : Group) (step : GroupStep) → AllShort bounds group → AllShort bounds (after bounds number group step)
+pub step_short : (bounds : Bounds) (addr : Addr) (group : Group) (step : GroupStep) → AllShort bounds group → AllShort bounds (after bounds addr group step)
 unfolding after
-step_short bounds number group step all x = go (nat_eq x step.node.number) refl
+step_short bounds addr group step all x = go (nat_eq x step.node.number) refl
   where
-    here : HoldsAt (IsShort bounds step.node.number) (member_after bounds number step.node step.event group)
+    here : HoldsAt (IsShort bounds step.node.number) (member_after bounds addr step.node step.event group)
     here =
-        holds_after (IsShort bounds step.node.number) bounds number step.node step.event group
-        (λ message seq e h. (say_accepts bounds number step.node.number message seq (group step.node.number) ((λ i. reply_to bounds number step.node.number (sym e i) (group step.node.number)) ∙ h)).short)
+        holds_after (IsShort bounds step.node.number) bounds addr step.node step.event group
+        (λ message seq e h. (say_accepts bounds addr step.node.number message seq (group step.node.number) ((λ i. reply_to bounds addr step.node.number (sym e i) (group step.node.number)) ∙ h)).short)
         (λ from place y there short. short) (all step.node.number)
 
-    go : (t : Bool) → nat_eq x step.node.number ≡ t → HoldsAt (IsShort bounds x) (if t then member_after bounds number step.node step.event group else group x)
-    go true is = subst (λ y. HoldsAt (IsShort bounds y) (member_after bounds number step.node step.event group)) (sym (eqb-true x step.node.number is)) here
+    go : (t : Bool) → nat_eq x step.node.number ≡ t → HoldsAt (IsShort bounds x) (if t then member_after bounds addr step.node step.event group else group x)
+    go true is = subst (λ y. HoldsAt (IsShort bounds y) (member_after bounds addr step.node step.event group)) (sym (eqb-true x step.node.number is)) here
     go false is = all x
 
 pub nobody_short : (bounds : Bounds) → AllShort bounds nobody
 unfolding known
 nobody_short bounds a = record { known = All-nil (IsShort bounds a); put = λ b. All-nil (IsShort bounds a) }
 
-pub run_short : (bounds : Bounds) (number : ℕ) (steps : List GroupStep) (group : Group) → AllShort bounds group → AllShort bounds (alone_from bounds number group steps)
-run_short bounds number [] group all = all
-run_short bounds number (step ∷ steps) group all = run_short bounds number steps (after bounds number group step) (step_short bounds number group step all)
+pub run_short : (bounds : Bounds) (addr : Addr) (steps : List GroupStep) (group : Group) → AllShort bounds group → AllShort bounds (alone_from bounds addr group steps)
+run_short bounds addr [] group all = all
+run_short bounds addr (step ∷ steps) group all = run_short bounds addr steps (after bounds addr group step) (step_short bounds addr group step all)

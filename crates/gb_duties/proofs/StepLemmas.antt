@@ -35,6 +35,7 @@ use Rattle.gb_alone.specs.declared.event.GroupStep.{GroupStep}
 use Rattle.gb_duties.proofs.WordLemmas.{has-take, has-get, said_stays}
 use Rattle.gb_duties.proofs.ReplyLemmas.{held_made, open_accepts, shut_accepts, say_accepts, Makes, make_accepts, fair_item}
 use Rattle.gb_duties.proofs.InvariantLemmas.{Fits, FitsAt, Later, fits_later, Brings, fits_called}
+use Rattle.gb_types.specs.declared.address.Addr.{Addr}
 
 -- the calls of each node
 abbrev pub calls_in : Group → ℕ → List Call
@@ -195,56 +196,56 @@ dropped_fits calls a m fits = record {
   owes = λ here. absurd (cc);
 }
 
-did_result : (bounds : Bounds) (number : ℕ) (group : Group) (me : NodeId) (event : GroupEvent) (reply : Reply) → reply_to bounds number me.number event (group me.number) ≡ reply → AllFit group → Result group me.number (did me event reply (group me.number))
-did_result bounds number group me (AskMake spec) Done e all =
-    kept group me.number (record (group me.number) { spec = Some spec }) all refl (λ calls fits. made_fits calls me.number spec (group me.number) (make_accepts bounds number me.number spec (group me.number) e) fits)
-did_result bounds number group me AskOpen Done e all = kept group me.number (did me AskOpen Done (group me.number)) all refl (λ calls fits. in_phase calls me.number Opened (group me.number) (open_accepts bounds number me.number (group me.number) e) fits)
-did_result bounds number group me AskShut Done e all = kept group me.number (did me AskShut Done (group me.number)) all refl (λ calls fits. in_phase calls me.number Shut (group me.number) (shut_accepts bounds number me.number (group me.number) e) fits)
-did_result bounds number group me AskDrop Done e all = kept group me.number (did me AskDrop Done (group me.number)) all refl (λ calls fits. dropped_fits calls me.number (group me.number) fits)
-did_result bounds number group me (AskSay message) (Said seq) e all =
-    let ok = say_accepts bounds number me.number message seq (group me.number) e in
+did_result : (bounds : Bounds) (addr : Addr) (group : Group) (me : NodeId) (event : GroupEvent) (reply : Reply) → reply_to bounds addr me.number event (group me.number) ≡ reply → AllFit group → Result group me.number (did me event reply (group me.number))
+did_result bounds addr group me (AskMake spec) Done e all =
+    kept group me.number (record (group me.number) { spec = Some spec }) all refl (λ calls fits. made_fits calls me.number spec (group me.number) (make_accepts bounds addr me.number spec (group me.number) e) fits)
+did_result bounds addr group me AskOpen Done e all = kept group me.number (did me AskOpen Done (group me.number)) all refl (λ calls fits. in_phase calls me.number Opened (group me.number) (open_accepts bounds addr me.number (group me.number) e) fits)
+did_result bounds addr group me AskShut Done e all = kept group me.number (did me AskShut Done (group me.number)) all refl (λ calls fits. in_phase calls me.number Shut (group me.number) (shut_accepts bounds addr me.number (group me.number) e) fits)
+did_result bounds addr group me AskDrop Done e all = kept group me.number (did me AskDrop Done (group me.number)) all refl (λ calls fits. dropped_fits calls me.number (group me.number) fits)
+did_result bounds addr group me (AskSay message) (Said seq) e all =
+    let ok = say_accepts bounds addr me.number message seq (group me.number) e in
     called_result group me.number (Own (record { origin = me; seq = seq; payload = message.payload })) ok.spec ok.made all (λ calls later. (refl, ok.next, ok.within, ok.light))
-did_result bounds number group me event reply e all = kept group me.number (group me.number) all refl (λ calls fits. fits)
+did_result bounds addr group me event reply e all = kept group me.number (group me.number) all refl (λ calls fits. fits)
 
-commanded_result : (bounds : Bounds) (number : ℕ) (group : Group) (me : NodeId) (event : GroupEvent) → AllFit group → Result group me.number (commanded me event (reply_to bounds number me.number event (group me.number)) (group me.number))
-commanded_result bounds number group me event all =
-    let r = did_result bounds number group me event (reply_to bounds number me.number event (group me.number)) refl all in
+commanded_result : (bounds : Bounds) (addr : Addr) (group : Group) (me : NodeId) (event : GroupEvent) → AllFit group → Result group me.number (commanded me event (reply_to bounds addr me.number event (group me.number)) (group me.number))
+commanded_result bounds addr group me event all =
+    let r = did_result bounds addr group me event (reply_to bounds addr me.number event (group me.number)) refl all in
     record { mentioned = r.mentioned; said = r.said; fits = r.fits }
 
-pub event_result : (bounds : Bounds) (number : ℕ) (group : Group) (me : NodeId) (event : GroupEvent) → AllFit group → Result group me.number (member_after bounds number me event group)
-event_result bounds number group me (Tenant reserve) all = kept group me.number (member_after bounds number me (Tenant reserve) group) all refl (λ calls fits. fits)
-event_result bounds number group me (Took b count) all = kept group me.number (member_after bounds number me (Took b count) group) all refl (λ calls fits. fits)
-event_result bounds number group me (Came from place) all = taken_result (version_at bounds.versions me.number) group me.number from place (slice_get ((group from.number).put me.number) (place - 1)) refl all
-event_result bounds number group me (Acknowledged b place count) all = kept group me.number (member_after bounds number me (Acknowledged b place count) group) all refl (λ calls fits. fits)
-event_result bounds number group me (Notice q) all = notice_result group me.number q all
-event_result bounds number group me Stop all = kept group me.number (member_after bounds number me Stop group) all refl (λ calls fits. fits)
-event_result bounds number group me event all = commanded_result bounds number group me event all
+pub event_result : (bounds : Bounds) (addr : Addr) (group : Group) (me : NodeId) (event : GroupEvent) → AllFit group → Result group me.number (member_after bounds addr me event group)
+event_result bounds addr group me (Tenant reserve) all = kept group me.number (member_after bounds addr me (Tenant reserve) group) all refl (λ calls fits. fits)
+event_result bounds addr group me (Took b count) all = kept group me.number (member_after bounds addr me (Took b count) group) all refl (λ calls fits. fits)
+event_result bounds addr group me (Came from place) all = taken_result (version_at bounds.versions me.number) group me.number from place (slice_get ((group from.number).put me.number) (place - 1)) refl all
+event_result bounds addr group me (Acknowledged b place count) all = kept group me.number (member_after bounds addr me (Acknowledged b place count) group) all refl (λ calls fits. fits)
+event_result bounds addr group me (Notice q) all = notice_result group me.number q all
+event_result bounds addr group me Stop all = kept group me.number (member_after bounds addr me Stop group) all refl (λ calls fits. fits)
+event_result bounds addr group me event all = commanded_result bounds addr group me event all
 
 -- every node keeps it through every event, and was told the same and more
-pub step_fits : (bounds : Bounds) (number : ℕ) (group : Group) (step : GroupStep) → AllFit group → AllFit (after bounds number group step) × Later (calls_in group) (calls_in (after bounds number group step))
+pub step_fits : (bounds : Bounds) (addr : Addr) (group : Group) (step : GroupStep) → AllFit group → AllFit (after bounds addr group step) × Later (calls_in group) (calls_in (after bounds addr group step))
 unfolding after
-step_fits bounds number group step all = (λ x. at x (nat_eq x step.node.number) refl, later)
+step_fits bounds addr group step all = (λ x. at x (nat_eq x step.node.number) refl, later)
   where
-    r : Result group step.node.number (member_after bounds number step.node step.event group)
-    r = event_result bounds number group step.node step.event all
+    r : Result group step.node.number (member_after bounds addr step.node step.event group)
+    r = event_result bounds addr group step.node step.event all
 
-    mentioned : (x : ℕ) (t : Bool) → nat_eq x step.node.number ≡ t → (m : MsgId) → mentions (calls_of (group x).told) m ≡ true → mentions (calls_of (if t then member_after bounds number step.node step.event group else group x).told) m ≡ true
+    mentioned : (x : ℕ) (t : Bool) → nat_eq x step.node.number ≡ t → (m : MsgId) → mentions (calls_of (group x).told) m ≡ true → mentions (calls_of (if t then member_after bounds addr step.node step.event group else group x).told) m ≡ true
     mentioned x true is m h = r.mentioned m (ap (λ y. mentions (calls_of (group y).told) m) (sym (eqb-true x step.node.number is)) ∙ h)
     mentioned x false is m h = h
 
-    said : (x : ℕ) (t : Bool) → nat_eq x step.node.number ≡ t → (m : MsgId) → was_said (calls_of (group x).told) m ≡ true → was_said (calls_of (if t then member_after bounds number step.node step.event group else group x).told) m ≡ true
+    said : (x : ℕ) (t : Bool) → nat_eq x step.node.number ≡ t → (m : MsgId) → was_said (calls_of (group x).told) m ≡ true → was_said (calls_of (if t then member_after bounds addr step.node step.event group else group x).told) m ≡ true
     said x true is m h = r.said m (ap (λ y. was_said (calls_of (group y).told) m) (sym (eqb-true x step.node.number is)) ∙ h)
     said x false is m h = h
 
-    later : Later (calls_in group) (calls_in (after bounds number group step))
+    later : Later (calls_in group) (calls_in (after bounds addr group step))
     later = record { mentioned = λ x. mentioned x (nat_eq x step.node.number) refl; said = λ x. said x (nat_eq x step.node.number) refl }
 
-    here : calls_in (after bounds number group step) step.node.number ≡ calls_of (member_after bounds number step.node step.event group).told
-    here = ap (λ (t : Bool). calls_of (if t then member_after bounds number step.node step.event group else group step.node.number).told) (eq-eqb step.node.number step.node.number refl)
+    here : calls_in (after bounds addr group step) step.node.number ≡ calls_of (member_after bounds addr step.node step.event group).told
+    here = ap (λ (t : Bool). calls_of (if t then member_after bounds addr step.node step.event group else group step.node.number).told) (eq-eqb step.node.number step.node.number refl)
 
-    at : (x : ℕ) (t : Bool) → nat_eq x step.node.number ≡ t → FitsAt (calls_in (after bounds number group step)) x (if t then member_after bounds number step.node step.event group else group x)
-    at x true is = subst (λ y. FitsAt (calls_in (after bounds number group step)) y (member_after bounds number step.node step.event group)) (sym (eqb-true x step.node.number is)) (r.fits (calls_in (after bounds number group step)) later here)
-    at x false is = fits_later (calls_in group) (calls_in (after bounds number group step)) later x (is_gone (group x).phase) (group x).spec (group x).told (group x).put (all x)
+    at : (x : ℕ) (t : Bool) → nat_eq x step.node.number ≡ t → FitsAt (calls_in (after bounds addr group step)) x (if t then member_after bounds addr step.node step.event group else group x)
+    at x true is = subst (λ y. FitsAt (calls_in (after bounds addr group step)) y (member_after bounds addr step.node step.event group)) (sym (eqb-true x step.node.number is)) (r.fits (calls_in (after bounds addr group step)) later here)
+    at x false is = fits_later (calls_in group) (calls_in (after bounds addr group step)) later x (is_gone (group x).phase) (group x).spec (group x).told (group x).put (all x)
 
 pub nobody_fits : AllFit nobody
 unfolding calls_of said_in
@@ -261,9 +262,9 @@ nobody_fits a = record {
   owes = λ here s is b other unnoticed m out. absurd (cc);
 }
 
-pub run_fits : (bounds : Bounds) (number : ℕ) (steps : List GroupStep) (group : Group) → AllFit group → AllFit (alone_from bounds number group steps)
-run_fits bounds number [] group all = all
-run_fits bounds number (step ∷ steps) group all = run_fits bounds number steps (after bounds number group step) (step_fits bounds number group step all).0
+pub run_fits : (bounds : Bounds) (addr : Addr) (steps : List GroupStep) (group : Group) → AllFit group → AllFit (alone_from bounds addr group steps)
+run_fits bounds addr [] group all = all
+run_fits bounds addr (step ∷ steps) group all = run_fits bounds addr steps (after bounds addr group step) (step_fits bounds addr group step all).0
 
-pub alone_fits : (bounds : Bounds) (number : ℕ) (steps : List GroupStep) → AllFit (alone bounds number steps)
-alone_fits bounds number steps = run_fits bounds number steps nobody nobody_fits
+pub alone_fits : (bounds : Bounds) (addr : Addr) (steps : List GroupStep) → AllFit (alone bounds addr steps)
+alone_fits bounds addr steps = run_fits bounds addr steps nobody nobody_fits

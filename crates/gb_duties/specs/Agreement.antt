@@ -21,30 +21,31 @@ use Rattle.gb_history.specs.Messages.{has}
 use Rattle.gb_alone.specs.Alone.{Group, alone, is_marked, IsLegal}
 use Rattle.gb_alone.specs.Laws.{Accepted, accepted, log_of_member}
 use Rattle.gb_alone.specs.declared.event.GroupStep.{GroupStep}
+use Rattle.gb_types.specs.declared.address.Addr.{Addr}
 
 -- a member that runs, where these nodes run and the others have stopped
 abbrev pub IsRunning : (ℕ → Bool) → Spec → ℕ → Type 0
 IsRunning runs spec a = (is_member spec a ≡ true) × (runs a ≡ true)
 
 -- The group is settled, with this spec, where these nodes run and the others have stopped.
-pub record IsSettled (bounds : Bounds) (number : ℕ) (steps : List GroupStep) (runs : ℕ → Bool) (spec : Spec) : Type 0 where
+pub record IsSettled (bounds : Bounds) (addr : Addr) (steps : List GroupStep) (runs : ℕ → Bool) (spec : Spec) : Type 0 where
   -- at some moment all members had made it with this spec, and no message had been accepted anywhere
   pub earlier : List GroupStep
   pub later : List GroupStep
   pub moment : steps ≡ earlier ++ later
-  pub made : (a : ℕ) → is_member spec a ≡ true → (alone bounds number earlier a).spec ≡ Some spec
-  pub silent : (s : ℕ) → accepted bounds number earlier s ≡ []
+  pub made : (a : ℕ) → is_member spec a ≡ true → (alone bounds addr earlier a).spec ≡ Some spec
+  pub silent : (s : ℕ) → accepted bounds addr earlier s ≡ []
   -- all members send one version of the packet text
   pub version : Version
   pub versions : (a : ℕ) → is_member spec a ≡ true → version_at bounds.versions a ≡ version
   -- no running member has dropped it
-  pub kept : (a : ℕ) → IsRunning runs spec a → is_gone (alone bounds number steps a).phase ≡ false
+  pub kept : (a : ℕ) → IsRunning runs spec a → is_gone (alone bounds addr steps a).phase ≡ false
   -- from one running member to another nothing waits, and each carried item has come
-  pub carried : (a b : ℕ) → IsRunning runs spec a → IsRunning runs spec b → a ≢ b → (alone bounds number steps a).taken b ≡ length ((alone bounds number steps a).put b)
-  pub came : (a b : ℕ) → IsRunning runs spec a → IsRunning runs spec b → a ≢ b → (place : ℕ) → 0 < place → place ≤ (alone bounds number steps a).taken b → is_marked place ((alone bounds number steps b).come a) ≡ true
+  pub carried : (a b : ℕ) → IsRunning runs spec a → IsRunning runs spec b → a ≢ b → (alone bounds addr steps a).taken b ≡ length ((alone bounds addr steps a).put b)
+  pub came : (a b : ℕ) → IsRunning runs spec a → IsRunning runs spec b → a ≢ b → (place : ℕ) → 0 < place → place ≤ (alone bounds addr steps a).taken b → is_marked place ((alone bounds addr steps b).come a) ≡ true
   -- each stopped member is noticed at each running one, and no running one at any member
-  pub noticed : (a b : ℕ) → IsRunning runs spec a → is_member spec b ≡ true → runs b ≡ false → was_noticed (calls_of (alone bounds number steps a).told) b ≡ true
-  pub unnoticed : (a b : ℕ) → is_member spec a ≡ true → IsRunning runs spec b → was_noticed (calls_of (alone bounds number steps a).told) b ≡ false
+  pub noticed : (a b : ℕ) → IsRunning runs spec a → is_member spec b ≡ true → runs b ≡ false → was_noticed (calls_of (alone bounds addr steps a).told) b ≡ true
+  pub unnoticed : (a b : ℕ) → is_member spec a ≡ true → IsRunning runs spec b → was_noticed (calls_of (alone bounds addr steps a).told) b ≡ false
 
 -- with majority-ack more than half of the members run: where not, nothing is promised of its logs
 abbrev pub AreEnough : (ℕ → Bool) → Spec → Type 0
@@ -74,5 +75,5 @@ logs_of group b = log_of_member b (group b)
 -- the logs of a settled group agree, whichever nodes are taken as those that run, where these are enough
 abbrev pub IsAgreed : Type 0
 IsAgreed =
-    (bounds : Bounds) (number : ℕ) (steps : List GroupStep) → IsLegal bounds number steps → (runs : ℕ → Bool) (spec : Spec) → IsSettled bounds number steps runs spec → AreEnough runs spec
-    → KeepsAgreement (accepted bounds number steps) (logs_of (alone bounds number steps)) runs spec
+    (bounds : Bounds) (addr : Addr) (steps : List GroupStep) → IsLegal bounds addr steps → (runs : ℕ → Bool) (spec : Spec) → IsSettled bounds addr steps runs spec → AreEnough runs spec
+    → KeepsAgreement (accepted bounds addr steps) (logs_of (alone bounds addr steps)) runs spec

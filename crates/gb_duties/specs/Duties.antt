@@ -20,6 +20,7 @@ use Rattle.gb_history.specs.Messages.{has}
 use Rattle.gb_alone.specs.Alone.{Member, Group, alone, held_spec, IsLegal}
 use Rattle.gb_alone.specs.Laws.{log_of_member}
 use Rattle.gb_alone.specs.declared.event.GroupStep.{GroupStep}
+use Rattle.gb_types.specs.declared.address.Addr.{Addr}
 
 -- the node c is noticed, or the message stands among the items put out to it
 abbrev pub IsPutOut : (ℕ → Bool) → (ℕ → List Entry) → ℕ → MsgId → Type 0
@@ -70,15 +71,15 @@ pub record Duties (group : Group) : Type 0 where
 
 -- after every event of a legal list each node has done its duties
 abbrev pub IsDutiful : Type 0
-IsDutiful = (bounds : Bounds) (number : ℕ) (steps : List GroupStep) → IsLegal bounds number steps → Duties (alone bounds number steps)
+IsDutiful = (bounds : Bounds) (addr : Addr) (steps : List GroupStep) → IsLegal bounds addr steps → Duties (alone bounds addr steps)
 
 -- What stands in a log.
 
 -- what is delivered at a node that made the group is of a member
 abbrev pub DeliveredAreOfMembers : Type 0
-DeliveredAreOfMembers = (bounds : Bounds) (number : ℕ) (steps : List GroupStep) (b : ℕ) (spec : Spec) → (alone bounds number steps b).spec ≡ Some spec → (m : MsgId) → delivered_at spec b (alone bounds number steps b) m ≡ true → is_member spec m.origin.number ≡ true
+DeliveredAreOfMembers = (bounds : Bounds) (addr : Addr) (steps : List GroupStep) (b : ℕ) (spec : Spec) → (alone bounds addr steps b).spec ≡ Some spec → (m : MsgId) → delivered_at spec b (alone bounds addr steps b) m ≡ true → is_member spec m.origin.number ≡ true
 
 -- what stands in a log is delivered there, and the group was not dropped
 abbrev pub LoggedAreDelivered : Type 0
-LoggedAreDelivered = (bounds : Bounds) (number : ℕ) (steps : List GroupStep) (b : ℕ) (spec : Spec) → (alone bounds number steps b).spec ≡ Some spec → (m : MsgId) → logged_at b (alone bounds number steps b) m ≡ true
-    → (is_gone (alone bounds number steps b).phase ≡ false) × (delivered_at spec b (alone bounds number steps b) m ≡ true)
+LoggedAreDelivered = (bounds : Bounds) (addr : Addr) (steps : List GroupStep) (b : ℕ) (spec : Spec) → (alone bounds addr steps b).spec ≡ Some spec → (m : MsgId) → logged_at b (alone bounds addr steps b) m ≡ true
+    → (is_gone (alone bounds addr steps b).phase ≡ false) × (delivered_at spec b (alone bounds addr steps b) m ≡ true)

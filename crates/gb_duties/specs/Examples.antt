@@ -15,6 +15,7 @@ use Rattle.gb_alone.specs.declared.event.GroupEvent.{GroupEvent}
 use Rattle.gb_alone.specs.declared.event.GroupEvent.TheVariants.{Tenant, Make, Open, Drop, Say, Took, Came, Notice, Stop}
 use Rattle.gb_alone.specs.declared.event.GroupStep.{GroupStep}
 use Rattle.gb_types.specs.declared.new_message.NewMessage.{NewMessage}
+use Rattle.gb_types.specs.declared.address.Addr.{Addr}
 
 abbrev pub first : NodeId
 first = record { number = 0; below = lit< tt }
@@ -27,6 +28,10 @@ third = record { number = 2; below = lit< tt }
 
 abbrev pub members : set.FinSet nat_cmp
 members = set.from_list (0 ∷ 1 ∷ 2 ∷ [])
+
+-- the address of the group
+abbrev pub address : Addr
+address = record { tenant = 7; group = 0; generation = 0 }
 
 -- three nodes, which all send version 1
 abbrev pub bounds : Bounds
@@ -88,7 +93,7 @@ runs a = not (nat_eq a 0)
 
 -- of a group of the kind after these steps: what stands in the log of a node, and what it has put out to another
 abbrev pub log_in : Kind → List GroupStep → ℕ → List Entry
-log_in kind steps b = log_of_member b (alone bounds 0 (opened kind ++ steps) b)
+log_in kind steps b = log_of_member b (alone bounds address (opened kind ++ steps) b)
 
 abbrev pub put_in : Kind → List GroupStep → ℕ → ℕ → List Entry
-put_in kind steps b c = (alone bounds 0 (opened kind ++ steps) b).put c
+put_in kind steps b c = (alone bounds address (opened kind ++ steps) b).put c

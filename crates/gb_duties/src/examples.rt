@@ -9,7 +9,7 @@ ghost use Rattle.gb_alone.specs.Alone.{alone, IsLegal};
 ghost use Rattle.gb_alone.specs.declared.event.GroupEvent.TheVariants.{Notice};
 ghost use Rattle.gb_duties.specs.Agreement.{AreEnough, IsSettled};
 ghost use Rattle.gb_duties.specs.Duties.{HasHad, noticed_at};
-ghost use Rattle.gb_duties.specs.Examples.{bounds, first, second, third, spec_of, message, at, opened, to_one, to_all, third_drops, loss, crash, runs, left_alone, only_first, log_in, put_in};
+ghost use Rattle.gb_duties.specs.Examples.{address, bounds, first, second, third, spec_of, message, at, opened, to_one, to_all, third_drops, loss, crash, runs, left_alone, only_first, log_in, put_in};
 
 /// A best-effort node has put out what it said, and does not relay what it delivered, whoever is noticed.
 pub fn a_best_effort_node_puts_out_its_own()
@@ -37,7 +37,7 @@ pub fn an_eager_node_relays_at_once()
 pub fn an_all_ack_node_waits_for_each_member()
     ensures not_yet { log_in kind.AllAck to_one 1 ≡ [] }
     ensures delivered { log_in kind.AllAck to_all 1 ≡ message ∷ [] }
-    ensures had { HasHad (alone bounds 0 (opened kind.AllAck ++ to_all)) 2 (message_of message) }
+    ensures had { HasHad (alone bounds address (opened kind.AllAck ++ to_all)) 2 (message_of message) }
     ensures noticed { log_in kind.AllAck (to_one ++ at second (Notice third) ∷ []) 1 ≡ message ∷ [] }
 {}
 
@@ -46,15 +46,15 @@ pub fn an_all_ack_node_waits_for_each_member()
 pub fn a_member_that_dropped_the_group_had_the_message()
     ensures gone { log_in kind.AllAck third_drops 2 ≡ [] }
     ensures delivered { log_in kind.AllAck third_drops 1 ≡ message ∷ [] }
-    ensures unnoticed { noticed_at (alone bounds 0 (opened kind.AllAck ++ third_drops) 1) 2 ≡ false }
-    ensures had { HasHad (alone bounds 0 (opened kind.AllAck ++ third_drops)) 2 (message_of message) }
+    ensures unnoticed { noticed_at (alone bounds address (opened kind.AllAck ++ third_drops) 1) 2 ≡ false }
+    ensures had { HasHad (alone bounds address (opened kind.AllAck ++ third_drops)) 2 (message_of message) }
 {}
 
 /// A group settles after a crash: node 0 stopped before its message went to node 2, and both nodes that run have it in
 /// their logs, since each relayed it.
 pub fn a_group_settles_after_a_crash()
-    ensures legal { IsLegal bounds 0 (opened kind.FifoLazy ++ crash) }
-    ensures settled { IsSettled bounds 0 (opened kind.FifoLazy ++ crash) runs (spec_of kind.FifoLazy) }
+    ensures legal { IsLegal bounds address (opened kind.FifoLazy ++ crash) }
+    ensures settled { IsSettled bounds address (opened kind.FifoLazy ++ crash) runs (spec_of kind.FifoLazy) }
     ensures one { log_in kind.FifoLazy crash 1 ≡ message ∷ [] }
     ensures two { log_in kind.FifoLazy crash 2 ≡ message ∷ [] }
 {}
@@ -64,15 +64,15 @@ pub fn a_group_settles_after_a_crash()
 pub fn a_majority_ack_node_waits_for_more_than_half()
     ensures not_yet { log_in kind.Majority to_one 0 ≡ [] }
     ensures delivered { log_in kind.Majority to_one 1 ≡ message ∷ [] }
-    ensures had_first { HasHad (alone bounds 0 (opened kind.Majority ++ to_one)) 0 (message_of message) }
-    ensures had_second { HasHad (alone bounds 0 (opened kind.Majority ++ to_one)) 1 (message_of message) }
+    ensures had_first { HasHad (alone bounds address (opened kind.Majority ++ to_one)) 0 (message_of message) }
+    ensures had_second { HasHad (alone bounds address (opened kind.Majority ++ to_one)) 1 (message_of message) }
 {}
 
 /// A majority-ack group settles after the same crash. Two of the three members run, and both logs have the message of
 /// the node that stopped.
 pub fn a_majority_ack_group_settles_after_a_crash()
-    ensures legal { IsLegal bounds 0 (opened kind.FifoMajority ++ crash) }
-    ensures settled { IsSettled bounds 0 (opened kind.FifoMajority ++ crash) runs (spec_of kind.FifoMajority) }
+    ensures legal { IsLegal bounds address (opened kind.FifoMajority ++ crash) }
+    ensures settled { IsSettled bounds address (opened kind.FifoMajority ++ crash) runs (spec_of kind.FifoMajority) }
     ensures enough { AreEnough runs (spec_of kind.FifoMajority) }
     ensures one { log_in kind.FifoMajority crash 1 ≡ message ∷ [] }
     ensures two { log_in kind.FifoMajority crash 2 ≡ message ∷ [] }
@@ -81,16 +81,16 @@ pub fn a_majority_ack_group_settles_after_a_crash()
 /// Where two of the three members stopped, a majority-ack group settles too, and nothing is promised: the message that was
 /// accepted at the member that runs is in no log, though the others are noticed.
 pub fn majority_ack_promises_nothing_without_a_majority()
-    ensures legal { IsLegal bounds 0 (opened kind.Majority ++ left_alone) }
-    ensures settled { IsSettled bounds 0 (opened kind.Majority ++ left_alone) only_first (spec_of kind.Majority) }
+    ensures legal { IsLegal bounds address (opened kind.Majority ++ left_alone) }
+    ensures settled { IsSettled bounds address (opened kind.Majority ++ left_alone) only_first (spec_of kind.Majority) }
     ensures few { has_majority (is_member (spec_of kind.Majority)) only_first ≡ false }
     ensures undelivered { log_in kind.Majority left_alone 0 ≡ [] }
 {}
 
 /// With best effort a group settles after the same crash, and the message of the node that stopped is in one log alone.
 pub fn best_effort_does_not_agree()
-    ensures legal { IsLegal bounds 0 (opened kind.Beb ++ loss) }
-    ensures settled { IsSettled bounds 0 (opened kind.Beb ++ loss) runs (spec_of kind.Beb) }
+    ensures legal { IsLegal bounds address (opened kind.Beb ++ loss) }
+    ensures settled { IsSettled bounds address (opened kind.Beb ++ loss) runs (spec_of kind.Beb) }
     ensures one { log_in kind.Beb loss 1 ≡ message ∷ [] }
     ensures two { log_in kind.Beb loss 2 ≡ [] }
 {}

@@ -37,7 +37,7 @@ unfolding item_at
 item_takes limit bytes x most fits e =
     let len : ℕ = number_at w16 7 bytes in
     let rest : List ℕ = drop 9 bytes in
-    let made : Item = record { tenant = number_at w16 0 bytes; group = number_at w16 2 bytes; origin = get_or bytes 4 0; seq = number_at w16 5 bytes; payload = take len rest } in
+    let made : Item = record { tenant = number_at w16 0 bytes; group = number_at w16 2 bytes; generation = 0; origin = get_or bytes 4 0; seq = number_at w16 5 bytes; payload = take len rest } in
     let p = passed (ltb (length bytes) 9 || (ltb limit len || ltb (length rest) len)) (made, drop len rest) x e in
     let t = or_sides (ltb (length bytes) 9) (ltb limit len || ltb (length rest) len) p.0 in
     let u = or_sides (ltb limit len) (ltb (length rest) len) t.1 in
@@ -56,7 +56,7 @@ item_takes limit bytes x most fits e =
     let found : Takes bytes (item_text made) (drop len rest) × IsWithin limit made = (
       record { parts = spelled; rest_fits = IsBytes-drop len rest (IsBytes-drop 9 bytes fits) },
       record {
-        item = record { tenant = number_below w16 (2 ^ 16) wide16 0 bytes fits; group = number_below w16 (2 ^ 16) wide16 2 bytes fits; origin = fits 4; seq = number_below w16 (2 ^ 16) wide16 5 bytes fits; bytes = IsBytes-take len rest (IsBytes-drop 9 bytes fits); length = omega (arith, whole, small, most) };
+        item = record { tenant = number_below w16 (2 ^ 16) wide16 0 bytes fits; group = number_below w16 (2 ^ 16) wide16 2 bytes fits; generation = refl; origin = fits 4; seq = number_below w16 (2 ^ 16) wide16 5 bytes fits; bytes = IsBytes-take len rest (IsBytes-drop 9 bytes fits); length = omega (arith, whole, small, most) };
         payload = omega (arith, whole, small);
       },
     ) in
@@ -68,7 +68,7 @@ unfolding item_at
 item_shrinks limit bytes x e =
     let len : ℕ = number_at w16 7 bytes in
     let rest : List ℕ = drop 9 bytes in
-    let made : Item = record { tenant = number_at w16 0 bytes; group = number_at w16 2 bytes; origin = get_or bytes 4 0; seq = number_at w16 5 bytes; payload = take len rest } in
+    let made : Item = record { tenant = number_at w16 0 bytes; group = number_at w16 2 bytes; generation = 0; origin = get_or bytes 4 0; seq = number_at w16 5 bytes; payload = take len rest } in
     let p = passed (ltb (length bytes) 9 || (ltb limit len || ltb (length rest) len)) (made, drop len rest) x e in
     let long : 9 ≤ length bytes = ltb-false _ _ (or_sides (ltb (length bytes) 9) (ltb limit len || ltb (length rest) len) p.0).0 in
     let after : drop len rest ≡ x.1 = ap (λ (y : Item × List ℕ). y.1) p.1 in
@@ -86,7 +86,7 @@ item_again limit i rest fits payload =
     let long : ltb (length t) 9 ≡ false = le-ltb _ _ (omega arith) in
     let small : ltb limit (length i.payload) ≡ false = le-ltb _ _ payload in
     let there : ltb (length (i.payload ++ rest)) (length i.payload) ≡ false = le-ltb _ _ (omega (arith, length-append i.payload rest)) in
-    rw (len, long, small, there, tenant, group, seq, take_at i.payload rest (length i.payload) refl, drop_at i.payload rest (length i.payload) refl) refl
+    rw (len, long, small, there, tenant, group, seq, ← fits.generation, take_at i.payload rest (length i.payload) refl, drop_at i.payload rest (length i.payload) refl) refl
 
 -- an option's value after a step
 pub then_some : {A B : Type 0} (o : Option A) (f : A → Option B) (y : B) → option_and_then f o ≡ Some y → (x : A) × (o ≡ Some x) × (f x ≡ Some y)
@@ -136,7 +136,7 @@ unfolding item_at
 item_under_greater limit more bytes x above e =
     let len : ℕ = number_at w16 7 bytes in
     let rest : List ℕ = drop 9 bytes in
-    let made : Item = record { tenant = number_at w16 0 bytes; group = number_at w16 2 bytes; origin = get_or bytes 4 0; seq = number_at w16 5 bytes; payload = take len rest } in
+    let made : Item = record { tenant = number_at w16 0 bytes; group = number_at w16 2 bytes; generation = 0; origin = get_or bytes 4 0; seq = number_at w16 5 bytes; payload = take len rest } in
     let p = passed (ltb (length bytes) 9 || (ltb limit len || ltb (length rest) len)) (made, drop len rest) x e in
     let t = or_sides (ltb (length bytes) 9) (ltb limit len || ltb (length rest) len) p.0 in
     let u = or_sides (ltb limit len) (ltb (length rest) len) t.1 in

@@ -11,18 +11,18 @@ rest_is_node n = omega arith
 
 -- the address of an item, and what it says; its origin's number is below the number of nodes that there may be
 abbrev pub address_of : Item → Addr
-address_of i = record { tenant = i.tenant; group = i.group }
+address_of i = record { tenant = i.tenant; group = i.group; generation = i.generation }
 
 abbrev pub entry_of : Item → Entry
 entry_of i = record { origin = record { number = i.origin % NODES; below = rest_is_node i.origin }; seq = i.seq; payload = i.payload }
 
 -- an entry of a group as an item
 abbrev pub item_for : Addr → Entry → Item
-item_for g e = record { tenant = g.tenant; group = g.group; origin = e.origin.number; seq = e.seq; payload = e.payload }
+item_for g e = record { tenant = g.tenant; group = g.group; generation = g.generation; origin = e.origin.number; seq = e.seq; payload = e.payload }
 
 -- the items that name a group, among these
 abbrev pub names : Addr → Item → Bool
-names g i = nat_eq g.tenant i.tenant && nat_eq g.group i.group
+names g i = nat_eq g.tenant i.tenant && (nat_eq g.group i.group && nat_eq g.generation i.generation)
 
 abbrev pub items_for : Addr → List Item → List Item
 items_for g items = filter (names g) items

@@ -21,7 +21,7 @@ content p = record { version = p.version; from = p.from.number; to = p.to.number
 
 -- an item whose payload lies elsewhere, as an item
 abbrev pub item_of : ItemView → Item
-item_of v = record { tenant = v.tenant; group = v.group; origin = v.origin; seq = v.seq; payload = v.payload.now }
+item_of v = record { tenant = v.tenant; group = v.group; generation = v.generation; origin = v.origin; seq = v.seq; payload = v.payload.now }
 
 -- what the packet with this head and these items says
 abbrev pub packet_of : Head → List Item → Content

@@ -19,7 +19,7 @@ item_at limit bytes =
     let len = number_at w16 7 bytes in
     let rest = drop ITEM_HEADER bytes in
     if nat_lt (length bytes) ITEM_HEADER || (nat_lt limit len || nat_lt (length rest) len) then None
-    else Some (record { tenant = number_at w16 0 bytes; group = number_at w16 2 bytes; origin = slice_index bytes 4; seq = number_at w16 5 bytes; payload = take len rest }, drop len rest)
+    else Some (record { tenant = number_at w16 0 bytes; group = number_at w16 2 bytes; generation = 0; origin = slice_index bytes 4; seq = number_at w16 5 bytes; payload = take len rest }, drop len rest)
 
 -- so many items at the front, and the bytes after them
 unfoldable pub items_at : ℕ → ℕ → List ℕ → Option (List Item × List ℕ)

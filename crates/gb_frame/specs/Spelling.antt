@@ -36,10 +36,11 @@ packet_text key c = tagged_text c ++ tag_of key (tagged_text c)
 abbrev pub IsBytes : List ℕ → Type 0
 IsBytes bytes = (i : ℕ) → slice_index_or bytes i 0 < 2 ^ 8
 
--- an item that has a text
+-- an item that has a text: its generation is the first, since no version of the text names another
 pub record IsItem (i : Item) : Type 0 where
   pub tenant : i.tenant < 2 ^ 16
   pub group : i.group < 2 ^ 16
+  pub generation : i.generation ≡ 0
   pub origin : i.origin < 2 ^ 8
   pub seq : i.seq < 2 ^ 16
   pub bytes : IsBytes i.payload

@@ -13,6 +13,8 @@ use gb_types::payload::Payload;
 pub struct Item {
     pub tenant: u16,
     pub group: u16,
+    /// The generation of the group.
+    pub generation: u32,
     /// The number of the node that said the message.
     pub origin: u8,
     pub seq: u16,
@@ -24,6 +26,8 @@ pub struct Item {
 pub struct ItemView<'a> {
     pub tenant: u16,
     pub group: u16,
+    /// The generation of the group.
+    pub generation: u32,
     /// The number of the node that said the message.
     pub origin: u8,
     pub seq: u16,
@@ -45,6 +49,7 @@ impl Item {
         ItemView {
             tenant: self.tenant,
             group: self.group,
+            generation: self.generation,
             origin: self.origin,
             seq: self.seq,
             payload: self.payload.as_slice(),
@@ -57,8 +62,9 @@ fn are_bytes(payload: &[u8])
     ensures { IsBytes payload.now }
 {}
 
-/// Appends an item's text. Takes no memory.
+/// Appends an item's text, which does not name its generation, the first. Takes no memory.
 pub fn put_item(item: ItemView<'_>, text: &mut Vec<u8>)
+    requires first { item.generation ≡ 0 }
     requires payload { length item.payload.now ≤ PAYLOAD }
     requires room { vec_len text.old + ITEM_HEADER + length item.payload.now ≤ vec_capacity text.old }
     ensures written { text.new.items ≡ text.old.items ++ item_text (item_of item.entry) }
@@ -87,8 +93,9 @@ pub fn put_item(item: ItemView<'_>, text: &mut Vec<u8>)
     text.extend_from_slice(payload).unwrap();
 }
 
-/// Appends the texts of items. Takes no memory.
+/// Appends the texts of items of first generations. Takes no memory.
 pub fn put_items(items: &[Item], text: &mut Vec<u8>)
+    requires first { All (λ i. i.generation ≡ 0) items.now }
     requires payloads { All (λ i. length i.payload ≤ PAYLOAD) items.now }
     requires room { vec_len text.old + length (items_text items.now) ≤ vec_capacity text.old }
     ensures written { text.new.items ≡ text.old.items ++ items_text items.now }
@@ -118,6 +125,7 @@ pub fn first_item(limit: usize, texts: &[u8]) -> Option<(ItemView<'_>, &[u8])>
     let item = ItemView {
         tenant: u16_at(texts, 0),
         group: u16_at(texts, 2),
+        generation: 0,
         origin: texts[4],
         seq: u16_at(texts, 5),
         payload: &rest[..len],

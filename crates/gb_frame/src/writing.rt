@@ -1,5 +1,5 @@
 //! Writing packets.
-ghost use Rattle.std.specs.Prelude.{◌≡◌, ◌+◌, ◌≤◌, ◌++◌, List, length, drop, IfOk, vec_len, vec_capacity};
+ghost use Rattle.std.specs.Prelude.{◌≡◌, ◌+◌, ◌≤◌, ◌++◌, List, length, drop, All, IfOk, vec_len, vec_capacity};
 ghost use Rattle.gb_frame.specs.declared.limits.TheConstants.{HEADER, TAG, SHORTEST};
 ghost use Rattle.gb_frame.specs.declared.item.Item.{Item};
 ghost use Rattle.gb_frame.specs.Packet.{content, packet_of};
@@ -57,9 +57,10 @@ fn put_tag(start: usize, key: &HmacKey, text: &mut Vec<u8>)
     append(text, &end);
 }
 
-/// The one text of a packet under a key.
+/// Returns the one text of a packet under a key. Its items are of first generations.
 pub fn encode(alloc: Global, packet: &Packet, key: &HmacKey) -> Result<Vec<u8>, OutOfMemory>
-    requires { IsWithinLimits (content packet.now) }
+    requires limits { IsWithinLimits (content packet.now) }
+    requires first { All (λ i. i.generation ≡ 0) (content packet.now).items }
     ensures { IfOk result (λ text. IsText key.now text.items (content packet.now)) }
 {
     let room = room_beside(packet.version, &packet.items).unwrap();

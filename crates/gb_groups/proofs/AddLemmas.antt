@@ -1,6 +1,6 @@
 -- A group is made behind the others.
-use Rattle.std.proofs.Common.{◌≡◌, ◌≢◌, ℕ, zero, suc, ◌<◌, ◌≤◌, ◌+◌, List, [], ◌∷◌, ◌++◌, length, map, get_or, refl, ap, sym, ◌∙◌, subst, true, false, arith, inl, inr, length-append, eq-eqb}
-use Rattle.std.specs.Prelude.{◌⊎◌, ◌&&◌, Bool, cond, not, nat_lt, nat_eq, Option, Some, None, IsSome, position}
+use Rattle.std.proofs.Common.{◌≡◌, ◌≢◌, ℕ, zero, suc, ◌<◌, ◌≤◌, ◌+◌, List, [], ◌∷◌, ◌++◌, length, map, get_or, refl, ap, sym, ◌∙◌, subst, true, false, arith, inl, inr, length-append}
+use Rattle.std.specs.Prelude.{◌⊎◌, Bool, cond, not, nat_lt, Option, Some, None, IsSome, position}
 use Rattle.std.proofs.lemmas.List.{length-map, map-append}
 use Rattle.std.specs.List.{position_or_len}
 use Rattle.std.proofs.lemmas.Bool.{cases_lt, lt-ltb}
@@ -12,9 +12,10 @@ use Rattle.gb_rules.specs.Address.{is_addr}
 use Rattle.gb_slot.specs.SlotState.{SlotState}
 use Rattle.gb_groups.specs.declared.slots.Place.{Place}
 use Rattle.gb_groups.specs.declared.slots.Place.TheVariants.{Key, Gone}
-use Rattle.gb_groups.specs.SlotsValue.{Row, row_at, counters, HaveCounters, IsShort, AreShort, AreApart, no_row}
+use Rattle.gb_groups.specs.SlotsValue.{Row, row_at, counters, HaveCounters, IsShort, AreShort, AreApart, no_row, AreFirst}
 use Rattle.gb_groups.specs.Slots.{slot_under, row_of, place_at, AreKept}
 use Rattle.gb_groups.proofs.SlotsLemmas.{no_entry_at, row_is, made_of, row_made}
+use Rattle.gb_rules.proofs.AddressLemmas.{addr_same}
 
 -- where a place stands in a list that has one more
 AtEnd : {A : Type 0} → List A → A → A → ℕ → Type 0
@@ -84,8 +85,7 @@ end_short rows row all h = record {
 }
 
 same_test : (addr a : Addr) → a ≡ addr → is_addr addr a ≡ true
-same_test addr a e =
-    ap (λ b. b && nat_eq addr.group a.group) (eq-eqb addr.tenant a.tenant (sym (ap (λ (x : Addr). x.tenant) e))) ∙ eq-eqb addr.group a.group (sym (ap (λ (x : Addr). x.group) e))
+same_test addr a e = addr_same addr a (sym e)
 
 past_end : (n l : ℕ) → cond (nat_lt n l) (Some n) None ≡ None → l ≤ n
 past_end n l e =
@@ -130,6 +130,16 @@ end_apart rows row ok none = record {
   ];
 }
 
+pub end_first : (rows : List Row) (row : Row) → AreFirst rows → row.addr.generation ≡ 0 → AreFirst (rows ++ row ∷ [])
+unfolding AtEnd
+end_first rows row all h = record {
+  each = λ q. elim (at_end rows row no_row q) [
+    | inl w ↦ ap (λ (r : Row). r.addr.generation) w.1 ∙ all.each q
+    | inr (inl w) ↦ ap (λ (r : Row). r.addr.generation) w.1 ∙ h
+    | inr (inr w) ↦ ap (λ (r : Row). r.addr.generation) w.1
+  ];
+}
+
 there_grown : (old new : Slab SlotState) (key : ℕ) (v : SlotState) (addr : Addr) (es : List (Addr × Place)) → Grows old new key v → AreKept es old → (p k : ℕ) → place_at (es ++ (addr, Key key) ∷ []) p ≡ Key k → IsSome (get new k)
 unfolding AtEnd
 there_grown old new key v addr es g kept p k m = elim (at_end es (addr, Key key) no_entry_at p) [
@@ -159,8 +169,8 @@ alone_grown old new key v addr es g kept p q k m n =
       ]
     ]
 
-pub kept_grown : (old new : Slab SlotState) (key : ℕ) (v : SlotState) (addr : Addr) (es : List (Addr × Place)) → Grows old new key v → AreKept es old → length v.taken ≡ NODES → IsShort PAYLOAD (Some v) → position (λ (r : Row). is_addr addr r.addr) (map (row_of old) es) ≡ None → AreKept (es ++ (addr, Key key) ∷ []) new
-kept_grown old new key v addr es g kept size short none =
+pub kept_grown : (old new : Slab SlotState) (key : ℕ) (v : SlotState) (addr : Addr) (es : List (Addr × Place)) → Grows old new key v → AreKept es old → length v.taken ≡ NODES → IsShort PAYLOAD (Some v) → addr.generation ≡ 0 → position (λ (r : Row). is_addr addr r.addr) (map (row_of old) es) ≡ None → AreKept (es ++ (addr, Key key) ∷ []) new
+kept_grown old new key v addr es g kept size short begun none =
     let rows = map-grown row_made old new key v addr es g kept in
     record {
       there = there_grown old new key v addr es g kept;
@@ -168,6 +178,7 @@ kept_grown old new key v addr es g kept size short none =
       counters = subst HaveCounters (sym rows) (end_counters (map (row_of old) es) (row_made addr (Some v)) kept.counters size);
       short = subst (AreShort PAYLOAD) (sym rows) (end_short (map (row_of old) es) (row_made addr (Some v)) kept.short short);
       apart = subst AreApart (sym rows) (end_apart (map (row_of old) es) (row_made addr (Some v)) kept.apart none);
+      first = subst AreFirst (sym rows) (end_first (map (row_of old) es) (row_made addr (Some v)) kept.first begun);
     }
 
 insert-last : (eq : Addr → Addr → Bool) (addr : Addr) (place : Place) (es : List (Addr × Place)) → ((p : ℕ) → p < length es → eq addr (get_or es p no_entry_at).0 ≡ false) → insert_entry eq es addr place ≡ es ++ (addr, place) ∷ []
@@ -184,4 +195,4 @@ insert-new eq addr place slots es same none =
 pub kept_same : (es now : List (Addr × Place)) (slots new : Slab SlotState) (capacity : ℕ) → now ≡ es → new ≡ record slots { capacity = capacity } → AreKept es slots → AreKept now new
 kept_same es now slots new capacity e f kept =
     subst (λ (xs : List (Addr × Place)). AreKept xs new) (sym e)
-    (subst (λ (s : Slab SlotState). AreKept es s) (sym f) (record { there = kept.there; alone = kept.alone; counters = kept.counters; short = kept.short; apart = kept.apart }))
+    (subst (λ (s : Slab SlotState). AreKept es s) (sym f) (record { there = kept.there; alone = kept.alone; counters = kept.counters; short = kept.short; apart = kept.apart; first = kept.first }))

@@ -1,8 +1,7 @@
 -- A step at one address leaves the others alone.
 use Rattle.std.proofs.Common.{◌≡◌, ◌≢◌, ℕ, ◌<◌, true, false, List, length, refl, ap, sym, ◌∙◌, arith}
-use Rattle.std.specs.Prelude.{◌%◌, if◌then◌else◌, Bool, ◌&&◌, not, false, cond, nat_lt, nat_eq, Option, Some, None, option_map, position}
+use Rattle.std.specs.Prelude.{◌%◌, if◌then◌else◌, Bool, ◌&&◌, not, false, cond, nat_lt, Option, Some, None, option_map, position}
 use Rattle.std.specs.List.{position_or_len}
-use Rattle.std.proofs.Common.{eqb-true, eq-eqb}
 use Rattle.std.proofs.Math.ListN.{set}
 use Rattle.std.proofs.lemmas.List.{length-set, get_or-set_other}
 use Rattle.std.proofs.lemmas.List.Folds.{position_or_len-set}
@@ -19,9 +18,9 @@ use Rattle.gb_types.specs.declared.limits.TheConstants.{NODES}
 use Rattle.gb_types.specs.declared.version.Version.{Version}
 use Rattle.gb_rules.specs.Group.{is_too_long}
 use Rattle.gb_types.specs.declared.node.NodeId.{NodeId}
-use Rattle.gb_types.proofs.BoolLemmas.{and_sides}
 use Rattle.gb_frame.specs.declared.item.Item.{Item}
 use Rattle.gb_slot.specs.Slot.{slot_came}
+use Rattle.gb_rules.proofs.AddressLemmas.{addr_is, addr_same}
 
 -- the place of an address is within, and the group there has it
 pub place_is : (addr : Addr) (rows : List Row) (p : ℕ) → Some p ≡ place_of addr rows → (p < length rows) × (is_addr addr (row_at rows p).addr ≡ true)
@@ -29,11 +28,7 @@ place_is addr rows p e = let h = position-Some (λ (row : Row). is_addr addr row
 
 pub addr_through : (g addr a : Addr) → is_addr g a ≡ true → is_addr addr a ≡ true → is_addr g addr ≡ true
 addr_through g addr a e f =
-    let x = and_sides (nat_eq g.tenant a.tenant) (nat_eq g.group a.group) e in
-    let y = and_sides (nat_eq addr.tenant a.tenant) (nat_eq addr.group a.group) f in
-    let t : g.tenant ≡ addr.tenant = eqb-true g.tenant a.tenant x.0 ∙ sym (eqb-true addr.tenant a.tenant y.0) in
-    let u : g.group ≡ addr.group = eqb-true g.group a.group x.1 ∙ sym (eqb-true addr.group a.group y.1) in
-    ap (λ b. b && nat_eq g.group addr.group) (eq-eqb g.tenant addr.tenant t) ∙ eq-eqb g.group addr.group u
+    addr_same g addr (addr_is g a e ∙ sym (addr_is addr a f))
 
 position-set : (t : Row → Bool) (rows : List Row) (p : ℕ) (row : Row) → t row ≡ t (row_at rows p) → position t (set rows p row) ≡ position t rows
 position-set t rows p row e =

@@ -1,12 +1,11 @@
 -- The group at a place that has an address is the one that is found under it.
-use Rattle.std.proofs.Common.{◌≡◌, ℕ, zero, suc, ◌<◌, true, false, List, [], ◌∷◌, length, map, get_or, ap, sym, ◌∙◌, inl, inr, arith, eqb-true}
-use Rattle.std.specs.Prelude.{Bool, cond, nat_lt, nat_eq, Some, None, MatchOption, slice_get, position}
+use Rattle.std.proofs.Common.{◌≡◌, ℕ, zero, suc, ◌<◌, true, false, List, [], ◌∷◌, length, map, get_or, ap, sym, ◌∙◌, inl, inr, arith}
+use Rattle.std.specs.Prelude.{Bool, cond, nat_lt, Some, None, MatchOption, slice_get, position}
 use Rattle.std.specs.List.{position_or_len}
 use Rattle.std.proofs.lemmas.Bool.{cases_Bool, lt-ltb}
 use Rattle.std.proofs.lemmas.List.{length-map}
 use Rattle.std.proofs.lemmas.List.Sums.{position_or_len_is}
 use Rattle.slab.specs.Slab.{Slab}
-use Rattle.gb_types.proofs.BoolLemmas.{and_sides}
 use Rattle.gb_types.specs.declared.address.Addr.{Addr}
 use Rattle.gb_rules.specs.Address.{is_addr}
 use Rattle.gb_slot.specs.SlotState.{SlotState}
@@ -14,14 +13,10 @@ use Rattle.gb_groups.specs.declared.slots.Place.{Place}
 use Rattle.gb_groups.specs.Slots.{row_of, AreKept}
 use Rattle.gb_groups.specs.SlotsValue.{Row, row_at, no_row, AreApart}
 use Rattle.gb_groups.proofs.SlotsLemmas.{no_entry_at, row_is}
+use Rattle.gb_rules.proofs.AddressLemmas.{addr_is}
 
 same_addr : (g a b : Addr) → is_addr g a ≡ true → is_addr g b ≡ true → a ≡ b
-same_addr g a b e f =
-    let x = and_sides (nat_eq g.tenant a.tenant) (nat_eq g.group a.group) e in
-    let y = and_sides (nat_eq g.tenant b.tenant) (nat_eq g.group b.group) f in
-    let t : a.tenant ≡ b.tenant = sym (eqb-true g.tenant a.tenant x.0) ∙ eqb-true g.tenant b.tenant y.0 in
-    let u : a.group ≡ b.group = sym (eqb-true g.group a.group x.1) ∙ eqb-true g.group b.group y.1 in
-    ap (λ n. record { tenant = n; group = a.group }) t ∙ ap (λ n. record { tenant = b.tenant; group = n }) u
+same_addr g a b e f = sym (addr_is g a e) ∙ addr_is g b f
 
 -- where no two groups have one address, the one with this address is found
 is_place : (addr : Addr) (rows : List Row) (p : ℕ) → AreApart rows → p < length rows → is_addr addr (row_at rows p).addr ≡ true → Some p ≡ position (λ (row : Row). is_addr addr row.addr) rows

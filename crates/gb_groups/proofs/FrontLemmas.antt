@@ -1,12 +1,11 @@
 -- The items of one place in a walk are what waits there.
 use Rattle.std.proofs.Common.{◌≡◌, ℕ, suc, zero, ◌+◌, ◌≤◌, ◌<◌, List, [], ◌∷◌, ◌++◌, length, map, take, drop, get_or, refl, ap, sym, ◌∙◌, arith, zero-add, inl, inr, eq-eqb}
-use Rattle.std.specs.Prelude.{Bool, true, false, cond, ltb, ◌==◌, ◌&&◌, ◌⊎◌, filter, count_by}
+use Rattle.std.specs.Prelude.{Bool, true, false, cond, ltb, ◌==◌, ◌⊎◌, filter, count_by}
 use Rattle.std.proofs.lemmas.List.{take-append-drop, take_at, take-map, append-nil, take_all, get_or_default}
 use Rattle.std.proofs.lemmas.List.Elements.{filter-append}
 use Rattle.std.proofs.lemmas.List.Sums.{length-filter}
-use Rattle.std.proofs.lemmas.Bool.{cases_lt, cases_eq, ne_eqb, ltb-true, lt-ltb}
+use Rattle.std.proofs.lemmas.Bool.{cases_lt, cases_eq, ne_eqb, ltb-true, lt-ltb, cases_Bool}
 use Rattle.gb_groups.specs.Turns.{heads, rounds, longest, in_turns, tails}
-use Rattle.gb_types.specs.declared.address.Addr.{Addr}
 use Rattle.gb_types.specs.declared.entry.Entry.{Entry}
 use Rattle.gb_types.specs.declared.limits.TheConstants.{NODES}
 use Rattle.gb_groups.specs.SlotsValue.{row_at, HaveCounters, AreApart, no_row}
@@ -16,6 +15,8 @@ use Rattle.gb_groups.specs.Fair.{is_of, IsFront}
 use Rattle.gb_groups.proofs.WalkLemmas.{length-queues, queues_at}
 use Rattle.gb_groups.proofs.TakingLemmas.{queue-took, queue-other}
 use Rattle.gb_groups.proofs.BatchLemmas.{fit-front, get_or-gave}
+use Rattle.gb_rules.proofs.AddressLemmas.{addr_is, addr_same}
+use Rattle.gb_rules.specs.Address.{is_addr}
 
 -- ---- queues whose items all pass a test, or none
 
@@ -267,29 +268,16 @@ pub filter-map : {A B : Type 0} (f : B → Bool) (g : A → B) (xs : List A) →
 filter-map f g [] = refl
 filter-map f g (x ∷ xs) = ap (λ ys. cond (f (g x)) (g x ∷ ys) ys) (filter-map f g xs) ∙ map-cond g (f (g x)) x (filter (λ y. f (g y)) xs)
 
-both : (a b c d : ℕ) → ((a ≡ b) × (c ≡ d) → ⊥) → ((a == b) && (c == d)) ≡ false
-both a b c d ne =
-    elim (cases_eq a b) [
-      | inl e ↦ elim (cases_eq c d) [
-        | inl f ↦ absurd (ne (e, f))
-        | inr f ↦ ap (λ x. x && (c == d)) (eq-eqb a b e) ∙ ne_eqb c d f
-      ]
-      | inr e ↦ ap (λ x. x && (c == d)) (ne_eqb a b e)
-    ]
-
-same_addr : (a b : Addr) → a.tenant ≡ b.tenant → a.group ≡ b.group → a ≡ b
-same_addr a b e f = λ j. record { tenant = e j; group = f j }
-
 -- within the table, an item names the group at a place where it is of that place
 pub same_test : (t : GroupsValue) (p : ℕ) → AreApart t.rows → p < length t.rows → (v : Visit) → is_below (length t.rows) v ≡ true → is_of (row_at t.rows p) (item_at t.rows v) ≡ is_at p v
 same_test t p ok h v b =
     let l = ltb-true v.place (length t.rows) b in
     elim (cases_eq v.place p) [
-      | inl e ↦
-          let x = ap (λ (n : ℕ). (row_at t.rows n).addr.tenant) e in
-          let y = ap (λ (n : ℕ). (row_at t.rows n).addr.group) e in
-          ap (λ c. c && ((row_at t.rows v.place).addr.group == (row_at t.rows p).addr.group)) (eq-eqb _ _ x) ∙ eq-eqb _ _ y ∙ sym (eq-eqb v.place p e)
-      | inr ne ↦ both (row_at t.rows v.place).addr.tenant (row_at t.rows p).addr.tenant (row_at t.rows v.place).addr.group (row_at t.rows p).addr.group (λ s. ne (ok.apart v.place p l h (same_addr (row_at t.rows v.place).addr (row_at t.rows p).addr s.0 s.1))) ∙ sym (ne_eqb v.place p ne)
+      | inl e ↦ addr_same _ _ (ap (λ (n : ℕ). (row_at t.rows n).addr) (sym e)) ∙ sym (eq-eqb v.place p e)
+      | inr ne ↦ elim (cases_Bool (is_addr (row_at t.rows p).addr (row_at t.rows v.place).addr)) [
+        | inl same ↦ absurd (ne (ok.apart v.place p l h (sym (addr_is _ _ same))))
+        | inr other ↦ other ∙ sym (ne_eqb v.place p ne)
+      ]
     ]
 
 map-item : (t : GroupsValue) (p : ℕ) (q : List Entry) → map (item_at t.rows) (map (visit p) q) ≡ map (item_of (row_at t.rows p)) q

@@ -21,3 +21,4 @@ pub mod FindLemmas
 pub mod LentLemmas
 pub mod OneGroupLemmas
 pub mod ShortLemmas
+pub mod ListingLemmas

@@ -1,8 +1,7 @@
 -- What each call makes of each group by itself.
 use Rattle.std.proofs.Common.{◌≡◌, ℕ, suc, zero, ◌+◌, ◌<◌, inl, inr, List, [], ◌∷◌, ◌++◌, length, map, take, get_or, refl, sym, ap, ◌∙◌, arith, zero-add}
-use Rattle.std.specs.Prelude.{Bool, true, false, not, cond, ltb, ◌==◌, ◌&&◌, nat_eq, nat_lt, fold, is_some, Option, Some, None, option_map, slice_set, if◌then◌else◌}
+use Rattle.std.specs.Prelude.{Bool, true, false, not, cond, ltb, ◌&&◌, nat_lt, fold, is_some, Option, Some, None, option_map, slice_set, if◌then◌else◌}
 use Rattle.std.specs.List.{position_or_len}
-use Rattle.std.proofs.Common.{eqb-true}
 use Rattle.std.proofs.lemmas.Bool.{cases_Bool, cases_lt, lt-ltb, le-ltb, ltb-true}
 use Rattle.std.proofs.lemmas.List.Sums.{length-filter}
 use Rattle.gb_types.specs.declared.address.Addr.{Addr}
@@ -10,7 +9,6 @@ use Rattle.gb_types.specs.declared.limits.TheConstants.{NODES}
 use Rattle.gb_types.specs.declared.version.Version.{Version}
 use Rattle.gb_rules.specs.Group.{is_too_long}
 use Rattle.gb_types.specs.declared.node.NodeId.{NodeId}
-use Rattle.gb_types.proofs.BoolLemmas.{and_sides}
 use Rattle.gb_frame.specs.declared.item.Item.{Item}
 use Rattle.gb_rules.proofs.AddressLemmas.{addr_is}
 use Rattle.gb_rules.specs.Address.{is_addr}
@@ -107,9 +105,7 @@ gone_is rows (Some p) = refl
 
 -- one address is another: then both tests are the same
 through : (g addr a : Addr) → is_addr g addr ≡ true → is_addr g a ≡ is_addr addr a
-through g addr a e =
-    let x = and_sides (nat_eq g.tenant addr.tenant) (nat_eq g.group addr.group) e in
-    ap (λ n. nat_eq n a.tenant && nat_eq g.group a.group) (eqb-true g.tenant addr.tenant x.0) ∙ ap (λ n. nat_eq addr.tenant a.tenant && nat_eq n a.group) (eqb-true g.group addr.group x.1)
+through g addr a e = ap (λ x. is_addr x a) (addr_is g addr e)
 
 module _ (g addr : Addr) (change : Row → Row) (slot : Option SlotState → Option SlotState) (kept : (r : Row) → (change r).addr ≡ r.addr) (does : (r : Row) → (change r).slot ≡ slot r.slot) where
   own : is_addr g addr ≡ true → (rows : List Row) → first_with g (changed addr change rows) ≡ option_map slot (first_with g rows)
@@ -226,13 +222,8 @@ came_in version g from (i ∷ is) rows =
 
 -- A batch.
 
-eq_swap : (a b : ℕ) → nat_eq a b ≡ (b == a)
-eq_swap a b = grind arith
-
 names_is : (g : Addr) (row : Row) (i : Item) → is_addr g row.addr ≡ true → names g i ≡ is_of row i
-names_is g row i e =
-    through g row.addr (address_of i) e
-    ∙ (ap (λ b. b && nat_eq row.addr.group i.group) (eq_swap row.addr.tenant i.tenant) ∙ ap (λ b. (i.tenant == row.addr.tenant) && b) (eq_swap row.addr.group i.group))
+names_is g row i e = through g row.addr (address_of i) e
 
 map-length : {X Y : Type 0} (f : X → Y) (xs : List X) → length (map f xs) ≡ length xs
 map-length f [] = refl

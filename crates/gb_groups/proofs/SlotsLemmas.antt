@@ -19,7 +19,7 @@ use Rattle.gb_groups.specs.Slots.{slot_under, row_of, place_at, AreKept}
 
 -- what stands past the end of the entries
 abbrev pub no_entry_at : Addr × Place
-no_entry_at = record { 0 = record { tenant = 0; group = 0 }; 1 = Gone }
+no_entry_at = record { 0 = record { tenant = 0; group = 0; generation = 0 }; 1 = Gone }
 
 -- a slot that is there stands within the slab
 pub some_within : (slots : Slab SlotState) (k : ℕ) (v : SlotState) → Some v ≡ get slots k → k < length slots.slots
@@ -125,6 +125,7 @@ changed f es slots p k v new kept here at is size stays =
         counters = subst HaveCounters (sym rows) (counters_changed (map (row_of slots) es) p (on_slot f (row_at (map (row_of slots) es) p)) kept.counters count);
         short = subst (AreShort PAYLOAD) (sym rows) (short_changed (map (row_of slots) es) p (on_slot f (row_at (map (row_of slots) es) p)) kept.short short);
         apart = record { apart = λ q r hq hr same. kept.apart.apart q r (omega arith) (omega arith) (sym (addr q) ∙ same ∙ addr r) };
+        first = record { each = λ q. ap (λ (a : Addr). a.generation) (addr q) ∙ kept.first.each q };
       };
       rows = rows;
     }

@@ -1,19 +1,16 @@
 -- What steps leave of the counters of a slot, and of the payloads that it knows.
-use Rattle.std.proofs.Common.{◌≡◌, ℕ, zero, suc, ◌≤◌, ◌+◌, map, drop, subst, List, [], ◌∷◌, ◌++◌, length, get_or, true, false, refl, ap, sym, ◌∙◌, arith, inl, inr}
-use Rattle.std.proofs.lemmas.Bool.{cases_lt, lt-ltb}
+use Rattle.std.proofs.Common.{◌≡◌, ℕ, zero, suc, ◌≤◌, map, drop, subst, List, [], ◌∷◌, ◌++◌, length, get_or, true, false, refl, ap, sym, ◌∙◌, arith}
 use Rattle.std.proofs.lemmas.Option.{get_or_from_slice_get}
 use Rattle.std.specs.FinSet as nodes
-use Rattle.std.specs.Prelude.{Option, if◌then◌else◌, ◌&&◌, not, nat_lt, nat_le, Some, None, option_map, slice_get, Result, Ok, Err, OnOk}
+use Rattle.std.specs.Prelude.{Option, if◌then◌else◌, ◌&&◌, not, Some, None, option_map, slice_get, Result, Ok, Err, OnOk}
 use Rattle.gb_types.specs.Entry.{message_of}
 use Rattle.gb_types.specs.declared.entry.Entry.{Entry}
 use Rattle.gb_types.specs.Message.{same}
 use Rattle.gb_types.specs.declared.message.MsgId.{MsgId}
 use Rattle.gb_types.specs.declared.node.NodeId.{NodeId}
 use Rattle.gb_types.specs.declared.refusal.Refusal.{Refusal}
-use Rattle.gb_types.specs.declared.refusal.Refusal.TheVariants.{TooLong, Budget, Bytes, Window}
 use Rattle.gb_types.specs.declared.reply.Reply.{Reply}
 use Rattle.gb_types.specs.declared.reply.Reply.TheVariants.{Done, Said, Log, Refused}
-use Rattle.gb_types.specs.declared.spec.Spec.{Spec}
 use Rattle.gb_types.specs.declared.version.Version.{Version}
 use Rattle.gb_types.specs.Version.{limits_of}
 use Rattle.gb_layer.specs.declared.call.Call.TheVariants.{Came, Notice}
@@ -21,9 +18,7 @@ use Rattle.gb_history.specs.Messages.{has, payload_in, entry_in, with_new}
 use Rattle.gb_rules.specs.Group.{Shown, is_other, say_answer}
 use Rattle.gb_rules.specs.Replied.{said_reply}
 use Rattle.gb_rules.specs.declared.phase.Phase.{Phase}
-use Rattle.gb_rules.specs.declared.phase.Phase.TheVariants.{Made, Opened, Shut, Gone}
-use Rattle.gb_rules.specs.declared.usage.Usage.{Usage}
-use Rattle.gb_slot.specs.Slot.{falls, own_entry, usage_of, shown, waiting, taken_for, slot_called, slot_moved, slot_said, slot_came, slot_noticed, slot_done, slot_took}
+use Rattle.gb_slot.specs.Slot.{falls, own_entry, shown, waiting, taken_for, slot_called, slot_moved, slot_said, slot_came, slot_noticed, slot_done, slot_took}
 use Rattle.gb_slot.specs.SlotState.{SlotState}
 use Rattle.gb_groups.specs.Packing.{queue, queue_of}
 use Rattle.gb_groups.specs.SlotsValue.{Row, IsShort, on_slot}

@@ -14,6 +14,7 @@ use Rattle.gb_groups.specs.Packing.{Visit, visit, size, gave, item_of, item_at, 
 use Rattle.gb_groups.proofs.WalkLemmas.{nowhere}
 use Rattle.gb_groups.proofs.BatchLemmas.{get_or-gave}
 use Rattle.gb_groups.proofs.TakingLemmas.{length-gave}
+use Rattle.gb_frame.specs.Items.{item_for}
 
 -- the bytes of one item more
 pub sum-more : (k : ℕ) (vs : List Visit) → k < length vs → sum_by size (take (k + 1) vs) ≡ sum_by size (take k vs) + size (get_or vs k nowhere)
@@ -49,8 +50,7 @@ pub item_here : (dest p k : ℕ) (rows rows0 : List Row) (vs : List Visit) (x : 
 item_here dest p k rows rows0 vs x e h v =
     let n : length rows ≡ length rows0 = ap length e ∙ length-gave dest 0 (take k vs) rows0 in
     let addr : (row_at rows p).addr ≡ (row_at rows0 p).addr = ap (λ (rs : List Row). (row_at rs p).addr) e ∙ ap (λ (r : Row). r.addr) (get_or-gave dest 0 p (take k vs) rows0 no_row (omega arith)) in
-    let named : Addr → Item = λ a. record { tenant = a.tenant; group = a.group; origin = x.origin.number; seq = x.seq; payload = x.payload } in
-    ap named addr ∙ ap (item_at rows0) (sym v)
+    ap (λ (a : Addr). item_for a x) addr ∙ ap (item_at rows0) (sym v)
 
 -- the bytes of fewer items are no more
 pub sum-fewer : (k n : ℕ) (vs : List Visit) → k ≤ n → sum_by size (take k vs) ≤ sum_by size (take n vs)

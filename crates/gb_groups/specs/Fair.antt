@@ -1,13 +1,14 @@
 -- What a packing does to each group by itself.
-use Rattle.std.specs.Prelude.{◌≡◌, ◌≢◌, ◌==◌, ◌&&◌, Bool, ℕ, ◌≤◌, List, length, sum_by, take, drop, map, filter}
+use Rattle.std.specs.Prelude.{◌≡◌, ◌≢◌, Bool, ℕ, ◌≤◌, List, length, sum_by, take, drop, map, filter}
 use Rattle.gb_frame.specs.declared.item.Item.{Item}
+use Rattle.gb_frame.specs.Items.{names}
 use Rattle.gb_groups.specs.SlotsValue.{Row, row_at}
 use Rattle.gb_groups.specs.Packing.{Visit, size, items, item_of, queue, share, took}
 use Rattle.gb_groups.specs.GroupsValue.{GroupsValue, batch, packed}
 
 -- the item names the group
 abbrev pub is_of : Row → Item → Bool
-is_of row i = (i.tenant == row.addr.tenant) && (i.group == row.addr.group)
+is_of row i = names row.addr i
 
 -- The items of a group in a batch are the front of what waited there, in order, and the rest still waits. What waits for other nodes is as
 -- it was, and nothing else of the group changed.

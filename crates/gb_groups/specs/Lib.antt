@@ -11,3 +11,4 @@ pub mod GroupsValue
 pub mod Fair
 pub mod AtAddress
 pub mod OneGroup
+pub mod Listing

@@ -2,6 +2,7 @@
 use Rattle.std.specs.Prelude.{ℕ, suc, ◌+◌, ◌-◌, ◌==◌, Bool, if◌then◌else◌, List, [], ◌∷◌, ◌++◌, length, take, drop, map, Option, Some, None, option_map, slice_get, slice_index_or, count_by, ltb}
 use Rattle.gb_types.specs.declared.entry.Entry.{Entry}
 use Rattle.gb_frame.specs.declared.item.Item.{Item}
+use Rattle.gb_frame.specs.Items.{item_for}
 use Rattle.gb_slot.specs.Slot.{waiting, slot_took}
 use Rattle.gb_slot.specs.SlotState.{SlotState}
 use Rattle.gb_groups.specs.SlotsValue.{Row, row_at, no_entry}
@@ -87,7 +88,7 @@ gave dest p vs (row ∷ rows) = took dest (share p vs) row ∷ gave dest (suc p)
 
 -- an entry of a group as an item of a packet
 abbrev pub item_of : Row → Entry → Item
-item_of row e = record { tenant = row.addr.tenant; group = row.addr.group; origin = e.origin.number; seq = e.seq; payload = e.payload }
+item_of row e = item_for row.addr e
 
 -- the items of visits
 abbrev pub item_at : List Row → Visit → Item

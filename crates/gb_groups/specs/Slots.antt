@@ -8,7 +8,7 @@ use Rattle.gb_slot.specs.Effects.{AreReady, IsEmpty}
 use Rattle.gb_slot.specs.SlotState.{SlotState}
 use Rattle.gb_groups.specs.declared.slots.Place.{Place}
 use Rattle.gb_groups.specs.declared.slots.Place.TheVariants.{Key, Gone}
-use Rattle.gb_groups.specs.SlotsValue.{Row, SlotsValue, HaveCounters, AreShort, AreApart}
+use Rattle.gb_groups.specs.SlotsValue.{Row, SlotsValue, HaveCounters, AreShort, AreApart, AreFirst}
 
 -- the slot where a group's place leads
 abbrev pub slot_under : Slab SlotState → Place → Option SlotState
@@ -23,7 +23,7 @@ slots_of entries slots = record { rows = map (row_of slots) entries }
 
 -- where the group at a place leads
 abbrev pub place_at : List (Addr × Place) → ℕ → Place
-place_at entries p = (slice_index_or entries p (record { 0 = record { tenant = 0; group = 0 }; 1 = Gone })).1
+place_at entries p = (slice_index_or entries p (record { 0 = record { tenant = 0; group = 0; generation = 0 }; 1 = Gone })).1
 
 -- each key has a slot, and no two places have one key; what slots know is within the limits
 pub record AreKept (entries : List (Addr × Place)) (slots : Slab SlotState) : Type 0 where
@@ -32,6 +32,7 @@ pub record AreKept (entries : List (Addr × Place)) (slots : Slab SlotState) : T
   pub counters : HaveCounters (map (row_of slots) entries)
   pub short : AreShort PAYLOAD (map (row_of slots) entries)
   pub apart : AreApart (map (row_of slots) entries)
+  pub first : AreFirst (map (row_of slots) entries)
 
 -- the lists that are lent are empty, and ready for each slot
 pub record AreLent (slots : Slab SlotState) (out : Effects) : Type 0 where

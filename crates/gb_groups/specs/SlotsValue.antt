@@ -30,7 +30,7 @@ abbrev pub no_entry : Entry
 no_entry = record { origin = record { number = 0; below = zero_is_node }; seq = 0; payload = [] }
 
 abbrev pub no_row : Row
-no_row = record { addr = record { tenant = 0; group = 0 }; slot = None }
+no_row = record { addr = record { tenant = 0; group = 0; generation = 0 }; slot = None }
 
 -- the group at a place
 abbrev pub row_at : List Row → ℕ → Row
@@ -67,6 +67,10 @@ pub record AreShort (limit : ℕ) (rows : List Row) : Type 0 where
 -- no two groups have one address
 pub record AreApart (rows : List Row) : Type 0 where
   pub apart : (p q : ℕ) → p < length rows → q < length rows → (row_at rows p).addr ≡ (row_at rows q).addr → p ≡ q
+
+-- each group is the first generation of its number
+pub record AreFirst (rows : List Row) : Type 0 where
+  pub each : (p : ℕ) → (row_at rows p).addr.generation ≡ 0
 
 -- a command on a group that may have been dropped
 abbrev pub unless_gone : (Shown → Reply) → Option SlotState → Reply

@@ -1,5 +1,5 @@
 //! All groups of a node, with an index of what waits in them.
-ghost use Rattle.std.specs.Prelude.{min, false, ◌≢◌, ◌≡◌, ◌==◌, ◌≤◌, ◌<◌, ◌+◌, ◌*◌, ◌++◌, ◌∷◌, [], true, map, slice_index_or, slice_set, ℕ, Some, None, length, sum_by, All, OnOk, OnErr, MatchOption, vec_len, vec_capacity};
+ghost use Rattle.std.specs.Prelude.{min, false, ◌≢◌, ◌≡◌, ◌==◌, ◌≤◌, ◌<◌, ◌+◌, ◌*◌, ◌++◌, ◌∷◌, [], true, map, slice_index_or, slice_set, ℕ, Some, None, length, sum_by, All, OnOk, OnErr, IfOk, MatchOption, vec_len, vec_capacity};
 ghost use Rattle.gb_groups.specs.Fair.{IsFront, IsLongest};
 ghost use Rattle.gb_frame.specs.Packet.{item_of as view_item};
 ghost use Rattle.gb_types.specs.declared.limits.TheConstants.{NODES, PLACES};
@@ -18,8 +18,10 @@ ghost use Rattle.gb_groups.specs.Members.{has_member, IsEnrolled, IsNextMember};
 ghost use Rattle.gb_groups.specs.Covered.{HaveWord, HaveGrown};
 ghost use Rattle.gb_groups.specs.Packing.{items, size};
 ghost use Rattle.gb_groups.specs.OneGroup.{LONGEST, NothingWaits};
+ghost use Rattle.gb_groups.specs.Listing.{listed_from};
 ghost use Rattle.gb_frame.specs.Spelling.{items_text, IsItem};
 
+use crate::listing::GroupRow;
 use crate::packing::{advance, measure};
 use crate::place_set::PlaceSet;
 use crate::slots::Slots;
@@ -248,6 +250,7 @@ impl Groups {
         let addr = Addr {
             tenant: item.tenant,
             group: item.group,
+            generation: item.generation,
         };
         if let Some(place) = self.slots.find(addr) {
             if self.slots.came(place, from, origin, item.seq, item.payload) {
@@ -277,6 +280,7 @@ impl Groups {
         me: NodeId,
         noticed: &NodeSet,
     ) -> Result<(), OutOfMemory>
+        requires first { addr.generation ≡ 0 }
         requires limits { IsWithinLimits spec.now }
         requires member { is_member spec.now me.number ≡ true }
         requires fresh { place_of addr self.old.rows ≡ None }
@@ -373,6 +377,13 @@ impl Groups {
             Some(place) => self.slots.fetch(place, from, most),
             None => Reply::Refused(Refusal::NoGroup),
         }
+    }
+
+    /// Lists the groups from a place on, at most `most` of them, in the order in which they were made.
+    pub fn list(&self, from: usize, most: usize) -> Result<Vec<GroupRow>, OutOfMemory>
+        ensures { IfOk result (λ rows. rows.items ≡ listed_from self.now.rows from most) }
+    {
+        self.slots.list(self.alloc, from, most)
     }
 
     /// Notices a node in the group at a place.

@@ -5,6 +5,7 @@
 
 pub mod each;
 pub mod groups;
+pub mod listing;
 pub mod packing;
 pub mod place_set;
 pub mod slots;

@@ -1,5 +1,5 @@
 //! The slots of a node's groups, in the order in which they were made.
-ghost use Rattle.std.specs.Prelude.{◌≡◌, ◌<◌, ◌≤◌, ◌+◌, [], ℕ, Some, None, length, slice_get, slice_index_or, slice_set, position, ◌++◌, ◌∷◌, OnOk, OnErr, true, false, IfSome, MatchOption, vec_len, vec_capacity};
+ghost use Rattle.std.specs.Prelude.{◌≡◌, ◌<◌, ◌≤◌, ◌+◌, [], ℕ, Some, None, length, slice_get, slice_index_or, slice_set, position, ◌++◌, ◌∷◌, OnOk, OnErr, IfOk, true, false, IfSome, MatchOption, vec_len, vec_capacity};
 ghost use Rattle.gb_types.specs.declared.limits.TheConstants.{PAYLOAD};
 ghost use Rattle.gb_rules.specs.Address.{is_addr};
 ghost use Rattle.gb_rules.specs.Group.{is_member, open_answer, shut_answer, drop_answer, say_answer, fetch_answer};
@@ -12,9 +12,12 @@ ghost use Rattle.gb_frame.specs.declared.limits.TheConstants.{ITEM_HEADER};
 ghost use Rattle.gb_groups.specs.Packing.{queue, first_entry, took, item_of};
 ghost use Rattle.gb_groups.specs.Slots.{place_at};
 ghost use Rattle.gb_groups.specs.Busy.{IsPutOut};
+ghost use Rattle.gb_groups.specs.Listing.{listed, listed_from};
 
+use crate::listing::GroupRow;
 use gb_frame::item::{ItemView, put_item};
 use gb_layer::effects::Effects;
+use gb_rules::phase::Phase;
 use gb_slot::slot::Slot;
 use gb_types::address::Addr;
 use gb_types::entry::Entries;
@@ -291,6 +294,46 @@ impl Slots {
         }
     }
 
+    // Returns the group at a place as a list shows it.
+    fn listed(&self, place: usize) -> GroupRow
+        requires { place < length self.now.rows }
+        ensures { result ≡ listed (row_at self.now.rows place) }
+    {
+        let address = self.addr(place);
+        match self.slot(place) {
+            Some(slot) => GroupRow {
+                address,
+                spec: Some(slot.spec().duplicate()),
+                phase: slot.phase(),
+                log: slot.log_len(),
+            },
+            None => GroupRow {
+                address,
+                spec: None,
+                phase: Phase::Gone,
+                log: 0,
+            },
+        }
+    }
+
+    /// Lists the groups from a place on, at most `most` of them, in the order in which they were made.
+    #[tactic(auto, using(crate::proofs::ListingLemmas::next_listed, crate::proofs::ListingLemmas::all_listed))]
+    pub fn list(
+        &self,
+        alloc: Global,
+        from: usize,
+        most: usize,
+    ) -> Result<Vec<GroupRow>, OutOfMemory>
+        ensures { IfOk result (λ rows. rows.items ≡ listed_from self.now.rows from most) }
+    {
+        let count = most.min(self.len().saturating_sub(from));
+        let mut rows = Vec::with_capacity(alloc, count)?;
+        for index in 0..count {
+            rows.push_reserved(self.listed(from + index));
+        }
+        Ok(rows)
+    }
+
     /// Gives up the group at a place, which it keeps. Spent where it was dropped before.
     pub fn remove(&mut self, place: usize) -> Reply
         ensures reply { result ≡ unless_gone drop_answer (row_at self.old.rows place).slot }
@@ -315,6 +358,7 @@ impl Slots {
         me: NodeId,
         noticed: &NodeSet,
     ) -> Result<(), OutOfMemory>
+        requires first { addr.generation ≡ 0 }
         requires limits { IsWithinLimits spec.now }
         requires member { is_member spec.now me.number ≡ true }
         requires fresh { position (λ row. is_addr addr row.addr) self.old.rows ≡ None }
@@ -334,6 +378,7 @@ impl Slots {
 
 /// Appends the text of the first item that waits for a node in a group. Takes no memory.
 fn put_first(addr: Addr, slot: &Slot, dest: NodeId, out: &mut Vec<u8>)
+    requires first { addr.generation ≡ 0 }
     requires short { IsShort PAYLOAD (Some slot.now) }
     requires item { 0 < length (waiting slot.now dest.number) }
     requires room { vec_len out.old + ITEM_HEADER + length (slice_index_or (waiting slot.now dest.number) 0 no_entry).payload ≤ vec_capacity out.old }
@@ -347,6 +392,7 @@ fn put_first(addr: Addr, slot: &Slot, dest: NodeId, out: &mut Vec<u8>)
         ItemView {
             tenant: addr.tenant,
             group: addr.group,
+            generation: addr.generation,
             origin: m.origin.number,
             seq: m.seq,
             payload,

@@ -137,7 +137,7 @@ module _ (plan : Plan) (g : Addr) (run : List Did) (a : NodeId) (bytes : List �
       (λ n place covers_it low high. come.each n place low high ∙ got (n + 1) (omega arith) covers_it) here)
 
   abbrev mid : Group
-  mid = alone_from (bounds_of plan) g.group group (acknowledges plan g past a c)
+  mid = alone_from (bounds_of plan) g group (acknowledges plan g past a c)
 
   frame_part : is_first good.frame ≡ true → Goes (bounds_of plan) g a frames_from (with_packet version g a c true v) mid (brings plan g run a c)
   frame_part first =

@@ -157,7 +157,7 @@ member_fits nodes g me frames_from v m fits = record { told = fits.told; inside 
 pub commands : (bounds : Bounds) (g : Addr) (a : NodeId) (frames_from : ℕ → List (List Item)) (v : View) (group : Group) (e : GroupEvent) (reply : Reply) (o : Option (Option Told))
     → Fits bounds.nodes g a.number frames_from v (group a.number)
     → MayHappen a e group
-    → member_after bounds g.group a e group ≡ commanded a e reply (group a.number)
+    → member_after bounds g a e group ≡ commanded a e reply (group a.number)
     → (did a e reply (group a.number)).spec ≡ (group a.number).spec
     → MemberFits bounds.nodes a.number (carried_in g v) o (did a e reply (group a.number))
     → Goes bounds g a frames_from (record v { told = o; replies = v.replies ++ reply ∷ [] }) group (record { node = a; event = e } ∷ [])

@@ -66,7 +66,7 @@ came_told-is version me from o i low = ap (λ b. where_so (b && not (is_too_long
 
 -- what items from a node do to the group: the past tells this of it then, and these places have come
 pub record Coming (bounds : Bounds) (g : Addr) (from me : NodeId) (carried : ℕ → List Entry) (place count : ℕ) (o next_told : Option (Option Told)) (group next : Group) (given : List GroupStep) : Type 0 where
-  pub legal : IsLegalFrom bounds g.group group given
+  pub legal : IsLegalFrom bounds g group given
   pub others : (x : ℕ) → x ≢ me.number → next x ≡ group x
   pub told : MemberIs next_told (next me.number)
   pub put : (b : ℕ) → b < bounds.nodes → (next me.number).put b ≡ carried b ++ waiting_of next_told b
@@ -113,7 +113,7 @@ ComesOn bounds g from me carried place xs o =
     → ((q : ℕ) → place < q → q ≤ place + length (map entry_of xs) → is_marked q ((group me.number).come from.number) ≡ false)
     → MemberIs o (group me.number)
     → ((b : ℕ) → b < bounds.nodes → (group me.number).put b ≡ carried b ++ waiting_of o b)
-    → Coming bounds g from me carried place (length (map entry_of xs)) o (fold (came_told (version_at bounds.versions me.number) me from) o xs) group (alone_from bounds g.group group (comes from me place (length (map entry_of xs)))) (comes from me place (length (map entry_of xs)))
+    → Coming bounds g from me carried place (length (map entry_of xs)) o (fold (came_told (version_at bounds.versions me.number) me from) o xs) group (alone_from bounds g group (comes from me place (length (map entry_of xs)))) (comes from me place (length (map entry_of xs)))
 
 -- an item comes, and then the others
 come_next : (bounds : Bounds) (g : Addr) (from me : NodeId) (carried : ℕ → List Entry) (place : ℕ) (i : Item) (xs : List Item) (o : Option (Option Told)) (group : Group) → from.number ≢ me.number → IsOfNode i → (group me.number).stopped ≡ false
@@ -123,10 +123,10 @@ come_next : (bounds : Bounds) (g : Addr) (from me : NodeId) (carried : ℕ → L
     → MemberIs o (group me.number)
     → ((b : ℕ) → b < bounds.nodes → (group me.number).put b ≡ carried b ++ waiting_of o b)
     → ComesOn bounds g from me carried (place + 1) xs (came_told (version_at bounds.versions me.number) me from o i)
-    → Coming bounds g from me carried place (length (map entry_of (i ∷ xs))) o (fold (came_told (version_at bounds.versions me.number) me from) o (i ∷ xs)) group (alone_from bounds g.group group (comes from me place (length (map entry_of (i ∷ xs))))) (comes from me place (length (map entry_of (i ∷ xs))))
+    → Coming bounds g from me carried place (length (map entry_of (i ∷ xs))) o (fold (came_told (version_at bounds.versions me.number) me from) o (i ∷ xs)) group (alone_from bounds g group (comes from me place (length (map entry_of (i ∷ xs))))) (comes from me place (length (map entry_of (i ∷ xs))))
 come_next bounds g from me carried place i xs o group apart fit running there most fresh st puts go_on = record {
   legal = ((running, omega arith, omega (arith, most), fresh (place + 1) (omega arith) (omega arith)), later.legal);
-  others = λ x other. later.others x other ∙ after_elsewhere bounds g.group group me x (Came from (place + 1)) other;
+  others = λ x other. later.others x other ∙ after_elsewhere bounds g group me x (Came from (place + 1)) other;
   told = later.told;
   put = later.put;
   same_spec = later.same_spec ∙ (ap spec_in came ∙ came-spec long me from e o);
@@ -158,7 +158,7 @@ come_next bounds g from me carried place i xs o group apart fit running there mo
     long = is_too_long version i.payload
 
     mid : Group
-    mid = after bounds g.group group (record { node = me; event = Came from (place + 1) })
+    mid = after bounds g group (record { node = me; event = Came from (place + 1) })
 
     rest : KeepsRest (group me.number) (item_came version me.number from e (group me.number))
     rest = item_came-rest version me.number from e (group me.number)
@@ -170,10 +170,10 @@ come_next bounds g from me carried place i xs o group apart fit running there mo
     found = ap (slice_get ((group from.number).put me.number)) (omega arith) ∙ there 0 e refl
 
     here : mid me.number ≡ taken_in version me.number from (place + 1) (Some e) (group me.number)
-    here = after_there bounds g.group group me (Came from (place + 1)) ∙ ap (λ x. taken_in version me.number from (place + 1) x (group me.number)) found
+    here = after_there bounds g group me (Came from (place + 1)) ∙ ap (λ x. taken_in version me.number from (place + 1) x (group me.number)) found
 
     sender : mid from.number ≡ group from.number
-    sender = after_elsewhere bounds g.group group me from.number (Came from (place + 1)) apart
+    sender = after_elsewhere bounds g group me from.number (Came from (place + 1)) apart
 
     first_mark : (q : ℕ) → is_marked q ((mid me.number).come from.number) ≡ (nat_eq (place + 1) q || is_marked q ((group me.number).come from.number))
     first_mark q = ap (λ (m : Member). is_marked q (m.come from.number)) here ∙ rw (eq-eqb from.number from.number refl) refl
@@ -194,7 +194,7 @@ come_next bounds g from me carried place i xs o group apart fit running there mo
     fresh_then : (q : ℕ) → place + 1 < q → q ≤ place + 1 + count → is_marked q ((mid me.number).come from.number) ≡ false
     fresh_then q low high = first_mark q ∙ (or_off (nat_eq (place + 1) q) (is_marked q ((group me.number).come from.number)) (grind (arith, nat_tests, low)) ∙ fresh q (omega (arith, low)) (omega (arith, high)))
 
-    later : Coming bounds g from me carried (place + 1) count (came_told version me from o i) (fold (came_told version me from) (came_told version me from o i) xs) mid (alone_from bounds g.group mid (comes from me (place + 1) count)) (comes from me (place + 1) count)
+    later : Coming bounds g from me carried (place + 1) count (came_told version me from o i) (fold (came_told version me from) (came_told version me from o i) xs) mid (alone_from bounds g mid (comes from me (place + 1) count)) (comes from me (place + 1) count)
     later = go_on mid (ap (λ (m : Member). m.stopped) here ∙ (rest.stopped ∙ running)) there_then most_then fresh_then told_then put_then
 
     one : (q : ℕ) → (nat_eq (place + 1) q || is_between (place + 1) (place + 1 + count) q) ≡ is_between place (place + suc count) q
@@ -246,7 +246,7 @@ module _ (bounds : Bounds) (g : Addr) (a s : NodeId) (frames_from : ℕ → List
   given = comes s a place (length (group_items g f))
 
   abbrev next : Group
-  next = alone_from bounds g.group group given
+  next = alone_from bounds g group given
 
   abbrev later : View
   later = with_frame (version_at bounds.versions a.number) a s s.number (n + 1) (items_for g f) v

@@ -100,8 +100,8 @@ module _ (plan : NodePlan) (versions : List Version) (g : Addr) (past : List Hap
 
   -- the group alone answers as a running node
   pub replies_running : (e : GroupEvent) → is_stopped past ≡ false → Fits plan.nodes g plan.me.number frames_from (view_of plan g past) (group plan.me.number)
-      → reply_to (bounds_with plan versions) g.group plan.me.number e (group plan.me.number) ≡ running_reply (bounds_with plan versions) g.group plan.me.number e (group plan.me.number)
-  replies_running e running fits = ap (λ (b : Bool). if b then Refused Stopped else running_reply (bounds_with plan versions) g.group plan.me.number e (group plan.me.number)) (fits.stopped ∙ running_unmet plan g past running)
+      → reply_to (bounds_with plan versions) g plan.me.number e (group plan.me.number) ≡ running_reply (bounds_with plan versions) g plan.me.number e (group plan.me.number)
+  replies_running e running fits = ap (λ (b : Bool). if b then Refused Stopped else running_reply (bounds_with plan versions) g plan.me.number e (group plan.me.number)) (fits.stopped ∙ running_unmet plan g past running)
 
   -- what the group's own request gives it at a running node
   pub given_own : is_stopped past ≡ false → is_own_request plan.me g past request ≡ true → asked_by plan g past request reply ≡ tenant_given g plan.me request reply ++ own_requested_by plan g past request reply
@@ -117,8 +117,8 @@ module _ (plan : NodePlan) (versions : List Version) (g : Addr) (past : List Hap
       → made_by g (Asked request) (Replied reply) ≡ None
       → tenant_given g plan.me request reply ++ own_requested_by plan g past request reply ≡ record { node = plan.me; event = e } ∷ []
       → MayHappen plan.me e group
-      → member_after (bounds_with plan versions) g.group plan.me e group ≡ commanded plan.me e (reply_to (bounds_with plan versions) g.group plan.me.number e (group plan.me.number)) (group plan.me.number)
-      → running_reply (bounds_with plan versions) g.group plan.me.number e (group plan.me.number) ≡ reply
+      → member_after (bounds_with plan versions) g plan.me e group ≡ commanded plan.me e (reply_to (bounds_with plan versions) g plan.me.number e (group plan.me.number)) (group plan.me.number)
+      → running_reply (bounds_with plan versions) g plan.me.number e (group plan.me.number) ≡ reply
       → (did plan.me e reply (group plan.me.number)).spec ≡ (group plan.me.number).spec
       → Fits plan.nodes g plan.me.number frames_from (view_of plan g past) (group plan.me.number)
       → MemberFits plan.nodes plan.me.number (carried_in g (view_of plan g past)) o (did plan.me e reply (group plan.me.number))

@@ -312,7 +312,7 @@ freed_acknowledged g me k covered acked marks next fs more =
 
 -- what acknowledged items do to the group: nothing but that these places are marked
 pub record Acked (bounds : Bounds) (g : Addr) (me from : NodeId) (group next : Group) (given : List GroupStep) (added : ℕ → Bool) : Type 0 where
-  pub legal : IsLegalFrom bounds g.group group given
+  pub legal : IsLegalFrom bounds g group given
   pub others : (x : ℕ) → x ≢ me.number → next x ≡ group x
   pub member : next me.number ≡ record (group me.number) { done = (next me.number).done }
   pub elsewhere : (b : ℕ) → b ≢ from.number → (next me.number).done b ≡ (group me.number).done b
@@ -351,32 +351,32 @@ same_acked bounds g me from group next given added other same was = record {
 -- one frame's items are acknowledged
 frame_acked : (bounds : Bounds) (g : Addr) (me from : NodeId) (before count : ℕ) (group : Group) → (group me.number).stopped ≡ false
     → ((place : ℕ) → is_between before (before + count) place ≡ true → (is_marked place ((group from.number).come me.number) ≡ true) × (is_marked place ((group me.number).done from.number) ≡ false))
-    → Acked bounds g me from group (alone_from bounds g.group group (acknowledged me from (before + 1) count)) (acknowledged me from (before + 1) count) (is_between before (before + count))
+    → Acked bounds g me from group (alone_from bounds g group (acknowledged me from (before + 1) count)) (acknowledged me from (before + 1) count) (is_between before (before + count))
 frame_acked bounds g me from before zero group running may = none_acked bounds g me from group (is_between before (before + 0)) (λ place. grind (arith, nat_tests))
 frame_acked bounds g me from before (suc k) group running may = record {
   legal = ((running, omega arith, λ place low high. may place (grind (arith, nat_tests, low, high))), tt);
-  others = λ x other. after_elsewhere bounds g.group group me x (Acknowledged from (before + 1) (suc k)) other;
+  others = λ x other. after_elsewhere bounds g group me x (Acknowledged from (before + 1) (suc k)) other;
   member = there ∙ ap (λ d. record (group me.number) { done = d }) (sym (ap (λ (m : Member). m.done) there));
   elsewhere = λ b other. ap (λ (m : Member). m.done b) there ∙ rw (ne_eqb b from.number other) refl;
   marks = λ place. ap (λ (m : Member). is_marked place (m.done from.number)) there ∙ (rw (eq-eqb from.number from.number refl) (marked_places place before (suc k) ((group me.number).done from.number)));
 }
   where
-    there : after bounds g.group group (record { node = me; event = Acknowledged from (before + 1) (suc k) }) me.number
+    there : after bounds g group (record { node = me; event = Acknowledged from (before + 1) (suc k) }) me.number
         ≡ record (group me.number) { done = λ x. if nat_eq x from.number then places (before + 1) (suc k) ++ (group me.number).done x else (group me.number).done x }
-    there = after_there bounds g.group group me (Acknowledged from (before + 1) (suc k))
+    there = after_there bounds g group me (Acknowledged from (before + 1) (suc k))
 
 -- first these events, then those
 acked-append : (bounds : Bounds) (g : Addr) (me from : NodeId) (group mid : Group) (xs ys : List GroupStep) (first later both : ℕ → Bool)
-    → mid ≡ alone_from bounds g.group group xs
+    → mid ≡ alone_from bounds g group xs
     → ((place : ℕ) → both place ≡ (first place || later place))
     → Acked bounds g me from group mid xs first
-    → Acked bounds g me from mid (alone_from bounds g.group mid ys) ys later
-    → Acked bounds g me from group (alone_from bounds g.group group (xs ++ ys)) (xs ++ ys) both
+    → Acked bounds g me from mid (alone_from bounds g mid ys) ys later
+    → Acked bounds g me from group (alone_from bounds g group (xs ++ ys)) (xs ++ ys) both
 acked-append bounds g me from group mid xs ys first later both is parts a b =
-    subst (λ next. Acked bounds g me from group next (xs ++ ys) both) (ap (λ x. alone_from bounds g.group x ys) is ∙ sym (fold-append (after bounds g.group) group xs ys)) (record {
-      legal = legal-append bounds g.group group xs ys a.legal (subst (λ x. IsLegalFrom bounds g.group x ys) is b.legal);
+    subst (λ next. Acked bounds g me from group next (xs ++ ys) both) (ap (λ x. alone_from bounds g x ys) is ∙ sym (fold-append (after bounds g) group xs ys)) (record {
+      legal = legal-append bounds g group xs ys a.legal (subst (λ x. IsLegalFrom bounds g x ys) is b.legal);
       others = λ x other. b.others x other ∙ a.others x other;
-      member = b.member ∙ ap (λ (m : Member). record m { done = ((alone_from bounds g.group mid ys) me.number).done }) a.member;
+      member = b.member ∙ ap (λ (m : Member). record m { done = ((alone_from bounds g mid ys) me.number).done }) a.member;
       elsewhere = λ x other. b.elsewhere x other ∙ a.elsewhere x other;
       marks = λ place. b.marks place ∙ (ap (λ c. later place || c) (a.marks place) ∙ (swap (first place) (later place) (is_marked place ((group me.number).done from.number)) ∙ ap (λ c. c || is_marked place ((group me.number).done from.number)) (sym (parts place))));
     })
@@ -390,7 +390,7 @@ acked-append bounds g me from group mid xs ys first later both is parts a b =
 -- all that a packet newly acknowledges, where it has come and is not acknowledged
 pub all_acked : (bounds : Bounds) (g : Addr) (me from : NodeId) (new : ℕ → Bool) (n before : ℕ) (fs : List (List Item)) (group : Group) → me.number ≢ from.number → (group me.number).stopped ≡ false
     → ((place : ℕ) → is_in g new n before fs place ≡ true → (is_marked place ((group from.number).come me.number) ≡ true) × (is_marked place ((group me.number).done from.number) ≡ false))
-    → Acked bounds g me from group (alone_from bounds g.group group (all_acknowledged g me from new n before fs)) (all_acknowledged g me from new n before fs) (is_in g new n before fs)
+    → Acked bounds g me from group (alone_from bounds g group (all_acknowledged g me from new n before fs)) (all_acknowledged g me from new n before fs) (is_in g new n before fs)
 all_acked bounds g me from new n before [] group apart running may = none_acked bounds g me from group (is_in g new n before []) (λ place. refl)
 all_acked bounds g me from new n before (f ∷ fs) group apart running may = go (cases_Bool (new n)) (all_acked bounds g me from new (n + 1) (before + length (group_items g f)) fs)
   where
@@ -403,13 +403,13 @@ all_acked bounds g me from new n before (f ∷ fs) group apart running may = go 
     Later : Type 0
     Later = (mid : Group) → me.number ≢ from.number → (mid me.number).stopped ≡ false
         → ((place : ℕ) → is_in g new (n + 1) (before + count) fs place ≡ true → (is_marked place ((mid from.number).come me.number) ≡ true) × (is_marked place ((mid me.number).done from.number) ≡ false))
-        → Acked bounds g me from mid (alone_from bounds g.group mid later) later (is_in g new (n + 1) (before + count) fs)
+        → Acked bounds g me from mid (alone_from bounds g mid later) later (is_in g new (n + 1) (before + count) fs)
 
-    go : ((new n ≡ true) ⊎ (new n ≡ false)) → Later → Acked bounds g me from group (alone_from bounds g.group group (all_acknowledged g me from new n before (f ∷ fs))) (all_acknowledged g me from new n before (f ∷ fs)) (is_in g new n before (f ∷ fs))
-    go (inr old) rest = rw old (same_acked bounds g me from group (alone_from bounds g.group group later) later (is_in g new (n + 1) (before + count) fs) (is_in g new n before (f ∷ fs)) (λ place. ap (λ b. (b && is_between before (before + count) place) || is_in g new (n + 1) (before + count) fs place) old) (rest group apart running (λ place is. may place (or_right (new n && is_between before (before + count) place) (is_in g new (n + 1) (before + count) fs place) is))))
+    go : ((new n ≡ true) ⊎ (new n ≡ false)) → Later → Acked bounds g me from group (alone_from bounds g group (all_acknowledged g me from new n before (f ∷ fs))) (all_acknowledged g me from new n before (f ∷ fs)) (is_in g new n before (f ∷ fs))
+    go (inr old) rest = rw old (same_acked bounds g me from group (alone_from bounds g group later) later (is_in g new (n + 1) (before + count) fs) (is_in g new n before (f ∷ fs)) (λ place. ap (λ b. (b && is_between before (before + count) place) || is_in g new (n + 1) (before + count) fs place) old) (rest group apart running (λ place is. may place (or_right (new n && is_between before (before + count) place) (is_in g new (n + 1) (before + count) fs place) is))))
     go (inl now) rest =
         let one = frame_acked bounds g me from before count group running (λ place is. may place (rw (now, is) refl)) in
-        let mid : Group = alone_from bounds g.group group (acknowledged me from (before + 1) count) in
+        let mid : Group = alone_from bounds g group (acknowledged me from (before + 1) count) in
         rw now (acked-append bounds g me from group mid (acknowledged me from (before + 1) count) later (is_between before (before + count)) (is_in g new (n + 1) (before + count) fs) (is_in g new n before (f ∷ fs)) refl (λ place. ap (λ b. (b && is_between before (before + count) place) || is_in g new (n + 1) (before + count) fs place) now) one
         (rest mid apart (ap (λ (m : Member). m.stopped) one.member ∙ running) (λ place is.
         let was = may place (or_right (new n && is_between before (before + count) place) (is_in g new (n + 1) (before + count) fs place) is) in
@@ -463,7 +463,7 @@ module _ (bounds : Bounds) (g : Addr) (a s : NodeId) (frames_from : ℕ → List
   acks = all_acknowledged g a s new 1 0 back
 
   abbrev mid : Group
-  mid = alone_from bounds g.group group acks
+  mid = alone_from bounds g group acks
 
   abbrev later : View
   later = with_acks g a s s.number covered v

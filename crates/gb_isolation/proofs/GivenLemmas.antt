@@ -174,13 +174,13 @@ is_notice event = false
 abbrev IsPlain : GroupStep → Type 0
 IsPlain step = is_notice step.event ≡ false
 
-plain_due : (event : GroupEvent) → is_notice event ≡ false → (bounds : Bounds) (number : ℕ) (group : Group) (a : NodeId) → IsDue event (group a.number)
-plain_due (Notice q) plain bounds number group a = absurd (cc)
-plain_due event plain bounds number group a = tt
+plain_due : (event : GroupEvent) → is_notice event ≡ false → (bounds : Bounds) (addr : Addr) (group : Group) (a : NodeId) → IsDue event (group a.number)
+plain_due (Notice q) plain bounds addr group a = absurd (cc)
+plain_due event plain bounds addr group a = tt
 
-all_due : (bounds : Bounds) (number : ℕ) (steps : List GroupStep) (group : Group) → AllAre IsPlain steps → AreDue bounds number group steps
-all_due bounds number [] group plain = tt
-all_due bounds number (step ∷ steps) group plain = (plain_due step.event plain.0 bounds number group step.node, all_due bounds number steps (after bounds number group step) plain.1)
+all_due : (bounds : Bounds) (addr : Addr) (steps : List GroupStep) (group : Group) → AllAre IsPlain steps → AreDue bounds addr group steps
+all_due bounds addr [] group plain = tt
+all_due bounds addr (step ∷ steps) group plain = (plain_due step.event plain.0 bounds addr group step.node, all_due bounds addr steps (after bounds addr group step) plain.1)
 
 carried_plain : (event : GroupEvent) → is_carrying event ≡ true → is_notice event ≡ false
 carried_plain (Notice q) is = absurd (cc)
@@ -207,61 +207,61 @@ plain_tenant : (g : Addr) (a : NodeId) (request : Request) (reply : Reply) → A
 plain_tenant g a (AddTenant token row) Done = elim (nat_eq row.tenant g.tenant) as (λ t. AllAre IsPlain (if t then record { node = a; event = Tenant (reserve_of row) } ∷ [] else [])) [ true ↦ (refl, tt) | false ↦ tt ]
 plain_tenant g a request reply = tt
 
-notices_due : (bounds : Bounds) (number : ℕ) (a : NodeId) (bs : List ℕ) (group : Group) → is_some (group a.number).spec ≡ true → AreDue bounds number group (notices_of a bs)
-notices_due bounds number a [] group made = tt
-notices_due bounds number a (b ∷ bs) group made =
-    (made, notices_due bounds number a bs next (ap (λ m. is_some m.spec) (after_there bounds number group a (Notice (node_numbered b))) ∙ (ap is_some (notices_keep a.number (b ∷ []) (group a.number)).spec ∙ made)))
+notices_due : (bounds : Bounds) (addr : Addr) (a : NodeId) (bs : List ℕ) (group : Group) → is_some (group a.number).spec ≡ true → AreDue bounds addr group (notices_of a bs)
+notices_due bounds addr a [] group made = tt
+notices_due bounds addr a (b ∷ bs) group made =
+    (made, notices_due bounds addr a bs next (ap (λ m. is_some m.spec) (after_there bounds addr group a (Notice (node_numbered b))) ∙ (ap is_some (notices_keep a.number (b ∷ []) (group a.number)).spec ∙ made)))
   where
     next : Group
-    next = after bounds number group (record { node = a; event = Notice (node_numbered b) })
+    next = after bounds addr group (record { node = a; event = Notice (node_numbered b) })
 
 -- the group is made, and then told of the nodes that were noticed before
-making_due : (bounds : Bounds) (number : ℕ) (a : NodeId) (spec : Spec) (bs : List ℕ) (group : Group) → is_some (alone_from bounds number group (record { node = a; event = AskMake spec } ∷ notices_of a bs) a.number).spec ≡ true
-    → AreDue bounds number group (record { node = a; event = AskMake spec } ∷ notices_of a bs)
-making_due bounds number a spec bs group made =
-    (tt, notices_due bounds number a bs next (ap is_some (sym (ap (λ m. m.spec) (notices_there bounds number a bs next) ∙ (notices_keep a.number bs (next a.number)).spec)) ∙ made))
+making_due : (bounds : Bounds) (addr : Addr) (a : NodeId) (spec : Spec) (bs : List ℕ) (group : Group) → is_some (alone_from bounds addr group (record { node = a; event = AskMake spec } ∷ notices_of a bs) a.number).spec ≡ true
+    → AreDue bounds addr group (record { node = a; event = AskMake spec } ∷ notices_of a bs)
+making_due bounds addr a spec bs group made =
+    (tt, notices_due bounds addr a bs next (ap is_some (sym (ap (λ m. m.spec) (notices_there bounds addr a bs next) ∙ (notices_keep a.number bs (next a.number)).spec)) ∙ made))
   where
     next : Group
-    next = after bounds number group (record { node = a; event = AskMake spec })
+    next = after bounds addr group (record { node = a; event = AskMake spec })
 
 module _ (bounds : Bounds) (plan : NodePlan) (g : Addr) (past : List Happened) (group : Group) where
   -- where the request is the group's own and the node runs
   own_due : (request : Request) (reply : Reply) → is_named g request ≡ true
-      → (alone_from bounds g.group group (tenant_given g plan.me request reply ++ own_requested_by plan g past request reply) plan.me.number).spec ≡ made_with g (record { event = Asked request; answer = Replied reply } ∷ past)
-      → AreDue bounds g.group group (tenant_given g plan.me request reply ++ own_requested_by plan g past request reply)
+      → (alone_from bounds g group (tenant_given g plan.me request reply ++ own_requested_by plan g past request reply) plan.me.number).spec ≡ made_with g (record { event = Asked request; answer = Replied reply } ∷ past)
+      → AreDue bounds g group (tenant_given g plan.me request reply ++ own_requested_by plan g past request reply)
   unfolding made_with
   own_due (Make token addr spec) Done named made =
-      making_due bounds g.group plan.me spec (filter (λ b. is_other spec plan.me.number b && is_noticed_after plan past b) (range_with_len 0 NODES)) group
+      making_due bounds g plan.me spec (filter (λ b. is_other spec plan.me.number b && is_noticed_after plan past b) (range_with_len 0 NODES)) group
       (ap is_some made ∙ ap (λ (t : Bool). is_some (option_or (if t then Some spec else None) (made_with g past))) named)
-  own_due request reply named made = all_due bounds g.group (tenant_given g plan.me request reply ++ command_for g plan.me request) group (all_both IsPlain (tenant_given g plan.me request reply) (command_for g plan.me request) (plain_tenant g plan.me request reply) (plain_command g plan.me request))
+  own_due request reply named made = all_due bounds g (tenant_given g plan.me request reply ++ command_for g plan.me request) group (all_both IsPlain (tenant_given g plan.me request reply) (command_for g plan.me request) (plain_tenant g plan.me request reply) (plain_command g plan.me request))
 
-  asked_due : (request : Request) (reply : Reply) → (alone_from bounds g.group group (asked_by plan g past request reply) plan.me.number).spec ≡ made_with g (record { event = Asked request; answer = Replied reply } ∷ past)
-      → AreDue bounds g.group group (asked_by plan g past request reply)
+  asked_due : (request : Request) (reply : Reply) → (alone_from bounds g group (asked_by plan g past request reply) plan.me.number).spec ≡ made_with g (record { event = Asked request; answer = Replied reply } ∷ past)
+      → AreDue bounds g group (asked_by plan g past request reply)
   asked_due request reply = by (is_stopped past) (is_own_request plan.me g past request) refl
     where
       by : (stopped own : Bool) → is_own_request plan.me g past request ≡ own
-          → (alone_from bounds g.group group (if stopped then (if own then with_stop plan.me (is_met plan.me g past) (command_for g plan.me request) else []) else tenant_given g plan.me request reply ++ (if own then own_requested_by plan g past request reply else [])) plan.me.number).spec ≡ made_with g (record { event = Asked request; answer = Replied reply } ∷ past)
-          → AreDue bounds g.group group (if stopped then (if own then with_stop plan.me (is_met plan.me g past) (command_for g plan.me request) else []) else tenant_given g plan.me request reply ++ (if own then own_requested_by plan g past request reply else []))
-      by true true is made = all_due bounds g.group (with_stop plan.me (is_met plan.me g past) (command_for g plan.me request)) group (plain_stop plan.me (is_met plan.me g past) (command_for g plan.me request) (plain_command g plan.me request))
+          → (alone_from bounds g group (if stopped then (if own then with_stop plan.me (is_met plan.me g past) (command_for g plan.me request) else []) else tenant_given g plan.me request reply ++ (if own then own_requested_by plan g past request reply else [])) plan.me.number).spec ≡ made_with g (record { event = Asked request; answer = Replied reply } ∷ past)
+          → AreDue bounds g group (if stopped then (if own then with_stop plan.me (is_met plan.me g past) (command_for g plan.me request) else []) else tenant_given g plan.me request reply ++ (if own then own_requested_by plan g past request reply else []))
+      by true true is made = all_due bounds g (with_stop plan.me (is_met plan.me g past) (command_for g plan.me request)) group (plain_stop plan.me (is_met plan.me g past) (command_for g plan.me request) (plain_command g plan.me request))
       by true false is made = tt
       by false true is made = own_due request reply (and_parts (is_named g request) (has_group_token plan.me (tenants_in past) request) is).0 made
-      by false false is made = all_due bounds g.group (tenant_given g plan.me request reply ++ []) group (all_both IsPlain (tenant_given g plan.me request reply) [] (plain_tenant g plan.me request reply) tt)
+      by false false is made = all_due bounds g (tenant_given g plan.me request reply ++ []) group (all_both IsPlain (tenant_given g plan.me request reply) [] (plain_tenant g plan.me request reply) tt)
 
-ticked_due : (bounds : Bounds) (number : ℕ) (a : NodeId) (found : ℕ → Bool) (o : Option Spec) (group : Group) → (group a.number).spec ≡ o → AreDue bounds number group (ticked a found o)
-ticked_due bounds number a found None group made = tt
-ticked_due bounds number a found (Some spec) group made = notices_due bounds number a (filter (λ b. is_other spec a.number b && found b) (range_with_len 0 NODES)) group (ap is_some made)
+ticked_due : (bounds : Bounds) (addr : Addr) (a : NodeId) (found : ℕ → Bool) (o : Option Spec) (group : Group) → (group a.number).spec ≡ o → AreDue bounds addr group (ticked a found o)
+ticked_due bounds addr a found None group made = tt
+ticked_due bounds addr a found (Some spec) group made = notices_due bounds addr a (filter (λ b. is_other spec a.number b && found b) (range_with_len 0 NODES)) group (ap is_some made)
 
 -- the notices that an event gives come where the group was made
 pub given_due : (plan : Plan) (g : Addr) (run : List Did) (group : Group) (a : NodeId) (e : NodeEvent) (x : NodeAnswer) → (group a.number).spec ≡ made_with g (past_at a run)
-    → (alone_from (bounds_of plan) g.group group (gives plan g run a e x) a.number).spec ≡ made_with g (record { event = e; answer = x } ∷ past_at a run) → AreDue (bounds_of plan) g.group group (gives plan g run a e x)
+    → (alone_from (bounds_of plan) g group (gives plan g run a e x) a.number).spec ≡ made_with g (record { event = e; answer = x } ∷ past_at a run) → AreDue (bounds_of plan) g group (gives plan g run a e x)
 given_due plan g run group a (Asked request) (Replied reply) before now = asked_due (bounds_of plan) (node_plan plan a) g (past_at a run) group request reply now
 given_due plan g run group a (Pack b) (Sent (SentPacket text)) before now =
     let k : ℕ = length (group_items_of g (map (λ (c : Content). c.items) (read plan.cluster_key text))) in
-    all_due (bounds_of plan) g.group (took a b k) group (plain_carried a (took a b k) (carried_took a b k))
+    all_due (bounds_of plan) g (took a b k) group (plain_carried a (took a b k) (carried_took a b k))
 given_due plan g run group a (Brought bytes) (Taken (TakenGood good)) before now =
     let given : List GroupStep = flat_map (arrived plan g run a) (read plan.cluster_key bytes) in
-    all_due (bounds_of plan) g.group given group (plain_carried a given (carried_packets plan g run a (read plan.cluster_key bytes)))
-given_due plan g run group a Tick (Ticked (Noticed found)) before now = ticked_due (bounds_of plan) g.group a (set.contains found) (made_with g (past_at a run)) group before
+    all_due (bounds_of plan) g given group (plain_carried a given (carried_packets plan g run a (read plan.cluster_key bytes)))
+given_due plan g run group a Tick (Ticked (Noticed found)) before now = ticked_due (bounds_of plan) g a (set.contains found) (made_with g (past_at a run)) group before
 given_due plan g run group a e x before now = tt
 
 -- Commands.

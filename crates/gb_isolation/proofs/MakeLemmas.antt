@@ -69,11 +69,11 @@ module _ (bounds : Bounds) (g : Addr) (a : NodeId) (frames_from : ℕ → List (
   next = all_noticed a.number noticed_now made
 
   abbrev first : Group
-  first = after bounds g.group group (record { node = a; event = AskMake spec })
+  first = after bounds g group (record { node = a; event = AskMake spec })
 
   -- its members are nodes
-  members_inside : (group a.number).spec ≡ None → reply_to bounds g.group a.number (AskMake spec) (group a.number) ≡ Done → (b : ℕ) → is_member spec b ≡ true → b < bounds.nodes
-  members_inside absent is = (step_inside bounds g.group everywhere (record { node = a; event = AskMake spec }) (λ x s there. absurd (clash s (sym absent ∙ there))) a.number spec spec_is).1
+  members_inside : (group a.number).spec ≡ None → reply_to bounds g a.number (AskMake spec) (group a.number) ≡ Done → (b : ℕ) → is_member spec b ≡ true → b < bounds.nodes
+  members_inside absent is = (step_inside bounds g everywhere (record { node = a; event = AskMake spec }) (λ x s there. absurd (clash s (sym absent ∙ there))) a.number spec spec_is).1
     where
       everywhere : Group
       everywhere x = group a.number
@@ -81,10 +81,10 @@ module _ (bounds : Bounds) (g : Addr) (a : NodeId) (frames_from : ℕ → List (
       clash : (s : Spec) → None ≡ Some s → ⊥
       clash s e = cc
 
-      spec_is : (after bounds g.group everywhere (record { node = a; event = AskMake spec }) a.number).spec ≡ Some spec
-      spec_is = ap (λ (m : Member). m.spec) (after_there bounds g.group everywhere a (AskMake spec) ∙ ap (λ r. commanded a (AskMake spec) r (group a.number)) is)
+      spec_is : (after bounds g everywhere (record { node = a; event = AskMake spec }) a.number).spec ≡ Some spec
+      spec_is = ap (λ (m : Member). m.spec) (after_there bounds g everywhere a (AskMake spec) ∙ ap (λ r. commanded a (AskMake spec) r (group a.number)) is)
 
-  made_fits : (noticed : set.FinSet nat_cmp) → v.noticed ≡ set.contains noticed → ((b : ℕ) → v.noticed b ≡ true → b < NODES) → v.told ≡ None → (group a.number).spec ≡ None → reply_to bounds g.group a.number (AskMake spec) (group a.number) ≡ Done
+  made_fits : (noticed : set.FinSet nat_cmp) → v.noticed ≡ set.contains noticed → ((b : ℕ) → v.noticed b ≡ true → b < NODES) → v.told ≡ None → (group a.number).spec ≡ None → reply_to bounds g a.number (AskMake spec) (group a.number) ≡ Done
       → Fits bounds.nodes g a.number frames_from v (group a.number)
       → Fits bounds.nodes g a.number frames_from (record v { told = Some (Some (told_first spec a noticed)); made = Some spec; replies = v.replies ++ Done ∷ [] }) next
   made_fits noticed noticed_is below free unmade answered fits = record {
@@ -119,25 +119,25 @@ module _ (bounds : Bounds) (g : Addr) (a : NodeId) (frames_from : ℕ → List (
       count : (b : ℕ) → b < bounds.nodes → (group a.number).taken b ≡ length ((group a.number).put b)
       count b low = fits.taken b low ∙ ap length (sym (fits.put b low ∙ (ap (λ o. carried_in g v b ++ waiting_of o b) free ∙ append-nil (carried_in g v b))))
 
-  made_goes : (noticed : set.FinSet nat_cmp) → v.noticed ≡ set.contains noticed → ((b : ℕ) → v.noticed b ≡ true → b < NODES) → v.told ≡ None → v.met ≡ false → reply_to bounds g.group a.number (AskMake spec) (group a.number) ≡ Done
+  made_goes : (noticed : set.FinSet nat_cmp) → v.noticed ≡ set.contains noticed → ((b : ℕ) → v.noticed b ≡ true → b < NODES) → v.told ≡ None → v.met ≡ false → reply_to bounds g a.number (AskMake spec) (group a.number) ≡ Done
       → Fits bounds.nodes g a.number frames_from v (group a.number)
       → Goes bounds g a frames_from (record v { told = Some (Some (told_first spec a noticed)); made = Some spec; replies = v.replies ++ Done ∷ [] }) group (record { node = a; event = AskMake spec } ∷ notices_of a noticed_now)
   made_goes noticed noticed_is below free unmet answered fits = record {
     legal = (
       tt,
-      notices_legal bounds g.group a 0 noticed_now first (before_rising spec a.number v.noticed) (ap (λ (m : Member). m.stopped) first_there ∙ (fits.stopped ∙ unmet))
+      notices_legal bounds g a 0 noticed_now first (before_rising spec a.number v.noticed) (ap (λ (m : Member). m.stopped) first_there ∙ (fits.stopped ∙ unmet))
           (λ x new. ap (λ (m : Member). is_marked x m.noticed) first_there ∙ (fits.noticed x ∙ ap (λ o. is_concerned a.number x o && v.noticed x) (sym fits.spec ∙ absent.spec))),
     );
-    elsewhere = λ x other. notices_elsewhere bounds g.group a noticed_now first x other ∙ after_elsewhere bounds g.group group a x (AskMake spec) other;
+    elsewhere = λ x other. notices_elsewhere bounds g a noticed_now first x other ∙ after_elsewhere bounds g group a x (AskMake spec) other;
     there = subst (Fits bounds.nodes g a.number frames_from (record v { told = Some (Some (told_first spec a noticed)); made = Some spec; replies = v.replies ++ Done ∷ [] }))
-        (sym (notices_there bounds g.group a noticed_now first ∙ ap (all_noticed a.number noticed_now) first_there)) (made_fits noticed noticed_is below free absent.spec answered fits);
+        (sym (notices_there bounds g a noticed_now first ∙ ap (all_noticed a.number noticed_now) first_there)) (made_fits noticed noticed_is below free absent.spec answered fits);
   }
     where
       absent : NotMade (group a.number)
       absent = subst (λ o. MemberIs o (group a.number)) free fits.told
 
       first_there : first a.number ≡ made
-      first_there = after_there bounds g.group group a (AskMake spec) ∙ ap (λ r. commanded a (AskMake spec) r (group a.number)) answered
+      first_there = after_there bounds g group a (AskMake spec) ∙ ap (λ r. commanded a (AskMake spec) r (group a.number)) answered
 
 -- Making, by its reply.
 
@@ -153,10 +153,10 @@ module _ (plan : NodePlan) (versions : List Version) (g : Addr) (past : List Hap
 
   -- what the rules answer for the group
   abbrev rule : Reply
-  rule = by_tenant (make_answer plan.nodes plan.me.number g.group (is_some (told_of plan g past)) spec) before.reserve
+  rule = by_tenant (make_answer plan.nodes plan.me.number g (is_some (told_of plan g past)) spec) before.reserve
 
   -- a group that is made was not made before
-  not_made : (o : Option (Option Told)) (reserve : Option Reserve) → by_tenant (make_answer plan.nodes plan.me.number g.group (is_some o) spec) reserve ≡ Done → o ≡ None
+  not_made : (o : Option (Option Told)) (reserve : Option Reserve) → by_tenant (make_answer plan.nodes plan.me.number g (is_some o) spec) reserve ≡ Done → o ≡ None
   not_made None reserve is = refl
   not_made (Some s) None is = absurd (cc)
   not_made (Some s) (Some reserve) is = absurd (go (nat_le reserve.groups g.group) is)
@@ -166,17 +166,17 @@ module _ (plan : NodePlan) (versions : List Version) (g : Addr) (past : List Hap
       go false e = cc
 
   -- the group alone answers the same
-  alone_rule : (r : Reply) → Fits plan.nodes g plan.me.number frames_from before m → rule ≡ r → running_reply (bounds_with plan versions) g.group plan.me.number (AskMake spec) m ≡ r
+  alone_rule : (r : Reply) → Fits plan.nodes g plan.me.number frames_from before m → rule ≡ r → running_reply (bounds_with plan versions) g plan.me.number (AskMake spec) m ≡ r
   alone_rule r fits is =
-      ap (λ (b : Bool). by_tenant (make_answer plan.nodes plan.me.number g.group b spec) m.reserve) (made-is (told_of plan g past) m fits.told)
-      ∙ (ap (by_tenant (make_answer plan.nodes plan.me.number g.group (is_some (told_of plan g past)) spec)) fits.reserve ∙ is)
+      ap (λ (b : Bool). by_tenant (make_answer plan.nodes plan.me.number g b spec) m.reserve) (made-is (told_of plan g past) m fits.told)
+      ∙ (ap (by_tenant (make_answer plan.nodes plan.me.number g (is_some (told_of plan g past)) spec)) fits.reserve ∙ is)
 
   made_by_reply : (r : Reply) → is_stopped past ≡ false → is_own_request plan.me g past (Make token addr spec) ≡ true → is_addr g addr ≡ true → rule ≡ r → is_noticed_after plan past ≡ set.contains noticed → ((b : ℕ) → set.contains noticed b ≡ true → b < NODES)
       → Fits plan.nodes g plan.me.number frames_from before m → AskedGoes plan versions g past (Make token addr spec) r frames_from group
   made_by_reply Done running own named is silent below fits =
       let free : told_of plan g past ≡ None = not_made (told_of plan g past) before.reserve is in
       let unmet_here : is_met plan.me g past ≡ false = running_unmet plan g past running in
-      let answered : reply_to (bounds_with plan versions) g.group plan.me.number (AskMake spec) m ≡ Done = replies_running plan versions g past (Make token addr spec) Done frames_from group (AskMake spec) running fits ∙ alone_rule Done fits is in
+      let answered : reply_to (bounds_with plan versions) g plan.me.number (AskMake spec) m ≡ Done = replies_running plan versions g past (Make token addr spec) Done frames_from group (AskMake spec) running fits ∙ alone_rule Done fits is in
       let later : view_of plan g (asking (Make token addr spec) Done ∷ past) ≡ record before { told = Some (Some (told_first spec plan.me noticed)); made = Some spec; replies = replies_in plan.me g past ++ Done ∷ [] } =
       view_own plan g past (Make token addr spec) Done (Some (Some (told_first spec plan.me noticed))) (Some spec) running own refl
       (ap (λ o. or_added o (if is_addr g addr then Some (Some (told_first spec plan.me noticed)) else None)) free ∙ ap (λ b. if b then Some (Some (told_first spec plan.me noticed)) else None) named)
@@ -192,4 +192,4 @@ module _ (plan : NodePlan) (versions : List Version) (g : Addr) (past : List Hap
       → Fits plan.nodes g plan.me.number frames_from before m → AskedGoes plan versions g past (Make token addr spec) reply frames_from group
   at_make reply running own is silent below fits =
       let named = (and_parts (is_addr g addr) (has_group_token plan.me (tenants_in past) (Make token addr spec)) own).0 in
-      made_by_reply reply running own named (sym (is ∙ ap (λ (x : Addr). by_tenant (make_answer plan.nodes plan.me.number x.group (is_some (told_of plan x past)) spec) (option_map reserve_of (row_of x.tenant (tenants_in past)))) (sym (addr_is g addr named)))) silent below fits
+      made_by_reply reply running own named (sym (is ∙ ap (λ (x : Addr). by_tenant (make_answer plan.nodes plan.me.number x (is_some (told_of plan x past)) spec) (option_map reserve_of (row_of x.tenant (tenants_in past)))) (sym (addr_is g addr named)))) silent below fits

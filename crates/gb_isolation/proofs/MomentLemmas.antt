@@ -69,21 +69,21 @@ project_continues plan g (d ∷ later) earlier =
     record { rest = more.rest ++ given; whole = ap (λ xs. xs ++ given) more.whole ∙ append_assoc (project plan g earlier) more.rest given }
 
 -- the group's notices are marked as it is told of them
-pub marked : AllBehave → (plan : Plan) (g : Addr) (run : List Did) (v : ClusterValue) → ComesTo plan run v → is_fed g run ≡ true → AllMarked (alone (bounds_of plan) g.group (project plan g run))
+pub marked : AllBehave → (plan : Plan) (g : Addr) (run : List Did) (v : ClusterValue) → ComesTo plan run v → is_fed g run ≡ true → AllMarked (alone (bounds_of plan) g (project plan g run))
 unfolding ComesTo project
 marked behave plan g [] v comes fed = nobody_marked
 marked behave plan g (d ∷ run) v comes fed =
     subst AllMarked (sym split)
-    (run_marked (bounds_of plan) g.group given group (given_due plan g run group d.node d.event d.answer before now) (marked behave plan g run comes.0 comes.1 (fed_before plan g d run fed)))
+    (run_marked (bounds_of plan) g given group (given_due plan g run group d.node d.event d.answer before now) (marked behave plan g run comes.0 comes.1 (fed_before plan g d run fed)))
   where
     group : Group
-    group = alone (bounds_of plan) g.group (project plan g run)
+    group = alone (bounds_of plan) g (project plan g run)
 
     given : List GroupStep
     given = gives plan g run d.node d.event d.answer
 
-    split : alone (bounds_of plan) g.group (project plan g run ++ given) ≡ alone_from (bounds_of plan) g.group group given
-    split = fold-append (after (bounds_of plan) g.group) nobody (project plan g run) given
+    split : alone (bounds_of plan) g (project plan g run ++ given) ≡ alone_from (bounds_of plan) g group given
+    split = fold-append (after (bounds_of plan) g) nobody (project plan g run) given
 
     within : d.node.number < plan.nodes
     within = placed plan d run v comes
@@ -91,7 +91,7 @@ marked behave plan g (d ∷ run) v comes fed =
     before : (group d.node.number).spec ≡ made_with g (past_at d.node run)
     before = ((behave plan g run comes.0 comes.1 (fed_before plan g d run fed)).fits d.node within).spec
 
-    now : (alone_from (bounds_of plan) g.group group given d.node.number).spec ≡ made_with g (record { event = d.event; answer = d.answer } ∷ past_at d.node run)
+    now : (alone_from (bounds_of plan) g group given d.node.number).spec ≡ made_with g (record { event = d.event; answer = d.answer } ∷ past_at d.node run)
     now = ap (λ (q : Group). (q d.node.number).spec) (sym split) ∙ (((behave plan g (d ∷ run) v comes fed).fits d.node within).spec ∙ ap (made_with g) (past_same d.node d run refl))
 
 -- The frame in which an item stands, counted from 1 among the items of these frames.

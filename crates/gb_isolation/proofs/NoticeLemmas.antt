@@ -17,6 +17,7 @@ use Rattle.gb_alone.specs.declared.event.GroupEvent.TheVariants.{Notice}
 use Rattle.gb_alone.specs.declared.event.GroupStep.{GroupStep}
 use Rattle.gb_isolation.proofs.MemberLemmas.{KeepsRest}
 use Rattle.gb_isolation.proofs.GoesLemmas.{after_there, after_elsewhere}
+use Rattle.gb_types.specs.declared.address.Addr.{Addr}
 
 -- Numbers.
 
@@ -97,13 +98,13 @@ abbrev pub all_noticed : ℕ → List ℕ → Member → Member
 all_noticed me [] m = m
 all_noticed me (b ∷ bs) m = all_noticed me bs (node_noticed me (node_numbered b) m)
 
-pub notices_there : (bounds : Bounds) (number : ℕ) (a : NodeId) (bs : List ℕ) (group : Group) → alone_from bounds number group (notices_of a bs) a.number ≡ all_noticed a.number bs (group a.number)
-notices_there bounds number a [] group = refl
-notices_there bounds number a (b ∷ bs) group = notices_there bounds number a bs _ ∙ ap (all_noticed a.number bs) (after_there bounds number group a (Notice (node_numbered b)))
+pub notices_there : (bounds : Bounds) (addr : Addr) (a : NodeId) (bs : List ℕ) (group : Group) → alone_from bounds addr group (notices_of a bs) a.number ≡ all_noticed a.number bs (group a.number)
+notices_there bounds addr a [] group = refl
+notices_there bounds addr a (b ∷ bs) group = notices_there bounds addr a bs _ ∙ ap (all_noticed a.number bs) (after_there bounds addr group a (Notice (node_numbered b)))
 
-pub notices_elsewhere : (bounds : Bounds) (number : ℕ) (a : NodeId) (bs : List ℕ) (group : Group) (x : ℕ) → x ≢ a.number → alone_from bounds number group (notices_of a bs) x ≡ group x
-notices_elsewhere bounds number a [] group x other = refl
-notices_elsewhere bounds number a (b ∷ bs) group x other = notices_elsewhere bounds number a bs _ x other ∙ after_elsewhere bounds number group a x (Notice (node_numbered b)) other
+pub notices_elsewhere : (bounds : Bounds) (addr : Addr) (a : NodeId) (bs : List ℕ) (group : Group) (x : ℕ) → x ≢ a.number → alone_from bounds addr group (notices_of a bs) x ≡ group x
+notices_elsewhere bounds addr a [] group x other = refl
+notices_elsewhere bounds addr a (b ∷ bs) group x other = notices_elsewhere bounds addr a bs _ x other ∙ after_elsewhere bounds addr group a x (Notice (node_numbered b)) other
 
 -- a notice leaves the rest of the group at the node
 pub notice_keeps : (me : ℕ) (q : NodeId) (m : Member) → KeepsRest m (node_noticed me q m)
@@ -141,13 +142,13 @@ notices_mark me low (b ∷ bs) m x rise =
     ∙ (ap (λ k. is_marked x bs || (nat_eq k x || is_marked x m.noticed)) (numbered_is b rise.1) ∙ or_turned (is_marked x bs) (nat_eq b x) (is_marked x m.noticed))
 
 -- each of them may be noticed, where none was before
-pub notices_legal : (bounds : Bounds) (number : ℕ) (a : NodeId) (low : ℕ) (bs : List ℕ) (group : Group) → AreRising low bs → (group a.number).stopped ≡ false → ((x : ℕ) → is_marked x bs ≡ true → is_marked x (group a.number).noticed ≡ false) → IsLegalFrom bounds number group (notices_of a bs)
-notices_legal bounds number a low [] group rise running new = tt
-notices_legal bounds number a low (b ∷ bs) group rise running new =
-    let next : Group = after bounds number group (record { node = a; event = Notice (node_numbered b) }) in
-    let there : next a.number ≡ node_noticed a.number (node_numbered b) (group a.number) = after_there bounds number group a (Notice (node_numbered b)) in (
+pub notices_legal : (bounds : Bounds) (addr : Addr) (a : NodeId) (low : ℕ) (bs : List ℕ) (group : Group) → AreRising low bs → (group a.number).stopped ≡ false → ((x : ℕ) → is_marked x bs ≡ true → is_marked x (group a.number).noticed ≡ false) → IsLegalFrom bounds addr group (notices_of a bs)
+notices_legal bounds addr a low [] group rise running new = tt
+notices_legal bounds addr a low (b ∷ bs) group rise running new =
+    let next : Group = after bounds addr group (record { node = a; event = Notice (node_numbered b) }) in
+    let there : next a.number ≡ node_noticed a.number (node_numbered b) (group a.number) = after_there bounds addr group a (Notice (node_numbered b)) in (
       (running, ap (λ k. is_marked k (group a.number).noticed) (numbered_is b rise.1) ∙ new b (ap (λ c. c || is_marked b bs) (eq-eqb b b refl))),
-      notices_legal bounds number a (b + 1) bs next rise.2 (ap (λ (m : Member). m.stopped) there ∙ ((notice_keeps a.number (node_numbered b) (group a.number)).stopped ∙ running))
+      notices_legal bounds addr a (b + 1) bs next rise.2 (ap (λ (m : Member). m.stopped) there ∙ ((notice_keeps a.number (node_numbered b) (group a.number)).stopped ∙ running))
           (λ x is. ap (λ (m : Member). is_marked x m.noticed) there ∙ (ap (λ k. nat_eq k x || is_marked x (group a.number).noticed) (numbered_is b rise.1) ∙ later x is)),
     )
   where

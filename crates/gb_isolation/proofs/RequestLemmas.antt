@@ -114,7 +114,7 @@ module _ (plan : NodePlan) (versions : List Version) (g : Addr) (past : List Hap
       (subst (λ (v : View). Goes (bounds_with plan versions) g plan.me frames_from v group (record { node = plan.me; event = Tenant (reserve_of row) } ∷ [])) (sym later)
       (goes_one (bounds_with plan versions) g plan.me frames_from (record before { reserve = Some (reserve_of row) }) group (Tenant (reserve_of row)) tt (record {
         reserve = refl;
-        told = same_member before.told (group plan.me.number) (member_after (bounds_with plan versions) g.group plan.me (Tenant (reserve_of row)) group) refl refl refl fits.told;
+        told = same_member before.told (group plan.me.number) (member_after (bounds_with plan versions) g plan.me (Tenant (reserve_of row)) group) refl refl refl fits.told;
         inside = fits.inside;
         put = fits.put;
         taken = fits.taken;

@@ -48,7 +48,7 @@ module _ (isolated : GroupsAreIsolated) (behave : AllBehave) (plan : Plan) (run 
   bounds = bounds_of plan
 
   abbrev group : Group
-  group = alone bounds g.group (project plan g run)
+  group = alone bounds g (project plan g run)
 
   few : nodes ≤ NODES
   few = (stays plan run v comes).right.few
@@ -80,7 +80,7 @@ module _ (isolated : GroupsAreIsolated) (behave : AllBehave) (plan : Plan) (run 
   alike_then = isolated plan settled.earlier was.0 was.1 g fed_then
 
   -- the node with a member's number made the group, and so all members are nodes of the cluster
-  made_at_node : (a : ℕ) → is_member spec a ≡ true → (alone bounds g.group (project plan g settled.earlier) (node_numbered a).number).spec ≡ Some spec
+  made_at_node : (a : ℕ) → is_member spec a ≡ true → (alone bounds g (project plan g settled.earlier) (node_numbered a).number).spec ≡ Some spec
   made_at_node a in_a = (behaved.fits (node_numbered a) (made_inside plan g settled.earlier was.0 was.1 (node_numbered a) spec (settled.made a in_a))).spec ∙ settled.made a in_a
 
   within : (a : ℕ) → is_member spec a ≡ true → a < nodes
@@ -92,19 +92,19 @@ module _ (isolated : GroupsAreIsolated) (behave : AllBehave) (plan : Plan) (run 
   there : (a : ℕ) → is_member spec a ≡ true → (node_numbered a).number < nodes
   there a in_a = subst (λ k. k < nodes) (sym (is_number a in_a)) (within a in_a)
 
-  made_before : (a : ℕ) → is_member spec a ≡ true → (alone bounds g.group (project plan g settled.earlier) a).spec ≡ Some spec
-  made_before a in_a = ap (λ k. (alone bounds g.group (project plan g settled.earlier) k).spec) (sym (is_number a in_a)) ∙ made_at_node a in_a
+  made_before : (a : ℕ) → is_member spec a ≡ true → (alone bounds g (project plan g settled.earlier) a).spec ≡ Some spec
+  made_before a in_a = ap (λ k. (alone bounds g (project plan g settled.earlier) k).spec) (sym (is_number a in_a)) ∙ made_at_node a in_a
 
-  silent_before : (s : ℕ) → accepted bounds g.group (project plan g settled.earlier) s ≡ []
+  silent_before : (s : ℕ) → accepted bounds g (project plan g settled.earlier) s ≡ []
   silent_before s = go (nat_lt s nodes) refl
     where
-      go : (t : Bool) → nat_lt s nodes ≡ t → accepted bounds g.group (project plan g settled.earlier) s ≡ []
+      go : (t : Bool) → nat_lt s nodes ≡ t → accepted bounds g (project plan g settled.earlier) s ≡ []
       go true e =
           let low : s < nodes = grind (arith, nat_tests, e) in
           accepted_same plan settled.earlier was.0 g few alike_then s low ∙ settled.silent s low
       go false e =
           let beyond : nodes ≤ s = grind (arith, nat_tests, e) in
-          none_beyond bounds g.group s beyond (project plan g settled.earlier) nobody (λ a sp is. absurd (cc))
+          none_beyond bounds g s beyond (project plan g settled.earlier) nobody (λ a sp is. absurd (cc))
 
   goes_on : Continues plan g settled.later settled.earlier
   goes_on = project_continues plan g settled.later settled.earlier
@@ -116,12 +116,12 @@ module _ (isolated : GroupsAreIsolated) (behave : AllBehave) (plan : Plan) (run 
 
   made : (a : ℕ) → is_member spec a ≡ true → (group a).spec ≡ Some spec
   made a in_a =
-      ap (λ (events : List GroupStep). (alone bounds g.group events a).spec) split
-      ∙ (ap (λ (h : Group). (h a).spec) (fold-append (after bounds g.group) nobody (project plan g settled.earlier) goes_on.rest)
-      ∙ made_stays bounds g.group goes_on.rest (alone bounds g.group (project plan g settled.earlier)) parts.1 (run_flows bounds g.group (project plan g settled.earlier) nobody parts.0 nobody_flows) a spec (made_before a in_a))
+      ap (λ (events : List GroupStep). (alone bounds g events a).spec) split
+      ∙ (ap (λ (h : Group). (h a).spec) (fold-append (after bounds g) nobody (project plan g settled.earlier) goes_on.rest)
+      ∙ made_stays bounds g goes_on.rest (alone bounds g (project plan g settled.earlier)) parts.1 (run_flows bounds g (project plan g settled.earlier) nobody parts.0 nobody_flows) a spec (made_before a in_a))
     where
-      parts : IsLegal bounds g.group (project plan g settled.earlier) × IsLegalFrom bounds g.group (alone bounds g.group (project plan g settled.earlier)) goes_on.rest
-      parts = legal_parts bounds g.group (project plan g settled.earlier) goes_on.rest nobody (subst (λ (events : List GroupStep). IsLegal bounds g.group events) split behaves.legal)
+      parts : IsLegal bounds g (project plan g settled.earlier) × IsLegalFrom bounds g (alone bounds g (project plan g settled.earlier)) goes_on.rest
+      parts = legal_parts bounds g (project plan g settled.earlier) goes_on.rest nobody (subst (λ (events : List GroupStep). IsLegal bounds g events) split behaves.legal)
 
   made_now : (a : ℕ) → is_member spec a ≡ true → made_there g run a ≡ Some spec
   made_now a in_a = sym (behaves.fits (node_numbered a) (there a in_a)).spec ∙ (ap (λ k. (group k).spec) (is_number a in_a) ∙ made a in_a)
@@ -179,7 +179,7 @@ module _ (isolated : GroupsAreIsolated) (behave : AllBehave) (plan : Plan) (run 
       go true h = let e = noticed_seen a (group a) spec (made a in_a) (told a) (is_noticed_in plan run (node_numbered a)) (marks a in_a) b h in let f = settled.unnoticed a b in_a run_b in absurd (cc)
       go false h = refl
 
-  settled_alone : IsSettled bounds g.group (project plan g run) runs spec
+  settled_alone : IsSettled bounds g (project plan g run) runs spec
   settled_alone = record {
     earlier = project plan g settled.earlier;
     later = goes_on.rest;
@@ -200,8 +200,8 @@ module _ (isolated : GroupsAreIsolated) (behave : AllBehave) (plan : Plan) (run 
 
   run_agrees : IsAgreed → AreEnough runs spec → KeepsAgreement (accepted_there plan g run) (log_seen plan run v g) runs spec
   run_agrees law enough =
-      agreement_seen (accepted bounds g.group (project plan g run)) (accepted_there plan g run) (logs_of group) (log_seen plan run v g) runs spec (λ a in_a. accepted_same plan run v g few alike a (within a in_a)) log_same
-      (law bounds g.group (project plan g run) behaves.legal runs spec settled_alone enough)
+      agreement_seen (accepted bounds g (project plan g run)) (accepted_there plan g run) (logs_of group) (log_seen plan run v g) runs spec (λ a in_a. accepted_same plan run v g few alike a (within a in_a)) log_same
+      (law bounds g (project plan g run) behaves.legal runs spec settled_alone enough)
 
 pub all_agreed : IsAgreed → GroupsAreIsolated → AllBehave → SettledGroupsAgree
 all_agreed law isolated behave plan run v comes g fed runs spec settled enough = run_agrees isolated behave plan run v comes g fed runs spec settled law enough

@@ -36,19 +36,19 @@ pub record DutyLaws : Type 0 where
   pub members : DeliveredAreOfMembers
   pub logged : LoggedAreDelivered
 
-module _ (plan : Plan) (run : List Did) (v : ClusterValue) (g : Addr) (few : plan.nodes ≤ NODES) (least : SILENCE_MIN ≤ plan.silence) (alike : IsIsolated plan run v g) (behaves : BehavesAlone plan g run) (told : AllMarked (alone (bounds_of plan) g.group (project plan g run))) where
+module _ (plan : Plan) (run : List Did) (v : ClusterValue) (g : Addr) (few : plan.nodes ≤ NODES) (least : SILENCE_MIN ≤ plan.silence) (alike : IsIsolated plan run v g) (behaves : BehavesAlone plan g run) (told : AllMarked (alone (bounds_of plan) g (project plan g run))) where
   abbrev group : Group
-  group = alone (bounds_of plan) g.group (project plan g run)
+  group = alone (bounds_of plan) g (project plan g run)
 
   -- members are nodes of the cluster
-  pub inside : (b : ℕ) (spec : Spec) → (alone (bounds_of plan) g.group (project plan g run) b).spec ≡ Some spec → (c : ℕ) → is_member spec c ≡ true → c < plan.nodes
-  inside b spec made c in_c = (run_inside (bounds_of plan) g.group (project plan g run) nobody (λ a s is. absurd (cc)) b spec made).1 c in_c
+  pub inside : (b : ℕ) (spec : Spec) → (alone (bounds_of plan) g (project plan g run) b).spec ≡ Some spec → (c : ℕ) → is_member spec c ≡ true → c < plan.nodes
+  inside b spec made c in_c = (run_inside (bounds_of plan) g (project plan g run) nobody (λ a s is. absurd (cc)) b spec made).1 c in_c
 
   module _ (b : NodeId) (in_b : b.number < plan.nodes) (spec : Spec) (made_there : made_with g (past_at b run) ≡ Some spec) where
-    pub made : (alone (bounds_of plan) g.group (project plan g run) b.number).spec ≡ Some spec
+    pub made : (alone (bounds_of plan) g (project plan g run) b.number).spec ≡ Some spec
     made = (behaves.fits b in_b).spec ∙ made_there
 
-    pub noticed_is : (c : ℕ) → is_marked c (alone (bounds_of plan) g.group (project plan g run) b.number).noticed ≡ (is_other spec b.number c && is_noticed_in plan run b c)
+    pub noticed_is : (c : ℕ) → is_marked c (alone (bounds_of plan) g (project plan g run) b.number).noticed ≡ (is_other spec b.number c && is_noticed_in plan run b c)
     noticed_is c =
         (behaves.fits b in_b).noticed c
         ∙ (ap (λ (o : Option Spec). is_concerned b.number c o && set.contains (noticed_after (node_plan plan b) (past_at b run)) c) made_there
@@ -67,8 +67,8 @@ module _ (plan : Plan) (run : List Did) (v : ClusterValue) (g : Addr) (few : pla
 
     delivered : DutyLaws → is_gone (group b.number).phase ≡ false → KeepsRunDuties plan run v g b spec (delivered_at spec b.number (group b.number))
     delivered laws here =
-        seen here (delivered_at spec b.number (group b.number)) (laws.members (bounds_of plan) g.group (project plan g run) b.number spec made)
-        ((laws.dutiful (bounds_of plan) g.group (project plan g run) alike.legal).delivered b.number spec (ap (λ (gone : Bool). if gone then None else (group b.number).spec) here ∙ made))
+        seen here (delivered_at spec b.number (group b.number)) (laws.members (bounds_of plan) g (project plan g run) b.number spec made)
+        ((laws.dutiful (bounds_of plan) g (project plan g run) alike.legal).delivered b.number spec (ap (λ (gone : Bool). if gone then None else (group b.number).spec) here ∙ made))
 
     logged : DutyLaws → KeepsRunDuties plan run v g b spec (has (seen_in plan run v g b b).log)
     logged laws = record {
@@ -77,7 +77,7 @@ module _ (plan : Plan) (run : List Did) (v : ClusterValue) (g : Addr) (few : pla
     }
       where
         there : (m : MsgId) → has (seen_in plan run v g b b).log m ≡ true → (is_gone (group b.number).phase ≡ false) × (delivered_at spec b.number (group b.number) m ≡ true)
-        there m h = laws.logged (bounds_of plan) g.group (project plan g run) b.number spec made m (ap (λ (s : Seen). has s.log m) (sym (alike.same b b in_b in_b)) ∙ h)
+        there m h = laws.logged (bounds_of plan) g (project plan g run) b.number spec made m (ap (λ (s : Seen). has s.log m) (sym (alike.same b b in_b in_b)) ∙ h)
 
   run_duties : DutyLaws → RunDuties plan run v g
   run_duties laws = record {

@@ -125,7 +125,7 @@ pub record Laws : Type 0 where
 
 module _ (laws : Laws) (plan : Plan) (g : Addr) (run : List Did) (before : ClusterValue) (comes : ComesTo plan run before) (was : BehavesAlone plan g run) where
   abbrev group : Group
-  group = alone (bounds_of plan) g.group (project plan g run)
+  group = alone (bounds_of plan) g (project plan g run)
 
   few : plan.nodes ≤ NODES
   few = (stays plan run before comes).right.few
@@ -139,13 +139,13 @@ module _ (laws : Laws) (plan : Plan) (g : Addr) (run : List Did) (before : Clust
   unsaid a within t there b in_b =
       none_of_front (is_message a.number (said_in t.calls + 1)) (group_items_of g (frames_to plan.cluster_key b (past_at a run))) (waiting_of (told_of (node_plan plan a) g (past_at a run)) b)
       (ap (list_any (is_message a.number (said_in t.calls + 1))) (sym ((was.fits a within).put b in_b))
-      ∙ none_beyond_accepted (accepted (bounds_of plan) g.group (project plan g run)) a.number (said_in t.calls + 1) ((group a.number).put b) low ((is_integral (bounds_of plan) g.group (project plan g run) was.legal).items a.number b))
+      ∙ none_beyond_accepted (accepted (bounds_of plan) g (project plan g run)) a.number (said_in t.calls + 1) ((group a.number).put b) low ((is_integral (bounds_of plan) g (project plan g run) was.legal).items a.number b))
     where
       st : IsThere t (group a.number)
       st = subst (λ o. MemberIs o (group a.number)) there (was.fits a within).told
 
-      low : length (accepted (bounds_of plan) g.group (project plan g run) a.number) < said_in t.calls + 1
-      low = omega (arith, ap said_in st.calls, ap length (alone_said (bounds_of plan) g.group a.number (project plan g run)), length-own_said (group a.number).told)
+      low : length (accepted (bounds_of plan) g (project plan g run) a.number) < said_in t.calls + 1
+      low = omega (arith, ap said_in st.calls, ap length (alone_said (bounds_of plan) g a.number (project plan g run)), length-own_said (group a.number).told)
 
   -- what an event gives the group
   step_goes : (a : NodeId) (e : NodeEvent) (x : NodeAnswer) (v : ClusterValue) → a.number < plan.nodes → ComesTo plan (record { node = a; event = e; answer = x } ∷ run) v → IsAnswered (node_plan plan a) (past_at a run) e x
@@ -204,7 +204,7 @@ module _ (laws : Laws) (plan : Plan) (g : Addr) (run : List Did) (before : Clust
       → BehavesAlone plan g (record { node = a; event = e; answer = x } ∷ run)
   unfolding project ComesTo frames_to
   goes_further a e x v goes fed = record {
-    legal = legal-append (bounds_of plan) g.group nobody (project plan g run) (gives plan g run a e x) was.legal happens.legal;
+    legal = legal-append (bounds_of plan) g nobody (project plan g run) (gives plan g run a e x) was.legal happens.legal;
     fits = λ b inside. subst (λ (q : Group). Fits plan.nodes g b.number (frames_for plan (d ∷ run) b) (view_at plan g (d ∷ run) b) (q b.number)) (sym on) (by b inside (cases_eq a.number b.number));
   }
     where
@@ -212,10 +212,10 @@ module _ (laws : Laws) (plan : Plan) (g : Addr) (run : List Did) (before : Clust
       d = record { node = a; event = e; answer = x }
 
       later : Group
-      later = alone_from (bounds_of plan) g.group group (gives plan g run a e x)
+      later = alone_from (bounds_of plan) g group (gives plan g run a e x)
 
-      on : alone (bounds_of plan) g.group (project plan g run ++ gives plan g run a e x) ≡ later
-      on = fold-append (after (bounds_of plan) g.group) nobody (project plan g run) (gives plan g run a e x)
+      on : alone (bounds_of plan) g (project plan g run ++ gives plan g run a e x) ≡ later
+      on = fold-append (after (bounds_of plan) g) nobody (project plan g run) (gives plan g run a e x)
 
       kept : Stays plan goes.0
       kept = stays plan run goes.0 goes.1

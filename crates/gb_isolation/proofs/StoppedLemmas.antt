@@ -36,17 +36,17 @@ pub record IsCommand (g : Addr) (a : NodeId) (request : Request) : Type 0 where
   pub event : GroupEvent
   pub one : command_for g a request ≡ record { node = a; event = event } ∷ []
   pub may : (group : Group) → MayHappen a event group
-  pub replied : (bounds : Bounds) (number : ℕ) (group : Group) → member_after bounds number a event group ≡ commanded a event (reply_to bounds number a.number event (group a.number)) (group a.number)
+  pub replied : (bounds : Bounds) (addr : Addr) (group : Group) → member_after bounds addr a event group ≡ commanded a event (reply_to bounds addr a.number event (group a.number)) (group a.number)
   pub nothing : (m : Member) → did a event refused m ≡ m
 
 pub command_named : (g : Addr) (a : NodeId) (request : Request) → is_named g request ≡ true → IsCommand g a request
 command_named g a (AddTenant token row) named = absurd (cc)
-command_named g a (Make token addr spec) named = record { event = AskMake spec; one = refl; may = λ group. tt; replied = λ bounds number group. refl; nothing = λ m. refl }
-command_named g a (OpenGroup token addr) named = record { event = AskOpen; one = refl; may = λ group. tt; replied = λ bounds number group. refl; nothing = λ m. refl }
-command_named g a (ShutGroup token addr) named = record { event = AskShut; one = refl; may = λ group. tt; replied = λ bounds number group. refl; nothing = λ m. refl }
-command_named g a (DropGroup token addr) named = record { event = AskDrop; one = refl; may = λ group. tt; replied = λ bounds number group. refl; nothing = λ m. refl }
-command_named g a (Say token addr message) named = record { event = AskSay message; one = refl; may = λ group. tt; replied = λ bounds number group. refl; nothing = λ m. refl }
-command_named g a (Fetch token addr from most) named = record { event = AskFetch from most; one = refl; may = λ group. tt; replied = λ bounds number group. refl; nothing = λ m. refl }
+command_named g a (Make token addr spec) named = record { event = AskMake spec; one = refl; may = λ group. tt; replied = λ bounds addr group. refl; nothing = λ m. refl }
+command_named g a (OpenGroup token addr) named = record { event = AskOpen; one = refl; may = λ group. tt; replied = λ bounds addr group. refl; nothing = λ m. refl }
+command_named g a (ShutGroup token addr) named = record { event = AskShut; one = refl; may = λ group. tt; replied = λ bounds addr group. refl; nothing = λ m. refl }
+command_named g a (DropGroup token addr) named = record { event = AskDrop; one = refl; may = λ group. tt; replied = λ bounds addr group. refl; nothing = λ m. refl }
+command_named g a (Say token addr message) named = record { event = AskSay message; one = refl; may = λ group. tt; replied = λ bounds addr group. refl; nothing = λ m. refl }
+command_named g a (Fetch token addr from most) named = record { event = AskFetch from most; one = refl; may = λ group. tt; replied = λ bounds addr group. refl; nothing = λ m. refl }
 
 -- The group alone at a node that has stopped.
 
@@ -55,7 +55,7 @@ module _ (bounds : Bounds) (g : Addr) (a : NodeId) (frames_from : ℕ → List (
   stop_goes : (v : View) (group : Group) → Fits bounds.nodes g a.number frames_from v (group a.number) → Goes bounds g a frames_from (record v { met = true }) group (record { node = a; event = Stop } ∷ [])
   stop_goes v group fits = goes_one bounds g a frames_from (record v { met = true }) group Stop tt (record {
     reserve = fits.reserve;
-    told = same_member v.told (group a.number) (member_after bounds g.group a Stop group) refl refl refl fits.told;
+    told = same_member v.told (group a.number) (member_after bounds g a Stop group) refl refl refl fits.told;
     inside = fits.inside;
     put = fits.put;
     taken = fits.taken;
@@ -89,10 +89,10 @@ module _ (bounds : Bounds) (g : Addr) (a : NodeId) (frames_from : ℕ → List (
       next : Member
       next = let m = group a.number in record m { replies = m.replies ++ refused ∷ [] }
 
-      left : member_after bounds g.group a c.event group ≡ next
+      left : member_after bounds g a c.event group ≡ next
       left =
-          c.replied bounds g.group group
-          ∙ (ap (λ (b : Bool). commanded a c.event (if b then refused else running_reply bounds g.group a.number c.event (group a.number)) (group a.number)) (fits.stopped ∙ met)
+          c.replied bounds g group
+          ∙ (ap (λ (b : Bool). commanded a c.event (if b then refused else running_reply bounds g a.number c.event (group a.number)) (group a.number)) (fits.stopped ∙ met)
           ∙ ap (λ (m : Member). record m { replies = (group a.number).replies ++ refused ∷ [] }) (c.nothing (group a.number)))
 
   -- the first command meets the stop
@@ -103,7 +103,7 @@ module _ (bounds : Bounds) (g : Addr) (a : NodeId) (frames_from : ℕ → List (
   meets request c v group fits false met =
       let stops = stop_goes v group fits in
       goes_on bounds g a frames_from (record v { met = true }) (record v { replies = v.replies ++ refused ∷ []; met = true }) group (record { node = a; event = Stop } ∷ []) (record { node = a; event = c.event } ∷ []) stops
-      (refused_goes request c (record v { met = true }) (alone_from bounds g.group group (record { node = a; event = Stop } ∷ [])) refl stops.there)
+      (refused_goes request c (record v { met = true }) (alone_from bounds g group (record { node = a; event = Stop } ∷ [])) refl stops.there)
 
 -- The node.
 

@@ -180,9 +180,9 @@ module _ (plan : NodePlan) (versions : List Version) (g : Addr) (past : List Hap
 
   goes_made : (spec : Spec) → v.made ≡ Some spec → Goes (bounds_with plan versions) g plan.me frames_from (view_ticked plan.me found v) group (notices_of plan.me (bs spec))
   goes_made spec is = record {
-    legal = notices_legal (bounds_with plan versions) g.group plan.me 0 (bs spec) group (passing_rising (test spec) 0 NODES (omega arith)) (was.stopped ∙ running_unmet plan g past right.running) fresh;
-    elsewhere = λ x other. notices_elsewhere (bounds_with plan versions) g.group plan.me (bs spec) group x other;
-    there = subst (Fits plan.nodes g plan.me.number frames_from (view_ticked plan.me found v)) (sym (notices_there (bounds_with plan versions) g.group plan.me (bs spec) group)) (record {
+    legal = notices_legal (bounds_with plan versions) g plan.me 0 (bs spec) group (passing_rising (test spec) 0 NODES (omega arith)) (was.stopped ∙ running_unmet plan g past right.running) fresh;
+    elsewhere = λ x other. notices_elsewhere (bounds_with plan versions) g plan.me (bs spec) group x other;
+    there = subst (Fits plan.nodes g plan.me.number frames_from (view_ticked plan.me found v)) (sym (notices_there (bounds_with plan versions) g plan.me (bs spec) group)) (record {
       reserve = keeps.reserve ∙ was.reserve;
       told = now.told;
       inside = now.inside;

@@ -23,17 +23,17 @@ use Rattle.gb_isolation.proofs.GivenLemmas.{AllAre, IsAt, all_both, all_weaker, 
 use Rattle.gb_isolation.proofs.MomentLemmas.{placed}
 
 -- A group alone reads the versions of those nodes alone at which its events happen.
-module _ (bounds other : Bounds) (number : ℕ) (size : bounds.nodes ≡ other.nodes) where
+module _ (bounds other : Bounds) (addr : Addr) (size : bounds.nodes ≡ other.nodes) where
   -- a node sends the same version under both
   abbrev IsSameAt : ℕ → Type 0
   IsSameAt a = version_at bounds.versions a ≡ version_at other.versions a
 
-  same_reply : (me : ℕ) → IsSameAt me → (e : GroupEvent) (m : Member) → running_reply bounds number me e m ≡ running_reply other number me e m
-  same_reply me same (AskMake spec) m = ap (λ nodes. by_tenant (make_answer nodes me number (is_some m.spec) spec) m.reserve) size
+  same_reply : (me : ℕ) → IsSameAt me → (e : GroupEvent) (m : Member) → running_reply bounds addr me e m ≡ running_reply other addr me e m
+  same_reply me same (AskMake spec) m = ap (λ nodes. by_tenant (make_answer nodes me addr (is_some m.spec) spec) m.reserve) size
   same_reply me same (AskSay message) m = ap (λ version. on_group (λ s. say_answer version s message) me m) same
   same_reply me same e m = refl
 
-  same_member : (me : NodeId) → IsSameAt me.number → (e : GroupEvent) (group : Group) → member_after bounds number me e group ≡ member_after other number me e group
+  same_member : (me : NodeId) → IsSameAt me.number → (e : GroupEvent) (group : Group) → member_after bounds addr me e group ≡ member_after other addr me e group
   same_member me same (Tenant reserve) group = refl
   same_member me same (Took b count) group = refl
   same_member me same (Came from place) group = let m : Member = group me.number in let item = slice_get ((group from.number).put me.number) (place - 1) in ap (λ version. taken_in version me.number from place item m) same
@@ -42,13 +42,13 @@ module _ (bounds other : Bounds) (number : ℕ) (size : bounds.nodes ≡ other.n
   same_member me same Stop group = refl
   same_member me same e group = ap (λ r. commanded me e (if (group me.number).stopped then Refused Stopped else r) (group me.number)) (same_reply me.number same e (group me.number))
 
-  same_after : (group : Group) (step : GroupStep) → IsSameAt step.node.number → after bounds number group step ≡ after other number group step
+  same_after : (group : Group) (step : GroupStep) → IsSameAt step.node.number → after bounds addr group step ≡ after other addr group step
   unfolding after
   same_after group step same = λ i x. if nat_eq x step.node.number then same_member step.node same step.event group i else group x
 
-  same_from : (group : Group) (steps : List GroupStep) → AllAre (λ step. IsSameAt step.node.number) steps → alone_from bounds number group steps ≡ alone_from other number group steps
+  same_from : (group : Group) (steps : List GroupStep) → AllAre (λ step. IsSameAt step.node.number) steps → alone_from bounds addr group steps ≡ alone_from other addr group steps
   same_from group [] all = refl
-  same_from group (step ∷ steps) all = ap (λ q. alone_from bounds number q steps) (same_after group step all.0) ∙ same_from (after other number group step) steps all.1
+  same_from group (step ∷ steps) all = ap (λ q. alone_from bounds addr q steps) (same_after group step all.0) ∙ same_from (after other addr group step) steps all.1
 
 -- what concerns a group in a run happens at nodes of the cluster
 all_placed : (plan : Plan) (g : Addr) (run : List Did) (v : ClusterValue) → ComesTo plan run v → AllAre (λ step. step.node.number < plan.nodes) (project plan g run)
@@ -73,8 +73,8 @@ alike isolated plan run v comes g fed other that w goes served bounds events a b
     steps : List GroupStep
     steps = project plan g run
 
-    same : alone (bounds_of plan) g.group steps ≡ alone (bounds_of other) g.group (project other g that)
+    same : alone (bounds_of plan) g steps ≡ alone (bounds_of other) g (project other g that)
     same =
-        same_from (bounds_of plan) (bounds_of other) g.group bounds.nodes nobody steps
+        same_from (bounds_of plan) (bounds_of other) g bounds.nodes nobody steps
         (all_weaker (λ step. step.node.number < plan.nodes) (λ step. version_at plan.versions step.node.number ≡ version_at other.versions step.node.number) (λ step low. bounds.versions step.node.number low) steps (all_placed plan g run v comes))
-        ∙ ap (alone (bounds_of other) g.group) events
+        ∙ ap (alone (bounds_of other) g) events

@@ -138,9 +138,9 @@ bounds_with plan versions = record { nodes = plan.nodes; versions = versions }
 
 -- What events give a group at a node: they may happen, after them the view is the group's there, and nothing else has changed.
 pub record Goes (bounds : Bounds) (g : Addr) (a : NodeId) (frames_from : ℕ → List (List Item)) (v : View) (group : Group) (given : List GroupStep) : Type 0 where
-  pub legal : IsLegalFrom bounds g.group group given
-  pub elsewhere : (x : ℕ) → x ≢ a.number → alone_from bounds g.group group given x ≡ group x
-  pub there : Fits bounds.nodes g a.number frames_from v (alone_from bounds g.group group given a.number)
+  pub legal : IsLegalFrom bounds g group given
+  pub elsewhere : (x : ℕ) → x ≢ a.number → alone_from bounds g group given x ≡ group x
+  pub there : Fits bounds.nodes g a.number frames_from v (alone_from bounds g group given a.number)
 
 -- The whole cluster.
 
@@ -156,8 +156,8 @@ abbrev pub AllFit : Plan → Addr → List Did → Group → Type 0
 AllFit plan g run group = (a : NodeId) → a.number < plan.nodes → Fits plan.nodes g a.number (frames_for plan run a) (view_at plan g run a) (group a.number)
 
 pub record BehavesAlone (plan : Plan) (g : Addr) (run : List Did) : Type 0 where
-  pub legal : IsLegal (bounds_of plan) g.group (project plan g run)
-  pub fits : AllFit plan g run (alone (bounds_of plan) g.group (project plan g run))
+  pub legal : IsLegal (bounds_of plan) g (project plan g run)
+  pub fits : AllFit plan g run (alone (bounds_of plan) g (project plan g run))
 
 -- Requests, by the plan of a node.
 

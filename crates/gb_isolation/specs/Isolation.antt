@@ -28,7 +28,7 @@ use Rattle.gb_isolation.specs.Project.{project, group_items, group_items_of, rep
 
 -- the group alone, of what concerns it in the run
 abbrev pub alone_in : Plan → Addr → List Did → Group
-alone_in plan g run = alone (bounds_of plan) g.group (project plan g run)
+alone_in plan g run = alone (bounds_of plan) g (project plan g run)
 
 -- the messages of the group alone that are carried from one node to another, in order
 abbrev pub carried_alone : Plan → Addr → List Did → ℕ → ℕ → List Entry
@@ -37,7 +37,7 @@ carried_alone plan g run a b = let m = alone_in plan g run a in take (m.taken b)
 -- What a run shows of a group, in events, answers and packets, is what the group has alone. Nothing is read from a node.
 pub record IsSeenAlone (plan : Plan) (run : List Did) (g : Addr) : Type 0 where
   -- what concerns it is a legal list of events of the group by itself
-  pub legal : IsLegal (bounds_of plan) g.group (project plan g run)
+  pub legal : IsLegal (bounds_of plan) g (project plan g run)
   -- the replies to its commands at each node
   pub replies : (a : NodeId) → a.number < plan.nodes → replies_in a g (past_at a run) ≡ (alone_in plan g run a.number).replies
   -- its items in the packets from each node to each, just as they stand there
@@ -77,7 +77,7 @@ AreSpelt g frame = items_for g frame ≡ map (item_for g) (group_items g frame)
 
 -- the projection of the run is legal, and what is seen of the group is what the projection makes of it alone
 pub record IsIsolated (plan : Plan) (run : List Did) (v : ClusterValue) (g : Addr) : Type 0 where
-  pub legal : IsLegal (bounds_of plan) g.group (project plan g run)
+  pub legal : IsLegal (bounds_of plan) g (project plan g run)
   pub same : (a b : NodeId) → a.number < plan.nodes → b.number < plan.nodes → seen_in plan run v g a b ≡ seen_alone (alone_in plan g run) a.number b.number
   -- what is seen of an item that is carried is all that its frame says of it
   pub spelt : (a b : NodeId) → a.number < plan.nodes → b.number < plan.nodes → All (AreSpelt g) (frames_to plan.cluster_key b.number (past_at a run))

@@ -147,7 +147,7 @@ SettledGroupsAgree = OfGroupsInRuns RunAgreement
 
 -- what the group alone answers to a request to fetch its log at a running node
 abbrev pub fetched_alone : Plan → List Did → Addr → NodeId → ℕ → ℕ → Reply
-fetched_alone plan run g a from most = running_reply (bounds_of plan) g.group a.number (AskFetch from most) (alone_in plan g run a.number)
+fetched_alone plan run g a from most = running_reply (bounds_of plan) g a.number (AskFetch from most) (alone_in plan g run a.number)
 
 -- The run may go on by a request to fetch the group's log, at any running node, with the token that it needs: the answer is that of the group alone, and the cluster stays as it is.
 abbrev pub MayBeFetched : Plan → List Did → ClusterValue → Addr → Type 0

@@ -92,12 +92,12 @@ did_for law noticed g (Fetch token addr from most) (Log entries) t = refl
 did_for law noticed g (Fetch token addr from most) (Refused why) t = refl
 
 -- a group is made only under an address that was never used
-free : (nodes me number : ℕ) (spec : Spec) (place : Option ℕ) (admitted : Bool) (reserve : Option Reserve)
-    → Done ≡ (if admitted then by_tenant (make_answer nodes me number (is_some place) spec) reserve else Refused Denied) → place ≡ None
-free nodes me number spec place false reserve e = absurd (cc)
-free nodes me number spec place true None e = absurd (cc)
-free nodes me number spec None true (Some reserve) e = refl
-free nodes me number spec (Some p) true (Some reserve) e = absurd (by (nat_le reserve.groups number) e)
+free : (nodes me : ℕ) (addr : Addr) (spec : Spec) (place : Option ℕ) (admitted : Bool) (reserve : Option Reserve)
+    → Done ≡ (if admitted then by_tenant (make_answer nodes me addr (is_some place) spec) reserve else Refused Denied) → place ≡ None
+free nodes me addr spec place false reserve e = absurd (cc)
+free nodes me addr spec place true None e = absurd (cc)
+free nodes me addr spec None true (Some reserve) e = refl
+free nodes me addr spec (Some p) true (Some reserve) e = absurd (by (nat_le reserve.groups addr.group) e)
   where
     by : (a : Bool) → Done ≡ (if a then Refused NoGroup else Refused Spent) → ⊥
     by true e = cc
@@ -108,7 +108,7 @@ did_apart law noticed (AddTenant token row) Done t is ok = ok
 did_apart law noticed (AddTenant token row) (Said seq) t is ok = ok
 did_apart law noticed (AddTenant token row) (Log entries) t is ok = ok
 did_apart law noticed (AddTenant token row) (Refused why) t is ok = ok
-did_apart law noticed (Make token addr spec) Done t is ok = law.appended t.groups.rows (record { addr = addr; slot = Some (new_slot spec t.me noticed) }) ok (free t.nodes t.me.number addr.group spec (place_of addr t.groups.rows) (is_admitted (Make token addr spec) t) (reserve_for addr.tenant t) is)
+did_apart law noticed (Make token addr spec) Done t is ok = law.appended t.groups.rows (record { addr = addr; slot = Some (new_slot spec t.me noticed) }) ok (free t.nodes t.me.number addr spec (place_of addr t.groups.rows) (is_admitted (Make token addr spec) t) (reserve_for addr.tenant t) is)
 did_apart law noticed (Make token addr spec) (Said seq) t is ok = ok
 did_apart law noticed (Make token addr spec) (Log entries) t is ok = ok
 did_apart law noticed (Make token addr spec) (Refused why) t is ok = ok

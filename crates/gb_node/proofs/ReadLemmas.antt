@@ -1,6 +1,6 @@
 -- Events that only read, and what the answers to the others hold.
 use Rattle.std.proofs.Common.{◌≡◌, ℕ, ◌≤◌, ◌⊎◌, inl, inr, Bool, true, false, List, length, Option, Some, None, refl, sym, ap, subst, ◌∙◌, arith}
-use Rattle.std.specs.Prelude.{◌+◌, nat_lt, nat_le, option_map, if◌then◌else◌, IfSome}
+use Rattle.std.specs.Prelude.{◌+◌, nat_lt, nat_le, option_map, if◌then◌else◌, IfSome, ◌||◌}
 use Rattle.std.specs.FinSet as set
 use Rattle.std.specs.Ordering.{nat_cmp}
 use Rattle.std.proofs.lemmas.Bool.{true≢false, false≢true}
@@ -86,12 +86,12 @@ tenant_within places before there row =
     let fresh : Reply = if there then Refused TenantThere else room in
     within_if (is_over_limits row) (Refused OverReserve) fresh tt (within_if there (Refused TenantThere) room tt (within_if (nat_lt places (before + row.groups)) (Refused NoRoom) Done tt tt))
 
-make_within : (nodes me number : ℕ) (made : Bool) (spec : Spec) (reserve : Reserve) → IsReplyWithin (make_answer nodes me number made spec reserve)
-make_within nodes me number made spec reserve =
-    let enough : Reply = if is_over reserve spec then Refused OverReserve else Done in
+make_within : (nodes me : ℕ) (addr : Addr) (made : Bool) (spec : Spec) (reserve : Reserve) → IsReplyWithin (make_answer nodes me addr made spec reserve)
+make_within nodes me addr made spec reserve =
+    let enough : Reply = if nat_lt 0 addr.generation || is_over reserve spec then Refused OverReserve else Done in
     let good : Reply = if is_bad nodes me spec then Refused BadMembers else enough in
     let fresh : Reply = if made then Refused Spent else good in
-    within_if (nat_le reserve.groups number) (Refused NoGroup) fresh tt (within_if made (Refused Spent) good tt (within_if (is_bad nodes me spec) (Refused BadMembers) enough tt (within_if (is_over reserve spec) (Refused OverReserve) Done tt tt)))
+    within_if (nat_le reserve.groups addr.group) (Refused NoGroup) fresh tt (within_if made (Refused Spent) good tt (within_if (is_bad nodes me spec) (Refused BadMembers) enough tt (within_if (nat_lt 0 addr.generation || is_over reserve spec) (Refused OverReserve) Done tt tt)))
 
 by_within : (answer : Reserve → Reply) (o : Option Reserve) → ((r : Reserve) → IsReplyWithin (answer r)) → IsReplyWithin (by_tenant answer o)
 by_within answer None h = tt
@@ -132,7 +132,7 @@ say_within version spec Gone usage log message = tt
 
 admitted_within : (r : Request) (t : TableValue) → is_read (Asked r) ≡ false → IsReplyWithin (admitted_reply r t)
 admitted_within (AddTenant token row) t h = tenant_within _ _ _ row
-admitted_within (Make token addr spec) t h = by_within _ (reserve_for addr.tenant t) (λ r. make_within _ _ _ _ spec r)
+admitted_within (Make token addr spec) t h = by_within _ (reserve_for addr.tenant t) (λ r. make_within _ _ addr _ spec r)
 admitted_within (OpenGroup token addr) t h = at_within open_answer t.groups.rows (place_of addr t.groups.rows) (λ s. open_within s.phase)
 admitted_within (ShutGroup token addr) t h = at_within shut_answer t.groups.rows (place_of addr t.groups.rows) (λ s. shut_within s.phase)
 admitted_within (DropGroup token addr) t h = at_within drop_answer t.groups.rows (place_of addr t.groups.rows) (λ s. tt)

@@ -87,7 +87,7 @@ module _ (plan : NodePlan) (past : List Happened) (v : NodeValue) (was : IsOfPas
 
   admitted_is : (r : Request) → admitted_reply r (record (past_table plan past) { groups = v.table.groups }) ≡ admitted_answer plan past r
   admitted_is (AddTenant token row) = refl
-  admitted_is (Make token addr spec) = ap (λ made. by_tenant (make_answer plan.nodes plan.me.number addr.group made spec) (option_map reserve_of (row_of addr.tenant (tenants_in past)))) (made_is addr)
+  admitted_is (Make token addr spec) = ap (λ made. by_tenant (make_answer plan.nodes plan.me.number addr made spec) (option_map reserve_of (row_of addr.tenant (tenants_in past)))) (made_is addr)
   admitted_is (OpenGroup token addr) = at_group open_answer addr
   admitted_is (ShutGroup token addr) = at_group shut_answer addr
   admitted_is (DropGroup token addr) = at_group drop_answer addr

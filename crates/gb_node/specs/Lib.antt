@@ -9,3 +9,4 @@ pub mod Reads
 pub mod StepLaw
 pub mod SendLaw
 pub mod KeptAcks
+pub mod Listing

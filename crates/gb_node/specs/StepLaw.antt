@@ -45,7 +45,7 @@ group_answer answer (Some (Some x)) = answer x
 abbrev pub admitted_answer : NodePlan → List Happened → Request → Reply
 admitted_answer plan past (AddTenant token row) = tenant_answer plan.places (reserved (tenants_in past)) (is_some (row_of row.tenant (tenants_in past))) row
 admitted_answer plan past (Make token addr spec) =
-    by_tenant (make_answer plan.nodes plan.me.number addr.group (is_some (told_of plan addr past)) spec) (option_map reserve_of (row_of addr.tenant (tenants_in past)))
+    by_tenant (make_answer plan.nodes plan.me.number addr (is_some (told_of plan addr past)) spec) (option_map reserve_of (row_of addr.tenant (tenants_in past)))
 admitted_answer plan past (OpenGroup token addr) = group_answer open_answer (shown_in plan.me.number (told_of plan addr past))
 admitted_answer plan past (ShutGroup token addr) = group_answer shut_answer (shown_in plan.me.number (told_of plan addr past))
 admitted_answer plan past (DropGroup token addr) = group_answer drop_answer (shown_in plan.me.number (told_of plan addr past))

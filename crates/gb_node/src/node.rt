@@ -12,8 +12,11 @@ ghost use Rattle.gb_frame.specs.Room.{room_of};
 ghost use Rattle.gb_link.specs.SendWindow.{new_window, has_room, frame_again};
 ghost use Rattle.gb_groups.specs.GroupsValue.{batch};
 ghost use Rattle.gb_groups.specs.Packing.{size};
+ghost use Rattle.gb_cap.specs.declared.token.Need.TheVariants.{Admin};
+ghost use Rattle.gb_table.specs.Admission.{is_token};
 ghost use Rattle.gb_table.specs.Requests.{is_admitted};
 ghost use Rattle.gb_node.specs.Frames.{items_of_frame, IsHead};
+ghost use Rattle.gb_node.specs.Listing.{Lists};
 ghost use Rattle.gb_node.specs.NodeValue.{new_node};
 ghost use Rattle.gb_node.specs.Reads.{is_read, packet_room, IsWithin};
 ghost use Rattle.gb_node.specs.NodeStep.{window_to, is_another, is_reached, content_to, batch_to, sent_batch, read_at, good_of, node_took, IsTurn, IsSpelt, IsForReason};
@@ -26,6 +29,7 @@ use crate::packet_text::PacketText;
 use crate::plan::NodePlan;
 use crate::taking::{notice_each, take_ack, take_frame};
 use crate::window::Window;
+use gb_cap::token::Token;
 use gb_detect::detector::Detector;
 use gb_frame::fault::PacketFault;
 use gb_frame::item::count_items;
@@ -34,6 +38,7 @@ use gb_frame::packet::Head;
 use gb_frame::reading::{decode, decode_known};
 use gb_frame::view::PacketView;
 use gb_link::receiver::Receiver;
+use gb_table::listing::Listing;
 use gb_table::table::Table;
 use gb_types::limits::{NODES, PLACES, SILENCE_MAX, SILENCE_MIN};
 use gb_types::memory::OutOfMemory;
@@ -210,6 +215,25 @@ impl Node {
         }
         let noticed = self.detector.noticed();
         self.table.request(request, &noticed)
+    }
+
+    /// Returns true if this is the administrator's token.
+    pub fn is_admin(&self, token: &Token) -> bool
+        ensures { result ≡ is_token self.now.table.admin_key Admin token.now }
+    {
+        self.table.is_admin(token)
+    }
+
+    /// Lists the groups from a place on, at most `most` of them, in the order in which they were made, for who has the
+    /// administrator's token. It is no event: nothing changes. Stopped: the node has stopped. Denied: the token is another.
+    /// BadPlace: there are fewer than `from` groups, or `most` is above 64.
+    pub fn list(&self, token: &Token, from: u32, most: u32) -> Result<Listing, Refusal>
+        ensures { Lists self.now token.now from most result }
+    {
+        if self.stopped {
+            return Err(Refusal::Stopped);
+        }
+        self.table.list(token, from, most)
     }
 
     /// Whether this is another node of the cluster.

@@ -26,6 +26,7 @@ fn finish_item(table: &mut Table, by: NodeId, item: ItemView<'_>)
     let addr = Addr {
         tenant: item.tenant,
         group: item.group,
+        generation: item.generation,
     };
     let m = MsgId {
         origin,

@@ -43,6 +43,9 @@ enum Step {
 }
 
 fn open(groups: &mut Groups, addr: Addr) -> Reply {
+    if addr.generation > 0 {
+        return Reply::Refused(Refusal::OverReserve);
+    }
     let mut members = NodeSet::new();
     members.insert(FRIEND);
     members.insert(ME);
@@ -74,6 +77,7 @@ fn item(groups: &mut Groups, version: Version, group: u16, payload: &[u8]) -> Re
     let item = ItemView {
         tenant: 7,
         group,
+        generation: 0,
         origin: 1,
         seq: 1,
         payload,
@@ -83,7 +87,11 @@ fn item(groups: &mut Groups, version: Version, group: u16, payload: &[u8]) -> Re
 }
 
 fn take(groups: &mut Groups, step: Step, group: u16) -> Reply {
-    let addr = Addr { tenant: 7, group };
+    let addr = Addr {
+        tenant: 7,
+        group,
+        generation: 0,
+    };
     match step {
         Step::Open => open(groups, addr),
         Step::Say => {

@@ -11,12 +11,14 @@ use std::test::Fail;
 const BESIDE: Addr = Addr {
     tenant: 7,
     group: 0,
+    generation: 0,
 };
 
 /// A group of another tenant.
 const ELSEWHERE: Addr = Addr {
     tenant: 9,
     group: 0,
+    generation: 0,
 };
 
 /// One frame carries an item of each of three groups of two tenants, and each group gets its own, once.

@@ -37,6 +37,7 @@ pub fn node(number: u8) -> NodeId {
 pub const GROUP: Addr = Addr {
     tenant: 7,
     group: 1,
+    generation: 0,
 };
 
 /// What happens at a node.

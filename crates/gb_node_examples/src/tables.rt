@@ -85,7 +85,11 @@ fn spec(member: NodeId, msgs: u32) -> Spec {
 }
 
 fn addr(group: u16) -> Addr {
-    Addr { tenant: 7, group }
+    Addr {
+        tenant: 7,
+        group,
+        generation: 0,
+    }
 }
 
 fn request(alloc: Global, ask: Ask, token: Token) -> Result<Request, OutOfMemory> {

@@ -12,6 +12,7 @@ use std::test::Fail;
 const BESIDE: Addr = Addr {
     tenant: 7,
     group: 0,
+    generation: 0,
 };
 
 /// The longest payload of version 1, and those that are too long.

@@ -6,6 +6,10 @@
 #[cfg(test)]
 mod detector;
 #[cfg(test)]
+mod many;
+#[cfg(test)]
+mod operations;
+#[cfg(test)]
 mod packets;
 #[cfg(test)]
 mod ports;

@@ -1,4 +1,6 @@
 //! Packets: what is written and read, each fault, and each limit at its last allowed and first refused value.
+ghost use Rattle.std.specs.Prelude.{◌≡◌, ◌↔◌, All, IsTrue};
+
 use gb_cap::hmac::HmacKey;
 use gb_frame::fault::PacketFault;
 use gb_frame::item::{Item, ItemView, count_items, first_item, put_item};
@@ -89,6 +91,7 @@ fn item(alloc: Global, len: u16) -> Result<Item, OutOfMemory> {
     Ok(Item {
         tenant: 7,
         group: 1,
+        generation: 0,
         origin: 0,
         seq: 1,
         payload: Payload::from(payload),
@@ -112,9 +115,16 @@ fn packet(alloc: Global, version: Version, payloads: &[u16]) -> Result<Packet, O
     })
 }
 
+/// Whether each item is of a group's first generation.
+fn are_first(items: &[Item]) -> bool
+    ensures { IsTrue result ↔ All (λ item. item.generation ≡ 0) items.now }
+{
+    items.iter().all(|item| item.generation == 0)
+}
+
 /// The packet's text, if it can be written.
 fn written(alloc: Global, packet: &Packet) -> Result<Option<Vec<u8>>, OutOfMemory> {
-    if !packet.is_within_limits() {
+    if !packet.is_within_limits() || !are_first(&packet.items) {
         return Ok(None);
     }
     Ok(Some(encode(alloc, packet, &key())?))
@@ -235,6 +245,7 @@ fn a_frame_is_wrapped(rt: HostRuntime) -> Result<(), Fail> {
     let item = ItemView {
         tenant: 7,
         group: 1,
+        generation: 0,
         origin: 0,
         seq: 1,
         payload: b"a",

@@ -3,8 +3,10 @@ ghost use Rattle.std.specs.Prelude.{◌≡◌};
 ghost use Rattle.gb_types.specs.declared.refusal.Refusal.TheVariants as refusals;
 ghost use Rattle.gb_types.specs.declared.reply.Reply.TheVariants.{Refused};
 
-use gb_session::answers::Answers;
+use gb_session::answers::{Answers, put_refusal};
+use gb_session::operation::Operation;
 use gb_session::serve::{SessionEnd, SessionFault, serve};
+use gb_types::memory::OutOfMemory;
 use gb_types::refusal::Refusal;
 use gb_types::reply::Reply;
 use gb_types::request::Request;
@@ -18,10 +20,16 @@ use std::{cmp, io};
 struct Denies;
 
 impl Answers for Denies {
-    ghost answers = { λ s request reply t. reply ≡ Refused refusals.Denied };
+    ghost use Rattle.gb_session.specs.Answering.{IsDenied};
+
+    ghost answers = { record { replies = λ s request reply t. reply ≡ Refused refusals.Denied; tells = IsDenied } };
 
     fn answer(&mut self, _request: Request) -> Reply {
         Reply::Refused(Refusal::Denied)
+    }
+
+    fn operate(&self, _operation: Operation, out: &mut Vec<u8>) -> Result<(), OutOfMemory> {
+        put_refusal(out, Refusal::Denied)
     }
 }
 
@@ -202,11 +210,17 @@ struct Counts {
 }
 
 impl Answers for Counts {
-    ghost answers = { λ s request reply t. reply ≡ Refused refusals.Denied };
+    ghost use Rattle.gb_session.specs.Answering.{IsDenied};
+
+    ghost answers = { record { replies = λ s request reply t. reply ≡ Refused refusals.Denied; tells = IsDenied } };
 
     fn answer(&mut self, _request: Request) -> Reply {
         self.asked = self.asked.saturating_add(1);
         Reply::Refused(Refusal::Denied)
+    }
+
+    fn operate(&self, _operation: Operation, out: &mut Vec<u8>) -> Result<(), OutOfMemory> {
+        put_refusal(out, Refusal::Denied)
     }
 }
 

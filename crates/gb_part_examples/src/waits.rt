@@ -2,7 +2,8 @@
 ghost use Rattle.std.specs.Prelude.{◌≡◌};
 ghost use Rattle.gb_session.specs.SessionValue.{SessionValue};
 
-use gb_session::answers::Answers;
+use gb_session::answers::{Answers, put_refusal};
+use gb_session::operation::Operation;
 use gb_session::serve::SessionEnd;
 use gb_session::session::{Session, Step};
 use gb_types::entry::{Entries, Entry};
@@ -39,8 +40,9 @@ impl Groups {
 
 impl Answers for Groups {
     ghost use Rattle.std.specs.Prelude.{⊤};
+    ghost use Rattle.gb_session.specs.Answering.{IsDenied};
 
-    ghost answers = { λ s request reply t. ⊤ };
+    ghost answers = { record { replies = λ s request reply t. ⊤; tells = IsDenied } };
 
     fn answer(&mut self, request: Request) -> Reply {
         self.asked = self.asked.saturating_add(1);
@@ -56,6 +58,10 @@ impl Answers for Groups {
             }
             _ => Reply::Done,
         }
+    }
+
+    fn operate(&self, _operation: Operation, out: &mut Vec<u8>) -> Result<(), OutOfMemory> {
+        put_refusal(out, Refusal::Denied)
     }
 }
 

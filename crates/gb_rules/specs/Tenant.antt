@@ -2,6 +2,7 @@
 use Rattle.std.specs.Prelude.{ℕ, ◌+◌, ◌||◌, not, Bool, List, find, sum_by, Option, Some, None, nat_lt, nat_le, nat_eq, if◌then◌else◌}
 use Rattle.std.specs.List.{list_all}
 use Rattle.std.specs.FinSet as set
+use Rattle.gb_types.specs.declared.address.Addr.{Addr}
 use Rattle.gb_types.specs.declared.limits.TheConstants.{GROUPS, MESSAGES, BYTES, WINDOW}
 use Rattle.gb_types.specs.declared.refusal.Refusal.TheVariants.{Denied, NoGroup, Spent, BadMembers, OverReserve, NoRoom, TenantThere}
 use Rattle.gb_types.specs.declared.reply.Reply.{Reply}
@@ -46,13 +47,13 @@ abbrev pub is_over : Reserve → Spec → Bool
 is_over reserve spec =
     nat_eq spec.msgs 0 || (nat_lt reserve.msgs spec.msgs || (nat_lt reserve.bytes spec.bytes || (nat_eq spec.window 0 || nat_lt reserve.window spec.window)))
 
--- a group with this number, which may have been made here before, is made
-abbrev pub make_answer : ℕ → ℕ → ℕ → Bool → Spec → Reserve → Reply
-make_answer nodes me number made spec reserve =
-    if nat_le reserve.groups number then Refused NoGroup
+-- a group with this address, which may have been made here before, is made; no version of packets has items of a later generation
+abbrev pub make_answer : ℕ → ℕ → Addr → Bool → Spec → Reserve → Reply
+make_answer nodes me addr made spec reserve =
+    if nat_le reserve.groups addr.group then Refused NoGroup
     else (if made then Refused Spent
     else (if is_bad nodes me spec then Refused BadMembers
-    else (if is_over reserve spec then Refused OverReserve
+    else (if nat_lt 0 addr.generation || is_over reserve spec then Refused OverReserve
     else Done)))
 
 -- a request of a tenant that may be here

@@ -8,5 +8,5 @@ use gb_types::address::Addr;
 pub fn is_same(addr: Addr, other: Addr) -> bool
     ensures { result ≡ is_addr addr other }
 {
-    addr.tenant == other.tenant && addr.group == other.group
+    addr.tenant == other.tenant && addr.group == other.group && addr.generation == other.generation
 }

@@ -3,6 +3,7 @@ ghost use Rattle.std.specs.Prelude.{◌≡◌};
 ghost use Rattle.gb_rules.specs.Tenant.{is_over_limits, tenant_answer, is_bad, is_over, make_answer};
 
 use crate::reserve::Reserve;
+use gb_types::address::Addr;
 use gb_types::limits::{BYTES, GROUPS, MESSAGES, WINDOW};
 use gb_types::node::NodeId;
 use gb_types::refusal::Refusal;
@@ -57,19 +58,20 @@ fn is_over_reserve(reserve: &Reserve, spec: &Spec) -> bool
     spec.window == 0 || spec.window > reserve.window
 }
 
-/// The answer to a request to make the group with this number, which may have been `made` here before: NoGroup
-/// where its tenant has no such number, Spent, BadMembers, OverReserve, in this order.
+/// Returns the answer to a request to make the group with this address, which may have been `made` here before: NoGroup
+/// where its tenant has no such number, Spent, BadMembers, OverReserve, in this order. A generation after the first is OverReserve,
+/// since no version of packets has items of one.
 pub fn answer_make(
     nodes: usize,
     me: NodeId,
-    number: u16,
+    addr: Addr,
     made: bool,
     spec: &Spec,
     reserve: &Reserve,
 ) -> Reply
-    ensures { result ≡ make_answer nodes me.number number made spec.now reserve.now }
+    ensures { result ≡ make_answer nodes me.number addr made spec.now reserve.now }
 {
-    if u32::from(number) >= reserve.groups {
+    if u32::from(addr.group) >= reserve.groups {
         return Reply::Refused(Refusal::NoGroup);
     }
     if made {
@@ -78,7 +80,7 @@ pub fn answer_make(
     if is_bad_members(nodes, me, spec) {
         return Reply::Refused(Refusal::BadMembers);
     }
-    if is_over_reserve(reserve, spec) {
+    if addr.generation > 0 || is_over_reserve(reserve, spec) {
         return Reply::Refused(Refusal::OverReserve);
     }
     Reply::Done

@@ -15,7 +15,7 @@ use Rattle.gb_types.specs.Version.{limits_of}
 use Rattle.gb_schedule.specs.declared.command.ClusterStart.{ClusterStart}
 use Rattle.gb_schedule.specs.declared.command.Command.{Command}
 use Rattle.gb_schedule.specs.declared.command.Command.TheVariants.{Cluster, Request, Noise}
-use Rattle.gb_types.specs.RequestWords.{IsShort, SpellsSpec}
+use Rattle.gb_types.specs.RequestWords.{IsShort, SpellsSpec, group_word, IsGroup}
 use Rattle.gb_types.proofs.RequestWordLemmas.{IsShortWord, IsLongWord, AreAddressWords, AreLimitWords}
 use Rattle.gb_schedule.specs.Grammar.{SpellsCluster, SpellsCluster2, SpellsTenant, SpellsMake, SpellsNamed, SpellsForge, SpellsNoise}
 use Rattle.gb_schedule.specs.Versions.{AreVersions}
@@ -40,9 +40,9 @@ group_reads nodes a t g node address reads_node reads_address =
 -- where none are read, words are no node's, tenant's and group's
 pub no_group : (nodes : ℕ) (words : List (List ℕ)) (a t g : List ℕ) (rest behind : List (List ℕ)) (node : NodeId) (address : Addr) → words ≡ a ∷ t ∷ g ∷ rest
     → ((group : NodeId × Addr) → (None ≡ Some group) ↔ AreGroupWords nodes a t g group)
-    → node.number < nodes → IsShort address.tenant → IsShort address.group → words ≡ decimal node.number ∷ decimal address.tenant ∷ decimal address.group ∷ behind → ⊥
+    → node.number < nodes → IsShort address.tenant → IsGroup address → words ≡ decimal node.number ∷ decimal address.tenant ∷ group_word address ∷ behind → ⊥
 no_group nodes words a t g rest behind node address are none below is_t is_g spelt =
-    let same : a ∷ t ∷ g ∷ rest ≡ decimal node.number ∷ decimal address.tenant ∷ decimal address.group ∷ behind = sym are ∙ spelt in
+    let same : a ∷ t ∷ g ∷ rest ≡ decimal node.number ∷ decimal address.tenant ∷ group_word address ∷ behind = sym are ∙ spelt in
     cc ((none (node, address)).1 ((below, cc), (is_t, cc, is_g, cc)))
 
 -- where no limits are read, words are no tenant's
@@ -72,7 +72,7 @@ named_reads request nodes words a t g group token are reads_group is_token =
       group = is_address.2;
     } in
     reads_one (λ command. SpellsNamed request nodes command words) _ here (λ command spelt.
-    let same : a ∷ t ∷ g ∷ [] ≡ decimal spelt.node.number ∷ decimal spelt.address.tenant ∷ decimal spelt.address.group ∷ [] = sym are ∙ spelt.words_are in
+    let same : a ∷ t ∷ g ∷ [] ≡ decimal spelt.node.number ∷ decimal spelt.address.tenant ∷ group_word spelt.address ∷ [] = sym are ∙ spelt.words_are in
     let same_group : group ≡ (spelt.node, spelt.address) = only (AreGroupWords nodes a t g) group (spelt.node, spelt.address) reads_group ((spelt.in_cluster, cc), (spelt.tenant, cc, spelt.group, cc)) in
     let same_node : node ≡ spelt.node = ap (λ q. q.0) same_group in
     let same_address : address ≡ spelt.address = ap (λ q. q.1) same_group in
@@ -213,7 +213,7 @@ make_reads nodes words a t g rest group spec token are reads_group reads_spec is
       spells_spec = is_spec;
     } in
     reads_one (λ command. SpellsMake nodes command words) _ here (λ command spelt.
-    let same : a ∷ t ∷ g ∷ rest ≡ decimal spelt.node.number ∷ decimal spelt.address.tenant ∷ decimal spelt.address.group ∷ spelt.spec_words = sym are ∙ spelt.words_are in
+    let same : a ∷ t ∷ g ∷ rest ≡ decimal spelt.node.number ∷ decimal spelt.address.tenant ∷ group_word spelt.address ∷ spelt.spec_words = sym are ∙ spelt.words_are in
     let same_group : group ≡ (spelt.node, spelt.address) = only (AreGroupWords nodes a t g) group (spelt.node, spelt.address) reads_group ((spelt.in_cluster, cc), (spelt.tenant, cc, spelt.group, cc)) in
     let same_node : node ≡ spelt.node = ap (λ q. q.0) same_group in
     let same_address : address ≡ spelt.address = ap (λ q. q.1) same_group in
@@ -244,7 +244,7 @@ forge_reads nodes words a t g group message are reads_group none =
       group = is_address.2;
     } in
     reads_one (λ command. SpellsForge nodes command words) _ here (λ command spelt.
-    let same : a ∷ t ∷ g ∷ [] ≡ decimal spelt.node.number ∷ decimal spelt.address.tenant ∷ decimal spelt.address.group ∷ [] = sym are ∙ spelt.words_are in
+    let same : a ∷ t ∷ g ∷ [] ≡ decimal spelt.node.number ∷ decimal spelt.address.tenant ∷ group_word spelt.address ∷ [] = sym are ∙ spelt.words_are in
     let same_group : group ≡ (spelt.node, spelt.address) = only (AreGroupWords nodes a t g) group (spelt.node, spelt.address) reads_group ((spelt.in_cluster, cc), (spelt.tenant, cc, spelt.group, cc)) in
     let same_node : node ≡ spelt.node = ap (λ q. q.0) same_group in
     let same_address : address ≡ spelt.address = ap (λ q. q.1) same_group in

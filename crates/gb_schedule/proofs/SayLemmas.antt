@@ -1,12 +1,10 @@
 -- What is said behind `say `: the numbers of a member, read one after the other, and the payload behind them.
-use Rattle.std.proofs.Common.{◌≡◌, ◌↔◌, ℕ, ◌<◌, ◌≤◌, ◌^◌, List, [], ◌∷◌, ◌++◌, Option, Some, None, Result, Ok, Err, codes, drop, take, decimal, refl, sym, ap, ◌∙◌, subst, arith}
+use Rattle.std.proofs.Common.{◌≡◌, ◌↔◌, ℕ, ◌<◌, ◌≤◌, List, [], ◌∷◌, ◌++◌, Option, Some, None, Result, Ok, Err, codes, drop, take, decimal, refl, sym, ap, ◌∙◌, subst, arith}
 use Rattle.std.specs.Io.{StartsWith}
 use Rattle.std.specs.List.{join_with_byte}
 use Rattle.std.specs.Option.{ForSome}
 use Rattle.std.specs.Result.{IfOk}
-use Rattle.std.proofs.lemmas.Fmt.{decimal_injective}
-use Rattle.gb_types.specs.RequestWords.{SpellsMessage}
-use Rattle.gb_types.specs.declared.limits.TheConstants.{NODES}
+use Rattle.gb_types.specs.RequestWords.{IsShort, SpellsMessage, group_word}
 use Rattle.gb_types.specs.Words.{words_of}
 use Rattle.gb_types.specs.declared.address.Addr.{Addr}
 use Rattle.gb_types.specs.declared.new_message.NewMessage.{NewMessage}
@@ -14,6 +12,7 @@ use Rattle.gb_types.specs.declared.node.NodeId.{NodeId}
 use Rattle.gb_types.specs.declared.request.Request.TheVariants.{Say}
 use Rattle.gb_types.proofs.ReadLemmas.{Reads, found, only, reads_one}
 use Rattle.gb_types.proofs.NumberLemmas.{number_is_one_word}
+use Rattle.gb_types.proofs.GroupWordLemmas.{one_address}
 use Rattle.gb_types.proofs.WordLemmas.{each_line_is_its_words}
 use Rattle.gb_schedule.specs.declared.command.Command.{Command}
 use Rattle.gb_schedule.specs.declared.command.Command.TheVariants.{Request}
@@ -21,34 +20,46 @@ use Rattle.gb_schedule.specs.declared.head.Head.{Head}
 use Rattle.gb_schedule.specs.declared.head.Head.TheVariants as heads
 use Rattle.gb_schedule.specs.Head.{head_word}
 use Rattle.gb_schedule.specs.Keys.{member_token}
-use Rattle.gb_schedule.specs.Numbers.{IsNumberAt, BeginsWithNoNumber}
-use Rattle.gb_schedule.specs.Grammar.{SpellsSay, Spells, IsCommandLine, NamesMemberAt, NamesNoMember}
+use Rattle.gb_schedule.specs.Numbers.{IsNumberAt}
+use Rattle.gb_schedule.specs.Grammar.{SpellsSay, Spells, IsCommandLine, NamesMember, NamesNoMember}
 use Rattle.gb_schedule.proofs.CommandLemmas.{Finds, command_found}
 use Rattle.gb_schedule.proofs.HeadLemmas.{begins, one_head}
+use Rattle.gb_schedule.proofs.RowLemmas.{AreGroupWords, no_group}
 use Rattle.gb_schedule.proofs.StepLemmas.{same_node as one_node}
 
--- numbers of which one is above its bound name no member
-pub beyond : (nodes : ℕ) → nodes ≤ NODES → (text : List ℕ) (a t g second third at : ℕ) → a < 2 ^ 64 → t < 2 ^ 64 → g < 2 ^ 64
-    → IsNumberAt text 0 a (Some second) → IsNumberAt text second t (Some third) → IsNumberAt text third g (Some at) → (a < nodes → t ≤ 65535 → g ≤ 65535 → ⊥) → NamesNoMember nodes text
-beyond nodes few text a t g second third at small_a small_t small_g one two three above node address word words below is_t is_g are =
-    let same : decimal a ∷ decimal t ∷ decimal g ∷ words_of (drop at text) ≡ decimal node.number ∷ decimal address.tenant ∷ decimal address.group ∷ word ∷ words = cc (one.1, two.1, three.1, are) in
-    let same_node : a ≡ node.number = decimal_injective a node.number small_a (omega (arith, below, few)) cc in
-    let same_tenant : t ≡ address.tenant = decimal_injective t address.tenant small_t (omega (arith, is_t)) cc in
-    let same_group : g ≡ address.group = decimal_injective g address.group small_g (omega (arith, is_g)) cc in
-    above (omega (arith, same_node, below)) (omega (arith, same_tenant, is_t)) (omega (arith, same_group, is_g))
+-- numbers within their bounds, one after the other, name a member of a first generation
+pub first_named : (nodes : ℕ) (text behind : List ℕ) (node : NodeId) (tenant group second third at : ℕ) → IsNumberAt text 0 node.number (Some second) → IsNumberAt text second tenant (Some third)
+    → IsNumberAt text third group (Some at) → node.number < nodes → IsShort tenant → IsShort group → behind ≡ drop at text
+    → NamesMember nodes text node (record { tenant = tenant; group = group; generation = 0 }) behind
+first_named nodes text behind node tenant group second third at one two three below is_t is_g is = record {
+  words_are = one.1 ∙ ap (λ ws. decimal node.number ∷ ws) (two.1 ∙ ap (λ ws. decimal tenant ∷ ws) (three.1 ∙ ap (λ b. decimal group ∷ words_of b) (sym is)));
+  in_cluster = below;
+  tenant = is_t;
+  group = (is_g, omega arith);
+}
 
--- where no tenant's number stands behind the first number, no member is named
-pub no_tenant : (nodes : ℕ) (text : List ℕ) (a second : ℕ) → IsNumberAt text 0 a (Some second) → BeginsWithNoNumber (drop second text) → NamesNoMember nodes text
-no_tenant nodes text a second one none node address word words below is_t is_g are =
-    let same : decimal a ∷ words_of (drop second text) ≡ decimal node.number ∷ decimal address.tenant ∷ decimal address.group ∷ word ∷ words = sym one.1 ∙ are in
-    none address.tenant (decimal address.group ∷ word ∷ words) (omega (arith, is_t)) cc
+-- the words of a text that are read as a member's name it
+pub any_named : (nodes : ℕ) (text a t g behind : List ℕ) (node : NodeId) (address : Addr) → words_of text ≡ a ∷ t ∷ g ∷ words_of behind → Reads (AreGroupWords nodes a t g) (node, address)
+    → NamesMember nodes text node address behind
+any_named nodes text a t g behind node address are reads =
+    let is = found (AreGroupWords nodes a t g) (node, address) reads in
+    record { words_are = cc (are, is.0.1, is.1.1, is.1.3); in_cluster = is.0.0; tenant = is.1.0; group = is.1.2 }
 
--- nor where no group's number stands behind the first two
-pub no_group : (nodes : ℕ) (text : List ℕ) (a t second third : ℕ) → IsNumberAt text 0 a (Some second) → IsNumberAt text second t (Some third) → BeginsWithNoNumber (drop third text)
+-- words that are read as no member's name none
+pub none_named : (nodes : ℕ) (text a t g behind : List ℕ) → words_of text ≡ a ∷ t ∷ g ∷ words_of behind → ((group : NodeId × Addr) → (None ≡ Some group) ↔ AreGroupWords nodes a t g group)
     → NamesNoMember nodes text
-no_group nodes text a t second third one two none node address word words below is_t is_g are =
-    let same : decimal a ∷ decimal t ∷ words_of (drop third text) ≡ decimal node.number ∷ decimal address.tenant ∷ decimal address.group ∷ word ∷ words = cc (one.1, two.1, are) in
-    none address.group (word ∷ words) (omega (arith, is_g)) cc
+none_named nodes text a t g behind are none node address word words below is_t is_g spelt =
+    no_group nodes (words_of text) a t g (words_of behind) (word ∷ words) node address are none below is_t is_g spelt
+
+-- a text of three words at most names none
+pub one_names_none : (nodes : ℕ) (text a : List ℕ) → words_of text ≡ a ∷ [] → NamesNoMember nodes text
+one_names_none nodes text a are node address word words below is_t is_g spelt = cc (are, spelt)
+
+pub two_name_none : (nodes : ℕ) (text a t : List ℕ) → words_of text ≡ a ∷ t ∷ [] → NamesNoMember nodes text
+two_name_none nodes text a t are node address word words below is_t is_g spelt = cc (are, spelt)
+
+pub three_name_none : (nodes : ℕ) (text a t g : List ℕ) → words_of text ≡ a ∷ t ∷ g ∷ [] → NamesNoMember nodes text
+three_name_none nodes text a t g are node address word words below is_t is_g spelt = cc (are, spelt)
 
 -- a text has a word
 some_word : (text : List ℕ) → words_of text ≡ [] → ⊥
@@ -87,41 +98,41 @@ message_in (Ok read) word behind reads = λ message. (
 message_in (Err e) word behind reads = tt
 
 -- a member's numbers and the words of a message behind them spell what is said
-pub say_reads : (nodes : ℕ) (text : List ℕ) (node : NodeId) (address : Addr) (at : ℕ) (message : NewMessage) (token : List ℕ) → NamesMemberAt nodes text node address at
-    → Reads (λ x. SpellsMessage x (words_of (drop at text))) message → token ≡ member_token address node
+pub say_reads : (nodes : ℕ) (text : List ℕ) (node : NodeId) (address : Addr) (behind : List ℕ) (message : NewMessage) (token : List ℕ) → NamesMember nodes text node address behind
+    → Reads (λ x. SpellsMessage x (words_of behind)) message → token ≡ member_token address node
     → Reads (λ command. SpellsSay nodes command (words_of text)) (Request node (Say token address message))
-say_reads nodes text node address at message token named reads_message is_token =
+say_reads nodes text node address behind message token named reads_message is_token =
     let here : SpellsSay nodes (Request node (Say token address message)) (words_of text) = record {
       node = node;
       address = address;
       message = message;
-      message_words = words_of (drop at text);
+      message_words = words_of behind;
       command_is = ap (λ q. Request node (Say q address message)) is_token;
       words_are = named.words_are;
       in_cluster = named.in_cluster;
       tenant = named.tenant;
       group = named.group;
-      spells_message = found (λ x. SpellsMessage x (words_of (drop at text))) message reads_message;
+      spells_message = found (λ x. SpellsMessage x (words_of behind)) message reads_message;
     } in
     reads_one (λ command. SpellsSay nodes command (words_of text)) _ here (λ command spelt.
-    let same : decimal node.number ∷ decimal address.tenant ∷ decimal address.group ∷ words_of (drop at text) ≡ decimal spelt.node.number ∷ decimal spelt.address.tenant ∷ decimal spelt.address.group ∷ spelt.message_words = sym here.words_are ∙ spelt.words_are in
+    let same : decimal node.number ∷ decimal address.tenant ∷ group_word address ∷ words_of behind ≡ decimal spelt.node.number ∷ decimal spelt.address.tenant ∷ group_word spelt.address ∷ spelt.message_words = sym here.words_are ∙ spelt.words_are in
     let same_node : node ≡ spelt.node = one_node node spelt.node cc in
-    let same_tenant : address.tenant ≡ spelt.address.tenant = decimal_injective address.tenant spelt.address.tenant (let small = here.tenant in omega (arith, small)) (let small = spelt.tenant in omega (arith, small)) cc in
-    let same_group : address.group ≡ spelt.address.group = decimal_injective address.group spelt.address.group (let small = here.group in omega (arith, small)) (let small = spelt.group in omega (arith, small)) cc in
-    let same_address : address ≡ spelt.address = λ i. record { tenant = same_tenant i; group = same_group i } in
-    let same_words : spelt.message_words ≡ words_of (drop at text) = cc in
-    let same_message : message ≡ spelt.message = only (λ x. SpellsMessage x (words_of (drop at text))) message spelt.message reads_message (rw same_words at spelt.spells_message) in
+    let tenants : decimal address.tenant ≡ decimal spelt.address.tenant = cc in
+    let groups : group_word address ≡ group_word spelt.address = cc in
+    let same_address : address ≡ spelt.address = one_address address spelt.address here.tenant spelt.tenant here.group spelt.group tenants groups in
+    let same_words : spelt.message_words ≡ words_of behind = cc in
+    let same_message : message ≡ spelt.message = only (λ x. SpellsMessage x (words_of behind)) message spelt.message reads_message (rw same_words at spelt.spells_message) in
     ap (λ q. Request node (Say q address message)) is_token ∙ (λ i. Request (same_node i) (Say (member_token (same_address i) (same_node i)) (same_address i) (same_message i))) ∙ sym spelt.command_is)
 
 -- where what stands behind a member's numbers says nothing
-pub say_no_message : (nodes : ℕ) (text : List ℕ) (node : NodeId) (address : Addr) (at : ℕ) → NamesMemberAt nodes text node address at
-    → ((message : NewMessage) → (None ≡ Some message) ↔ SpellsMessage message (words_of (drop at text)))
+pub say_no_message : (nodes : ℕ) (text : List ℕ) (node : NodeId) (address : Addr) (behind : List ℕ) → NamesMember nodes text node address behind
+    → ((message : NewMessage) → (None ≡ Some message) ↔ SpellsMessage message (words_of behind))
     → (command : Command) → (None ≡ Some command) ↔ SpellsSay nodes command (words_of text)
-say_no_message nodes text node address at named none command = (
+say_no_message nodes text node address behind named none command = (
   λ is. cc is,
   λ spelt.
-      let same : decimal node.number ∷ decimal address.tenant ∷ decimal address.group ∷ words_of (drop at text) ≡ decimal spelt.node.number ∷ decimal spelt.address.tenant ∷ decimal spelt.address.group ∷ spelt.message_words = sym named.words_are ∙ spelt.words_are in
-      let same_words : spelt.message_words ≡ words_of (drop at text) = cc in
+      let same : decimal node.number ∷ decimal address.tenant ∷ group_word address ∷ words_of behind ≡ decimal spelt.node.number ∷ decimal spelt.address.tenant ∷ group_word spelt.address ∷ spelt.message_words = sym named.words_are ∙ spelt.words_are in
+      let same_words : spelt.message_words ≡ words_of behind = cc in
       let no : None ≡ Some spelt.message = (none spelt.message).1 (rw same_words at spelt.spells_message) in
       absurd (cc no),
 )
@@ -133,7 +144,7 @@ no_say_behind None line head word rest are reads none command is spelt = subst (
 no_say_behind (Some nodes) line head word rest are reads none command is spelt =
     let said : SpellsSay nodes command rest = subst (λ h. Spells h (Some nodes) command rest) is spelt in
     let is_word : word ≡ codes "say" = found (λ h. word ≡ head_word h) head reads ∙ ap head_word is in
-    let words : words_of line ≡ codes "say" ∷ decimal said.node.number ∷ decimal said.address.tenant ∷ decimal said.address.group ∷ said.message_words = cc (are, is_word, said.words_are) in
+    let words : words_of line ≡ codes "say" ∷ decimal said.node.number ∷ decimal said.address.tenant ∷ group_word said.address ∷ said.message_words = cc (are, is_word, said.words_are) in
     none nodes refl (ap (take 4) (begins line _ _ _ words))
 
 -- what stands behind `say ` spells what the line does

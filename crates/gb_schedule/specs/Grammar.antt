@@ -1,9 +1,9 @@
 -- The grammar of a schedule: for each head, the words behind it and the command that they spell. Numbers are decimal,
 -- without a leading zero.
-use Rattle.std.specs.Prelude.{◌≡◌, ℕ, ◌<◌, ◌≤◌, List, [], ◌∷◌, Option, None, Some, length, drop, replicate, decimal}
+use Rattle.std.specs.Prelude.{◌≡◌, ℕ, ◌<◌, ◌≤◌, List, [], ◌∷◌, Option, None, Some, replicate, decimal}
 use Rattle.gb_types.specs.declared.limits.TheConstants.{NODES, SILENCE_MIN, SILENCE_MAX}
 use Rattle.gb_types.specs.PayloadWord.{payload_of}
-use Rattle.gb_types.specs.RequestWords.{IsShort, IsLong, SpellsSpec, SpellsMessage}
+use Rattle.gb_types.specs.RequestWords.{IsShort, IsLong, SpellsSpec, SpellsMessage, group_word, IsGroup}
 use Rattle.gb_types.specs.declared.node.NodeId.{NodeId}
 use Rattle.gb_types.specs.declared.address.Addr.{Addr}
 use Rattle.gb_types.specs.declared.new_message.NewMessage.{NewMessage}
@@ -64,10 +64,10 @@ pub record SpellsMake (nodes : ℕ) (command : Command) (words : List (List ℕ)
   pub spec : Spec
   pub spec_words : List (List ℕ)
   pub command_is : command ≡ Request node (Make (tenant_token address.tenant) address spec)
-  pub words_are : words ≡ decimal node.number ∷ decimal address.tenant ∷ decimal address.group ∷ spec_words
+  pub words_are : words ≡ decimal node.number ∷ decimal address.tenant ∷ group_word address ∷ spec_words
   pub in_cluster : node.number < nodes
   pub tenant : IsShort address.tenant
-  pub group : IsShort address.group
+  pub group : IsGroup address
   pub spells_spec : SpellsSpec spec spec_words
 
 -- `A T G`, behind a head that makes this request of a group, with the tenant's token
@@ -75,24 +75,23 @@ pub record SpellsNamed (request : List ℕ → Addr → AnyRequest) (nodes : ℕ
   pub node : NodeId
   pub address : Addr
   pub command_is : command ≡ Request node (request (tenant_token address.tenant) address)
-  pub words_are : words ≡ decimal node.number ∷ decimal address.tenant ∷ decimal address.group ∷ []
+  pub words_are : words ≡ decimal node.number ∷ decimal address.tenant ∷ group_word address ∷ []
   pub in_cluster : node.number < nodes
   pub tenant : IsShort address.tenant
-  pub group : IsShort address.group
+  pub group : IsGroup address
 
--- the first three words of a text are the numbers of a node, a tenant and a group, and this is where the word behind them stands
-pub record NamesMemberAt (nodes : ℕ) (text : List ℕ) (node : NodeId) (address : Addr) (at : ℕ) : Type 0 where
-  pub words_are : words_of text ≡ decimal node.number ∷ decimal address.tenant ∷ decimal address.group ∷ words_of (drop at text)
+-- the first three words of a text name a node, a tenant and a group, and these bytes stand behind them
+pub record NamesMember (nodes : ℕ) (text : List ℕ) (node : NodeId) (address : Addr) (behind : List ℕ) : Type 0 where
+  pub words_are : words_of text ≡ decimal node.number ∷ decimal address.tenant ∷ group_word address ∷ words_of behind
   pub in_cluster : node.number < nodes
   pub tenant : IsShort address.tenant
-  pub group : IsShort address.group
-  pub within : at ≤ length text
+  pub group : IsGroup address
 
--- the first three words of a text, with a word behind them, are no such numbers
+-- the first three words of a text, with a word behind them, name no member
 abbrev pub NamesNoMember : ℕ → List ℕ → Type 0
 NamesNoMember nodes text =
-    (node : NodeId) (address : Addr) (word : List ℕ) (words : List (List ℕ)) → node.number < nodes → IsShort address.tenant → IsShort address.group
-    → words_of text ≡ decimal node.number ∷ decimal address.tenant ∷ decimal address.group ∷ word ∷ words → ⊥
+    (node : NodeId) (address : Addr) (word : List ℕ) (words : List (List ℕ)) → node.number < nodes → IsShort address.tenant → IsGroup address
+    → words_of text ≡ decimal node.number ∷ decimal address.tenant ∷ group_word address ∷ word ∷ words → ⊥
 
 -- `say A T G PAYLOAD`, or `say A T G PAYLOAD SEQ`
 pub record SpellsSay (nodes : ℕ) (command : Command) (words : List (List ℕ)) : Type 0 where
@@ -101,10 +100,10 @@ pub record SpellsSay (nodes : ℕ) (command : Command) (words : List (List ℕ))
   pub message : NewMessage
   pub message_words : List (List ℕ)
   pub command_is : command ≡ Request node (Say (member_token address node) address message)
-  pub words_are : words ≡ decimal node.number ∷ decimal address.tenant ∷ decimal address.group ∷ message_words
+  pub words_are : words ≡ decimal node.number ∷ decimal address.tenant ∷ group_word address ∷ message_words
   pub in_cluster : node.number < nodes
   pub tenant : IsShort address.tenant
-  pub group : IsShort address.group
+  pub group : IsGroup address
   pub spells_message : SpellsMessage message message_words
 
 -- `fetch A T G FROM MAX`; it comes with the member's token when it is obeyed
@@ -114,10 +113,10 @@ pub record SpellsFetch (nodes : ℕ) (command : Command) (words : List (List ℕ
   pub from : ℕ
   pub most : ℕ
   pub command_is : command ≡ Step (Fetch node address from most)
-  pub words_are : words ≡ decimal node.number ∷ decimal address.tenant ∷ decimal address.group ∷ decimal from ∷ decimal most ∷ []
+  pub words_are : words ≡ decimal node.number ∷ decimal address.tenant ∷ group_word address ∷ decimal from ∷ decimal most ∷ []
   pub in_cluster : node.number < nodes
   pub tenant : IsShort address.tenant
-  pub group : IsShort address.group
+  pub group : IsGroup address
   pub from_in : IsLong from
   pub most_in : IsLong most
 
@@ -126,10 +125,10 @@ pub record SpellsForge (nodes : ℕ) (command : Command) (words : List (List ℕ
   pub node : NodeId
   pub address : Addr
   pub command_is : command ≡ Request node (Say no_token address (record { payload = []; seq = None }))
-  pub words_are : words ≡ decimal node.number ∷ decimal address.tenant ∷ decimal address.group ∷ []
+  pub words_are : words ≡ decimal node.number ∷ decimal address.tenant ∷ group_word address ∷ []
   pub in_cluster : node.number < nodes
   pub tenant : IsShort address.tenant
-  pub group : IsShort address.group
+  pub group : IsGroup address
 
 -- the words of a text are the numbers of these two nodes
 pub record NamesTwoNodes (nodes : ℕ) (text : List ℕ) (node to : NodeId) : Type 0 where

@@ -3,7 +3,7 @@ ghost use Rattle.std.specs.Prelude.{◌≡◌, ◌≤◌, ◌<◌, ◌↔◌, �
 ghost use Rattle.std.specs.Option.{ForSome};
 ghost use Rattle.std.specs.Io.{StartsWith};
 ghost use Rattle.gb_types.specs.Words.{words_of};
-ghost use Rattle.gb_types.specs.RequestWords.{IsShort, SpellsMessage};
+ghost use Rattle.gb_types.specs.RequestWords.{IsShort, SpellsMessage, group_word, IsGroup};
 ghost use Rattle.gb_types.specs.declared.address.Addr.{Addr as TheAddress};
 ghost use Rattle.gb_types.specs.declared.new_message.NewMessage.{NewMessage as TheMessage};
 ghost use Rattle.gb_types.specs.declared.node.NodeId.{NodeId as TheNode};
@@ -12,7 +12,7 @@ ghost use Rattle.gb_schedule.specs.declared.command.Command.{Command as TheComma
 ghost use Rattle.gb_schedule.specs.declared.command.Command.TheVariants as Commands;
 ghost use Rattle.gb_types.specs.declared.request.Request.TheVariants.{OpenGroup, ShutGroup, DropGroup};
 ghost use Rattle.gb_schedule.specs.declared.head.Head.TheVariants.{Open as OpenHead, Shut as ShutHead, Drop as DropHead, Say as SayHead};
-ghost use Rattle.gb_schedule.specs.Grammar.{NamesMemberAt, NamesNoMember, NamesTwoNodes, SpellsCluster, SpellsCluster2, SpellsTenant, SpellsMake, SpellsNamed, SpellsSay, SpellsFetch, SpellsForge, SpellsPack, SpellsAgain, SpellsAck, SpellsArrive, SpellsNoise, SpellsTick, SpellsStop, Spells, IsCommandLine, IsInPlace, IsSilent, SilentLinesSpellNothing};
+ghost use Rattle.gb_schedule.specs.Grammar.{NamesMember, NamesNoMember, NamesTwoNodes, SpellsCluster, SpellsCluster2, SpellsTenant, SpellsMake, SpellsNamed, SpellsSay, SpellsFetch, SpellsForge, SpellsPack, SpellsAgain, SpellsAck, SpellsArrive, SpellsNoise, SpellsTick, SpellsStop, Spells, IsCommandLine, IsInPlace, IsSilent, SilentLinesSpellNothing};
 
 use crate::command::{ClusterStart, Command, Step};
 use crate::head::{Head, read_head};
@@ -146,7 +146,7 @@ fn read_group(nodes: u8, node: &[u8], tenant: &[u8], group: &[u8]) -> Option<(No
     ensures { (found : TheNode × TheAddress) → (result ≡ Some found)
         ↔ (((found.0.number < nodes) × (node.now ≡ decimal found.0.number))
         × (IsShort found.1.tenant × (tenant.now ≡ decimal found.1.tenant)
-        × IsShort found.1.group × (group.now ≡ decimal found.1.group))) }
+        × IsGroup found.1 × (group.now ≡ group_word found.1))) }
 {
     let node = read_node(node, nodes)?;
     let address = read_address(tenant, group)?;
@@ -199,12 +199,12 @@ fn read_named(keys: &mut Keys, nodes: u8, head: Head, words: &[&[u8]]) -> Option
     Some(Command::Request(node, named_request(head, token, address)))
 }
 
-// The member that the first three words of a text name, and where the word behind them stands.
+// Returns the member of a group's first generation that the first three words of a text name, and what stands behind them. Most
+// lines of a schedule name one, and are read so at once.
 #[inline(always)]
-fn member_at(nodes: u8, text: &[u8]) -> Option<(NodeId, Addr, usize)>
+fn first_member(nodes: u8, text: &[u8]) -> Option<(NodeId, Addr, &[u8])>
     requires { (1 ≤ nodes) × (nodes ≤ NODES) }
-    ensures some { IfSome result (λ found. NamesMemberAt nodes text.now found.0 found.1 found.2) }
-    ensures none { IfNone result (NamesNoMember nodes text.now) }
+    ensures { IfSome result (λ found. NamesMember nodes text.now found.0 found.1 found.2.now) }
 {
     let (node, rest) = number_at(text, 0)?;
     let (tenant, rest) = number_at(text, rest?)?;
@@ -216,8 +216,38 @@ fn member_at(nodes: u8, text: &[u8]) -> Option<(NodeId, Addr, usize)>
     let address = Addr {
         tenant: tenant as u16,
         group: group as u16,
+        generation: 0,
     };
-    Some((NodeId::new(node as u8), address, rest))
+    Some((NodeId::new(node as u8), address, &text[rest..]))
+}
+
+// Returns the member that the first three words of a text name, and what stands behind them. Called, not inlined: few words come
+// here.
+#[inline(never)]
+fn any_member(nodes: u8, text: &[u8]) -> Option<(NodeId, Addr, &[u8])>
+    requires { (1 ≤ nodes) × (nodes ≤ NODES) }
+    ensures some { IfSome result (λ found. NamesMember nodes text.now found.0 found.1 found.2.now) }
+    ensures none { IfNone result (NamesNoMember nodes text.now) }
+{
+    let (node, behind) = cut_word(text);
+    let (tenant, behind) = cut_word(behind?);
+    let (group, behind) = cut_word(behind?);
+    let rest = behind?;
+    let (node, address) = read_group(nodes, node, tenant, group)?;
+    Some((node, address, rest))
+}
+
+// Returns the member that the first three words of a text name, and what stands behind them.
+#[inline(always)]
+fn member_in(nodes: u8, text: &[u8]) -> Option<(NodeId, Addr, &[u8])>
+    requires { (1 ≤ nodes) × (nodes ≤ NODES) }
+    ensures some { IfSome result (λ found. NamesMember nodes text.now found.0 found.1 found.2.now) }
+    ensures none { IfNone result (NamesNoMember nodes text.now) }
+{
+    match first_member(nodes, text) {
+        Some(found) => Some(found),
+        None => any_member(nodes, text),
+    }
 }
 
 // What a text says: PAYLOAD, or PAYLOAD SEQ.
@@ -243,10 +273,10 @@ fn read_say(
     ensures { IfOk result (λ found. (command : TheCommand) → (found ≡ Some command)
         ↔ SpellsSay nodes command (words_of text.now)) }
 {
-    let Some((node, address, rest)) = member_at(nodes, text) else {
+    let Some((node, address, rest)) = member_in(nodes, text) else {
         return Ok(None);
     };
-    let Some(message) = read_message_in(alloc, &text[rest..])? else {
+    let Some(message) = read_message_in(alloc, rest)? else {
         return Ok(None);
     };
     let token = keys.member(address, node);
@@ -366,19 +396,59 @@ fn read_stop(nodes: u8, text: &[u8]) -> Option<Step>
     Some(Step::Stop(NodeId::new(node as u8)))
 }
 
-// fetch A T G FROM MAX
-fn read_fetch(nodes: u8, text: &[u8]) -> Option<Step>
+// fetch A T G FROM MAX, of a group's first generation. Most fetches of a schedule are, and are read so at once.
+#[inline(always)]
+fn read_first_fetch(nodes: u8, text: &[u8]) -> Option<Step>
     requires { (1 ≤ nodes) × (nodes ≤ NODES) }
-    ensures { (step : TheStep) → (result ≡ Some step)
-        ↔ SpellsFetch nodes (Commands.Step step) (words_of text.now) }
+    ensures { IfSome result (λ step. SpellsFetch nodes (Commands.Step step) (words_of text.now)) }
 {
     let last = u64::from(nodes) - 1;
     let [node, tenant, group, from, most] = numbers_in(text, [last, SHORT, SHORT, LONG, LONG])?;
     let address = Addr {
         tenant: tenant as u16,
         group: group as u16,
+        generation: 0,
     };
     Some(Step::Fetch(NodeId::new(node as u8), address, from as u32, most as u32))
+}
+
+// The words of a fetch of any generation.
+fn read_fetch_words(nodes: u8, words: &[&[u8]]) -> Option<Step>
+    requires { (1 ≤ nodes) × (nodes ≤ NODES) }
+    ensures { (step : TheStep) → (result ≡ Some step)
+        ↔ SpellsFetch nodes (Commands.Step step) (map (λ word. word.now) words.now) }
+{
+    let [node, tenant, group, from, most] = words else {
+        return None;
+    };
+    let (node, address) = read_group(nodes, node, tenant, group)?;
+    let from = read_u32(from)?;
+    let most = read_u32(most)?;
+    Some(Step::Fetch(node, address, from, most))
+}
+
+// fetch A T G FROM MAX, of any generation. Called, not inlined: few lines come here.
+#[inline(never)]
+fn read_any_fetch(nodes: u8, text: &[u8]) -> Option<Step>
+    requires { (1 ≤ nodes) × (nodes ≤ NODES) }
+    ensures { (step : TheStep) → (result ≡ Some step)
+        ↔ SpellsFetch nodes (Commands.Step step) (words_of text.now) }
+{
+    let mut space: [&[u8]; WORDS] = [text; WORDS];
+    let count = words_in(text, &mut space)?;
+    read_fetch_words(nodes, &space[..count])
+}
+
+// fetch A T G FROM MAX
+fn read_fetch(nodes: u8, text: &[u8]) -> Option<Step>
+    requires { (1 ≤ nodes) × (nodes ≤ NODES) }
+    ensures { (step : TheStep) → (result ≡ Some step)
+        ↔ SpellsFetch nodes (Commands.Step step) (words_of text.now) }
+{
+    match read_first_fetch(nodes, text) {
+        Some(step) => Some(step),
+        None => read_any_fetch(nodes, text),
+    }
 }
 
 // What stands in a line behind these bytes, where it begins with them.

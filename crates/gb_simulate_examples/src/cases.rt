@@ -48,6 +48,12 @@ const SAY_IS_SENT_AGAIN: Case = (
     SimEnd::All,
 );
 
+const LATER_GENERATION_IS_NOT_MADE: Case = (
+    "cluster 2 3\ntenant 0 7 4 8 4096 4\nmake 0 7 1.1 fbeb 0,1 8 4096 4\nmake 0 7 4.1 fbeb 0,1 8 4096 4\nmake 0 7 1.1 fbeb 1 8 4096 4\nopen 0 7 1.1\nshut 0 7 1.1\nsay 0 7 1.1 61\nfetch 0 7 1.1 0 16\ndrop 0 7 1.1\nmake 0 7 1 fbeb 0,1 8 4096 4\nmake 0 7 1.4294967295 fbeb 0,1 8 4096 4\nsay 0 7 1.1 61\nfetch 0 7 1 0 16\ndrop 0 7 1\nfetch 0 7 1 0 16\nfetch 0 7 1.1 0 16\nmake 0 7 1.1 fbeb 0,1 8 4096 4\nforge 0 7 1.1\n",
+    "ok\nok\nrefused 5 OverReserve\nrefused 2 NoGroup\nrefused 4 BadMembers\nrefused 2 NoGroup\nrefused 2 NoGroup\nrefused 2 NoGroup\nrefused 2 NoGroup\nrefused 2 NoGroup\nok\nrefused 5 OverReserve\nrefused 2 NoGroup\nlog 0\nok\nrefused 3 Spent\nrefused 2 NoGroup\nrefused 5 OverReserve\nrefused 1 Denied\n",
+    SimEnd::All,
+);
+
 const STOPPED_NODE_REFUSES_ALL: Case = (
     "cluster 1 2\nstop 0\ntick 0\nsay 0 7 1 61\narrive 1\n",
     "ok\nok\nrefused 15 Stopped\nrefused 15 Stopped\nno packet\n",
@@ -323,6 +329,7 @@ pub const IN_ANY_PIECES: &[Case] = &[
     UNKNOWN_WORD,
     NODES_WITH_UNLIKE_GROUPS,
     SAY_IS_SENT_AGAIN,
+    LATER_GENERATION_IS_NOT_MADE,
     STOPPED_NODE_REFUSES_ALL,
     ACKNOWLEDGED_FRAME_IS_NOT_GIVEN_AGAIN,
     NOTHING_IS_SENT_TO_NO_OTHER_NODE,
@@ -533,6 +540,121 @@ pub const WINDOW_OF_64_FRAMES: &[Built] = &[(
             ),
             0,
             1,
+        ),
+    ],
+)];
+
+// A cluster that sends 5,000 packets, and the last of them arrives.
+pub const MANY_PACKETS: &[Built] = &[(
+    0,
+    &[
+        (("cluster 2 3\n", "ok\n"), 0, 1),
+        (("ack 0 1\n", "packet #\n"), 1, 5_001),
+        (("arrive 5000\n", "good none 0 0\n"), 0, 1),
+        (("arrive 5001\n", "no packet\n"), 0, 1),
+    ],
+)];
+
+// The longest log that a fetch shows, 16 messages of the longest payload, all that their member may say: two such answers in one
+// piece are more than 200,000 bytes before the next read.
+pub const LONGEST_LOG: &[Built] = &[(
+    4_096,
+    &[
+        (
+            (
+                "cluster2 2 3 2,2\ntenant 0 7 4 17 65536 17\nmake 0 7 1 beb 0,1 17 65536 17\nopen 0 7 1\n",
+                "ok\nok\nok\nok\n",
+            ),
+            0,
+            1,
+        ),
+        (("say 0 7 1 *\n", "said #\n"), 1, 17),
+        (
+            (
+                "say 0 7 1 61\nfetch 0 7 1 0 16\n",
+                "refused 9 Bytes\nlog 16",
+            ),
+            0,
+            1,
+        ),
+        (("", " 0:#:*"), 1, 17),
+        (("fetch 0 7 1 0 16\n", "\nlog 16"), 0, 1),
+        (("", " 0:#:*"), 1, 17),
+        (("fetch 0 7 1 0 17\n", "\nrefused 11 BadPlace\n"), 0, 1),
+    ],
+)];
+
+// A frame of as many messages of one byte as a packet of each version has room for, and a frame of the one that is left.
+pub const SHORTEST_MESSAGES: &[Built] = &[
+    (
+        0,
+        &[
+            (
+                (
+                    "cluster 2 3\ntenant 0 7 4 1024 65536 1024\nmake 0 7 1 beb 0,1 1024 65536 1024\nopen 0 7 1\n",
+                    "ok\nok\nok\nok\n",
+                ),
+                0,
+                1,
+            ),
+            (("say 0 7 1 61\n", "said #\n"), 1, 817),
+            (
+                (
+                    "pack 0 1\npack 0 1\narrive 1\narrive 2\n",
+                    "packet 1\npacket 2\ngood first 815 0\ngood first 1 0\n",
+                ),
+                0,
+                1,
+            ),
+        ],
+    ),
+    (
+        0,
+        &[
+            (
+                (
+                    "cluster2 2 3 2,2\ntenant 0 7 4 1024 65536 1024\nmake 0 7 1 beb 0,1 1024 65536 1024\nmake 0 7 2 beb 0,1 1024 65536 1024\nopen 0 7 1\nopen 0 7 2\n",
+                    "ok\nok\nok\nok\nok\nok\n",
+                ),
+                0,
+                1,
+            ),
+            (("say 0 7 1 61\n", "said #\n"), 1, 1_025),
+            (("say 0 7 2 61\n", "said #\n"), 1, 612),
+            (
+                (
+                    "pack 0 1\npack 0 1\narrive 1\narrive 2\n",
+                    "packet 1\npacket 2\ngood first 1634 0\ngood first 1 0\n",
+                ),
+                0,
+                1,
+            ),
+        ],
+    ),
+];
+
+// A node with as many tenants and groups as it has places for: 256 tenants of four groups each. Each group works.
+pub const MOST_GROUPS: &[Built] = &[(
+    0,
+    &[
+        (("cluster 1 2\n", "ok\n"), 0, 1),
+        (("tenant 0 # 4 1 1 1\n", "ok\n"), 1, 257),
+        (("tenant 0 257 1 1 1 1\n", "refused 12 NoRoom\n"), 0, 1),
+        (
+            (
+                "make 0 # 0 beb 0 1 1 1\nmake 0 # 1 eager 0 1 1 1\nmake 0 # 2 fallack 0 1 1 1\nmake 0 # 3 fbeb 0 1 1 1\n",
+                "ok\nok\nok\nok\n",
+            ),
+            1,
+            257,
+        ),
+        (
+            (
+                "open 0 # 3\nsay 0 # 3 61\nsay 0 # 3 61\nfetch 0 # 3 0 16\n",
+                "ok\nsaid 1\nrefused 8 Budget\nlog 1 0:1:61\n",
+            ),
+            1,
+            257,
         ),
     ],
 )];

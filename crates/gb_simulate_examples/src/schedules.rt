@@ -2,9 +2,10 @@
 //! that fail.
 use crate::cases::{
     ALL_MESSAGES, ASKED, AT_THEIR_EDGES, AT_THEIR_LIMITS, Built, COMPLAINTS, Case, DAMAGED_PACKETS,
-    FULL_LINK, IN_ANY_PIECES, IN_LOWER_CASE, LONG_PAYLOADS, LONGEST_LINES, LONGEST_PAYLOAD,
-    MOST_LINES, OF_BYTES_WINDOWS_AND_DROPS, OF_TENANTS_FRAMES_AND_NOISE, OF_THE_KINDS, Part,
-    Repeated, UNTAGGED, WINDOW_OF_64_FRAMES,
+    FULL_LINK, IN_ANY_PIECES, IN_LOWER_CASE, LONG_PAYLOADS, LONGEST_LINES, LONGEST_LOG,
+    LONGEST_PAYLOAD, MANY_PACKETS, MOST_GROUPS, MOST_LINES, OF_BYTES_WINDOWS_AND_DROPS,
+    OF_TENANTS_FRAMES_AND_NOISE, OF_THE_KINDS, Part, Repeated, SHORTEST_MESSAGES, UNTAGGED,
+    WINDOW_OF_64_FRAMES,
 };
 use gb_simulate::complaint::complain;
 use gb_simulate::outcome::{SimEnd, SimFault};
@@ -306,7 +307,9 @@ fn is_spelled_and_run(
     for part in parts {
         spell_part(schedule, answers, part, bytes)?;
     }
-    makes_in_pieces(alloc, schedule, (100, 1_000), answers, SimEnd::All)
+    let is_run = makes_in_pieces(alloc, schedule, (100, 1_000), answers, SimEnd::All)?;
+    let at_once = (1_000_000, 1_000_000);
+    Ok(is_run && makes_in_pieces(alloc, schedule, at_once, answers, SimEnd::All)?)
 }
 
 /// Runs a schedule that is built of parts.
@@ -349,6 +352,26 @@ fn all_messages_of_a_member(rt: HostRuntime) {
 #[test]
 fn the_longest_payload(rt: HostRuntime) {
     judge(&rt, are_built_and_run(rt.alloc(), LONGEST_PAYLOAD));
+}
+
+#[test]
+fn five_thousand_packets(rt: HostRuntime) {
+    judge(&rt, are_built_and_run(rt.alloc(), MANY_PACKETS));
+}
+
+#[test]
+fn the_longest_log(rt: HostRuntime) {
+    judge(&rt, are_built_and_run(rt.alloc(), LONGEST_LOG));
+}
+
+#[test]
+fn a_frame_of_the_shortest_messages(rt: HostRuntime) {
+    judge(&rt, are_built_and_run(rt.alloc(), SHORTEST_MESSAGES));
+}
+
+#[test]
+fn as_many_groups_as_there_are_places(rt: HostRuntime) {
+    judge(&rt, are_built_and_run(rt.alloc(), MOST_GROUPS));
 }
 
 #[test]

@@ -360,6 +360,27 @@ impl Slot {
         }
     }
 
+    /// What the group was made with.
+    pub fn spec(&self) -> &Spec
+        ensures { result.now ≡ self.now.spec }
+    {
+        &self.spec
+    }
+
+    /// The group's phase.
+    pub fn phase(&self) -> Phase
+        ensures { result ≡ self.now.phase }
+    {
+        self.phase
+    }
+
+    /// The number of messages that were delivered here.
+    pub fn log_len(&self) -> usize
+        ensures { result ≡ length self.now.log }
+    {
+        self.log.len()
+    }
+
     /// The group's members.
     pub fn members(&self) -> &NodeSet
         ensures { result.now ≡ self.now.spec.members }

@@ -9,12 +9,16 @@ use Rattle.gb_types.proofs.BoolLemmas.{and_sides}
 use Rattle.gb_rules.specs.Tenant.{row_of, reserved}
 use Rattle.gb_table.specs.Within.{IsReserved}
 
--- the addresses with a tenant and a number, and those with a tenant and a number below one
+-- the first generations of a tenant's groups
+abbrev is_first : ℕ → Addr → Bool
+is_first tenant a = nat_eq a.tenant tenant && nat_eq a.generation 0
+
+-- those with a number, and those with a number below one
 abbrev is_at : ℕ → ℕ → Addr → Bool
-is_at tenant n a = nat_eq a.tenant tenant && nat_eq a.group n
+is_at tenant n a = is_first tenant a && nat_eq a.group n
 
 abbrev is_below : ℕ → ℕ → Addr → Bool
-is_below tenant n a = nat_eq a.tenant tenant && nat_lt a.group n
+is_below tenant n a = is_first tenant a && nat_lt a.group n
 
 -- no two places have one address
 abbrev pub AreDistinct : List Addr → Type 0
@@ -25,11 +29,14 @@ one_of b = cond b 1 0
 
 at_same : (tenant n : ℕ) (a b : Addr) → is_at tenant n a ≡ true → is_at tenant n b ≡ true → a ≡ b
 at_same tenant n a b e f =
-    let x = and_sides (nat_eq a.tenant tenant) (nat_eq a.group n) e in
-    let y = and_sides (nat_eq b.tenant tenant) (nat_eq b.group n) f in
-    let t : a.tenant ≡ b.tenant = eqb-true a.tenant tenant x.0 ∙ sym (eqb-true b.tenant tenant y.0) in
+    let x = and_sides (is_first tenant a) (nat_eq a.group n) e in
+    let y = and_sides (is_first tenant b) (nat_eq b.group n) f in
+    let u = and_sides (nat_eq a.tenant tenant) (nat_eq a.generation 0) x.0 in
+    let v = and_sides (nat_eq b.tenant tenant) (nat_eq b.generation 0) y.0 in
+    let t : a.tenant ≡ b.tenant = eqb-true a.tenant tenant u.0 ∙ sym (eqb-true b.tenant tenant v.0) in
     let g : a.group ≡ b.group = eqb-true a.group n x.1 ∙ sym (eqb-true b.group n y.1) in
-    ap (λ k. record { tenant = k; group = a.group }) t ∙ ap (λ k. record { tenant = b.tenant; group = k }) g
+    let s : a.generation ≡ b.generation = eqb-true a.generation 0 u.1 ∙ sym (eqb-true b.generation 0 v.1) in
+    λ i. record { tenant = t i; group = g i; generation = s i }
 
 none_more : (test : Addr → Bool) (addrs : List Addr) (d : Addr) → ((q : ℕ) → q < length addrs → test (get_or addrs q d) ≡ false) → count_by test addrs ≡ 0
 none_more test [] d h = refl
@@ -64,18 +71,18 @@ below-more tenant n a =
           let x = lt-ltb a.group (suc n) (omega arith) in
           let y = lt-ltb a.group n h in
           let z : nat_eq a.group n ≡ false = ne_eqb a.group n (λ e. absurd (omega arith)) in
-          rw (x, y, z) (split (nat_eq a.tenant tenant))
+          rw (x, y, z) (split (is_first tenant a))
       | inr h ↦ elim (cases_eq a.group n) [
         | inl e ↦
             let x = lt-ltb a.group (suc n) (omega arith) in
             let y = le-ltb a.group n h in
             let z : nat_eq a.group n ≡ true = eq-eqb a.group n e in
-            rw (x, y, z) (last (nat_eq a.tenant tenant))
+            rw (x, y, z) (last (is_first tenant a))
         | inr ne ↦
             let x = le-ltb a.group (suc n) (omega arith) in
             let y = le-ltb a.group n h in
             let z : nat_eq a.group n ≡ false = ne_eqb a.group n ne in
-            rw (x, y, z) (none (nat_eq a.tenant tenant))
+            rw (x, y, z) (none (is_first tenant a))
       ]
     ]
   where
@@ -102,8 +109,11 @@ count-more tenant n (a ∷ addrs) =
     omega arith
 
 none-below : (tenant : ℕ) (addrs : List Addr) → count_by (is_below tenant 0) addrs ≡ 0
-none-below tenant addrs = none_more (is_below tenant 0) addrs (record { tenant = 0; group = 0 }) (λ q l. never (nat_eq (get_or addrs q (record { tenant = 0; group = 0 })).tenant tenant) (nat_lt (get_or addrs q (record { tenant = 0; group = 0 })).group 0) (le-ltb (get_or addrs q (record { tenant = 0; group = 0 })).group 0 (omega arith)))
+none-below tenant addrs = none_more (is_below tenant 0) addrs nowhere (λ q l. never (is_first tenant (get_or addrs q nowhere)) (nat_lt (get_or addrs q nowhere).group 0) (le-ltb (get_or addrs q nowhere).group 0 (omega arith)))
   where
+    nowhere : Addr
+    nowhere = record { tenant = 0; group = 0; generation = 0 }
+
     never : (b c : Bool) → c ≡ false → (b && c) ≡ false
     never true c e = e
     never false c e = refl
@@ -134,9 +144,9 @@ few_owned addrs (row ∷ rows) h =
 abbrev owns : Addr → TenantRow → ℕ
 owns a row = cond (is_below row.tenant row.groups a) 1 0
 
-owned_once : (a : Addr) (tenants : List TenantRow) (row : TenantRow) → row_of a.tenant tenants ≡ Some row → a.group < row.groups → 1 ≤ sum_by (owns a) tenants
-owned_once a [] row e h = absurd (cc)
-owned_once a (r ∷ rs) row e h =
+owned_once : (a : Addr) (tenants : List TenantRow) (row : TenantRow) → row_of a.tenant tenants ≡ Some row → a.group < row.groups → a.generation ≡ 0 → 1 ≤ sum_by (owns a) tenants
+owned_once a [] row e h first = absurd (cc)
+owned_once a (r ∷ rs) row e h first =
     let x = sum_by-cons (owns a) r rs in
     elim (cases_Bool (nat_eq r.tenant a.tenant)) [
       | inl t ↦
@@ -145,10 +155,10 @@ owned_once a (r ∷ rs) row e h =
           let k = ap (λ (s : TenantRow). s.groups) g in
           let u : nat_eq a.tenant r.tenant ≡ true = eq-eqb a.tenant r.tenant (sym (eqb-true r.tenant a.tenant t)) in
           let v = lt-ltb a.group r.groups (omega arith) in
-          let here : owns a r ≡ 1 = ap (λ b. one_of (b && nat_lt a.group r.groups)) u ∙ ap one_of v in
+          let here : owns a r ≡ 1 = ap (λ b. one_of ((b && nat_eq a.generation 0) && nat_lt a.group r.groups)) u ∙ ap (λ b. one_of (b && nat_lt a.group r.groups)) (eq-eqb a.generation 0 first) ∙ ap one_of v in
           omega arith
       | inr f ↦
-          let rest = owned_once a rs row (sym (ap (λ b. cond b (Some r) (find (λ (s : TenantRow). nat_eq s.tenant a.tenant) rs)) f) ∙ e) h in
+          let rest = owned_once a rs row (sym (ap (λ b. cond b (Some r) (find (λ (s : TenantRow). nat_eq s.tenant a.tenant) rs)) f) ∙ e) h first in
           omega arith
     ]
 
@@ -167,7 +177,7 @@ each_owned [] tenants h = omega arith
 each_owned (a ∷ addrs) tenants h =
     let x = owned-more a addrs tenants in
     let here = h zero a (omega arith) in
-    let once = owned_once a tenants here.0 here.1 here.2 in
+    let once = owned_once a tenants here.0 here.1 here.2 here.3 in
     let rest = each_owned addrs tenants (λ k d l. h (suc k) d (omega arith)) in
     omega arith
 

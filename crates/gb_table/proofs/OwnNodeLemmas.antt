@@ -24,7 +24,7 @@ use Rattle.gb_history.specs.Messages.{with_new}
 use Rattle.gb_rules.specs.Group.{is_other, is_too_long, say_answer}
 use Rattle.gb_rules.proofs.LengthLemmas.{within_limit}
 use Rattle.gb_rules.specs.declared.phase.Phase.{Phase}
-use Rattle.gb_slot.specs.Slot.{falls, shown, usage_of, slot_called, slot_moved, slot_said, slot_came, slot_noticed, slot_took, slot_done, new_slot, with_acknowledgement}
+use Rattle.gb_slot.specs.Slot.{falls, shown, slot_called, slot_moved, slot_said, slot_came, slot_noticed, slot_took, slot_done, new_slot, with_acknowledgement}
 use Rattle.gb_slot.specs.SlotState.{SlotState}
 use Rattle.gb_groups.specs.SlotsValue.{Row, row_at, on_slot, gone, no_row, unless_gone, IsShort, AreShort}
 use Rattle.gb_groups.proofs.StepLemmas.{short-moved, short-came, short-noticed, short-done, short-took, short-own, said_fits}

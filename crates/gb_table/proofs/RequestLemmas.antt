@@ -1,6 +1,6 @@
 -- What the parts of a table's code give together.
-use Rattle.std.proofs.Common.{◌≡◌, ℕ, zero, suc, ◌<◌, ◌≤◌, List, [], ◌∷◌, ◌++◌, length, get_or, refl, ap, sym, ◌∙◌, subst, true, false, arith, inl, inr, eq-eqb}
-use Rattle.std.specs.Prelude.{◌&&◌, Bool, cond, nat_lt, nat_eq, Option, Some, None, is_some, option_map, All, if◌then◌else◌}
+use Rattle.std.proofs.Common.{◌≡◌, ℕ, zero, suc, ◌<◌, ◌≤◌, List, [], ◌∷◌, ◌++◌, length, get_or, refl, ap, sym, ◌∙◌, subst, true, false, arith, inl, inr}
+use Rattle.std.specs.Prelude.{Bool, cond, nat_lt, Option, Some, None, is_some, option_map, All, if◌then◌else◌}
 use Rattle.std.specs.List.{position_or_len}
 use Rattle.std.specs.Ordering.{nat_cmp}
 use Rattle.std.specs.FinSet as set
@@ -27,6 +27,7 @@ use Rattle.gb_table.specs.Requests.{is_admitted, admitted_reply, table_reply, Is
 use Rattle.gb_table.specs.Within.{addrs_of, IsReserved, IsWithin}
 use Rattle.gb_table.proofs.AddrLemmas.{addr_at}
 use Rattle.gb_table.proofs.CountLemmas.{AreDistinct, few_groups}
+use Rattle.gb_rules.proofs.AddressLemmas.{addr_same}
 
 -- a step that keeps the addresses of groups keeps what holds of the table
 pub within_step : (places : ℕ) (tenants : List TenantRow) (rows new : List Row) → addrs_of new ≡ addrs_of rows → IsWithin places tenants (addrs_of rows) → IsWithin places tenants (addrs_of new)
@@ -38,13 +39,13 @@ admitted request t reply h r = subst (λ (b : Bool). IsReplyTo request (if b the
 
 -- the answer that the rules give to a request to make a group
 pub make_should : (t now : TableValue) (addr : Addr) (spec : Spec) (row : TenantRow) (nodes : ℕ) (made : Bool) (reserve : Reserve) (r : Reply) → t ≡ now → Some row ≡ row_of addr.tenant t.tenants → nodes ≡ t.nodes → made ≡ is_some (place_of addr t.groups.rows) → reserve ≡ reserve_of row
-    → r ≡ make_answer nodes t.me.number addr.group made spec reserve → r ≡ by_tenant (make_answer now.nodes now.me.number addr.group (is_some (place_of addr now.groups.rows)) spec) (reserve_for addr.tenant now)
+    → r ≡ make_answer nodes t.me.number addr made spec reserve → r ≡ by_tenant (make_answer now.nodes now.me.number addr (is_some (place_of addr now.groups.rows)) spec) (reserve_for addr.tenant now)
 make_should t now addr spec row nodes made reserve r same found n m own e =
-    e ∙ ap (λ k. make_answer k t.me.number addr.group made spec reserve) n
-    ∙ ap (λ b. make_answer t.nodes t.me.number addr.group b spec reserve) m
-    ∙ ap (λ o. by_tenant (make_answer t.nodes t.me.number addr.group (is_some (place_of addr t.groups.rows)) spec) (Some o)) own
-    ∙ ap (λ (o : Option TenantRow). by_tenant (make_answer t.nodes t.me.number addr.group (is_some (place_of addr t.groups.rows)) spec) (option_map reserve_of o)) found
-    ∙ ap (λ (v : TableValue). by_tenant (make_answer v.nodes v.me.number addr.group (is_some (place_of addr v.groups.rows)) spec) (reserve_for addr.tenant v)) same
+    e ∙ ap (λ k. make_answer k t.me.number addr made spec reserve) n
+    ∙ ap (λ b. make_answer t.nodes t.me.number addr b spec reserve) m
+    ∙ ap (λ o. by_tenant (make_answer t.nodes t.me.number addr (is_some (place_of addr t.groups.rows)) spec) (Some o)) own
+    ∙ ap (λ (o : Option TenantRow). by_tenant (make_answer t.nodes t.me.number addr (is_some (place_of addr t.groups.rows)) spec) (option_map reserve_of o)) found
+    ∙ ap (λ (v : TableValue). by_tenant (make_answer v.nodes v.me.number addr (is_some (place_of addr v.groups.rows)) spec) (reserve_for addr.tenant v)) same
 
 -- what is not made changes nothing
 pub not_made : (noticed : set.FinSet nat_cmp) (token : List ℕ) (addr : Addr) (spec : Spec) (r : Reply) (t : TableValue) → (r ≡ Done → ⊥) → t ≡ table_did noticed (Make token addr spec) r t
@@ -61,7 +62,7 @@ past_end n l e =
     ]
 
 same_test : (addr a : Addr) → addr ≡ a → is_addr addr a ≡ true
-same_test addr a e = ap (λ b. b && nat_eq addr.group a.group) (eq-eqb addr.tenant a.tenant (ap (λ (x : Addr). x.tenant) e)) ∙ eq-eqb addr.group a.group (ap (λ (x : Addr). x.group) e)
+same_test addr a e = addr_same addr a e
 
 addr_of_row : (rows : List Row) (p : ℕ) (d : Addr) → p < length rows → get_or (addrs_of rows) p d ≡ (row_at rows p).addr
 addr_of_row rows p d h =
@@ -89,19 +90,19 @@ all_more tenants addrs addr all h zero d l = h
 all_more tenants addrs addr all h (suc k) d l = all k d (omega arith)
 
 -- there is a place for a group that may be made
-pub has_place : (places : ℕ) (tenants : List TenantRow) (rows : List Row) (addr : Addr) (row : TenantRow) → IsWithin places tenants (addrs_of rows) → AreApart rows → is_some (place_of addr rows) ≡ false → Some row ≡ row_of addr.tenant tenants → addr.group < row.groups → length rows < PLACES
-has_place places tenants rows addr row w ok none found below =
+pub has_place : (places : ℕ) (tenants : List TenantRow) (rows : List Row) (addr : Addr) (row : TenantRow) → IsWithin places tenants (addrs_of rows) → AreApart rows → is_some (place_of addr rows) ≡ false → Some row ≡ row_of addr.tenant tenants → addr.group < row.groups → addr.generation ≡ 0 → length rows < PLACES
+has_place places tenants rows addr row w ok none found below first =
     let n = length-map rows (λ (r : Row). r.addr) in
-    let few = few_groups (addr ∷ addrs_of rows) tenants (distinct_more rows addr ok none) (all_more tenants (addrs_of rows) addr w.groups (row, sym found, below)) in
+    let few = few_groups (addr ∷ addrs_of rows) tenants (distinct_more rows addr ok none) (all_more tenants (addrs_of rows) addr w.groups (row, sym found, below, first)) in
     let sum = w.sum in
     let most = w.most in
     omega arith
 
 -- after it was made
-pub within_made : (places : ℕ) (tenants : List TenantRow) (rows : List Row) (group : Row) (row : TenantRow) → IsWithin places tenants (addrs_of rows) → Some row ≡ row_of group.addr.tenant tenants → group.addr.group < row.groups → IsWithin places tenants (addrs_of (rows ++ group ∷ []))
-within_made places tenants rows group row w found below = record {
+pub within_made : (places : ℕ) (tenants : List TenantRow) (rows : List Row) (group : Row) (row : TenantRow) → IsWithin places tenants (addrs_of rows) → Some row ≡ row_of group.addr.tenant tenants → group.addr.group < row.groups → group.addr.generation ≡ 0 → IsWithin places tenants (addrs_of (rows ++ group ∷ []))
+within_made places tenants rows group row w found below first = record {
   limits = w.limits;
   sum = w.sum;
   most = w.most;
-  groups = subst (λ xs. All (IsReserved tenants) xs) (sym (map-append (λ (r : Row). r.addr) rows (group ∷ []))) (All-push (IsReserved tenants) (addrs_of rows) group.addr w.groups (row, sym found, below));
+  groups = subst (λ xs. All (IsReserved tenants) xs) (sym (map-append (λ (r : Row). r.addr) rows (group ∷ []))) (All-push (IsReserved tenants) (addrs_of rows) group.addr w.groups (row, sym found, below, first));
 }

@@ -98,7 +98,7 @@ within_added places tenants addrs row w over room = record {
   limits = All-push (λ r. is_over_limits r ≡ false) tenants row w.limits over;
   sum = let n = reserved-more tenants row in omega arith;
   most = w.most;
-  groups = λ k d l. let h = w.groups k d l in (h.0, found-more (get_or addrs k d).tenant tenants row h.0 h.1, h.2);
+  groups = λ k d l. let h = w.groups k d l in (h.0, found-more (get_or addrs k d).tenant tenants row h.0 h.1, h.2, h.3);
 }
 
 -- what a group that is made is like
@@ -109,10 +109,13 @@ make_by false true bad over e = absurd (cc)
 make_by false false true over e = absurd (cc)
 make_by false false false true e = absurd (cc)
 
-pub make_done : (nodes me number : ℕ) (made : Bool) (spec : Spec) (reserve : Reserve) → Done ≡ make_answer nodes me number made spec reserve → (number < reserve.groups) × ((made ≡ false) × ((is_bad nodes me spec ≡ false) × (is_over reserve spec ≡ false)))
-make_done nodes me number made spec reserve e =
-    let h = make_by (nat_le reserve.groups number) made (is_bad nodes me spec) (is_over reserve spec) e in
-    (leb-false reserve.groups number h.0, (h.1.0, (h.1.1.0, h.1.1.1)))
+pub make_done : (nodes me : ℕ) (addr : Addr) (made : Bool) (spec : Spec) (reserve : Reserve) → Done ≡ make_answer nodes me addr made spec reserve
+    → (addr.group < reserve.groups) × ((made ≡ false) × ((is_bad nodes me spec ≡ false) × ((is_over reserve spec ≡ false) × (addr.generation ≡ 0))))
+make_done nodes me addr made spec reserve e =
+    let h = make_by (nat_le reserve.groups addr.group) made (is_bad nodes me spec) (nat_lt 0 addr.generation || is_over reserve spec) e in
+    let within = or_sides (nat_lt 0 addr.generation) (is_over reserve spec) h.1.1.1 in
+    let first = ltb-false 0 addr.generation within.0 in
+    (leb-false reserve.groups addr.group h.0, (h.1.0, (h.1.1.0, (within.1, omega (arith, first)))))
 
 over_limits_by : (a b c d f g h i : Bool) → (a || (b || (c || (d || (f || (g || (h || i))))))) ≡ false → (f ≡ false) × ((g ≡ false) × (i ≡ false))
 over_limits_by a b c d f g h i e =

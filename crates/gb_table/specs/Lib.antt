@@ -4,3 +4,4 @@ pub mod Kept
 pub mod Within
 pub mod OwnNode
 pub mod Admission
+pub mod Listing

@@ -34,7 +34,7 @@ place_for request t = None
 abbrev pub admitted_reply : Request → TableValue → Reply
 admitted_reply (AddTenant token row) t = tenant_answer t.places (reserved t.tenants) (is_some (row_of row.tenant t.tenants)) row
 admitted_reply (Make token addr spec) t =
-    by_tenant (make_answer t.nodes t.me.number addr.group (is_some (place_of addr t.groups.rows)) spec) (reserve_for addr.tenant t)
+    by_tenant (make_answer t.nodes t.me.number addr (is_some (place_of addr t.groups.rows)) spec) (reserve_for addr.tenant t)
 admitted_reply (OpenGroup token addr) t = group_reply open_answer addr t.groups.rows
 admitted_reply (ShutGroup token addr) t = group_reply shut_answer addr t.groups.rows
 admitted_reply (DropGroup token addr) t = group_reply drop_answer addr t.groups.rows

@@ -12,7 +12,7 @@ addrs_of rows = map (λ row. row.addr) rows
 
 -- the address is one of those that its tenant, which is here, may make groups with
 abbrev pub IsReserved : List TenantRow → Addr → Type 0
-IsReserved tenants addr = (row : TenantRow) × (row_of addr.tenant tenants ≡ Some row) × (addr.group < row.groups)
+IsReserved tenants addr = (row : TenantRow) × (row_of addr.tenant tenants ≡ Some row) × (addr.group < row.groups) × (addr.generation ≡ 0)
 
 -- The tenants are within the limits and their groups have places; each group has an address of its tenant's. So no more groups are made than there are places.
 pub record IsWithin (places : ℕ) (tenants : List TenantRow) (addrs : List Addr) : Type 0 where

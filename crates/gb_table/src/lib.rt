@@ -2,5 +2,6 @@
 //! and what the token allows is decided here. There is no link and no clock. Read `table::Table` first.
 #![tactic(auto)]
 
+pub mod listing;
 pub mod table;
 pub mod tenants;

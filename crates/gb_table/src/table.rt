@@ -1,5 +1,5 @@
 //! The tenants and groups of a node.
-ghost use Rattle.std.specs.Prelude.{◌≡◌, ◌+◌, ◌≤◌, ◌<◌, ◌++◌, ℕ, List, map, false, length, sum_by, All, IfSome, is_some, bytes_eq, vec_len, vec_capacity};
+ghost use Rattle.std.specs.Prelude.{◌≡◌, ◌+◌, ◌≤◌, ◌<◌, ◌++◌, ℕ, List, map, false, length, sum_by, All, IfOk, IfErr, Ok, Err, ◌⊎◌, is_ok, true, IfSome, is_some, bytes_eq, vec_len, vec_capacity};
 ghost use Rattle.std.specs.Ordering.{nat_cmp};
 ghost use Rattle.std.specs.FinSet as set;
 ghost use Rattle.gb_types.specs.Version.{limits_of};
@@ -16,9 +16,13 @@ ghost use Rattle.gb_groups.specs.OneGroup.{LONGEST, NothingWaits};
 ghost use Rattle.gb_groups.specs.GroupsValue.{walk_to, batch};
 ghost use Rattle.gb_groups.specs.Packing.{items, size};
 ghost use Rattle.gb_table.specs.TableValue.{new_table, reserve_for, table_came, table_done, table_noticed, table_packed};
+ghost use Rattle.gb_cap.specs.declared.token.Need.TheVariants.{Admin};
+ghost use Rattle.gb_table.specs.Admission.{is_token};
 ghost use Rattle.gb_table.specs.Kept.{IsMemberToken};
+ghost use Rattle.gb_table.specs.Listing.{list_answer};
 ghost use Rattle.gb_table.specs.Requests.{is_admitted, is_by_tenant, place_for, table_reply, IsReplyTo, table_did};
 
+use crate::listing::{LISTED, Listing};
 use crate::tenants::Tenants;
 use gb_cap::compare::is_same;
 use gb_cap::hmac::{HmacKey, Key};
@@ -241,7 +245,7 @@ impl Table {
     }
 
     fn make_group(&mut self, addr: Addr, spec: &Spec, noticed: &NodeSet) -> Reply
-        ensures reply { IsReply (by_tenant (make_answer self.old.nodes self.old.me.number addr.group (is_some (place_of addr self.old.groups.rows)) spec.now) (reserve_for addr.tenant self.old)) result }
+        ensures reply { IsReply (by_tenant (make_answer self.old.nodes self.old.me.number addr (is_some (place_of addr self.old.groups.rows)) spec.now) (reserve_for addr.tenant self.old)) result }
         ensures state { (token : List ℕ) → self.new ≡ table_did noticed.now (Request.Make token addr spec.now) result self.old }
     {
         let Some(row) = self.tenants.row(addr.tenant) else {
@@ -249,14 +253,7 @@ impl Table {
         };
         let reserve = Reserve::of(row);
         let made = self.groups.find(addr).is_some();
-        match answer_make(
-            usize::from(self.nodes),
-            self.me,
-            addr.group,
-            made,
-            spec,
-            &reserve,
-        ) {
+        match answer_make(usize::from(self.nodes), self.me, addr, made, spec, &reserve) {
             Reply::Done => {}
             refused => return refused,
         }
@@ -269,7 +266,7 @@ impl Table {
     /// Makes a group and keeps its member's token.
     #[inline(never)]
     fn make(&mut self, addr: Addr, spec: &Spec, noticed: &NodeSet) -> Reply
-        ensures reply { IsReply (by_tenant (make_answer self.old.nodes self.old.me.number addr.group (is_some (place_of addr self.old.groups.rows)) spec.now) (reserve_for addr.tenant self.old)) result }
+        ensures reply { IsReply (by_tenant (make_answer self.old.nodes self.old.me.number addr (is_some (place_of addr self.old.groups.rows)) spec.now) (reserve_for addr.tenant self.old)) result }
         ensures state { (token : List ℕ) → self.new ≡ table_did noticed.now (Request.Make token addr spec.now) result self.old }
     {
         let reply = self.make_group(addr, spec, noticed);
@@ -333,6 +330,34 @@ impl Table {
             Request::DropGroup(_, addr) => self.drop_group(*addr),
             Request::Say(_, addr, message) => self.say(*addr, place, message),
             Request::Fetch(_, _, from, most) => self.groups.fetch(place, *from, *most),
+        }
+    }
+
+    /// Returns true if this is the administrator's token.
+    pub fn is_admin(&self, token: &Token) -> bool
+        ensures { result ≡ is_token self.now.admin_key Admin token.now }
+    {
+        self.admin_key.admits(Need::Admin, token)
+    }
+
+    /// Lists the node's groups from a place on, at most `most` of them, in the order in which they were made, for who has the
+    /// administrator's token. Denied: the token is another. BadPlace: there are fewer than `from` groups, or `most` is above 64.
+    pub fn list(&self, token: &Token, from: u32, most: u32) -> Result<Listing, Refusal>
+        ensures groups { IfOk result (λ listing. list_answer token.now from most self.now ≡ Ok listing.groups.items) }
+        ensures total { IfOk result (λ listing. listing.total ≡ length self.now.groups.rows) }
+        ensures refused { IfErr result (λ why. (list_answer token.now from most self.now ≡ Err why)
+            ⊎ ((why ≡ Refusal.OutOfMemory) × (is_ok (list_answer token.now from most self.now) ≡ true))) }
+    {
+        if !self.is_admin(token) {
+            return Err(Refusal::Denied);
+        }
+        let total = self.groups.len();
+        if total < from as usize || LISTED < most {
+            return Err(Refusal::BadPlace);
+        }
+        match self.groups.list(from as usize, most as usize) {
+            Ok(groups) => Ok(Listing { total, groups }),
+            Err(_) => Err(Refusal::OutOfMemory),
         }
     }
 

@@ -301,6 +301,59 @@ fn bad_lines(rt: HostRuntime) -> Result<(), Fail> {
     Ok(())
 }
 
+/// The group that a command names.
+fn named(command: &Command) -> Option<Addr> {
+    match command {
+        Command::Request(_, Request::Make(_, address, _)) => Some(*address),
+        Command::Request(
+            _,
+            Request::OpenGroup(_, address)
+            | Request::ShutGroup(_, address)
+            | Request::DropGroup(_, address),
+        ) => Some(*address),
+        Command::Request(_, Request::Say(_, address, _)) => Some(*address),
+        Command::Step(Step::Fetch(_, address, _, _)) => Some(*address),
+        _ => None,
+    }
+}
+
+/// Returns tenant, group and generation of the group that a line names, each after a space.
+fn told_group(alloc: Global, keys: &mut Keys, line: &[u8]) -> Result<Vec<u8>, OutOfMemory> {
+    let Some(command) = read_command(alloc, keys, Some(3), line)? else {
+        return shown(alloc, b"bad", &[]);
+    };
+    let Some(address) = named(&command) else {
+        return shown(alloc, b"no group", &[]);
+    };
+    let (tenant, group) = (u64::from(address.tenant), u64::from(address.group));
+    shown(alloc, b"", &[tenant, group, u64::from(address.generation)])
+}
+
+/// Whether a line names the group that stands behind its `=`, or is bad where it has none.
+fn names_group(alloc: Global, keys: &mut Keys, each: &str) -> Result<bool, OutOfMemory> {
+    let (line, wanted) = each.split_once('=').unwrap_or((each, "bad"));
+    let found = told_group(alloc, keys, line.as_bytes())?;
+    Ok(found.as_slice() == wanted.as_bytes())
+}
+
+const GENERATIONS: &str =
+    "make 0 7 1.1 beb 0 8 64 4= 7 1 1\nmake 0 7 1 beb 0 8 64 4= 7 1 0\nopen 0 7 65535.4294967295= 7 65535 4294967295\nshut 0 7 0.10= 7 0 10\ndrop 0 7 1.2= 7 1 2\nsay 0 7 1.2 61= 7 1 2\nsay 2 65535 12.34 - 4294967295= 65535 12 34\nsay 0 7 1 61= 7 1 0\nfetch 0 7 1.2 0 16= 7 1 2\nfetch 0 7 1 0 16= 7 1 0\nfetch 2 65535 65535.4294967295 4294967295 0= 65535 65535 4294967295\nforge 0 7 1.2= 7 1 2\nopen 0 7 1.0\nopen 0 7 1.01\nopen 0 7 1.\nopen 0 7 .1\nopen 0 7 .\nopen 0 7 1..1\nopen 0 7 1.1.1\nopen 0 7 01.1\nopen 0 7 1.4294967296\nopen 0 7 65536.1\nopen 0 7.1 1\nopen 0.1 7 1\nopen 0 7 1,1\nsay 0 7 1.0 61\nsay 0 7 1. 61\nsay 0 7 1.2\nsay 0 7 1.2 \nsay 3 7 1.2 61\nsay 0 7.2 1 61\nsay 0 7 1.2 61 1.2\nfetch 0 7 1.0 0 16\nfetch 0 7 1.2 0\nfetch 0 7 1.2 0 16 1\nfetch 3 7 1.2 0 16\nfetch 0 7 1.2 0 4294967296\nfetch 0 7 1 0.1 16\nmake 0 7 1.0 beb 0 8 64 4\ntenant 0 7.1 1 1 1 1\npack 0 1.1";
+
+/// A group's word has its generation behind a dot, where it is not the first.
+#[test]
+fn generations(rt: HostRuntime) -> Result<(), Fail> {
+    let alloc = rt.alloc();
+    let mut keys = Keys::new(alloc);
+    let mut count: usize = 0;
+    for each in GENERATIONS.split('\n') {
+        let held = names_group(alloc, &mut keys, each)?;
+        assert!(rt; held);
+        count = count.wrapping_add(1);
+    }
+    assert!(rt; count == 41);
+    Ok(())
+}
+
 const LINES_OF_SIXTEEN: &str =
     "pack 15 9=pack 15 9\npack 9 15=pack 9 15\npack 16 9\npack 9 16\nack 15 10=acknowledge 15 10\nack 10 15=acknowledge 10 15\nack 16 0\nack 0 16\nagain 15 14 1=again 15 14 1\nagain 16 0 1\nagain 0 16 1\ntick 15=tick 15\ntick 16\nstop 15=stop 15\nstop 16\nsay 15 7 1 61=say 15 7 1 97\nsay 16 7 1 61";
 

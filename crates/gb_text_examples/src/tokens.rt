@@ -58,7 +58,12 @@ fn is_token(rt: &impl Abort, found: [u8; 32], digits: &[u8]) -> bool {
 /// Whether the member's token has these digits.
 fn is_member(rt: &impl Abort, keys: &mut Keys, tenant: u16, number: u8, digits: &[u8]) -> bool {
     let node = NodeId::from_number(number).expect(rt, "a node");
-    let found = keys.member(Addr { tenant, group: 1 }, node);
+    let address = Addr {
+        tenant,
+        group: 1,
+        generation: 0,
+    };
+    let found = keys.member(address, node);
     is_token(rt, found, digits)
 }
 

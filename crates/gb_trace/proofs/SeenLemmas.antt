@@ -60,8 +60,8 @@ seen_alone_too plan run v g few alike =
 -- the plain programs together
 pub seen_alone_projected : GroupsAreIsolated → IsolatedGroupsAreSeenAlone → FedGroupsAreSeenAlone
 seen_alone_projected isolated seen plan events answers packets v is_run g fed steps are = (
-  subst (IsLegal (bounds_of plan) g.group) (sym are) alike.legal,
-  seen plan run v g (stays plan run v is_run.comes).right.few alike ∙ ap (λ (ss : List GroupStep). observed_alone plan.nodes (alone (bounds_of plan) g.group ss)) (sym are),
+  subst (IsLegal (bounds_of plan) g) (sym are) alike.legal,
+  seen plan run v g (stays plan run v is_run.comes).right.few alike ∙ ap (λ (ss : List GroupStep). observed_alone plan.nodes (alone (bounds_of plan) g ss)) (sym are),
 )
   where
     run : List Did

@@ -39,4 +39,4 @@ abbrev pub FedGroupsAreSeenAlone : Type 0
 FedGroupsAreSeenAlone =
     (plan : Plan) (events : List Event) (answers : List Answer) (packets : List Posted) (v : ClusterValue) → IsRun plan events answers packets v
     → (g : Addr) → is_fed g (run_of events answers packets) ≡ true → (steps : List GroupStep) → steps ≡ project plan g (run_of events answers packets)
-    → IsLegal (bounds_of plan) g.group steps × (observed plan g (run_of events answers packets) ≡ observed_alone plan.nodes (alone (bounds_of plan) g.group steps))
+    → IsLegal (bounds_of plan) g steps × (observed plan g (run_of events answers packets) ≡ observed_alone plan.nodes (alone (bounds_of plan) g steps))

@@ -68,6 +68,7 @@ fn is_of(addr: Addr, item: ItemView<'_>) -> bool
     let named = Addr {
         tenant: item.tenant,
         group: item.group,
+        generation: item.generation,
     };
     is_same(addr, named)
 }

@@ -36,7 +36,11 @@ pub const PLAN: Plan = Plan {
 const TENANT_KEY: Key = [2; 32];
 
 pub fn group_of(tenant: u16) -> Addr {
-    Addr { tenant, group: 1 }
+    Addr {
+        tenant,
+        group: 1,
+        generation: 0,
+    }
 }
 
 fn row(tenant: u16) -> TenantRow {

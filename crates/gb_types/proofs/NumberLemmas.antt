@@ -14,7 +14,7 @@ use Rattle.std.proofs.lemmas.List.Splits.{slice_split_none}
 use Rattle.std.proofs.lemmas.Fmt.{decimal_injective, decimal-digits_value, digits_decimal, first_decimal, decimal_digit, decimal_is_IsNumeral}
 use Rattle.gb_types.specs.Words.{words_of}
 
-own : IsNumeralModel (AllDigits 10) (digits_value 10)
+pub own : IsNumeralModel (AllDigits 10) (digits_value 10)
 own = numerals_by_value (AllDigits 10) tells_digits
 
 pub is_digit : (c : ℕ) → is_ascii_digit c ≡ true → IsInRange 48 57 c

@@ -1,11 +1,11 @@
 -- What the readers of the words of requests find.
-use Rattle.std.proofs.Common.{◌≡◌, ◌≢◌, ◌↔◌, ℕ, List, [], ◌∷◌, Some, None, sym, ◌∙◌, decimal}
+use Rattle.std.proofs.Common.{◌≡◌, ◌≢◌, ◌↔◌, ℕ, List, [], ◌∷◌, Option, Some, None, sym, ◌∙◌, decimal}
 use Rattle.std.specs.FinSet as set
 use Rattle.std.specs.Ordering.{nat_cmp}
 use Rattle.gb_types.specs.Rising.{AreNodes}
 use Rattle.gb_types.specs.KindWord.{kind_word}
 use Rattle.gb_types.specs.MembersWord.{members_word}
-use Rattle.gb_types.specs.RequestWords.{IsShort, IsLong, SpellsSpec}
+use Rattle.gb_types.specs.RequestWords.{IsShort, IsLong, IsGroup, AreGroupNumbers, group_word, SpellsSpec}
 use Rattle.gb_types.specs.declared.kind.Kind.{Kind}
 use Rattle.gb_types.specs.declared.address.Addr.{Addr}
 use Rattle.gb_types.specs.declared.spec.Spec.{Spec}
@@ -19,7 +19,25 @@ abbrev pub IsLongWord : List ℕ → ℕ → Type 0
 IsLongWord word n = IsLong n × (word ≡ decimal n)
 
 abbrev pub AreAddressWords : List ℕ → List ℕ → Addr → Type 0
-AreAddressWords t g address = IsShort address.tenant × (t ≡ decimal address.tenant) × IsShort address.group × (g ≡ decimal address.group)
+AreAddressWords t g address = IsShort address.tenant × (t ≡ decimal address.tenant) × IsGroup address × (g ≡ group_word address)
+
+-- what the readers of a tenant's word and of a group's word find is the address
+pub address_reads : (t g : List ℕ) (tenant group generation : ℕ) → Reads (IsShortWord t) tenant → Reads (AreGroupNumbers g) (group, generation)
+    → Reads (AreAddressWords t g) (record { tenant = tenant; group = group; generation = generation })
+address_reads t g tenant group generation reads_tenant reads_group =
+    let is_tenant = found (IsShortWord t) tenant reads_tenant in
+    let is_group = found (AreGroupNumbers g) (group, generation) reads_group in
+    let address : Addr = record { tenant = tenant; group = group; generation = generation } in
+    let here : AreAddressWords t g address = (is_tenant.0, is_tenant.1, (is_group.0, is_group.1), is_group.2) in
+    reads_one (AreAddressWords t g) address here (λ other spelt.
+    let same_tenant : tenant ≡ other.tenant = only (IsShortWord t) tenant other.tenant reads_tenant (spelt.0, spelt.1) in
+    let same_group : (group, generation) ≡ (other.group, other.generation) = only (AreGroupNumbers g) (group, generation) (other.group, other.generation) reads_group (spelt.2.0, spelt.2.1, spelt.3) in
+    λ i. record { tenant = same_tenant i; group = (same_group i).0; generation = (same_group i).1 })
+
+-- where a group's word cannot be read, no address is spelt
+pub no_group_words : (t g : List ℕ) (address : Addr) {r : Option Addr} → r ≡ None → ((n : ℕ × ℕ) → (None ≡ Some n) ↔ AreGroupNumbers g n)
+    → (r ≡ Some address) ↔ AreAddressWords t g address
+no_group_words t g address is none = (λ e. cc, λ spelt. cc ((none (address.group, address.generation)).1 (spelt.2.0, spelt.2.1, spelt.3)))
 
 -- the words of a group's limits
 abbrev pub AreLimitWords : List ℕ → List ℕ → List ℕ → ℕ × ℕ × ℕ → Type 0

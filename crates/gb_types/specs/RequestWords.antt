@@ -1,11 +1,12 @@
 -- The words that requests are spelt in.
-use Rattle.std.specs.Prelude.{◌≡◌, ◌≢◌, ℕ, ◌≤◌, List, [], ◌∷◌, Option, Some, None, decimal}
+use Rattle.std.specs.Prelude.{◌≡◌, ◌≢◌, ℕ, ◌==◌, ◌≤◌, List, [], ◌∷◌, ◌++◌, Option, Some, None, if◌then◌else◌, decimal, All}
 use Rattle.std.specs.Option.{ForSome}
 use Rattle.std.specs.FinSet as set
 use Rattle.gb_types.specs.Rising.{AreNodes}
 use Rattle.gb_types.specs.KindWord.{kind_word}
 use Rattle.gb_types.specs.MembersWord.{members_word}
 use Rattle.gb_types.specs.PayloadWord.{payload_of}
+use Rattle.gb_types.specs.declared.address.Addr.{Addr}
 use Rattle.gb_types.specs.declared.new_message.NewMessage.{NewMessage}
 use Rattle.gb_types.specs.declared.spec.Spec.{Spec}
 
@@ -15,6 +16,31 @@ IsShort n = n ≤ 65535
 
 abbrev pub IsLong : ℕ → Type 0
 IsLong n = n ≤ 4294967295
+
+-- the numbers of a group among its tenant's: its own and its generation's
+abbrev pub IsGroup : Addr → Type 0
+IsGroup a = IsShort a.group × IsLong a.generation
+
+-- a word, and behind a dot (46) a second one, where there is one
+abbrev pub with_dot : List ℕ → Option (List ℕ) → List ℕ
+with_dot word None = word
+with_dot word (Some behind) = word ++ 46 ∷ behind
+
+-- the word for a generation: none for the first one
+abbrev pub generation_word : ℕ → Option (List ℕ)
+generation_word n = if n == 0 then None else Some (decimal n)
+
+-- the word for a group among its tenant's: its number, and behind a dot its generation, where it is not the first
+abbrev pub group_word : Addr → List ℕ
+group_word a = with_dot (decimal a.group) (generation_word a.generation)
+
+-- a word spells the number and the generation of a group
+abbrev pub AreGroupNumbers : List ℕ → ℕ × ℕ → Type 0
+AreGroupNumbers word n = IsShort n.0 × IsLong n.1 × (word ≡ with_dot (decimal n.0) (generation_word n.1))
+
+-- no byte of a word is a dot
+abbrev pub HasNoDot : List ℕ → Type 0
+HasNoDot word = All (λ byte. byte ≢ 46) word
 
 -- what a group is made with, in the words KIND MEMBERS MSGS BYTES WINDOW
 pub record SpellsSpec (spec : Spec) (words : List (List ℕ)) : Type 0 where

@@ -1,7 +1,7 @@
 //! The words of requests: numbers of two and of four bytes, addresses, what a group is made with, and what is said in it.
-ghost use Rattle.std.specs.Prelude.{◌≡◌, ◌↔◌, ℕ, Option, Some, IfOk, decimal, map};
+ghost use Rattle.std.specs.Prelude.{◌≡◌, ◌↔◌, ℕ, Option, Some, IfOk, decimal, map, option_map};
 ghost use Rattle.std.specs.Option.{ForSome};
-ghost use Rattle.gb_types.specs.RequestWords.{IsShort, IsLong, SpellsSpec, seq_words, SpellsMessage};
+ghost use Rattle.gb_types.specs.RequestWords.{IsShort, IsLong, IsGroup, AreGroupNumbers, HasNoDot, with_dot, generation_word, group_word, SpellsSpec, seq_words, SpellsMessage};
 ghost use Rattle.gb_types.specs.declared.address.Addr.{Addr as TheAddress};
 ghost use Rattle.gb_types.specs.declared.new_message.NewMessage.{NewMessage as TheMessage};
 ghost use Rattle.gb_types.specs.declared.spec.Spec.{Spec as TheSpec};
@@ -30,15 +30,54 @@ pub fn read_u32(word: &[u8]) -> Option<u32>
     Some(read_number(word, 4_294_967_295)? as u32)
 }
 
-/// The address of a group: T and G.
+/// Returns the bytes of a word before its first dot, and those behind it. Returns the whole word where it has no dot.
+fn cut_at_dot(word: &[u8]) -> (&[u8], Option<&[u8]>)
+    ensures whole { word.now ≡ with_dot result.0.now (option_map (λ behind. behind.now) result.1) }
+    ensures front { HasNoDot result.0.now }
+{
+    match word.iter().position(|byte| *byte == b'.') {
+        None => (word, None),
+        Some(at) => (&word[..at], Some(&word[at + 1..])),
+    }
+}
+
+/// Returns the generation that stands behind the dot of a group's word: 0 where there is no dot. A later one is 1 to 4,294,967,295.
+fn read_generation(behind: Option<&[u8]>) -> Option<u32>
+    ensures { (n : ℕ) → (result ≡ Some n) ↔ (IsLong n × (option_map (λ word. word.now) behind.entry ≡ generation_word n)) }
+{
+    let Some(word) = behind else {
+        return Some(0);
+    };
+    let generation = read_u32(word)?;
+    if generation == 0 {
+        return None;
+    }
+    Some(generation)
+}
+
+/// Returns the number of a group among its tenant's and its generation: G, or G.N for a generation after the first.
+pub fn read_group(word: &[u8]) -> Option<(u16, u32)>
+    ensures { (n : ℕ × ℕ) → (result ≡ Some n) ↔ AreGroupNumbers word.now n }
+{
+    let (number, generation) = cut_at_dot(word);
+    let number = read_u16(number)?;
+    let generation = read_generation(generation)?;
+    Some((number, generation))
+}
+
+/// Returns the address of a group: T and G, or T and G.N.
 pub fn read_address(tenant: &[u8], group: &[u8]) -> Option<Addr>
     ensures { (address : TheAddress) → (result ≡ Some address)
         ↔ (IsShort address.tenant × (tenant.now ≡ decimal address.tenant)
-        × IsShort address.group × (group.now ≡ decimal address.group)) }
+        × IsGroup address × (group.now ≡ group_word address)) }
 {
     let tenant = read_u16(tenant)?;
-    let group = read_u16(group)?;
-    Some(Addr { tenant, group })
+    let (group, generation) = read_group(group)?;
+    Some(Addr {
+        tenant,
+        group,
+        generation,
+    })
 }
 
 /// The limits of a group: MSGS BYTES WINDOW.

@@ -8,4 +8,4 @@ pub returns-clause-members : goal.returns-clause-members
 returns-clause-members c = delivered_origin c.module_logs.ensures
 
 pub returns-clause-logged : goal.returns-clause-logged
-returns-clause-logged c = λ bounds number steps b spec. logged_here c.module_logs.ensures bounds number steps b spec c.gives_up_whole_runs.ensures.delivered
+returns-clause-logged c = λ bounds addr steps b spec. logged_here c.module_logs.ensures bounds addr steps b spec c.gives_up_whole_runs.ensures.delivered

@@ -6,7 +6,7 @@ use Rattle.gb_part_examples.proofs.packets.a_frame_is_wrapped.Goals as goal
 
 pub wrap-requires-clause-packet : goal.wrap-requires-clause-packet
 wrap-requires-clause-packet g c =
-    let item : Item = record { tenant = 7; group = 1; origin = 0; seq = 1; payload = 97 ∷ [] } in
+    let item : Item = record { tenant = 7; group = 1; generation = 0; origin = 0; seq = 1; payload = 97 ∷ [] } in
     let written : c.put_item.new.text.items ≡ items_text (item ∷ []) = c.put_item.ensures.written ∙ (rw c.in_ok-frame.ensures.items refl) in
     let fit = All-cons IsItem item [] c.put_item.ensures.fits (All-nil IsItem) in (
       item ∷ [],

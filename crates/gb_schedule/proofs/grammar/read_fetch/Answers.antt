@@ -1,57 +1,6 @@
-use Rattle.std.proofs.Common.{refl, arith}
-use Rattle.gb_schedule.proofs.StepLemmas.{fetch_within, fetch_reads, fetch_none}
+use Rattle.gb_types.specs.Words.{words_of}
+use Rattle.gb_schedule.proofs.StepLemmas.{fetch_found}
 use Rattle.gb_schedule.proofs.grammar.read_fetch.Goals as goal
 
-pub returns-in_err-node : goal.returns-in_err-node
-returns-in_err-node c =
-    let some = c.requires in
-    let is = c.from-last.ensures in
-    rw c.from_residual.ensures (fetch_none c.args.nodes _ c.args.text.now (omega (arith, some, is)) c.in_err-node.ensures)
-
-pub overflow_cast-address : goal.overflow_cast-address
-overflow_cast-address c =
-    let is = c.from-last.ensures in
-    let few = c.requires in
-    let le = (fetch_within _ c.args.text.now c.in_ok-node.field-0 c.in_ok-node.ensures).1 in
-    omega (arith, is, few, le)
-
-pub overflow_cast-address-2 : goal.overflow_cast-address-2
-overflow_cast-address-2 c =
-    let is = c.from-last.ensures in
-    let few = c.requires in
-    let le = (fetch_within _ c.args.text.now c.in_ok-node.field-0 c.in_ok-node.ensures).2 in
-    omega (arith, is, few, le)
-
-pub overflow_cast-node : goal.overflow_cast-node
-overflow_cast-node c =
-    let is = c.from-last.ensures in
-    let few = c.requires in
-    let le = (fetch_within _ c.args.text.now c.in_ok-node.field-0 c.in_ok-node.ensures).0 in
-    omega (arith, is, few, le)
-
-pub new-requires : goal.new-requires
-new-requires c =
-    let is = c.from-last.ensures in
-    let few = c.requires in
-    let le = (fetch_within _ c.args.text.now c.in_ok-node.field-0 c.in_ok-node.ensures).0 in
-    omega (arith, is, few, le)
-
-pub overflow_cast-result : goal.overflow_cast-result
-overflow_cast-result c =
-    let is = c.from-last.ensures in
-    let few = c.requires in
-    let le = (fetch_within _ c.args.text.now c.in_ok-node.field-0 c.in_ok-node.ensures).3 in
-    omega (arith, is, few, le)
-
-pub overflow_cast-result-2 : goal.overflow_cast-result-2
-overflow_cast-result-2 c =
-    let is = c.from-last.ensures in
-    let few = c.requires in
-    let le = (fetch_within _ c.args.text.now c.in_ok-node.field-0 c.in_ok-node.ensures).4 in
-    omega (arith, is, few, le)
-
-pub returns : goal.returns
-returns c =
-    let some = c.requires in
-    let is = c.from-last.ensures in
-    fetch_reads c.args.nodes _ c.args.text.now c.in_ok-node.field-0 c.new.result _ _ _ (omega (arith, some, is)) c.in_ok-node.ensures c.new.ensures refl refl refl refl
+pub returns-in-Some : goal.returns-in-Some
+returns-in-Some c = fetch_found c.args.nodes (words_of c.args.text.now) c.in-Some.step c.in-Some.ensures

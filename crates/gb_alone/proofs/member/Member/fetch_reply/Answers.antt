@@ -7,7 +7,7 @@ use Rattle.gb_alone.specs.MemberLists.{MemberValue, member_of}
 use Rattle.gb_alone.proofs.member.Member.fetch_reply.Goals as goal
 
 pub returns : goal.returns
-returns c = λ bounds number.
+returns c = λ bounds addr.
     let v = c.args.self.now in
     let spec = c.in-Ok.spec.now in
     let me = c.args.me.number in

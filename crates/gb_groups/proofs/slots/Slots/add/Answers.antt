@@ -45,7 +45,7 @@ invariant_of-self-2 c =
     let inserted = rw c.unwrap.ensures at c.insert.ensures.entries in
     let entries = inserted ∙ (ap (λ (xs : List (Addr × Place)). insert_entry ghosts.eq xs c.args.addr (Key key)) c.reserve.ensures.entries ∙ insert-new ghosts.eq c.args.addr (Key key) slots es (λ a. refl) fresh) in (
       subst (λ (xs : List (Addr × Place)). AreKept xs c.insert_reserved-key.new.self) (sym entries)
-          (kept_grown slots c.insert_reserved-key.new.self key v c.args.addr es grows c.self.invariant.0 (ap (λ (s : SlotState). length s.taken) state) (λ m. subst (λ (s : SlotState). length (payload_in s.store m) ≤ PAYLOAD) (sym state) (omega arith)) fresh),
+          (kept_grown slots c.insert_reserved-key.new.self key v c.args.addr es grows c.self.invariant.0 (ap (λ (s : SlotState). length s.taken) state) (λ m. subst (λ (s : SlotState). length (payload_in s.store m) ≤ PAYLOAD) (sym state) (omega arith)) c.requires.first fresh),
       lent_grown slots c.insert_reserved-key.new.self key v c.self.inside.effects c.new.new.effects grows c.self.invariant.1 c.new.ensures.effects (subst (λ (sp : Spec). AreReady sp c.new.new.effects) (sym (ap (λ (s : SlotState). s.spec) c.in-Ok.ensures.ok)) c.in-Ok.ensures.ready),
     )
 

@@ -8,7 +8,7 @@ use Rattle.gb_schedule.proofs.keys.Keys.find.Goals.{in-Some, in-None}
 
 pub put-requires : goal.put-requires
 put-requires c =
-    let member = member_of c.args.address.tenant c.args.address.group c.args.node.number in
+    let member = member_of c.args.address c.args.node.number in
     let is : c.match-get.token ≡ member_token c.args.address c.args.node =
     elim c.match-get.branch [
       | in-Some w ↦ w.token-is ∙ kept_found IsMemberToken _ member c.self.inside.members.entries w.in-Some.token.now (λ k h. same_member member k h) c.self.invariant.2 (sym c.get.ensures.value ∙ ap option_copied w.in-Some.is) c.args.node refl
@@ -18,7 +18,7 @@ put-requires c =
 
 pub returns : goal.returns
 returns c =
-    let member = member_of c.args.address.tenant c.args.address.group c.args.node.number in
+    let member = member_of c.args.address c.args.node.number in
     let is : c.match-get.token ≡ member_token c.args.address c.args.node =
     elim c.match-get.branch [
       | in-Some w ↦ w.token-is ∙ kept_found IsMemberToken _ member c.self.inside.members.entries w.in-Some.token.now (λ k h. same_member member k h) c.self.invariant.2 (sym c.get.ensures.value ∙ ap option_copied w.in-Some.is) c.args.node refl

@@ -1,0 +1,24 @@
+-- What a list shows of a node's groups.
+use Rattle.std.specs.Prelude.{ℕ, List, map, take, drop, length, Option, None, Some, option_map}
+use Rattle.gb_rules.specs.declared.phase.Phase.{Phase}
+use Rattle.gb_rules.specs.declared.phase.Phase.TheVariants.{Gone}
+use Rattle.gb_slot.specs.SlotState.{SlotState}
+use Rattle.gb_groups.specs.SlotsValue.{Row}
+use Rattle.gb_groups.specs.declared.listing.GroupRow.{GroupRow}
+
+-- the phase of a group whose slot is there unless the group was dropped
+abbrev pub phase_of : Option SlotState → Phase
+phase_of None = Gone
+phase_of (Some s) = s.phase
+
+-- how many messages it has delivered
+abbrev pub delivered : Option SlotState → ℕ
+delivered None = 0
+delivered (Some s) = length s.log
+
+abbrev pub listed : Row → GroupRow
+listed row = record { address = row.addr; spec = option_map (λ s. s.spec) row.slot; phase = phase_of row.slot; log = delivered row.slot }
+
+-- the groups from a place on, at most `most`
+abbrev pub listed_from : List Row → ℕ → ℕ → List GroupRow
+listed_from rows from most = map listed (take most (drop from rows))

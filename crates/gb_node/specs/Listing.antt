@@ -1,0 +1,16 @@
+-- What a node tells its administrator of its groups.
+use Rattle.std.specs.Prelude.{◌≡◌, ℕ, ◌⊎◌, true, false, List, length, is_ok, Result, Ok, Err}
+use Rattle.gb_types.specs.declared.refusal.Refusal.{Refusal}
+use Rattle.gb_types.specs.declared.refusal.Refusal.TheVariants.{Stopped, OutOfMemory}
+use Rattle.gb_table.specs.Listing.{list_answer}
+use Rattle.gb_table.specs.declared.listing.Listing.{Listing}
+use Rattle.gb_node.specs.NodeValue.{NodeValue}
+
+-- The groups from a place on, at most `most`, and how many there are. A node that has stopped lists none; out of memory is told only where there
+-- was a list to tell.
+abbrev pub Lists : NodeValue → List ℕ → ℕ → ℕ → Result Listing Refusal → Type 0
+Lists n token from most (Ok listing) =
+    (n.stopped ≡ false) × (list_answer token from most n.table ≡ Ok listing.groups.items) × (listing.total ≡ length n.table.groups.rows)
+Lists n token from most (Err why) =
+    ((n.stopped ≡ true) × (why ≡ Stopped))
+    ⊎ ((n.stopped ≡ false) × ((list_answer token from most n.table ≡ Err why) ⊎ ((why ≡ OutOfMemory) × (is_ok (list_answer token from most n.table) ≡ true))))

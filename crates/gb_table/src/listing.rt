@@ -1,0 +1,13 @@
+//! What a node tells its administrator of its groups.
+use gb_groups::listing::GroupRow;
+
+/// The most groups that one list names.
+pub const LISTED: u32 = 64;
+
+/// Some of a node's groups, in the order in which they were made.
+#[derive(Drop)]
+pub struct Listing {
+    /// The number of groups that were made at the node, dropped ones among them.
+    pub total: usize,
+    pub groups: Vec<GroupRow>,
+}
