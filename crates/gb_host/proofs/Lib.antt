@@ -4,3 +4,6 @@ pub mod GatheringLemmas
 pub mod ClosingLemmas
 pub mod PlanLemmas
 pub mod HereLemmas
+pub mod KeptLemmas
+pub mod RingLemmas
+pub mod OpenLemmas

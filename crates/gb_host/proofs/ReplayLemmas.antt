@@ -16,14 +16,12 @@ use Rattle.gb_node.specs.declared.tape.TapeEntry.{TapeEntry}
 use Rattle.gb_node.specs.declared.answer.NodeAnswer.{NodeAnswer}
 use Rattle.gb_node.specs.declared.event.NodeEvent.{NodeEvent}
 use Rattle.gb_host.specs.Calls.{Call, calls_at}
-use Rattle.gb_host.specs.Copied.{AreCopies, list_copy, tape_copy}
 use Rattle.gb_host.specs.Happened.{AreAmong, GoesOn, HasHappened, HaveHappened}
 use Rattle.gb_host.specs.Pasts.{BookName, no_book, book_at, books_of, past_at, seen_at, AreOfBooks, AreUnseen}
-use Rattle.gb_host.specs.declared.copies.Copies.{Copies}
 use Rattle.gb_host.proofs.CallLemmas.{at_hit, at_miss, calls_at_append}
 use Rattle.gb_host.specs.Fits.{HostedFits, SeatFits}
 use Rattle.gb_host.specs.HostedValue.{HostedValue}
-use Rattle.gb_host.specs.Plans.{plan_of, IsPlan}
+use Rattle.gb_host.specs.Plans.{is_kept, plan_of, IsPlan}
 use Rattle.gb_host.specs.Replay.{happened, past_of}
 use Rattle.gb_host.specs.SeatValue.{SeatValue}
 use Rattle.gb_host.specs.declared.entry.SeatEntry.{SeatEntry}
@@ -42,11 +40,11 @@ comes_more plan past h v w comes turn spelt = (v, comes, turn, spelt)
 pub replay_more : (plan : NodePlan) (es : List TapeEntry) (e : TapeEntry) (v w : NodeValue) → ComesTo plan (past_of es) v → IsTurn v e.event e.answer w → IsSpelt v e.event e.answer → ComesTo plan (past_of (es ++ e ∷ [])) w
 replay_more plan es e v w comes turn spelt = subst (λ past. ComesTo plan past w) (sym (past_more es e)) (comes_more plan (past_of es) (happened e) v w comes turn spelt)
 
-comes_new : (plan : NodePlan) (v : NodeValue) → IsNodePlan plan → v ≡ new_node plan → ComesTo plan [] v
+pub comes_new : (plan : NodePlan) (v : NodeValue) → IsNodePlan plan → v ≡ new_node plan → ComesTo plan [] v
 unfolding ComesTo
 comes_new plan v right is = (right, is)
 
-node_plan_right : (p : HostPlan) (me : NodeId) → IsPlan p → me.number < p.cluster.nodes → IsNodePlan (plan_of p me)
+pub node_plan_right : (p : HostPlan) (me : NodeId) → IsPlan p → me.number < p.cluster.nodes → IsNodePlan (plan_of p me)
 node_plan_right p me right member = record { cluster = right.named me.number member; member = member; places = right.places; least = right.least; most = right.most }
 
 none_kept : {X : Type 0} (b : Bool) → ◌≡◌ {A = List X} [] (cond b [] [])
@@ -62,31 +60,18 @@ pub hosted_fits_new : (p : HostPlan) (books : List BookName) (h : HostedValue) �
 hosted_fits_new p books h node past tape book right member = record {
   member = member;
   comes = subst (λ es. ComesTo (plan_of p h.me) (past_of es) h.node) (sym past) (comes_new (plan_of p h.me) h.node (node_plan_right p h.me right member) node);
-  kept = tape ∙ (none_kept p.tape ∙ ap (λ es. cond p.tape es []) (sym past));
+  kept = tape ∙ (none_kept (is_kept p) ∙ ap (λ es. cond (is_kept p) es []) (sym past));
   booked = book;
 }
 
 pub hosted_fits_more : (p : HostPlan) (books : List BookName) (old new : HostedValue) (e : TapeEntry) → HostedFits p books old → new.me ≡ old.me → IsTurn old.node e.event e.answer new.node → IsSpelt old.node e.event e.answer
-    → new.past ≡ old.past ++ e ∷ [] → new.tape ≡ old.tape ++ cond p.tape (e ∷ []) [] → new.book ≡ old.book → HostedFits p books new
+    → new.past ≡ old.past ++ e ∷ [] → new.tape ≡ old.tape ++ cond (is_kept p) (e ∷ []) [] → new.book ≡ old.book → HostedFits p books new
 hosted_fits_more p books old new e fits me turn spelt past tape book = record {
   member = rw me fits.member;
   comes = rw (me, past) (replay_more (plan_of p old.me) old.past e old.node new.node fits.comes turn spelt);
-  kept = tape ∙ (kept_more p.tape old.past old.tape e fits.kept ∙ ap (λ es. cond p.tape es []) (sym past));
+  kept = tape ∙ (kept_more (is_kept p) old.past old.tape e fits.kept ∙ ap (λ es. cond (is_kept p) es []) (sym past));
   booked = book ∙ (fits.booked ∙ ap (λ (b : NodeId). book_at books b.number) (sym me));
 }
-
--- what copies there are of a call
-pub tape_kept : (b : Bool) (seat count : ℕ) (event : NodeEvent) (answer : NodeAnswer) (copies : Option Copies) → AreCopies b event answer copies → tape_copy seat count event copies ≡ cond b (record { seat = seat; count = count; event = event; answer = answer } ∷ []) []
-tape_kept true seat count event answer (Some c) h = ap (λ a. record { seat = seat; count = count; event = event; answer = a } ∷ []) h.2
-tape_kept true seat count event answer None h = absurd h
-tape_kept false seat count event answer (Some c) h = absurd h
-tape_kept false seat count event answer None h = refl
-
-pub list_kept : (b : Bool) (node : NodeId) (event : NodeEvent) (answer : NodeAnswer) (copies : Option Copies) → AreCopies b event answer copies → list_copy node copies ≡ cond b (record { node = node; event = event; answer = answer } ∷ []) []
-list_kept true node event answer (Some c) h = λ i. record { node = node; event = h.0 i; answer = h.1 i } ∷ []
-list_kept true node event answer None h = absurd h
-list_kept false node event answer (Some c) h = absurd h
-list_kept false node event answer None h = refl
 
 -- Calls among entries.
 

@@ -1,5 +1,5 @@
 -- What stands after a host was closed.
-use Rattle.std.specs.Prelude.{ℕ, ◌≡◌, ◌≢◌, ◌<◌, ◌==◌, Bool, true, false, List, [], ◌∷◌, ◌++◌, length, slice_index_or, cond, sum_by, Option, Some, None}
+use Rattle.std.specs.Prelude.{ℕ, ◌≡◌, ◌≢◌, ◌⊎◌, ◌<◌, ◌≤◌, ◌==◌, Bool, true, false, List, [], ◌∷◌, ◌++◌, length, slice_index_or, cond, sum_by, Option, Some, None}
 use Rattle.std.specs.FinSet as set
 use Rattle.std.specs.Ordering.{nat_cmp}
 use Rattle.gb_types.specs.declared.node.NodeId.{NodeId}
@@ -35,6 +35,14 @@ IsClosed p is_here b None tape = (is_here ≡ false) × (tape ≡ [])
 -- so it is of all nodes with numbers below this, of which those in the set were here
 abbrev pub AreReplays : HostPlan → set.FinSet nat_cmp → ℕ → List (Option NodeValue) → List (List TapeEntry) → Type 0
 AreReplays p here n nodes tapes = (b : NodeId) (d : Option NodeValue) → b.number < n → IsClosed p (set.contains here b.number) b (slice_index_or nodes b.number d) (tape_at tapes b.number)
+
+-- this node and this tape are what is left of the node with a number
+abbrev pub IsLeftOf : ℕ → NodeValue → List TapeEntry → List (Option NodeValue) → List (List TapeEntry) → Type 0
+IsLeftOf k node tape nodes tapes = (slice_index_or nodes k None ≡ Some node) × (k < length tapes) × (tape_at tapes k ≡ tape)
+
+-- no node with the number is left, or no tape of it
+abbrev pub IsNotLeft : ℕ → List (Option NodeValue) → List (List TapeEntry) → Type 0
+IsNotLeft k nodes tapes = (slice_index_or nodes k None ≡ None) ⊎ (length tapes ≤ k)
 
 -- At each node the seat's entries in the tape are its calls there, in its order, each once and with its number among them.
 abbrev pub IsSame : List (List TapeEntry) → ℕ → List SeatEntry → Type 0

@@ -1,25 +1,30 @@
--- What memory keeps of a call.
-use Rattle.std.specs.Prelude.{ℕ, ◌≡◌, Bool, true, false, List, [], ◌∷◌, Option, Some, None}
+-- What is kept of a call.
+use Rattle.std.specs.Prelude.{ℕ, ◌≡◌, List, [], ◌∷◌}
 use Rattle.gb_types.specs.declared.node.NodeId.{NodeId}
 use Rattle.gb_node.specs.declared.answer.NodeAnswer.{NodeAnswer}
 use Rattle.gb_node.specs.declared.event.NodeEvent.{NodeEvent}
 use Rattle.gb_node.specs.declared.tape.TapeEntry.{TapeEntry}
 use Rattle.gb_host.specs.declared.copies.Copies.{Copies}
+use Rattle.gb_host.specs.declared.copies.Copies.TheVariants.{No, ForMemory, ForRing}
+use Rattle.gb_host.specs.declared.copies.Way.{Way}
+use Rattle.gb_host.specs.declared.copies.Way.TheVariants.{Nowhere, InMemory, InRing}
 use Rattle.gb_host.specs.declared.entry.SeatEntry.{SeatEntry}
 
--- where calls are kept there are copies of this event and of this answer, else none
-abbrev pub AreCopies : Bool → NodeEvent → NodeAnswer → Option Copies → Type 0
-AreCopies true event answer (Some c) = (c.event ≡ event) × (c.answer ≡ answer) × (c.for_tape ≡ answer)
-AreCopies true event answer None = ⊥
-AreCopies false event answer (Some c) = ⊥
-AreCopies false event answer None = Unit {0}
+-- the copies that are kept of this event and of this answer
+abbrev pub AreCopies : Way → NodeEvent → NodeAnswer → Copies → Type 0
+AreCopies Nowhere event answer No = Unit {0}
+AreCopies InMemory event answer (ForMemory c) = (c.event ≡ event) × (c.answer ≡ answer) × (c.for_tape ≡ answer)
+AreCopies InRing event answer (ForRing copy) = copy ≡ answer
+AreCopies way event answer copies = ⊥
 
--- the entry that a tape gets, where there are copies
-abbrev pub tape_copy : ℕ → ℕ → NodeEvent → Option Copies → List TapeEntry
-tape_copy seat count event (Some c) = record { seat = seat; count = count; event = event; answer = c.for_tape } ∷ []
-tape_copy seat count event None = []
+-- the entry that a tape or a ring gets
+abbrev pub tape_copy : ℕ → ℕ → NodeEvent → Copies → List TapeEntry
+tape_copy seat count event No = []
+tape_copy seat count event (ForMemory c) = record { seat = seat; count = count; event = event; answer = c.for_tape } ∷ []
+tape_copy seat count event (ForRing copy) = record { seat = seat; count = count; event = event; answer = copy } ∷ []
 
--- the call that a seat's list gets, where there are copies
-abbrev pub list_copy : NodeId → Option Copies → List SeatEntry
-list_copy node (Some c) = record { node = node; event = c.event; answer = c.answer } ∷ []
-list_copy node None = []
+-- the call that a seat's list gets
+abbrev pub list_copy : NodeId → Copies → List SeatEntry
+list_copy node No = []
+list_copy node (ForMemory c) = record { node = node; event = c.event; answer = c.answer } ∷ []
+list_copy node (ForRing copy) = []

@@ -11,3 +11,7 @@ pub mod Fits
 pub mod Closing
 pub mod Placed
 pub mod Walk
+pub mod Listed
+pub mod Rings
+pub mod RingValues
+pub mod KeptPast

@@ -1,13 +1,40 @@
 //! What is left of a host.
+ghost use Rattle.std.specs.Prelude.{◌≡◌, IfNone, IfSome};
+ghost use Rattle.gb_host.specs.Closing.{IsLeftOf, IsNotLeft};
+
 use crate::entry::CallList;
 use gb_node::node::Node;
 use gb_node::tape::Tape;
+use gb_types::node::NodeId;
 
 /// The nodes that were here and their tapes, each at the place of its number. A place of another node has none, and an empty tape.
 #[derive(Drop)]
 pub struct Closed {
     pub nodes: Vec<Option<Node>>,
     pub tapes: Vec<Tape>,
+}
+
+/// What is left of a node that was here, by its name.
+#[derive(Clone, Copy)]
+pub struct LeftNode<'a> {
+    /// Which node it is.
+    pub id: NodeId,
+    pub node: &'a Node,
+    /// What happened there; empty where memory held no tapes.
+    pub tape: &'a Tape,
+}
+
+impl Closed {
+    /// What is left of a node. None where it was not here.
+    pub fn left_of(&self, id: NodeId) -> Option<LeftNode<'_>>
+        ensures some { IfSome result (λ left. (left.id ≡ id) × IsLeftOf id.number left.node.now left.tape.now self.now.nodes.items self.now.tapes.items) }
+        ensures none { IfNone result (IsNotLeft id.number self.now.nodes.items self.now.tapes.items) }
+    {
+        match (self.nodes.get(id.index()), self.tapes.get(id.index())) {
+            (Some(Some(node)), Some(tape)) => Some(LeftNode { id, node, tape }),
+            _ => None,
+        }
+    }
 }
 
 /// A seat's calls that are not its entries in the tapes.

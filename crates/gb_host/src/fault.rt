@@ -18,6 +18,8 @@ pub enum HostFault {
     OutOfMemory,
     /// The seat has called the node 2^64 - 1 times.
     Full,
+    /// The node's recorder is behind: as many entries wait for it as its ring holds.
+    Behind,
 }
 
 impl From<AllocError> for HostFault {

@@ -1,22 +1,28 @@
 //! The host.
-ghost use Rattle.std.specs.Prelude.{◌≡◌, ◌+◌, ◌<◌, ◌≤◌, ◌++◌, ◌∷◌, [], true, IfOk, IfErr, OnOk, OnErr, length, vec_len};
+ghost use Rattle.std.specs.Prelude.{◌≡◌, ◌+◌, ◌<◌, ◌≤◌, ◌++◌, ◌∷◌, [], true, false, None, IfSome, IfOk, IfErr, OnOk, OnErr, length, vec_len};
 ghost use Rattle.std.specs.FinSet as set;
 ghost use Rattle.gb_types.specs.declared.limits.TheConstants.{NODES};
 ghost use Rattle.gb_host.specs.Happened.{GoesOn};
-ghost use Rattle.gb_host.specs.HostValue.{AreHere, AreNew, IsRefused};
-ghost use Rattle.gb_host.specs.Pasts.{AreBlank, AreOfBooks, AreUnseen, books_of};
+ghost use Rattle.gb_host.specs.HostValue.{AreHere, AreNew, AreOpened, IsOpened, IsRefused};
+ghost use Rattle.gb_host.specs.Listed.{IsListed};
+ghost use Rattle.gb_host.specs.Pasts.{AreBlank, AreOfBooks, AreUnseen, book_at, books_of};
 ghost use Rattle.gb_host.specs.Plans.{IsPlan};
 
 use crate::fault::HostFault;
 use crate::gate::{Gate, Open};
 use crate::hosted::Hosted;
+use crate::kept::kept_at;
 use crate::names::Tapes;
 use crate::pasts::{NodePast, NodeSeen};
 use crate::plan::HostPlan;
+use crate::recorder::Recorder;
 use crate::seat::Seat;
+use gb_cap::token::Token;
 use gb_node::answer::NodeAnswer;
 use gb_node::event::NodeEvent;
+use gb_table::listing::Listing;
 use gb_types::node::{NodeId, NodeSet};
+use gb_types::refusal::Refusal;
 use std::alloc::Global;
 use std::marker::Model;
 use std::sync::{Mutex, Wait};
@@ -50,15 +56,16 @@ impl<L: Tapes> Model for Host<L> {
 }
 
 impl<L: Tapes> Host<L> {
-    /// A host of these nodes of the plan, and this number of seats, numbered from 0. The pasts are those of all nodes of the plan, by
-    /// number, in which nothing has happened.
+    /// A host of these nodes of the plan, this number of seats, numbered from 0, and, where what happens goes through rings, a
+    /// recorder for each node that is here, at the place of its number. The pasts are those of all nodes of the plan, by number, in
+    /// which nothing has happened.
     pub fn open(
         alloc: Global,
         plan: HostPlan,
         here: NodeSet,
         seats: u32,
         pasts: Vec<NodePast>,
-    ) -> Result<(Host<L>, Vec<Seat<L>>), HostFault>
+    ) -> Result<(Host<L>, Vec<Seat<L>>, Vec<Option<Recorder<L>>>), HostFault>
         requires plan { plan ≡ L.plan }
         requires limits { IsPlan plan }
         requires here { AreHere plan here }
@@ -66,14 +73,15 @@ impl<L: Tapes> Host<L> {
         requires books { books_of pasts.items ≡ L.books }
         ensures host { IfOk result (λ r. (r.0.plan ≡ plan) × (r.0.here ≡ here) × (r.0.seats ≡ seats)) }
         ensures seats { IfOk result (λ r. (vec_len r.1 ≡ seats) × AreNew seats r.1.items) }
+        ensures recorders { IfOk result (λ r. (vec_len r.2 ≡ plan.cluster.nodes) × AreOpened plan here plan.cluster.nodes r.2.items) }
         ensures fault { IfErr result (λ why. why ≡ HostFault.OutOfMemory) }
     {
         let given = match open_seats(alloc, seats, &pasts) {
             Ok(given) => given,
             Err(fault) => return Err(fault),
         };
-        let nodes = match open_nodes(alloc, plan, &here, pasts) {
-            Ok(nodes) => nodes,
+        let (nodes, recorders) = match open_nodes(alloc, plan, &here, pasts) {
+            Ok(opened) => opened,
             Err(fault) => return Err(fault),
         };
         let host = Host {
@@ -83,7 +91,7 @@ impl<L: Tapes> Host<L> {
             seats,
             nodes,
         };
-        Ok((host, given))
+        Ok((host, given, recorders))
     }
 
     /// The plan.
@@ -148,12 +156,56 @@ impl<L: Tapes> Host<L> {
         hosted.step(seat, event)
     }
 
+    /// Lists a node's groups from a place on, at most `most` of them, in the order in which they were made, for who has the
+    /// administrator's token; refused as by `Node::list`. It is no event: nothing changes, and no past and no tape has it.
+    /// None: the node is not here.
+    pub fn list<R: Wait>(
+        &self,
+        rt: &R,
+        node: NodeId,
+        token: &Token,
+        from: u32,
+        most: u32,
+    ) -> Option<Result<Listing, Refusal>>
+        ensures none { result ≡ None → set.contains self.now.here node.number ≡ false }
+        ensures some { IfSome result (λ found. (set.contains self.now.here node.number ≡ true) × IsListed L.plan node token.now from most found) }
+    {
+        let is_here = self.here.contains(node);
+        if !is_here {
+            return None;
+        }
+        let lock = self.lock_of(rt, node).lock(rt);
+        let hosted: &Hosted<L> = &lock;
+        if hosted.me().number != node.number {
+            never(rt);
+        }
+        Some(hosted.list(token, from, most))
+    }
+
     // The lock at the place of a node that is here.
     fn lock_of<R: Wait>(&self, rt: &R, node: NodeId) -> &Mutex<Hosted<L>> {
         if let Some(Some(lock)) = self.nodes.get(node.index()) {
             return lock;
         }
         never(rt)
+    }
+
+    /// Gives up the host and its nodes. Where what happens goes through rings each recorder is told that it has all, which is
+    /// waited for where its ring is full; a recorder that is gone is not waited for.
+    pub fn finish<R: Wait>(self, rt: &R) {
+        let Host {
+            alloc: _,
+            plan: _,
+            here: _,
+            seats: _,
+            nodes,
+        } = self;
+        for place in nodes {
+            match place {
+                Some(lock) => lock.into_inner().end(rt),
+                None => {}
+            }
+        }
     }
 
     /// Gives up the host for its parts.
@@ -189,32 +241,68 @@ fn never<R: Wait>(rt: &R) -> ! {
     unreachable!()
 }
 
-// The nodes of a plan that are here, each with its past, at the places of their numbers.
+// A node with its past, if it is here, and its recorder.
+#[tactic(auto, using(crate::proofs::OpenLemmas::opened_here, crate::proofs::OpenLemmas::opened_away))]
+fn open_node<L: Tapes>(
+    alloc: Global,
+    plan: HostPlan,
+    is_here: bool,
+    me: NodeId,
+    past: NodePast,
+) -> Result<(Option<Mutex<Hosted<L>>>, Option<Recorder<L>>), HostFault>
+    requires plan { plan ≡ L.plan }
+    requires limits { IsPlan plan }
+    requires member { me.number < plan.cluster.nodes }
+    requires past { (past.log ≡ []) × (past.book ≡ book_at L.books me.number) }
+    ensures recorder { IfOk result (λ r. IsOpened plan is_here me.number r.1) }
+    ensures fault { IfErr result (λ why. why ≡ HostFault.OutOfMemory) }
+{
+    if !is_here {
+        drop(past);
+        return Ok((None, None));
+    }
+    let (kept, recorder) = match kept_at::<L>(alloc, &plan, me, &past) {
+        Ok(opened) => opened,
+        Err(fault) => {
+            drop(past);
+            return Err(fault);
+        }
+    };
+    let hosted = Hosted::new(alloc, plan, me, past, kept);
+    Ok((Some(Mutex::new(hosted)), recorder))
+}
+
+/// The nodes of a plan under their locks, and their recorders, each at the place of its number.
+type Opened<L> = (Vec<Option<Mutex<Hosted<L>>>>, Vec<Option<Recorder<L>>>);
+
+// The nodes of a plan that are here, each with its past, and their recorders.
 fn open_nodes<L: Tapes>(
     alloc: Global,
     plan: HostPlan,
     here: &NodeSet,
     pasts: Vec<NodePast>,
-) -> Result<Vec<Option<Mutex<Hosted<L>>>>, HostFault>
+) -> Result<Opened<L>, HostFault>
     requires plan { plan ≡ L.plan }
     requires limits { IsPlan plan }
     requires pasts { (vec_len pasts ≡ plan.cluster.nodes) × AreBlank pasts.items }
     requires books { books_of pasts.items ≡ L.books }
+    ensures recorders { IfOk result (λ r. (vec_len r.1 ≡ plan.cluster.nodes) × AreOpened plan here.now plan.cluster.nodes r.1.items) }
     ensures fault { IfErr result (λ why. why ≡ HostFault.OutOfMemory) }
 {
     let mut nodes = Vec::with_capacity(alloc, usize::from(plan.cluster.nodes))?;
+    let mut recorders = Vec::with_capacity(alloc, usize::from(plan.cluster.nodes))?;
     let mut number = 0u8;
     for past in pasts {
         let me = NodeId::new(number);
-        let place = if here.contains(me) {
-            Some(Mutex::new(Hosted::new(alloc, plan, me, past)))
-        } else {
-            None
+        let (node, recorder) = match open_node::<L>(alloc, plan, here.contains(me), me, past) {
+            Ok(opened) => opened,
+            Err(fault) => return Err(fault),
         };
-        nodes.push_reserved(place);
+        nodes.push_reserved(node);
+        recorders.push_reserved(recorder);
         number += 1;
     }
-    Ok(nodes)
+    Ok((nodes, recorders))
 }
 
 // What is seen of pasts in which nothing has happened.

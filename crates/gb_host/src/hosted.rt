@@ -4,27 +4,34 @@ ghost use Rattle.gb_node.specs.NodeStep.{IsTurn, IsSpelt};
 ghost use Rattle.gb_node.specs.NodeValue.{new_node};
 ghost use Rattle.gb_host.specs.Happened.{GoesOn};
 ghost use Rattle.gb_host.specs.HostValue.{IsUnkept};
+ghost use Rattle.gb_host.specs.KeptPast.{kept_entries, IsKeptAt};
+ghost use Rattle.gb_host.specs.Listed.{IsListed};
 ghost use Rattle.gb_host.specs.Pasts.{book_at};
 ghost use Rattle.gb_host.specs.Plans.{plan_of, IsPlan};
 ghost use Rattle.gb_host.specs.Replay.{IsReplay};
 
-use crate::copies::{answers, keep, make_room};
+use crate::copies::answers;
 use crate::fault::HostFault;
+use crate::kept::{Kept, into_tape, keep, make_room};
 use crate::names::Tapes;
 use crate::pasts::{Made, NodePast, note};
 use crate::plan::HostPlan;
 use crate::seat::Seat;
+use gb_cap::token::Token;
 use gb_node::answer::NodeAnswer;
 use gb_node::event::NodeEvent;
 use gb_node::node::Node;
 use gb_node::past::pasts_say;
 use gb_node::plan::NodePlan;
-use gb_node::tape::{Tape, TapeEntry};
+use gb_node::tape::Tape;
+use gb_table::listing::Listing;
 use gb_types::node::NodeId;
+use gb_types::refusal::Refusal;
 use std::alloc::Global;
-use std::marker::{Model, PhantomData};
+use std::marker::Model;
+use std::sync::Wait;
 
-/// A node that its past leads to. Contracts see the whole past; memory holds it where tapes are kept.
+/// A node that its past leads to. Contracts see the whole past; it is kept as the plan says.
 #[derive(Drop)]
 pub struct Hosted<L: Tapes> {
     alloc: Global,
@@ -32,8 +39,7 @@ pub struct Hosted<L: Tapes> {
     me: NodeId,
     node: Node,
     past: NodePast,
-    tape: Vec<TapeEntry>,
-    host: PhantomData<L>,
+    kept: Kept<L>,
 }
 
 impl<L: Tapes> Model for Hosted<L> {
@@ -48,19 +54,27 @@ impl<L: Tapes> Model for Hosted<L> {
     ghost coded = { Prim.hlevel (codes, set.code {R = nat_cmp} coded_ℕ) };
 
     ghost use Rattle.gb_host.specs.Fits.{HostedFits};
+    ghost use Rattle.gb_host.specs.KeptPast.{kept_entries, IsKeptAt};
 
-    ghost view = { λ h. record { me = h.me; node = h.node; book = h.past.book; past = h.past.log; tape = h.tape.items } };
+    ghost view = { λ h. record { me = h.me; node = h.node; book = h.past.book; past = h.past.log; tape = kept_entries h.kept } };
 
-    ghost invariant = { λ h. (h.plan ≡ L.plan) × HostedFits L.plan L.books (record { me = h.me; node = h.node; book = h.past.book; past = h.past.log; tape = h.tape.items }) };
+    ghost invariant = { λ h. (h.plan ≡ L.plan) × HostedFits L.plan L.books (record { me = h.me; node = h.node; book = h.past.book; past = h.past.log; tape = kept_entries h.kept }) × IsKeptAt L.plan h.me h.kept };
 }
 
 impl<L: Tapes> Hosted<L> {
     /// A node at which nothing has happened.
-    pub fn new(alloc: Global, plan: HostPlan, me: NodeId, past: NodePast) -> Hosted<L>
+    pub fn new(
+        alloc: Global,
+        plan: HostPlan,
+        me: NodeId,
+        past: NodePast,
+        kept: Kept<L>,
+    ) -> Hosted<L>
         requires plan { plan ≡ L.plan }
         requires limits { IsPlan plan }
         requires member { me.number < plan.cluster.nodes }
         requires past { (past.log ≡ []) × (past.book ≡ book_at L.books me.number) }
+        requires kept { IsKeptAt plan me kept × (kept_entries kept ≡ []) }
         ensures { (result.me ≡ me) × (result.node ≡ new_node (plan_of L.plan me)) × (result.past ≡ []) }
     {
         let cluster_key = plan.cluster.cluster_key;
@@ -82,26 +96,54 @@ impl<L: Tapes> Hosted<L> {
             me,
             node,
             past,
-            tape: Vec::new(alloc),
-            host: PhantomData,
+            kept,
         }
     }
 
-    /// Gives up the lock's content for the node and its tape.
+    /// Gives up the lock's content for the node and the tape that memory holds.
+    #[tactic(auto, using(crate::proofs::KeptLemmas::tape_held, crate::proofs::KeptLemmas::replayed))]
     pub fn into_parts(self) -> (Node, Tape)
-        ensures parts { (result.0 ≡ self.node) × (result.1 ≡ self.tape) }
-        ensures replay { IsReplay L.plan self.me self.node self.tape }
+        ensures node { result.0 ≡ self.node }
+        ensures tape { result.1 ≡ cond L.plan.tape self.tape [] }
+        ensures replay { IsReplay L.plan self.me result.0 result.1 }
     {
+        let Hosted {
+            alloc,
+            plan: _,
+            me: _,
+            node,
+            past: _,
+            kept,
+        } = self;
+        (node, Tape::from(into_tape(alloc, kept)))
+    }
+
+    /// Gives up the node. Where it has a recorder this is told that all was taken, once its ring has room.
+    pub fn end<R: Wait>(self, rt: &R) {
         let Hosted {
             alloc: _,
             plan: _,
             me: _,
             node,
-            past: _,
-            tape,
-            host: _,
+            past,
+            kept,
         } = self;
-        (node, Tape::from(tape))
+        drop(node);
+        match kept {
+            Kept::Ring(out) => out.end(rt, past),
+            Kept::Memory(tape) => {
+                drop(tape);
+                drop(past);
+            }
+            Kept::Nothing => drop(past),
+        }
+    }
+
+    /// Lists the node's groups, as `Node::list` does.
+    pub fn list(&self, token: &Token, from: u32, most: u32) -> Result<Listing, Refusal>
+        ensures { IsListed L.plan self.now.me token.now from most result }
+    {
+        self.node.list(token, from, most)
     }
 
     /// Which node it is.
@@ -114,7 +156,8 @@ impl<L: Tapes> Hosted<L> {
 
 impl<L: Tapes> Hosted<L> {
     /// One event, atomic under the node's lock: the node's next state and answer. The past goes on with an entry, which the seat
-    /// sees, and the seat's calls with a call; with tapes memory holds both. After a refusal nothing has changed.
+    /// sees, and the seat's calls with a call; with tapes memory holds both, and with a ring the entry goes to the recorder. After a
+    /// refusal nothing has changed.
     pub fn step(&mut self, seat: &mut Seat<L>, event: NodeEvent) -> Result<NodeAnswer, HostFault>
         ensures turn { IfOk result (λ a. IsTurn self.old.node event a self.new.node) }
         ensures spelt { IfOk result (λ a. IsSpelt self.old.node event a) }
@@ -132,8 +175,7 @@ impl<L: Tapes> Hosted<L> {
             me,
             node,
             past,
-            tape,
-            host: _,
+            kept,
         } = self;
         let Seat {
             number,
@@ -150,7 +192,7 @@ impl<L: Tapes> Hosted<L> {
             drop(event);
             return Err(HostFault::Full);
         }
-        match make_room(plan.tape, tape, list) {
+        match make_room(kept, list) {
             Ok(()) => {}
             Err(fault) => {
                 drop(event);
@@ -160,7 +202,7 @@ impl<L: Tapes> Hosted<L> {
         // The node sends the version that the plan says.
         pasts_say();
         let version = plan.cluster.bounds().version_of(*me);
-        let (answer, copies) = match answers(*alloc, plan.tape, version, node, &event) {
+        let (answer, copies) = match answers(*alloc, kept.way(), version, node, &event) {
             Ok(answers) => answers,
             Err(fault) => {
                 drop(event);
@@ -176,7 +218,7 @@ impl<L: Tapes> Hosted<L> {
             answer: &answer,
         };
         note(past, &mut seen[at], calls, &call);
-        keep(tape, list, *me, *number, count, event, copies);
+        keep(kept, list, *me, *number, count, event, copies, past);
         Ok(answer)
     }
 }

@@ -42,8 +42,8 @@ impl<L: Tapes> Model for Seat<L> {
 }
 
 impl<L: Tapes> Seat<L> {
-    /// A seat that made no call and has seen nothing of any node's past.
-    pub fn new(alloc: Global, number: u32, seen: Vec<NodeSeen>) -> Seat<L>
+    // A seat that made no call and has seen nothing of any node's past.
+    pub(crate) fn new(alloc: Global, number: u32, seen: Vec<NodeSeen>) -> Seat<L>
         requires limits { IsPlan L.plan }
         requires seen { (vec_len seen ≡ L.plan.cluster.nodes) × AreUnseen seen.items × AreOfBooks L.books seen.items }
         ensures { (result.number ≡ number) × (result.calls ≡ []) × (result.list ≡ []) × (result.seen ≡ seen.items) }

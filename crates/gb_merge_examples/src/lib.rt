@@ -9,6 +9,8 @@ mod faults;
 #[cfg(test)]
 mod lacking;
 #[cfg(test)]
+mod long;
+#[cfg(test)]
 mod merged;
 #[cfg(test)]
 mod order;

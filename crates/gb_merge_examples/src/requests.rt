@@ -28,6 +28,7 @@ const TENANT: TenantRow = TenantRow {
 const GROUP: Addr = Addr {
     tenant: 7,
     group: 1,
+    generation: 0,
 };
 
 /// What is asked at a node, under the token that it needs.

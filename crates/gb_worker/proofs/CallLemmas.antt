@@ -1,5 +1,5 @@
 -- A request that is asked by a call, and what the client is told.
-use Rattle.std.proofs.Common.{◌≡◌, ◌≢◌, ◌⊎◌, ◌+◌, ◌∙◌, ℕ, inl, inr, true, false, true≢false, List, [], ◌∷◌, ◌++◌, ap, arith, cond, refl, subst, sym, Result, Ok, Err}
+use Rattle.std.proofs.Common.{◌≡◌, ◌≢◌, ◌⊎◌, ◌+◌, ◌∙◌, ℕ, inl, inr, ◌&&◌, ◌||◌, not, Bool, true, false, true≢false, List, [], ◌∷◌, ◌++◌, ap, arith, cond, refl, subst, sym, Result, Ok, Err}
 use Rattle.std.specs.FinSet as set
 use Rattle.std.specs.Ordering.{nat_cmp}
 use Rattle.std.specs.Prelude.{IfOk, IfErr, OnErr, slice_index}
@@ -12,17 +12,25 @@ use Rattle.gb_node.specs.declared.answer.NodeAnswer.{NodeAnswer}
 use Rattle.gb_node.specs.declared.event.NodeEvent.{NodeEvent}
 use Rattle.gb_node.specs.declared.event.NodeEvent.TheVariants.{Request as Asked}
 use Rattle.gb_host.specs.HostValue.{IsRefused}
+use Rattle.gb_host.specs.Plans.{is_kept}
 use Rattle.gb_host.specs.SeatValue.{SeatValue}
 use Rattle.gb_host.specs.declared.entry.SeatEntry.{SeatEntry}
 use Rattle.gb_host.specs.declared.plan.HostPlan.{HostPlan}
 use Rattle.gb_host.specs.declared.fault.HostFault.{HostFault}
-use Rattle.gb_host.specs.declared.fault.HostFault.TheVariants.{NoNode, ForeignSeat, Differs, OutOfMemory as NoMemory, Full}
+use Rattle.gb_host.specs.declared.fault.HostFault.TheVariants.{NoNode, ForeignSeat, Differs, OutOfMemory as NoMemory, Full, Behind}
 use Rattle.gb_worker.specs.Answered.{is_stopped, stops_in}
-use Rattle.gb_worker.specs.Ended.{IsLost, IsUncounted}
+use Rattle.gb_worker.specs.Ended.{IsLost, IsPassing, IsUncounted}
 use Rattle.gb_worker.specs.Asked.{AnswersAt, reply_at, reply_of}
 
-told_at : {reply : Reply} (p : HostPlan) (here : set.FinSet nat_cmp) (seat : SeatValue) (node : NodeId) (why : HostFault) → IsRefused p here seat node why → reply ≡ reply_at why → (reply ≡ Refused Stopped) ⊎ ((reply ≡ Refused OutOfMemory) × (p.tape ≡ true))
+-- what goes to a recorder is kept
+kept_by_ring : (tape ring : Bool) → (ring && not tape) ≡ true → (tape || ring) ≡ true
+kept_by_ring true ring h = refl
+kept_by_ring false true h = refl
+kept_by_ring false false h = absurd cc
+
+told_at : {reply : Reply} (p : HostPlan) (here : set.FinSet nat_cmp) (seat : SeatValue) (node : NodeId) (why : HostFault) → IsRefused p here seat node why → reply ≡ reply_at why → (reply ≡ Refused Stopped) ⊎ ((reply ≡ Refused OutOfMemory) × (is_kept p ≡ true))
 told_at p here seat node NoMemory why is = inr (is, why.1)
+told_at p here seat node Behind why is = inr (is, kept_by_ring p.tape p.ring why.1)
 told_at p here seat node NoNode why is = inl is
 told_at p here seat node ForeignSeat why is = absurd why
 told_at p here seat node (Differs difference) why is = absurd why
@@ -38,19 +46,24 @@ told p here s t node request (Err e) calls err why answered fault = inr (ap (λ 
 
 -- What a fault is to a worker.
 
--- a call lacks memory only where tapes are kept, at a node that is here
-pub not_uncounted : (p : HostPlan) (here : set.FinSet nat_cmp) (seat : SeatValue) (node : NodeId) (why : HostFault) → IsRefused p here seat node why → why ≡ NoMemory → IsUncounted p here node → ⊥
-not_uncounted p here seat node why refused memory (inl off) =
-    let r : IsRefused p here seat node NoMemory = subst (IsRefused p here seat node) memory refused in true≢false (sym r.1 ∙ off)
-not_uncounted p here seat node why refused memory (inr away) =
-    let r : IsRefused p here seat node NoMemory = subst (IsRefused p here seat node) memory refused in true≢false (sym r.0 ∙ away)
+-- a call is not kept only where calls are kept, at a node that is here
+pub not_uncounted : (p : HostPlan) (here : set.FinSet nat_cmp) (seat : SeatValue) (node : NodeId) (why : HostFault) → IsRefused p here seat node why → IsPassing why → IsUncounted p here node → ⊥
+not_uncounted p here seat node NoMemory refused passing (inl off) = true≢false (sym refused.1 ∙ off)
+not_uncounted p here seat node NoMemory refused passing (inr away) = true≢false (sym refused.0 ∙ away)
+not_uncounted p here seat node Behind refused passing (inl off) = true≢false (sym (kept_by_ring p.tape p.ring refused.1) ∙ off)
+not_uncounted p here seat node Behind refused passing (inr away) = true≢false (sym refused.0 ∙ away)
+not_uncounted p here seat node NoNode refused passing at = absurd passing
+not_uncounted p here seat node ForeignSeat refused passing at = absurd passing
+not_uncounted p here seat node (Differs difference) refused passing at = absurd passing
+not_uncounted p here seat node Full refused passing at = absurd passing
 
 -- any other fault is that the host does not take the seat's calls there
-pub lost_by : (p : HostPlan) (here : set.FinSet nat_cmp) (old new : SeatValue) (node : NodeId) (why : HostFault) → IsRefused p here old node why → why ≢ NoMemory → new ≡ old → IsLost here node new
+pub lost_by : (p : HostPlan) (here : set.FinSet nat_cmp) (old new : SeatValue) (node : NodeId) (why : HostFault) → IsRefused p here old node why → (IsPassing why → ⊥) → new ≡ old → IsLost here node new
 lost_by p here old new node NoNode refused not same = inl refused
 lost_by p here old new node ForeignSeat refused not same = absurd refused
 lost_by p here old new node (Differs difference) refused not same = absurd refused
-lost_by p here old new node NoMemory refused not same = absurd (not refl)
+lost_by p here old new node NoMemory refused not same = absurd (not tt)
+lost_by p here old new node Behind refused not same = absurd (not tt)
 lost_by p here old new node Full refused not same = inr (ap (λ (s : SeatValue). slice_index s.counts node.number) same ∙ refused.1)
 
 -- Answers Stopped.

@@ -8,9 +8,11 @@ use Rattle.gb_types.specs.declared.request.Request.{Request}
 use Rattle.gb_node.specs.declared.answer.NodeAnswer.{NodeAnswer}
 use Rattle.gb_node.specs.declared.answer.NodeAnswer.TheVariants.{Reply as Replied}
 use Rattle.gb_node.specs.declared.event.NodeEvent.TheVariants.{Request as Asked}
+use Rattle.gb_host.specs.Plans.{is_kept}
+use Rattle.gb_session.specs.Answering.{Answering, IsDenied}
 use Rattle.gb_host.specs.declared.entry.SeatEntry.{SeatEntry}
 use Rattle.gb_host.specs.declared.fault.HostFault.{HostFault}
-use Rattle.gb_host.specs.declared.fault.HostFault.TheVariants.{OutOfMemory as NoMemory}
+use Rattle.gb_host.specs.declared.fault.HostFault.TheVariants.{OutOfMemory as NoMemory, Behind}
 use Rattle.gb_host.specs.declared.plan.HostPlan.{HostPlan}
 
 -- The reply that an answer is. A node answers each request with one; any other answer would be told as Stopped.
@@ -18,9 +20,10 @@ abbrev pub reply_of : NodeAnswer → Reply
 reply_of (Replied reply) = reply
 reply_of other = Refused Stopped
 
--- What a client is told of a call that the host did not make: that there was no memory for it, or, at any other fault, Stopped.
+-- What a client is told of a call that the host did not make: OutOfMemory where it could not keep it, or, at any other fault, Stopped.
 abbrev pub reply_at : HostFault → Reply
 reply_at NoMemory = Refused OutOfMemory
+reply_at Behind = Refused OutOfMemory
 reply_at other = Refused Stopped
 
 -- the request was asked at the node, once, and the reply is the node's
@@ -28,10 +31,14 @@ abbrev pub IsAsked : NodeId → List SeatEntry → Request → Reply → List Se
 IsAsked node old request reply new =
     (answer : NodeAnswer) × (new ≡ old ++ record { node = node; event = Asked request; answer = answer } ∷ []) × (reply ≡ reply_of answer)
 
--- Nothing was asked, and the reply says Stopped, or OutOfMemory where the host keeps tapes: without these it takes no memory.
+-- Nothing was asked, and the reply says Stopped, or OutOfMemory where the host keeps calls: else they take no room.
 abbrev pub IsUnasked : HostPlan → List SeatEntry → Reply → List SeatEntry → Type 0
-IsUnasked p old reply new = (new ≡ old) × ((reply ≡ Refused Stopped) ⊎ ((reply ≡ Refused OutOfMemory) × (p.tape ≡ true)))
+IsUnasked p old reply new = (new ≡ old) × ((reply ≡ Refused Stopped) ⊎ ((reply ≡ Refused OutOfMemory) × (is_kept p ≡ true)))
 
 -- a reply to a request, and what it leaves of the seat's calls
 abbrev pub AnswersAt : HostPlan → NodeId → List SeatEntry → Request → Reply → List SeatEntry → Type 0
 AnswersAt p node old request reply new = IsAsked node old request reply new ⊎ IsUnasked p old reply new
+
+-- what a session at a node may tell: to a request as above, to an operation that it is Denied
+abbrev pub answers_at : HostPlan → NodeId → Answering (List SeatEntry)
+answers_at p node = record { replies = AnswersAt p node; tells = IsDenied }

@@ -1,15 +1,24 @@
 -- Why a worker ends, and what it counts.
-use Rattle.std.specs.Prelude.{ℕ, ◌≡◌, ◌⊎◌, ◌-◌, ◌^◌, true, false, slice_index}
+use Rattle.std.specs.Prelude.{ℕ, ◌≡◌, ◌⊎◌, ◌-◌, ◌^◌, false, slice_index}
 use Rattle.std.specs.FinSet as set
 use Rattle.std.specs.Ordering.{nat_cmp}
 use Rattle.gb_types.specs.declared.node.NodeId.{NodeId}
+use Rattle.gb_host.specs.Plans.{is_kept}
 use Rattle.gb_host.specs.SeatValue.{SeatValue}
+use Rattle.gb_host.specs.declared.fault.HostFault.{HostFault}
+use Rattle.gb_host.specs.declared.fault.HostFault.TheVariants.{OutOfMemory, Behind}
 use Rattle.gb_host.specs.declared.plan.HostPlan.{HostPlan}
 
 -- the host does not take the seat's calls at the node: the node is not here, or the seat called it 2^64 - 1 times
 abbrev pub IsLost : set.FinSet nat_cmp → NodeId → SeatValue → Type 0
 IsLost here node seat = (set.contains here node.number ≡ false) ⊎ (slice_index seat.counts node.number ≡ 2 ^ 64 - 1)
 
--- no call at the node can lack memory: the host keeps no tapes, or the node is not here
+-- the host could not keep the call
+abbrev pub IsPassing : HostFault → Type 0
+IsPassing OutOfMemory = Unit {0}
+IsPassing Behind = Unit {0}
+IsPassing why = ⊥
+
+-- no call at the node can lack room: the host keeps no calls, or the node is not here
 abbrev pub IsUncounted : HostPlan → set.FinSet nat_cmp → NodeId → Type 0
-IsUncounted p here node = (p.tape ≡ false) ⊎ (set.contains here node.number ≡ false)
+IsUncounted p here node = (is_kept p ≡ false) ⊎ (set.contains here node.number ≡ false)

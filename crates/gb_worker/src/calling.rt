@@ -3,7 +3,7 @@ ghost use Rattle.std.specs.Prelude.{◌≡◌, ◌≢◌, ◌⊎◌, ◌+◌, �
 ghost use Rattle.std.specs.Bool.{MatchBool};
 ghost use Rattle.gb_node.specs.declared.answer.NodeAnswer.{NodeAnswer as AnswerValue};
 ghost use Rattle.gb_worker.specs.Answered.{is_stopped, stops_by, stops_in};
-ghost use Rattle.gb_worker.specs.Ended.{IsLost, IsUncounted};
+ghost use Rattle.gb_worker.specs.Ended.{IsLost, IsPassing, IsUncounted};
 ghost use Rattle.gb_worker.specs.Gained.{Gains, IsCalled, IsStopped};
 
 use crate::end::Why;
@@ -28,18 +28,22 @@ fn is_stopped(answer: &NodeAnswer) -> bool
     }
 }
 
-// Whether a fault of the host is lack of memory.
-fn is_memory(fault: &HostFault) -> bool
-    ensures { MatchBool result (fault.now ≡ HostFault.OutOfMemory) (fault.now ≢ HostFault.OutOfMemory) }
+// Whether a call may be made later that a host refused so: there was no memory for it, or its node's recorder is behind.
+fn is_passing(fault: &HostFault) -> bool
+    ensures { MatchBool result (IsPassing fault.now) (IsPassing fault.now → ⊥) }
 {
     match fault {
         HostFault::OutOfMemory => true,
-        _ => false,
+        HostFault::Behind => true,
+        HostFault::NoNode => false,
+        HostFault::ForeignSeat => false,
+        HostFault::Differs(_) => false,
+        HostFault::Full => false,
     }
 }
 
-// One event at a node, and its answer; or None where the host had no memory for it, which is counted. Any other fault of the
-// host ends the worker.
+// One event at a node, and its answer; or None where the host could not keep it, which is counted. Any other fault of the host
+// ends the worker.
 pub(crate) fn ask<L: Tapes, H: Wait>(
     rt: &H,
     host: &Host<L>,
@@ -61,7 +65,7 @@ pub(crate) fn ask<L: Tapes, H: Wait>(
         Ok(answer) => return Ok(Some(answer)),
         Err(fault) => fault,
     };
-    if !is_memory(&fault) {
+    if !is_passing(&fault) {
         drop(fault);
         return Err(Why::Fault);
     }

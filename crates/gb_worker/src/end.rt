@@ -9,7 +9,7 @@ pub enum Why {
     Gate,
     /// Its node answered Stopped. No ticker ends so.
     Stopped,
-    /// The host refused a call, for another reason than want of memory.
+    /// The host refused a call, for another reason than that it could not keep it.
     Fault,
 }
 
@@ -18,7 +18,7 @@ pub enum Why {
 pub struct WorkerEnd {
     /// The whole turns that it made.
     pub turns: u64,
-    /// The calls to which the host answered OutOfMemory, of which at most 2^64 - 1 are counted. Nothing happened in them.
+    /// The calls to which the host answered OutOfMemory or Behind, of which at most 2^64 - 1 are counted. Nothing happened in them.
     pub refused: u64,
     pub why: Why,
 }

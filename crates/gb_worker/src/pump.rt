@@ -331,8 +331,8 @@ fn make_turn<L: Tapes, H: Wait, P: Port>(
 /// the turn's number, an again of the lowest frame that is not acknowledged; where a good packet of that node came in this
 /// turn or 16 divides its number, an ack. What each gives is handed to the port at once; what the port does not take is lost.
 /// False at the gate ends the pump, and so does the answer Stopped, of which there is one at most, and a fault of the host other
-/// than lack of memory; an event for which there was no memory did not happen, and is counted, and a packet that was to be its
-/// event is lost. None is counted where the host keeps no tapes.
+/// than that it could not keep the call; such an event did not happen, and is counted, and a packet that was to be it is lost. None is
+/// counted where the host keeps no calls.
 pub fn pump<L: Tapes, H: Wait, P: Port, G: Gate>(
     rt: &H,
     host: &Host<L>,

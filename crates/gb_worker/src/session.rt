@@ -1,8 +1,7 @@
 //! The worker that answers a client's requests.
-ghost use Rattle.std.specs.Prelude.{◌≡◌, IfOk, IfErr, OnErr};
-ghost use Rattle.gb_session.specs.Runs.{HasAsked};
-ghost use Rattle.gb_session.specs.Sessions.{IsSession};
-ghost use Rattle.gb_worker.specs.Asked.{AnswersAt, reply_at, reply_of};
+ghost use Rattle.std.specs.Prelude.{◌≡◌, IfOk, IfErr};
+ghost use Rattle.gb_session.specs.Sessions.{IsSession, IsCutOff};
+ghost use Rattle.gb_worker.specs.Asked.{answers_at, reply_at, reply_of};
 
 use gb_host::fault::HostFault;
 use gb_host::gate::Gate;
@@ -11,8 +10,10 @@ use gb_host::names::Tapes;
 use gb_host::seat::Seat;
 use gb_node::answer::NodeAnswer;
 use gb_node::event::NodeEvent;
-use gb_session::answers::Answers;
+use gb_session::answers::{Answers, put_refusal};
+use gb_session::operation::Operation;
 use gb_session::serve::{SessionEnd, SessionFault, serve};
+use gb_types::memory::OutOfMemory;
 use gb_types::node::NodeId;
 use gb_types::refusal::Refusal;
 use gb_types::reply::Reply;
@@ -29,6 +30,7 @@ fn reply_of(outcome: Result<NodeAnswer, HostFault>) -> Reply
     match outcome {
         Ok(NodeAnswer::Reply(reply)) => reply,
         Err(HostFault::OutOfMemory) => Reply::Refused(Refusal::OutOfMemory),
+        Err(HostFault::Behind) => Reply::Refused(Refusal::OutOfMemory),
         _ => Reply::Refused(Refusal::Stopped),
     }
 }
@@ -46,10 +48,14 @@ struct Desk<'a, L: Tapes, H, G> {
 
 impl<'a, L: Tapes, H: Wait, G: Gate> Answers for Desk<'a, L, H, G> {
     ghost use Rattle.std.specs.Prelude.{◌≡◌};
+    ghost use Rattle.gb_session.specs.Answering.{IsDenied};
     ghost use Rattle.gb_worker.specs.Asked.{AnswersAt};
 
-    ghost answers = { λ s request reply t. (t.node ≡ s.node) × (t.seat.ghost_name ≡ s.seat.ghost_name)
-        × AnswersAt L.plan s.node s.seat.now.calls request reply t.seat.now.calls };
+    ghost answers = { record {
+      replies = λ s request reply t. (t.node ≡ s.node) × (t.seat.ghost_name ≡ s.seat.ghost_name)
+          × AnswersAt L.plan s.node s.seat.now.calls request reply t.seat.now.calls;
+      tells = IsDenied;
+    } };
 
     fn answer(&mut self, request: Request) -> Reply {
         if self.is_shut || !self.gate.pass() {
@@ -59,12 +65,16 @@ impl<'a, L: Tapes, H: Wait, G: Gate> Answers for Desk<'a, L, H, G> {
         let event = NodeEvent::Request(request);
         reply_of(self.host.call(self.rt, self.seat, self.node, event))
     }
+
+    fn operate(&self, _operation: Operation, out: &mut Vec<u8>) -> Result<(), OutOfMemory> {
+        put_refusal(out, Refusal::Denied)
+    }
 }
 
 /// Answers the requests that the reader gives by calls at a node, and writes each reply; all else is as in
 /// `gb_session::serve::serve`, whose result it gives. The gate is passed before each call; from its first false on no call is
-/// made and each reply is Stopped. Where the host had no memory for a call the reply is OutOfMemory, and Stopped at any other
-/// fault of the host: then nothing happened at the node.
+/// made and each reply is Stopped. An operation is Denied. Where the host had no memory for a call, or the node's recorder is
+/// behind, the reply is OutOfMemory, and Stopped at any other fault of the host: then nothing happened at the node.
 pub fn session<L: Tapes, H: Wait, R: Read, W: Write, G: Gate>(
     rt: &H,
     alloc: Global,
@@ -75,9 +85,10 @@ pub fn session<L: Tapes, H: Wait, R: Read, W: Write, G: Gate>(
     writer: &mut W,
     gate: &mut G,
 ) -> Result<SessionEnd, SessionFault>
-    ensures ok { IfOk result (IsSession (AnswersAt L.plan node) seat.old.calls seat.new.calls
+    ensures ok { IfOk result (IsSession (answers_at L.plan node) seat.old.calls seat.new.calls
         (R.remaining reader.old) (R.remaining reader.new) (W.contents writer.old) (W.contents writer.new)) }
-    ensures asked { OnErr result (HasAsked (AnswersAt L.plan node) seat.old.calls seat.new.calls) }
+    ensures fault { IfErr result (IsCutOff (answers_at L.plan node) seat.old.calls seat.new.calls
+        (R.remaining reader.old) (R.remaining reader.new) (W.contents writer.old) (W.contents writer.new)) }
 {
     let mut desk = Desk {
         rt,

@@ -1,5 +1,6 @@
 //! The worker that makes the time tick.
 ghost use Rattle.std.specs.Prelude.{ℕ, ◌≡◌, ◌≢◌, ◌≤◌, ◌-◌, ◌^◌, false, slice_index, IfErr, OnOk, OnErr};
+ghost use Rattle.gb_host.specs.Plans.{is_kept};
 ghost use Rattle.gb_worker.specs.Gained.{Gains};
 ghost use Rattle.gb_worker.specs.Ticks.{HasTicked, IsTick};
 
@@ -25,7 +26,7 @@ fn tick<L: Tapes, H: Wait>(
     ensures fault { IfErr result (λ why. (why ≡ Why.Fault) × (seat.new.calls ≡ seat.old.calls)) }
     ensures counts { refused.new ≡ 0 → refused.old ≡ 0 }
     ensures number { seat.new.number ≡ seat.old.number }
-    ensures uncounted { L.plan.tape ≡ false → refused.new ≡ refused.old }
+    ensures uncounted { is_kept L.plan ≡ false → refused.new ≡ refused.old }
     ensures full { OnErr result (slice_index seat.new.counts node.number ≡ 2 ^ 64 - 1) }
 {
     if !host.here().contains(node) {
@@ -38,9 +39,8 @@ fn tick<L: Tapes, H: Wait>(
 }
 
 /// Makes this number of turns. Each passes the gate and then makes a tick at each node that is here, rising; a node that has
-/// stopped is asked too. False at the gate ends the ticker, and so does a fault of the host other than lack of memory, which is
-/// that the seat called a node 2^64 - 1 times; a tick for which there was no memory did not happen, and is counted. None is
-/// counted where the host keeps no tapes.
+/// stopped is asked too. False at the gate ends the ticker, and so does it that the seat called a node 2^64 - 1 times; a
+/// tick that the host could not keep did not happen, and is counted. None is counted where the host keeps no calls.
 pub fn ticker<L: Tapes, H: Wait, G: Gate>(
     rt: &H,
     host: &Host<L>,
@@ -53,7 +53,7 @@ pub fn ticker<L: Tapes, H: Wait, G: Gate>(
     ensures most { result.turns ≤ turns }
     ensures why { result.why ≢ Why.Stopped }
     ensures number { seat.new.number ≡ seat.old.number }
-    ensures uncounted { L.plan.tape ≡ false → result.refused ≡ 0 }
+    ensures uncounted { is_kept L.plan ≡ false → result.refused ≡ 0 }
     ensures full { result.why ≡ Why.Fault → (k : ℕ) × (slice_index seat.new.counts k ≡ 2 ^ 64 - 1) }
 {
     let nodes = host.plan().cluster.nodes;

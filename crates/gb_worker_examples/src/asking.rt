@@ -31,12 +31,14 @@ const TENANT_KEY: Key = [0x33; 32];
 pub const ALONE: Addr = Addr {
     tenant: 7,
     group: 0,
+    generation: 0,
 };
 
 /// The group of both nodes, best effort.
 pub const BOTH: Addr = Addr {
     tenant: 7,
     group: 1,
+    generation: 0,
 };
 
 /// What is said, short and as long as it may be.
@@ -60,6 +62,7 @@ fn lacks_memory(answer: &NodeAnswer) -> bool {
 pub enum Unanswered {
     NoNode,
     OutOfMemory,
+    Behind,
     Other,
 }
 
@@ -76,6 +79,7 @@ pub fn call<L: Tapes, R: Wait, G: Gate>(
         Ok(answer) => Ok(answer),
         Err(HostFault::NoNode) => Err(Unanswered::NoNode),
         Err(HostFault::OutOfMemory) => Err(Unanswered::OutOfMemory),
+        Err(HostFault::Behind) => Err(Unanswered::Behind),
         Err(_) => Err(Unanswered::Other),
     }
 }
@@ -142,8 +146,8 @@ fn tell<L: Tapes, R: Wait + Clock>(
     let _ = answer(rt, alloc, host, seat, node, request);
 }
 
-// The request that adds the tenant.
-fn add_tenant() -> Request {
+/// The request that adds the tenant.
+pub fn add_tenant() -> Request {
     let row = TenantRow {
         tenant: 7,
         key: TENANT_KEY,

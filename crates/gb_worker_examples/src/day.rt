@@ -95,20 +95,19 @@ pub fn day_of_two<R: Threads + Wait + Clock + Sync>(
     day(rt, alloc, Version::One, tape, false, roles)
 }
 
-/// A day of three roles, without the group of both nodes.
-pub fn day_of_three<R: Threads + Wait + Clock + Sync>(
+/// A day with tapes of two roles at each node, without the group of both nodes.
+pub fn day_of_four<'a, R: Threads + Wait + Clock + Sync>(
     rt: &R,
     alloc: Global,
-    tape: bool,
-    first: Role<'_, RingPort>,
-    second: Role<'_, RingPort>,
-    third: Role<'_, RingPort>,
+    first: (Role<'a, RingPort>, Role<'a, RingPort>),
+    second: (Role<'a, RingPort>, Role<'a, RingPort>),
 ) -> Option<Left> {
-    let mut roles = Vec::with_capacity(alloc, 3).ok()?;
-    roles.push_reserved(first);
-    roles.push_reserved(second);
-    roles.push_reserved(third);
-    day(rt, alloc, Version::One, tape, false, roles)
+    let mut roles = Vec::with_capacity(alloc, 4).ok()?;
+    roles.push_reserved(first.0);
+    roles.push_reserved(second.0);
+    roles.push_reserved(first.1);
+    roles.push_reserved(second.1);
+    day(rt, alloc, Version::One, true, false, roles)
 }
 
 // A day with a pump for each of two nodes, over these ports, and two more roles.

@@ -1,6 +1,6 @@
-// Each node has a lock of its own.
+// Each node has a lock of its own, which is held while a call at the node is made.
 use crate::asking::call;
-use crate::day::day_of_three;
+use crate::day::day_of_four;
 use crate::plans::{FIRST, SECOND};
 use crate::roles::Role;
 use gb_host::gate::{Gate, Open};
@@ -8,6 +8,7 @@ use gb_host::host::Host;
 use gb_host::names::Tapes;
 use gb_host::seat::Seat;
 use gb_node::event::NodeEvent;
+use gb_types::node::NodeId;
 use std::rt::HostRuntime;
 use std::sync::Wait;
 use std::sync::atomic::{AtomicU64, Ordering};
@@ -17,25 +18,35 @@ use std::time::{Clock, Duration};
 /// How many milliseconds a thread waits at most.
 const PATIENCE: u64 = 10_000;
 
-/// No lock was taken yet.
-const OUTSIDE: u64 = 0;
+/// How many milliseconds the locks are held once each node has a caller who waits.
+const HOLD: u64 = 200;
 
-/// Node 0's lock is held.
-const INSIDE: u64 = 1;
+/// What two calls at two nodes, each inside its node's lock, and a call more at each node know of one another.
+#[derive(Drop)]
+pub struct Meeting {
+    /// How many are inside.
+    inside: AtomicU64,
+    /// How many call beside them.
+    behind: AtomicU64,
+    /// How many have left the gate inside.
+    left: AtomicU64,
+}
 
-/// Node 0's lock was held while node 1 answered.
-const ANSWERED: u64 = 2;
+impl Meeting {
+    /// Nobody has come.
+    pub fn new() -> Meeting {
+        Meeting {
+            inside: AtomicU64::new(0),
+            behind: AtomicU64::new(0),
+            left: AtomicU64::new(0),
+        }
+    }
+}
 
-/// The gate inside node 0's lock is left.
-const LEFT: u64 = 3;
-
-/// How many milliseconds node 0's lock is held once node 1 has answered.
-const HOLD: u64 = 100;
-
-// Waits for a state. Whether it came.
-fn wait_for<R: Clock>(rt: &R, state: &AtomicU64, wanted: u64) -> bool {
+// Waits until a count is two. Whether it came to that.
+fn wait_for_two<R: Clock>(rt: &R, count: &AtomicU64) -> bool {
     for _ in 0..PATIENCE {
-        if state.load(Ordering::SeqCst) == wanted {
+        if count.load(Ordering::SeqCst) == 2 {
             return true;
         }
         thread::sleep(rt, Duration::from_millis(1));
@@ -43,79 +54,74 @@ fn wait_for<R: Clock>(rt: &R, state: &AtomicU64, wanted: u64) -> bool {
     false
 }
 
-// A gate inside a lock: the lock is held until node 1 has answered and a while longer, or for too long.
+// A gate inside a lock: the lock is held until both are inside, others call both nodes, and a while more has passed.
 #[derive(Drop)]
 struct Held<'a, R> {
     rt: &'a R,
-    state: &'a AtomicU64,
+    meeting: &'a Meeting,
+    is_met: bool,
 }
 
 impl<R: Clock> Gate for Held<'_, R> {
     fn pass(&mut self) -> bool {
-        self.state.store(INSIDE, Ordering::SeqCst);
-        let is_answered = wait_for(self.rt, self.state, ANSWERED);
+        let meeting = self.meeting;
+        meeting.inside.fetch_add(1, Ordering::SeqCst);
+        self.is_met = wait_for_two(self.rt, &meeting.inside)
+            && wait_for_two(self.rt, &meeting.behind);
         thread::sleep(self.rt, Duration::from_millis(HOLD));
-        let state = if is_answered { LEFT } else { OUTSIDE };
-        self.state.store(state, Ordering::SeqCst);
-        is_answered
+        meeting.left.fetch_add(1, Ordering::SeqCst);
+        self.is_met
     }
 }
 
-/// Calls node 0, and holds its lock.
+/// Calls a node, and holds its lock. Whether both locks were held at one time.
 pub fn hold<L: Tapes, R: Wait + Clock>(
     rt: &R,
     host: &Host<L>,
     seat: &mut Seat<L>,
-    state: &AtomicU64,
+    node: NodeId,
+    meeting: &Meeting,
 ) -> bool {
-    let mut gate = Held { rt, state };
-    call(rt, host, seat, FIRST, NodeEvent::Tick, &mut gate).is_ok()
+    let mut gate = Held {
+        rt,
+        meeting,
+        is_met: false,
+    };
+    let is_answered = call(rt, host, seat, node, NodeEvent::Tick, &mut gate).is_ok();
+    is_answered && gate.is_met
 }
 
-/// Calls node 1 once node 0's lock is held.
-pub fn call_beside<L: Tapes, R: Wait + Clock>(
-    rt: &R,
-    host: &Host<L>,
-    seat: &mut Seat<L>,
-    state: &AtomicU64,
-) -> bool {
-    if !wait_for(rt, state, INSIDE) {
-        return false;
-    }
-    let is_answered = call(rt, host, seat, SECOND, NodeEvent::Tick, &mut Open).is_ok();
-    if is_answered {
-        state.store(ANSWERED, Ordering::SeqCst);
-    }
-    is_answered
-}
-
-/// Calls node 0 too, once its lock is held. Whether it was answered after the lock was left.
+/// Calls a node too, once both locks are held. Whether it was answered only when a gate inside had been left.
 pub fn call_behind<L: Tapes, R: Wait + Clock>(
     rt: &R,
     host: &Host<L>,
     seat: &mut Seat<L>,
-    state: &AtomicU64,
+    node: NodeId,
+    meeting: &Meeting,
 ) -> bool {
-    for _ in 0..PATIENCE {
-        if state.load(Ordering::SeqCst) != OUTSIDE {
-            break;
-        }
-        thread::sleep(rt, Duration::from_millis(1));
+    if !wait_for_two(rt, &meeting.inside) {
+        return false;
     }
-    let is_answered = call(rt, host, seat, FIRST, NodeEvent::Tick, &mut Open).is_ok();
-    is_answered && state.load(Ordering::SeqCst) == LEFT
+    meeting.behind.fetch_add(1, Ordering::SeqCst);
+    let is_answered = call(rt, host, seat, node, NodeEvent::Tick, &mut Open).is_ok();
+    is_answered && meeting.left.load(Ordering::SeqCst) > 0
 }
 
-// The first caller holds node 0's lock. Once it does, the second calls node 1, and is answered; the third calls node 0, and is
-// answered only when the lock was left.
+// Two callers are inside the locks of two nodes at one time; meanwhile two others call the same nodes, and are answered only when
+// the locks were left. With one lock for both nodes the first two would never meet, and where a gate is passed before the lock is
+// taken the others would be answered at once.
 #[test]
 fn two_nodes_two_locks(rt: HostRuntime) {
-    let state = AtomicU64::new(OUTSIDE);
-    let (first, second, third) = (
-        Role::Holder(&state),
-        Role::Beside(&state),
-        Role::Behind(&state),
+    let meeting = Meeting::new();
+    let (first, second) = (
+        Role::Holder(FIRST, &meeting),
+        Role::Holder(SECOND, &meeting),
     );
-    let left = day_of_three(&rt, rt.alloc(), true, first, second, third).expect(&rt, "a day");
-    assert!(rt; left.counts == [1, 1, 1, 0] && state.into_inner() == LEFT);
+    let (third, fourth) = (
+        Role::Behind(FIRST, &meeting),
+        Role::Behind(SECOND, &meeting),
+    );
+    let left = day_of_four(&rt, rt.alloc(), (first, third), (second, fourth)).expect(&rt, "a day");
+    assert!(rt; left.counts == [1, 1, 1, 1] && left.agree);
+    assert!(rt; meeting.left.load(Ordering::SeqCst) == 2);
 }

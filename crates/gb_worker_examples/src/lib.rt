@@ -21,6 +21,8 @@ mod one_node;
 #[cfg(test)]
 mod plans;
 #[cfg(test)]
+mod recorded;
+#[cfg(test)]
 mod roles;
 #[cfg(test)]
 mod scenes;

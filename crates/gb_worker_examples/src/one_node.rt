@@ -40,12 +40,12 @@ fn tick<L: Tapes, R: Wait>(rt: &R, host: &Host<L>, seat: &mut Seat<L>, node: Nod
     }
 }
 
-// How many entries the tape of each node has, and whether the node was here.
+// Whether each node was here, and how many entries its tape has.
 fn left_of(closed: &Closed) -> [(bool, usize); 2] {
     let mut left = [(false, 0); 2];
-    for node in 0..2 {
-        if let (Some(there), Some(tape)) = (closed.nodes.get(node), closed.tapes.get(node)) {
-            left[node] = (there.is_some(), tape.as_slice().len());
+    for node in [FIRST, SECOND] {
+        if let Some(there) = closed.left_of(node) {
+            left[node.index()] = (there.id == node, there.tape.as_slice().len());
         }
     }
     left
@@ -66,7 +66,7 @@ fn run<L: Tapes, R: Wait>(
     requires books { books_of pasts.items ≡ L.books }
 {
     let opened = Host::<L>::open(alloc, plan, only(SECOND), 1, pasts);
-    let (host, mut seats) = opened.ok()?;
+    let (host, mut seats, _) = opened.ok()?;
     let mut answered = [Answered::Other; 2];
     if let Some(seat) = seats.first_mut() {
         answered = [tick(rt, &host, seat, FIRST), tick(rt, &host, seat, SECOND)];

@@ -29,6 +29,19 @@ pub fn two_nodes(version: Version, tape: bool) -> HostPlan
             admin_key: ADMIN_KEY,
         },
         tape,
+        ring: false,
+    }
+}
+
+/// Two nodes whose entries go to recorders.
+pub fn two_recorded() -> HostPlan
+    ensures nodes { result.cluster.nodes ≡ 2 }
+    ensures limits { IsPlan result }
+{
+    HostPlan {
+        cluster: two_nodes(Version::One, false).cluster,
+        tape: false,
+        ring: true,
     }
 }
 

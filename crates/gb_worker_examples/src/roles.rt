@@ -1,7 +1,7 @@
 // What each thread of a day does, from a seat of its own.
 use crate::asking::{ALONE, BOTH, PATIENCE, WORDS, ask, fetch, prepare, say};
 use crate::host_faults::is_refused;
-use crate::host_locks::{call_behind, call_beside, hold};
+use crate::host_locks::{Meeting, call_behind, hold};
 use crate::plans::SECOND;
 use gb_host::gate::{Gate, Open};
 use gb_host::host::Host;
@@ -34,12 +34,10 @@ pub enum Role<'a, P> {
     Fetcher(NodeId, NodeId, &'a [u8]),
     /// Makes a group of a node alone, and says and fetches in it.
     Loner(NodeId),
-    /// Calls node 0, and holds its lock.
-    Holder(&'a AtomicU64),
-    /// Calls node 1 once node 0's lock is held.
-    Beside(&'a AtomicU64),
-    /// Calls node 0 too, once its lock is held.
-    Behind(&'a AtomicU64),
+    /// Calls a node, and holds its lock.
+    Holder(NodeId, &'a Meeting),
+    /// Calls a node too, once its lock is held.
+    Behind(NodeId, &'a Meeting),
     /// Calls a node that the host does not have.
     Lost,
 }
@@ -170,9 +168,8 @@ pub fn work<L: Tapes, P: Port, R: Wait + Clock>(
             wait_for_message(rt, alloc, host, seat, *node, *origin, words) as u64
         }
         Role::Loner(node) => keep_to_itself(rt, alloc, host, seat, *node) as u64,
-        Role::Holder(state) => hold(rt, host, seat, state) as u64,
-        Role::Beside(state) => call_beside(rt, host, seat, state) as u64,
-        Role::Behind(state) => call_behind(rt, host, seat, state) as u64,
+        Role::Holder(node, meeting) => hold(rt, host, seat, *node, meeting) as u64,
+        Role::Behind(node, meeting) => call_behind(rt, host, seat, *node, meeting) as u64,
         Role::Lost => is_refused(rt, host, seat) as u64,
     };
     if is_caller(role) {

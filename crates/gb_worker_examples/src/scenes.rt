@@ -169,7 +169,7 @@ fn run<L: Tapes + Send + Sync, P: Port + Send + Drop, R: Threads + Wait + Clock 
 {
     let here = all_nodes(plan.cluster.nodes);
     let opened = Host::<L>::open(alloc, plan, here, count, pasts);
-    let Some((host, mut seats)) = opened.ok() else {
+    let Some((host, mut seats, _)) = opened.ok() else {
         return Err(Refused::Other);
     };
     let counts = play(rt, alloc, &host, &mut seats, scene);

@@ -8,5 +8,4 @@ pub returns : goal.returns
 returns g c =
     let hosted = c.into_inner-hosted.result in
     let number : hosted.me.number ≡ c.args.me.number = search rules in
-    let replay : IsReplay g.L.Tapes.plan hosted.me c.into_parts.result.0 c.into_parts.result.1 = rw (c.into_parts.ensures.parts.0, c.into_parts.ensures.parts.1) c.into_parts.ensures.replay in
-    subst (λ (b : NodeId). IsReplay g.L.Tapes.plan b c.into_parts.result.0 c.into_parts.result.1) (same_number hosted.me c.args.me number) replay
+    subst (λ (b : NodeId). IsReplay g.L.Tapes.plan b c.into_parts.result.0 c.into_parts.result.1) (same_number hosted.me c.args.me number) c.into_parts.ensures.replay

@@ -1,6 +1,4 @@
-use Rattle.std.proofs.Common.{ℕ, ◌≡◌, ◌<◌, ◌+◌, true, arith, subst, sym}
-use Rattle.std.specs.FinSet as set
-use Rattle.std.specs.Ordering.{nat_cmp}
+use Rattle.std.proofs.Common.{arith}
 use Rattle.gb_host.proofs.HereLemmas.{none_here, whole_more, within_more}
 use Rattle.gb_host.proofs.here.all_nodes.Goals as goal
 

@@ -1,31 +1,63 @@
-use Rattle.std.proofs.Common.{arith, ◌≡◌, ◌+◌, ◌<◌, ◌++◌, [], ◌∷◌, ◌∙◌, ap, cond, length, refl, sym, subst, get_or, set}
+use Rattle.std.proofs.Common.{arith, ◌≡◌, ◌+◌, ◌<◌, ◌++◌, [], ◌∷◌, ◌∙◌, ap, length, refl, sym, subst, get_or, set}
 use Rattle.gb_past.specs.Story.{Known}
 use Rattle.gb_node.specs.declared.tape.TapeEntry.{TapeEntry}
-use Rattle.gb_host.specs.Copied.{list_copy, tape_copy}
+use Rattle.gb_host.specs.Copied.{AreCopies, list_copy, tape_copy}
 use Rattle.gb_host.specs.Happened.{GoesOn}
 use Rattle.gb_host.specs.HostedValue.{HostedValue}
+use Rattle.gb_host.specs.KeptPast.{kept_entries, way_of, IsKeptAt}
 use Rattle.gb_host.specs.Pasts.{no_book, seen_at}
 use Rattle.gb_host.specs.SeatValue.{SeatValue}
 use Rattle.gb_host.specs.declared.entry.SeatEntry.{SeatEntry}
+use Rattle.gb_host.specs.declared.copies.Way.{Way}
 use Rattle.gb_host.specs.declared.plan.HostPlan.{HostPlan}
-use Rattle.gb_host.proofs.ReplayLemmas.{any_default, goes_on, hosted_fits_more, list_kept, seat_fits_more, tape_kept, NotedMore}
+use Rattle.gb_host.proofs.KeptLemmas.{are_for, list_kept, noted, same_way, tape_kept}
+use Rattle.gb_host.proofs.ReplayLemmas.{any_default, goes_on, hosted_fits_more, seat_fits_more, NotedMore}
+use Rattle.gb_host.proofs.RingLemmas.{past_more}
 use Rattle.gb_host.proofs.hosted.Hosted.step.Goals as goal
 
-pub invariant_of-self-2 : goal.invariant_of-self-2
-invariant_of-self-2 g c =
+pub keep-requires-clause-copies : goal.keep-requires-clause-copies
+keep-requires-clause-copies g c =
+    let kept = c.make_room.new.kept in
+    let answer = c.in-Ok-answers.answers.0 in
+    let copies = c.in-Ok-answers.answers.1 in
+    are_for kept c.args.event answer copies (subst (λ (w : Way). AreCopies w c.args.event answer copies) c.way.ensures c.in-Ok-answers.ensures.copies)
+
+pub keep-requires-clause-noted : goal.keep-requires-clause-noted
+keep-requires-clause-noted g c =
     let h = c.self.inside in
-    let old : HostedValue = record { me = h.me; node = h.node; book = h.past.book; past = h.past.log; tape = h.tape.items } in
+    let p : HostPlan = g.L.Tapes.plan in
+    let kept = c.make_room.new.kept in
     let count = get_or c.seat.inside.counts c.index-at.result 0 in
     let answer = c.in-Ok-answers.answers.0 in
     let copies = c.in-Ok-answers.answers.1 in
     let told = c.in-Ok-answers.ensures in
-    let e : TapeEntry = record { seat = c.seat.inside.number; count = count; event = c.args.event; answer = answer } in (
+    let e : TapeEntry = record { seat = c.seat.inside.number; count = count; event = c.args.event; answer = answer } in
+    let placed : IsKeptAt p h.me kept = same_way p h.me h.kept kept c.self.invariant.2 c.make_room.ensures.kept.1 in
+    let copied : AreCopies (way_of kept) c.args.event answer copies = subst (λ (w : Way). AreCopies w c.args.event answer copies) c.way.ensures told.copies in
+    noted p g.L.Tapes.books h.me kept h.past.log c.seat.inside.number count c.args.event answer copies c.note.new.past placed (c.make_room.ensures.kept.0 ∙ c.self.invariant.1.kept) copied
+    (past_more p g.L.Tapes.books h.me h.past.log e c.note.new.past h.node c.answers.new.node c.self.invariant.1.member (c.note.ensures.book ∙ c.self.invariant.1.booked) c.note.ensures.past c.self.invariant.1.comes told.turn told.spelt)
+
+pub invariant_of-self-2 : goal.invariant_of-self-2
+invariant_of-self-2 g c =
+    let h = c.self.inside in
+    let p : HostPlan = g.L.Tapes.plan in
+    let old : HostedValue = record { me = h.me; node = h.node; book = h.past.book; past = h.past.log; tape = kept_entries h.kept } in
+    let kept = c.make_room.new.kept in
+    let seat = c.seat.inside.number in
+    let count = get_or c.seat.inside.counts c.index-at.result 0 in
+    let answer = c.in-Ok-answers.answers.0 in
+    let copies = c.in-Ok-answers.answers.1 in
+    let told = c.in-Ok-answers.ensures in
+    let e : TapeEntry = record { seat = seat; count = count; event = c.args.event; answer = answer } in
+    let placed : IsKeptAt p h.me kept = same_way p h.me h.kept kept c.self.invariant.2 c.make_room.ensures.kept.1 in
+    let copied : AreCopies (way_of kept) c.args.event answer copies = subst (λ (w : Way). AreCopies w c.args.event answer copies) c.way.ensures told.copies in (
       c.self.invariant.0,
-      hosted_fits_more g.L.Tapes.plan g.L.Tapes.books old _ e c.self.invariant.1 refl told.turn told.spelt c.note.ensures.past
-          (c.keep.ensures.tape
-          ∙ (ap (λ xs. xs ++ tape_copy c.seat.inside.number count c.args.event copies) c.make_room.ensures.items.0
-          ∙ ap (λ xs. h.tape.items ++ xs) (tape_kept h.plan.tape c.seat.inside.number count c.args.event answer copies told.copies ∙ ap (λ (p : HostPlan). cond p.tape (e ∷ []) []) c.self.invariant.0)))
+      hosted_fits_more p g.L.Tapes.books old _ e c.self.invariant.1 refl told.turn told.spelt c.note.ensures.past
+          (c.keep.ensures.kept.0
+          ∙ (ap (λ xs. xs ++ tape_copy seat count c.args.event copies) c.make_room.ensures.kept.0
+          ∙ ap (λ xs. kept_entries h.kept ++ xs) (tape_kept p h.me kept seat count c.args.event answer copies placed copied)))
           c.note.ensures.book,
+      same_way p h.me kept c.keep.new.kept placed c.keep.ensures.kept.1,
     )
 
 pub invariant_of-seat-2 : goal.invariant_of-seat-2
@@ -44,6 +76,9 @@ invariant_of-seat-2 g c =
     let e : SeatEntry = record { node = h.me; event = c.args.event; answer = answer } in
     let old : SeatValue = record { number = s.number; counts = s.counts; calls = s.calls.log; list = s.list.items; seen = s.seen.items } in
     let new : SeatValue = record { number = s.number; counts = set s.counts at (count + 1); calls = c.note.new.calls.log; list = c.keep.new.list.items; seen = set s.seen.items at c.note.new.seen } in
+    let kept = c.make_room.new.kept in
+    let placed : IsKeptAt p h.me kept = same_way p h.me h.kept kept c.self.invariant.2 c.make_room.ensures.kept.1 in
+    let copied : AreCopies (way_of kept) c.args.event answer copies = subst (λ (w : Way). AreCopies w c.args.event answer copies) c.way.ensures told.copies in
     let there : me < length s.seen.items = let m = c.self.invariant.1.member in let l = c.seat.invariant.seen in omega (arith, m, l) in
     let was : c.index_mut.result.now ≡ seen_at s.seen.items me =
     c.index_mut.ensures.value ∙ (ap (λ k. get_or s.seen.items k c.index_mut.result.now) at_is ∙ any_default s.seen.items me c.index_mut.result.now (record { book = no_book; log = [] }) there) in
@@ -62,8 +97,8 @@ invariant_of-seat-2 g c =
       calls = c.note.ensures.calls;
       list =
           c.keep.ensures.list
-          ∙ (ap (λ xs. xs ++ list_copy h.me copies) c.make_room.ensures.items.1
-          ∙ ap (λ xs. s.list.items ++ xs) (list_kept h.plan.tape h.me c.args.event answer copies told.copies ∙ ap (λ (q : HostPlan). cond q.tape (e ∷ []) []) c.self.invariant.0));
+          ∙ (ap (λ xs. xs ++ list_copy h.me copies) c.make_room.ensures.list
+          ∙ ap (λ xs. s.list.items ++ xs) (list_kept p h.me h.me kept c.args.event answer copies placed copied));
       seen = λ i. set s.seen.items (at_is i) (known i);
       book_is = c.self.invariant.1.booked ∙ sym (c.seat.invariant.booked me there);
     } in
@@ -85,6 +120,9 @@ returns-clause-goes_on g c =
     let e : SeatEntry = record { node = h.me; event = c.args.event; answer = answer } in
     let old : SeatValue = record { number = s.number; counts = s.counts; calls = s.calls.log; list = s.list.items; seen = s.seen.items } in
     let new : SeatValue = record { number = s.number; counts = set s.counts at (count + 1); calls = c.note.new.calls.log; list = c.keep.new.list.items; seen = set s.seen.items at c.note.new.seen } in
+    let kept = c.make_room.new.kept in
+    let placed : IsKeptAt p h.me kept = same_way p h.me h.kept kept c.self.invariant.2 c.make_room.ensures.kept.1 in
+    let copied : AreCopies (way_of kept) c.args.event answer copies = subst (λ (w : Way). AreCopies w c.args.event answer copies) c.way.ensures told.copies in
     let there : me < length s.seen.items = let m = c.self.invariant.1.member in let l = c.seat.invariant.seen in omega (arith, m, l) in
     let was : c.index_mut.result.now ≡ seen_at s.seen.items me =
     c.index_mut.ensures.value ∙ (ap (λ k. get_or s.seen.items k c.index_mut.result.now) at_is ∙ any_default s.seen.items me c.index_mut.result.now (record { book = no_book; log = [] }) there) in
@@ -103,8 +141,8 @@ returns-clause-goes_on g c =
       calls = c.note.ensures.calls;
       list =
           c.keep.ensures.list
-          ∙ (ap (λ xs. xs ++ list_copy h.me copies) c.make_room.ensures.items.1
-          ∙ ap (λ xs. s.list.items ++ xs) (list_kept h.plan.tape h.me c.args.event answer copies told.copies ∙ ap (λ (q : HostPlan). cond q.tape (e ∷ []) []) c.self.invariant.0));
+          ∙ (ap (λ xs. xs ++ list_copy h.me copies) c.make_room.ensures.list
+          ∙ ap (λ xs. s.list.items ++ xs) (list_kept p h.me h.me kept c.args.event answer copies placed copied));
       seen = λ i. set s.seen.items (at_is i) (known i);
       book_is = c.self.invariant.1.booked ∙ sym (c.seat.invariant.booked me there);
     } in

@@ -1,0 +1,45 @@
+-- Recorders at the places of their nodes.
+use Rattle.std.proofs.Common.{◌≡◌, ◌∙◌, ℕ, ◌+◌, ◌<◌, ◌++◌, ◌&&◌, ◌||◌, not, Bool, true, false, refl, List, [], ◌∷◌, Option, None, ap, arith, get_or, inl, inr, length, subst, sym}
+use Rattle.std.specs.FinSet as set
+use Rattle.std.specs.Ordering.{nat_cmp}
+use Rattle.std.proofs.lemmas.Bool.Decides.{eqb_tells}
+use Rattle.std.proofs.lemmas.List.{get_or_append_left}
+use Rattle.std.proofs.Math.Seq.{get_or-append_seam}
+use Rattle.gb_host.specs.HostValue.{AreOpened, IsOpened, IsOpenedAt}
+use Rattle.gb_host.specs.RingValues.{RecorderValue}
+use Rattle.gb_host.specs.declared.plan.HostPlan.{HostPlan}
+
+pub opened_more : (p : HostPlan) (here : set.FinSet nat_cmp) (n : ℕ) (xs : List (Option RecorderValue)) (r : Option RecorderValue) → length xs ≡ n → AreOpened p here n xs → IsOpened p (set.contains here n) n r → AreOpened p here (n + 1) (xs ++ r ∷ [])
+opened_more p here n xs r len all one k d under =
+    elim (eqb_tells k n) [
+      | inl t ↦
+          let is : get_or (xs ++ r ∷ []) k d ≡ r = ap (λ j. get_or (xs ++ r ∷ []) j d) (t.1 ∙ sym len) ∙ get_or-append_seam xs r [] d in
+          rw is (subst (λ (j : ℕ). IsOpened p (set.contains here j) j r) (sym t.1) one)
+      | inr t ↦ rw (get_or_append_left xs (r ∷ []) d k (omega (arith, t.1, under, len))) (all k d (omega (arith, t.1, under)))
+    ]
+
+pub opened_here : (p : HostPlan) (k : ℕ) (is_here : Bool) (r : Option RecorderValue) → is_here ≡ true → IsOpenedAt p k r → IsOpened p is_here k r
+opened_here p k true r h one = one
+opened_here p k false r h one = absurd cc
+
+pub opened_away : (p : HostPlan) (k : ℕ) (is_here : Bool) → is_here ≡ false → IsOpened p is_here k None
+opened_away p k true h = absurd cc
+opened_away p k false h = refl
+
+pub ringed_taped : (tape ring : Bool) → tape ≡ true → (ring && not tape) ≡ false
+ringed_taped true true h = refl
+ringed_taped true false h = refl
+ringed_taped false ring h = absurd cc
+
+pub ringed_off : (tape ring : Bool) → ring ≡ false → (ring && not tape) ≡ false
+ringed_off tape true h = absurd cc
+ringed_off tape false h = refl
+
+pub ringed_on : (tape ring : Bool) → tape ≡ false → ring ≡ true → (ring && not tape) ≡ true
+ringed_on true ring h k = absurd cc
+ringed_on false true h k = refl
+ringed_on false false h k = absurd cc
+
+pub kept_off : (tape ring : Bool) → tape ≡ false → ring ≡ false → (tape || ring) ≡ false
+kept_off true ring h k = absurd cc
+kept_off false ring h k = k

@@ -1,0 +1,77 @@
+-- How the past of a node is kept.
+use Rattle.std.specs.Prelude.{ℕ, ◌≡◌, ◌<◌, ◌++◌, Bool, true, false, List, [], ◌∷◌, vec_len, vec_capacity}
+use Rattle.std.specs.declared.vec.Vec.{Vec}
+use Rattle.std.specs.declared.alloc.Global.{Global}
+use Rattle.gb_past.specs.Story.{Known}
+use Rattle.gb_types.specs.declared.node.NodeId.{NodeId}
+use Rattle.gb_node.specs.declared.answer.NodeAnswer.{NodeAnswer}
+use Rattle.gb_node.specs.declared.event.NodeEvent.{NodeEvent}
+use Rattle.gb_node.specs.declared.tape.TapeEntry.{TapeEntry}
+use Rattle.gb_host.specs.Pasts.{BookName}
+use Rattle.gb_host.specs.Plans.{is_kept}
+use Rattle.gb_host.specs.Rings.{IsPast}
+use Rattle.gb_host.specs.declared.copies.Copies.{Copies}
+use Rattle.gb_host.specs.declared.copies.Copies.TheVariants.{No, ForMemory, ForRing}
+use Rattle.gb_host.specs.declared.copies.Way.{Way}
+use Rattle.gb_host.specs.declared.copies.Way.TheVariants.{Nowhere, InMemory, InRing}
+use Rattle.gb_host.specs.declared.entry.SeatEntry.{SeatEntry}
+use Rattle.gb_host.specs.declared.fault.HostFault.{HostFault}
+use Rattle.gb_host.specs.declared.fault.HostFault.TheVariants.{OutOfMemory, Behind}
+use Rattle.gb_host.specs.declared.kept.Kept.{Kept}
+use Rattle.gb_host.specs.declared.kept.Kept.TheVariants.{Nothing, Memory, Ring}
+use Rattle.gb_host.specs.declared.plan.HostPlan.{HostPlan}
+
+module _ {L : Type 0} where
+  -- what was kept
+  abbrev pub kept_entries : Kept L → List TapeEntry
+  kept_entries Nothing = []
+  kept_entries (Memory tape) = tape.items
+  kept_entries (Ring out) = out.entries
+
+  -- what memory holds of it
+  abbrev pub tape_in : Kept L → List TapeEntry
+  tape_in Nothing = []
+  tape_in (Memory tape) = tape.items
+  tape_in (Ring out) = []
+
+  abbrev pub way_of : Kept L → Way
+  way_of Nothing = Nowhere
+  way_of (Memory tape) = InMemory
+  way_of (Ring out) = InRing
+
+  -- the past of this node is kept as the plan says
+  abbrev pub IsKeptAt : HostPlan → NodeId → Kept L → Type 0
+  IsKeptAt p b Nothing = is_kept p ≡ false
+  IsKeptAt p b (Memory tape) = p.tape ≡ true
+  IsKeptAt p b (Ring out) = (p.tape ≡ false) × (p.ring ≡ true) × (out.node ≡ b)
+
+  -- one is kept in the way of the other
+  abbrev pub IsSameWay : Kept L → Kept L → Type 0
+  IsSameWay Nothing Nothing = Unit {0}
+  IsSameWay (Memory old) (Memory new) = Unit {0}
+  IsSameWay (Ring old) (Ring new) = new.node ≡ old.node
+  IsSameWay old new = ⊥
+
+  -- there is room for an entry more, in memory in a seat's list too
+  abbrev pub HasRoom : Kept L → Vec SeatEntry Global → Type 0
+  HasRoom Nothing list = Unit {0}
+  HasRoom (Memory tape) list = (vec_len tape < vec_capacity tape) × (vec_len list < vec_capacity list)
+  HasRoom (Ring out) list = 0 < out.free
+
+  -- why there is no room
+  abbrev pub IsRoomless : Kept L → HostFault → Type 0
+  IsRoomless (Memory tape) OutOfMemory = Unit {0}
+  IsRoomless (Ring out) Behind = Unit {0}
+  IsRoomless kept why = ⊥
+
+  -- the copies are for this way
+  abbrev pub AreFor : Kept L → Copies → Type 0
+  AreFor Nothing No = Unit {0}
+  AreFor (Memory tape) (ForMemory c) = Unit {0}
+  AreFor (Ring out) (ForRing answer) = Unit {0}
+  AreFor kept copies = ⊥
+
+  -- what goes into a ring is what happened next, as the past has it
+  abbrev pub IsNoted : HostPlan → List BookName → Kept L → ℕ → ℕ → NodeEvent → Copies → Known TapeEntry → Type 0
+  IsNoted p books (Ring out) seat count event (ForRing a) past = IsPast p books out.node (out.entries ++ record { seat = seat; count = count; event = event; answer = a } ∷ []) past
+  IsNoted p books kept seat count event copies past = Unit {0}

@@ -1,0 +1,25 @@
+-- What contracts see of the two ends of a ring from a node to its recorder.
+use Rattle.std.specs.Prelude.{ℕ, ◌≡◌, Bool, true, false, List, [], ◌∷◌, ◌++◌}
+use Rattle.gb_types.specs.declared.node.NodeId.{NodeId}
+use Rattle.gb_node.specs.declared.tape.TapeEntry.{TapeEntry}
+use Rattle.gb_host.specs.declared.recorder.Taken.{Taken}
+use Rattle.gb_host.specs.declared.recorder.Taken.TheVariants.{Entry, End}
+
+pub record OutletValue : Type 0 where
+  pub node : NodeId
+  -- all that went in, the oldest first
+  pub entries : List TapeEntry
+  -- for how many more there is room, at least
+  pub free : ℕ
+
+pub record RecorderValue : Type 0 where
+  pub node : NodeId
+  -- all that was taken, the oldest first
+  pub entries : List TapeEntry
+  -- nothing more comes
+  pub is_whole : Bool
+
+-- what a recorder has, once it took this
+abbrev pub IsTaken : Taken → RecorderValue → RecorderValue → Type 0
+IsTaken (Entry e) old new = (old.is_whole ≡ false) × (new.is_whole ≡ false) × (new.entries ≡ old.entries ++ e ∷ [])
+IsTaken End old new = (old.is_whole ≡ false) × (new.is_whole ≡ true) × (new.entries ≡ old.entries)

@@ -1,0 +1,74 @@
+-- What goes through the ring from a node to its recorder: that it begins, what happened, in order, and that it ended.
+use Rattle.std.specs.Prelude.{ℕ, ◌≡◌, ◌<◌, Bool, true, false, List, [], ◌∷◌, ◌++◌, Option, Some, None}
+use Rattle.gb_past.specs.Story.{Known}
+use Rattle.gb_types.specs.declared.node.NodeId.{NodeId}
+use Rattle.gb_node.specs.NodeValue.{NodeValue}
+use Rattle.gb_node.specs.Past.{ComesTo}
+use Rattle.gb_node.specs.declared.tape.TapeEntry.{TapeEntry}
+use Rattle.gb_host.specs.Pasts.{BookName, book_at}
+use Rattle.gb_host.specs.Plans.{plan_of}
+use Rattle.gb_host.specs.Replay.{past_of}
+use Rattle.gb_host.specs.declared.noted.Noted.{Noted}
+use Rattle.gb_host.specs.declared.noted.Noted.TheVariants.{Begin, Entry, End}
+use Rattle.gb_host.specs.declared.plan.HostPlan.{HostPlan}
+
+-- These entries are all that is known of the past of a node of the plan, and by them the node comes to a state.
+pub record IsPast (p : HostPlan) (books : List BookName) (b : NodeId) (entries : List TapeEntry) (known : Known TapeEntry) : Type 0 where
+  pub member : b.number < p.cluster.nodes
+  pub book : known.book ≡ book_at books b.number
+  pub log : known.log ≡ entries
+  pub state : NodeValue
+  pub comes : ComesTo (plan_of p b) (past_of entries) state
+
+-- the entries among what was noted
+abbrev pub entries_of : List Noted → List TapeEntry
+entries_of [] = []
+entries_of (Begin b ∷ xs) = entries_of xs
+entries_of (Entry e seen ∷ xs) = e ∷ entries_of xs
+entries_of (End past ∷ xs) = entries_of xs
+
+-- nothing else was noted
+abbrev pub AreEntries : List Noted → Type 0
+AreEntries [] = Unit {0}
+AreEntries (Begin b ∷ xs) = ⊥
+AreEntries (Entry e seen ∷ xs) = AreEntries xs
+AreEntries (End past ∷ xs) = ⊥
+
+-- what may be noted of a node after these entries: what happened next, or that this was all
+abbrev pub IsNext : HostPlan → List BookName → NodeId → List TapeEntry → Noted → Type 0
+IsNext p books b entries (Begin c) = ⊥
+IsNext p books b entries (Entry e seen) = IsPast p books b (entries ++ e ∷ []) seen
+IsNext p books b entries (End past) = IsPast p books b entries past
+
+abbrev pub IsBegin : Noted → Type 0
+IsBegin (Begin b) = Unit {0}
+IsBegin (Entry e seen) = ⊥
+IsBegin (End past) = ⊥
+
+-- what may be noted after the rest
+abbrev pub Follows : HostPlan → List BookName → List Noted → Noted → Type 0
+Follows p books [] x = IsBegin x
+Follows p books (Begin b ∷ before) x = AreEntries before × IsNext p books b (entries_of before) x
+Follows p books (Entry e seen ∷ before) x = ⊥
+Follows p books (End past ∷ before) x = ⊥
+
+-- the ring of a node, through which entries went alone
+abbrev pub HasBegun : NodeId → List Noted → Type 0
+HasBegun b noted = (more : List Noted) × (noted ≡ Begin b ∷ more) × AreEntries more
+
+-- a past was handed over
+abbrev pub is_handed : Option (Known TapeEntry) → Bool
+is_handed None = false
+is_handed (Some past) = true
+
+-- what is known of the entries that were taken, until their past was handed over, and then
+abbrev pub IsToldBy : HostPlan → List BookName → NodeId → List Noted → Option (Known TapeEntry) → Type 0
+IsToldBy p books b more None = AreEntries more
+IsToldBy p books b more (Some past) = IsPast p books b (entries_of more) past
+
+-- what a recorder has taken
+pub record HasTaken (p : HostPlan) (books : List BookName) (b : NodeId) (noted : List Noted) (seen : Known TapeEntry) (past : Option (Known TapeEntry)) : Type 0 where
+  pub more : List Noted
+  pub begun : noted ≡ Begin b ∷ more
+  pub told : IsPast p books b (entries_of more) seen
+  pub so_far : IsToldBy p books b more past

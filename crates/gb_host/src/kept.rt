@@ -1,0 +1,169 @@
+//! How the past of a node is kept.
+ghost use Rattle.std.specs.Prelude.{◌≡◌, ◌++◌, ◌∷◌, [], IfOk, IfErr, OnOk};
+ghost use Rattle.gb_host.specs.Copied.{list_copy, tape_copy};
+ghost use Rattle.gb_host.specs.HostValue.{IsOpenedAt};
+ghost use Rattle.gb_host.specs.KeptPast.{kept_entries, tape_in, way_of, AreFor, HasRoom, IsKeptAt, IsNoted, IsRoomless, IsSameWay};
+ghost use Rattle.gb_host.specs.Rings.{IsPast};
+
+use crate::copies::{Copies, MemoryCopies, Way};
+use crate::entry::SeatEntry;
+use crate::fault::HostFault;
+use crate::names::Tapes;
+use crate::outlet::{Outlet, ring_of};
+use crate::pasts::NodePast;
+use crate::plan::HostPlan;
+use crate::recorder::Recorder;
+use gb_node::event::NodeEvent;
+use gb_node::tape::TapeEntry;
+use gb_types::node::NodeId;
+use std::alloc::Global;
+
+/// What is kept of a node's past, besides what contracts see.
+#[derive(Drop)]
+pub enum Kept<L: Tapes> {
+    Nothing,
+    /// Memory holds all of it.
+    Memory(Vec<TapeEntry>),
+    /// It goes through a ring to a recorder.
+    Ring(Outlet<L>),
+}
+
+impl<L: Tapes> Kept<L> {
+    /// Which way it is kept.
+    pub fn way(&self) -> Way
+        ensures { result ≡ way_of self.now }
+    {
+        match self {
+            Kept::Nothing => Way::Nowhere,
+            Kept::Memory(_) => Way::InMemory,
+            Kept::Ring(_) => Way::InRing,
+        }
+    }
+}
+
+// What memory holds.
+pub(crate) fn into_tape<L: Tapes>(alloc: Global, kept: Kept<L>) -> Vec<TapeEntry>
+    ensures { result.items ≡ tape_in kept }
+{
+    match kept {
+        Kept::Memory(tape) => tape,
+        Kept::Nothing => Vec::new(alloc),
+        Kept::Ring(out) => {
+            drop(out);
+            Vec::new(alloc)
+        }
+    }
+}
+
+/// How the past of a node at which nothing has happened is kept, and its recorder where it goes through a ring.
+#[tactic(auto, using(crate::proofs::OpenLemmas::ringed_taped, crate::proofs::OpenLemmas::ringed_off, crate::proofs::OpenLemmas::ringed_on, crate::proofs::OpenLemmas::kept_off))]
+pub fn kept_at<L: Tapes>(
+    alloc: Global,
+    plan: &HostPlan,
+    node: NodeId,
+    past: &NodePast,
+) -> Result<(Kept<L>, Option<Recorder<L>>), HostFault>
+    requires plan { plan.now ≡ L.plan }
+    requires past { IsPast L.plan L.books node [] past.now }
+    ensures kept { IfOk result (λ r. IsKeptAt plan.now node r.0 × (kept_entries r.0 ≡ [])) }
+    ensures recorder { IfOk result (λ r. IsOpenedAt plan.now node.number r.1) }
+    ensures fault { IfErr result (λ why. why ≡ HostFault.OutOfMemory) }
+{
+    if plan.tape {
+        return Ok((Kept::Memory(Vec::new(alloc)), None));
+    }
+    if !plan.ring {
+        return Ok((Kept::Nothing, None));
+    }
+    match ring_of::<L>(alloc, node, past) {
+        Ok((outlet, recorder)) => Ok((Kept::Ring(outlet), Some(recorder))),
+        Err(fault) => Err(fault),
+    }
+}
+
+// Room for an entry more, in memory in the seat's list too.
+pub(crate) fn make_room<L: Tapes>(
+    kept: &mut Kept<L>,
+    list: &mut Vec<SeatEntry>,
+) -> Result<(), HostFault>
+    ensures kept { (kept_entries kept.new ≡ kept_entries kept.old) × IsSameWay kept.old kept.new }
+    ensures list { list.new.items ≡ list.old.items }
+    ensures room { OnOk result (HasRoom kept.new list.new) }
+    ensures fault { IfErr result (IsRoomless kept.old) }
+{
+    match kept {
+        Kept::Nothing => Ok(()),
+        Kept::Memory(tape) => {
+            if tape.reserve(1).is_err() || list.reserve(1).is_err() {
+                return Err(HostFault::OutOfMemory);
+            }
+            Ok(())
+        }
+        Kept::Ring(out) => {
+            if !out.has_room() {
+                return Err(HostFault::Behind);
+            }
+            Ok(())
+        }
+    }
+}
+
+// Keeps a call that the node's past has, in memory also in the seat's list.
+pub(crate) fn keep<L: Tapes>(
+    kept: &mut Kept<L>,
+    list: &mut Vec<SeatEntry>,
+    node: NodeId,
+    seat: u32,
+    count: u64,
+    event: NodeEvent,
+    copies: Copies,
+    past: &NodePast,
+)
+    requires room { HasRoom kept.old list.old }
+    requires copies { AreFor kept.old copies }
+    requires noted { IsNoted L.plan L.books kept.old seat count event copies past.now }
+    ensures kept { (kept_entries kept.new ≡ kept_entries kept.old ++ tape_copy seat count event copies) × IsSameWay kept.old kept.new }
+    ensures list { list.new.items ≡ list.old.items ++ list_copy node copies }
+{
+    match kept {
+        Kept::Nothing => {
+            drop(event);
+            drop(copies);
+        }
+        Kept::Memory(tape) => {
+            let Copies::ForMemory(
+                MemoryCopies {
+                    event: copy,
+                    answer,
+                    for_tape,
+                },
+            ) = copies
+            else {
+                unreachable!()
+            };
+            tape.push_reserved(TapeEntry {
+                seat,
+                count,
+                event,
+                answer: for_tape,
+            });
+            list.push_reserved(SeatEntry {
+                node,
+                event: copy,
+                answer,
+            });
+        }
+        Kept::Ring(out) => {
+            let Copies::ForRing(answer) = copies else {
+                unreachable!()
+            };
+            let entry = TapeEntry {
+                seat,
+                count,
+                event,
+                answer,
+            };
+            out.push(entry, past);
+        }
+    }
+}

@@ -1,0 +1,124 @@
+//! The end of a ring by which a node notes what happens.
+ghost use Rattle.std.specs.Prelude.{◌≡◌, ◌<◌, ◌++◌, ◌∷◌, [], true, false, IfOk, IfErr};
+ghost use Rattle.gb_host.specs.Rings.{IsPast};
+
+use crate::fault::HostFault;
+use crate::names::Tapes;
+use crate::noted::{InOrder, Noted};
+use crate::pasts::NodePast;
+use crate::recorder::Recorder;
+use gb_node::tape::TapeEntry;
+use gb_types::node::NodeId;
+use rtrb::{Producer, RingBuffer};
+use std::alloc::Global;
+use std::marker::Model;
+use std::sync::Wait;
+use std::thread;
+
+/// How many entries wait for a recorder at most.
+pub const WAITING: usize = 16_384;
+
+/// Notes what happens at a node for its recorder. Contracts see the node and all that was noted, which no memory holds.
+#[derive(Drop)]
+pub struct Outlet<L: Tapes> {
+    node: NodeId,
+    out: Producer<Noted, Global, InOrder<L>>,
+}
+
+impl<L: Tapes> Model for Outlet<L> {
+    ghost use Rattle.std.specs.Coded.{codes, coded_ℕ};
+    ghost use Rattle.std.specs.Ordering.{nat_cmp};
+    ghost use Rattle.std.specs.FinSet as set;
+    ghost use Rattle.gb_host.specs.RingValues.{OutletValue};
+
+    ghost Value = { OutletValue };
+
+    ghost coded = { Prim.hlevel (codes, set.code {R = nat_cmp} coded_ℕ) };
+
+    ghost use Rattle.gb_host.specs.Rings.{HasBegun, entries_of};
+    ghost use Rattle.rtrb.specs.Ring.{sent, known_free};
+
+    ghost view = { λ o. record { node = o.node; entries = entries_of (sent o.out); free = known_free o.out } };
+
+    ghost invariant = { λ o. HasBegun o.node (sent o.out) };
+}
+
+impl<L: Tapes> Outlet<L> {
+    /// Whether there is room for an entry more.
+    pub fn has_room(&mut self) -> bool
+        ensures same { (self.new.node ≡ self.old.node) × (self.new.entries ≡ self.old.entries) }
+        ensures room { result ≡ true → 0 < self.new.free }
+    {
+        !self.out.is_full()
+    }
+
+    /// Notes what happened next at the node, once its past has it.
+    #[tactic(auto, using(crate::proofs::RingLemmas::follows_entry, crate::proofs::RingLemmas::begun_more, crate::proofs::RingLemmas::entries_more))]
+    pub fn push(&mut self, entry: TapeEntry, past: &NodePast)
+        requires room { 0 < self.old.free }
+        requires is { IsPast L.plan L.books self.old.node (self.old.entries ++ entry ∷ []) past.now }
+        ensures node { self.new.node ≡ self.old.node }
+        ensures entries { self.new.entries ≡ self.old.entries ++ entry ∷ [] }
+    {
+        let seen = past.seen();
+        self.out.push_reserved(Noted::Entry(entry, seen));
+    }
+
+    // Whether the recorder is gone.
+    fn is_gone(&mut self) -> bool
+        ensures { (self.new.node ≡ self.old.node) × (self.new.entries ≡ self.old.entries) }
+    {
+        self.out.is_abandoned()
+    }
+
+    // Waits for room. False where the recorder is gone.
+    fn wait_for_room<R: Wait>(&mut self, rt: &R) -> bool
+        ensures same { (self.new.node ≡ self.old.node) × (self.new.entries ≡ self.old.entries) }
+        ensures room { result ≡ true → 0 < self.new.free }
+    {
+        for _ in rt.forever() {
+            if self.has_room() {
+                return true;
+            }
+            if self.is_gone() {
+                return false;
+            }
+            thread::yield_now();
+        }
+        unreachable!()
+    }
+
+    /// Hands the node's past to the recorder, once there is room for it. Nothing is handed where the recorder is gone.
+    #[tactic(auto, using(crate::proofs::RingLemmas::follows_end))]
+    pub fn end<R: Wait>(self, rt: &R, past: NodePast)
+        requires { IsPast L.plan L.books self.node self.entries past }
+    {
+        let mut outlet = self;
+        if outlet.wait_for_room(rt) {
+            let Outlet { node: _, mut out } = outlet;
+            out.push_reserved(Noted::End(past));
+        }
+    }
+}
+
+/// The two ends of a ring from a node, whose past is this and at which nothing has happened, to its recorder.
+#[tactic(auto, using(crate::proofs::RingLemmas::begun_new))]
+pub fn ring_of<L: Tapes>(
+    alloc: Global,
+    node: NodeId,
+    past: &NodePast,
+) -> Result<(Outlet<L>, Recorder<L>), HostFault>
+    requires { IsPast L.plan L.books node [] past.now }
+    ensures outlet { IfOk result (λ r. (r.0.node ≡ node) × (r.0.entries ≡ [])) }
+    ensures recorder { IfOk result (λ r. (r.1.node ≡ node) × (r.1.entries ≡ []) × (r.1.is_whole ≡ false)) }
+    ensures fault { IfErr result (λ why. why ≡ HostFault.OutOfMemory) }
+{
+    let (mut out, mut inlet) = RingBuffer::with_protocol::<Global, InOrder<L>>(alloc, WAITING)?;
+    out.push_reserved(Noted::Begin(node));
+    inlet.slots_beside(&mut out);
+    let _begin = inlet.pop_known();
+    Ok((
+        Outlet { node, out },
+        Recorder::new(node, past.seen(), inlet),
+    ))
+}

@@ -1,0 +1,125 @@
+//! The end of a node's ring by which its recorder takes what happened.
+ghost use Rattle.std.specs.Prelude.{◌≡◌, [], ◌∷◌, false, true, IfSome, IsSome, None};
+ghost use Rattle.rtrb.specs.Ring.{received};
+ghost use Rattle.gb_host.specs.Rings.{IsPast};
+ghost use Rattle.gb_host.specs.RingValues.{IsTaken};
+ghost use Rattle.gb_host.specs.declared.noted.Noted.TheVariants.{Begin};
+
+use crate::names::Tapes;
+use crate::noted::{InOrder, Noted};
+use crate::pasts::{NodePast, NodeSeen};
+use gb_node::tape::TapeEntry;
+use gb_types::node::NodeId;
+use rtrb::Consumer;
+use std::alloc::Global;
+use std::marker::Model;
+
+/// What a recorder takes.
+#[derive(Drop)]
+pub enum Taken {
+    /// What happened next at the node.
+    Entry(TapeEntry),
+    /// The node was given up: what was taken is all that happened there.
+    End,
+}
+
+/// Takes what happened at a node, in order. Contracts see the node and all that was taken, which is the beginning of the node's past
+/// at any moment, and the whole of it after the end. Dropped, it takes no more, and once the ring is full the node refuses each call.
+#[derive(Drop)]
+pub struct Recorder<L: Tapes> {
+    node: NodeId,
+    seen: NodeSeen,
+    past: Option<NodePast>,
+    inlet: Consumer<Noted, Global, InOrder<L>>,
+}
+
+impl<L: Tapes> Model for Recorder<L> {
+    ghost use Rattle.std.specs.Coded.{codes, coded_ℕ};
+    ghost use Rattle.std.specs.Ordering.{nat_cmp};
+    ghost use Rattle.std.specs.FinSet as set;
+    ghost use Rattle.gb_host.specs.RingValues.{RecorderValue};
+
+    ghost Value = { RecorderValue };
+
+    ghost coded = { Prim.hlevel (codes, set.code {R = nat_cmp} coded_ℕ) };
+
+    ghost use Rattle.gb_host.specs.Rings.{HasTaken, entries_of, is_handed};
+    ghost use Rattle.rtrb.specs.Ring.{received};
+
+    ghost view = { λ r. record { node = r.node; entries = entries_of (received r.inlet); is_whole = is_handed r.past } };
+
+    ghost invariant = { λ r. HasTaken L.plan L.books r.node (received r.inlet) r.seen r.past };
+}
+
+impl<L: Tapes> Recorder<L> {
+    // Nothing was taken yet of a node whose past is seen.
+    #[tactic(auto, using(crate::proofs::RingLemmas::taken_new))]
+    pub(crate) fn new(
+        node: NodeId,
+        seen: NodeSeen,
+        inlet: Consumer<Noted, Global, InOrder<L>>,
+    ) -> Recorder<L>
+        requires seen { IsPast L.plan L.books node [] seen }
+        requires begun { received inlet ≡ Begin node ∷ [] }
+        ensures { (result.node ≡ node) × (result.entries ≡ []) × (result.is_whole ≡ false) }
+    {
+        Recorder {
+            node,
+            seen,
+            past: None,
+            inlet,
+        }
+    }
+
+    /// Which node it is.
+    pub fn node(&self) -> NodeId
+        ensures { result ≡ self.now.node }
+    {
+        self.node
+    }
+
+    /// Takes what happened next; None where nothing more is there yet, and after the end.
+    #[tactic(auto, using(crate::proofs::RingLemmas::taken_entry, crate::proofs::RingLemmas::taken_end, crate::proofs::RingLemmas::no_begin, crate::proofs::RingLemmas::entries_more, crate::proofs::RingLemmas::entries_ended))]
+    pub fn take(&mut self) -> Option<Taken>
+        ensures node { self.new.node ≡ self.old.node }
+        ensures some { IfSome result (λ taken. IsTaken taken self.old self.new) }
+        ensures none { result ≡ None → self.new ≡ self.old }
+    {
+        if self.past.is_some() {
+            return None;
+        }
+        match self.inlet.pop() {
+            Ok(Noted::Entry(entry, seen)) => {
+                self.seen = seen;
+                Some(Taken::Entry(entry))
+            }
+            Ok(Noted::End(past)) => {
+                self.past = Some(past);
+                Some(Taken::End)
+            }
+            Ok(Noted::Begin(_)) => unreachable!(),
+            Err(_) => None,
+        }
+    }
+
+    /// A witness of the node's past that knows what was taken and no more. So what was taken is the beginning of the node's past.
+    pub fn seen(&self) -> NodeSeen
+        ensures { IsPast L.plan L.books self.now.node self.now.entries result }
+    {
+        self.seen.again()
+    }
+
+    /// Gives up the recorder for the node's past, where this ended: what was taken is the whole of it. Nobody else can add to it.
+    pub fn into_past(self) -> Option<NodePast>
+        ensures whole { IfSome result (IsPast L.plan L.books self.node self.entries) }
+        ensures some { self.is_whole ≡ true → IsSome result }
+    {
+        let Recorder {
+            node: _,
+            seen: _,
+            past,
+            inlet: _,
+        } = self;
+        past
+    }
+}

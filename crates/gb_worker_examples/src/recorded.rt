@@ -1,0 +1,245 @@
+// Hosts of node 1 alone whose entries go through a ring to a recorder.
+ghost use Rattle.std.specs.Prelude.{◌≡◌, vec_len};
+ghost use Rattle.gb_host.specs.HostValue.{AreHere};
+ghost use Rattle.gb_host.specs.Pasts.{AreBlank, books_of};
+ghost use Rattle.gb_host.specs.Plans.{IsPlan};
+
+use crate::asking::{ALONE, Unanswered, WORDS, add_tenant, call, log, prepare, say};
+use crate::plans::{FIRST, SECOND, two_nodes, two_recorded};
+use gb_host::gate::Open;
+use gb_host::here::only;
+use gb_host::host::Host;
+use gb_host::names::Tapes;
+use gb_host::pasts::{NodePast, new_pasts};
+use gb_host::plan::HostPlan;
+use gb_host::recorder::{Recorder, Taken};
+use gb_host::seat::Seat;
+use gb_node::answer::NodeAnswer;
+use gb_node::event::NodeEvent;
+use gb_types::node::NodeId;
+use gb_types::reply::Reply;
+use gb_types::version::Version;
+use std::alloc::Global;
+use std::marker::Brand;
+use std::rt::HostRuntime;
+use std::sync::Wait;
+use std::time::Clock;
+
+// How many entries wait for a recorder at most.
+const WAITING: u64 = 16_384;
+
+// What is done at a node that has a recorder.
+#[derive(Clone, Copy)]
+enum Trial {
+    // Three calls are made and taken.
+    InOrder,
+    // As many entries as its ring holds are left with it, and one is taken.
+    Full,
+}
+
+// Makes a call at node 1. Its answer, where it was answered.
+fn made<L: Tapes, R: Wait>(
+    rt: &R,
+    host: &Host<L>,
+    seat: &mut Seat<L>,
+    event: NodeEvent,
+) -> Option<NodeAnswer> {
+    call(rt, host, seat, SECOND, event, &mut Open).ok()
+}
+
+// Whether the recorder takes next a call of this seat, of this number among its calls, with this event and this answer.
+fn takes<L: Tapes>(
+    recorder: &mut Recorder<L>,
+    number: (u32, u64),
+    event: &NodeEvent,
+    answer: &Option<NodeAnswer>,
+) -> bool {
+    let (Some(Taken::Entry(entry)), Some(answer)) = (recorder.take(), answer) else {
+        return false;
+    };
+    let is_next = entry.seat == number.0 && entry.count == number.1;
+    is_next && entry.event.is(event) && entry.answer.is(answer)
+}
+
+// Makes three calls of two seats. Whether the recorder takes each in its order, and nothing before and behind them.
+fn take_in_order<L: Tapes, R: Wait>(
+    rt: &R,
+    host: &Host<L>,
+    first: &mut Seat<L>,
+    second: &mut Seat<L>,
+    recorder: &mut Recorder<L>,
+) -> bool {
+    let is_empty = recorder.take().is_none();
+    let ticked = made(rt, host, first, NodeEvent::Tick);
+    let packed = made(rt, host, second, NodeEvent::Pack(FIRST));
+    let acknowledged = made(rt, host, first, NodeEvent::Ack(FIRST));
+    let are_taken = takes(recorder, (0, 0), &NodeEvent::Tick, &ticked)
+        && takes(recorder, (1, 0), &NodeEvent::Pack(FIRST), &packed)
+        && takes(recorder, (0, 1), &NodeEvent::Ack(FIRST), &acknowledged);
+    is_empty && are_taken && recorder.take().is_none()
+}
+
+// How many of this number of ticks are answered.
+fn tick<L: Tapes, R: Wait>(rt: &R, host: &Host<L>, seat: &mut Seat<L>, times: u64) -> u64 {
+    let mut count: u64 = 0;
+    for _ in 0..times {
+        if made(rt, host, seat, NodeEvent::Tick).is_some() {
+            count = count.saturating_add(1);
+        }
+    }
+    count
+}
+
+// How many entries the recorder takes, and the number of the last among its seat's calls.
+fn drain<L: Tapes>(recorder: &mut Recorder<L>) -> (u64, u64) {
+    let (mut count, mut last): (u64, u64) = (0, 0);
+    for _ in 0..=WAITING {
+        if let Some(Taken::Entry(entry)) = recorder.take() {
+            count = count.saturating_add(1);
+            last = entry.count;
+        }
+    }
+    (count, last)
+}
+
+// Whether the tenant is added, and the recorder behind.
+fn add<L: Tapes, R: Wait>(rt: &R, host: &Host<L>, seat: &mut Seat<L>) -> (bool, bool) {
+    let event = NodeEvent::Request(add_tenant());
+    match call(rt, host, seat, SECOND, event, &mut Open) {
+        Ok(NodeAnswer::Reply(Reply::Done)) => (true, false),
+        Err(Unanswered::Behind) => (false, true),
+        _ => (false, false),
+    }
+}
+
+// Fills the ring up with ticks, and asks for a tenant, which is refused. Once an entry is taken the tenant is asked for again.
+// Whether it is added then, by the next call of the seat, as one that the node does not have.
+fn fill<L: Tapes, R: Wait>(
+    rt: &R,
+    host: &Host<L>,
+    seat: &mut Seat<L>,
+    recorder: &mut Recorder<L>,
+) -> bool {
+    let ticks = tick(rt, host, seat, WAITING);
+    let refused = add(rt, host, seat);
+    let is_taken = recorder.take().is_some();
+    let added = add(rt, host, seat);
+    let left = drain(recorder);
+    ticks == WAITING
+        && refused == (false, true)
+        && is_taken
+        && added == (true, false)
+        && left == (WAITING, WAITING)
+}
+
+// What came of a trial: whether all was as it is to be; whether nothing was told of the end before it, and the end next; and whether
+// the recorder then had the whole past of node 1.
+type Tried = (bool, bool, bool);
+
+// Tries on a host of node 1 alone, and gives it up.
+fn run<L: Tapes, R: Wait>(
+    rt: &R,
+    alloc: Global,
+    plan: HostPlan,
+    trial: Trial,
+    pasts: Vec<NodePast>,
+) -> Option<Tried>
+    requires plan { plan ≡ L.plan }
+    requires limits { IsPlan plan }
+    requires two { plan.cluster.nodes ≡ 2 }
+    requires pasts { (vec_len pasts ≡ plan.cluster.nodes) × AreBlank pasts.items }
+    requires books { books_of pasts.items ≡ L.books }
+{
+    let opened = Host::<L>::open(alloc, plan, only(SECOND), 2, pasts);
+    let (host, mut seats, mut recorders) = opened.ok()?;
+    let mut recorder = recorders.pop()??;
+    let mut second = seats.pop()?;
+    let mut first = seats.pop()?;
+    let is_right = match trial {
+        Trial::InOrder => take_in_order(rt, &host, &mut first, &mut second, &mut recorder),
+        Trial::Full => fill(rt, &host, &mut first, &mut recorder),
+    };
+    let is_open = recorder.take().is_none();
+    host.finish(rt);
+    let is_ended = match recorder.take() {
+        Some(Taken::End) => true,
+        _ => false,
+    };
+    let is_node = recorder.node() == SECOND;
+    let is_whole = recorder.into_past().is_some();
+    Some((is_right, is_open && is_ended, is_node && is_whole))
+}
+
+fn tried<R: Wait>(rt: &R, alloc: Global, trial: Trial) -> Option<Tried> {
+    let pasts = new_pasts(alloc, 2).ok()?;
+    run::<Brand, R>(rt, alloc, two_recorded(), trial, pasts)
+}
+
+// What a node answers to a message and a fetch in a group of its own, and to what the other node is sent.
+fn answers<L: Tapes, R: Wait + Clock>(
+    rt: &R,
+    alloc: Global,
+    plan: HostPlan,
+    pasts: Vec<NodePast>,
+) -> Option<Vec<NodeAnswer>>
+    requires plan { plan ≡ L.plan }
+    requires limits { IsPlan plan }
+    requires two { plan.cluster.nodes ≡ 2 }
+    requires pasts { (vec_len pasts ≡ plan.cluster.nodes) × AreBlank pasts.items }
+    requires books { books_of pasts.items ≡ L.books }
+{
+    let opened = Host::<L>::open(alloc, plan, only(SECOND), 1, pasts);
+    let (host, mut seats, _) = opened.ok()?;
+    let mut seat = seats.pop()?;
+    prepare(rt, alloc, &host, &mut seat, SECOND, ALONE);
+    let _ = say(rt, alloc, &host, &mut seat, SECOND, ALONE, WORDS);
+    let mut answers = Vec::with_capacity(alloc, 3).ok()?;
+    answers.push_reserved(log(rt, alloc, &host, &mut seat, SECOND, ALONE)?);
+    answers.push_reserved(made(rt, &host, &mut seat, NodeEvent::Ack(FIRST))?);
+    answers.push_reserved(made(rt, &host, &mut seat, NodeEvent::Stop)?);
+    Some(answers)
+}
+
+fn answers_of<R: Wait + Clock>(rt: &R, alloc: Global, plan: HostPlan) -> Option<Vec<NodeAnswer>>
+    requires limits { IsPlan plan }
+    requires two { plan.cluster.nodes ≡ 2 }
+{
+    let pasts = new_pasts(alloc, 2).ok()?;
+    answers::<Brand, R>(rt, alloc, plan, pasts)
+}
+
+// Whether both have three answers, and the same.
+fn are_alike(some: &[NodeAnswer], others: &[NodeAnswer]) -> bool {
+    if some.len() != 3 || others.len() != 3 {
+        return false;
+    }
+    for i in 0..3 {
+        if !some[i].is(&others[i]) {
+            return false;
+        }
+    }
+    true
+}
+
+#[test]
+fn a_recorder_takes_what_a_node_did(rt: HostRuntime) {
+    let tried = tried(&rt, rt.alloc(), Trial::InOrder);
+    assert!(rt; tried == Some((true, true, true)));
+}
+
+#[test]
+fn a_full_ring_refuses_before_anything_happens(rt: HostRuntime) {
+    let tried = tried(&rt, rt.alloc(), Trial::Full);
+    assert!(rt; tried == Some((true, true, true)));
+}
+
+#[test]
+fn nodes_with_a_ring_and_without_answer_alike(rt: HostRuntime) {
+    let alloc = rt.alloc();
+    let ringed = answers_of(&rt, alloc, two_recorded()).expect(&rt, "a host with a ring");
+    for tape in [false, true] {
+        let plan = two_nodes(Version::One, tape);
+        let others = answers_of(&rt, alloc, plan).expect(&rt, "a host without");
+        assert!(rt; are_alike(&ringed, &others));
+    }
+}
