@@ -2,6 +2,8 @@
 use Rattle.std.proofs.Common.{◌≡◌, ℕ, Bool, List, [], ◌∷◌, ◌++◌, sym, ap, subst, Result, Ok, Err, ◌∙◌}
 use Rattle.gb_types.specs.declared.reply.Reply.{Reply}
 use Rattle.gb_types.specs.declared.request.Request.{Request}
+use Rattle.gb_session.specs.Answering.{Answering}
+use Rattle.gb_session.specs.declared.operation.Operation.{Operation}
 use Rattle.gb_session.specs.Runs.{IsRun, HasAsked}
 use Rattle.gb_session.specs.Takes.{Takes, StopsSo}
 use Rattle.gb_session.specs.declared.serve.SessionEnd.TheVariants.{Finished, Cut, Malformed, Limit}
@@ -9,9 +11,6 @@ use Rattle.gb_session.specs.declared.session.Step.{Step}
 use Rattle.gb_session.specs.declared.session.Step.TheVariants.{Hungry, Full, Parked, Ended}
 use Rattle.gb_session.proofs.NextLemmas.{asked_none}
 use Rattle.gb_session.proofs.RunLemmas.{IsRun-join}
-
-abbrev Answering : Type 0 → Type 1
-Answering S = S → Request → Reply → S → Type 0
 
 same : {S : Type 0} (answers : Answering S) (s t : S) → t ≡ s → HasAsked answers s t
 same answers s t e = subst (λ u. HasAsked answers s u) (sym e) (asked_none answers s)
@@ -33,13 +32,13 @@ took_asked {S} {answers} {is_late} {s} {t} {bytes} {rest} {before} {after} {n} {
     (takes.front.requests ++ end.0, takes.front.replies ++ end.1, IsRun-join answers s takes.mid t takes.front.requests end.0 takes.front.replies end.1 takes.front.runs end.2)
 
 -- what each answer keeps is kept
-pub run_keeps : {S T : Type 0} (answers : Answering S) (seen : S → T) → ((s : S) (q : Request) (r : Reply) (t : S) → answers s q r t → seen t ≡ seen s)
+pub run_keeps : {S T : Type 0} (answers : Answering S) (seen : S → T) → ((s : S) (q : Request) (r : Reply) (t : S) → answers.replies s q r t → seen t ≡ seen s)
     → (s t : S) (requests : List Request) (replies : List Reply) → IsRun answers s requests replies t → seen t ≡ seen s
 run_keeps answers seen keeps s t [] [] run = ap seen (sym run)
 run_keeps answers seen keeps s t [] (r ∷ x) run = absurd run
 run_keeps answers seen keeps s t (q ∷ a) [] run = absurd run
 run_keeps answers seen keeps s t (q ∷ a) (r ∷ x) (mid, step, rest) = run_keeps answers seen keeps mid t a x rest ∙ keeps s q r mid step
 
-pub asked_keeps : {S T : Type 0} {answers : Answering S} {s t : S} (seen : S → T) → ((s : S) (q : Request) (r : Reply) (t : S) → answers s q r t → seen t ≡ seen s)
-    → HasAsked answers s t → seen t ≡ seen s
-asked_keeps {S} {T} {answers} {s} {t} seen keeps h = run_keeps answers seen keeps s t h.0 h.1 h.2
+pub asked_keeps : {S T : Type 0} (replies : S → Request → Reply → S → Type 0) (tells : Operation → List ℕ → Type 0) {s t : S} (seen : S → T)
+    → ((s : S) (q : Request) (r : Reply) (t : S) → replies s q r t → seen t ≡ seen s) → HasAsked (record { replies = replies; tells = tells }) s t → seen t ≡ seen s
+asked_keeps {S} {T} replies tells {s} {t} seen keeps h = run_keeps (record { replies = replies; tells = tells }) seen keeps s t h.0 h.1 h.2

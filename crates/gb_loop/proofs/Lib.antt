@@ -1,2 +1,3 @@
 pub mod AskedLemmas
+pub mod FailedLemmas
 pub mod MailLemmas

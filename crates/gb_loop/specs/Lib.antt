@@ -1,2 +1,3 @@
 pub mod Mailed
 pub mod Turned
+pub mod Operated

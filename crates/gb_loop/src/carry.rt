@@ -154,7 +154,7 @@ impl<'a, L: Tapes, H: Wait + Clock, P: Port> NodeLoop<'a, L, H, P> {
         if link.open > 0 && link.again_at <= now {
             if self.mail.send(NodeEvent::Again(to, 0), to) {
                 link.sent(now);
-            } else {
+            } else if !self.mail.is_short {
                 // No frame is open: the other node is noticed.
                 link.open = 0;
             }

@@ -1,8 +1,8 @@
 //! A client: its session, and the replies that its stream did not take yet.
 ghost use Rattle.std.specs.Prelude.{◌≡◌, ◌≤◌, ◌++◌, [], ℕ, List, true, false, take, length, IfSome, IfNone};
-ghost use Rattle.std.specs.Io.KnownBytes.{Appends};
+ghost use Rattle.std.specs.Io.KnownBytes.{Appends, Keeps};
 ghost use Rattle.gb_session.specs.Runs.{HasAsked};
-ghost use Rattle.gb_loop.specs.Turned.{HasCome, HasAnswered, HasTurned, is_end};
+ghost use Rattle.gb_loop.specs.Turned.{HasCome, HasAnswered, HasSent, HasStopped, HasTurned, is_end};
 
 use gb_session::answers::Answers;
 use gb_session::session::{Session, Step};
@@ -88,6 +88,7 @@ fn read_some<R: Read>(reader: &mut R, space: &mut [u8], reads: bool) -> Came
 fn write_once<W: Write>(writer: &mut W, bytes: &[u8]) -> Option<usize>
     ensures within { IfSome result (λ count. count ≤ length bytes.now) }
     ensures bytes { IfSome result (λ count. Appends (W.contents writer.old) (W.contents writer.new) (take count bytes.now)) }
+    ensures none { IfNone result (Keeps (W.contents writer.old) (W.contents writer.new)) }
 {
     match writer.write(bytes) {
         Ok(0) => None,
@@ -101,8 +102,9 @@ fn write_once<W: Write>(writer: &mut W, bytes: &[u8]) -> Option<usize>
 
 // Writes what the stream takes now. Returns the bytes that it did not take, or None if it failed.
 fn write_some<'a, W: Write>(writer: &mut W, bytes: &'a [u8]) -> Option<&'a [u8]>
-    ensures { IfSome result (λ rest. (sent : List ℕ) × Appends (W.contents writer.old) (W.contents writer.new) sent
+    ensures some { IfSome result (λ rest. (sent : List ℕ) × Appends (W.contents writer.old) (W.contents writer.new) sent
         × (bytes.now ≡ sent ++ rest.now)) }
+    ensures none { IfNone result (HasSent (W.contents writer.old) (W.contents writer.new) bytes.now) }
 {
     let mut rest = bytes;
     'writes: for _ in 0..WRITES {
@@ -136,6 +138,7 @@ impl Client {
     fn flush<W: Write>(&mut self, alloc: Global, writer: &mut W) -> bool
         ensures sent { result ≡ true → (sent : List ℕ) × Appends (W.contents writer.old) (W.contents writer.new) sent
             × (self.old.unsent.items ≡ sent ++ self.new.unsent.items) }
+        ensures failed { HasSent (W.contents writer.old) (W.contents writer.new) self.old.unsent.items }
         ensures session { (self.new.session ≡ self.old.session) × (self.new.is_over ≡ self.old.is_over) }
     {
         if self.unsent.is_empty() {
@@ -163,6 +166,8 @@ impl Client {
     ) -> Option<Step>
         ensures some { IfSome result (HasAnswered A.answers answers.old answers.new self.old self.new piece.now
             (W.contents writer.old) (W.contents writer.new)) }
+        ensures none { IfNone result (HasStopped A.answers answers.old answers.new (self.old.session.kept ++ piece.now) []
+            (W.contents writer.old) (W.contents writer.new)) }
         ensures asked { HasAsked A.answers answers.old answers.new }
     {
         out.clear();
@@ -173,7 +178,9 @@ impl Client {
             Ok(step) => step,
             Err(OutOfMemory) => return None,
         };
-        let rest = write_some(writer, out)?;
+        let Some(rest) = write_some(writer, out) else {
+            return None;
+        };
         let Ok(unsent) = Vec::from_slice(alloc, rest) else {
             return None;
         };

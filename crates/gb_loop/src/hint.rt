@@ -27,20 +27,23 @@ pub fn hint_of(bytes: &[u8]) -> Hint {
 }
 
 /// Puts the addresses of the items of bytes, if they are a packet, in the place of what was there. Those for which there is no
-/// memory are left out. They decide only who is asked again, and when.
-pub fn put_addresses(bytes: &[u8], addresses: &mut Vec<Addr>) {
+/// memory are left out, and false is returned then. They decide only who is asked again, and when.
+pub fn put_addresses(bytes: &[u8], addresses: &mut Vec<Addr>) -> bool {
     addresses.clear();
     if bytes.len() < HEADER + TAG {
-        return;
+        return true;
     }
+    let mut is_whole = true;
     let texts = &bytes[HEADER..bytes.len() - TAG];
     for item in ItemViews::of_texts(texts) {
         let address = Addr {
             tenant: item.tenant,
             group: item.group,
+            generation: item.generation,
         };
-        if addresses.last() != Some(&address) {
-            let _ = addresses.push(address);
+        if addresses.last() != Some(&address) && addresses.push(address).is_err() {
+            is_whole = false;
         }
     }
+    is_whole
 }

@@ -1,5 +1,5 @@
 //! A node with its port: all that is asked of it, comes to it and goes from it.
-ghost use Rattle.std.specs.Prelude.{◌≡◌, ◌++◌, ◌∷◌, [], true, false, Ok, Some, IfOk, IfErr, OnErr, IfSome, IfNone};
+ghost use Rattle.std.specs.Prelude.{◌≡◌, ◌++◌, ◌∷◌, [], true, false, Ok, Some, IfOk, IfErr, OnOk, OnErr, IfSome, IfNone};
 ghost use Rattle.gb_node.specs.declared.answer.NodeAnswer.{NodeAnswer as AnswerValue};
 ghost use Rattle.gb_node.specs.declared.answer.NodeAnswer.TheVariants.{Sent as WasSent};
 ghost use Rattle.gb_node.specs.declared.answer.Sent.TheVariants.{Packet as SentPacket};
@@ -11,7 +11,9 @@ ghost use Rattle.gb_worker.specs.Carried.{GivesNothing, HasCarried};
 ghost use Rattle.gb_worker.specs.Gained.{noted};
 ghost use Rattle.gb_loop.specs.Mailed.{HasCalled, HasMailed};
 
+use crate::counts::{asked_figure, count_packet, count_reply, count_tick, sent_figure};
 use crate::hint::{Hint, hint_of, put_addresses};
+use crate::operate::operate;
 use gb_host::fault::HostFault;
 use gb_host::host::Host;
 use gb_host::names::Tapes;
@@ -21,7 +23,11 @@ use gb_node::event::NodeEvent;
 use gb_node::packet_text::PacketText;
 use gb_port::port::Port;
 use gb_session::answers::Answers;
+use gb_session::operation::Operation;
+use gb_status::figure::Figure;
+use gb_status::figures::Figures;
 use gb_types::address::Addr;
+use gb_types::memory::OutOfMemory;
 use gb_types::node::NodeId;
 use gb_types::refusal::Refusal;
 use gb_types::reply::Reply;
@@ -29,6 +35,7 @@ use gb_types::request::Request;
 use std::alloc::Global;
 use std::snapshot::Snapshot;
 use std::sync::Wait;
+use std::sync::atomic::AtomicBool;
 
 /// A node, and its port and its seat as they were at first.
 pub struct Origin<L: Tapes, P> {
@@ -65,6 +72,12 @@ pub struct Mail<'a, L: Tapes, H, P: Port> {
     /// The groups that requests changed, and whether some could not be noted. The loop empties this.
     pub touched: Vec<Addr>,
     pub is_touched: bool,
+    /// Something was left undone since the last tick for which there was no memory. The loop empties this, and looks at all again.
+    pub is_short: bool,
+    /// An administrator has asked for the end of the server.
+    pub ends: AtomicBool,
+    /// What the node counted since the server's start. The loop adds what it counts of its connections.
+    pub figures: Figures,
     pub ghost here: { ∥ HasCalled origin.node origin.seat.value.calls seat.calls ∥₁ },
     pub ghost mailed: { ∥ HasMailed P.sends P.receives lost origin.port.value port origin.seat.value.calls seat.calls ∥₁ },
 }
@@ -94,6 +107,7 @@ fn reply_of(outcome: Result<NodeAnswer, HostFault>) -> Reply
     match outcome {
         Ok(NodeAnswer::Reply(reply)) => reply,
         Err(HostFault::OutOfMemory) => Reply::Refused(Refusal::OutOfMemory),
+        Err(HostFault::Behind) => Reply::Refused(Refusal::OutOfMemory),
         _ => Reply::Refused(Refusal::Stopped),
     }
 }
@@ -110,15 +124,18 @@ fn changed_by(request: &Request) -> Option<Addr> {
     }
 }
 
-// Returns the packet that came next. None: none came, or the port failed.
-fn next_packet<P: Port>(port: &mut P) -> Option<Vec<u8>>
+// Returns the packet that came next. None: none came, or the port failed, which is counted.
+fn next_packet<P: Port>(port: &mut P, figures: &mut Figures) -> Option<Vec<u8>>
     ensures some { IfSome result (λ bytes. P.receives port.old (Ok (Some bytes)) port.new) }
     ensures none { IfNone result (GivesNothing P.receives port.old port.new) }
 {
     match port.recv() {
         Ok(Some(bytes)) => Some(bytes),
         Ok(None) => None,
-        Err(_) => None,
+        Err(_) => {
+            figures.add(Figure::PortFailures, 1);
+            None
+        }
     }
 }
 
@@ -150,6 +167,7 @@ fn take_packet<L: Tapes, H: Wait>(
     node: NodeId,
     bytes: Vec<u8>,
     lost: &mut u64,
+    figures: &mut Figures,
 ) -> Option<Good>
     ensures made { lost.new ≡ 0 → (a : AnswerValue)
         × (seat.new.calls ≡ seat.old.calls ++ noted node (PacketEvent bytes.items) a ∷ []) }
@@ -158,11 +176,28 @@ fn take_packet<L: Tapes, H: Wait>(
 {
     let event = NodeEvent::Packet(PacketText::from(bytes));
     match ask(rt, host, seat, node, event) {
-        Ok(answer) => good_of(answer),
+        Ok(answer) => {
+            count_packet(figures, &answer);
+            good_of(answer)
+        }
         Err(_) => {
             *lost = lost.saturating_add(1);
+            figures.add(Figure::Lost, 1);
             None
         }
+    }
+}
+
+// Notes whether there was no memory for a packet.
+fn note_lack(answer: &NodeAnswer, is_short: &mut bool) {
+    let NodeAnswer::Sent(sent) = answer else {
+        return;
+    };
+    let Sent::Refused(why) = sent else {
+        return;
+    };
+    if *why == Refusal::OutOfMemory {
+        *is_short = true;
     }
 }
 
@@ -175,20 +210,30 @@ fn send_at<L: Tapes, H: Wait, P: Port>(
     event: NodeEvent,
     to: NodeId,
     port: &mut P,
+    is_short: &mut bool,
+    figures: &mut Figures,
 ) -> bool
     requires { destination event ≡ Some to }
     ensures carried { HasCarried P.sends P.receives port.old port.new seat.old.calls seat.new.calls }
     ensures here { HasCalled node seat.old.calls seat.new.calls }
 {
+    let figure = sent_figure(&event);
     let answer = match ask(rt, host, seat, node, event) {
         Ok(answer) => answer,
-        Err(_) => return false,
+        Err(_) => {
+            *is_short = true;
+            return false;
+        }
     };
+    note_lack(&answer, is_short);
     let text = match packet_of(answer) {
         Some(text) => text,
         None => return false,
     };
-    let _ = port.send(to, text.as_slice());
+    figures.add(figure, 1);
+    if port.send(to, text.as_slice()).is_err() {
+        figures.add(Figure::PortFailures, 1);
+    }
     true
 }
 
@@ -218,6 +263,9 @@ impl<'a, L: Tapes, H: Wait, P: Port> Mail<'a, L, H, P> {
             lost: 0,
             touched: Vec::new(alloc),
             is_touched: false,
+            is_short: false,
+            ends: AtomicBool::new(false),
+            figures: Figures::new(),
         }
     }
 
@@ -236,6 +284,9 @@ impl<'a, L: Tapes, H: Wait, P: Port> Mail<'a, L, H, P> {
             lost,
             touched: _,
             is_touched: _,
+            is_short: _,
+            ends: _,
+            figures: _,
         } = self;
         let Origin {
             node,
@@ -266,6 +317,13 @@ impl<'a, L: Tapes, H: Wait, P: Port> Mail<'a, L, H, P> {
         }
     }
 
+    /// Counts a tick by its answer.
+    pub fn count_tick(&mut self, answer: &NodeAnswer)
+        ensures origin { self.new.origin ≡ self.old.origin }
+    {
+        count_tick(&mut self.figures, answer);
+    }
+
     /// Takes the next packet that came; it is one event at the node. Its items' groups are put into `came` if `is_wanted`. None:
     /// none came, or the port failed.
     pub fn receive(&mut self, is_wanted: bool, came: &mut Vec<Addr>) -> Option<Arrival>
@@ -273,13 +331,13 @@ impl<'a, L: Tapes, H: Wait, P: Port> Mail<'a, L, H, P> {
         ensures lost { self.new.lost ≡ 0 → self.old.lost ≡ 0 }
         ensures origin { self.new.origin ≡ self.old.origin }
     {
-        let bytes = match next_packet(&mut self.port) {
+        let bytes = match next_packet(&mut self.port, &mut self.figures) {
             Some(bytes) => bytes,
             None => return None,
         };
         let hint = hint_of(&bytes);
-        if is_wanted {
-            put_addresses(&bytes, came);
+        if is_wanted && !put_addresses(&bytes, came) {
+            self.is_short = true;
         }
         let node = self.origin.node;
         let good = take_packet(
@@ -289,6 +347,7 @@ impl<'a, L: Tapes, H: Wait, P: Port> Mail<'a, L, H, P> {
             node,
             bytes,
             &mut self.lost,
+            &mut self.figures,
         );
         Some(Arrival { good, hint })
     }
@@ -309,7 +368,23 @@ impl<'a, L: Tapes, H: Wait, P: Port> Mail<'a, L, H, P> {
             event,
             to,
             &mut self.port,
+            &mut self.is_short,
+            &mut self.figures,
         )
+    }
+
+    /// Counts one more of a figure.
+    pub fn count(&mut self, figure: Figure)
+        ensures origin { self.new.origin ≡ self.old.origin }
+    {
+        self.figures.add(figure, 1);
+    }
+
+    /// Sets a figure.
+    pub fn set(&mut self, figure: Figure, number: u64)
+        ensures origin { self.new.origin ≡ self.old.origin }
+    {
+        self.figures.set(figure, number);
     }
 
     // Notes a group that a request changed.
@@ -318,8 +393,8 @@ impl<'a, L: Tapes, H: Wait, P: Port> Mail<'a, L, H, P> {
         ensures origin { self.new.origin ≡ self.old.origin }
     {
         self.is_touched = true;
-        if self.touched.last() != Some(&address) {
-            let _ = self.touched.push(address);
+        if self.touched.last() != Some(&address) && self.touched.push(address).is_err() {
+            self.is_short = true;
         }
     }
 
@@ -342,18 +417,36 @@ impl<'a, L: Tapes, H: Wait, P: Port> Mail<'a, L, H, P> {
 
 impl<'a, L: Tapes, H: Wait, P: Port> Answers for Mail<'a, L, H, P> {
     ghost use Rattle.std.specs.Prelude.{◌≡◌, true};
+    ghost use Rattle.gb_loop.specs.Operated.{MayTell};
     ghost use Rattle.gb_worker.specs.Asked.{AnswersAt};
 
-    ghost answers = { λ s request reply t. (t.origin ≡ s.origin)
-        × AnswersAt L.plan s.origin.node s.seat.calls request reply t.seat.calls };
+    ghost answers = { record {
+      replies = λ s request reply t. (t.origin ≡ s.origin) × AnswersAt L.plan s.origin.node s.seat.calls request reply t.seat.calls;
+      tells = MayTell L.plan.cluster.admin_key;
+    } };
 
     fn answer(&mut self, request: Request) -> Reply {
         let address = changed_by(&request);
+        let asked = asked_figure(&request);
         let event = NodeEvent::Request(request);
         let reply = reply_of(ask(self.rt, self.host, &mut self.seat, self.origin.node, event));
+        count_reply(&mut self.figures, asked, &reply);
         if let Some(address) = address {
             self.touch(address);
         }
         reply
+    }
+
+    fn operate(&self, operation: Operation, out: &mut Vec<u8>) -> Result<(), OutOfMemory> {
+        operate(
+            self.rt,
+            *out.allocator(),
+            self.host,
+            self.origin.node,
+            &self.figures,
+            &self.ends,
+            operation,
+            out,
+        )
     }
 }

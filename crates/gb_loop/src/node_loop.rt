@@ -12,9 +12,10 @@ use gb_host::host::Host;
 use gb_host::names::Tapes;
 use gb_host::seat::Seat;
 use gb_port::port::Port;
+use gb_status::figures::Figures;
 use gb_types::address::Addr;
 use gb_types::memory::OutOfMemory;
-use gb_types::node::NodeId;
+use gb_types::node::{NodeId, NodeSet};
 use mio::event::Event;
 use mio::net::{TcpListener, TcpStream};
 use mio::unix::SourceFd;
@@ -25,10 +26,14 @@ use std::io;
 use std::net::Net;
 use std::os::fd::RawFd;
 use std::sync::Wait;
+use std::sync::atomic::Ordering;
 use std::time::{Clock, Duration};
 
 /// The bytes that one read takes at most.
 pub const PIECE: usize = 65_536;
+
+/// How long a round waits at most, in microseconds: so soon an end is seen.
+pub const LOOK: u64 = 100_000;
 
 // The tokens of the two sockets that are no connection.
 const UDP: usize = usize::MAX;
@@ -45,6 +50,15 @@ pub trait Ending {
 
     /// Returns true if the loop is to end.
     fn is_over(&self) -> bool;
+
+    /// A loop has begun: its memory and its sockets are there.
+    fn begun(&self) {}
+
+    /// An administrator has asked for the end at a node.
+    fn asked(&self) {}
+
+    /// What a node counted until its last tick, and the nodes that it noticed. Told once a tick.
+    fn publish(&self, _node: NodeId, _figures: &Figures, _noticed: &NodeSet) {}
 }
 
 /// A node's loop: its sockets, its clients and its links.
@@ -74,6 +88,9 @@ pub struct NodeLoop<'a, L: Tapes, H, P: Port> {
     pub(crate) turned_away: u64,
     pub(crate) open: u64,
     pub(crate) is_served: bool,
+    pub(crate) has_ticked: bool,
+    // The nodes that this one noticed.
+    pub(crate) noticed: NodeSet,
 }
 
 // A link to each node of a cluster.
@@ -135,6 +152,8 @@ impl<'a, L: Tapes, H: Wait + Clock, P: Port> NodeLoop<'a, L, H, P> {
             turned_away: 0,
             open: 0,
             is_served: false,
+            has_ticked: false,
+            noticed: NodeSet::new(),
         })
     }
 
@@ -207,16 +226,30 @@ impl<'a, L: Tapes, H: Wait + Clock, P: Port> NodeLoop<'a, L, H, P> {
     fn round<E: Ending>(&mut self, poll: &mut Poll, events: &mut Events, ending: &E)
         ensures origin { self.new.mail.origin ≡ self.old.mail.origin }
     {
-        let millis = self.patience().saturating_add(999) / 1_000;
+        let millis = self.patience().min(LOOK).saturating_add(999) / 1_000;
         let _ = poll.poll(events, Some(Duration::from_millis(millis)));
         self.now = self.clock.now(self.rt);
         self.hear_all(events);
         self.work(poll);
+        if self.mail.ends.load(Ordering::SeqCst) {
+            ending.asked();
+        }
+        if self.has_ticked {
+            self.has_ticked = false;
+            self.publish(ending);
+        }
         let most = self.options.sessions;
         if most > 0 && self.accepted >= most && self.open == 0 && !self.is_served {
             self.is_served = true;
             ending.served();
         }
+    }
+
+    // Tells what the node counted, and the nodes that it noticed.
+    fn publish<E: Ending>(&self, ending: &E) {
+        let figures = self.mail.figures;
+        let noticed = self.noticed.duplicate();
+        ending.publish(self.mail.origin.node, &figures, &noticed);
     }
 
     // Runs until the end is told.
@@ -227,6 +260,7 @@ impl<'a, L: Tapes, H: Wait + Clock, P: Port> NodeLoop<'a, L, H, P> {
             ending.fail();
             return;
         };
+        ending.begun();
         'rounds: for _ in self.rt.forever() {
             if ending.is_over() {
                 break;
@@ -234,6 +268,7 @@ impl<'a, L: Tapes, H: Wait + Clock, P: Port> NodeLoop<'a, L, H, P> {
             self.round(&mut poll, &mut events, ending);
         }
         self.finish();
+        self.publish(ending);
     }
 
     // Gives up the loop for its node's parts.
@@ -266,6 +301,8 @@ impl<'a, L: Tapes, H: Wait + Clock, P: Port> NodeLoop<'a, L, H, P> {
             turned_away: _,
             open: _,
             is_served: _,
+            has_ticked: _,
+            noticed: _,
         } = self;
         mail.into_parts()
     }

@@ -7,7 +7,7 @@ pub struct LoopOptions {
     pub tick: u64,
     /// After so long without anything sent to a node an acknowledgement is sent, so that it hears this one.
     pub beat: u64,
-    /// After so long without a byte a connection that asked something is closed; 0: never.
+    /// After so long a connection that asked something is closed, if no byte came, no reply was made and the stream took none; 0: never.
     pub idle: u64,
     /// After so long without a byte a connection that asked nothing yet is closed.
     pub first: u64,

@@ -36,15 +36,17 @@ impl Parked {
         self.places.insert(address, keys).is_ok()
     }
 
-    /// Returns the connections that wait for a group. Those for which there is no memory are left out.
-    pub fn waiting(&self, address: Addr) -> Vec<usize> {
+    /// Returns the connections that wait for a group, or None if there is no memory.
+    pub fn waiting(&self, address: Addr) -> Option<Vec<usize>> {
         let mut waiting = Vec::new(self.alloc);
         if let Some(keys) = self.places.get(&address) {
             for key in keys.keys() {
-                let _ = waiting.push(*key);
+                if waiting.push(*key).is_err() {
+                    return None;
+                }
             }
         }
-        waiting
+        Some(waiting)
     }
 
     /// Takes a connection out of those that wait for a group.

@@ -9,13 +9,17 @@ use gb_node::answer::{NodeAnswer, Ticked};
 use gb_node::event::NodeEvent;
 use gb_port::port::Port;
 use gb_session::ask::Awaited;
+use gb_session::serve::SessionEnd;
 use gb_session::session::Step;
+use gb_status::figure::Figure;
 use gb_types::address::Addr;
+use gb_types::node::NodeSet;
 use mio::net::TcpStream;
 use mio::{Interest, Poll, Token};
 use std::alloc::Global;
 use std::sync::Wait;
-use std::time::Clock;
+use std::thread;
+use std::time::{Clock, Duration};
 
 /// How many connections a round accepts at most.
 pub const ACCEPTS: usize = 64;
@@ -48,17 +52,32 @@ const LAST: Way = Way {
     room: ROOM,
 };
 
+const LAST_READ: Way = Way {
+    reads: true,
+    is_late: true,
+    room: ROOM,
+};
+
+/// How many turns a connection gets at the loop's end while its stream takes the replies, and how often it is looked at again, every 10
+/// milliseconds, where its stream does not.
+pub const LAST_TURNS: usize = 64;
+
+pub const LAST_LOOKS: usize = 100;
+
 // Returns true if an answer tells of nodes that are noticed from now on, or that the node stopped.
-fn has_news(answer: Option<NodeAnswer>) -> bool {
-    let Some(answer) = answer else {
-        return false;
-    };
-    let NodeAnswer::Ticked(ticked) = answer else {
-        return false;
-    };
-    match ticked {
-        Ticked::Noticed(noticed) => !noticed.is_empty(),
-        Ticked::Refused(_) => true,
+fn has_news(answer: &NodeAnswer) -> bool {
+    match answer {
+        NodeAnswer::Ticked(Ticked::Noticed(noticed)) => !noticed.is_empty(),
+        NodeAnswer::Ticked(Ticked::Refused(_)) => true,
+        _ => false,
+    }
+}
+
+// Returns the nodes that are noticed, those of an answer among them.
+fn with_noticed(noticed: &NodeSet, answer: &NodeAnswer) -> NodeSet {
+    match answer {
+        NodeAnswer::Ticked(Ticked::Noticed(more)) => noticed.union(more),
+        _ => noticed.duplicate(),
     }
 }
 
@@ -81,8 +100,13 @@ impl<'a, L: Tapes, H: Wait + Clock, P: Port> NodeLoop<'a, L, H, P> {
         let Some(connection) = self.connections.get_mut(key) else {
             return;
         };
-        if !connection.is_listed && self.listed.push(key).is_ok() {
+        if connection.is_listed {
+            return;
+        }
+        if self.listed.push(key).is_ok() {
             connection.is_listed = true;
+        } else {
+            self.mail.is_short = true;
         }
     }
 
@@ -184,11 +208,34 @@ impl<'a, L: Tapes, H: Wait + Clock, P: Port> NodeLoop<'a, L, H, P> {
         Some(turn)
     }
 
+    // Returns how many bytes of replies wait for a connection's stream.
+    fn unsent(&self, key: usize) -> usize {
+        match self.connections.get(key) {
+            Some(connection) => connection.client.unsent.len(),
+            None => 0,
+        }
+    }
+
+    // Notes that a connection did something in this round, if fewer bytes wait for its stream than these.
+    fn note_sent(&mut self, key: usize, waiting: usize)
+        ensures origin { self.new.mail.origin ≡ self.old.mail.origin }
+    {
+        let now = self.now;
+        if let Some(connection) = self.connections.get_mut(key)
+            && connection.client.unsent.len() < waiting
+        {
+            connection.moved_at = now;
+        }
+    }
+
     // Makes a turn of a connection, and notes what came of it. Returns true if there may be more to do at once.
     fn look(&mut self, key: usize, way: Way) -> bool
         ensures origin { self.new.mail.origin ≡ self.old.mail.origin }
     {
-        let is_more = match self.turn(key, way) {
+        let waiting = self.unsent(key);
+        let turn = self.turn(key, way);
+        self.note_sent(key, waiting);
+        let is_more = match turn {
             None => false,
             Some(Turn::Blocked) => false,
             Some(Turn::Dry) => {
@@ -244,6 +291,9 @@ impl<'a, L: Tapes, H: Wait + Clock, P: Port> NodeLoop<'a, L, H, P> {
         ensures origin { self.new.mail.origin ≡ self.old.mail.origin }
     {
         self.move_on(key, &step, reads, count);
+        if matches!(step, Step::Ended(SessionEnd::Malformed)) {
+            self.mail.count(Figure::RefusedMalformed);
+        }
         if let Step::Parked(awaited) = step {
             self.park(key, &awaited);
             return false;
@@ -315,7 +365,10 @@ impl<'a, L: Tapes, H: Wait + Clock, P: Port> NodeLoop<'a, L, H, P> {
     fn wake(&mut self, address: Addr)
         ensures origin { self.new.mail.origin ≡ self.old.mail.origin }
     {
-        let keys = self.parked.waiting(address);
+        let Some(keys) = self.parked.waiting(address) else {
+            self.mail.is_short = true;
+            return;
+        };
         'keys: for key in &keys {
             self.try_again(*key, AGAIN);
         }
@@ -379,21 +432,77 @@ impl<'a, L: Tapes, H: Wait + Clock, P: Port> NodeLoop<'a, L, H, P> {
         }
     }
 
-    // A tick: time passes at the node, clients that waited long enough are answered, and those that were idle too long leave.
+    // A tick: time passes at the node, clients that waited long enough are answered, and those that were idle too long leave. Where
+    // something was left undone for lack of memory all connections are looked at, and what waits is packed.
     pub(crate) fn tick(&mut self)
         ensures origin { self.new.mail.origin ≡ self.old.mail.origin }
     {
         self.next_tick = self.now.saturating_add(self.options.tick);
         self.has_clients = true;
-        let answer = self.mail.tick();
-        let has_news = has_news(answer);
-        self.is_dirty = self.is_dirty || has_news;
+        self.has_ticked = true;
+        let mut is_news = self.mail.is_short;
+        self.mail.is_short = false;
+        if let Some(answer) = self.mail.tick() {
+            self.mail.count_tick(&answer);
+            is_news = is_news || has_news(&answer);
+            self.noticed = with_noticed(&self.noticed, &answer);
+        }
+        self.is_dirty = self.is_dirty || is_news;
+        let mut waiting: u64 = 0;
         'keys: for key in 0..self.connections.capacity() {
-            self.check(key, has_news);
+            self.check(key, is_news);
+            if self.is_waiting(key) {
+                waiting = waiting.saturating_add(1);
+            }
+        }
+        self.count_connections(waiting);
+    }
+
+    // Returns true if a connection waits for something to fetch.
+    fn is_waiting(&self, key: usize) -> bool {
+        match self.connections.get(key) {
+            Some(connection) => connection.parked.is_some(),
+            None => false,
         }
     }
 
-    // Looks at a connection at a tick.
+    // Notes how many connections there are and were, and how many wait.
+    pub(crate) fn count_connections(&mut self, waiting: u64)
+        ensures origin { self.new.mail.origin ≡ self.old.mail.origin }
+    {
+        self.mail.set(Figure::Open, self.open);
+        self.mail.set(Figure::Accepted, self.accepted);
+        self.mail.set(Figure::TurnedAway, self.turned_away);
+        self.mail.set(Figure::Waiting, waiting);
+    }
+
+    // Returns true if nothing moved in a connection for longer than is allowed.
+    fn is_stale(&self, key: usize) -> bool {
+        match self.connections.get(key) {
+            Some(connection) => {
+                connection.is_stale(self.now, self.options.first, self.options.idle)
+            }
+            None => false,
+        }
+    }
+
+    // Closes a connection in which nothing moved for longer than is allowed, if its stream takes no replies now either: it may have
+    // room for some, and the system has not told so yet.
+    fn retire(&mut self, key: usize)
+        ensures origin { self.new.mail.origin ≡ self.old.mail.origin }
+    {
+        if !self.is_stale(key) {
+            return;
+        }
+        let _ = self.look(key, AGAIN);
+        if self.is_stale(key) {
+            self.close(key);
+        } else {
+            self.list(key);
+        }
+    }
+
+    // Looks at a connection at a tick. With news, one that waits is tried again, and any other is listed.
     fn check(&mut self, key: usize, has_news: bool)
         ensures origin { self.new.mail.origin ≡ self.old.mail.origin }
     {
@@ -401,8 +510,9 @@ impl<'a, L: Tapes, H: Wait + Clock, P: Port> NodeLoop<'a, L, H, P> {
             return;
         };
         if connection.parked.is_none() {
-            if connection.is_stale(self.now, self.options.first, self.options.idle) {
-                self.close(key);
+            self.retire(key);
+            if has_news {
+                self.list(key);
             }
             return;
         }
@@ -416,14 +526,49 @@ impl<'a, L: Tapes, H: Wait + Clock, P: Port> NodeLoop<'a, L, H, P> {
         }
     }
 
-    // The last turn of each connection: those that wait are answered as late, and what is whole is answered. Then it is closed.
+    // Makes the last turns of a connection: what is whole is answered, those that wait as late. Returns true if its stream does not
+    // take the replies now.
+    fn end_turns(&mut self, key: usize) -> bool
+        ensures origin { self.new.mail.origin ≡ self.old.mail.origin }
+    {
+        let mut reads = false;
+        'turns: for _ in 0..LAST_TURNS {
+            match self.turn(key, if reads { LAST_READ } else { LAST }) {
+                Some(Turn::Took(step, _)) => reads = !matches!(step, Step::Full),
+                Some(Turn::Again) => {}
+                Some(Turn::Blocked) => return true,
+                _ => return false,
+            }
+        }
+        false
+    }
+
+    // Makes the last turns of all connections. Returns true if the stream of one does not take the replies now.
+    fn end_turns_of_all(&mut self) -> bool
+        ensures origin { self.new.mail.origin ≡ self.old.mail.origin }
+    {
+        let mut is_left = false;
+        'keys: for key in 0..self.connections.capacity() {
+            let _ = self.unpark(key);
+            is_left = self.end_turns(key) || is_left;
+        }
+        is_left
+    }
+
+    // The end: no connection is accepted any more; those that wait are answered as late, and what is whole is answered. Replies that a
+    // stream does not take get a second. Then all are closed.
     pub(crate) fn finish(&mut self)
         ensures origin { self.new.mail.origin ≡ self.old.mail.origin }
     {
+        'looks: for _ in 0..LAST_LOOKS {
+            if !self.end_turns_of_all() {
+                break;
+            }
+            thread::sleep(self.rt, Duration::from_millis(10));
+        }
         'keys: for key in 0..self.connections.capacity() {
-            let _ = self.unpark(key);
-            let _ = self.turn(key, LAST);
             self.close(key);
         }
+        self.count_connections(0);
     }
 }

@@ -86,10 +86,12 @@ fn is_woken<H: Clock + Threads + Sync>(
     }
 }
 
-// Whether a wait in which nothing comes takes its time and no more than a few ticks.
-fn is_late<H: Clock>(rt: &H, alloc: Global, member: &mut Member) -> bool {
-    match waits(rt, alloc, member, &["7 1 0 16", "7 2 0 16"], 300) {
-        Ok((took, text)) => text.as_slice() == b"log 0".as_slice() && took >= 300 && took < 5_000,
+// Whether a wait of this number of milliseconds in which nothing comes takes its time and no more than a few ticks.
+fn is_late<H: Clock>(rt: &H, alloc: Global, member: &mut Member, wait: u32) -> bool {
+    match waits(rt, alloc, member, &["7 1 0 16", "7 2 0 16"], wait) {
+        Ok((took, text)) => text.as_slice() == b"log 0".as_slice()
+            && took >= u128::from(wait)
+            && took < 5_000,
         Err(_) => false,
     }
 }
@@ -106,9 +108,9 @@ fn is_answered<H: Clock>(rt: &H, alloc: Global, member: &mut Member) -> bool {
 fn all_wait<H: Net<Stream = TcpStream> + Clock + Threads + Sync>(
     rt: &H,
     alloc: Global,
-) -> [bool; 6] {
+) -> [bool; 7] {
     let Ok(mut clients) = enter(rt, alloc) else {
-        return [false; 6];
+        return [false; 7];
     };
     let Clients {
         first,
@@ -116,7 +118,8 @@ fn all_wait<H: Net<Stream = TcpStream> + Clock + Threads + Sync>(
         third,
         fourth,
     } = &mut clients;
-    let late = is_late(rt, alloc, first);
+    let late = is_late(rt, alloc, first, 300);
+    let at_once = is_late(rt, alloc, first, 0);
     let far = is_woken(
         rt,
         alloc,
@@ -154,7 +157,7 @@ fn all_wait<H: Net<Stream = TcpStream> + Clock + Threads + Sync>(
         (Head::Drop, "7 1"),
         b"refused ",
     );
-    [late, far, there, near, both, dropped]
+    [late, at_once, far, there, near, both, dropped]
 }
 
 #[test]
@@ -170,5 +173,5 @@ fn waits_end_when_they_should(rt: HostRuntime) {
         ),
         || all_wait(&rt, alloc),
     );
-    assert!(rt; is_served && are_right == [true; 6]);
+    assert!(rt; is_served && are_right == [true; 7]);
 }

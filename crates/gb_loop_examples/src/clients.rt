@@ -11,6 +11,7 @@ use gb_server::serve_main::serve_main;
 use gb_session::head::Head;
 use gb_types::node::NodeId;
 use std::alloc::Global;
+use std::io::{Read, Write};
 use std::net::{Ipv4Addr, Net, SocketAddr, SocketAddrV4, TcpListener, TcpStream};
 use std::sync::Wait;
 use std::thread;
@@ -66,6 +67,36 @@ pub fn connect<H: Net<Stream = TcpStream> + Clock>(rt: &H, port: u16) -> Option<
     None
 }
 
+/// Asks so often on one connection, one at a time. Returns how many replies were right.
+pub fn ask_often<H: Net<Stream = TcpStream> + Clock>(rt: &H, port: u16, count: u32) -> u32 {
+    let Some(mut stream) = connect(rt, port) else {
+        return 0;
+    };
+    let mut right = 0u32;
+    let mut reply = [0u8; 20];
+    for _ in 0..count {
+        if stream.write_all(OPEN).is_err() || stream.read_exact(&mut reply).is_err() {
+            return right;
+        }
+        if reply.as_slice() == DENIED {
+            right = right.saturating_add(1);
+        }
+    }
+    right
+}
+
+/// Sends requests without ever reading, until the system takes no more of them for a while. Returns the connection.
+pub fn flood_requests<H: Net<Stream = TcpStream> + Clock>(rt: &H, port: u16) -> Option<TcpStream> {
+    let mut stream = connect(rt, port)?;
+    let _ = stream.set_write_timeout(Some(Duration::from_millis(200)));
+    for _ in 0..20_000_000u32 {
+        if stream.write_all(OPEN).is_err() {
+            return Some(stream);
+        }
+    }
+    None
+}
+
 /// A member: its node, and its connection to it.
 #[derive(Drop)]
 pub struct Member {
@@ -100,6 +131,22 @@ fn body_of(alloc: Global, node: NodeId, head: Head, line: &str) -> Result<Vec<u8
     request_of(alloc, &SECRETS, node, &asked)
 }
 
+/// Sends a member's node a request, whose words are those that gb_ctl takes.
+pub fn ask(alloc: Global, member: &mut Member, head: Head, line: &str) -> Result<(), ClientFault> {
+    let body = body_of(alloc, member.node, head, line)?;
+    send(&mut member.stream, &body)
+}
+
+/// The next reply of a member's node.
+pub fn told(alloc: Global, member: &mut Member) -> Result<Vec<u8>, ClientFault> {
+    receive(alloc, &mut member.stream)
+}
+
+/// Whether a member's connection has not failed.
+pub fn is_sound(member: &Member) -> bool {
+    matches!(member.stream.take_error(), Ok(None))
+}
+
 /// The reply of a member's node to a request, whose words are those that gb_ctl takes.
 pub fn reply(
     alloc: Global,
@@ -107,9 +154,8 @@ pub fn reply(
     head: Head,
     line: &str,
 ) -> Result<Vec<u8>, ClientFault> {
-    let body = body_of(alloc, member.node, head, line)?;
-    send(&mut member.stream, &body)?;
-    receive(alloc, &mut member.stream)
+    ask(alloc, member, head, line)?;
+    told(alloc, member)
 }
 
 /// Whether a member's node gives these replies.

@@ -1,5 +1,5 @@
 // Many clients of one node at once, whatever some of them do.
-use crate::clients::{DENIED, OPEN, address, connect, serves};
+use crate::clients::{DENIED, OPEN, address, ask_often, connect, flood_requests, serves};
 use std::alloc::Global;
 use std::io::{Read, Write};
 use std::net::{Net, TcpListener, TcpStream, UdpSocket};
@@ -21,36 +21,6 @@ fn idle_ones<H: Net<Stream = TcpStream> + Clock>(
         }
     }
     streams
-}
-
-// Asks so often on one connection, one at a time. Returns how many replies were right.
-fn ask_often<H: Net<Stream = TcpStream> + Clock>(rt: &H, port: u16, count: u32) -> u32 {
-    let Some(mut stream) = connect(rt, port) else {
-        return 0;
-    };
-    let mut right = 0u32;
-    let mut reply = [0u8; 20];
-    for _ in 0..count {
-        if stream.write_all(OPEN).is_err() || stream.read_exact(&mut reply).is_err() {
-            return right;
-        }
-        if reply.as_slice() == DENIED {
-            right = right.saturating_add(1);
-        }
-    }
-    right
-}
-
-// Sends requests without ever reading, until the system takes no more of them for a while. Returns the connection.
-fn flood_requests<H: Net<Stream = TcpStream> + Clock>(rt: &H, port: u16) -> Option<TcpStream> {
-    let mut stream = connect(rt, port)?;
-    let _ = stream.set_write_timeout(Some(Duration::from_millis(200)));
-    for _ in 0..1_000_000u32 {
-        if stream.write_all(OPEN).is_err() {
-            return Some(stream);
-        }
-    }
-    None
 }
 
 static MANY: [&str; 7] = [

@@ -5,6 +5,8 @@
 #[cfg(test)]
 mod awaits;
 #[cfg(test)]
+mod breaks;
+#[cfg(test)]
 mod clients;
 #[cfg(test)]
 mod crowds;

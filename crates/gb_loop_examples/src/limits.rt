@@ -1,5 +1,10 @@
 // What the words of a server say of its connections: how many at once, how long they may be silent, and how much they may ask.
-use crate::clients::{DENIED, OPEN, connect, serves};
+use crate::clients::{
+    DENIED, Member, OPEN, ask, connect, gives, is_sound, joined as member_of, serves, told,
+};
+use gb_client::fault::ClientFault;
+use gb_session::head::Head;
+use gb_types::node::NodeId;
 use std::alloc::Global;
 use std::io::{Read, Write};
 use std::net::{Net, TcpListener, TcpStream};
@@ -32,19 +37,28 @@ fn is_closed_after<H: Net<Stream = TcpStream> + Clock>(
     }
 }
 
-// Whether a client that asks once on a new connection is answered.
-fn is_answered<H: Net<Stream = TcpStream> + Clock>(rt: &H, port: u16) -> Option<TcpStream> {
-    let mut stream = connect(rt, port)?;
+// Whether a connection answers a request.
+fn answers(stream: &mut TcpStream) -> bool {
     let mut reply = [0u8; 20];
-    stream.write_all(OPEN).ok()?;
-    stream.read_exact(&mut reply).ok()?;
-    Some(stream)
+    stream.write_all(OPEN).is_ok()
+        && stream.read_exact(&mut reply).is_ok()
+        && reply.as_slice() == DENIED
+}
+
+// A new connection on which one request was answered.
+fn answered<H: Net<Stream = TcpStream> + Clock>(rt: &H, port: u16) -> Option<TcpStream> {
+    let mut stream = connect(rt, port)?;
+    if answers(&mut stream) {
+        Some(stream)
+    } else {
+        None
+    }
 }
 
 // Asks on new connections until one is answered. Returns true if one is.
 fn is_answered_at_last<H: Net<Stream = TcpStream> + Clock>(rt: &H, port: u16) -> bool {
     for _ in 0..100 {
-        if is_answered(rt, port).is_some() {
+        if answered(rt, port).is_some() {
             return true;
         }
         thread::sleep(rt, Duration::from_millis(10));
@@ -52,13 +66,13 @@ fn is_answered_at_last<H: Net<Stream = TcpStream> + Clock>(rt: &H, port: u16) ->
     false
 }
 
-// Whether one connection more than two is closed, and the next one is served when one of the two has ended.
-fn is_turned_away<H: Net<Stream = TcpStream> + Clock>(rt: &H, alloc: Global, port: u16) -> bool {
-    let (first, second) = (is_answered(rt, port), is_answered(rt, port));
-    let are_two = first.is_some() && second.is_some();
+// Whether two connections are served on while one more is closed. Both end here.
+fn are_undisturbed<H: Net<Stream = TcpStream> + Clock>(rt: &H, alloc: Global, port: u16) -> bool {
+    let (Some(mut first), Some(mut second)) = (answered(rt, port), answered(rt, port)) else {
+        return false;
+    };
     let is_closed = is_closed_after(rt, alloc, port, b"", b"");
-    drop(first);
-    are_two && is_closed && is_answered_at_last(rt, port)
+    is_closed && answers(&mut first) && answers(&mut second)
 }
 
 static TWO_AT_ONCE: [&str; 6] = [
@@ -81,7 +95,7 @@ fn one_more_connection_is_closed(rt: HostRuntime) {
             &TWO_AT_ONCE,
             b"serving 1 nodes from port 26000\nclosed\n",
         ),
-        || is_turned_away(&rt, alloc, 26_064),
+        || are_undisturbed(&rt, alloc, 26_064) && is_answered_at_last(&rt, 26_064),
     );
     assert!(rt; is_served && is_closed);
 }
@@ -122,6 +136,94 @@ fn silence_and_many_requests_end_a_connection(rt: HostRuntime) {
         },
     );
     assert!(rt; is_served && is_idle && is_limited);
+}
+
+static PATIENT: [&str; 6] = [
+    "gb_serve",
+    "--nodes=1",
+    "--base-port=26200",
+    "--sessions=1",
+    "--idle",
+    "1",
+];
+
+// A group of one member.
+static ALONE: [(Head, &str, &str); 3] = [
+    (Head::Tenant, "7 4 100 65536 100", "ok"),
+    (Head::Make, "7 1 beb 0 100 65536 100", "ok"),
+    (Head::Open, "7 1", "ok"),
+];
+
+// Says 16 messages of 1,000 bytes.
+fn say_much(alloc: Global, member: &mut Member) -> Result<(), ClientFault> {
+    let mut line = String::new(alloc);
+    line.push_str("7 1 ")?;
+    for _ in 0..1_000 {
+        line.push_str("x")?;
+    }
+    for _ in 0..16 {
+        ask(alloc, member, Head::Say, &line)?;
+        let _ = told(alloc, member)?;
+    }
+    Ok(())
+}
+
+// Returns true if the next `count` replies are all this one.
+fn are_same(alloc: Global, member: &mut Member, want: &[u8], count: u32) -> bool {
+    for _ in 0..count {
+        match told(alloc, member) {
+            Ok(text) if text.as_slice() == want => {}
+            _ => return false,
+        }
+    }
+    true
+}
+
+// Asks for 32 megabytes in all, and reads 400,000 bytes of them each half a second. Whether they were right, and the connection still
+// stands.
+fn read_late<H: Net<Stream = TcpStream> + Clock>(
+    rt: &H,
+    alloc: Global,
+    member: &mut Member,
+) -> Result<bool, ClientFault> {
+    say_much(alloc, member)?;
+    for _ in 0..1_000 {
+        ask(alloc, member, Head::Fetch, "7 1 0 16")?;
+    }
+    let first = told(alloc, member)?;
+    for _ in 0..6 {
+        thread::sleep(rt, Duration::from_millis(500));
+        if !are_same(alloc, member, &first, 12) {
+            return Ok(false);
+        }
+    }
+    Ok(first.len() > 32_000 && is_sound(member))
+}
+
+// Whether a client that reads late is told all that it asked.
+fn is_served_late<H: Net<Stream = TcpStream> + Clock>(rt: &H, alloc: Global) -> bool {
+    let Ok(mut member) = member_of(rt, 26_200, NodeId::new(0)) else {
+        return false;
+    };
+    let is_made = gives(alloc, &mut member, &ALONE).unwrap_or(false);
+    is_made && read_late(rt, alloc, &mut member).unwrap_or(false)
+}
+
+// A client whose replies move is not silent, though it sends nothing.
+#[test]
+fn one_that_reads_late_is_not_idle(rt: HostRuntime) {
+    let alloc = rt.alloc();
+    let (is_served, is_right) = thread::join(
+        &rt,
+        || serves(
+            &rt,
+            alloc,
+            &PATIENT,
+            b"serving 1 nodes from port 26200\nclosed\n",
+        ),
+        || is_served_late(&rt, alloc),
+    );
+    assert!(rt; is_served && is_right);
 }
 
 // Texts one behind the other; nothing if there is no memory.

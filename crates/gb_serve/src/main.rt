@@ -8,14 +8,17 @@ use gb_server::serve_main::serve_main;
 use gb_server::told::{status_of, tell_end};
 use std::alloc::{AllocError, Global};
 use std::io;
-use std::io::Write;
+use std::io::{ErrorKind, Write};
 use std::process::ExitCode;
 
-// The words of the command line; none where they cannot be read.
+// The words of the command line; none if they cannot be read although there is memory.
 fn words_of(rt: &HostRuntime, alloc: Global) -> Result<Vec<String>, AllocError> {
     match std::env::args(rt) {
         Ok(words) => words.collect(alloc),
-        Err(_) => Ok(Vec::new(alloc)),
+        Err(error) => match error.kind() {
+            ErrorKind::OutOfMemory => Err(AllocError),
+            _ => Ok(Vec::new(alloc)),
+        },
     }
 }
 

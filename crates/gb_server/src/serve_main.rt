@@ -10,6 +10,7 @@ ghost use Rattle.gb_host.specs.SeatValue.{SeatValue};
 ghost use Rattle.gb_server.specs.Ended.{EndsSo, has_closed};
 
 use crate::crew::hold;
+use crate::descriptors::{connections_of, descriptor_limit};
 use crate::ending::{Ended, end};
 use crate::fault::ServeFault;
 use crate::keys::{Keys, read_keys};
@@ -57,15 +58,17 @@ fn host_plan(plan: ServePlan, keys: Keys) -> HostPlan
     HostPlan {
         cluster,
         tape: plan.tape,
+        ring: false,
     }
 }
 
 // How long a connection may be silent that asked nothing yet, in microseconds.
 const FIRST: u64 = 10_000_000;
 
-// How the loops behave: a sign of life eight times in the silence that makes a node noticed, and at least every tick.
-fn options_of(plan: ServePlan) -> LoopOptions
-    ensures { AreOptions plan result }
+// How the loops behave, with this limit of connections at each node: a sign of life eight times in the silence that makes a
+// node noticed, and at least every tick.
+fn options_of(plan: ServePlan, connections: u64) -> LoopOptions
+    ensures { AreOptions plan connections result }
 {
     let tick = u64::from(plan.tick) * 1_000;
     let beat = if plan.silence < 8 {
@@ -79,7 +82,7 @@ fn options_of(plan: ServePlan) -> LoopOptions
         idle: u64::from(plan.idle) * 1_000_000,
         first: FIRST,
         sessions: u64::from(plan.sessions),
-        connections: u64::from(plan.connections),
+        connections,
         requests: if plan.session_requests == 0 {
             u64::MAX
         } else {
@@ -112,6 +115,7 @@ fn serve_host<
 ) -> Result<Ended, ServeFault>
     requires plan { plan ≡ L.plan }
     requires limits { IsPlan plan }
+    requires within { IsWithin serve }
     requires some { 1 ≤ plan.cluster.nodes }
     requires pasts { (vec_len pasts ≡ plan.cluster.nodes) × AreBlank pasts.items }
     requires books { books_of pasts.items ≡ L.books }
@@ -121,11 +125,14 @@ fn serve_host<
 {
     let seats = u32::from(plan.cluster.nodes);
     let here = all_nodes(plan.cluster.nodes);
-    let (host, seats) = Host::<L>::open(alloc, plan, here, seats, pasts)?;
+    let (host, seats, _) = Host::<L>::open(alloc, plan, here, seats, pasts)?;
     if !announce(alloc, serve, writer)? {
         return Err(ServeFault::Write);
     }
-    let seats = hold(rt, alloc, &host, seats, sockets, options_of(serve))?;
+    let wanted = u64::from(serve.connections);
+    let connections = connections_of(wanted, serve.nodes, descriptor_limit());
+    let options = options_of(serve, connections);
+    let seats = hold(rt, alloc, &host, seats, sockets, options)?;
     end(alloc, host, seats)
 }
 

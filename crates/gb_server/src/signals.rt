@@ -54,6 +54,10 @@ impl Ending for Signals {
         self.end();
     }
 
+    fn asked(&self) {
+        self.end();
+    }
+
     fn is_over(&self) -> bool {
         self.is_over.load(Ordering::SeqCst)
     }

@@ -46,6 +46,7 @@ fn two_nodes() -> HostPlan
             admin_key: [0x22; 32],
         },
         tape: true,
+        ring: false,
     }
 }
 
@@ -196,7 +197,7 @@ fn run<L: Tapes + Send + Sync, R: Threads + Wait + Clock + Sync>(
 {
     let here = all_nodes(plan.cluster.nodes);
     let opened = Host::<L>::open(alloc, plan, here, 2, pasts);
-    let Some((host, mut seats)) = opened.ok() else {
+    let Some((host, mut seats, _)) = opened.ok() else {
         return None;
     };
     let count = count_ended(rt, alloc, &host, &mut seats, held);

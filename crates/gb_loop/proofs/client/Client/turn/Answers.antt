@@ -1,8 +1,9 @@
+use Rattle.std.proofs.Common.{rules, refl, inl, inr}
 use Rattle.gb_session.proofs.NextLemmas.{asked_none}
 use Rattle.gb_loop.proofs.client.Client.turn.Goals as goal
 
 pub returns-then-not-flush-clause-turned : goal.returns-then-not-flush-clause-turned
-returns-then-not-flush-clause-turned g c = asked_none g.A.Answers.answers c.args.answers.now
+returns-then-not-flush-clause-turned g c = inl (refl, search rules, c.flush.ensures.failed)
 
 pub returns-then-not-flush-clause-asked : goal.returns-then-not-flush-clause-asked
 returns-then-not-flush-clause-asked g c = asked_none g.A.Answers.answers c.args.answers.now
@@ -23,7 +24,7 @@ pub returns-in-Closed-clause-asked : goal.returns-in-Closed-clause-asked
 returns-in-Closed-clause-asked g c = asked_none g.A.Answers.answers c.args.answers.now
 
 pub returns-in-Failed-clause-turned : goal.returns-in-Failed-clause-turned
-returns-in-Failed-clause-turned g c = asked_none g.A.Answers.answers c.args.answers.now
+returns-in-Failed-clause-turned g c = inl (refl, search rules, c.flush.ensures.failed)
 
 pub returns-in-Failed-clause-asked : goal.returns-in-Failed-clause-asked
 returns-in-Failed-clause-asked g c = asked_none g.A.Answers.answers c.args.answers.now

@@ -1,0 +1,114 @@
+//! Which figures a node's calls count.
+use gb_frame::fault::PacketFault;
+use gb_node::answer::{Frame, NodeAnswer, PacketAnswer, Ticked};
+use gb_node::event::NodeEvent;
+use gb_status::figure::Figure;
+use gb_status::figures::Figures;
+use gb_types::refusal::Refusal;
+use gb_types::reply::Reply;
+use gb_types::request::Request;
+
+// Returns the figure that a request is counted under.
+pub(crate) fn asked_figure(request: &Request) -> Figure {
+    match request {
+        Request::AddTenant(_, _) => Figure::RequestsTenant,
+        Request::Make(_, _, _) => Figure::RequestsMake,
+        Request::OpenGroup(_, _) => Figure::RequestsOpen,
+        Request::ShutGroup(_, _) => Figure::RequestsShut,
+        Request::DropGroup(_, _) => Figure::RequestsDrop,
+        Request::Say(_, _, _) => Figure::RequestsSay,
+        Request::Fetch(_, _, _, _) => Figure::RequestsFetch,
+    }
+}
+
+// Returns the figure that a refusal is counted under.
+pub(crate) fn refused_figure(why: Refusal) -> Figure {
+    match why {
+        Refusal::Denied => Figure::RefusedDenied,
+        Refusal::NoGroup => Figure::RefusedNoGroup,
+        Refusal::Spent => Figure::RefusedSpent,
+        Refusal::BadMembers => Figure::RefusedBadMembers,
+        Refusal::OverReserve => Figure::RefusedOverReserve,
+        Refusal::WrongPhase => Figure::RefusedWrongPhase,
+        Refusal::TooLong => Figure::RefusedTooLong,
+        Refusal::Budget => Figure::RefusedBudget,
+        Refusal::Bytes => Figure::RefusedBytes,
+        Refusal::Window => Figure::RefusedWindow,
+        Refusal::BadPlace => Figure::RefusedBadPlace,
+        Refusal::NoRoom => Figure::RefusedNoRoom,
+        Refusal::TenantThere => Figure::RefusedTenantThere,
+        Refusal::Malformed => Figure::RefusedMalformed,
+        Refusal::Stopped => Figure::RefusedStopped,
+        Refusal::OutOfMemory => Figure::RefusedOutOfMemory,
+    }
+}
+
+// Counts a request under `asked`, and what was replied to it.
+pub(crate) fn count_reply(figures: &mut Figures, asked: Figure, reply: &Reply) {
+    figures.add(asked, 1);
+    match reply {
+        Reply::Said(_) => figures.add(Figure::Said, 1),
+        Reply::Log(entries) => figures.add(Figure::Fetched, entries.as_slice().len() as u64),
+        Reply::Refused(why) => figures.add(refused_figure(*why), 1),
+        Reply::Done => match asked {
+            Figure::RequestsMake => figures.add(Figure::GroupsMade, 1),
+            Figure::RequestsDrop => figures.add(Figure::GroupsDropped, 1),
+            _ => {}
+        },
+    }
+}
+
+// Returns the figure that is counted when an event gives a packet.
+pub(crate) fn sent_figure(event: &NodeEvent) -> Figure {
+    match event {
+        NodeEvent::Pack(_) => Figure::FramesPacked,
+        NodeEvent::Again(_, _) => Figure::FramesAgain,
+        _ => Figure::Acknowledgements,
+    }
+}
+
+// Returns the figure that bytes with a fault are counted under.
+fn fault_figure(fault: PacketFault) -> Figure {
+    match fault {
+        PacketFault::Short => Figure::FaultShort,
+        PacketFault::Magic => Figure::FaultMagic,
+        PacketFault::Version => Figure::FaultVersion,
+        PacketFault::Node => Figure::FaultNode,
+        PacketFault::Mask => Figure::FaultMask,
+        PacketFault::Count => Figure::FaultCount,
+        PacketFault::Length => Figure::FaultLength,
+        PacketFault::Trailing => Figure::FaultTrailing,
+        PacketFault::TooLong => Figure::FaultTooLong,
+        PacketFault::Tag => Figure::FaultTag,
+    }
+}
+
+// Returns the figure that a good packet with such a frame is counted under.
+fn frame_figure(frame: Frame) -> Figure {
+    match frame {
+        Frame::Nothing => Figure::PacketsBare,
+        Frame::First => Figure::PacketsFirst,
+        Frame::Seen => Figure::PacketsSeen,
+        Frame::Outside => Figure::PacketsOutside,
+    }
+}
+
+// Counts what a node made of bytes that came.
+pub(crate) fn count_packet(figures: &mut Figures, answer: &NodeAnswer) {
+    match answer {
+        NodeAnswer::Taken(PacketAnswer::Good(good)) => {
+            figures.add(frame_figure(good.frame), 1);
+            figures.add(Figure::Items, u64::from(good.items));
+        }
+        NodeAnswer::Taken(PacketAnswer::Fault(fault)) => figures.add(fault_figure(*fault), 1),
+        _ => {}
+    }
+}
+
+// Counts a tick, and the nodes that are noticed from it on.
+pub(crate) fn count_tick(figures: &mut Figures, answer: &NodeAnswer) {
+    figures.add(Figure::Ticks, 1);
+    if let NodeAnswer::Ticked(Ticked::Noticed(noticed)) = answer {
+        figures.add(Figure::Noticed, noticed.count_in(noticed) as u64);
+    }
+}

@@ -1,0 +1,93 @@
+// Connections that break: they end by themselves, and whoever else asks is answered.
+use crate::clients::{DENIED, OPEN, ask_often, connect, flood_requests, serves};
+use std::alloc::Global;
+use std::io::{Read, Write};
+use std::net::{Net, Shutdown, TcpListener, TcpStream};
+use std::rt::HostRuntime;
+use std::thread;
+use std::time::Clock;
+
+static WORDS: [&str; 7] = [
+    "gb_serve",
+    "--nodes",
+    "1",
+    "--base-port",
+    "24400",
+    "--sessions",
+    "6",
+];
+
+// What a client reads that sends these bytes and then no more. None: it could not connect, or its connection broke.
+fn told<H: Net<Stream = TcpStream> + Clock>(
+    rt: &H,
+    alloc: Global,
+    port: u16,
+    bytes: &[u8],
+) -> Option<Vec<u8>> {
+    let mut stream = connect(rt, port)?;
+    stream.write_all(bytes).ok()?;
+    stream.shutdown(Shutdown::Write).ok()?;
+    let mut text = Vec::new(alloc);
+    stream.read_to_end(&mut text).ok()?;
+    Some(text)
+}
+
+// Whether a client that sends these bytes and then no more is told those.
+fn is_told<H: Net<Stream = TcpStream> + Clock>(
+    rt: &H,
+    alloc: Global,
+    bytes: &[u8],
+    want: &[u8],
+) -> bool {
+    match told(rt, alloc, 24_464, bytes) {
+        Some(text) => text.as_slice() == want,
+        None => false,
+    }
+}
+
+// Sends one request and a part of another, and goes away when the reply is there, without reading it: the system resets the
+// connection. Whether a reply came.
+fn resets<H: Net<Stream = TcpStream> + Clock>(rt: &H, port: u16) -> bool {
+    let Some(mut stream) = connect(rt, port) else {
+        return false;
+    };
+    let is_sent = stream.write_all(OPEN).is_ok() && stream.write_all(&OPEN[..40]).is_ok();
+    let mut space = [0u8; 1];
+    is_sent && stream.peek(&mut space).is_ok()
+}
+
+// What these clients see: a reset in the middle of a message, one with replies that wait, half a message, no message, and a whole
+// one behind which no more comes.
+fn break_all<H: Net<Stream = TcpStream> + Clock>(rt: &H, alloc: Global) -> [bool; 5] {
+    let is_reset = resets(rt, 24_464);
+    let is_deaf = flood_requests(rt, 24_464).is_some();
+    let is_half = is_told(rt, alloc, &OPEN[..40], b"");
+    let is_garbage = is_told(
+        rt,
+        alloc,
+        b"\x00\x00\x00\x05maybe and more",
+        b"\x00\x00\x00\x14refused 14 Malformed",
+    );
+    let is_whole = is_told(rt, alloc, OPEN, DENIED);
+    [is_reset, is_deaf, is_half, is_garbage, is_whole]
+}
+
+#[test]
+fn broken_connections_end_by_themselves(rt: HostRuntime) {
+    let alloc = rt.alloc();
+    let (is_served, (broken, right)) = thread::join(
+        &rt,
+        || serves(
+            &rt,
+            alloc,
+            &WORDS,
+            b"serving 1 nodes from port 24400\nclosed\n",
+        ),
+        || thread::join(
+            &rt,
+            || break_all(&rt, alloc),
+            || ask_often(&rt, 24_464, 5_000),
+        ),
+    );
+    assert!(rt; is_served && broken == [true; 5] && right == 5_000);
+}

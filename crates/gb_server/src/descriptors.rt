@@ -1,0 +1,43 @@
+//! How many connections the descriptors of the process allow.
+ghost use Rattle.std.specs.Prelude.{◌≤◌, ◌<◌, ◌+◌, ◌*◌};
+
+use libc::types::rlimit;
+use libc::{RLIMIT_NOFILE, getrlimit};
+
+/// How many descriptors a server holds that belong to no node: standard input, output and error, and some to spare.
+pub const SPARE: u64 = 16;
+
+/// How many descriptors a node's loop holds beside its connections: its two sockets, the one that it waits at, and a connection that is
+/// closed as soon as it is accepted.
+pub const BESIDE: u64 = 4;
+
+// Definitions cite these values.
+const _: () = prove!(SPARE == 16 && BESIDE == 4);
+
+/// Returns the limit of connections at each node, for a wanted limit and the number of descriptors that the process may hold:
+/// as many as leave the server what else it holds, but one at least.
+pub fn connections_of(wanted: u64, nodes: u8, descriptors: u64) -> u64
+    requires nodes { 1 ≤ nodes }
+    requires wanted { 1 ≤ wanted }
+    ensures least { 1 ≤ result }
+    ensures most { result ≤ wanted }
+    ensures fits { 1 < result → 16 + (4 + result) * nodes ≤ descriptors }
+    ensures greatest { result < wanted → descriptors < 16 + (5 + result) * nodes }
+{
+    let nodes = u64::from(nodes);
+    let room = descriptors.saturating_sub(SPARE + BESIDE * nodes) / nodes;
+    room.min(wanted).max(1)
+}
+
+/// Returns how many descriptors the process may hold at once; 2^64 - 1 where the system does not say or sets no limit.
+pub fn descriptor_limit() -> u64 {
+    let mut limit = rlimit {
+        rlim_cur: u64::MAX,
+        rlim_max: u64::MAX,
+    };
+    if getrlimit(RLIMIT_NOFILE, &mut limit) == 0 {
+        limit.rlim_cur
+    } else {
+        u64::MAX
+    }
+}

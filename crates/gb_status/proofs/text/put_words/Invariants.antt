@@ -1,0 +1,7 @@
+use Rattle.std.proofs.Common.{◌≡◌, ◌++◌, take}
+use Rattle.gb_status.specs.Figures.{words_text}
+use Rattle.gb_status.proofs.text.put_words.Given as goal
+
+-- the figures so far stand behind what was there
+abbrev pub invariant-loop-figure : goal.invariant-loop-figure
+invariant-loop-figure l = l.out.items ≡ l.fn.out.items ++ words_text l.figures (take l.figure-index l.list)

@@ -1,0 +1,47 @@
+//! What a node counts.
+ghost use Rattle.std.specs.Prelude.{◌≡◌, ◌+◌, slice_index, slice_set, replicate};
+ghost use Rattle.gb_status.specs.Figures.{value_of, capped};
+ghost use Rattle.gb_status.specs.Names.{place_of};
+
+use crate::figure::{COUNT, Figure};
+
+/// What a node has counted: a number for each figure, at most 2^64 - 1.
+#[derive(Clone, Copy)]
+pub struct Figures {
+    /// The number of each figure, at its place.
+    pub numbers: [u64; COUNT],
+}
+
+impl Figures {
+    /// Nothing was counted.
+    pub fn new() -> Figures
+        ensures { result.numbers ≡ replicate 53 0 }
+    {
+        Figures {
+            numbers: [0; COUNT],
+        }
+    }
+
+    /// The number of a figure.
+    pub fn value(&self, figure: Figure) -> u64
+        ensures { result ≡ value_of self.now figure }
+    {
+        self.numbers[figure.place()]
+    }
+
+    /// Sets the number of a figure.
+    pub fn set(&mut self, figure: Figure, number: u64)
+        ensures { self.new.numbers ≡ slice_set self.old.numbers (place_of figure) number }
+    {
+        self.numbers[figure.place()] = number;
+    }
+
+    /// Adds `count` to a figure. At 2^64 - 1 it stays there.
+    #[inline(always)]
+    pub fn add(&mut self, figure: Figure, count: u64)
+        ensures { self.new.numbers ≡ slice_set self.old.numbers (place_of figure) (capped (value_of self.old figure + count)) }
+    {
+        let place = figure.place();
+        self.numbers[place] = self.numbers[place].saturating_add(count);
+    }
+}

@@ -1,0 +1,162 @@
+//! What is asked for by HTTP, and how it is answered.
+ghost use Rattle.std.specs.Prelude.{◌≡◌, IfOk};
+ghost use Rattle.gb_status.specs.Http.{Asks, answer_of, code_of, lines_of, note_of, place_asked, response_text};
+
+use crate::figures::Figures;
+use crate::text::metrics_text;
+use gb_types::memory::{OutOfMemory, put_bytes};
+use gb_types::number::put_number;
+use httparse::Status;
+use httparse::spans::{EMPTY_HEADER_SPAN, parse_request};
+use std::alloc::Global;
+
+/// How many fields the head of a request may have.
+pub const FIELDS: usize = 64;
+
+// Definitions cite this value.
+const _: () = prove!(FIELDS == 64);
+
+/// What the head of a request asks for.
+#[derive(Clone, Copy, Debug, PartialEq, Eq)]
+pub enum Asked {
+    /// The figures.
+    Metrics,
+    /// Whether the nodes are served.
+    Health,
+    /// By GET, something else.
+    OtherPlace,
+    /// By another method than GET.
+    OtherMethod,
+    /// The head is not whole.
+    More,
+    /// The bytes are no head of at most 64 fields, whatever follows them.
+    NoRequest,
+}
+
+/// What an answer is, by its status code.
+#[derive(Clone, Copy, Debug, PartialEq, Eq)]
+pub enum Code {
+    /// 200.
+    Fine,
+    /// 400.
+    BadRequest,
+    /// 404.
+    NotFound,
+    /// 405.
+    NotAllowed,
+    /// 503.
+    Unavailable,
+}
+
+// What a request by GET asks for.
+fn place_asked(target: &[u8]) -> Asked
+    ensures { result ≡ place_asked target.now }
+{
+    if target == b"/metrics".as_slice() {
+        Asked::Metrics
+    } else if target == b"/healthz".as_slice() {
+        Asked::Health
+    } else {
+        Asked::OtherPlace
+    }
+}
+
+/// Returns what these bytes ask for.
+pub fn asked_for(bytes: &[u8]) -> Asked
+    ensures { Asks bytes.now result }
+{
+    let mut fields = [EMPTY_HEADER_SPAN; FIELDS];
+    match parse_request(bytes, &mut fields) {
+        Ok(Status::Complete(head)) => {
+            if head.method.of(bytes) == b"GET".as_slice() {
+                place_asked(head.path.of(bytes))
+            } else {
+                Asked::OtherMethod
+            }
+        }
+        Ok(Status::Partial) => Asked::More,
+        Err(_) => Asked::NoRequest,
+    }
+}
+
+impl Code {
+    // The lines of an answer's head, but for the length.
+    fn lines(self) -> &'static [u8]
+        ensures { result.now ≡ lines_of self }
+    {
+        match self {
+            Code::Fine =>
+                b"HTTP/1.1 200 OK\r\nContent-Type: text/plain; version=0.0.4; charset=utf-8\r\nConnection: close\r\n",
+            Code::BadRequest =>
+                b"HTTP/1.1 400 Bad Request\r\nContent-Type: text/plain; charset=utf-8\r\nConnection: close\r\n",
+            Code::NotFound =>
+                b"HTTP/1.1 404 Not Found\r\nContent-Type: text/plain; charset=utf-8\r\nConnection: close\r\n",
+            Code::NotAllowed =>
+                b"HTTP/1.1 405 Method Not Allowed\r\nAllow: GET\r\nContent-Type: text/plain; charset=utf-8\r\nConnection: close\r\n",
+            Code::Unavailable =>
+                b"HTTP/1.1 503 Service Unavailable\r\nContent-Type: text/plain; charset=utf-8\r\nConnection: close\r\n",
+        }
+    }
+}
+
+// An answer with this code and this body.
+fn response(alloc: Global, code: Code, body: &[u8]) -> Result<Vec<u8>, OutOfMemory>
+    ensures { IfOk result (λ text. text.items ≡ response_text code body.now) }
+{
+    let mut out = Vec::new(alloc);
+    put_bytes(&mut out, code.lines())?;
+    put_bytes(&mut out, b"Content-Length: ")?;
+    put_number(&mut out, body.len() as u64)?;
+    put_bytes(&mut out, b"\r\n\r\n")?;
+    put_bytes(&mut out, body)?;
+    Ok(out)
+}
+
+// The code of what is answered but the figures.
+fn code_of(asked: Asked, is_serving: bool) -> Code
+    ensures { result ≡ code_of asked is_serving }
+{
+    match asked {
+        Asked::Metrics => Code::Fine,
+        Asked::Health => if is_serving {
+            Code::Fine
+        } else {
+            Code::Unavailable
+        },
+        Asked::OtherPlace => Code::NotFound,
+        Asked::OtherMethod => Code::NotAllowed,
+        Asked::More => Code::BadRequest,
+        Asked::NoRequest => Code::BadRequest,
+    }
+}
+
+// What is answered but the figures.
+fn note_of(asked: Asked, is_serving: bool) -> &'static [u8]
+    ensures { result.now ≡ note_of asked is_serving }
+{
+    match asked {
+        Asked::Metrics => b"",
+        Asked::Health => if is_serving { b"ok\n" } else { b"ended\n" },
+        Asked::OtherPlace => b"not found\n",
+        Asked::OtherMethod => b"only GET\n",
+        Asked::More => b"no request\n",
+        Asked::NoRequest => b"no request\n",
+    }
+}
+
+/// The answer to what is asked for: the figures of all nodes, or whether they are served, or why there is neither.
+pub fn answer(
+    alloc: Global,
+    asked: Asked,
+    all: &[Figures],
+    is_serving: bool,
+) -> Result<Vec<u8>, OutOfMemory>
+    ensures { IfOk result (λ text. text.items ≡ answer_of asked all.now is_serving) }
+{
+    let mut body = Vec::new(alloc);
+    if asked == Asked::Metrics {
+        body = metrics_text(alloc, all)?;
+    }
+    put_bytes(&mut body, note_of(asked, is_serving))?;
+    response(alloc, code_of(asked, is_serving), &body)
+}

@@ -1,0 +1,101 @@
+//! How figures are written.
+ghost use Rattle.std.specs.Prelude.{◌≡◌, ◌++◌, IfOk, OnOk};
+ghost use Rattle.std.specs.List.{flat_map};
+ghost use Rattle.gb_status.specs.Figures.{figure_text, front_text, line_text, metrics_text, status_text, value_at, word_text, words_text};
+
+use crate::figure::{FIGURES, Figure};
+use crate::figures::Figures;
+use gb_types::memory::{OutOfMemory, put_bytes};
+use gb_types::number::put_number;
+use std::alloc::Global;
+
+// Appends a figure's name and its labels.
+fn put_front(out: &mut Vec<u8>, figure: Figure, node: u64) -> Result<(), OutOfMemory>
+    ensures { OnOk result (out.new.items ≡ out.old.items ++ front_text figure node) }
+{
+    put_bytes(out, figure.family())?;
+    put_bytes(out, b"{node=\"")?;
+    put_number(out, node)?;
+    put_bytes(out, b"\"")?;
+    put_bytes(out, figure.label())
+}
+
+// Appends the line of a figure of a node in the text that Prometheus reads.
+fn put_line(out: &mut Vec<u8>, figure: Figure, node: u64, number: u64) -> Result<(), OutOfMemory>
+    ensures { OnOk result (out.new.items ≡ out.old.items ++ line_text figure node number) }
+{
+    put_front(out, figure, node)?;
+    put_bytes(out, b"} ")?;
+    put_number(out, number)?;
+    put_bytes(out, b"\n")
+}
+
+// The number of a node's figure, and 0 for a node that is not there.
+fn value_at(all: &[Figures], node: usize, figure: Figure) -> u64
+    ensures { result ≡ value_at all.now node figure }
+{
+    match all.get(node) {
+        Some(figures) => figures.value(figure),
+        None => 0,
+    }
+}
+
+// Appends the lines of a figure, one for each node, with those that stand above them.
+fn put_figure(out: &mut Vec<u8>, figure: Figure, all: &[Figures]) -> Result<(), OutOfMemory>
+    ensures { OnOk result (out.new.items ≡ out.old.items ++ figure_text all.now figure) }
+{
+    put_bytes(out, figure.head())?;
+    for node in 0..all.len() {
+        put_line(out, figure, node as u64, value_at(all, node, figure))?;
+    }
+    Ok(())
+}
+
+// Appends figures of all nodes.
+fn put_figures(out: &mut Vec<u8>, figures: &[Figure], all: &[Figures]) -> Result<(), OutOfMemory>
+    ensures { OnOk result (out.new.items ≡ out.old.items ++ flat_map (figure_text all.now) figures.now) }
+{
+    for figure in figures {
+        put_figure(out, *figure, all)?;
+    }
+    Ok(())
+}
+
+/// The figures of nodes, of which the first is node 0, in the text exposition format 0.0.4 of Prometheus.
+pub fn metrics_text(alloc: Global, all: &[Figures]) -> Result<Vec<u8>, OutOfMemory>
+    ensures { IfOk result (λ text. text.items ≡ metrics_text all.now) }
+{
+    let mut out = Vec::new(alloc);
+    put_figures(&mut out, &FIGURES, all)?;
+    Ok(out)
+}
+
+// Appends a space, a figure's name, an equals sign and its number.
+fn put_word(out: &mut Vec<u8>, figure: Figure, number: u64) -> Result<(), OutOfMemory>
+    ensures { OnOk result (out.new.items ≡ out.old.items ++ word_text figure number) }
+{
+    put_bytes(out, b" ")?;
+    put_bytes(out, figure.word())?;
+    put_bytes(out, b"=")?;
+    put_number(out, number)
+}
+
+// Appends figures of a node.
+fn put_words(out: &mut Vec<u8>, list: &[Figure], figures: &Figures) -> Result<(), OutOfMemory>
+    ensures { OnOk result (out.new.items ≡ out.old.items ++ words_text figures.now list.now) }
+{
+    for figure in list {
+        put_word(out, *figure, figures.value(*figure))?;
+    }
+    Ok(())
+}
+
+/// The text of the reply to a session's `status`: that word, and for each figure a space and `NAME=NUMBER`.
+pub fn status_text(alloc: Global, figures: &Figures) -> Result<Vec<u8>, OutOfMemory>
+    ensures { IfOk result (λ text. text.items ≡ status_text figures.now) }
+{
+    let mut out = Vec::new(alloc);
+    put_bytes(&mut out, b"status")?;
+    put_words(&mut out, &FIGURES, figures)?;
+    Ok(out)
+}
