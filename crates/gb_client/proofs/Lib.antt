@@ -1,3 +1,4 @@
 pub mod NeedLemmas
 pub mod SecretLemmas
 pub mod RequestLemmas
+pub mod ReplyLemmas

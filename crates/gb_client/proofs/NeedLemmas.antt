@@ -1,11 +1,13 @@
 -- What the words of a request need, and what a reader of words answers.
-use Rattle.std.proofs.Common.{◌≡◌, ℕ, List, ◌∷◌, ◌∙◌, decimal, refl, sym}
+use Rattle.std.proofs.Common.{◌≡◌, ℕ, List, ◌∷◌, ◌∙◌, decimal, refl, sym, ap}
 use Rattle.gb_types.proofs.ReadLemmas.{Reads, found, only, reads_one}
-use Rattle.gb_types.specs.RequestWords.{IsShort}
+use Rattle.gb_types.specs.RequestWords.{IsShort, group_word}
 use Rattle.gb_types.specs.declared.node.NodeId.{NodeId}
 use Rattle.gb_cap.specs.declared.token.Need.{Need}
 use Rattle.gb_cap.specs.declared.token.Need.TheVariants.{Tenant, Member}
 use Rattle.gb_client.specs.Requests.{NeedsTenant, NeedsMember}
+use Rattle.gb_types.specs.declared.address.Addr.{Addr}
+use Rattle.gb_types.proofs.RequestWordLemmas.{AreAddressWords}
 
 -- a word of a number of two bytes
 abbrev pub IsShortWord : List ℕ → ℕ → Type 0
@@ -21,14 +23,12 @@ tenant_reads words t rest tenant are reads =
     let tenant_is : tenant ≡ spelt.0 = only (IsShortWord t) tenant spelt.0 reads (spelt.3, cc) in
     cc spelt.2)
 
-pub member_reads : (words : List (List ℕ)) (t g : List ℕ) (rest : List (List ℕ)) (tenant group : ℕ) (node : NodeId) → words ≡ t ∷ g ∷ rest
-    → Reads (IsShortWord t) tenant → Reads (IsShortWord g) group → Reads (λ (need : Need). NeedsMember node need words) (Member tenant group node)
-member_reads words t g rest tenant group node are reads_tenant reads_group =
-    let is_tenant = found (IsShortWord t) tenant reads_tenant in
-    let is_group = found (IsShortWord g) group reads_group in
-    let here : NeedsMember node (Member tenant group node) words = (tenant, group, rest, refl, is_tenant.0, is_group.0, cc (are, is_tenant.1, is_group.1)) in
-    reads_one (λ (need : Need). NeedsMember node need words) (Member tenant group node) here (λ need spelt.
-    let same : t ∷ g ∷ rest ≡ decimal spelt.0 ∷ decimal spelt.1 ∷ spelt.2 = sym are ∙ spelt.6 in
-    let tenant_is : tenant ≡ spelt.0 = only (IsShortWord t) tenant spelt.0 reads_tenant (spelt.4, cc) in
-    let group_is : group ≡ spelt.1 = only (IsShortWord g) group spelt.1 reads_group (spelt.5, cc) in
-    cc spelt.3)
+pub member_reads : (words : List (List ℕ)) (t g : List ℕ) (rest : List (List ℕ)) (address : Addr) (node : NodeId) → words ≡ t ∷ g ∷ rest
+    → Reads (AreAddressWords t g) address → Reads (λ (need : Need). NeedsMember node need words) (Member address.tenant address.group node)
+member_reads words t g rest address node are reads =
+    let is = found (AreAddressWords t g) address reads in
+    let here : NeedsMember node (Member address.tenant address.group node) words = (address, rest, refl, is.0, is.2, cc (are, is.1, is.3)) in
+    reads_one (λ (need : Need). NeedsMember node need words) (Member address.tenant address.group node) here (λ need spelt.
+    let same : t ∷ g ∷ rest ≡ decimal spelt.0.tenant ∷ group_word spelt.0 ∷ spelt.1 = sym are ∙ spelt.5 in
+    let address_is : address ≡ spelt.0 = only (AreAddressWords t g) address spelt.0 reads (spelt.3, cc, spelt.4, cc) in
+    ap (λ (a : Addr). Member a.tenant a.group node) address_is ∙ sym spelt.2)

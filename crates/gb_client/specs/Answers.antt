@@ -1,32 +1,45 @@
--- What a reply's text comes to.
-use Rattle.std.specs.Prelude.{◌≡◌, ℕ, ◌||◌, List, codes, nat_eq, if◌then◌else◌}
-use Rattle.std.specs.List.{starts_with}
-use Rattle.std.specs.Str.{bytes_eq}
+-- What a reply comes to.
+use Rattle.std.specs.Prelude.{ℕ, List, [], ◌∷◌, ◌++◌, codes, decimal, length, map}
+use Rattle.std.specs.List.{flat_map}
+use Rattle.gb_types.specs.declared.entry.Entry.{Entry}
+use Rattle.gb_types.specs.declared.refusal.Refusal.{Refusal}
+use Rattle.gb_types.specs.Refusal.{refusal_number, refusal_name}
+use Rattle.gb_types.specs.PayloadWord.{payload_word}
+use Rattle.gb_types.specs.ReplyText.{entry_text}
 use Rattle.gb_client.specs.declared.fault.ClientFault.{ClientFault}
-use Rattle.gb_client.specs.declared.fault.ClientFault.TheVariants.{Words, Secrets, Missing, Connection, OutOfMemory}
+use Rattle.gb_client.specs.declared.fault.ClientFault.TheVariants.{Words, Secrets, Missing, Connection, Lost, Late, NoReply, Output, OutOfMemory}
 use Rattle.gb_types.specs.declared.reply.Reply.{Reply}
 use Rattle.gb_types.specs.declared.reply.Reply.TheVariants.{Refused}
-use Rattle.gb_types.specs.ReplyText.{reply_spelling}
 
--- the exit status for a text: 1 for a refusal, 0 for another reply, 3 where it is no reply
-abbrev pub status : List ℕ → ℕ
-status text =
-    if starts_with nat_eq text (codes "refused ") then 1
-    else (if bytes_eq text (codes "ok") || starts_with nat_eq text (codes "said ") || starts_with nat_eq text (codes "log ") then 0 else 3)
-
--- the exit status for a reply
+-- the exit status for a reply: 1 for a refusal, else 0
 abbrev pub reply_status : Reply → ℕ
 reply_status (Refused why) = 1
 reply_status other = 0
 
--- the text of a reply comes to the reply's status
-abbrev pub TextsTellStatus : Type 0
-TextsTellStatus = (reply : Reply) → status (reply_spelling reply) ≡ reply_status reply
-
--- the exit status for a fault: 2 for wrong words or secrets, 3 where no reply came
+-- the exit status for a fault: 2 for wrong words or secrets, 4 where it was asked and no reply came, else 3
 abbrev pub status_of_fault : ClientFault → ℕ
 status_of_fault Words = 2
 status_of_fault Secrets = 2
 status_of_fault Missing = 2
 status_of_fault Connection = 3
+status_of_fault Lost = 4
+status_of_fault Late = 4
+status_of_fault NoReply = 3
+status_of_fault Output = 3
 status_of_fault OutOfMemory = 3
+
+-- the entries of a log in lines, with payloads in digits
+abbrev pub lines_of : List Entry → List ℕ
+lines_of = flat_map (λ e. entry_text e ++ 10 ∷ [])
+
+-- the parts of an entry's text between its colons
+abbrev pub parts_of : Entry → List (List ℕ)
+parts_of e = decimal e.origin.number ∷ decimal e.seq ∷ payload_word e.payload ∷ []
+
+-- the words of a log's text
+abbrev pub log_words : List Entry → List (List ℕ)
+log_words entries = codes "log" ∷ decimal (length entries) ∷ map entry_text entries
+
+-- the words of a refusal's text
+abbrev pub refusal_words : Refusal → List (List ℕ)
+refusal_words why = codes "refused" ∷ decimal (refusal_number why) ∷ refusal_name why ∷ []

@@ -1,10 +1,13 @@
 -- From words to a request.
-use Rattle.std.specs.Prelude.{◌≡◌, ℕ, List, Some}
+use Rattle.std.specs.Prelude.{◌≡◌, ℕ, Bool, true, false, List, ◌∷◌, Option, Some, None}
+use Rattle.hex.specs.Hex.{encode_lower}
+use Rattle.gb_types.specs.PayloadWord.{payload_word}
 use Rattle.gb_types.specs.declared.node.NodeId.{NodeId}
 use Rattle.gb_types.specs.declared.request.Request.{Request}
 use Rattle.gb_cap.specs.declared.token.Need.{Need}
 use Rattle.gb_session.specs.Grammar.{IsRequestText}
 use Rattle.gb_session.specs.declared.head.Head.{Head}
+use Rattle.gb_session.specs.declared.head.Head.TheVariants as heads
 use Rattle.gb_client.specs.declared.secrets.Secrets.{Secrets}
 use Rattle.gb_client.specs.Requests.{body_of, Needs}
 use Rattle.gb_client.specs.Secrets.{token_for}
@@ -18,3 +21,32 @@ pub record Asks (secrets : Secrets) (node : NodeId) (head : Head) (words : List 
   pub token_is : token_for secrets need ≡ Some token
   pub body_is : body ≡ body_of head token words
   pub spelt : IsRequestText body request
+
+-- words are told, and the body is that of a request with them
+abbrev pub IsAsked : Secrets → NodeId → Head → Option (List (List ℕ)) → List ℕ → Type 0
+IsAsked secrets node head told body = (words : List (List ℕ)) × (told ≡ Some words) × Asks secrets node head words body
+
+-- the words of a new tenant, with its key behind its number
+abbrev pub with_key : Option (List ℕ) → List (List ℕ) → Option (List (List ℕ))
+with_key (Some key) (tenant ∷ rest) = Some (tenant ∷ encode_lower key ∷ rest)
+with_key key words = None
+
+-- the words of a message that is text, with its digits in the place of the text
+abbrev pub with_payload : List (List ℕ) → Option (List (List ℕ))
+with_payload (tenant ∷ group ∷ text ∷ rest) = Some (tenant ∷ group ∷ payload_word text ∷ rest)
+with_payload words = None
+
+-- the words of a message
+abbrev pub words_said : Bool → List (List ℕ) → Option (List (List ℕ))
+words_said true words = with_payload words
+words_said false words = Some words
+
+-- the words behind the token, for those that were told
+abbrev pub words_told : Secrets → Head → Bool → List (List ℕ) → Option (List (List ℕ))
+words_told secrets heads.Tenant is_text words = with_key secrets.tenant words
+words_told secrets heads.Make is_text words = Some words
+words_told secrets heads.Open is_text words = Some words
+words_told secrets heads.Shut is_text words = Some words
+words_told secrets heads.Drop is_text words = Some words
+words_told secrets heads.Say is_text words = words_said is_text words
+words_told secrets heads.Fetch is_text words = Some words

@@ -2,7 +2,8 @@
 use Rattle.std.specs.Prelude.{◌≡◌, ℕ, List, ◌∷◌, ◌++◌, codes, decimal, drop}
 use Rattle.std.specs.List.{flat_map}
 use Rattle.hex.specs.Hex.{encode_lower}
-use Rattle.gb_types.specs.RequestWords.{IsShort}
+use Rattle.gb_types.specs.RequestWords.{IsShort, IsGroup, group_word}
+use Rattle.gb_types.specs.declared.address.Addr.{Addr}
 use Rattle.gb_types.specs.declared.node.NodeId.{NodeId}
 use Rattle.gb_cap.specs.declared.token.Need.{Need}
 use Rattle.gb_cap.specs.declared.token.Need.TheVariants.{Admin, Tenant, Member}
@@ -22,10 +23,11 @@ await_of fetch wait = codes "await" ++ drop 5 fetch ++ codes " " ++ decimal wait
 abbrev pub NeedsTenant : Need → List (List ℕ) → Type 0
 NeedsTenant need words = (tenant : ℕ) × (rest : List (List ℕ)) × (need ≡ Tenant tenant) × IsShort tenant × (words ≡ decimal tenant ∷ rest)
 
--- words that begin with a tenant and a group ask for what the group's member at the node may do
+-- words that begin with a tenant and a group ask for what the group's member at the node may do, which is the same for all generations of the group
 abbrev pub NeedsMember : NodeId → Need → List (List ℕ) → Type 0
 NeedsMember node need words =
-    (tenant : ℕ) × (group : ℕ) × (rest : List (List ℕ)) × (need ≡ Member tenant group node) × IsShort tenant × IsShort group × (words ≡ decimal tenant ∷ decimal group ∷ rest)
+    (address : Addr) × (rest : List (List ℕ)) × (need ≡ Member address.tenant address.group node) × IsShort address.tenant × IsGroup address
+    × (words ≡ decimal address.tenant ∷ group_word address ∷ rest)
 
 -- what the token of a request with this head and these words at a node is asked for
 abbrev pub Needs : Head → NodeId → Need → List (List ℕ) → Type 0

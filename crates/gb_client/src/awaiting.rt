@@ -32,6 +32,7 @@ fn awaited_by(alloc: Global, body: &[u8]) -> Result<Option<Awaited>, OutOfMemory
     match read_ask(alloc, body)? {
         Some(Ask::Await(awaited)) => Ok(Some(awaited)),
         Some(Ask::Now(_)) => Ok(None),
+        Some(Ask::Operate(_)) => Ok(None),
         None => Ok(None),
     }
 }

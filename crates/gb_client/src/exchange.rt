@@ -1,45 +1,114 @@
 //! Messages of a session: a length, four bytes with the high byte first, and a body.
-ghost use Rattle.std.specs.Prelude.{◌≡◌, ◌≤◌, length, IfOk, IfErr, OnOk};
-ghost use Rattle.std.specs.Io.KnownBytes.{Appends};
+ghost use Rattle.std.specs.Prelude.{◌≡◌, ◌≤◌, ◌⊎◌, take, length, vec_len, IfOk, IfErr, OnOk};
+ghost use Rattle.std.specs.Io.KnownBytes.{Appends, Consumes};
+ghost use Rattle.std.specs.Int.{from_be_bytes, to_be_bytes, w32};
 ghost use Rattle.gb_session.specs.Streams.{framed};
 
 use crate::fault::ClientFault;
 use gb_session::grammar::BODY;
 use std::alloc::Global;
-use std::io::{Read, Write};
+use std::io::{Error, ErrorKind, Read, Write};
 
 /// The bytes of the longest reply that is taken. A log of 16 entries has fewer, each with a payload of 4,096 bytes in two digits.
 pub const REPLY: u32 = 262_144;
 
-/// Writes a message.
+// Why a message was not carried: the time for it passed, or the connection failed.
+fn fault_of(error: &Error) -> ClientFault
+    ensures { (result ≡ ClientFault.Late) ⊎ (result ≡ ClientFault.Lost) }
+{
+    match error.kind() {
+        ErrorKind::TimedOut | ErrorKind::WouldBlock => ClientFault::Late,
+        _ => ClientFault::Lost,
+    }
+}
+
+// Writes bytes.
+fn put<W: Write>(writer: &mut W, bytes: &[u8]) -> Result<(), ClientFault>
+    ensures ok { OnOk result (Appends (W.contents writer.old) (W.contents writer.new) bytes.now) }
+    ensures err { IfErr result (λ why. (why ≡ ClientFault.Late) ⊎ (why ≡ ClientFault.Lost)) }
+{
+    match writer.write_all(bytes) {
+        Ok(()) => Ok(()),
+        Err(error) => Err(fault_of(&error)),
+    }
+}
+
+// Reads bytes into a space, which they fill.
+fn fill<R: Read>(reader: &mut R, space: &mut [u8]) -> Result<(), ClientFault>
+    ensures ok { OnOk result (Consumes (R.remaining reader.old) (R.remaining reader.new) space.new) }
+    ensures err { IfErr result (λ why. (why ≡ ClientFault.Late) ⊎ (why ≡ ClientFault.Lost)) }
+{
+    match reader.read_exact(space) {
+        Ok(()) => Ok(()),
+        Err(error) => Err(fault_of(&error)),
+    }
+}
+
+/// Writes a message. `Late`: the time for it passed; `Lost`: the connection failed.
 pub fn send<W: Write>(writer: &mut W, body: &[u8]) -> Result<(), ClientFault>
     requires { length body.now ≤ BODY }
     ensures ok { OnOk result (Appends (W.contents writer.old) (W.contents writer.new) (framed body.now)) }
-    ensures err { IfErr result (λ why. why ≡ ClientFault.Connection) }
+    ensures err { IfErr result (λ why. (why ≡ ClientFault.Late) ⊎ (why ≡ ClientFault.Lost)) }
 {
     let length = (body.len() as u32).to_be_bytes();
-    if writer.write_all(&length).is_err()
-        || writer.write_all(body).is_err()
-        || writer.flush().is_err()
-    {
-        return Err(ClientFault::Connection);
+    put(writer, &length)?;
+    put(writer, body)?;
+    match writer.flush() {
+        Ok(()) => Ok(()),
+        Err(error) => Err(fault_of(&error)),
     }
-    Ok(())
 }
 
-/// Reads a message.
-pub fn receive<R: Read>(alloc: Global, reader: &mut R) -> Result<Vec<u8>, ClientFault> {
+// The number that four bytes are.
+fn number_of(head: &[u8]) -> u32
+    requires { length head.now ≡ 4 }
+    ensures { result ≡ from_be_bytes w32 (take 4 head.now) }
+{
+    match head {
+        [first, second, third, fourth, ..] => {
+            u32::from_be_bytes([*first, *second, *third, *fourth])
+        }
+        _ => 0,
+    }
+}
+
+// The number that four bytes are.
+fn length_of(head: &[u8]) -> u32
+    requires { length head.now ≡ 4 }
+    ensures { to_be_bytes w32 result ≡ head.now }
+{
+    number_of(head)
+}
+
+// Reads the length of a message.
+fn receive_length<R: Read>(reader: &mut R) -> Result<u32, ClientFault>
+    ensures { IfOk result (λ length. Consumes (R.remaining reader.old) (R.remaining reader.new) (to_be_bytes w32 length)) }
+{
     let mut head = [0u8; 4];
-    if reader.read_exact(&mut head).is_err() {
-        return Err(ClientFault::Connection);
-    }
-    let length = u32::from_be_bytes(head);
-    if length > REPLY {
-        return Err(ClientFault::Connection);
-    }
+    fill(reader, &mut head)?;
+    Ok(length_of(&head))
+}
+
+// Reads a body of `length` bytes.
+fn receive_body<R: Read>(alloc: Global, reader: &mut R, length: u32) -> Result<Vec<u8>, ClientFault>
+    ensures bytes { IfOk result (λ body. Consumes (R.remaining reader.old) (R.remaining reader.new) body.items) }
+    ensures len { IfOk result (λ body. vec_len body ≡ length) }
+{
     let mut body = vec![in alloc; 0u8; length as usize]?;
-    if reader.read_exact(&mut body).is_err() {
-        return Err(ClientFault::Connection);
+    fill(reader, &mut body)?;
+    Ok(body)
+}
+
+/// Reads a message, of at most `REPLY` bytes. `Late`: the time for it passed; `Lost`: the connection failed or ended; `NoReply`: it is
+/// longer.
+pub fn receive<R: Read>(alloc: Global, reader: &mut R) -> Result<Vec<u8>, ClientFault>
+    ensures ok { IfOk result (λ body. Consumes (R.remaining reader.old) (R.remaining reader.new) (framed body.items)) }
+    ensures short { IfOk result (λ body. vec_len body ≤ REPLY) }
+{
+    let length = receive_length(reader)?;
+    if length > REPLY {
+        return Err(ClientFault::NoReply);
     }
+    let body = receive_body(alloc, reader, length)?;
     Ok(body)
 }

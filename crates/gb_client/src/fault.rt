@@ -6,7 +6,7 @@ use gb_types::memory::OutOfMemory;
 use std::alloc::{AllocError, AllocFailed};
 use thiserror::Error;
 
-/// Why nothing was asked, or no reply came.
+/// Why nothing was asked, or no reply came, or none was shown.
 #[derive(Clone, Copy, Debug, PartialEq, Eq, Error)]
 pub enum ClientFault {
     /// The words behind the subcommand spell no request, or no token can be made of them.
@@ -18,24 +18,38 @@ pub enum ClientFault {
     /// A key or token that is needed is not among the secrets.
     #[error("a key that is needed is not among the secrets")]
     Missing,
-    /// The connection failed, or what came is no reply.
-    #[error("the connection failed")]
+    /// There is no connection to the node, so nothing was asked.
+    #[error("no connection to the node, nothing was asked")]
     Connection,
+    /// The connection failed or ended before the reply was there, so the outcome is unknown.
+    #[error("the connection ended before the reply, so the outcome is unknown: fetch before you ask again")]
+    Lost,
+    /// The reply was not there in time, so the outcome is unknown.
+    #[error("no reply in time, so the outcome is unknown: fetch before you ask again")]
+    Late,
+    /// What came is no reply to what was asked.
+    #[error("what came is no reply to what was asked")]
+    NoReply,
+    /// What there was to print could not be written.
+    #[error("standard output could not be written")]
+    Output,
     /// A request for memory was refused.
     #[error("out of memory")]
     OutOfMemory,
 }
 
-/// The exit status for a fault. 2: wrong words or secrets; 3: a connection that failed, or want of memory.
+/// The exit status for a fault. 2: wrong words or secrets; 3: no connection, no reply to what was asked, nothing printed, or out of
+/// memory; 4: it was asked, and the outcome is unknown.
 pub fn fault_status(fault: ClientFault) -> u8
     ensures { result ≡ status_of_fault fault }
 {
     match fault {
-        ClientFault::Words => 2,
-        ClientFault::Secrets => 2,
-        ClientFault::Missing => 2,
-        ClientFault::Connection => 3,
-        ClientFault::OutOfMemory => 3,
+        ClientFault::Words | ClientFault::Secrets | ClientFault::Missing => 2,
+        ClientFault::Connection
+        | ClientFault::NoReply
+        | ClientFault::Output
+        | ClientFault::OutOfMemory => 3,
+        ClientFault::Lost | ClientFault::Late => 4,
     }
 }
 

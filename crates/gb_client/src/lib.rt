@@ -6,9 +6,11 @@
 
 pub mod answer;
 pub mod awaiting;
+pub mod blame;
 pub mod exchange;
 pub mod fault;
 pub mod need;
+pub mod operating;
 pub mod request;
 pub mod secrets;
 pub mod show;

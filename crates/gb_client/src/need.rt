@@ -6,7 +6,7 @@ ghost use Rattle.gb_client.specs.Requests.{NeedsTenant, NeedsMember, Needs};
 use gb_cap::token::Need;
 use gb_session::head::Head;
 use gb_types::node::NodeId;
-use gb_types::request_words::read_u16;
+use gb_types::request_words::{read_address, read_u16};
 
 // Words that begin with a tenant.
 fn tenant_need(words: &[&[u8]]) -> Option<Need>
@@ -26,9 +26,8 @@ fn member_need(node: NodeId, words: &[&[u8]]) -> Option<Need>
     let [tenant, group, ..] = words else {
         return None;
     };
-    let tenant = read_u16(tenant)?;
-    let group = read_u16(group)?;
-    Some(Need::Member(tenant, group, node))
+    let address = read_address(tenant, group)?;
+    Some(Need::Member(address.tenant, address.group, node))
 }
 
 /// What the token of a request with this head and these words behind the token is asked for, at this node. None where the

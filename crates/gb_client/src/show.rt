@@ -1,13 +1,19 @@
 //! Replies and tokens as people read them.
-ghost use Rattle.std.specs.Prelude.{◌≡◌, ◌++◌, [], ◌∷◌, IfOk};
+ghost use Rattle.std.specs.Prelude.{◌≡◌, ◌++◌, [], ◌∷◌, false, IfOk, OnOk};
 ghost use Rattle.hex.specs.Hex.{encode_lower};
+ghost use Rattle.gb_types.specs.PayloadWord.{payload_word};
+ghost use Rattle.gb_types.specs.ReplyText.{entry_text, reply_spelling};
+ghost use Rattle.gb_client.specs.Answers.{lines_of};
 
+use gb_types::entry::Entry;
 use gb_types::memory::OutOfMemory;
-use gb_types::payload_word::read_payload;
-use gb_types::words::split_words;
+use gb_types::number::put_number;
+use gb_types::payload_word::put_payload;
+use gb_types::reply::Reply;
+use gb_types::reply_text::put_reply;
 use std::alloc::Global;
 
-// Whether some bytes are text without control characters.
+// Whether some bytes are text without control characters, so that a terminal takes none of them as a command.
 fn is_plain(bytes: &[u8]) -> bool {
     match str::from_utf8(bytes) {
         Ok(text) => text.chars().all(|c| !c.is_control()),
@@ -15,70 +21,73 @@ fn is_plain(bytes: &[u8]) -> bool {
     }
 }
 
-// Appends a payload's word as text in quotes, where it is text; else as it is.
-fn put_text(alloc: Global, out: &mut Vec<u8>, word: &[u8]) -> Result<(), OutOfMemory> {
-    match read_payload(alloc, word)? {
-        Some(payload) if is_plain(payload.as_slice()) => {
-            out.extend_from_slice(b"\"")?;
-            out.extend_from_slice(payload.as_slice())?;
-            out.extend_from_slice(b"\"")?;
-        }
-        _ => out.extend_from_slice(word)?,
+// Appends a payload: in quotes, where it is to be text and is; else in digits.
+fn put_shown(out: &mut Vec<u8>, payload: &[u8], is_text: bool) -> Result<(), OutOfMemory>
+    ensures { is_text ≡ false → OnOk result (out.new.items ≡ out.old.items ++ payload_word payload.now) }
+{
+    if !is_text || !is_plain(payload) {
+        return put_payload(out, payload);
     }
+    out.extend_from_slice(b"\"")?;
+    out.extend_from_slice(payload)?;
+    out.extend_from_slice(b"\"")?;
     Ok(())
 }
 
-// Appends a word of a log, `ORIGIN:SEQ:PAYLOAD`, with its payload as text.
-fn put_entry(alloc: Global, out: &mut Vec<u8>, word: &[u8]) -> Result<(), OutOfMemory> {
-    match word.iter().rposition(|byte| *byte == b':') {
-        Some(colon) => {
-            out.extend_from_slice(&word[..colon + 1])?;
-            put_text(alloc, out, &word[colon + 1..])
-        }
-        None => {
-            out.extend_from_slice(word)?;
-            Ok(())
-        }
-    }
+// Appends an entry in a line of its own.
+fn put_entry(out: &mut Vec<u8>, entry: &Entry, is_text: bool) -> Result<(), OutOfMemory>
+    ensures { is_text ≡ false → OnOk result (out.new.items ≡ out.old.items ++ (entry_text entry.now ++ 10 ∷ [])) }
+{
+    put_number(out, u64::from(entry.origin.number))?;
+    out.push(b':')?;
+    put_number(out, u64::from(entry.seq))?;
+    out.push(b':')?;
+    put_shown(out, entry.payload.as_slice(), is_text)?;
+    out.push(b'\n')?;
+    Ok(())
 }
 
-/// The entries of a log's text, each on a line of its own with its line feed; with payloads as text, where that is asked:
+/// The entries of a log, each on a line of its own with its line feed; with payloads as text, where that is asked:
 /// in quotes where they are UTF-8 without control characters, else in hexadecimal digits.
-pub fn entry_lines(alloc: Global, reply: &[u8], is_text: bool) -> Result<Vec<u8>, OutOfMemory> {
-    let words = split_words(alloc, reply)?;
+pub fn entry_lines(alloc: Global, entries: &[Entry], is_text: bool) -> Result<Vec<u8>, OutOfMemory>
+    ensures { is_text ≡ false → IfOk result (λ lines. lines.items ≡ lines_of entries.now) }
+{
     let mut out = Vec::new(alloc);
-    let [_, _, entries @ ..] = words.as_slice() else {
-        return Ok(out);
-    };
     for entry in entries {
-        if is_text {
-            put_entry(alloc, &mut out, entry)?;
-        } else {
-            out.extend_from_slice(entry)?;
-        }
-        out.extend_from_slice(b"\n")?;
+        put_entry(&mut out, entry, is_text)?;
     }
+    Ok(out)
+}
+
+// The text of a reply, with a line feed.
+fn plain_line(alloc: Global, reply: &Reply) -> Result<Vec<u8>, OutOfMemory>
+    ensures { IfOk result (λ line. line.items ≡ reply_spelling reply.now ++ 10 ∷ []) }
+{
+    let mut out = Vec::new(alloc);
+    put_reply(&mut out, reply)?;
+    out.push(b'\n')?;
+    Ok(out)
+}
+
+// How many entries a log has, and each in a line of its own, with payloads as text.
+fn log_lines(alloc: Global, entries: &[Entry]) -> Result<Vec<u8>, OutOfMemory> {
+    let mut out = Vec::from_slice(alloc, b"log ")?;
+    put_number(&mut out, entries.len() as u64)?;
+    out.push(b'\n')?;
+    let lines = entry_lines(alloc, entries, true)?;
+    out.extend_from_slice(&lines)?;
     Ok(out)
 }
 
 /// The text of a reply, with a line feed. With payloads as text, where that is asked, a log has each entry on a line of its
 /// own.
-pub fn reply_lines(alloc: Global, reply: &[u8], is_text: bool) -> Result<Vec<u8>, OutOfMemory> {
-    let mut out = Vec::new(alloc);
-    if !is_text || !reply.starts_with(b"log ") {
-        out.extend_from_slice(reply)?;
-        out.extend_from_slice(b"\n")?;
-        return Ok(out);
+pub fn reply_lines(alloc: Global, reply: &Reply, is_text: bool) -> Result<Vec<u8>, OutOfMemory>
+    ensures { is_text ≡ false → IfOk result (λ line. line.items ≡ reply_spelling reply.now ++ 10 ∷ []) }
+{
+    match reply {
+        Reply::Log(entries) if is_text => log_lines(alloc, entries.as_slice()),
+        _ => plain_line(alloc, reply),
     }
-    let count = reply[4..]
-        .iter()
-        .position(|byte| *byte == b' ')
-        .unwrap_or(reply.len() - 4);
-    out.extend_from_slice(&reply[..4 + count])?;
-    out.extend_from_slice(b"\n")?;
-    let entries = entry_lines(alloc, reply, true)?;
-    out.extend_from_slice(&entries)?;
-    Ok(out)
 }
 
 /// A token in a line: its digits in lower case, and a line feed.

@@ -1,6 +1,8 @@
 //! What a client is told to do, and the requests of it.
-ghost use Rattle.std.specs.Prelude.{◌≤◌, ℕ, List, map, vec_len, IfOk};
-ghost use Rattle.gb_client.specs.Asking.{Asks};
+ghost use Rattle.std.specs.Prelude.{◌≡◌, ◌≤◌, ◌<◌, ◌+◌, ℕ, List, [], ◌∷◌, Some, codes, decimal, map, vec_len, IfOk, IfSome, IfNone};
+ghost use Rattle.hex.specs.Hex.{encode_lower};
+ghost use Rattle.gb_types.specs.PayloadWord.{payload_word};
+ghost use Rattle.gb_client.specs.Asking.{Asks, IsAsked, with_key, with_payload, words_told};
 ghost use Rattle.gb_session.specs.declared.grammar.TheConstants.{BODY};
 ghost use Rattle.gb_session.specs.declared.head.Head.{Head};
 
@@ -24,15 +26,65 @@ pub struct Asked<'a> {
     pub is_text: bool,
 }
 
+/// Which server is asked.
+#[derive(Clone, Copy)]
+pub struct Server {
+    /// Its base port, up to 65,000.
+    pub port: u16,
+    /// How many seconds a reply may take.
+    pub wait: u32,
+    ghost bounded: { port ≤ 65000 },
+}
+
+impl Server {
+    /// The server with this base port, where it may be one: up to 65,000.
+    pub fn new(port: u16, wait: u32) -> Option<Server>
+        ensures some { IfSome result (λ server. (server.port ≡ port) × (server.wait ≡ wait)) }
+        ensures none { IfNone result (65000 < port) }
+    {
+        if port <= 65_000 {
+            Some(Server { port, wait })
+        } else {
+            None
+        }
+    }
+
+    /// The port of a node's sessions: 64 above that of its packets.
+    pub fn sessions_port(&self, node: NodeId) -> u16
+        ensures { result ≡ self.now.port + 64 + node.number }
+    {
+        self.port + 64 + u16::from(node.number)
+    }
+}
+
+/// What a client is to do at a server.
+#[derive(Drop)]
+pub enum Errand<'a> {
+    /// Make one request at a node.
+    Ask(NodeId, Asked<'a>),
+    /// Fetch what comes into a group's log at a node, from a place on; without end, or at most this number of times.
+    Follow(NodeId, Asked<'a>, u32, Option<u32>),
+    /// Make a group by these words at the nodes, and then open it at them.
+    Group(Vec<NodeId>, Asked<'a>),
+    /// Drop a group at the nodes.
+    Drop(Vec<NodeId>, Asked<'a>),
+    /// Compare what a group was made with at the nodes.
+    Check(Vec<NodeId>, u16, u16),
+    /// Print the figures of a node.
+    Status(NodeId),
+    /// Print the groups that were made at a node.
+    List(NodeId),
+    /// End the server, by asking a node.
+    Shutdown(NodeId),
+}
+
 /// What a client is told to do.
 #[derive(Drop)]
 pub enum Task<'a> {
     /// Print the token for this need.
     Token(Need),
-    /// Make one request.
-    Ask(Asked<'a>),
-    /// Fetch what comes into a group's log, from a place on, so many times at most.
-    Follow(Asked<'a>, u32, u32),
+    /// Ask a server.
+    At(Server, Errand<'a>),
 }
 
 /// The request with this head and these words at a node, with the token that the secrets have for it.
@@ -60,7 +112,8 @@ fn ask_tenant(
     node: NodeId,
     words: &[&[u8]],
 ) -> Result<Vec<u8>, ClientFault>
-    ensures asked { IfOk result (λ body. (told : List (List ℕ)) × Asks secrets.now node Head.Tenant told body.items) }
+    ensures asked { IfOk result (λ body. IsAsked secrets.now node Head.Tenant
+        (with_key secrets.now.tenant (map (λ word. word.now) words.now)) body.items) }
     ensures short { IfOk result (λ body. vec_len body ≤ BODY) }
 {
     let [tenant, rest @ ..] = words else {
@@ -84,7 +137,8 @@ fn ask_text(
     node: NodeId,
     words: &[&[u8]],
 ) -> Result<Vec<u8>, ClientFault>
-    ensures asked { IfOk result (λ body. (told : List (List ℕ)) × Asks secrets.now node Head.Say told body.items) }
+    ensures asked { IfOk result (λ body. IsAsked secrets.now node Head.Say
+        (with_payload (map (λ word. word.now) words.now)) body.items) }
     ensures short { IfOk result (λ body. vec_len body ≤ BODY) }
 {
     let [tenant, group, text, seq @ ..] = words else {
@@ -100,6 +154,17 @@ fn ask_text(
     ask(alloc, secrets, node, Head::Say, &told)
 }
 
+// Words, as bytes.
+fn bytes_of<'a>(alloc: Global, words: &[&'a str]) -> Result<Vec<&'a [u8]>, ClientFault>
+    ensures { IfOk result (λ bytes. map (λ word. word.now) bytes.items ≡ map (λ word. word.now) words.now) }
+{
+    let mut bytes: Vec<&[u8]> = Vec::new(alloc);
+    for word in words {
+        bytes.push(word.as_bytes())?;
+    }
+    Ok(bytes)
+}
+
 /// The body of the request that is told: with the key of a new tenant, and with a payload that is text in digits.
 pub fn request_of(
     alloc: Global,
@@ -107,13 +172,11 @@ pub fn request_of(
     node: NodeId,
     asked: &Asked<'_>,
 ) -> Result<Vec<u8>, ClientFault>
-    ensures asked { IfOk result (λ body. (told : List (List ℕ)) × Asks secrets.now node asked.now.head told body.items) }
+    ensures asked { IfOk result (λ body. IsAsked secrets.now node asked.now.head
+        (words_told secrets.now asked.now.head asked.now.is_text (map (λ word. word.now) asked.now.words.items)) body.items) }
     ensures short { IfOk result (λ body. vec_len body ≤ BODY) }
 {
-    let mut words: Vec<&[u8]> = Vec::new(alloc);
-    for word in asked.words.as_slice() {
-        words.push(word.as_bytes())?;
-    }
+    let words = bytes_of(alloc, asked.words.as_slice())?;
     match asked.head {
         Head::Tenant => ask_tenant(alloc, secrets, node, &words),
         Head::Say if asked.is_text => ask_text(alloc, secrets, node, &words),
@@ -129,7 +192,9 @@ pub fn fetch_of(
     asked: &Asked<'_>,
     from: u32,
 ) -> Result<Vec<u8>, ClientFault>
-    ensures asked { IfOk result (λ body. (told : List (List ℕ)) × Asks secrets.now node Head.Fetch told body.items) }
+    ensures asked { IfOk result (λ body. (tenant : List ℕ) × (group : List ℕ)
+        × (map (λ word. word.now) asked.now.words.items ≡ tenant ∷ group ∷ [])
+        × Asks secrets.now node Head.Fetch (tenant ∷ group ∷ decimal from ∷ codes "16" ∷ []) body.items) }
     ensures short { IfOk result (λ body. vec_len body ≤ BODY) }
 {
     let [tenant, group] = asked.words.as_slice() else {

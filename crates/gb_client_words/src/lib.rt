@@ -2,4 +2,5 @@
 //! what comes of it, is gb_client's. Read `words::plan_of` first.
 #![tactic(auto)]
 
+pub mod fault;
 pub mod words;

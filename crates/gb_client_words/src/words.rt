@@ -1,35 +1,23 @@
 //! The words of the command line.
-ghost use Rattle.std.specs.Prelude.{◌≡◌, ◌+◌, ◌≤◌};
-
+use crate::fault::PlanFault;
 use clap::builder::ValueParser;
 use clap::{Arg, ArgAction, ArgMatches, Command};
 use gb_cap::token::Need;
-use gb_client::task::{Asked, Task};
+use gb_client::task::{Asked, Errand, Server, Task};
 use gb_session::head::Head;
 use gb_types::limits::NODES;
+use gb_types::members_word::read_members;
 use gb_types::node::NodeId;
 use gb_types::request_words::{read_u16, read_u32};
+use gb_version::VERSION;
 use std::alloc::{AllocError, Global};
 
 /// What the words of a command line ask for.
 #[derive(Drop)]
 pub struct Plan<'a> {
-    /// The server's base port.
-    pub port: u16,
-    /// The node that is asked.
-    pub node: NodeId,
     /// The file with the secrets. None: they come from standard input.
     pub secrets: Option<&'a str>,
     pub task: Task<'a>,
-}
-
-impl Plan<'_> {
-    /// The port of the node's sessions.
-    pub fn sessions_port(&self) -> u16
-        ensures { self.now.port ≤ 65000 → result ≡ self.now.port + 64 + self.now.node.number }
-    {
-        self.port.saturating_add(64 + u16::from(self.node.number))
-    }
 }
 
 // How an argument is given.
@@ -42,9 +30,9 @@ enum Form {
     Flag,
     // `--NAME VALUE`, which may be left out, with the name of its value.
     Named(&'static str),
-    // The same, with the value that stands for one that is left out.
-    Defaulted(&'static str, &'static str),
-    // `--NAME VALUE`, which is required, with the name of its value and the least and the most number.
+    // The same, which must be there.
+    Required(&'static str),
+    // `--NAME VALUE`, which may be left out, with the name of its value and the least and the most number.
     Number(&'static str, i64, i64),
 }
 
@@ -159,14 +147,26 @@ const HOLDER_G: ArgWords = ArgWords {
 
 const FIRST: ArgWords = ArgWords {
     name: "from",
-    help: "the place of the first entry to print",
-    form: Form::Defaulted("FROM", "0"),
+    help: "the place of the first entry to print; 0 if not given",
+    form: Form::Number("FROM", 0, 4_294_967_295),
 };
 
 const TIMES: ArgWords = ArgWords {
     name: "times",
-    help: "wait for new entries so many times at most, up to 30 seconds each time",
-    form: Form::Defaulted("N", "1000"),
+    help: "wait for new entries at most N times, up to 30 seconds each time; without end if not given",
+    form: Form::Number("N", 0, 4_294_967_295),
+};
+
+const NODES_OF_GROUP: ArgWords = ArgWords {
+    name: "nodes",
+    help: "the nodes of the group's members, numbers from 0 to 31, rising, with commas: 0,1,2",
+    form: Form::Required("NODES"),
+};
+
+const NODES_TO_DROP: ArgWords = ArgWords {
+    name: "nodes",
+    help: "drop it at these nodes, and not at the one of --node: 0,1,2",
+    form: Form::Named("NODES"),
 };
 
 const PORT: ArgWords = ArgWords {
@@ -177,7 +177,7 @@ const PORT: ArgWords = ArgWords {
 
 const NODE: ArgWords = ArgWords {
     name: "node",
-    help: "the node to ask, 0 to 31",
+    help: "the node to ask, 0 to 31; for token the node of the member",
     form: Form::Number("I", 0, NODES as i64 - 1),
 };
 
@@ -187,8 +187,14 @@ const SECRETS: ArgWords = ArgWords {
     form: Form::Named("FILE"),
 };
 
+const WAIT: ArgWords = ArgWords {
+    name: "wait",
+    help: "how long a reply may take, 1 to 3600 seconds; 10 if not given. Then the status is 4",
+    form: Form::Number("SECONDS", 1, 3_600),
+};
+
 // The options that stand before the subcommand.
-static OPTIONS: &[ArgWords] = &[PORT, NODE, SECRETS];
+static OPTIONS: &[ArgWords] = &[PORT, NODE, SECRETS, WAIT];
 
 // What a subcommand asks for.
 #[derive(Clone, Copy)]
@@ -196,6 +202,12 @@ enum Purpose {
     Token,
     Ask(Head),
     Follow,
+    Group,
+    Drop,
+    Check,
+    Status,
+    List,
+    Shutdown,
 }
 
 // A subcommand: its name, what it asks for and what it does, and what stands behind it.
@@ -220,15 +232,27 @@ static SUBCOMMANDS: &[SubcommandWords] = &[
         args: &[T, GROUPS, MSGS, BYTES, WINDOW],
     },
     SubcommandWords {
+        name: "group",
+        purpose: Purpose::Group,
+        about: "Makes a group at all its members' nodes, and then opens it at them",
+        args: &[T, G, KIND, MSGS, BYTES, WINDOW, NODES_OF_GROUP],
+    },
+    SubcommandWords {
+        name: "check",
+        purpose: Purpose::Check,
+        about: "Compares what a group was made with at the nodes; takes the administrator's token",
+        args: &[T, G, NODES_OF_GROUP],
+    },
+    SubcommandWords {
         name: "make",
         purpose: Purpose::Ask(Head::Make),
-        about: "Makes a group at the node; each member's node makes it",
+        about: "Makes a group at the node alone; group does it at each member's node",
         args: &[T, G, KIND, MEMBERS, MSGS, BYTES, WINDOW],
     },
     SubcommandWords {
         name: "open",
         purpose: Purpose::Ask(Head::Open),
-        about: "Opens a group that was made, so that messages may be said",
+        about: "Opens a group that was made at the node, so that messages may be said there",
         args: &[T, G],
     },
     SubcommandWords {
@@ -239,9 +263,9 @@ static SUBCOMMANDS: &[SubcommandWords] = &[
     },
     SubcommandWords {
         name: "drop",
-        purpose: Purpose::Ask(Head::Drop),
-        about: "Drops a group at the node for good, with its log",
-        args: &[T, G],
+        purpose: Purpose::Drop,
+        about: "Drops a group for good, with its log: at the node, or at several",
+        args: &[T, G, NODES_TO_DROP],
     },
     SubcommandWords {
         name: "say",
@@ -261,6 +285,24 @@ static SUBCOMMANDS: &[SubcommandWords] = &[
         about: "Waits for what comes into a group's log, and prints its new entries",
         args: &[T, G, FIRST, TIMES, ENTRIES_AS_TEXT],
     },
+    SubcommandWords {
+        name: "status",
+        purpose: Purpose::Status,
+        about: "Prints the node's figures; takes the administrator's token",
+        args: &[],
+    },
+    SubcommandWords {
+        name: "list",
+        purpose: Purpose::List,
+        about: "Prints the groups that were made at the node, one a line; takes the administrator's token",
+        args: &[],
+    },
+    SubcommandWords {
+        name: "shutdown",
+        purpose: Purpose::Shutdown,
+        about: "Ends the server in order; takes the administrator's token",
+        args: &[],
+    },
 ];
 
 // An argument that is an option with a value.
@@ -277,13 +319,9 @@ fn arg_of<'a>(alloc: Global, words: &ArgWords) -> Arg<'a> {
         Form::OptionalWord => bare.action(ArgAction::Set),
         Form::Flag => bare.long(name).action(ArgAction::SetTrue),
         Form::Named(value_name) => with_value(bare, name, value_name),
-        Form::Defaulted(value_name, value) => {
-            with_value(bare, name, value_name).default_value(value)
-        }
+        Form::Required(value_name) => with_value(bare, name, value_name).required(true),
         Form::Number(value_name, least, most) => {
-            with_value(bare, name, value_name)
-                .required(true)
-                .value_parser(ValueParser::Signed(least, most))
+            with_value(bare, name, value_name).value_parser(ValueParser::Signed(least, most))
         }
     }
 }
@@ -324,19 +362,22 @@ fn with_subcommands<'a>(
 /// What the help says behind the options.
 static AFTER: &str =
     "Secrets are lines `admin KEY`, `tenant KEY` or `token TOKEN`, each with 64 hexadecimal digits. \
-The token of a request is the one that is given, or else is made of the key: of the administrator's for tenant, of the tenant's for all else.\n\n\
-A first group, with the keys in the file keys:\n  \
+The token of a request is the one that is given, or else is made of the key: of the administrator's for tenant, check, status, list and \
+shutdown, of the tenant's for all else.\n\n\
+A first group of two members, with the keys in the file keys:\n  \
 gb_ctl --port 42000 --node 0 --secrets keys tenant 7 4 8 4096 4\n  \
-gb_ctl --port 42000 --node 0 --secrets keys make 7 1 beb 0,1 8 4096 4\n  \
-gb_ctl --port 42000 --node 0 --secrets keys open 7 1\n  \
+gb_ctl --port 42000 --node 1 --secrets keys tenant 7 4 8 4096 4\n  \
+gb_ctl --port 42000 --secrets keys group --nodes 0,1 7 1 beb 8 4096 4\n  \
 gb_ctl --port 42000 --node 0 --secrets keys say 7 1 hello --text\n  \
-gb_ctl --port 42000 --node 0 --secrets keys fetch 7 1 0 16 --text\n\n\
-Exit status: 0 for a reply that is no refusal, 1 for a refusal, 2 for wrong words or secrets, 3 for a connection that failed.";
+gb_ctl --port 42000 --node 1 --secrets keys fetch 7 1 0 16 --text\n\n\
+Exit status: 0 for a reply that is no refusal, 1 for a refusal, 2 for wrong words or secrets, 3 where there is no connection or no such \
+reply, 4 where a reply is not there in time or the connection ended before it: the outcome is unknown, so fetch first.";
 
 /// The command line.
 pub fn command<'a>(alloc: Global) -> Result<Command<'a>, AllocError> {
     let bare = Command::new(alloc, "gb_ctl")
-        .about("Asks a node of a group broadcast server, and prints its reply")
+        .version(VERSION)
+        .about("Asks the nodes of a group broadcast server, and prints what they reply")
         .after_help(AFTER)
         .subcommand_required(true);
     let command = with_args(alloc, bare, OPTIONS)?;
@@ -374,25 +415,41 @@ fn given<'a>(
 }
 
 // What a token is asked for.
-fn need<'a>(node: NodeId, matches: &ArgMatches<'a>) -> Option<Need> {
-    let need = matches.get_str("NEED")?;
+fn need<'a>(node: Option<NodeId>, matches: &ArgMatches<'a>) -> Result<Need, PlanFault> {
+    let need = matches.get_str("NEED").ok_or(PlanFault::Need)?;
     let tenant = matches.get_str("T");
     let group = matches.get_str("G");
-    match need {
-        "admin" if tenant.is_none() && group.is_none() => Some(Need::Admin),
-        "tenant" if group.is_none() => Some(Need::Tenant(read_u16(tenant?.as_bytes())?)),
-        "member" => {
-            let tenant = read_u16(tenant?.as_bytes())?;
-            let group = read_u16(group?.as_bytes())?;
-            Some(Need::Member(tenant, group, node))
+    match (need, tenant, group) {
+        ("admin", None, None) => Ok(Need::Admin),
+        ("tenant", Some(tenant), None) => {
+            let tenant = read_u16(tenant.as_bytes()).ok_or(PlanFault::Tenant)?;
+            Ok(Need::Tenant(tenant))
         }
-        _ => None,
+        ("member", Some(tenant), Some(group)) => {
+            let tenant = read_u16(tenant.as_bytes()).ok_or(PlanFault::Tenant)?;
+            let group = read_u16(group.as_bytes()).ok_or(PlanFault::Group)?;
+            Ok(Need::Member(tenant, group, node.ok_or(PlanFault::NoNode)?))
+        }
+        _ => Err(PlanFault::Need),
     }
 }
 
-// A number of an option.
+// A number of an option, where that was given.
 fn number<'a>(matches: &ArgMatches<'a>, id: &str) -> Option<u32> {
     read_u32(matches.get_str(id)?.as_bytes())
+}
+
+// The nodes of an option. None where it was not given.
+fn nodes<'a>(alloc: Global, matches: &ArgMatches<'a>) -> Result<Option<Vec<NodeId>>, PlanFault> {
+    let Some(word) = matches.get_str("nodes") else {
+        return Ok(None);
+    };
+    let members = read_members(word.as_bytes()).ok_or(PlanFault::Nodes)?;
+    let mut found = Vec::new(alloc);
+    for node in members.nodes() {
+        found.push(node)?;
+    }
+    Ok(Some(found))
 }
 
 // What is asked of a node, with the words that were given.
@@ -401,7 +458,7 @@ fn asked<'a>(
     head: Head,
     matches: &ArgMatches<'a>,
     args: &[ArgWords],
-) -> Result<Asked<'a>, AllocError> {
+) -> Result<Asked<'a>, PlanFault> {
     let is_text = matches.get_flag("text");
     let words = given(alloc, matches, args)?;
     Ok(Asked {
@@ -411,69 +468,113 @@ fn asked<'a>(
     })
 }
 
-// A log to follow. None where the options are no numbers.
-fn follow_task<'a>(
+// A group to make at nodes: the words of `make`, with the nodes as its members.
+fn group_task<'a>(
     alloc: Global,
     matches: &ArgMatches<'a>,
     args: &[ArgWords],
-) -> Result<Option<Task<'a>>, AllocError> {
-    let from = number(matches, "from");
-    let times = number(matches, "times");
-    let (Some(from), Some(times)) = (from, times) else {
-        return Ok(None);
+) -> Result<Errand<'a>, PlanFault> {
+    let (Some(nodes), Some(members)) = (nodes(alloc, matches)?, matches.get_str("nodes")) else {
+        return Err(PlanFault::Nodes);
     };
-    let asked = asked(alloc, Head::Fetch, matches, args)?;
-    Ok(Some(Task::Follow(asked, from, times)))
+    let given = given(alloc, matches, args)?;
+    let mut words = Vec::new(alloc);
+    for (place, word) in given.iter().enumerate() {
+        if place == 3 {
+            words.push(members)?;
+        }
+        words.push(*word)?;
+    }
+    let asked = Asked {
+        head: Head::Make,
+        words,
+        is_text: false,
+    };
+    Ok(Errand::Group(nodes, asked))
 }
 
-// What a subcommand asks for. None where its words do not spell it.
-fn task<'a>(
+// A group to drop: at nodes, or at one.
+fn drop_task<'a>(
     alloc: Global,
-    node: NodeId,
-    subcommand: &SubcommandWords,
+    node: Option<NodeId>,
     matches: &ArgMatches<'a>,
-) -> Result<Option<Task<'a>>, AllocError> {
-    match subcommand.purpose {
-        Purpose::Token => match need(node, matches) {
-            Some(need) => Ok(Some(Task::Token(need))),
-            None => Ok(None),
-        },
-        Purpose::Ask(head) => {
-            let asked = asked(alloc, head, matches, subcommand.args)?;
-            Ok(Some(Task::Ask(asked)))
-        }
-        Purpose::Follow => follow_task(alloc, matches, subcommand.args),
+    args: &[ArgWords],
+) -> Result<Errand<'a>, PlanFault> {
+    let asked = asked(alloc, Head::Drop, matches, args)?;
+    match nodes(alloc, matches)? {
+        Some(nodes) => Ok(Errand::Drop(nodes, asked)),
+        None => Ok(Errand::Ask(node.ok_or(PlanFault::NoNode)?, asked)),
     }
 }
 
-/// What the words of a command line ask for, where clap took them. None where the words behind the subcommand do not
-/// spell it.
-pub fn plan_of<'a>(
+// A group to compare at nodes.
+fn check_task<'a>(alloc: Global, matches: &ArgMatches<'a>) -> Result<Errand<'a>, PlanFault> {
+    let nodes = nodes(alloc, matches)?.ok_or(PlanFault::Nodes)?;
+    let tenant = matches.get_str("T").ok_or(PlanFault::Tenant)?;
+    let group = matches.get_str("G").ok_or(PlanFault::Group)?;
+    let tenant = read_u16(tenant.as_bytes()).ok_or(PlanFault::Tenant)?;
+    let group = read_u16(group.as_bytes()).ok_or(PlanFault::Group)?;
+    Ok(Errand::Check(nodes, tenant, group))
+}
+
+// What a subcommand asks of a server.
+fn errand<'a>(
+    alloc: Global,
+    node: Option<NodeId>,
+    subcommand: &SubcommandWords,
+    matches: &ArgMatches<'a>,
+) -> Result<Errand<'a>, PlanFault> {
+    match subcommand.purpose {
+        Purpose::Group => return group_task(alloc, matches, subcommand.args),
+        Purpose::Drop => return drop_task(alloc, node, matches, subcommand.args),
+        Purpose::Check => return check_task(alloc, matches),
+        _ => {}
+    }
+    let node = node.ok_or(PlanFault::NoNode)?;
+    Ok(match subcommand.purpose {
+        Purpose::Ask(head) => Errand::Ask(node, asked(alloc, head, matches, subcommand.args)?),
+        Purpose::Follow => {
+            let asked = asked(alloc, Head::Fetch, matches, subcommand.args)?;
+            let from = number(matches, "from").unwrap_or(0);
+            Errand::Follow(node, asked, from, number(matches, "times"))
+        }
+        Purpose::List => Errand::List(node),
+        Purpose::Shutdown => Errand::Shutdown(node),
+        _ => Errand::Status(node),
+    })
+}
+
+// What a subcommand asks for.
+fn task<'a>(
     alloc: Global,
     matches: &ArgMatches<'a>,
-) -> Result<Option<Plan<'a>>, AllocError> {
-    let (Some(port), Some(number)) = (
-        matches.get_one::<u16>("port"),
-        matches.get_one::<u8>("node"),
-    ) else {
-        return Ok(None);
+    subcommand: &SubcommandWords,
+    inner: &ArgMatches<'a>,
+) -> Result<Task<'a>, PlanFault> {
+    let node = match matches.get_one::<u8>("node") {
+        Some(number) => NodeId::from_number(number),
+        None => None,
     };
-    let Some(node) = NodeId::from_number(number) else {
-        return Ok(None);
-    };
-    let Some((name, inner)) = matches.subcommand() else {
-        return Ok(None);
-    };
-    let Some(subcommand) = subcommand_named(SUBCOMMANDS, name) else {
-        return Ok(None);
-    };
-    let Some(task) = task(alloc, node, subcommand, inner)? else {
-        return Ok(None);
-    };
-    Ok(Some(Plan {
-        port,
-        node,
+    if let Purpose::Token = subcommand.purpose {
+        return Ok(Task::Token(need(node, inner)?));
+    }
+    let port = matches.get_one::<u16>("port").ok_or(PlanFault::NoPort)?;
+    let wait = number(matches, "wait").unwrap_or(SECONDS);
+    let errand = errand(alloc, node, subcommand, inner)?;
+    let server = Server::new(port, wait).ok_or(PlanFault::NoPort)?;
+    Ok(Task::At(server, errand))
+}
+
+// How many seconds a reply may take, if not told.
+const SECONDS: u32 = 10;
+
+/// What the words of a command line ask for, where clap took them.
+pub fn plan_of<'a>(alloc: Global, matches: &ArgMatches<'a>) -> Result<Plan<'a>, PlanFault> {
+    let (name, inner) = matches.subcommand().ok_or(PlanFault::NoSubcommand)?;
+    let subcommand = subcommand_named(SUBCOMMANDS, name).ok_or(PlanFault::NoSubcommand)?;
+    let task = task(alloc, matches, subcommand, inner)?;
+    Ok(Plan {
         secrets: matches.get_str("secrets"),
         task,
-    }))
+    })
 }

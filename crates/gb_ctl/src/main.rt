@@ -1,31 +1,27 @@
-//! Asks a node of the service, and prints its reply.
+//! Asks the nodes of a server, and prints what they reply.
 #![tactic(auto)]
 
-ghost use Rattle.std.specs.Prelude.{◌≤◌, length};
-ghost use Rattle.gb_session.specs.declared.grammar.TheConstants.{BODY};
-
 use clap::error::ErrorKind;
-use gb_client::answer::{count_of, status_of};
-use gb_client::awaiting::await_text;
-use gb_client::exchange::{receive, send};
+use gb_client::blame::blame;
 use gb_client::fault::{ClientFault, fault_status};
 use gb_client::secrets::{Secrets, read_secrets};
-use gb_client::show::{entry_lines, reply_lines, token_line};
-use gb_client::task::{Asked, Task, fetch_of, request_of};
+use gb_client::show::token_line;
+use gb_client::task::{Asked, Errand, Server, Task};
+use gb_client_run::following::{WAIT, follow};
+use gb_client_run::obey::obey;
+use gb_client_run::printing::print;
+use gb_client_run::sockets::{Sockets, connect};
+use gb_client_run::target::Target;
+use gb_client_words::fault::plan_status;
 use gb_client_words::words::{Plan, command, plan_of};
 use std::alloc::Global;
 use std::fs::File;
 use std::io;
 use std::io::{Read, Write};
-use std::net::{Ipv4Addr, SocketAddr, SocketAddrV4, TcpStream};
 use std::process::ExitCode;
-use std::time::Duration;
 
 // The bytes of the longest text of secrets.
 const SECRETS: u64 = 65_536;
-
-// What lies between a node's UDP port and the port of its sessions.
-const SESSIONS: u16 = 64;
 
 // What may be read of the secrets.
 fn read_some<R: Read + Drop>(alloc: Global, reader: R) -> Result<Vec<u8>, ClientFault> {
@@ -52,100 +48,73 @@ fn secrets_of(rt: &HostRuntime, path: Option<&str>) -> Result<Secrets, ClientFau
     }
 }
 
-// How many milliseconds `follow` lets the node wait at most, and how many seconds a node may take for a reply beyond that.
-const WAIT: u32 = 30_000;
-
-const PATIENCE: u64 = 10;
-
-// A connection to a node, on which a reply may take this number of seconds.
-fn connect(rt: &HostRuntime, port: u16, seconds: u64) -> Result<TcpStream, ClientFault> {
-    let address = SocketAddr::V4(SocketAddrV4::new(Ipv4Addr::LOCALHOST, port));
-    let Ok(stream) = TcpStream::connect(rt, address) else {
-        return Err(ClientFault::Connection);
-    };
-    let wait = Some(Duration::from_secs(seconds));
-    if stream.set_nodelay(true).is_err() || stream.set_read_timeout(wait).is_err() {
-        return Err(ClientFault::Connection);
-    }
-    Ok(stream)
-}
-
-// The reply of a node to a message.
-fn ask(rt: &HostRuntime, stream: &mut TcpStream, body: &[u8]) -> Result<Vec<u8>, ClientFault>
-    requires { length body.now ≤ BODY }
-{
-    send(stream, body)?;
-    receive(rt.alloc(), stream)
-}
-
-// Writes to standard output. A reader that went away is told nothing.
-fn print(rt: &HostRuntime, text: &[u8]) {
+// Does what is to be done at a server. The exit status.
+fn go(
+    rt: &HostRuntime,
+    server: Server,
+    secrets: &Secrets,
+    errand: &Errand<'_>,
+) -> Result<u8, ClientFault> {
+    let alloc = rt.alloc();
     let mut writer = io::writer(rt);
-    let _ = writer.write_all(text);
-    let _ = writer.flush();
-}
-
-// Prints a reply. The exit status for it.
-fn print_reply(rt: &HostRuntime, reply: &[u8], is_text: bool) -> Result<u8, ClientFault> {
-    print(rt, &reply_lines(rt.alloc(), reply, is_text)?);
-    Ok(status_of(reply))
-}
-
-// Makes one request, and prints its reply.
-fn ask_once(
-    rt: &HostRuntime,
-    plan: &Plan<'_>,
-    secrets: &Secrets,
-    asked: &Asked<'_>,
-) -> Result<u8, ClientFault> {
-    let body = request_of(rt.alloc(), secrets, plan.node, asked)?;
-    let mut stream = connect(rt, plan.sessions_port(), PATIENCE)?;
-    let reply = ask(rt, &mut stream, &body)?;
-    print_reply(rt, &reply, asked.is_text)
-}
-
-// Waits for what comes into a log, on one connection, and prints its new entries.
-fn follow(
-    rt: &HostRuntime,
-    plan: &Plan<'_>,
-    secrets: &Secrets,
-    asked: &Asked<'_>,
-    from: u32,
-    times: u32,
-) -> Result<u8, ClientFault> {
-    let mut place = from;
-    let seconds = u64::from(WAIT) / 1_000 + PATIENCE;
-    let mut stream = connect(rt, plan.sessions_port(), seconds)?;
-    for _ in 0..times {
-        let fetch = fetch_of(rt.alloc(), secrets, plan.node, asked, place)?;
-        let body = await_text(rt.alloc(), &fetch, WAIT)?;
-        let reply = ask(rt, &mut stream, &body)?;
-        let Some(count) = count_of(rt.alloc(), &reply)? else {
-            return print_reply(rt, &reply, asked.is_text);
-        };
-        print(rt, &entry_lines(rt.alloc(), &reply, asked.is_text)?);
-        place = place.saturating_add(count);
+    let seconds = u64::from(server.wait);
+    if let Errand::Follow(node, asked, from, times) = errand {
+        let wait = u64::from(WAIT) / 1_000 + seconds;
+        let stream = connect(rt, server.sessions_port(*node), wait)?;
+        let (mut reader, mut sender) = (&stream, &stream);
+        return follow(
+            alloc,
+            &mut reader,
+            &mut sender,
+            secrets,
+            *node,
+            asked,
+            *from,
+            *times,
+            &mut writer,
+        );
     }
-    Ok(0)
+    let mut nodes = Sockets::new(rt, seconds);
+    let target = Target { server, secrets };
+    obey(alloc, &mut nodes, target, errand, &mut writer)
 }
 
 // Does what the plan says. The exit status.
-fn obey(rt: &HostRuntime, plan: &Plan<'_>) -> Result<u8, ClientFault> {
+fn obey_plan(rt: &HostRuntime, plan: &Plan<'_>) -> Result<u8, ClientFault> {
     let secrets = secrets_of(rt, plan.secrets)?;
     match &plan.task {
         Task::Token(need) => {
             let token = secrets.token_for(*need)?;
-            print(rt, &token_line(rt.alloc(), &token)?);
+            let line = token_line(rt.alloc(), &token)?;
+            print(&mut io::writer(rt), &line)?;
             Ok(0)
         }
-        Task::Ask(asked) => ask_once(rt, plan, &secrets, asked),
-        Task::Follow(asked, from, times) => follow(rt, plan, &secrets, asked, *from, *times),
+        Task::At(server, errand) => go(rt, *server, &secrets, errand),
     }
 }
 
-// Tells on standard error why nothing came of it. The exit status.
-fn complain(rt: &HostRuntime, fault: ClientFault) -> u8 {
-    let _ = writeln!(rt.stderr(), "gb_ctl: {fault}");
+// The request of a plan whose words may be wrong.
+fn asked_of<'a, 'b>(plan: &'a Plan<'b>) -> Option<&'a Asked<'b>> {
+    match &plan.task {
+        Task::At(_, Errand::Ask(_, asked)) => Some(asked),
+        Task::At(_, Errand::Follow(_, asked, _, _)) => Some(asked),
+        Task::At(_, Errand::Group(_, asked)) => Some(asked),
+        Task::At(_, Errand::Drop(_, asked)) => Some(asked),
+        _ => None,
+    }
+}
+
+// Tells on standard error why nothing came of a plan. The exit status.
+fn complain(rt: &HostRuntime, plan: &Plan<'_>, fault: ClientFault) -> u8 {
+    if let (ClientFault::Words, Some(asked)) = (fault, asked_of(plan)) {
+        if let Ok(text) = blame(rt.alloc(), asked) {
+            let _ = rt.stderr().write_all(b"gb_ctl: ");
+            let _ = rt.stderr().write_all(&text);
+            let _ = rt.stderr().write_all(b"\n");
+        }
+    } else {
+        let _ = writeln!(rt.stderr(), "gb_ctl: {fault}");
+    }
     fault_status(fault)
 }
 
@@ -157,15 +126,22 @@ fn run(rt: &HostRuntime, words: &[&str]) -> Result<u8, ClientFault> {
         Err(error) => {
             let _ = error.print(rt);
             return Ok(match error.kind() {
-                ErrorKind::DisplayHelp => 0,
+                ErrorKind::DisplayHelp | ErrorKind::DisplayVersion => 0,
                 ErrorKind::OutOfMemory => 3,
                 _ => 2,
             });
         }
     };
-    match plan_of(alloc, &matches)? {
-        Some(plan) => obey(rt, &plan),
-        None => Err(ClientFault::Words),
+    let plan = match plan_of(alloc, &matches) {
+        Ok(plan) => plan,
+        Err(fault) => {
+            let _ = writeln!(rt.stderr(), "gb_ctl: {fault}");
+            return Ok(plan_status(fault));
+        }
+    };
+    match obey_plan(rt, &plan) {
+        Ok(status) => Ok(status),
+        Err(fault) => Ok(complain(rt, &plan, fault)),
     }
 }
 
@@ -173,7 +149,10 @@ fn run(rt: &HostRuntime, words: &[&str]) -> Result<u8, ClientFault> {
 fn words_of(rt: &HostRuntime) -> Result<Vec<String>, ClientFault> {
     match std::env::args(rt) {
         Ok(words) => Ok(words.collect(rt.alloc())?),
-        Err(_) => Err(ClientFault::Words),
+        Err(error) => match error.kind() {
+            io::ErrorKind::OutOfMemory => Err(ClientFault::OutOfMemory),
+            _ => Err(ClientFault::Words),
+        },
     }
 }
 
@@ -187,11 +166,15 @@ fn answer(rt: &HostRuntime) -> Result<u8, ClientFault> {
     run(rt, &words)
 }
 
-/// Status 0: a reply that is no refusal, or help; 1: a refusal; 2: wrong words or secrets; 3: a connection that failed.
+/// Status 0: a reply that is no refusal, or help; 1: a refusal; 2: wrong words or secrets; 3: there is no connection, or no such reply;
+/// 4: no reply came, and the outcome is unknown.
 fn main(rt: HostRuntime) -> ExitCode {
     let status = match answer(&rt) {
         Ok(status) => status,
-        Err(fault) => complain(&rt, fault),
+        Err(fault) => {
+            let _ = writeln!(rt.stderr(), "gb_ctl: {fault}");
+            fault_status(fault)
+        }
     };
     ExitCode::from(status)
 }

@@ -3,7 +3,10 @@ use Rattle.std.proofs.Common.{◌≡◌, ℕ, ◌<◌, Bool, List, [], ◌∷◌
 use Rattle.std.proofs.lemmas.List.{append_assoc, append-nil, length-append}
 use Rattle.gb_types.specs.declared.reply.Reply.{Reply}
 use Rattle.gb_types.specs.declared.request.Request.{Request}
+use Rattle.gb_session.specs.Answering.{Answering}
 use Rattle.gb_session.specs.declared.ask.Ask.{Ask}
+use Rattle.gb_session.specs.declared.ask.Ask.TheVariants.{Now, Await, Operate}
+use Rattle.gb_session.specs.declared.operation.Operation.{Operation}
 use Rattle.gb_session.specs.declared.serve.SessionEnd.{SessionEnd}
 use Rattle.gb_session.specs.declared.serve.SessionEnd.TheVariants.{Finished, Cut, Malformed, Limit}
 use Rattle.gb_session.specs.declared.session.Next.{Next}
@@ -13,19 +16,32 @@ use Rattle.gb_session.specs.declared.session.Outcome.TheVariants.{Replied}
 use Rattle.gb_session.specs.declared.session.Step.TheVariants as steps
 use Rattle.gb_session.specs.SessionValue.{SessionValue}
 use Rattle.gb_session.specs.Runs.{IsRun, HasAsked, malformed_message}
-use Rattle.gb_session.specs.Settled.{Settles, answer_text, framed_all}
+use Rattle.gb_session.specs.Settled.{SettlesBy, Telling, Settles, answer_text, framed_all}
 use Rattle.gb_session.specs.Streams.{framed}
-use Rattle.gb_session.specs.Takes.{AnswersFront, IsWithin, StopsSo, Takes}
+use Rattle.gb_session.specs.Takes.{AnswersFront, IsWithin, StopsSo, Takes, BreaksOff}
 use Rattle.gb_session.specs.Nexts.{IsOutcome, IsNext, FailsNext, SettlesFront, behind}
-use Rattle.gb_session.proofs.RunLemmas.{IsRun-join}
 use Rattle.gb_session.proofs.SettleLemmas.{front_one}
 
-abbrev Answering : Type 0 → Type 1
-Answering S = S → Request → Reply → S → Type 0
+-- what is replied settles an ask
+by_reply : (tells : Telling) (late : Bool) (ask : Ask) (requests : List Request) (replies : List Reply) (label : Option ℕ) (reply : Reply) → SettlesBy late ask requests replies label reply
+    → Settles tells late ask requests replies (answer_text label reply)
+by_reply tells late (Now request) requests replies label reply here = (label, reply, here, refl)
+by_reply tells late (Await awaited) requests replies label reply here = (label, reply, here, refl)
+by_reply tells late (Operate operation) requests replies label reply here = absurd here
 
-pub outcome_settles : (late : Bool) (ask : Ask) (requests : List Request) (replies : List Reply) (outcome : Outcome) (label : Option ℕ) (reply : Reply)
-    → IsOutcome late ask requests replies outcome → outcome ≡ Replied label reply → Settles late ask requests replies (answer_text label reply)
-outcome_settles late ask requests replies outcome label reply here is = (label, reply, subst (IsOutcome late ask requests replies) is here, refl)
+pub outcome_settles : (tells : Telling) (late : Bool) (ask : Ask) (requests : List Request) (replies : List Reply) (outcome : Outcome) (label : Option ℕ) (reply : Reply)
+    → IsOutcome late ask requests replies outcome → outcome ≡ Replied label reply → Settles tells late ask requests replies (answer_text label reply)
+outcome_settles tells late ask requests replies outcome label reply here is = by_reply tells late ask requests replies label reply (subst (IsOutcome late ask requests replies) is here)
+
+-- a text that may be told to an operation settles it, and no request was asked
+pub operation_settles : (tells : Telling) (late : Bool) (ask : Ask) (requests : List Request) (replies : List Reply) (operation : Operation) (text : List ℕ)
+    → (ask ≡ Operate operation) × (requests ≡ []) × (replies ≡ []) → tells operation text → Settles tells late ask requests replies text
+operation_settles tells late ask requests replies operation text (is, none, none') told = subst (λ a. Settles tells late a requests replies text) (sym is) (none, none', told)
+
+pub nothing_asked : {S : Type 0} (answers : Answering S) (s t : S) (ask : Ask) (requests : List Request) (replies : List Reply) (operation : Operation)
+    → (ask ≡ Operate operation) × (requests ≡ []) × (replies ≡ []) → IsRun answers s requests replies t → t ≡ s
+nothing_asked answers s t ask requests replies operation (is, none, none') ran =
+    sym (subst (λ x. IsRun answers s [] x t) none' (subst (λ q. IsRun answers s q replies t) none ran))
 
 -- the same of equal bytes
 pub next_same : {S : Type 0} (answers : Answering S) (late : Bool) (s t : S) (bytes bytes' : List ℕ) (left left' : ℕ) (before after : List ℕ) (next : Next)
@@ -95,12 +111,21 @@ takes_ended answers late s t u bytes session session' before now after texts n r
       stops = stops_ended answers late t u session.kept session.left room (before ++ framed_all texts) now after end is next;
     })
 
--- what was asked where memory failed
-pub fails_asked : {S : Type 0} (answers : Answering S) (late : Bool) (s t u : S) (bytes rest : List ℕ) (texts : List (List ℕ)) (n m left : ℕ) (rest' before after : List ℕ)
-    → AnswersFront answers late s t bytes rest texts n m → FailsNext answers late t u rest' left before after → HasAsked answers s u
-fails_asked answers late s t u bytes rest texts n m left rest' before after front (some, same, inl is) = (front.requests, front.replies, subst (IsRun answers s front.requests front.replies) (sym is) front.runs)
-fails_asked answers late s t u bytes rest texts n m left rest' before after front (some, same, inr (end, text, (ask, requests, replies, message, ran, settles))) =
-    (front.requests ++ requests, front.replies ++ replies, IsRun-join answers s t u front.requests requests front.replies replies front.runs ran)
+-- where memory failed behind messages that are answered
+pub breaks_off : {S : Type 0} (answers : Answering S) (late : Bool) (s t u : S) (bytes : List ℕ) (session session' : SessionValue) (before now after : List ℕ) (texts : List (List ℕ)) (n room : ℕ)
+    → AnswersFront answers late s t bytes session.kept texts n session.left → IsWithin room before texts → now ≡ before ++ framed_all texts
+    → FailsNext answers late t u session.kept session.left now after → session' ≡ session
+    → BreaksOff answers late s u bytes session'.kept before after n session'.left room
+breaks_off answers late s t u bytes session session' before now after texts n room front within is (some, kept, last) same =
+    subst (λ (v : SessionValue). BreaksOff answers late s u bytes v.kept before after n v.left room) (sym same) (record {
+      mid = t;
+      texts = texts;
+      front = front;
+      within = within;
+      after_is = kept ∙ is;
+      some = some;
+      last = last;
+    })
 
 pub asked_none : {S : Type 0} (answers : Answering S) (s : S) → HasAsked answers s s
 asked_none answers s = ([], [], refl)
@@ -109,3 +134,7 @@ asked_none answers s = ([], [], refl)
 pub fails_settled : {S : Type 0} (answers : Answering S) (late : Bool) (s t : S) (bytes : List ℕ) (left : ℕ) (before after : List ℕ) (end : ℕ) (text : List ℕ)
     → 0 < left → after ≡ before → SettlesFront answers late s t bytes end text → FailsNext answers late s t bytes left before after
 fails_settled answers late s t bytes left before after end text some same settles = (some, same, inr (end, text, settles))
+
+-- there was no memory for the text that is told to an operation
+pub fails_nothing : {S : Type 0} (answers : Answering S) (late : Bool) (s t : S) (bytes : List ℕ) (left : ℕ) (before after : List ℕ) → 0 < left → after ≡ before → t ≡ s → FailsNext answers late s t bytes left before after
+fails_nothing answers late s t bytes left before after some same is = (some, same, inl is)

@@ -5,10 +5,11 @@ use Rattle.std.proofs.lemmas.List.Elements.{All-nil, All-append}
 use Rattle.std.proofs.Math.Seq.{take-suc, drop-cons}
 use Rattle.gb_types.specs.declared.reply.Reply.{Reply}
 use Rattle.gb_types.specs.declared.request.Request.{Request}
+use Rattle.gb_session.specs.Answering.{Answering}
 use Rattle.gb_session.specs.declared.ask.Ask.{Ask}
-use Rattle.gb_session.specs.declared.ask.Ask.TheVariants.{Now, Await}
+use Rattle.gb_session.specs.declared.ask.Ask.TheVariants.{Now, Await, Operate}
 use Rattle.gb_session.specs.declared.ask.Place.{Place}
-use Rattle.gb_session.specs.Settled.{fetch_of, is_empty_log, FindsNone, Finds, SettlesBy, Settles, SettlesAll}
+use Rattle.gb_session.specs.Settled.{fetch_of, is_empty_log, FindsNone, Finds, SettlesBy, Telling, Settles, SettlesAll}
 use Rattle.gb_session.specs.Takes.{AnswersFront}
 use Rattle.gb_session.specs.Nexts.{SettlesFront}
 use Rattle.gb_session.proofs.AskLemmas.{SpellsAsks-join, SpellsAsks-one}
@@ -65,13 +66,16 @@ pub SettlesBy-late : (late : Bool) (ask : Ask) (requests : List Request) (replie
 SettlesBy-late late (Now request) requests replies label reply here = here
 SettlesBy-late late (Await awaited) requests replies label reply (inl here) = inl here
 SettlesBy-late late (Await awaited) requests replies label reply (inr here) = inr (refl, here.1, here.2, here.3)
+SettlesBy-late late (Operate operation) requests replies label reply here = here
 
-pub Settles-late : (late : Bool) (ask : Ask) (requests : List Request) (replies : List Reply) (text : List ℕ) → Settles late ask requests replies text → Settles true ask requests replies text
-Settles-late late ask requests replies text here = (here.0, here.1, SettlesBy-late late ask requests replies here.0 here.1 here.2, here.3)
+pub Settles-late : (tells : Telling) (late : Bool) (ask : Ask) (requests : List Request) (replies : List Reply) (text : List ℕ) → Settles tells late ask requests replies text → Settles tells true ask requests replies text
+Settles-late tells late (Now request) requests replies text here = here
+Settles-late tells late (Await awaited) requests replies text here = (here.0, here.1, SettlesBy-late late (Await awaited) requests replies here.0 here.1 here.2, here.3)
+Settles-late tells late (Operate operation) requests replies text here = here
 
-pub SettlesAll-one : (late : Bool) (asks : List Ask) (ask : Ask) (requests first : List Request) (replies first' : List Reply) (texts : List (List ℕ)) (text : List ℕ)
-    → SettlesAll late asks requests replies texts → Settles late ask first first' text → SettlesAll late (asks ++ ask ∷ []) (requests ++ first) (replies ++ first') (texts ++ text ∷ [])
-SettlesAll-one late [] ask requests first replies first' texts text (none, none', no_texts) here = (
+pub SettlesAll-one : (tells : Telling) (late : Bool) (asks : List Ask) (ask : Ask) (requests first : List Request) (replies first' : List Reply) (texts : List (List ℕ)) (text : List ℕ)
+    → SettlesAll tells late asks requests replies texts → Settles tells late ask first first' text → SettlesAll tells late (asks ++ ask ∷ []) (requests ++ first) (replies ++ first') (texts ++ text ∷ [])
+SettlesAll-one tells late [] ask requests first replies first' texts text (none, none', no_texts) here = (
   first,
   [],
   first',
@@ -84,7 +88,7 @@ SettlesAll-one late [] ask requests first replies first' texts text (none, none'
   here,
   (refl, refl, refl),
 )
-SettlesAll-one late (q ∷ asks) ask requests first replies first' texts text (r, more, r', more', x, texts', are, are', texts_are, this, rest) here = (
+SettlesAll-one tells late (q ∷ asks) ask requests first replies first' texts text (r, more, r', more', x, texts', are, are', texts_are, this, rest) here = (
   r,
   more ++ first,
   r',
@@ -95,13 +99,13 @@ SettlesAll-one late (q ∷ asks) ask requests first replies first' texts text (r
   ap (λ y. y ++ first') are' ∙ append_assoc r' more' first',
   ap (λ y. y ++ text ∷ []) texts_are,
   this,
-  SettlesAll-one late asks ask more first more' first' texts' text rest here,
+  SettlesAll-one tells late asks ask more first more' first' texts' text rest here,
 )
 
-pub SettlesAll-join : (late : Bool) (a b : List Ask) (q r : List Request) (x y : List Reply) (t u : List (List ℕ)) → SettlesAll late a q x t → SettlesAll late b r y u → SettlesAll late (a ++ b) (q ++ r) (x ++ y) (t ++ u)
-SettlesAll-join late [] b q r x y t u (none, none', no_texts) next =
-    subst (λ w. SettlesAll late b (w ++ r) (x ++ y) (t ++ u)) (sym none) (subst (λ w. SettlesAll late b r (w ++ y) (t ++ u)) (sym none') (subst (λ w. SettlesAll late b r y (w ++ u)) (sym no_texts) next))
-SettlesAll-join late (ask ∷ a) b q r x y t u (first, more, first', more', text, texts', are, are', texts_are, here, rest) next = (
+pub SettlesAll-join : (tells : Telling) (late : Bool) (a b : List Ask) (q r : List Request) (x y : List Reply) (t u : List (List ℕ)) → SettlesAll tells late a q x t → SettlesAll tells late b r y u → SettlesAll tells late (a ++ b) (q ++ r) (x ++ y) (t ++ u)
+SettlesAll-join tells late [] b q r x y t u (none, none', no_texts) next =
+    subst (λ w. SettlesAll tells late b (w ++ r) (x ++ y) (t ++ u)) (sym none) (subst (λ w. SettlesAll tells late b r (w ++ y) (t ++ u)) (sym none') (subst (λ w. SettlesAll tells late b r y (w ++ u)) (sym no_texts) next))
+SettlesAll-join tells late (ask ∷ a) b q r x y t u (first, more, first', more', text, texts', are, are', texts_are, here, rest) next = (
   first,
   more ++ r,
   first',
@@ -112,11 +116,11 @@ SettlesAll-join late (ask ∷ a) b q r x y t u (first, more, first', more', text
   ap (λ w. w ++ y) are' ∙ append_assoc first' more' y,
   ap (λ w. w ++ u) texts_are,
   here,
-  SettlesAll-join late a b more r more' y texts' u rest next,
+  SettlesAll-join tells late a b more r more' y texts' u rest next,
 )
 
 -- nothing was answered yet
-pub front_none : {S : Type 0} (answers : S → Request → Reply → S → Type 0) (late : Bool) (s : S) (bytes : List ℕ) (n : ℕ) → AnswersFront answers late s s bytes bytes [] n n
+pub front_none : {S : Type 0} (answers : Answering S) (late : Bool) (s : S) (bytes : List ℕ) (n : ℕ) → AnswersFront answers late s s bytes bytes [] n n
 front_none answers late s bytes n = record {
   requests = [];
   replies = [];
@@ -127,7 +131,7 @@ front_none answers late s bytes n = record {
 }
 
 -- one more message was asked
-pub front_one : {S : Type 0} (answers : S → Request → Reply → S → Type 0) (late : Bool) (s t u : S) (bytes rest rest' : List ℕ) (texts : List (List ℕ)) (n m m' : ℕ) (end : ℕ) (text : List ℕ)
+pub front_one : {S : Type 0} (answers : Answering S) (late : Bool) (s t u : S) (bytes rest rest' : List ℕ) (texts : List (List ℕ)) (n m m' : ℕ) (end : ℕ) (text : List ℕ)
     → AnswersFront answers late s t bytes rest texts n m → SettlesFront answers late t u rest end text → rest' ≡ drop end rest → m ≡ m' + 1
     → AnswersFront answers late s u bytes rest' (texts ++ text ∷ []) n m'
 front_one answers late s t u bytes rest rest' texts n m m' end text front (ask, first, first', message, ran, here) left counted = record {
@@ -137,7 +141,7 @@ front_one answers late s t u bytes rest rest' texts n m m' end text front (ask, 
     asks = front.settled.asks ++ ask ∷ [];
     texts = front.settled.texts ++ text ∷ [];
     spells = SpellsAsks-join front.settled.asks (ask ∷ []) bytes rest rest' front.settled.spells (SpellsAsks-one rest rest' ask end message left);
-    settles = SettlesAll-one late front.settled.asks ask front.requests first front.replies first' front.settled.texts text front.settled.settles here;
+    settles = SettlesAll-one answers.tells late front.settled.asks ask front.requests first front.replies first' front.settled.texts text front.settled.settles here;
   };
   texts_are = ap (λ x. x ++ text ∷ []) front.texts_are;
   runs = IsRun-join answers s t u front.requests first front.replies first' front.runs ran;

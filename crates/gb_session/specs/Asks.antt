@@ -1,26 +1,27 @@
 -- What a client asks, and how it is spelt.
 use Rattle.std.specs.Prelude.{◌≡◌, ℕ, ◌+◌, ◌<◌, ◌≤◌, ◌⊎◌, List, [], ◌∷◌, ◌++◌, length, take, drop, Some, decimal, codes}
-use Rattle.gb_types.specs.RequestWords.{IsShort, IsLong}
+use Rattle.gb_types.specs.RequestWords.{IsShort, IsLong, group_word, IsGroup}
 use Rattle.gb_types.specs.TokenWord.{token_of}
 use Rattle.gb_types.specs.Words.{words_of}
 use Rattle.gb_session.specs.declared.ask.Ask.{Ask}
-use Rattle.gb_session.specs.declared.ask.Ask.TheVariants.{Now, Await}
+use Rattle.gb_session.specs.declared.ask.Ask.TheVariants.{Now, Await, Operate}
 use Rattle.gb_session.specs.declared.ask.Awaited.{Awaited}
 use Rattle.gb_session.specs.declared.ask.Place.{Place}
 use Rattle.gb_session.specs.declared.ask.TheConstants.{PLACES, WAIT}
 use Rattle.gb_session.specs.declared.grammar.TheConstants.{BODY}
 use Rattle.gb_session.specs.Grammar.{IsRequestText}
+use Rattle.gb_session.specs.Operations.{IsOperationText}
 use Rattle.gb_session.specs.Streams.{framed, said_length}
 
 -- the words `TOKEN T G FROM MAX` spell this place
 pub record IsPlace (place : Place) (token tenant group from most : List ℕ) : Type 0 where
   pub token_is : token_of token ≡ Some place.token
   pub tenant_is : tenant ≡ decimal place.address.tenant
-  pub group_is : group ≡ decimal place.address.group
+  pub group_is : group ≡ group_word place.address
   pub from_is : from ≡ decimal place.from
   pub most_is : most ≡ decimal place.most
   pub tenant_in : IsShort place.address.tenant
-  pub group_in : IsShort place.address.group
+  pub group_in : IsGroup place.address
   pub from_in : IsLong place.from
   pub most_in : IsLong place.most
 
@@ -49,6 +50,7 @@ pub record IsAwaitText (body : List ℕ) (awaited : Awaited) : Type 0 where
 abbrev pub IsAskText : List ℕ → Ask → Type 0
 IsAskText body (Now request) = IsRequestText body request
 IsAskText body (Await awaited) = IsAwaitText body awaited
+IsAskText body (Operate operation) = IsOperationText body operation
 
 -- the messages at the front of a stream ask this, and the rest is behind them
 abbrev pub SpellsAsks : List Ask → List ℕ → List ℕ → Type 0

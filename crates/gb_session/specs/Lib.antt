@@ -4,6 +4,8 @@ pub mod Streams
 pub mod Fronts
 pub mod Feeds
 pub mod FeedState
+pub mod Operations
+pub mod Answering
 pub mod Asks
 pub mod Runs
 pub mod Settled

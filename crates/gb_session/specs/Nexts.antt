@@ -1,16 +1,17 @@
 -- What a session makes of the message in front.
-use Rattle.std.specs.Prelude.{◌≡◌, ℕ, ◌-◌, ◌<◌, ◌≤◌, ◌⊎◌, Bool, false, List, ◌++◌, drop, length}
+use Rattle.std.specs.Prelude.{◌≡◌, ℕ, ◌-◌, ◌<◌, ◌≤◌, ◌⊎◌, Bool, false, List, [], ◌++◌, drop, length}
 use Rattle.gb_types.specs.declared.reply.Reply.{Reply}
 use Rattle.gb_types.specs.declared.request.Request.{Request}
+use Rattle.gb_session.specs.Answering.{Answering}
 use Rattle.gb_session.specs.declared.ask.Ask.{Ask}
-use Rattle.gb_session.specs.declared.ask.Ask.TheVariants.{Await}
+use Rattle.gb_session.specs.declared.ask.Ask.TheVariants.{Await, Operate}
 use Rattle.gb_session.specs.declared.serve.SessionEnd.TheVariants.{Malformed, Limit}
 use Rattle.gb_session.specs.declared.session.AskFront.{AskFront}
 use Rattle.gb_session.specs.declared.session.AskFront.TheVariants.{Begun, Malformed as BadFront, Message}
 use Rattle.gb_session.specs.declared.session.Next.{Next}
 use Rattle.gb_session.specs.declared.session.Next.TheVariants.{Answered, Hungry, Parked, Ended}
 use Rattle.gb_session.specs.declared.session.Outcome.{Outcome}
-use Rattle.gb_session.specs.declared.session.Outcome.TheVariants.{Replied, Waits}
+use Rattle.gb_session.specs.declared.session.Outcome.TheVariants.{Replied, Waits, Operates}
 use Rattle.gb_session.specs.Asks.{IsAskMessage, AsksNothing}
 use Rattle.gb_session.specs.Runs.{IsRun, malformed_message}
 use Rattle.gb_session.specs.Settled.{SettlesBy, Settles, FindsNone}
@@ -23,20 +24,21 @@ IsAskFront bytes Begun = IsBegun bytes
 IsAskFront bytes BadFront = AsksNothing bytes
 IsAskFront bytes (Message ask end) = IsAskMessage bytes ask end
 
--- what became of an ask by these requests and replies: it is settled, or waits
+-- what became of an ask by these requests and replies: it is settled, or waits, or is an operation
 abbrev pub IsOutcome : Bool → Ask → List Request → List Reply → Outcome → Type 0
 IsOutcome is_late ask requests replies (Replied label reply) = SettlesBy is_late ask requests replies label reply
 IsOutcome is_late ask requests replies (Waits awaited) = (is_late ≡ false) × (ask ≡ Await awaited) × FindsNone awaited.places.items requests replies
+IsOutcome is_late ask requests replies (Operates operation) = (ask ≡ Operate operation) × (requests ≡ []) × (replies ≡ [])
 
 -- the bytes start with a whole message that ends at `end`; what it asks was asked, and its reply is `text`
-abbrev pub SettlesFront : {S : Type 0} → (S → Request → Reply → S → Type 0) → Bool → S → S → List ℕ → ℕ → List ℕ → Type 0
+abbrev pub SettlesFront : {S : Type 0} → Answering S → Bool → S → S → List ℕ → ℕ → List ℕ → Type 0
 SettlesFront answers is_late s t bytes end text =
     (ask : Ask) × (requests : List Request) × (replies : List Reply) × IsAskMessage bytes ask end × IsRun answers s requests replies t
-    × Settles is_late ask requests replies text
+    × Settles answers.tells is_late ask requests replies text
 
 -- One message: it is answered, and its reply is written; or less than a message is there; or it waits, after one more try; or it
 -- asks nothing, which is told; or no more may be answered.
-abbrev pub IsNext : {S : Type 0} → (S → Request → Reply → S → Type 0) → Bool → S → S → List ℕ → ℕ → List ℕ → List ℕ → Next → Type 0
+abbrev pub IsNext : {S : Type 0} → Answering S → Bool → S → S → List ℕ → ℕ → List ℕ → List ℕ → Next → Type 0
 IsNext answers is_late s t bytes left before after (Answered end) =
     (0 < left) × (text : List ℕ) × SettlesFront answers is_late s t bytes end text × (after ≡ before ++ framed text)
 IsNext answers is_late s t bytes left before after Hungry = (0 < left) × IsBegun bytes × (t ≡ s) × (after ≡ before)
@@ -48,7 +50,7 @@ IsNext answers is_late s t bytes left before after (Ended Limit) = (left ≡ 0) 
 IsNext answers is_late s t bytes left before after (Ended other) = ⊥
 
 -- there was no memory for the message in front, or for its reply, once it was asked; nothing is written
-abbrev pub FailsNext : {S : Type 0} → (S → Request → Reply → S → Type 0) → Bool → S → S → List ℕ → ℕ → List ℕ → List ℕ → Type 0
+abbrev pub FailsNext : {S : Type 0} → Answering S → Bool → S → S → List ℕ → ℕ → List ℕ → List ℕ → Type 0
 FailsNext answers is_late s t bytes left before after =
     (0 < left) × (after ≡ before) × ((t ≡ s) ⊎ ((end : ℕ) × (text : List ℕ) × SettlesFront answers is_late s t bytes end text))
 

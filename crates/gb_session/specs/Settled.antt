@@ -7,8 +7,9 @@ use Rattle.gb_types.specs.declared.reply.Reply.TheVariants.{Log}
 use Rattle.gb_types.specs.declared.request.Request.{Request}
 use Rattle.gb_types.specs.declared.request.Request.TheVariants.{Fetch}
 use Rattle.gb_session.specs.declared.ask.Ask.{Ask}
-use Rattle.gb_session.specs.declared.ask.Ask.TheVariants.{Now, Await}
+use Rattle.gb_session.specs.declared.ask.Ask.TheVariants.{Now, Await, Operate}
 use Rattle.gb_session.specs.declared.ask.Place.{Place}
+use Rattle.gb_session.specs.declared.operation.Operation.{Operation}
 use Rattle.gb_session.specs.Asks.{SpellsAsks}
 use Rattle.gb_session.specs.Streams.{framed}
 
@@ -48,32 +49,38 @@ answer_text None reply = reply_spelling reply
 answer_text (Some at) reply = codes "at " ++ decimal at ++ codes " " ++ reply_spelling reply
 
 -- An ask is settled by these requests and their replies, with this reply: a request by itself, fetches that wait by the first
--- that finds something, or, late, by an empty log where none does.
+-- that finds something, or, late, by an empty log where none does. An operation has no such reply.
 abbrev pub SettlesBy : Bool → Ask → List Request → List Reply → Option ℕ → Reply → Type 0
 SettlesBy is_late (Now request) requests replies label reply = (requests ≡ request ∷ []) × (replies ≡ reply ∷ []) × (label ≡ None)
 SettlesBy is_late (Await awaited) requests replies label reply =
     ((at : ℕ) × Finds awaited.places.items at reply requests replies × (label ≡ label_of awaited.places.items at))
     ⊎ ((is_late ≡ true) × FindsNone awaited.places.items requests replies × (label ≡ None) × (reply ≡ Log []))
+SettlesBy is_late (Operate operation) requests replies label reply = ⊥
 
--- an ask is settled by these requests and replies, and this is the text of its reply
-abbrev pub Settles : Bool → Ask → List Request → List Reply → List ℕ → Type 0
-Settles is_late ask requests replies text =
+-- The texts that an operation may get.
+abbrev pub Telling : Type 1
+Telling = Operation → List ℕ → Type 0
+
+-- An ask is settled by these requests and replies, and this is the text of its reply. An operation asks no request.
+abbrev pub Settles : Telling → Bool → Ask → List Request → List Reply → List ℕ → Type 0
+Settles tells is_late (Operate operation) requests replies text = (requests ≡ []) × (replies ≡ []) × tells operation text
+Settles tells is_late ask requests replies text =
     (label : Option ℕ) × (reply : Reply) × SettlesBy is_late ask requests replies label reply × (text ≡ answer_text label reply)
 
 -- these asks are settled in turn, and these are the texts of their replies
-abbrev pub SettlesAll : Bool → List Ask → List Request → List Reply → List (List ℕ) → Type 0
-SettlesAll is_late [] requests replies texts = (requests ≡ []) × (replies ≡ []) × (texts ≡ [])
-SettlesAll is_late (ask ∷ asks) requests replies texts =
+abbrev pub SettlesAll : Telling → Bool → List Ask → List Request → List Reply → List (List ℕ) → Type 0
+SettlesAll tells is_late [] requests replies texts = (requests ≡ []) × (replies ≡ []) × (texts ≡ [])
+SettlesAll tells is_late (ask ∷ asks) requests replies texts =
     (first : List Request) × (more : List Request) × (first' : List Reply) × (more' : List Reply) × (text : List ℕ) × (texts' : List (List ℕ))
     × (requests ≡ first ++ more) × (replies ≡ first' ++ more') × (texts ≡ text ∷ texts')
-    × Settles is_late ask first first' text × SettlesAll is_late asks more more' texts'
+    × Settles tells is_late ask first first' text × SettlesAll tells is_late asks more more' texts'
 
 -- the messages at the front of a stream, up to this rest, are settled by these requests and replies
-pub record HasSettled (is_late : Bool) (requests : List Request) (replies : List Reply) (stream rest : List ℕ) : Type 0 where
+pub record HasSettled (tells : Telling) (is_late : Bool) (requests : List Request) (replies : List Reply) (stream rest : List ℕ) : Type 0 where
   pub asks : List Ask
   pub texts : List (List ℕ)
   pub spells : SpellsAsks asks stream rest
-  pub settles : SettlesAll is_late asks requests replies texts
+  pub settles : SettlesAll tells is_late asks requests replies texts
 
 -- texts as they stand in a stream, each with its length
 abbrev pub framed_all : List (List ℕ) → List ℕ

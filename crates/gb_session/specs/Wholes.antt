@@ -1,36 +1,37 @@
 -- What a session makes of its whole stream, however that is cut into pieces.
-use Rattle.std.specs.Prelude.{◌≡◌, ℕ, true, List, [], ◌∷◌, ◌++◌}
+use Rattle.std.specs.Prelude.{◌≡◌, ◌⊎◌, ℕ, true, List, [], ◌∷◌, ◌++◌}
 use Rattle.gb_types.specs.declared.reply.Reply.{Reply}
 use Rattle.gb_types.specs.declared.request.Request.{Request}
+use Rattle.gb_session.specs.Answering.{Answering}
 use Rattle.gb_session.specs.declared.ask.Ask.{Ask}
 use Rattle.gb_session.specs.declared.ask.Place.{Place}
 use Rattle.gb_session.specs.declared.serve.SessionEnd.TheVariants.{Malformed}
 use Rattle.gb_session.specs.declared.session.Step.{Step}
 use Rattle.gb_session.specs.declared.session.Step.TheVariants.{Hungry, Full, Parked, Ended}
-use Rattle.gb_session.specs.Asks.{SpellsAsks}
+use Rattle.gb_session.specs.Asks.{SpellsAsks, AsksNothing}
 use Rattle.gb_session.specs.Runs.{IsRun, malformed_message}
-use Rattle.gb_session.specs.Settled.{FindsNone, Settles, framed_all}
+use Rattle.gb_session.specs.Settled.{FindsNone, Telling, Settles, framed_all}
 
 -- these requests fetched from some places, and there was nothing at any of them, which nobody was told
 abbrev pub AreInVain : List Request → List Reply → Type 0
 AreInVain requests replies = (places : List Place) × FindsNone places requests replies
 
 -- these asks are settled in turn, with these texts; before and between and behind them nothing was asked but fetches in vain
-abbrev pub SettlesInTime : List Ask → List Request → List Reply → List (List ℕ) → Type 0
-SettlesInTime [] requests replies texts = AreInVain requests replies × (texts ≡ [])
-SettlesInTime (ask ∷ asks) requests replies texts =
+abbrev pub SettlesInTime : Telling → List Ask → List Request → List Reply → List (List ℕ) → Type 0
+SettlesInTime tells [] requests replies texts = AreInVain requests replies × (texts ≡ [])
+SettlesInTime tells (ask ∷ asks) requests replies texts =
     (vain : List Request) × (vain' : List Reply) × (first : List Request) × (first' : List Reply) × (more : List Request) × (more' : List Reply)
     × (text : List ℕ) × (texts' : List (List ℕ)) × (requests ≡ vain ++ (first ++ more)) × (replies ≡ vain' ++ (first' ++ more')) × (texts ≡ text ∷ texts')
-    × AreInVain vain vain' × Settles true ask first first' text × SettlesInTime asks more more' texts'
+    × AreInVain vain vain' × Settles tells true ask first first' text × SettlesInTime tells asks more more' texts'
 
 -- Of a stream so far a session has answered what its messages ask up to these bytes, and this is what was written.
-pub record ServedSoFar {S : Type 0} (answers : S → Request → Reply → S → Type 0) (s t : S) (stream kept written : List ℕ) : Type 0 where
+pub record ServedSoFar {S : Type 0} (answers : Answering S) (s t : S) (stream kept written : List ℕ) : Type 0 where
   pub asks : List Ask
   pub requests : List Request
   pub replies : List Reply
   pub texts : List (List ℕ)
   pub spells : SpellsAsks asks stream kept
-  pub settles : SettlesInTime asks requests replies texts
+  pub settles : SettlesInTime answers.tells asks requests replies texts
   pub runs : IsRun answers s requests replies t
   pub written_is : written ≡ framed_all texts
 
@@ -43,7 +44,22 @@ last_of (Ended Malformed) = malformed_message
 last_of (Ended other) = []
 
 -- one more piece: whatever the session had served so far, it has now served the stream with the piece, and wrote what is new
-abbrev pub ServesMore : {S : Type 0} → (S → Request → Reply → S → Type 0) → S → S → List ℕ → List ℕ → List ℕ → List ℕ → List ℕ → Step → Type 0
+abbrev pub ServesMore : {S : Type 0} → Answering S → S → S → List ℕ → List ℕ → List ℕ → List ℕ → List ℕ → Step → Type 0
 ServesMore {S} answers t u kept piece kept' before after step =
     (s : S) (stream written : List ℕ) → ServedSoFar answers s t stream kept written
     → (new : List ℕ) × (after ≡ before ++ (new ++ last_of step)) × ServedSoFar answers s u (stream ++ piece) kept' (written ++ new)
+
+-- what is told behind the replies: nothing, or, of a message that asks nothing, that it is Malformed
+abbrev pub IsToldLast : List ℕ → List ℕ → Type 0
+IsToldLast rest last = (last ≡ []) ⊎ (AsksNothing rest × (last ≡ malformed_message))
+
+-- What messages at the front of some bytes ask was asked in turn, and nothing else; of what was told, in its order, this beginning was
+-- sent.
+pub record AsksInTurn {S : Type 0} (answers : Answering S) (s t : S) (bytes sent : List ℕ) : Type 0 where
+  pub rest : List ℕ
+  pub written : List ℕ
+  pub served : ServedSoFar answers s t bytes rest written
+  pub last : List ℕ
+  pub last_is : IsToldLast rest last
+  pub unsent : List ℕ
+  pub sent_is : written ++ last ≡ sent ++ unsent

@@ -1,4 +1,4 @@
-//! What a client asks: a request, or fetches that wait until there is something to fetch.
+//! What a client asks: a request, fetches that wait until there is something to fetch, or an operation.
 ghost use Rattle.std.specs.Prelude.{◌≡◌, ◌↔◌, ◌≤◌, length, codes, IsTrue, Some, IfOk, IfSome, IfNone, map};
 ghost use Rattle.gb_session.specs.declared.ask.Ask.{Ask as TheAsk};
 ghost use Rattle.gb_session.specs.declared.ask.Awaited.{Awaited as TheAwaited};
@@ -6,6 +6,7 @@ ghost use Rattle.gb_session.specs.declared.ask.Place.{Place as ThePlace};
 ghost use Rattle.gb_session.specs.Asks.{IsPlace, IsAskText, IsAwaitText, SpellsAwait};
 
 use crate::grammar::{BODY, read_request};
+use crate::operation::{Operation, read_operation};
 use gb_types::address::Addr;
 use gb_types::memory::OutOfMemory;
 use gb_types::request::Request;
@@ -43,6 +44,8 @@ pub enum Ask {
     /// A request that is answered at once.
     Now(Request),
     Await(Awaited),
+    /// What an administrator asks of the server.
+    Operate(Operation),
 }
 
 // TOKEN T G FROM MAX
@@ -128,8 +131,11 @@ pub fn read_ask(alloc: Global, body: &[u8]) -> Result<Option<Ask>, OutOfMemory>
     if let Some(request) = read_request(alloc, body)? {
         return Ok(Some(Ask::Now(request)));
     }
-    match read_await_text(alloc, body)? {
-        Some(awaited) => Ok(Some(Ask::Await(awaited))),
+    if let Some(awaited) = read_await_text(alloc, body)? {
+        return Ok(Some(Ask::Await(awaited)));
+    }
+    match read_operation(alloc, body)? {
+        Some(operation) => Ok(Some(Ask::Operate(operation))),
         None => Ok(None),
     }
 }

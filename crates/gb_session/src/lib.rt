@@ -11,5 +11,6 @@ pub mod feed;
 pub mod grammar;
 pub mod head;
 pub mod messages;
+pub mod operation;
 pub mod serve;
 pub mod session;

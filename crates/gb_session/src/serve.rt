@@ -1,7 +1,6 @@
 //! A session: what the messages of a stream ask is answered, one after the other.
 ghost use Rattle.std.specs.Prelude.{◌≡◌, ◌<◌, ◌≤◌, ◌++◌, take, length, vec_len, IfOk, IfErr, OnOk, OnErr};
 ghost use Rattle.std.specs.Io.KnownBytes.{Appends, Keeps, Consumes, IsAtEnd};
-ghost use Rattle.gb_session.specs.Runs.{HasAsked};
 ghost use Rattle.gb_session.specs.Progress.{WritesPart, StandsSo, CutsOff};
 ghost use Rattle.gb_session.specs.Sessions.{IsSession, IsCutOff};
 ghost use Rattle.gb_session.specs.declared.serve.SessionFault.TheVariants.{OutOfMemory as NoMemory};
@@ -211,7 +210,6 @@ pub fn serve<A: Answers, R: Read, W: Write>(
         (R.remaining reader.new) (W.contents writer.old) (W.contents writer.new)) }
     ensures fault { IfErr result (IsCutOff A.answers answers.old answers.new (R.remaining reader.old)
         (R.remaining reader.new) (W.contents writer.old) (W.contents writer.new)) }
-    ensures asked { OnErr result (HasAsked A.answers answers.old answers.new) }
 {
     let mut space = make_space(alloc)?;
     serve_pieces(alloc, answers, reader, writer, &mut space)

@@ -4,16 +4,17 @@ ghost use Rattle.gb_types.specs.declared.reply.Reply.{Reply as TheReply};
 ghost use Rattle.gb_types.specs.declared.request.Request.{Request as TheRequest};
 ghost use Rattle.gb_session.specs.Nexts.{IsAskFront, IsOutcome, IsNext, FailsNext, IsThere, behind};
 ghost use Rattle.gb_session.specs.Progress.{EndsBehind};
-ghost use Rattle.gb_session.specs.Runs.{IsRun, HasAsked};
+ghost use Rattle.gb_session.specs.Runs.{IsRun};
 ghost use Rattle.gb_session.specs.Settled.{fetch_of, is_empty_log, label_of, answer_text, Finds, FindsNone};
 ghost use Rattle.gb_session.specs.Streams.{framed};
-ghost use Rattle.gb_session.specs.Takes.{Takes};
+ghost use Rattle.gb_session.specs.Takes.{Takes, BreaksOff, FailsPiece};
 ghost use Rattle.gb_session.specs.Wholes.{ServesMore};
 
 use crate::answers::Answers;
 use crate::ask::{Ask, Awaited, Place, read_ask};
 use crate::grammar::BODY;
 use crate::messages::read_length;
+use crate::operation::Operation;
 use crate::serve::SessionEnd;
 use gb_types::entry::Entries;
 use gb_types::memory::{OutOfMemory, put_bytes};
@@ -46,6 +47,8 @@ pub enum Outcome {
     Replied(Option<usize>, Reply),
     /// There is nothing to fetch yet.
     Waits(Awaited),
+    /// It is an operation: no request was asked.
+    Operates(Operation),
 }
 
 /// What became of the message in front.
@@ -129,7 +132,7 @@ fn is_empty_log(reply: &Reply) -> bool
 
 // Fetches from a place.
 fn fetch<A: Answers>(answers: &mut A, place: &Place) -> Reply
-    ensures { A.answers answers.old (fetch_of place.now) result answers.new }
+    ensures { A.answers.replies answers.old (fetch_of place.now) result answers.new }
 {
     answers.answer(Request::Fetch(place.token, place.address, place.from, place.most))
 }
@@ -171,6 +174,7 @@ fn settle<A: Answers>(alloc: Global, answers: &mut A, ask: Ask, is_late: bool) -
             None if is_late => Outcome::Replied(None, Reply::Log(Entries::new(alloc))),
             None => Outcome::Waits(awaited),
         },
+        Ask::Operate(operation) => Outcome::Operates(operation),
     }
 }
 
@@ -201,6 +205,15 @@ fn frame(alloc: Global, text: &[u8]) -> Result<Vec<u8>, OutOfMemory>
     Ok(message)
 }
 
+// Appends a text with its length. Without memory nothing has changed.
+fn put_framed(alloc: Global, out: &mut Vec<u8>, text: &[u8]) -> Result<(), OutOfMemory>
+    ensures ok { OnOk result (out.new.items ≡ out.old.items ++ framed text.now) }
+    ensures err { OnErr result (out.new.items ≡ out.old.items) }
+{
+    let message = frame(alloc, text)?;
+    put_bytes(out, &message)
+}
+
 // Appends a reply with its length. Without memory nothing has changed.
 fn put_answer(
     alloc: Global,
@@ -212,8 +225,22 @@ fn put_answer(
     ensures err { OnErr result (out.new.items ≡ out.old.items) }
 {
     let text = text_of(alloc, label, reply)?;
-    let message = frame(alloc, &text)?;
-    put_bytes(out, &message)
+    put_framed(alloc, out, &text)
+}
+
+// Appends a reply to an operation, with its length. Without memory nothing has changed.
+fn put_told<A: Answers>(
+    alloc: Global,
+    answers: &A,
+    operation: Operation,
+    out: &mut Vec<u8>,
+) -> Result<(), OutOfMemory>
+    ensures ok { OnOk result ((text : List ℕ) × A.answers.tells operation text × (out.new.items ≡ out.old.items ++ framed text)) }
+    ensures err { OnErr result (out.new.items ≡ out.old.items) }
+{
+    let mut text = Vec::new(alloc);
+    answers.operate(operation, &mut text)?;
+    put_framed(alloc, out, &text)
 }
 
 // Answers the message at the front of the bytes and appends its reply. Returns the Limit if `left` is 0.
@@ -243,6 +270,10 @@ fn answer_front<A: Answers>(
                 Ok(Next::Answered(end))
             }
             Outcome::Waits(awaited) => Ok(Next::Parked(awaited)),
+            Outcome::Operates(operation) => {
+                put_told(alloc, answers, operation, out)?;
+                Ok(Next::Answered(end))
+            }
         },
     }
 }
@@ -341,7 +372,8 @@ impl Session {
     ) -> Result<Step, OutOfMemory>
         ensures ok { IfOk result (Takes A.answers is_late answers.old answers.new self.old.kept self.new.kept
             out.old.items out.new.items self.old.left self.new.left room) }
-        ensures asked { OnErr result (HasAsked A.answers answers.old answers.new) }
+        ensures fails { OnErr result (BreaksOff A.answers is_late answers.old answers.new self.old.kept self.new.kept
+            out.old.items out.new.items self.old.left self.new.left room) }
     {
         'messages: loop {
             if out.len() >= room {
@@ -358,7 +390,9 @@ impl Session {
 
     /// Keeps the next bytes of the stream, then answers the whole messages in turn and appends their replies to `out`. It stops
     /// when `out` has `room` bytes or more. The piece may be empty. If `is_late`, an `await` that finds nothing is answered with an
-    /// empty log. If there is no memory, the session is over: messages may have been asked and have no reply in `out`.
+    /// empty log. If there is no memory, either the piece is not kept and nothing was asked, or messages in front were answered and
+    /// stepped over; the next one may then have been asked, and it has no reply in `out` and stays in front. So the session is over:
+    /// called again, it would ask that message again.
     pub fn take<A: Answers>(
         &mut self,
         answers: &mut A,
@@ -371,7 +405,8 @@ impl Session {
             out.old.items out.new.items self.old.left self.new.left room) }
         ensures whole { IfOk result (ServesMore A.answers answers.old answers.new self.old.kept piece.now self.new.kept
             out.old.items out.new.items) }
-        ensures asked { OnErr result (HasAsked A.answers answers.old answers.new) }
+        ensures fails { OnErr result (FailsPiece A.answers is_late answers.old answers.new self.old piece.now self.new
+            out.old.items out.new.items room) }
     {
         self.put(piece)?;
         self.answer_whole(answers, is_late, out, room)

@@ -1,11 +1,16 @@
 //! Worked words, and the requests and tokens that they ask for.
 use clap::ArgMatches;
+use gb_cap::token::Need;
+use gb_client::blame::blame;
 use gb_client::fault::{ClientFault, fault_status};
+use gb_client::operating::{list_body, status_body, stop_body};
 use gb_client::secrets::{Secrets, read_secrets};
 use gb_client::show::token_line;
-use gb_client::task::{Task, fetch_of, request_of};
+use gb_client::task::{Asked, Errand, Task, fetch_of, request_of};
 use gb_client_words::words::{Plan, command, plan_of};
+use gb_session::head::Head;
 use gb_types::memory::OutOfMemory;
+use gb_types::node::NodeId;
 use gb_types::words::split_words;
 use std::alloc::Global;
 use std::test::Fail;
@@ -31,9 +36,43 @@ fn told_of(alloc: Global, secrets: &Secrets, plan: &Plan<'_>) -> Result<Vec<u8>,
             let token = secrets.token_for(*need)?;
             Ok(token_line(alloc, &token)?)
         }
-        Task::Ask(asked) => request_of(alloc, secrets, plan.node, asked),
-        Task::Follow(asked, from, _) => fetch_of(alloc, secrets, plan.node, asked, *from),
+        Task::At(_, errand) => body_of(alloc, secrets, errand),
     }
+}
+
+// The body of what is asked first.
+fn body_of(alloc: Global, secrets: &Secrets, errand: &Errand<'_>) -> Result<Vec<u8>, ClientFault> {
+    match errand {
+        Errand::Ask(node, asked) => request_of(alloc, secrets, *node, asked),
+        Errand::Follow(node, asked, from, _) => fetch_of(alloc, secrets, *node, asked, *from),
+        Errand::Group(nodes, asked) => at_last(alloc, secrets, nodes.as_slice(), asked),
+        Errand::Drop(nodes, asked) => at_last(alloc, secrets, nodes.as_slice(), asked),
+        Errand::Check(_, _, _) | Errand::List(_) => {
+            let token = secrets.token_for(Need::Admin)?;
+            Ok(list_body(alloc, &token, 0)?)
+        }
+        Errand::Status(_) => {
+            let token = secrets.token_for(Need::Admin)?;
+            Ok(status_body(alloc, &token)?)
+        }
+        Errand::Shutdown(_) => {
+            let token = secrets.token_for(Need::Admin)?;
+            Ok(stop_body(alloc, &token)?)
+        }
+    }
+}
+
+// The body of what is asked of the last of some nodes.
+fn at_last(
+    alloc: Global,
+    secrets: &Secrets,
+    nodes: &[NodeId],
+    asked: &Asked<'_>,
+) -> Result<Vec<u8>, ClientFault> {
+    let Some(node) = nodes.last() else {
+        return Err(ClientFault::Words);
+    };
+    request_of(alloc, secrets, *node, asked)
 }
 
 // What is told of words that were read.
@@ -42,9 +81,9 @@ fn told_by(
     secrets: &Secrets,
     matches: &ArgMatches<'_>,
 ) -> Result<Vec<u8>, ClientFault> {
-    match plan_of(alloc, matches)? {
-        Some(plan) => told_of(alloc, secrets, &plan),
-        None => Err(ClientFault::Words),
+    match plan_of(alloc, matches) {
+        Ok(plan) => told_of(alloc, secrets, &plan),
+        Err(_) => Err(ClientFault::Words),
     }
 }
 
@@ -116,6 +155,26 @@ const REQUESTS: &[(&str, &str)] = &[
     ("fetch 7 1 0 16 --text", "fetch 7 1 0 16"),
     ("follow 7 1", "fetch 7 1 0 16"),
     ("follow 7 1 --from 12 --times 3", "fetch 7 1 12 16"),
+    (
+        "group --nodes 0,1 7 1 fbeb 8 4096 4",
+        "make 7 1 fbeb 0,1 8 4096 4",
+    ),
+    (
+        "group 7 1 fbeb 8 4096 4 --nodes 31",
+        "make 7 1 fbeb 31 8 4096 4",
+    ),
+    ("drop --nodes 0,1,2 7 1", "drop 7 1"),
+    ("check --nodes 0,1,2 7 1", "list 0 64"),
+    ("list", "list 0 64"),
+    ("status", "status"),
+    ("shutdown", "stop"),
+    ("group 7 1 fbeb 8 4096 4", "!2"),
+    ("group --nodes 1,0 7 1 fbeb 8 4096 4", "!2"),
+    ("group --nodes 0,32 7 1 fbeb 8 4096 4", "!2"),
+    ("group --nodes 0,1 7 1 fbeb 0,1 8 4096 4", "!2"),
+    ("drop --nodes , 7 1", "!2"),
+    ("check --nodes 0,1 7 65536", "!2"),
+    ("list 0", "!2"),
     ("say 7 1 ja", "!2"),
     ("say 7 1 6A 02", "!2"),
     ("say 7 1 ja x --text", "!2"),
@@ -214,6 +273,137 @@ fn keys_become_tokens(rt: HostRuntime) -> Result<(), Fail> {
     for text in BAD_SECRETS {
         let bad = is_bad(rt.alloc(), text)?;
         assert!(rt; bad);
+    }
+    Ok(())
+}
+
+// Whether words without an option in front of the subcommand are taken.
+fn is_taken(alloc: Global, line: &str) -> Result<bool, ClientFault> {
+    let keys = secrets(alloc, KEYS)?;
+    let words: Vec<&str> = line.split(' ').collect(alloc)?;
+    Ok(told(alloc, &keys, &words).is_ok())
+}
+
+// Words without a port, a node or both, and whether they are taken.
+const WITHOUT: &[(&str, bool)] = &[
+    ("gb_ctl token admin", true),
+    ("gb_ctl token tenant 7", true),
+    ("gb_ctl --node 2 token member 7 1", true),
+    ("gb_ctl token member 7 1", false),
+    ("gb_ctl open 7 1", false),
+    ("gb_ctl --port 42000 open 7 1", false),
+    ("gb_ctl --node 2 open 7 1", false),
+    ("gb_ctl --port 42000 --wait 3600 --node 2 open 7 1", true),
+    ("gb_ctl --port 42000 --wait 3601 --node 2 open 7 1", false),
+    ("gb_ctl --port 42000 --wait 0 --node 2 open 7 1", false),
+    (
+        "gb_ctl --port 42000 group --nodes 0,1 7 1 beb 8 4096 4",
+        true,
+    ),
+    (
+        "gb_ctl --port 65001 group --nodes 0,1 7 1 beb 8 4096 4",
+        false,
+    ),
+    ("gb_ctl --port 42000 drop --nodes 0,1 7 1", true),
+    ("gb_ctl --port 42000 drop 7 1", false),
+    ("gb_ctl --port 42000 check --nodes 0,1 7 1", true),
+];
+
+#[test]
+fn a_port_and_a_node_are_needed_where_one_is_asked(rt: HostRuntime) -> Result<(), Fail> {
+    for (line, wanted) in WITHOUT {
+        let taken = is_taken(rt.alloc(), line)?;
+        assert!(rt; taken == *wanted);
+    }
+    Ok(())
+}
+
+// What is told of the wrong word of a request.
+const BLAMED: &[(Head, &str, bool, &str)] = &[
+    (
+        Head::Open,
+        "65536 1",
+        false,
+        "T is '65536', and takes a number from 0 to 65535 without leading zeros",
+    ),
+    (
+        Head::Open,
+        "7 01",
+        false,
+        "G is '01', and takes a number from 0 to 65535, and for a later generation a dot and its number, as 1 or 1.2",
+    ),
+    (
+        Head::Say,
+        "7 1 hello",
+        false,
+        "PAYLOAD is 'hello', and takes hexadecimal digits, two for each byte, or - for no bytes; with --text it takes text",
+    ),
+    (
+        Head::Say,
+        "7 1 6a6",
+        false,
+        "PAYLOAD is '6a6', and takes hexadecimal digits, two for each byte, or - for no bytes; with --text it takes text",
+    ),
+    (
+        Head::Say,
+        "7 1 hello x",
+        true,
+        "SEQ is 'x', and takes a number from 0 to 4294967295 without leading zeros",
+    ),
+    (
+        Head::Say,
+        "7 1 hello",
+        true,
+        "PAYLOAD is too long: a message has at most 4096 bytes, and 1024 with packets of version 1",
+    ),
+    (
+        Head::Make,
+        "7 1 bob 0,1 8 4096 4",
+        false,
+        "KIND is 'bob', and takes one of beb, lazy, eager, allack, majority, fbeb, flazy, feager, fallack and fmajority",
+    ),
+    (
+        Head::Make,
+        "7 1 beb 1,0 8 4096 4",
+        false,
+        "MEMBERS is '1,0', and takes numbers of nodes from 0 to 31, rising, with commas between them, as 0,1,2",
+    ),
+    (
+        Head::Tenant,
+        "7 4 8 -1 4",
+        false,
+        "BYTES is '-1', and takes a number from 0 to 4294967295 without leading zeros",
+    ),
+    (
+        Head::Fetch,
+        "7 1 0 x",
+        false,
+        "MAX is 'x', and takes a number from 0 to 4294967295 without leading zeros",
+    ),
+];
+
+// Whether this is told of a request.
+fn is_blamed(
+    alloc: Global,
+    head: Head,
+    line: &str,
+    is_text: bool,
+    wanted: &str,
+) -> Result<bool, ClientFault> {
+    let asked = Asked {
+        head,
+        words: line.split(' ').collect(alloc)?,
+        is_text,
+    };
+    let found = blame(alloc, &asked)?;
+    Ok(found.as_slice() == wanted.as_bytes())
+}
+
+#[test]
+fn the_wrong_word_is_told(rt: HostRuntime) -> Result<(), Fail> {
+    for (head, line, is_text, wanted) in BLAMED {
+        let blamed = is_blamed(rt.alloc(), *head, line, *is_text, wanted)?;
+        assert!(rt; blamed);
     }
     Ok(())
 }

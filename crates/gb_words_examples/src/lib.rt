@@ -5,6 +5,12 @@
 #[cfg(test)]
 mod client_words;
 #[cfg(test)]
+mod errands;
+#[cfg(test)]
+mod figures;
+#[cfg(test)]
+mod operations;
+#[cfg(test)]
 mod replies;
 #[cfg(test)]
 mod requests;

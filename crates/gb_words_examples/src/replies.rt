@@ -1,71 +1,169 @@
 //! Worked replies, and what is shown of them; messages of a session.
-use gb_client::answer::{count_of, status_of};
+use gb_client::answer::{read_reply, status_of};
 use gb_client::exchange::{receive, send};
 use gb_client::fault::ClientFault;
+use gb_client::operating::{is_status, read_page};
 use gb_client::show::{entry_lines, reply_lines};
 use gb_types::memory::OutOfMemory;
+use gb_types::reply::Reply;
 use std::alloc::Global;
-use std::process::Abort;
 use std::test::Fail;
 
 const LOG: &[u8] = b"log 3 0:1:68692031 1:2:00ff 1:3:-";
 
+/// The reply with this text.
+fn reply_of(alloc: Global, text: &[u8]) -> Result<Reply, ClientFault> {
+    match read_reply(alloc, text)? {
+        Some(reply) => Ok(reply),
+        None => Err(ClientFault::NoReply),
+    }
+}
+
 /// Whether these lines are shown of a reply.
-fn shows(alloc: Global, reply: &[u8], is_text: bool, lines: &[u8]) -> Result<bool, OutOfMemory> {
-    let shown = reply_lines(alloc, reply, is_text)?;
+fn shows(alloc: Global, text: &[u8], is_text: bool, lines: &[u8]) -> Result<bool, ClientFault> {
+    let reply = reply_of(alloc, text)?;
+    let shown = reply_lines(alloc, &reply, is_text)?;
     Ok(shown.as_slice() == lines)
 }
 
-/// Whether these lines are shown of a reply's entries.
-fn shows_entries(alloc: Global, reply: &[u8], lines: &[u8]) -> Result<bool, OutOfMemory> {
-    let shown = entry_lines(alloc, reply, false)?;
-    Ok(shown.as_slice() == lines)
+/// Whether these lines are shown of a log's entries.
+fn shows_entries(alloc: Global, text: &[u8], lines: &[u8]) -> Result<bool, ClientFault> {
+    match &reply_of(alloc, text)? {
+        Reply::Log(entries) => {
+            let shown = entry_lines(alloc, entries.as_slice(), false)?;
+            Ok(shown.as_slice() == lines)
+        }
+        _ => Ok(false),
+    }
 }
 
-/// Replies, and the exit status for each.
+/// Texts, and the exit status for each; 3: it is no reply.
 const STATUSES: &[(&[u8], u8)] = &[
     (b"ok", 0),
     (b"said 1", 0),
+    (b"said 65535", 0),
     (LOG, 0),
+    (b"log 0", 0),
     (b"refused 1 Denied", 1),
+    (b"refused 10 Window", 1),
+    (b"refused 16 OutOfMemory", 1),
     (b"hello", 3),
     (b"", 3),
+    (b"okay", 3),
+    (b"said 65536", 3),
+    (b"said 01", 3),
+    (b"said", 3),
+    (b"log junk", 3),
+    (b"log", 3),
+    (b"log ", 3),
+    (b"log 1", 3),
+    (b"log 2 0:1:61", 3),
+    (b"log 1 0:1:61 ", 3),
+    (b"log 1  0:1:61", 3),
+    (b"log 1 32:1:61", 3),
+    (b"log 1 0:65536:61", 3),
+    (b"log 1 0:1:6A", 3),
+    (b"log 1 0:1:6", 3),
+    (b"log 1 0:1:", 3),
+    (b"log 1 0:1:61:62", 3),
+    (b"log 1 0:1", 3),
+    (b"refused 2 Denied", 3),
+    (b"refused 17 Denied", 3),
+    (b"refused 1 Denied ", 3),
+    (b"refused 1", 3),
+    (b"refused ", 3),
 ];
 
-/// Compares what is shown of replies with entries.
-fn compare_shown(rt: &impl Abort, alloc: Global) -> Result<(), OutOfMemory> {
-    let shown = shows(
-        alloc,
-        LOG,
-        true,
-        b"log 3\n0:1:\"hi 1\"\n1:2:00ff\n1:3:\"\"\n",
-    )?;
-    assert!(rt; shown);
-    let plain = shows(alloc, b"log 1 0:1:61", false, b"log 1 0:1:61\n")?;
+/// The exit status for a text.
+fn status(alloc: Global, text: &[u8]) -> Result<u8, ClientFault> {
+    match read_reply(alloc, text)? {
+        Some(reply) => Ok(status_of(&reply)),
+        None => Ok(3),
+    }
+}
+
+/// Logs, and what is shown of them as text: a control character, in one byte or in two, is never shown as it is.
+const SHOWN: &[(&[u8], &[u8])] = &[
+    (LOG, b"log 3\n0:1:\"hi 1\"\n1:2:00ff\n1:3:\"\"\n"),
+    (b"log 1 0:1:1b5b324a", b"log 1\n0:1:1b5b324a\n"),
+    (b"log 1 0:1:610a62", b"log 1\n0:1:610a62\n"),
+    (b"log 1 0:1:7f", b"log 1\n0:1:7f\n"),
+    (b"log 1 0:1:c29b324a", b"log 1\n0:1:c29b324a\n"),
+    (b"log 1 0:1:c3a9", b"log 1\n0:1:\"\xc3\xa9\"\n"),
+    (b"said 7", b"said 7\n"),
+];
+
+#[test]
+fn replies_are_shown(rt: HostRuntime) -> Result<(), Fail> {
+    let alloc = rt.alloc();
+    for (text, lines) in SHOWN {
+        let shown = shows(alloc, text, true, lines)?;
+        assert!(rt; shown);
+    }
+    let plain = shows(alloc, b"log 1 0:1:1b", false, b"log 1 0:1:1b\n")?;
     assert!(rt; plain);
     let entries = shows_entries(alloc, b"log 2 0:1:61 0:2:-", b"0:1:61\n0:2:-\n")?;
     assert!(rt; entries);
     Ok(())
 }
 
-/// Compares how many entries are counted in replies.
-fn compare_counts(rt: &impl Abort, alloc: Global) -> Result<(), OutOfMemory> {
-    let three = count_of(alloc, LOG)?;
-    assert!(rt; three == Some(3));
-    let none = count_of(alloc, b"ok")?;
-    assert!(rt; none == None);
-    Ok(())
-}
-
 #[test]
-fn replies_are_shown(rt: HostRuntime) -> Result<(), Fail> {
-    compare_shown(&rt, rt.alloc())?;
-    compare_counts(&rt, rt.alloc())?;
-    for (reply, status) in STATUSES {
-        assert!(rt; status_of(reply) == *status);
+fn what_is_no_reply_is_told(rt: HostRuntime) -> Result<(), Fail> {
+    for (text, wanted) in STATUSES {
+        let found = status(rt.alloc(), text)?;
+        assert!(rt; found == *wanted);
     }
     Ok(())
 }
+
+/// Texts of lists, and how many groups each page has; none: it is no list.
+const PAGES: &[(&[u8], Option<usize>)] = &[
+    (b"groups 0", Some(0)),
+    (b"groups 2 7:1:beb:0,1:8:4096:4:open:3", Some(1)),
+    (
+        b"groups 2 7:1:-:-:0:0:0:dropped:0 7:2:fallack:0:1:0:1:made:0",
+        Some(2),
+    ),
+    (b"groups", None),
+    (b"groups x", None),
+    (b"groups 1 7:1:beb:0,1:8:4096:4:closed:3", None),
+    (b"groups 1 7:1:beb:0,1:8:4096:4:open", None),
+    (b"groups 1 7:65536:beb:0,1:8:4096:4:open:3", None),
+    (b"ok", None),
+];
+
+/// How many groups a page has, or none if it is no page.
+fn rows_of(alloc: Global, text: &[u8]) -> Result<Option<usize>, OutOfMemory> {
+    match read_page(alloc, text)? {
+        Some(page) => Ok(Some(page.rows.len())),
+        None => Ok(None),
+    }
+}
+
+#[test]
+fn lists_and_figures_are_read(rt: HostRuntime) -> Result<(), Fail> {
+    for (text, wanted) in PAGES {
+        let found = rows_of(rt.alloc(), text)?;
+        assert!(rt; found == *wanted);
+    }
+    for (text, wanted) in FIGURES {
+        let found = is_status(rt.alloc(), text)?;
+        assert!(rt; found == *wanted);
+    }
+    Ok(())
+}
+
+/// Texts, and whether they are a node's figures.
+const FIGURES: &[(&[u8], bool)] = &[
+    (b"status", true),
+    (b"status groups=3 lost=18446744073709551615", true),
+    (b"status groups=", false),
+    (b"status =3", false),
+    (b"status groups", false),
+    (b"status  groups=3", false),
+    (b"statuses groups=3", false),
+    (b"status groups=03", false),
+];
 
 /// Whether a message is sent with its length in front.
 fn is_sent(alloc: Global) -> Result<bool, ClientFault> {

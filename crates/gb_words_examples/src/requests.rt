@@ -28,6 +28,9 @@ const MAKE: &[u8] =
 
 const OPEN: &[u8] = b"open 0123456789abcdefABCDEF0123456789abcdefABCDEF0123456789abcdefABCD 7 1";
 
+const OPEN_LATER: &[u8] =
+    b"open 0123456789abcdefABCDEF0123456789abcdefABCDEF0123456789abcdefABCD 7 1.4294967295";
+
 const SHUT: &[u8] = b"shut 0123456789abcdefABCDEF0123456789abcdefABCDEF0123456789abcdefABCD 7 1";
 
 const DROP: &[u8] = b"drop 0123456789abcdefABCDEF0123456789abcdefABCDEF0123456789abcdefABCD 7 1";
@@ -47,6 +50,14 @@ const FETCH: &[u8] =
 const GROUP: Addr = Addr {
     tenant: 7,
     group: 1,
+    generation: 0,
+};
+
+/// The last generation of the group.
+const LATER: Addr = Addr {
+    tenant: 7,
+    group: 1,
+    generation: u32::MAX,
 };
 
 const WORDS: &[(&[u8], Option<[u8; 32]>)] = &[
@@ -94,11 +105,19 @@ fn is_of_group(token: &[u8; 32], address: Addr) -> bool {
     *token == BYTES && address == GROUP
 }
 
+/// Which open it is, and whether its token is that of the others: 10 of the last generation, 1 of any other group.
+fn which_open(token: &[u8; 32], address: Addr) -> (u8, bool) {
+    if address == LATER {
+        return (10, *token == BYTES);
+    }
+    (1, is_of_group(token, address))
+}
+
 /// Which of these requests it is, where all its parts are the ones that its words spell: 1 open, 2 shut, 3 drop, 4 say,
-/// 5 fetch, 6 tenant, 7 make, 8 say under 0, 9 say under 4,294,967,295; 0 for any other.
+/// 5 fetch, 6 tenant, 7 make, 8 say under 0, 9 say under 4,294,967,295, 10 open of the last generation; 0 for any other.
 fn which(request: &Request) -> u8 {
     let (number, is_spelled) = match request {
-        Request::OpenGroup(token, address) => (1, is_of_group(token, *address)),
+        Request::OpenGroup(token, address) => which_open(token, *address),
         Request::ShutGroup(token, address) => (2, is_of_group(token, *address)),
         Request::DropGroup(token, address) => (3, is_of_group(token, *address)),
         Request::Say(token, address, message) => {
@@ -150,6 +169,7 @@ fn is_spec(address: Addr, spec: &Spec) -> bool {
 /// Each body, and which request it spells.
 const HEADS: &[(&[u8], u8)] = &[
     (OPEN, 1),
+    (OPEN_LATER, 10),
     (SHUT, 2),
     (DROP, 3),
     (SAY, 4),
@@ -229,6 +249,11 @@ const BODIES: &[&[u8]] = &[
     b"open 0123456789abcdefABCDEF0123456789abcdefABCDEF0123456789abcdefABCg 7 1",
     b"open 0123456789abcdefABCDEF0123456789abcdefABCDEF0123456789abcdefABCD 07 1",
     b"open 0123456789abcdefABCDEF0123456789abcdefABCDEF0123456789abcdefABCD 7 65536",
+    b"open 0123456789abcdefABCDEF0123456789abcdefABCDEF0123456789abcdefABCD 7 1.0",
+    b"open 0123456789abcdefABCDEF0123456789abcdefABCDEF0123456789abcdefABCD 7 1.",
+    b"open 0123456789abcdefABCDEF0123456789abcdefABCDEF0123456789abcdefABCD 7 1.01",
+    b"open 0123456789abcdefABCDEF0123456789abcdefABCDEF0123456789abcdefABCD 7 1.4294967296",
+    b"open 0123456789abcdefABCDEF0123456789abcdefABCDEF0123456789abcdefABCD 7.1 1",
     b"open  0123456789abcdefABCDEF0123456789abcdefABCDEF0123456789abcdefABCD 7 1",
     b"make 0123456789abcdefABCDEF0123456789abcdefABCDEF0123456789abcdefABCD 7 1 beb 0,32 8 64 4",
     b"say 0123456789abcdefABCDEF0123456789abcdefABCDEF0123456789abcdefABCD 7 1",

@@ -4,4 +4,4 @@ use Rattle.gb_client.proofs.NeedLemmas.{member_reads}
 use Rattle.gb_client.proofs.need.member_need.Goals as goal
 
 pub returns : goal.returns
-returns c = member_reads _ _ _ _ _ _ _ (words_and_rest c.args.words.now _ 2 (omega arith)) c.in_ok-tenant.ensures c.in_ok-group.ensures
+returns c = member_reads _ _ _ _ _ _ (words_and_rest c.args.words.now _ 2 (omega arith)) c.in_ok-address.ensures

@@ -1,7 +1,7 @@
 use Rattle.std.proofs.Common.{◌++◌, ◌∷◌, [], sym, append-nil, arith}
 use Rattle.gb_session.proofs.RunLemmas.{on_err}
 use Rattle.gb_session.proofs.SettleLemmas.{front_none}
-use Rattle.gb_session.proofs.NextLemmas.{within_none, within_one, written_one, front_next, takes_ended, fails_asked}
+use Rattle.gb_session.proofs.NextLemmas.{within_none, within_one, written_one, front_next, takes_ended, breaks_off}
 use Rattle.gb_session.proofs.session.Session.answer_whole.Goals as goal
 
 pub messages-init : goal.messages-init
@@ -12,10 +12,10 @@ messages-init g c = record {
   out_is = sym (append-nil c.args.out.now.items);
 }
 
-pub returns-in_err-answer_next-clause-asked : goal.returns-in_err-answer_next-clause-asked
-returns-in_err-answer_next-clause-asked g c =
-    on_err _ (fails_asked g.A.Answers.answers c.args.is_late c.args.answers.now c.messages.answers c.answer_next.new.answers c.args.self.now.kept c.messages.self.kept c.messages.invariant.texts c.args.self.now.left c.messages.self.left
-    c.messages.self.left c.messages.self.kept c.messages.out.items c.answer_next.new.out.items c.messages.invariant.front c.in_err-answer_next.ensures.err)
+pub returns-in_err-answer_next-clause-fails : goal.returns-in_err-answer_next-clause-fails
+returns-in_err-answer_next-clause-fails g c =
+    on_err _ (breaks_off g.A.Answers.answers c.args.is_late c.args.answers.now c.messages.answers c.answer_next.new.answers c.args.self.now.kept c.messages.self c.answer_next.new.self c.args.out.now.items c.messages.out.items c.answer_next.new.out.items
+    c.messages.invariant.texts c.args.self.now.left c.args.room c.messages.invariant.front c.messages.invariant.within c.messages.invariant.out_is c.in_err-answer_next.ensures.err c.in_err-answer_next.ensures.stays)
 
 pub messages-preserved : goal.messages-preserved
 messages-preserved g c =

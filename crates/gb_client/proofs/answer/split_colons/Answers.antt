@@ -1,0 +1,12 @@
+use Rattle.std.proofs.Common.{rules, tests, ◌≡◌, ◌==◌, map}
+use Rattle.std.specs.Result.{IfOk}
+use Rattle.std.proofs.lemmas.Iterator.Consumers.{map_from_collect}
+use Rattle.std.proofs.lemmas.Iterator.Splits.{YieldsList-from_slice_split}
+use Rattle.std.specs.List.{slice_split}
+use Rattle.gb_client.proofs.answer.split_colons.Goals as goal
+
+pub returns : goal.returns
+returns c =
+    let all : IfOk c.collect.result (λ v. map (λ part. part.now) v.items ≡ slice_split (λ byte. byte == 58) c.args.word.now) =
+    map_from_collect _ c.collect.ensures.ran (YieldsList-from_slice_split _ _ c.args.word.now c.split.ensures.rest c.split.ensures.done c.split.ensures.closure (λ x r q k. search (rules, tests))) in
+    rw c.in_ok-collect.was at all

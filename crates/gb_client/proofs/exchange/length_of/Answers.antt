@@ -1,0 +1,10 @@
+use Rattle.std.proofs.Common.{arith, ◌≡◌, take, sym, ap, ◌∙◌}
+use Rattle.std.specs.Int.{w32, from_be_bytes}
+use Rattle.std.proofs.Math.Seq.{take-length}
+use Rattle.std.proofs.lemmas.Nat.{be_bytes_4}
+use Rattle.gb_client.proofs.exchange.length_of.Goals as goal
+
+pub returns : goal.returns
+returns c =
+    let whole : take 4 c.args.head.now ≡ c.args.head.now = ap (λ n. take n c.args.head.now) (sym c.requires) ∙ take-length c.args.head.now in
+    be_bytes_4 c.args.head.now _ c.requires (λ i. omega (arith, c.type_inv.head i)) (c.number_of.ensures ∙ ap (from_be_bytes w32) whole)

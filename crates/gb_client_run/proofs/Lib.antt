@@ -1,0 +1,2 @@
+pub mod AskedLemmas
+pub mod FollowLemmas

@@ -1,0 +1,113 @@
+//! Whether a group was made alike at its nodes.
+use crate::listing::{Found, find};
+use crate::nodes::Nodes;
+use crate::printing::print;
+use crate::rows::spec_in;
+use crate::target::Target;
+use gb_cap::token::{Need, Token};
+use gb_client::fault::{ClientFault, fault_status};
+use gb_types::node::NodeId;
+use gb_types::number::put_number;
+use std::alloc::Global;
+use std::io::Write;
+
+// The word for the nodes of a group.
+fn members_word(alloc: Global, nodes: &[NodeId]) -> Result<Vec<u8>, ClientFault> {
+    let mut word = Vec::new(alloc);
+    for node in nodes {
+        if !word.is_empty() {
+            word.push(b',')?;
+        }
+        put_number(&mut word, u64::from(node.number))?;
+    }
+    Ok(word)
+}
+
+// Prints what a node lists of a group.
+fn print_found<W: Write>(
+    alloc: Global,
+    node: NodeId,
+    found: &Found,
+    writer: &mut W,
+) -> Result<(), ClientFault> {
+    let mut line = Vec::from_slice(alloc, b"node ")?;
+    put_number(&mut line, u64::from(node.number))?;
+    line.extend_from_slice(b": ")?;
+    match found {
+        Found::Row(text) => line.extend_from_slice(text)?,
+        Found::None => line.extend_from_slice(b"no such group")?,
+        Found::Refused(text) => line.extend_from_slice(text)?,
+    }
+    line.push(b'\n')?;
+    print(writer, &line)
+}
+
+// What a node lists of a group, which is printed, and the exit status for it.
+fn look<N: Nodes, W: Write>(
+    alloc: Global,
+    nodes: &mut N,
+    target: Target<'_>,
+    token: &Token,
+    node: NodeId,
+    names: (u16, u16),
+    writer: &mut W,
+) -> Result<(Found, u8), ClientFault> {
+    match find(alloc, nodes, target, token, node, names.0, names.1) {
+        Ok(found) => {
+            print_found(alloc, node, &found, writer)?;
+            let status = if matches!(found, Found::Row(_)) { 0 } else { 1 };
+            Ok((found, status))
+        }
+        Err(fault) => {
+            let line = format!(in alloc; "node {}: {fault}\n", node.number)?;
+            print(writer, line.as_bytes())?;
+            Ok((Found::None, fault_status(fault)))
+        }
+    }
+}
+
+/// Prints what each of some nodes lists of a group, and whether they made it alike: of the same kind, with these nodes as members, and
+/// with the same limits. The exit status: 0 if they did, 1 if not, else that of the last node that could not be asked.
+pub fn check_group<N: Nodes, W: Write>(
+    alloc: Global,
+    nodes: &mut N,
+    target: Target<'_>,
+    members: &[NodeId],
+    tenant: u16,
+    group: u16,
+    writer: &mut W,
+) -> Result<u8, ClientFault> {
+    let token = target.secrets.token_for(Need::Admin)?;
+    let word = members_word(alloc, members)?;
+    let mut first: Option<Vec<u8>> = None;
+    let mut status = 0;
+    for node in members {
+        let (found, here) = look(alloc, nodes, target, &token, *node, (tenant, group), writer)?;
+        if here != 0 {
+            status = here;
+        }
+        if let Found::Row(row) = &found {
+            let spec = spec_in(alloc, row, &word)?;
+            let is_alike = match (&spec, &first) {
+                (None, _) => false,
+                (Some(_), None) => true,
+                (Some(spec), Some(first)) => spec.as_slice() == first.as_slice(),
+            };
+            if !is_alike && status == 0 {
+                status = 1;
+            }
+            if first.is_none() {
+                first = spec;
+            }
+        }
+    }
+    print(
+        writer,
+        if status == 0 {
+            b"alike\n".as_slice()
+        } else {
+            b"not alike\n"
+        },
+    )?;
+    Ok(status)
+}

@@ -1,0 +1,87 @@
+//! What comes into a log, as it comes.
+ghost use Rattle.std.specs.Prelude.{◌≡◌, false, IfOk};
+ghost use Rattle.std.specs.Io.KnownBytes.{Consumes};
+ghost use Rattle.gb_session.specs.Streams.{framed};
+ghost use Rattle.gb_types.specs.ReplyText.{reply_spelling};
+ghost use Rattle.gb_client_run.specs.Following.{HasFollowed};
+
+use crate::printing::print;
+use gb_client::answer::{read_reply, status_of};
+use gb_client::awaiting::await_text;
+use gb_client::exchange::{receive, send};
+use gb_client::fault::ClientFault;
+use gb_client::secrets::Secrets;
+use gb_client::show::{entry_lines, reply_lines};
+use gb_client::task::{Asked, fetch_of};
+use gb_types::node::NodeId;
+use gb_types::reply::Reply;
+use std::alloc::Global;
+use std::io::{Read, Write};
+
+/// How many milliseconds a node is let wait at most for something new.
+pub const WAIT: u32 = 30_000;
+
+// The next reply of a node to a fetch that waits.
+fn next_reply<R: Read>(alloc: Global, reader: &mut R) -> Result<Reply, ClientFault>
+    ensures { IfOk result (λ reply. Consumes (R.remaining reader.old) (R.remaining reader.new) (framed (reply_spelling reply))) }
+{
+    let text = receive(alloc, reader)?;
+    match read_reply(alloc, &text)? {
+        Some(reply) => Ok(reply),
+        None => Err(ClientFault::NoReply),
+    }
+}
+
+// Asks a node what stands in a log from a place on, and lets it wait.
+fn ask_next<S: Write>(
+    alloc: Global,
+    sender: &mut S,
+    secrets: &Secrets,
+    node: NodeId,
+    asked: &Asked<'_>,
+    place: u32,
+) -> Result<(), ClientFault> {
+    let fetch = fetch_of(alloc, secrets, node, asked, place)?;
+    let body = await_text(alloc, &fetch, WAIT)?;
+    send(sender, &body)
+}
+
+/// Waits for what comes into a log, on one connection, and prints its new entries, until the node refuses; that is printed too.
+/// Without a refusal it goes on for `times` replies, each awaited for up to `WAIT` milliseconds, or without end. The exit status.
+pub fn follow<R: Read, S: Write, W: Write>(
+    alloc: Global,
+    reader: &mut R,
+    sender: &mut S,
+    secrets: &Secrets,
+    node: NodeId,
+    asked: &Asked<'_>,
+    from: u32,
+    times: Option<u32>,
+    writer: &mut W,
+) -> Result<u8, ClientFault>
+    ensures { IfOk result (HasFollowed asked.now.is_text (R.remaining reader.old) (R.remaining reader.new) (W.contents writer.old) (W.contents writer.new)) }
+{
+    let mut place = from;
+    let turns = match times {
+        Some(times) => u64::from(times),
+        None => u64::MAX,
+    };
+    'turns: for _ in 0..turns {
+        ask_next(alloc, sender, secrets, node, asked, place)?;
+        let reply = next_reply(alloc, reader)?;
+        match &reply {
+            Reply::Log(entries) => {
+                let lines = entry_lines(alloc, entries.as_slice(), asked.is_text)?;
+                print(writer, &lines)?;
+                place = place.saturating_add(u32::try_from(entries.len()).unwrap_or(u32::MAX));
+            }
+            Reply::Refused(_) => {
+                let line = reply_lines(alloc, &reply, false)?;
+                print(writer, &line)?;
+                return Ok(status_of(&reply));
+            }
+            _ => return Err(ClientFault::NoReply),
+        }
+    }
+    Ok(0)
+}

@@ -1,0 +1,297 @@
+//! A group at all its nodes: making it everywhere before it is opened anywhere, and dropping it everywhere.
+ghost use Rattle.std.specs.Prelude.{◌≡◌, ◌⊎◌, List, map, Ok, IfOk};
+ghost use Rattle.gb_client_run.specs.Asked.{Exchange, HasAsked};
+ghost use Rattle.gb_client_run.specs.Groups.{HasDoneAt, HasDoneAll, HasMadeAndOpened, outcome_status};
+
+use crate::listing::{Found, find};
+use crate::nodes::Nodes;
+use crate::once::reply_to;
+use crate::printing::print;
+use crate::rows::is_made_so;
+use crate::target::Target;
+use gb_cap::token::Need;
+use gb_client::fault::{ClientFault, fault_status};
+use gb_client::operating::{Row, read_row};
+use gb_client::show::reply_lines;
+use gb_client::task::Asked;
+use gb_session::head::Head;
+use gb_types::node::NodeId;
+use gb_types::number::put_number;
+use gb_types::refusal::Refusal;
+use gb_types::reply::Reply;
+use gb_types::request_words::read_u16;
+use std::alloc::Global;
+use std::io::Write;
+
+/// What came of a request at a node.
+#[derive(Clone, Copy, PartialEq, Eq)]
+pub enum Outcome {
+    Done,
+    /// It was done before: the node refused, and lists the group as it is wanted.
+    Before,
+    Refused(Refusal),
+    Failed(ClientFault),
+}
+
+// Returns true if a node that refuses a request so may have done it before.
+fn may_be_done(head: Head, refusal: Refusal) -> bool {
+    matches!(
+        (head, refusal),
+        (Head::Make, Refusal::Spent)
+            | (Head::Open, Refusal::WrongPhase)
+            | (Head::Drop, Refusal::Spent)
+    )
+}
+
+// Returns true if what a request asks has been done at a node that lists the group so.
+fn is_settled(alloc: Global, asked: &Asked<'_>, row: &Row<'_>) -> Result<bool, ClientFault> {
+    match asked.head {
+        Head::Make => is_made_so(alloc, row.text, asked.words.as_slice()),
+        Head::Open => Ok(row.phase == b"open".as_slice()),
+        Head::Drop => Ok(row.phase == b"dropped".as_slice()),
+        _ => Ok(false),
+    }
+}
+
+// The tenant and the group that a request names.
+fn names_of(asked: &Asked<'_>) -> Option<(u16, u16)> {
+    let [tenant, group, ..] = asked.words.as_slice() else {
+        return None;
+    };
+    Some((read_u16(tenant.as_bytes())?, read_u16(group.as_bytes())?))
+}
+
+// Returns true if what was found of a group is as a request asks it.
+fn is_found(alloc: Global, asked: &Asked<'_>, found: &Found) -> Result<bool, ClientFault> {
+    let Found::Row(text) = found else {
+        return Ok(false);
+    };
+    match read_row(alloc, text)? {
+        Some(row) => is_settled(alloc, asked, &row),
+        None => Ok(false),
+    }
+}
+
+// Returns true if a node lists the group as a request asks it. False where the secrets have no token for a list.
+fn was_done<N: Nodes>(
+    alloc: Global,
+    nodes: &mut N,
+    target: Target<'_>,
+    node: NodeId,
+    asked: &Asked<'_>,
+) -> Result<bool, ClientFault>
+    ensures { IfOk result (λ _. (told : List Exchange) × HasAsked N.asks nodes.old told nodes.new) }
+{
+    let Ok(token) = target.secrets.token_for(Need::Admin) else {
+        return Ok(false);
+    };
+    let Some((tenant, group)) = names_of(asked) else {
+        return Ok(false);
+    };
+    let found = find(alloc, nodes, target, &token, node, tenant, group)?;
+    is_found(alloc, asked, &found)
+}
+
+// What came of a request that a node refused: it had been done before, where the node lists the group so.
+fn settle<N: Nodes>(
+    alloc: Global,
+    nodes: &mut N,
+    target: Target<'_>,
+    node: NodeId,
+    asked: &Asked<'_>,
+    refusal: Refusal,
+) -> Outcome
+    ensures which { (result ≡ Outcome.Before) ⊎ (result ≡ Outcome.Refused refusal) }
+    ensures told { result ≡ Outcome.Before → (told : List Exchange) × HasAsked N.asks nodes.old told nodes.new }
+{
+    if !may_be_done(asked.head, refusal) {
+        return Outcome::Refused(refusal);
+    }
+    match was_done(alloc, nodes, target, node, asked) {
+        Ok(true) => Outcome::Before,
+        _ => Outcome::Refused(refusal),
+    }
+}
+
+// Makes a request at a node.
+fn ask_at<N: Nodes>(
+    alloc: Global,
+    nodes: &mut N,
+    target: Target<'_>,
+    node: NodeId,
+    asked: &Asked<'_>,
+) -> Result<Outcome, ClientFault>
+    ensures { IfOk result (λ outcome. outcome_status outcome ≡ 0 → HasDoneAt N.asks target.entry.secrets.now target.entry.server.port
+        asked.now (map (λ word. word.now) asked.now.words.items) node nodes.old nodes.new) }
+{
+    let reply = reply_to(alloc, nodes, target, node, asked)?;
+    match &reply {
+        Reply::Done => Ok(Outcome::Done),
+        Reply::Refused(why) => Ok(settle(alloc, nodes, target, node, asked, *why)),
+        _ => Err(ClientFault::NoReply),
+    }
+}
+
+// What has been done at a node, in a word.
+fn done_word(head: Head) -> &'static [u8] {
+    match head {
+        Head::Make => b"made",
+        Head::Open => b"opened",
+        _ => b"dropped",
+    }
+}
+
+// Appends what came of a request.
+fn put_outcome(
+    alloc: Global,
+    line: &mut Vec<u8>,
+    head: Head,
+    outcome: Outcome,
+) -> Result<(), ClientFault> {
+    match outcome {
+        Outcome::Done => {
+            line.extend_from_slice(done_word(head))?;
+            line.push(b'\n')?;
+        }
+        Outcome::Before => {
+            line.extend_from_slice(done_word(head))?;
+            line.extend_from_slice(b" before\n")?;
+        }
+        Outcome::Refused(why) => {
+            let text = reply_lines(alloc, &Reply::Refused(why), false)?;
+            line.extend_from_slice(&text)?;
+        }
+        Outcome::Failed(fault) => {
+            let text = format!(in alloc; "{fault}\n")?;
+            line.extend_from_slice(text.as_bytes())?;
+        }
+    }
+    Ok(())
+}
+
+// The line of a node: what came of a request there.
+fn outcome_line(
+    alloc: Global,
+    node: NodeId,
+    head: Head,
+    outcome: Outcome,
+) -> Result<Vec<u8>, ClientFault> {
+    let mut line = Vec::from_slice(alloc, b"node ")?;
+    put_number(&mut line, u64::from(node.number))?;
+    line.extend_from_slice(b": ")?;
+    put_outcome(alloc, &mut line, head, outcome)?;
+    Ok(line)
+}
+
+// Prints of each node that it was not asked.
+fn print_not_asked<W: Write>(
+    alloc: Global,
+    nodes: &[NodeId],
+    writer: &mut W,
+) -> Result<(), ClientFault> {
+    for node in nodes {
+        let mut line = Vec::from_slice(alloc, b"node ")?;
+        put_number(&mut line, u64::from(node.number))?;
+        line.extend_from_slice(b": not asked\n")?;
+        print(writer, &line)?;
+    }
+    Ok(())
+}
+
+// The exit status for what came of a request.
+fn outcome_status(outcome: Outcome) -> u8
+    ensures { result ≡ outcome_status outcome }
+{
+    match outcome {
+        Outcome::Done | Outcome::Before => 0,
+        Outcome::Refused(_) => 1,
+        Outcome::Failed(fault) => fault_status(fault),
+    }
+}
+
+// Makes a request at a node, and prints what came of it. Words and secrets that are wrong are a fault: they are so at every node.
+fn print_at<N: Nodes, W: Write>(
+    alloc: Global,
+    nodes: &mut N,
+    target: Target<'_>,
+    node: NodeId,
+    asked: &Asked<'_>,
+    writer: &mut W,
+) -> Result<u8, ClientFault>
+    ensures { IfOk result (λ status. status ≡ 0 → HasDoneAt N.asks target.entry.secrets.now target.entry.server.port
+        asked.now (map (λ word. word.now) asked.now.words.items) node nodes.old nodes.new) }
+{
+    let outcome = match ask_at(alloc, nodes, target, node, asked) {
+        Ok(outcome) => outcome,
+        Err(fault) if fault_status(fault) == 2 => return Err(fault),
+        Err(fault) => Outcome::Failed(fault),
+    };
+    print(writer, &outcome_line(alloc, node, asked.head, outcome)?)?;
+    Ok(outcome_status(outcome))
+}
+
+/// Makes a request at each of some nodes, in turn, and prints what came of it at each. It ends at the first node that refuses or
+/// fails, and prints of the others that they were not asked. The exit status: 0 if it is done at all.
+pub fn ask_each<N: Nodes, W: Write>(
+    alloc: Global,
+    nodes: &mut N,
+    target: Target<'_>,
+    members: &[NodeId],
+    asked: &Asked<'_>,
+    writer: &mut W,
+) -> Result<u8, ClientFault>
+    ensures { result ≡ Ok 0 → HasDoneAll N.asks target.entry.secrets.now target.entry.server.port asked.now (map (λ word. word.now) asked.now.words.items)
+        members.now nodes.old nodes.new }
+{
+    'members: for (place, node) in members.iter().enumerate() {
+        let status = print_at(alloc, nodes, target, *node, asked, writer)?;
+        if status != 0 {
+            print_not_asked(alloc, &members[place + 1..], writer)?;
+            return Ok(status);
+        }
+    }
+    Ok(0)
+}
+
+/// Makes a group at all its nodes by the words of `make`, and then opens it at them, and prints what came of it at each. A message
+/// that is said before another member's node made the group is lost there for good, so it is opened nowhere until it is made
+/// everywhere. The exit status: 0 if it is made and open at all.
+pub fn make_group<N: Nodes, W: Write>(
+    alloc: Global,
+    nodes: &mut N,
+    target: Target<'_>,
+    members: &[NodeId],
+    make: &Asked<'_>,
+    opening: &Asked<'_>,
+    writer: &mut W,
+) -> Result<u8, ClientFault>
+    ensures { result ≡ Ok 0 → HasMadeAndOpened N.asks target.entry.secrets.now target.entry.server.port make.now opening.now
+        (map (λ word. word.now) make.now.words.items) (map (λ word. word.now) opening.now.words.items) members.now nodes.old nodes.new }
+{
+    let status = ask_each(alloc, nodes, target, members, make, writer)?;
+    if status != 0 {
+        print(writer, b"opened at no node\n")?;
+        return Ok(status);
+    }
+    ask_each(alloc, nodes, target, members, opening, writer)
+}
+
+/// Drops a group at all its nodes, and prints what came of it at each. Each node is asked, also where another one refuses. The exit
+/// status: 0 if it is dropped at all, else that of the last node where it is not.
+pub fn drop_group<N: Nodes, W: Write>(
+    alloc: Global,
+    nodes: &mut N,
+    target: Target<'_>,
+    members: &[NodeId],
+    asked: &Asked<'_>,
+    writer: &mut W,
+) -> Result<u8, ClientFault> {
+    let mut status = 0;
+    for node in members {
+        let here = print_at(alloc, nodes, target, *node, asked, writer)?;
+        if here != 0 {
+            status = here;
+        }
+    }
+    Ok(status)
+}

@@ -1,0 +1,15 @@
+//! What a client does at a server: it asks nodes, by any connections, and prints what comes of it, by any writer. Read
+//! `nodes::Nodes` first, then `once::ask_once`, `following::follow` and `groups::make_group`.
+#![tactic(auto)]
+
+pub mod checking;
+pub mod following;
+pub mod groups;
+pub mod listing;
+pub mod nodes;
+pub mod obey;
+pub mod once;
+pub mod printing;
+pub mod rows;
+pub mod sockets;
+pub mod target;

@@ -1,0 +1,200 @@
+//! What an administrator asks of a node.
+ghost use Rattle.std.specs.Prelude.{List, IfOk};
+ghost use Rattle.gb_client_run.specs.Asked.{Exchange, HasAsked};
+
+use crate::nodes::{Nodes, ask_short};
+use crate::printing::print;
+use crate::target::Target;
+use gb_cap::token::{Need, Token};
+use gb_client::answer::{read_reply, status_of};
+use gb_client::fault::ClientFault;
+use gb_client::operating::{Page, is_status, list_body, read_page, status_body, stop_body};
+use gb_client::show::reply_lines;
+use gb_types::node::NodeId;
+use gb_types::number::put_number;
+use gb_types::reply::Reply;
+use std::alloc::Global;
+use std::io::Write;
+
+// Prints what came where something else was awaited: a refusal. The exit status.
+fn print_refusal<W: Write>(alloc: Global, text: &[u8], writer: &mut W) -> Result<u8, ClientFault> {
+    match read_reply(alloc, text)? {
+        Some(reply) if matches!(reply, Reply::Refused(_)) => {
+            print(writer, &reply_lines(alloc, &reply, false)?)?;
+            Ok(status_of(&reply))
+        }
+        _ => Err(ClientFault::NoReply),
+    }
+}
+
+/// Prints a node's figures. The exit status.
+pub fn print_status<N: Nodes, W: Write>(
+    alloc: Global,
+    nodes: &mut N,
+    target: Target<'_>,
+    node: NodeId,
+    writer: &mut W,
+) -> Result<u8, ClientFault> {
+    let token = target.secrets.token_for(Need::Admin)?;
+    let body = status_body(alloc, &token)?;
+    let mut text = ask_short(alloc, nodes, target.server.sessions_port(node), &body)?;
+    if !is_status(alloc, &text)? {
+        return print_refusal(alloc, &text, writer);
+    }
+    text.push(b'\n')?;
+    print(writer, &text)?;
+    Ok(0)
+}
+
+/// Ends a server, by asking one of its nodes, and prints the reply. The exit status.
+pub fn shut_down<N: Nodes, W: Write>(
+    alloc: Global,
+    nodes: &mut N,
+    target: Target<'_>,
+    node: NodeId,
+    writer: &mut W,
+) -> Result<u8, ClientFault> {
+    let token = target.secrets.token_for(Need::Admin)?;
+    let body = stop_body(alloc, &token)?;
+    let text = ask_short(alloc, nodes, target.server.sessions_port(node), &body)?;
+    if text.as_slice() != b"ok".as_slice() {
+        return print_refusal(alloc, &text, writer);
+    }
+    print(writer, b"ok\n")?;
+    Ok(0)
+}
+
+/// The text of a node's reply to a list from a place on.
+pub fn page_text<N: Nodes>(
+    alloc: Global,
+    nodes: &mut N,
+    target: Target<'_>,
+    token: &Token,
+    node: NodeId,
+    from: u32,
+) -> Result<Vec<u8>, ClientFault>
+    ensures { IfOk result (λ _. (told : List Exchange) × HasAsked N.asks nodes.old told nodes.new) }
+{
+    let body = list_body(alloc, token, from)?;
+    let port = target.server.sessions_port(node);
+    let text = ask_short(alloc, nodes, port, &body)?;
+    Ok(text)
+}
+
+// The lines of a page: how many groups there are in all, where it is the first, and each row.
+fn page_lines(alloc: Global, page: &Page<'_>, is_first: bool) -> Result<Vec<u8>, ClientFault> {
+    let mut lines = Vec::new(alloc);
+    if is_first {
+        lines.extend_from_slice(b"groups ")?;
+        put_number(&mut lines, u64::from(page.total))?;
+        lines.push(b'\n')?;
+    }
+    for row in page.rows.as_slice() {
+        lines.extend_from_slice(row.text)?;
+        lines.push(b'\n')?;
+    }
+    Ok(lines)
+}
+
+/// Prints how many groups were made at a node, and each in a line. The exit status.
+pub fn print_list<N: Nodes, W: Write>(
+    alloc: Global,
+    nodes: &mut N,
+    target: Target<'_>,
+    node: NodeId,
+    writer: &mut W,
+) -> Result<u8, ClientFault> {
+    let token = target.secrets.token_for(Need::Admin)?;
+    let mut from: u32 = 0;
+    for _ in 0..u32::MAX {
+        let text = page_text(alloc, nodes, target, &token, node, from)?;
+        let Some(page) = read_page(alloc, &text)? else {
+            return print_refusal(alloc, &text, writer);
+        };
+        print(writer, &page_lines(alloc, &page, from == 0)?)?;
+        from = from.saturating_add(u32::try_from(page.rows.len()).unwrap_or(u32::MAX));
+        if page.rows.is_empty() || from >= page.total {
+            return Ok(0);
+        }
+    }
+    Ok(0)
+}
+
+/// What a node lists of a group.
+#[derive(Drop)]
+pub enum Found {
+    /// Its row.
+    Row(Vec<u8>),
+    /// No group with this number was made there.
+    None,
+    /// The node refused, with this reply.
+    Refused(Vec<u8>),
+}
+
+// The text of the row of a group in a page.
+fn row_in<'a>(page: &Page<'a>, tenant: u16, group: u16) -> Option<&'a [u8]> {
+    for row in page.rows.as_slice() {
+        if row.tenant == tenant && row.group == group {
+            return Some(row.text);
+        }
+    }
+    None
+}
+
+// What a refusal to list comes to, from its text. `NoReply`: it is none.
+fn refusal_of(alloc: Global, text: &[u8]) -> Result<Found, ClientFault> {
+    match read_reply(alloc, text)? {
+        Some(reply) if matches!(reply, Reply::Refused(_)) => {
+            let kept = Vec::from_slice(alloc, text)?;
+            Ok(Found::Refused(kept))
+        }
+        _ => Err(ClientFault::NoReply),
+    }
+}
+
+// What was found, and whether nothing more is to be asked; how many groups were looked at.
+fn look_in(
+    alloc: Global,
+    text: &[u8],
+    from: u32,
+    tenant: u16,
+    group: u16,
+) -> Result<(Option<Found>, u32), ClientFault> {
+    let Some(page) = read_page(alloc, text)? else {
+        let found = refusal_of(alloc, text)?;
+        return Ok((Some(found), from));
+    };
+    if let Some(row) = row_in(&page, tenant, group) {
+        let kept = Vec::from_slice(alloc, row)?;
+        return Ok((Some(Found::Row(kept)), from));
+    }
+    let next = from.saturating_add(u32::try_from(page.rows.len()).unwrap_or(u32::MAX));
+    if page.rows.is_empty() || next >= page.total {
+        return Ok((Some(Found::None), next));
+    }
+    Ok((None, next))
+}
+
+/// What a node lists of a group.
+pub fn find<N: Nodes>(
+    alloc: Global,
+    nodes: &mut N,
+    target: Target<'_>,
+    token: &Token,
+    node: NodeId,
+    tenant: u16,
+    group: u16,
+) -> Result<Found, ClientFault>
+    ensures { IfOk result (λ _. (told : List Exchange) × HasAsked N.asks nodes.old told nodes.new) }
+{
+    let mut from: u32 = 0;
+    'pages: for _ in 0..u32::MAX {
+        let text = page_text(alloc, nodes, target, token, node, from)?;
+        let (found, next) = look_in(alloc, &text, from, tenant, group)?;
+        if let Some(found) = found {
+            return Ok(found);
+        }
+        from = next;
+    }
+    Ok(Found::None)
+}

@@ -1,0 +1,37 @@
+//! The nodes of a server, as a client asks them.
+ghost use Rattle.std.specs.Prelude.{◌≤◌, length, IfOk};
+ghost use Rattle.gb_session.specs.declared.grammar.TheConstants.{BODY};
+
+use gb_client::fault::ClientFault;
+use gb_session::grammar::BODY;
+use std::alloc::Global;
+
+/// Nodes that reply to messages, one after the other.
+pub trait Nodes {
+    ghost use Rattle.std.specs.Prelude.{ℕ, List};
+
+    // What the reply to a message at a port may be, and what it leaves.
+    ghost asks: { Self → ℕ → List ℕ → List ℕ → Self → Type 0 };
+
+    /// The reply of the sessions at a port to the body of a message. `Connection`: nothing was asked; `Late` and `Lost`: it was asked,
+    /// and what came of it is not known.
+    fn ask(&mut self, alloc: Global, port: u16, body: &[u8]) -> Result<Vec<u8>, ClientFault>
+        requires { length body.now ≤ BODY }
+        ensures { IfOk result (λ reply. asks self.old port body.now reply.items self.new) };
+}
+
+/// The reply of the sessions at a port to a body of any length. `Words`: it is longer than a message may be.
+pub fn ask_short<N: Nodes>(
+    alloc: Global,
+    nodes: &mut N,
+    port: u16,
+    body: &[u8],
+) -> Result<Vec<u8>, ClientFault>
+    ensures { IfOk result (λ reply. N.asks nodes.old port body.now reply.items nodes.new) }
+{
+    if body.len() > BODY {
+        return Err(ClientFault::Words);
+    }
+    let reply = nodes.ask(alloc, port, body)?;
+    Ok(reply)
+}

@@ -1,0 +1,86 @@
+//! What a client is told to do at a server, done.
+use crate::checking::check_group;
+use crate::groups::{drop_group, make_group};
+use crate::listing::{print_list, print_status, shut_down};
+use crate::nodes::Nodes;
+use crate::once::ask_once;
+use crate::target::Target;
+use gb_client::fault::ClientFault;
+use gb_client::task::{Asked, Errand};
+use gb_session::head::Head;
+use gb_types::node::NodeId;
+use std::alloc::Global;
+use std::io::Write;
+
+// The request that opens the group that another request names.
+fn open_of<'a>(alloc: Global, make: &Asked<'a>) -> Result<Asked<'a>, ClientFault> {
+    let [tenant, group, ..] = make.words.as_slice() else {
+        return Err(ClientFault::Words);
+    };
+    let mut words: Vec<&'a str> = Vec::new(alloc);
+    words.push(*tenant)?;
+    words.push(*group)?;
+    Ok(Asked {
+        head: Head::Open,
+        words,
+        is_text: false,
+    })
+}
+
+// Makes a group by the words of `make`, and opens it.
+fn obey_group<N: Nodes, W: Write>(
+    alloc: Global,
+    nodes: &mut N,
+    target: Target<'_>,
+    members: &[NodeId],
+    make: &Asked<'_>,
+    writer: &mut W,
+) -> Result<u8, ClientFault> {
+    let open = open_of(alloc, make)?;
+    make_group(alloc, nodes, target, members, make, &open, writer)
+}
+
+/// Does what is to be done at a server by messages that are answered at once, and prints what comes of it. The exit status. A log is
+/// followed by `following::follow`, which has a connection of its own; here it is a fault.
+pub fn obey<N: Nodes, W: Write>(
+    alloc: Global,
+    nodes: &mut N,
+    target: Target<'_>,
+    errand: &Errand<'_>,
+    writer: &mut W,
+) -> Result<u8, ClientFault> {
+    match errand {
+        Errand::Ask(node, asked) => ask_once(alloc, nodes, target, *node, asked, writer),
+        Errand::Follow(_, _, _, _) => Err(ClientFault::Words),
+        Errand::Group(members, make) => obey_group(
+            alloc,
+            nodes,
+            target,
+            members.as_slice(),
+            make,
+            writer,
+        ),
+        Errand::Drop(members, asked) => drop_group(
+            alloc,
+            nodes,
+            target,
+            members.as_slice(),
+            asked,
+            writer,
+        ),
+        Errand::Check(members, tenant, group) => {
+            check_group(
+                alloc,
+                nodes,
+                target,
+                members.as_slice(),
+                *tenant,
+                *group,
+                writer,
+            )
+        }
+        Errand::Status(node) => print_status(alloc, nodes, target, *node, writer),
+        Errand::List(node) => print_list(alloc, nodes, target, *node, writer),
+        Errand::Shutdown(node) => shut_down(alloc, nodes, target, *node, writer),
+    }
+}

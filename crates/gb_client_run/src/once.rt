@@ -1,0 +1,74 @@
+//! One request at one node.
+ghost use Rattle.std.specs.Prelude.{◌≡◌, ◌++◌, ◌∷◌, [], false, map, IfOk};
+ghost use Rattle.std.specs.Io.KnownBytes.{Appends};
+ghost use Rattle.gb_types.specs.declared.reply.Reply.{Reply as TheReply};
+ghost use Rattle.gb_types.specs.ReplyText.{reply_spelling};
+ghost use Rattle.gb_client.specs.Answers.{reply_status};
+ghost use Rattle.gb_client_run.specs.Asked.{HasReplied, answers};
+
+use crate::nodes::Nodes;
+use crate::printing::print;
+use crate::target::Target;
+use gb_client::answer::{read_reply, status_of};
+use gb_client::fault::ClientFault;
+use gb_client::show::reply_lines;
+use gb_client::task::{Asked, request_of};
+use gb_session::head::Head;
+use gb_types::node::NodeId;
+use gb_types::reply::Reply;
+use std::alloc::Global;
+use std::io::Write;
+
+/// Returns true if this may be the reply to a request with this head.
+pub fn answers(head: Head, reply: &Reply) -> bool
+    ensures { result ≡ answers head reply.now }
+{
+    match reply {
+        Reply::Done => !matches!(head, Head::Say | Head::Fetch),
+        Reply::Said(_) => matches!(head, Head::Say),
+        Reply::Log(_) => matches!(head, Head::Fetch),
+        Reply::Refused(_) => true,
+    }
+}
+
+/// The reply of a node to a request. `NoReply`: what came is none to it.
+pub fn reply_to<N: Nodes>(
+    alloc: Global,
+    nodes: &mut N,
+    target: Target<'_>,
+    node: NodeId,
+    asked: &Asked<'_>,
+) -> Result<Reply, ClientFault>
+    ensures { IfOk result (HasReplied N.asks target.entry.secrets.now target.entry.server.port node asked.now (map (λ word. word.now) asked.now.words.items) nodes.old nodes.new) }
+{
+    let body = request_of(alloc, target.secrets, node, asked)?;
+    let port = target.server.sessions_port(node);
+    let text = nodes.ask(alloc, port, &body)?;
+    let Some(reply) = read_reply(alloc, &text)? else {
+        return Err(ClientFault::NoReply);
+    };
+    if !answers(asked.head, &reply) {
+        return Err(ClientFault::NoReply);
+    }
+    Ok(reply)
+}
+
+/// Makes one request at a node, and prints its reply. The exit status.
+pub fn ask_once<N: Nodes, W: Write>(
+    alloc: Global,
+    nodes: &mut N,
+    target: Target<'_>,
+    node: NodeId,
+    asked: &Asked<'_>,
+    writer: &mut W,
+) -> Result<u8, ClientFault>
+    ensures { IfOk result (λ status. (reply : TheReply)
+        × HasReplied N.asks target.entry.secrets.now target.entry.server.port node asked.now (map (λ word. word.now) asked.now.words.items) nodes.old nodes.new reply
+        × (status ≡ reply_status reply)
+        × (asked.now.is_text ≡ false → Appends (W.contents writer.old) (W.contents writer.new) (reply_spelling reply ++ 10 ∷ []))) }
+{
+    let reply = reply_to(alloc, nodes, target, node, asked)?;
+    let lines = reply_lines(alloc, &reply, asked.is_text)?;
+    print(writer, &lines)?;
+    Ok(status_of(&reply))
+}

@@ -1,0 +1,52 @@
+//! Why the words of a command line are no plan.
+use std::alloc::{AllocError, AllocFailed};
+use thiserror::Error;
+
+/// Why words that `clap` took ask for nothing.
+#[derive(Clone, Copy, Debug, PartialEq, Eq, Error)]
+pub enum PlanFault {
+    /// There is no subcommand.
+    #[error("a subcommand is needed; --help has them")]
+    NoSubcommand,
+    /// A server is to be asked, and it is not said at which port.
+    #[error("--port P is needed before the subcommand: the server's base port, 1024 to 65000")]
+    NoPort,
+    /// A node is to be asked, and it is not said which.
+    #[error("--node I is needed before the subcommand: the node's number, 0 to 31")]
+    NoNode,
+    /// The nodes are not spelt as they are to be.
+    #[error("--nodes takes numbers of nodes from 0 to 31, rising, with commas between them, as 0,1,2")]
+    Nodes,
+    /// What a token is asked for is not spelt as it is to be.
+    #[error("token takes admin, tenant T or member T G")]
+    Need,
+    /// The tenant is no number of two bytes.
+    #[error("T takes a number from 0 to 65535 without leading zeros")]
+    Tenant,
+    /// The group is no number of two bytes.
+    #[error("G takes a number from 0 to 65535 without leading zeros")]
+    Group,
+    /// A request for memory was refused.
+    #[error("out of memory")]
+    OutOfMemory,
+}
+
+/// The exit status for words that are no plan: 2, or 3 when a request for memory was refused.
+pub fn plan_status(fault: PlanFault) -> u8 {
+    match fault {
+        PlanFault::OutOfMemory => 3,
+        _ => 2,
+    }
+}
+
+impl From<AllocError> for PlanFault {
+    fn from(_error: AllocError) -> PlanFault {
+        PlanFault::OutOfMemory
+    }
+}
+
+impl<T: Drop> From<AllocFailed<T>> for PlanFault {
+    fn from(_error: AllocFailed<T>) -> PlanFault {
+        PlanFault::OutOfMemory
+    }
+}

@@ -1,0 +1,18 @@
+-- What may be told to a client.
+use Rattle.std.specs.Prelude.{◌≡◌, ℕ, List}
+use Rattle.gb_types.specs.ReplyText.{reply_spelling}
+use Rattle.gb_types.specs.declared.refusal.Refusal.TheVariants.{Denied}
+use Rattle.gb_types.specs.declared.reply.Reply.TheVariants.{Refused}
+use Rattle.gb_types.specs.declared.reply.Reply.{Reply}
+use Rattle.gb_types.specs.declared.request.Request.{Request}
+use Rattle.gb_session.specs.declared.operation.Operation.{Operation}
+
+-- Who answers: the reply that a request may get in a state, with the state behind it, and the texts that an operation may get. An
+-- operation leaves the state as it is.
+pub record Answering (S : Type 0) : Type 1 where
+  pub replies : S → Request → Reply → S → Type 0
+  pub tells : Operation → List ℕ → Type 0
+
+-- an operation is refused, as if its token were another
+abbrev pub IsDenied : Operation → List ℕ → Type 0
+IsDenied operation text = text ≡ reply_spelling (Refused Denied)

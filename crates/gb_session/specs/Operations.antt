@@ -1,0 +1,25 @@
+-- What an administrator asks, and how it is spelt.
+use Rattle.std.specs.Prelude.{◌≡◌, ℕ, ◌≤◌, List, [], ◌∷◌, length, Some, decimal, codes}
+use Rattle.gb_types.specs.RequestWords.{IsLong}
+use Rattle.gb_types.specs.TokenWord.{token_of}
+use Rattle.gb_types.specs.Words.{words_of}
+use Rattle.gb_session.specs.declared.grammar.TheConstants.{BODY}
+use Rattle.gb_session.specs.declared.operation.Operating.{Operating}
+use Rattle.gb_session.specs.declared.operation.Operating.TheVariants.{Status, List as Listing, Stop}
+use Rattle.gb_session.specs.declared.operation.Operation.{Operation}
+
+-- the first word of an operation, and the words behind its token: `FROM MAX` behind `list`, none behind the others
+abbrev pub IsOperating : Operating → List ℕ → List (List ℕ) → Type 0
+IsOperating Status head words = (head ≡ codes "status") × (words ≡ [])
+IsOperating (Listing from most) head words = (head ≡ codes "list") × (words ≡ decimal from ∷ decimal most ∷ []) × IsLong from × IsLong most
+IsOperating Stop head words = (head ≡ codes "stop") × (words ≡ [])
+
+-- the body of a message spells an operation: `status TOKEN`, `list TOKEN FROM MAX` or `stop TOKEN`
+pub record IsOperationText (body : List ℕ) (operation : Operation) : Type 0 where
+  pub short : length body ≤ BODY
+  pub head : List ℕ
+  pub token_word : List ℕ
+  pub words : List (List ℕ)
+  pub body_is : words_of body ≡ head ∷ token_word ∷ words
+  pub token_is : token_of token_word ≡ Some operation.token
+  pub spelt : IsOperating operation.what head words

@@ -1,0 +1,156 @@
+//! Worked figures of nodes, and how they are told.
+use gb_status::board::Board;
+use gb_status::figure::{COUNT, FIGURES, Figure};
+use gb_status::figures::Figures;
+use gb_status::http::{Asked, answer, asked_for};
+use gb_status::text::{metrics_text, status_text};
+use gb_types::node::{NodeId, NodeSet};
+use std::alloc::Global;
+use std::rt::HostRuntime;
+
+// Figures with seven says and the greatest number of ticks.
+fn some_figures() -> Figures {
+    let mut figures = Figures::new();
+    figures.add(Figure::RequestsSay, 3);
+    figures.add(Figure::RequestsSay, 4);
+    figures.set(Figure::Ticks, u64::MAX - 1);
+    figures.add(Figure::Ticks, 5);
+    figures
+}
+
+// Whether a text has a part.
+fn has(text: &[u8], part: &[u8]) -> bool {
+    text.windows(part.len().max(1)).any(|bytes| bytes == part)
+}
+
+#[test]
+fn a_status_has_each_figure_once(rt: HostRuntime) {
+    let Ok(text) = status_text(rt.alloc(), &some_figures()) else {
+        assert!(rt; false, "memory");
+        return;
+    };
+    assert!(rt;
+        text.starts_with(
+            b"status requests_tenant=0 requests_make=0 requests_open=0 requests_shut=0 requests_drop=0 requests_say=7 requests_fetch=0 refused_denied=0 "
+        )
+    );
+    assert!(rt;
+        text.ends_with(
+            b" ticks=18446744073709551615 connections_accepted=0 connections_refused=0 connections_open=0 connections_waiting=0"
+        )
+    );
+    assert!(rt;
+        text.iter().filter(|byte| **byte == b'=').count() == COUNT && FIGURES.len() == COUNT
+    );
+}
+
+static SAYS: &[u8] = b"foqradesh_requests_total{node=\"0\",kind=\"say\"} 0\nforgotten";
+
+// The first lines of a text of two nodes, of which the second has figures.
+static FIRST: &[u8] =
+    b"# HELP foqradesh_requests_total Requests answered, by kind.\n# TYPE foqradesh_requests_total counter\nforeign";
+
+#[test]
+fn metrics_are_told_of_each_node(rt: HostRuntime) {
+    let all = [Figures::new(), some_figures()];
+    let Ok(text) = metrics_text(rt.alloc(), &all) else {
+        assert!(rt; false, "memory");
+        return;
+    };
+    let first = FIRST.strip_suffix(b"foreign".as_slice()).unwrap_or(b"");
+    let says = SAYS.strip_suffix(b"forgotten".as_slice()).unwrap_or(b"");
+    assert!(rt; text.starts_with(first) && has(&text, says));
+    assert!(rt;
+        has(
+            &text,
+            b"foqradesh_requests_total{node=\"1\",kind=\"say\"} 7\n"
+        )
+    );
+    assert!(rt;
+        has(
+            &text,
+            b"# TYPE foqradesh_connections_open gauge\nfoqradesh_connections_open{node=\"0\"} 0\nfoqradesh_connections_open{node=\"1\"} 0\n"
+        )
+    );
+    assert!(rt; text.ends_with(b"foqradesh_connections_waiting{node=\"1\"} 0\n"));
+    assert!(rt; text.iter().filter(|byte| **byte == b'#').count() == 2 * 20);
+}
+
+// Heads, and what they ask for.
+static HEADS: [(&[u8], Asked); 9] = [
+    (b"GET /metrics HTTP/1.1\r\nHost: a\r\n\r\n", Asked::Metrics),
+    (b"GET /healthz HTTP/1.0\r\n\r\n", Asked::Health),
+    (b"GET /metrics/ HTTP/1.1\r\n\r\n", Asked::OtherPlace),
+    (b"GET / HTTP/1.1\r\n\r\n", Asked::OtherPlace),
+    (b"HEAD /metrics HTTP/1.1\r\n\r\n", Asked::OtherMethod),
+    (b"get /metrics HTTP/1.1\r\n\r\n", Asked::OtherMethod),
+    (b"GET /metrics HTTP/1.1\r\nHost", Asked::More),
+    (b"", Asked::More),
+    (b"GET /metrics FTP/1.1\r\n\r\n", Asked::NoRequest),
+];
+
+#[test]
+fn heads_ask_for_figures(rt: HostRuntime) {
+    for (head, want) in &HEADS {
+        assert!(rt; asked_for(head) == *want);
+    }
+}
+
+// Whether the answer to what is asked for is this.
+fn is_answered(alloc: Global, asked: Asked, is_serving: bool, want: &[u8]) -> bool {
+    match answer(alloc, asked, &[], is_serving) {
+        Ok(text) => text.as_slice() == want,
+        Err(_) => false,
+    }
+}
+
+#[test]
+fn answers_are_whole(rt: HostRuntime) {
+    let alloc = rt.alloc();
+    assert!(rt;
+        is_answered(
+            alloc,
+            Asked::Health,
+            true,
+            b"HTTP/1.1 200 OK\r\nContent-Type: text/plain; version=0.0.4; charset=utf-8\r\nConnection: close\r\nContent-Length: 3\r\n\r\nok\n"
+        )
+    );
+    assert!(rt;
+        is_answered(
+            alloc,
+            Asked::Health,
+            false,
+            b"HTTP/1.1 503 Service Unavailable\r\nContent-Type: text/plain; charset=utf-8\r\nConnection: close\r\nContent-Length: 6\r\n\r\nended\n"
+        )
+    );
+    assert!(rt;
+        is_answered(
+            alloc,
+            Asked::OtherMethod,
+            true,
+            b"HTTP/1.1 405 Method Not Allowed\r\nAllow: GET\r\nContent-Type: text/plain; charset=utf-8\r\nConnection: close\r\nContent-Length: 9\r\n\r\nonly GET\n"
+        )
+    );
+}
+
+#[test]
+fn a_board_shows_what_was_put_there(rt: HostRuntime) {
+    let Ok(board) = Board::new(rt.alloc(), 2) else {
+        assert!(rt; false, "memory");
+        return;
+    };
+    let mut noticed = NodeSet::new();
+    noticed.insert(NodeId::new(0));
+    noticed.insert(NodeId::new(31));
+    board.put(NodeId::new(1), &some_figures(), &noticed);
+    let (first, second) = (board.figures(NodeId::new(0)), board.figures(NodeId::new(1)));
+    assert!(rt; first.value(Figure::RequestsSay) == 0 && second.value(Figure::RequestsSay) == 7);
+    assert!(rt; second.value(Figure::Ticks) == u64::MAX);
+    let seen = board.noticed(NodeId::new(1));
+    assert!(rt;
+        seen.contains(NodeId::new(0))
+            && seen.contains(NodeId::new(31))
+            && !seen.contains(NodeId::new(1))
+    );
+    assert!(rt; board.noticed(NodeId::new(0)).is_empty());
+}
