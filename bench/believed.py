@@ -1,35 +1,46 @@
-"""Counts what a reader has to believe of a public law: the definitions that its statement reaches, their lines and their files.
+"""Counts what a reader has to believe of public laws: the definitions that their statements reach, their lines and their files.
 
-    python3 bench/believed.py [LAW[:CLAUSE]] [--list]
+    python3 bench/believed.py [LAW[:CLAUSE] ..] [--list]
 
-LAW is `crate::file::function`, a public function whose contract is the law; gb_trace::run::run:seen if not given. With `:CLAUSE` behind
-it only the `ensures` of that name counts, with every `requires`.
-The walk begins at the function's signature and at the words of these clauses. It goes over definitions of crates/*/specs (abbrev, unfoldable,
-record, data) and over the structs, enums and constants of crates/*/src that these name. A type counts with its variants and fields, a
-definition with its signature and its equations. What does not count: comments, blank lines, lines that hold a closing bracket alone, and anything of
-the library. A type of private fields that contracts see by its model counts, but not what its fields are made of. With --list each definition
-is printed under its file, in the order in which the walk meets the files. The last line is the sum; the line before it says how much of it are types."""
+A LAW is `crate::file::function`, a public function whose contract is the law. Without any, those of docs/THEOREM.md count (SENTENCE below). Of
+several laws the union counts. With `:CLAUSE` behind it only the `ensures` of that name counts, with every `requires`.
+The walk begins at each function's signature and at the words of these clauses. It goes over the definitions of crates/*/specs (abbrev, unfoldable,
+record, data, also inside a `module`) and over the structs, enums, constants and names of types of crates/*/src that these name.
+A definition counts with its signature and its equations, a type with its variants and fields, and where contracts see it by a model, with the lines
+`ghost Value` and `ghost view`, which say what they see of it, and with what these name. Every line counts that is no comment, no attribute and not blank, also one that holds a closing bracket
+alone. Definitions of the library do not count; how many words of it are used is printed. With --list each definition is printed under its file,
+in the order in which the walk meets the files. The last three lines are the words of the library, how much of the sum are types, and the
+sum, once without lines that hold a closing bracket alone and then whole."""
 import os
 import re
 import sys
 
 ROOT = os.path.dirname(os.path.dirname(os.path.abspath(__file__)))
 CRATES = f"{ROOT}/crates"
+# The laws that carry the sentence of docs/THEOREM.md.
+SENTENCE = ["gb_trace::run::run:seen", "gb_alone::laws::integrity", "gb_alone::laws::order"]
 NAME = re.compile(r"[^\s(){}\[\],;.:λ]+")
+PROJECTION = re.compile(r"(?<=[\w)'])\.[a-z_0-9]\w*")
 HEAD = re.compile(r"(?:abbrev |unfoldable )?(?:pub )?(?:(record|data) )?([^\s:({]+)\s*(.*)$")
-DECLARED = re.compile(r"^(?:pub )?(struct|enum|const) (\w+)")
+DECLARED = re.compile(r"^(?:pub )?(struct|enum|const|type) (\w+)")
+BRACKET = re.compile(r"\s*[)}\]]+[;,]?$")
 
 
 class Definition:
     def __init__(self, file, name, lines):
         self.file, self.name, self.lines = file, name, lines
-        self.is_modelled = False
+        self.model, self.views = [], {}
+
+    def add(self, text):
+        self.lines.append(text)
+
+    def text(self):
+        """The lines that a reader reads."""
+        return self.lines + self.model
 
     def types(self):
-        """The words of a type that may name other types: not the names of its own variants, nor a representation that a model hides."""
-        if self.is_modelled and not any(line.startswith("    pub ") for line in self.lines):
-            return []
-        parts = [re.sub(r"^    [A-Z]\w*", "", line) for line in self.lines]
+        """The words of a type that may name other types: not the names of its own variants."""
+        parts = [re.sub(r"^    [A-Z]\w*", "", line) for line in self.text()]
         return re.findall(r"\b[A-Z]\w+\b", " ".join(parts))
 
 
@@ -55,60 +66,85 @@ def read_use(text, uses):
 
 
 def read_specs(file):
-    uses, defined, current = {}, {}, None
+    uses, defined, current, in_module = {}, {}, None, False
     with open(file) as lines:
         for line in lines:
             text = line.rstrip("\n")
+            if in_module and text.startswith("  "):
+                text = text[2:]
             if text.startswith(("use ", "pub use ")):
                 read_use(text, uses)
                 current = None
+            elif text.startswith("module "):
+                in_module, current = True, None
             elif not text.strip() or text.lstrip().startswith("--"):
                 continue
+            elif BRACKET.match(text) and current is not None:
+                current.add(text)
             elif not text.startswith(" "):
-                kind, name, _ = HEAD.match(text).groups()
+                name = HEAD.match(text).group(2)
                 if name in defined:
                     current = defined[name]
-                    current.lines.append(text)
+                    current.add(text)
                 else:
-                    current = Definition(file, name, [text])
-                    defined[name] = current
+                    current = defined[name] = Definition(file, name, [text])
             elif current is not None:
-                current.lines.append(text)
-                field = re.match(r"\s+([a-z_]+) : ", text)
-                if field and current.lines[0].split("record")[0].startswith(("pub data", "data")):
-                    defined[field.group(1)] = current
+                current.add(text)
+                made = re.match(r"\s+(\S+) : ", text)
+                if made and current.lines[0].startswith(("pub data", "data")):
+                    defined[made.group(1)] = current
     return Source(file, uses, defined)
 
 
+def read_program_use(text, uses):
+    """Notes what a line `use gb_x::path::{A, B as C};` of a program brings in: each name with its crate and its own name."""
+    found = re.match(r"(?:pub )?use (\w+)::(?:.*::)?(?:\{(.*)\}|(\w+(?: as \w+)?));$", text)
+    if not found:
+        return
+    for part in (found.group(2) or found.group(3)).split(","):
+        words = part.strip().split(" as ")
+        uses[words[-1]] = (found.group(1), words[0])
+
+
 def read_declared(crate):
-    """The structs, enums and constants of a crate, by name, with their lines."""
-    found = {}
+    """The structs, enums, constants and names of types of a crate, by name, with their lines; and by file what its imports name."""
+    found, uses = {}, {}
     for folder, _, files in os.walk(f"{CRATES}/{crate}/src"):
         for each in sorted(files):
             file = f"{folder}/{each}"
-            current, depth, mine = None, 0, {}
+            current, depth, mine, model = None, 0, {}, None
+            brought = uses[file] = {}
             with open(file) as lines:
                 for line in lines:
                     text = line.rstrip("\n")
+                    read_program_use(text, brought)
                     modelled = re.match(r"impl.* Model for (\w+)", text)
-                    if modelled and modelled.group(1) in mine:
-                        mine[modelled.group(1)].is_modelled = True
+                    if modelled:
+                        model = mine.get(modelled.group(1))
+                    elif text.startswith("}"):
+                        model = None
+                    elif model is not None and text.startswith("    ghost use "):
+                        read_use(text.strip()[len("ghost "):].rstrip(";"), model.views)
+                    elif model is not None and text.startswith(("    ghost Value", "    ghost view")):
+                        model.model.append(text)
                     head = DECLARED.match(text)
                     if head and current is None:
                         current, depth = Definition(file, head.group(2), []), 0
                     if current is not None:
-                        if text.strip() and not text.lstrip().startswith(("//", "#", "}", ")")):
-                            current.lines.append(text)
+                        if text.strip() and not text.lstrip().startswith(("//", "#")):
+                            current.add(text)
                         depth += text.count("{") + text.count("(") - text.count("}") - text.count(")")
                         if depth <= 0 and re.search(r"[;})]\s*$", text):
-                            found[current.name] = mine[current.name] = current
+                            # a type of tests never stands for one of the program
+                            found.setdefault(current.name, current)
+                            mine[current.name] = current
                             current = None
-    return found
+    return found, uses
 
 
 class Walk:
     def __init__(self):
-        self.specs, self.declared, self.order, self.seen = {}, {}, [], set()
+        self.specs, self.declared, self.order, self.seen, self.library = {}, {}, [], set(), set()
 
     def source(self, crate, path):
         file = f"{CRATES}/{crate}/specs/{'/'.join(path)}.antt"
@@ -119,7 +155,7 @@ class Walk:
     def types(self, crate):
         if crate not in self.declared:
             self.declared[crate] = read_declared(crate)
-        return self.declared[crate]
+        return self.declared[crate][0]
 
     def meet(self, found):
         if found is None or (found.file, found.name) in self.seen:
@@ -129,31 +165,40 @@ class Walk:
         if found.file.endswith(".antt"):
             self.words(self.specs[found.file], found)
         else:
-            crate = found.file[len(CRATES) + 1:].split("/")[0]
             for word in found.types():
-                self.by_type(crate, word)
+                self.by_type(found.file, word)
+            self.words(Source(found.file, found.views, {}), Definition(found.file, found.name, found.model))
 
-    def by_type(self, crate, word):
-        """A type that a type names: of the same crate, or of one that it stands on."""
-        for each in [crate, *BELOW[crate]]:
-            if word in self.types(each):
-                self.meet(self.types(each)[word])
-                return
+    def by_type(self, file, word):
+        """A type that a file of a program names: one that it brings in, or one of its own crate."""
+        crate = file[len(CRATES) + 1:].split("/")[0]
+        mine = self.types(crate)
+        place, name = self.declared[crate][1].get(file, {}).get(word, (crate, word))
+        place = crate if place in ("crate", "super", "self") else place
+        if place == crate:
+            self.meet(mine.get(name))
+        elif os.path.isdir(f"{CRATES}/{place}"):
+            self.meet(self.types(place).get(name))
 
     def words(self, source, found):
-        for word in NAME.findall(re.sub(r"--.*", "", " ".join(found.lines))):
+        text = re.sub(r"--.*", "", "\n".join(found.lines))
+        for word in NAME.findall(PROJECTION.sub("", text)):
             if word in source.defined:
                 self.meet(source.defined[word])
             elif word in source.uses:
                 self.imported(*source.uses[word])
-        for whole, part in re.findall(r"([A-Za-z_]+)\.([A-Za-z_]\w*)", " ".join(found.lines)):
+        for whole, part in re.findall(r"([A-Za-z_]+)\.([A-Za-z_]\w*)", text):
             if whole in source.uses and source.uses[whole][1] is None:
                 self.imported(source.uses[whole][0], part)
 
     def imported(self, path, name):
         parts = path.split(".")
         crate = parts[0]
-        if not os.path.isdir(f"{CRATES}/{crate}") or len(parts) < 2 or parts[1] != "specs":
+        if not os.path.isdir(f"{CRATES}/{crate}"):
+            if name is not None:
+                self.library.add((path, name))
+            return
+        if len(parts) < 2 or parts[1] != "specs":
             return
         if parts[2] == "declared":
             kind = [part for part in parts[3:] if part[:1].isupper()]
@@ -166,23 +211,20 @@ class Walk:
         elif source is not None and name in source.uses:
             self.imported(*source.uses[name])
 
-
-def below():
-    """The crates of the repository that each stands on, by its name."""
-    with open(f"{ROOT}/crates.txt") as file:
-        lines = [line.split("#")[0].split(":") for line in file if ":" in line.split("#")[0]]
-    deps = {name.split()[0]: words.split() for name, words in lines}
-    return {name: [dep for dep in words if dep in deps] for name, words in deps.items()}
-
-
-BELOW = below()
+    def law(self, law):
+        """Walks from a public function."""
+        source, found = law_words(law)
+        self.words(source, found)
+        signature = " ".join(line for line in found.lines if "requires " not in line and "ensures " not in line)
+        for word in re.findall(r"\b[A-Z]\w+\b", signature):
+            self.by_type(found.file, word)
 
 
 def law_words(law):
     crate, *path, last = law.split("::")
     function, _, clause = last.partition(":")
     file = f"{CRATES}/{crate}/src/{'/'.join(path)}.rt"
-    uses, lines, inside = {}, [], False
+    uses, lines, inside, counts = {}, [], False, True
     with open(file) as text:
         for line in text:
             if line.startswith("ghost use "):
@@ -190,18 +232,22 @@ def law_words(law):
             inside = inside or line.startswith(f"pub fn {function}(")
             if inside and line.strip().startswith("{"):
                 break
-            if inside and ("requires " in line or f"ensures {clause}" in line or "ensures" not in line):
+            if inside and line.strip().startswith("ensures "):
+                counts = line.strip().startswith(f"ensures {clause} " if clause else "ensures ")
+            elif inside and line.strip().startswith("requires "):
+                counts = True
+            if inside and counts:
                 lines.append(line)
+    if not lines or not any("ensures " in line for line in lines):
+        sys.exit(f"no such law: {law}")
     return Source(file, uses, {}), Definition(file, function, lines)
 
 
 def main():
-    words = [word for word in sys.argv[1:] if not word.startswith("--")]
+    laws = [word for word in sys.argv[1:] if not word.startswith("--")] or SENTENCE
     walk = Walk()
-    source, law = law_words(words[0] if words else "gb_trace::run::run:seen")
-    walk.words(source, law)
-    for word in re.findall(r"\b[A-Z]\w+\b", " ".join(line for line in law.lines if "requires " not in line and "ensures " not in line)):
-        walk.by_type(law.file[len(CRATES) + 1:].split("/")[0], word)
+    for law in laws:
+        walk.law(law)
     files = []
     for found in walk.order:
         if found.file not in files:
@@ -209,10 +255,13 @@ def main():
     if "--list" in sys.argv:
         for file in files:
             mine = [found for found in walk.order if found.file == file]
-            print(f"{file[len(ROOT) + 1:]}: {sum(len(found.lines) for found in mine)} lines: {', '.join(found.name for found in mine)}")
+            print(f"{file[len(ROOT) + 1:]}: {sum(len(found.text()) for found in mine)} lines: {', '.join(found.name for found in mine)}")
     types = [found for found in walk.order if not found.file.endswith(".antt")]
-    print(f"types among them: {len(types)}, {sum(len(found.lines) for found in types)} lines, {len({found.file for found in types})} files")
-    print(f"{len(walk.order)} definitions, {sum(len(found.lines) for found in walk.order)} lines, {len(files)} files")
+    lines = [line for found in walk.order for line in found.text()]
+    print(f"words of the library: {len(walk.library)}")
+    print(f"types among them: {len(types)}, {sum(len(found.text()) for found in types)} lines, {len({found.file for found in types})} files")
+    print(f"without closing brackets alone: {len([line for line in lines if not BRACKET.match(line)])} lines")
+    print(f"{len(walk.order)} definitions, {len(lines)} lines, {len(files)} files")
 
 
 main()

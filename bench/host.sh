@@ -1,6 +1,6 @@
 #!/usr/bin/env bash
-# Prints two tables: how many calls a second a host makes of its nodes, from 1, 2 and 4 threads on 1 and 4 nodes, with tapes
-# and without, beside a node alone; and how many messages a second come from a say at one node to a fetch at another, over
+# Prints two tables: how many calls a second a host makes of its nodes, from 1, 2 and 4 threads on 1 and 4 nodes, without tapes,
+# with them, and with rings to a thread that records, beside a node alone; and how many messages a second come from a say at one node to a fetch at another, over
 # rings and over UDP on this machine. The program is built in bench/out, apart from the repository's own crates; what these keep
 # of their proofs is copied there once, so it is built soonest after `rt lib` in crates/gb_worker.
 set -eu

@@ -1,9 +1,9 @@
 #!/usr/bin/env python3
-"""Each request for memory of a program refused in turn: refused.py PRELOAD GB_SIM PLAYER
+"""Each request for memory of a program refused in turn: refused.py PRELOAD GB_SIM PLAYER HOST MAKERS
 
-PRELOAD is bench/refused/refuse_malloc.c as a shared library, GB_SIM a built gb_sim, PLAYER the built program of bench/refused. The
-answers of the named schedules stand below, and no program is asked for them. Every run is judged; status 1 where one is wrong. What is
-counted is printed as the tables of docs/MEMORY.md.
+PRELOAD is bench/refused/refuse_malloc.c as a shared library, GB_SIM a built gb_sim, PLAYER, HOST and MAKERS the built programs of bench/refused. The
+answers of the named schedules, and of the host's day, stand below, and no program is asked for them. Every run is judged; status 1 where one
+is wrong. What is counted is printed as the tables of docs/MEMORY.md.
 """
 import collections
 import os
@@ -97,14 +97,35 @@ OTHER_FIRST = schedule(
     furnished(2, 'beb', tenants=(8, 7)), *zip(SCHEDULES['two_tenants'].lines[13:-1], SCHEDULES['two_tenants'].answers[13:-1]),
     ('fetch 1 8 1 0 16', 'log 2 0:1:71 0:2:72'), ('fetch 1 7 1 0 16', 'log 2 0:1:61 0:2:62'))
 
+def host_log(first, second):
+    """The first 16 entries of a log that has ten messages of each node, one node's before the other's."""
+    entries = [f'{node}:{number}:61{node:02x}{number - 1:02x}' for node in (first, second) for number in range(1, 11)]
+    return ' '.join(['log 16', *entries[:16]])
+
+
+# The day of bench/refused/host.rt.txt. A frame of ten messages of three bytes has 31 bytes before its items and 8 behind them.
+PACKET = f'packet {31 + 10 * (9 + 3) + 8}'
+HOST_DAY = ['play', 'open', *['ok'] * 6, *[f'said {number}' for number in range(1, 11) for _ in range(2)], PACKET, 'good 10 0', PACKET,
+            'good 10 1', 'ticked', host_log(0, 1), 'ticked', host_log(1, 0), 'closed', 'merged 34']
+HOST_MAKES = (3, 5, len(HOST_DAY) - 1)  # where each node makes the group, and where the merged run does
+
+# What bench/refused/makers.rt.txt makes, and the measure of each value; of the text that explains refused words, which clap writes, only that there is one.
+MAKERS = [
+    ('read_payload', 1), ('read_message', 1), ('split_words', 4), ('parse_request', 1), ('read_ask', 1), ('read_ask of an await', 1),
+    ('read_command', 1), ('read_secrets', 1), ('await_text', 83), ('reply_lines', 3_027), ('entry_lines', 3_021), ('token_line', 65),
+    ('command of gb_ctl', 1), ('read_words', 3), ('refusal_text', None), ('Payload::from_slice', 1_000), ('Entries::from_slice', 3),
+    ('Entry::duplicate', 1_000), ('Reply::duplicate', 3), ('reply_text', 6_020), ('NodeEvent::duplicate', 1_000),
+    ('NodeAnswer::duplicate', 3), ('LineBuffer::new', 1), ('Feed::new', 1), ('RingPort::mesh', 3), ('new_pasts', 3), ('Store::new', 1),
+    *[('Stack::new', 1), ('Slot::new', 1)] * 10]
+
 WORD = re.compile(
     r'ok|said \d+|log \d+( \d+:\d+:(-|[0-9a-f]+))*|packet \d+|nothing|good (none|first|seen|outside) \d+ \d+'
     r'|noticed( -|( \d+)+)|no packet|refused \d+ [A-Za-z]+')
 
 
 class Bench:
-    def __init__(self, preload, sim, player):
-        self.preload, self.sim, self.player = (os.path.abspath(path) for path in (preload, sim, player))
+    def __init__(self, *paths):
+        self.preload, self.sim, self.player, self.host, self.makers = map(os.path.abspath, paths)
         self.runs, self.wrong = 0, []
 
     def run(self, words, lines, start=0, many=1):
@@ -151,7 +172,8 @@ def is_served(schedule, ran):
     unless the program says that it ended."""
     told, first = split(ran)
     return (ran.status in (0, 3) and (not ran.text or ran.text.endswith('\n')) and told[:first] == schedule.answers[:first]
-            and all(WORD.fullmatch(line) for line in told) and (ran.status == 3 or len(told) == len(schedule.answers)))
+            and all(WORD.fullmatch(line) for line in told)
+            and (ran.lines[-1:] == [OUT_OF_MEMORY] if ran.status == 3 else len(told) == len(schedule.answers)))
 
 
 def came_to(ran):
@@ -259,6 +281,71 @@ def play_in_turn(bench, name):
     return start - 1 - begin, seen
 
 
+def judged_host(whole, ran, start):
+    """What a run of the host came to: the refused line, `closing` where closing was refused, which is not done again, or `as if none` where a
+    make, by a node or in the run that merging makes, had no memory to keep a member's token; None where the run is wrong."""
+    places = [at for at, line in enumerate(ran.lines) if line in (REFUSED, NO_MEMORY)]
+    place = next((at for at, made in enumerate(ran.made_before) if start <= made), None)
+    if ran.status != 0 or len(places) > 1 or place is None or not ran.text.endswith('\n'):
+        return None
+    if not places:
+        return 'as if none' if ran.text == whole.text and place in HOST_MAKES else None
+    if places[0] != place:
+        return None
+    if whole.lines[place] == 'closed':
+        return 'closing' if ran.lines == whole.lines[:place] + [NO_MEMORY] else None
+    if whole.lines[place].startswith('merged'):
+        return 'merging' if ran.lines == whole.lines[:place] + [NO_MEMORY] + whole.lines[place:] else None
+    # An answer that refuses an event for memory stands in the tape, so the tapes are not merged: that is said of runs in which no memory was refused.
+    last = 'audit fault' if ran.lines[place] == REFUSED else whole.lines[-1]
+    return ran.lines[place] if ran.lines[:place] + ran.lines[place + 1:] == whole.lines[:-1] + [last] else None
+
+
+def host_in_turn(bench):
+    """Every request of the host's day refused in turn."""
+    seen = collections.Counter()
+    whole = bench.run([bench.host], [])
+    bench.judge(whole.lines == HOST_DAY and whole.status == 0, 'host', whole.text)
+    start = begin = whole.made_before[0]
+    while True:
+        start += 1
+        ran = bench.run([bench.host], [], start)
+        if ran.refused == 0:
+            break
+        found = judged_host(whole, ran, start)
+        bench.judge(found, 'host', start, ran.status, repr(ran.text[-200:]))
+        seen[found] += 1
+    bench.judge(ran.text == whole.text, 'host', 'beyond the last', start)
+    return start - 1 - begin, seen
+
+
+def are_made(lines):
+    """Whether all values are made, with their measures."""
+    told = [line.rpartition(': ')[::2] for line in lines[1:]]
+    return lines[:1] == ['play'] and len(told) == len(MAKERS) and all(
+        name == made and (size == str(measure) if measure else size.isdecimal() and size != '0')
+        for (name, size), (made, measure) in zip(told, MAKERS))
+
+
+def makers_in_turn(bench):
+    """Every request of the functions that make a value refused in turn, the refused call made again at once: for each function how many requests
+    it makes, and how many of the runs it ended with `no memory`; the others were as if none was refused."""
+    whole, made, seen = bench.run([bench.makers], []), collections.Counter(), collections.Counter()
+    bench.judge(are_made(whole.lines) and whole.status == 0, 'makers', whole.text)
+    for place in range(1, len(whole.lines)):
+        name = whole.lines[place].rpartition(': ')[0]
+        made[name] += 0
+        for start in range(whole.made_before[place - 1] + 1, whole.made_before[place] + 1):
+            made[name] += 1
+            ran = bench.run([bench.makers], [], start)
+            is_there = ran.lines[place] == f'{name}: no memory'
+            lines = ran.lines[:place] + ran.lines[place + is_there:]
+            is_right = are_made(lines) if name == 'refusal_text' else lines == whole.lines
+            bench.judge(ran.status == 0 and ran.refused == 1 and is_right, 'makers', start, name, repr(ran.text[-200:]))
+            seen[name] += is_there
+    return made, seen
+
+
 def items_of(line):
     """The items of a packet that was sent: tenant and payload, in order."""
     text, items = bytes.fromhex(line.split()[2]), []
@@ -354,9 +441,24 @@ def print_plays(bench):
         row(name, requests, *[seen[what] for what in (REFUSED, NO_MEMORY, 'as if none')])
 
 
+def print_host(bench):
+    kinds = (REFUSED, NO_MEMORY, 'closing', 'merging', 'as if none')
+    head('Host', 'Requests', f'`{REFUSED}`', 'the call is an Err', 'closing', 'merging', 'as if none')
+    requests, seen = host_in_turn(bench)
+    row('the day of two callers', requests, *[seen[what] for what in kinds])
+
+
+def print_makers(bench):
+    head('Function', 'Requests', f'`Err`, then it is made', 'as if none')
+    made, seen = makers_in_turn(bench)
+    for name in made:
+        row(name, made[name], seen[name], made[name] - seen[name])
+    row('all', sum(made.values()), sum(seen.values()), sum(made.values()) - sum(seen.values()))
+
+
 def main():
-    bench = Bench(*sys.argv[1:4])
-    for part in (print_sim, print_limits, print_plays):
+    bench = Bench(*sys.argv[1:6])
+    for part in (print_makers, print_host, print_sim, print_limits, print_plays):
         part(bench)
     print(f'\n{bench.runs} runs, {len(bench.wrong)} wrong')
     for what in bench.wrong[:20]:

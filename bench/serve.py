@@ -9,9 +9,10 @@ import sys
 import tempfile
 import time
 
-sys.path.insert(0, os.path.join(os.path.dirname(os.path.abspath(__file__)), "..", "examples"))
-import client
+sys.path.insert(0, os.path.join(os.path.dirname(os.path.abspath(__file__)), "..", "clients", "python"))
+from foqradesh import Client, Keys, Spec, node_address
 
+CLUSTER_KEY, ADMIN_KEY, TENANT_KEY = (bytes([byte] * 32) for byte in (0x11, 0x22, 0x33))
 PORT = 23000
 PAYLOAD = b"0123456789abcdef"
 CASES = ((1, 1), (1, 32), (64, 1), (64, 32))  # connections, and requests ahead on each
@@ -21,20 +22,23 @@ def framed(body):
     return struct.pack(">I", len(body)) + body
 
 
-def message(command, node, tenant, group, words, head=None):
-    token = client.token_for(command, node, tenant, group)
-    return framed(f"{head or command} {token} {tenant} {group} {words}".encode("ascii"))
+def keys(node):
+    return Keys(node, admin=ADMIN_KEY, tenants={1: TENANT_KEY})
+
+
+def message(command, node, tenant, group, words):
+    """A message of the member of a group at a node."""
+    return framed(f"{command} {keys(node).member(tenant, group)} {tenant} {group} {words}".encode("ascii"))
 
 
 def prepare(members, groups, kind="beb"):
     """Makes groups of these members, each for 1,024 messages of a member."""
     for node in members:
-        session = client.Session(PORT, node)
-        assert session.ask("tenant", 1, 256, 1024, 65536, 1024) == "ok"
-        for group in range(groups):
-            assert session.ask("make", 1, group, kind, ",".join(map(str, members)), 1024, 65536, 1024) == "ok"
-            assert session.ask("open", 1, group) == "ok"
-        session.close()
+        with Client(node_address(PORT, node), keys(node)) as client:
+            client.tenant(1, TENANT_KEY, 256, 1024, 65536, 1024)
+            for group in range(groups):
+                client.make(1, group, Spec(kind, tuple(members), 1024, 65536, 1024))
+                client.open(1, group)
 
 
 class Server:
@@ -44,7 +48,7 @@ class Server:
         environment = dict(os.environ, LD_PRELOAD=lossy, LOSSY="50") if lossy else None
         self.process = subprocess.Popen(words, stdin=subprocess.PIPE, stdout=subprocess.PIPE, text=True, env=environment)
         if keys:
-            self.process.stdin.write(client.CLUSTER_KEY.hex() + "\n" + client.ADMIN_KEY.hex() + "\n")
+            self.process.stdin.write(CLUSTER_KEY.hex() + "\n" + ADMIN_KEY.hex() + "\n")
             self.process.stdin.close()
             assert self.process.stdout.readline().startswith("serving")
         else:
@@ -112,9 +116,8 @@ class Bench:
             for name, path in (("say", says), ("fetch", fetches)):
                 with self.serve(1) as server:
                     prepare([0], 256)
-                    session = client.Session(PORT, 0)
-                    session.ask("say", 1, 0, PAYLOAD.hex())
-                    session.close()
+                    with Client(node_address(PORT, 0), keys(0)) as client:
+                        client.say(1, 0, PAYLOAD)
                     self.rate(f"gb_serve {name}", server, "session", PORT + 64, connections, ahead, path)
             if shutil.which("redis-server"):
                 with self.redis() as server:
@@ -125,7 +128,7 @@ class Bench:
             with self.serve(3) as server:
                 prepare([0, 1, 2], 1, kind)
                 says = self.written("wait-says", [message("say", 0, 1, 0, PAYLOAD.hex())] * count)
-                awaits = self.written("awaits", (message("fetch", 1, 1, 0, f"{place} 1 30000", "await") for place in range(count)))
+                awaits = self.written("awaits", (message("await", 1, 1, 0, f"{place} 1 30000") for place in range(count)))
                 before = server.seconds()
                 _, median, late, most = self.played("wait", PORT + 64, says, PORT + 65, awaits)
                 spent = server.seconds() - before
@@ -158,13 +161,12 @@ class Bench:
                 time.sleep(seconds)
                 cores = (server.seconds() - before) / seconds
                 prepare([0], 1)
-                session = client.Session(PORT, 0)
-                before, begun = server.seconds(), time.time()
-                while time.time() - begun < seconds:
-                    session.ask("fetch", 1, 0, 0, 1)
-                    time.sleep(0.25)
-                asked = (server.seconds() - before) / (time.time() - begun)
-                session.close()
+                with Client(node_address(PORT, 0), keys(0)) as client:
+                    before, begun = server.seconds(), time.time()
+                    while time.time() - begun < seconds:
+                        client.fetch(1, 0, 0, 1)
+                        time.sleep(0.25)
+                    asked = (server.seconds() - before) / (time.time() - begun)
                 self.told(f"gb_serve of {nodes} nodes", f"{cores:.3f} of a core idle, {asked:.3f} at 4 requests a second", -asked)
 
     def crowd(self, connections=1000):

@@ -8,11 +8,15 @@
 //   REFUSE_MANY    how many are refused from there on: a number, or `all`; 1 if not given
 //   REFUSE_REPORT  a file descriptor. Before each write to standard output a line `write R` goes there, and at the end
 //                  `end R F`: R requests were made so far, F of them were refused.
+//   REFUSE_SHARED  a file of at least 48 bytes, in which the numbers of `struct numbers` stand from then on, so that another process sees how
+//                  many requests were made, and says while this one runs what is refused
 #define _GNU_SOURCE
 #include <errno.h>
+#include <fcntl.h>
 #include <stddef.h>
 #include <stdlib.h>
 #include <string.h>
+#include <sys/mman.h>
 #include <sys/syscall.h>
 #include <unistd.h>
 
@@ -23,7 +27,13 @@ extern void *__libc_memalign(size_t alignment, size_t size);
 
 enum { LINE = 64 };
 
-static unsigned long requests, refused, from, many = 1;
+// How many requests were made and refused; the first that is refused, and how many from there on; and, where `chance` is not 0, one in
+// `chance` of all requests, as a hash of its number and the seed says.
+struct numbers {
+    unsigned long requests, refused, from, many, chance, seed;
+};
+
+static struct numbers own = {.many = 1}, *numbers = &own;
 static int report = -1;
 // Until the variables are read every request is granted, and none counts.
 static int started;
@@ -34,21 +44,35 @@ static unsigned long number_of(const char *name, unsigned long otherwise) {
 }
 
 __attribute__((constructor)) static void start(void) {
-    const char *all = getenv("REFUSE_MANY");
-    from = number_of("REFUSE_FROM", 0);
-    many = all && strcmp(all, "all") == 0 ? (unsigned long)-1 : number_of("REFUSE_MANY", 1);
+    const char *all = getenv("REFUSE_MANY"), *shared = getenv("REFUSE_SHARED");
+    int file = shared ? open(shared, O_RDWR) : -1;
+    if (file >= 0) {
+        void *seen = mmap(NULL, sizeof own, PROT_READ | PROT_WRITE, MAP_SHARED, file, 0);
+        numbers = seen == MAP_FAILED ? &own : seen;
+        close(file);
+    }
+    numbers->from = number_of("REFUSE_FROM", 0);
+    numbers->many = all && strcmp(all, "all") == 0 ? (unsigned long)-1 : number_of("REFUSE_MANY", 1);
     report = (int)number_of("REFUSE_REPORT", (unsigned long)-1);
     started = 1;
+}
+
+// Whether a number is one of those that chance picks.
+static int is_picked(unsigned long number) {
+    unsigned long chance = __atomic_load_n(&numbers->chance, __ATOMIC_SEQ_CST);
+    unsigned long mixed = (number ^ numbers->seed) * 0x9e3779b97f4a7c15ul;
+    return chance != 0 && (mixed ^ mixed >> 29) * 0xbf58476d1ce4e5b9ul >> 32 < (1ul << 32) / chance;
 }
 
 // Whether the request that is made now is refused.
 static int is_refused(void) {
     if (!started)
         return 0;
-    unsigned long number = __atomic_add_fetch(&requests, 1, __ATOMIC_SEQ_CST);
-    if (from == 0 || number < from || number - from >= many)
+    unsigned long number = __atomic_add_fetch(&numbers->requests, 1, __ATOMIC_SEQ_CST);
+    unsigned long from = __atomic_load_n(&numbers->from, __ATOMIC_SEQ_CST);
+    if ((from == 0 || number < from || number - from >= numbers->many) && !is_picked(number))
         return 0;
-    __atomic_add_fetch(&refused, 1, __ATOMIC_SEQ_CST);
+    __atomic_add_fetch(&numbers->refused, 1, __ATOMIC_SEQ_CST);
     errno = ENOMEM;
     return 1;
 }
@@ -101,8 +125,8 @@ static void tell(const char *what, int at_end) {
     if (report < 0)
         return;
     if (at_end)
-        text = put_text(put_number(text, refused), " ");
-    text = put_text(put_number(text, requests), what);
+        text = put_text(put_number(text, numbers->refused), " ");
+    text = put_text(put_number(text, numbers->requests), what);
     syscall(SYS_write, report, text, (size_t)(end - text));
 }
 
