@@ -1,12 +1,18 @@
 #!/usr/bin/env bash
 # A walk through the service: starts a cluster of three nodes that send packets of version 2, takes in a tenant, makes a chat group
-# of all three, says something at each, reads the log at each, and stops the cluster. It runs gb_serve and gb_ctl, which are built by
-# `rt run` in crates/gb_serve and crates/gb_ctl. Word: the base port, 42000 if not given.
+# of all three, says something at each, reads the log at each, and stops the cluster. It runs gb_serve and gb_ctl, which `./install`
+# puts into bin/; SERVE and CTL name others. Word: the base port, 42000 if not given.
 set -euo pipefail
-here=$(cd "$(dirname "$0")" && pwd)
+top=$(cd "$(dirname "$0")/.." && pwd)
 port=${1:-42000}
-serve=${SERVE:-$here/../crates/gb_serve/out/gb_serve}
-ctl=${CTL:-$here/../crates/gb_ctl/out/gb_ctl}
+serve=${SERVE:-$top/bin/gb_serve}
+ctl=${CTL:-$top/bin/gb_ctl}
+for program in "$serve" "$ctl"; do
+    [ -x "$program" ] || {
+        echo "walk.sh: there is no program $program: run ./install at the top of the checkout first" >&2
+        exit 2
+    }
+done
 work=$(mktemp -d)
 server=
 trap '[ -z "$server" ] || kill "$server" 2>/dev/null || true; rm -rf "$work"' EXIT
@@ -22,6 +28,7 @@ printf 'admin %s\ntenant %s\n' "$admin" "$(key)" >"$work/client.keys"
 server=$!
 for _ in {1..100}; do
     [ -s "$work/printed" ] && break
+    kill -0 "$server" 2>/dev/null || break
     sleep 0.1
 done
 cat "$work/printed"
@@ -36,12 +43,9 @@ ask() { # NODE WORDS..: asks a node, and ends the walk where its reply is a refu
 }
 for node in 0 1 2; do
     ask "$node" tenant 7 4 100 4096 100
-    ask "$node" make 7 1 fallack 0,1,2 100 4096 100
 done
 # The group is made everywhere before it is opened anywhere: a message that comes to a node without the group is lost there.
-for node in 0 1 2; do
-    ask "$node" open 7 1
-done
+"$ctl" --port "$port" --secrets "$work/client.keys" group --nodes 0,1,2 7 1 fallack 100 4096 100
 ask 0 say 7 1 'hello' --text
 ask 1 say 7 1 'hi there' --text
 ask 2 say 7 1 'good morning' --text
