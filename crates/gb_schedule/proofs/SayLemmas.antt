@@ -51,16 +51,6 @@ pub none_named : (nodes : ℕ) (text a t g behind : List ℕ) → words_of text 
 none_named nodes text a t g behind are none node address word words below is_t is_g spelt =
     no_group nodes (words_of text) a t g (words_of behind) (word ∷ words) node address are none below is_t is_g spelt
 
--- a text of three words at most names none
-pub one_names_none : (nodes : ℕ) (text a : List ℕ) → words_of text ≡ a ∷ [] → NamesNoMember nodes text
-one_names_none nodes text a are node address word words below is_t is_g spelt = cc (are, spelt)
-
-pub two_name_none : (nodes : ℕ) (text a t : List ℕ) → words_of text ≡ a ∷ t ∷ [] → NamesNoMember nodes text
-two_name_none nodes text a t are node address word words below is_t is_g spelt = cc (are, spelt)
-
-pub three_name_none : (nodes : ℕ) (text a t g : List ℕ) → words_of text ≡ a ∷ t ∷ g ∷ [] → NamesNoMember nodes text
-three_name_none nodes text a t g are node address word words below is_t is_g spelt = cc (are, spelt)
-
 -- a text has a word
 some_word : (text : List ℕ) → words_of text ≡ [] → ⊥
 some_word [] none = cc none

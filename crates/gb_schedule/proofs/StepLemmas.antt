@@ -287,7 +287,3 @@ fetch_reads nodes words a t g f m node address from most are reads_group reads_f
       from_in = is_from.0;
       most_in = is_most.0;
     })
-
--- more words than a line may have spell no fetch
-pub many_no_fetch : (nodes : ℕ) (words : List (List ℕ)) (step : AnyStep) → 9 < length words → SpellsFetch nodes (Step step) words → ⊥
-many_no_fetch nodes words step many spelt = let few : length words ≡ 5 = ap length spelt.words_are in omega (arith, many, few)
