@@ -1,5 +1,6 @@
 -- The plain program's lists stand for the group alone.
 use Rattle.std.proofs.Common.{◌≡◌, ℕ, zero, suc, ◌+◌, ◌-◌, ◌<◌, ◌≤◌, ◌⊎◌, inl, inr, List, [], ◌∷◌, ◌++◌, length, take, get_or, nat_eq, Bool, true, false, not, ◌&&◌, ◌||◌, ◌∙◌, ap, sym, subst, refl, arith, length-append}
+use Rattle.std.specs.List.{range_with_len}
 use Rattle.std.specs.Prelude.{map, fold, replicate, slice_get, slice_index_or, slice_set, Option, Some, None, is_some, if◌then◌else◌}
 use Rattle.std.proofs.lemmas.List.{get_or-replicate, get_or-set_same, get_or-set_other, get_or_append_left, length-set, length-map, map-append, take_more}
 use Rattle.std.proofs.lemmas.List.Sums.{fold-append}
@@ -23,7 +24,7 @@ use Rattle.gb_layer.specs.Machine.{was_noticed}
 use Rattle.gb_history.specs.declared.call.GroupCall.TheVariants.{Own, Other, Crashed}
 use Rattle.gb_rules.specs.declared.phase.Phase.{Phase}
 use Rattle.gb_rules.specs.declared.phase.Phase.TheVariants.{Gone}
-use Rattle.gb_alone.specs.Alone.{Member, Group, held_spec, places, shown, running_reply, reply_to, cut, item_done, took_notice, put_to, called, did, commanded, falls, item_came, taken_in, member_after, after, nobody, alone, alone_from}
+use Rattle.gb_alone.specs.Alone.{Member, Group, held_spec, shown, running_reply, reply_to, cut, item_done, took_notice, put_to, called, did, commanded, falls, item_came, taken_in, member_after, after, nobody, alone, alone_from}
 use Rattle.gb_alone.specs.MemberLists.{MemberValue, new_member, member_of, row_with, rows_with, value_called, value_dropped, carried_row, value_did, value_commanded, value_came, value_taken_in, value_took, value_done, value_cut, value_noticed, value_at, value_after, values_after, StandsForMember, StandForMembers}
 use Rattle.gb_alone.specs.Observation.{numbers_below}
 use Rattle.gb_alone.proofs.UsageLemmas.{shown_alike, shown_of}
@@ -220,8 +221,8 @@ done_listed b place count v m h = record {
   put = h.put;
   taken = h.taken;
   size = h.size;
-  done = λ x below. done_at x b.number (places place count) m.done v.done (omega (arith, h.rows, b.below)) (h.done b.number b.below) (h.done x below);
-  rows = length-set v.done b.number (places place count ++ slice_index_or v.done b.number []) ∙ h.rows;
+  done = λ x below. done_at x b.number (range_with_len place count) m.done v.done (omega (arith, h.rows, b.below)) (h.done b.number b.below) (h.done x below);
+  rows = length-set v.done b.number (range_with_len place count ++ slice_index_or v.done b.number []) ∙ h.rows;
   stopped = h.stopped;
 }
 

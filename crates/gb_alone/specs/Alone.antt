@@ -1,6 +1,6 @@
 -- One group, by itself: no links, frames, packets or other groups. Histories have the newest first.
 use Rattle.std.specs.Prelude.{ℕ, zero, suc, ◌+◌, ◌-◌, ◌≡◌, ◌≤◌, ◌<◌, ◌&&◌, ◌||◌, not, Bool, true, false, List, [], ◌∷◌, ◌++◌, length, fold, take, Option, Some, None, is_some, option_map, slice_get, nat_eq, if◌then◌else◌}
-use Rattle.std.specs.List.{list_all, list_any}
+use Rattle.std.specs.List.{list_all, list_any, range_with_len}
 use Rattle.gb_types.specs.Rising.{rising}
 use Rattle.gb_types.specs.Version.{version_at}
 use Rattle.gb_types.specs.declared.entry.Entry.{Entry}
@@ -151,14 +151,9 @@ taken_in version me from place (Some x) m =
     let next = item_came version me from x m in
     record next { come = λ b. if nat_eq b from.number then place ∷ m.come b else m.come b }
 
--- so many places, from one on
-abbrev pub places : ℕ → ℕ → List ℕ
-places place zero = []
-places place (suc k) = place ∷ places (place + 1) k
-
 -- items put out to a node are acknowledged
 abbrev pub item_done : NodeId → ℕ → ℕ → Member → Member
-item_done b place count m = record m { done = λ x. if nat_eq x b.number then places place count ++ m.done x else m.done x }
+item_done b place count m = record m { done = λ x. if nat_eq x b.number then range_with_len place count ++ m.done x else m.done x }
 
 -- what waits for a node is given up
 abbrev pub cut : NodeId → Member → Member

@@ -1,5 +1,6 @@
 -- A group alone in lists, as the plain program keeps it. Each change is that of Alone.antt.
 use Rattle.std.specs.Prelude.{ℕ, ◌+◌, ◌-◌, ◌≡◌, ◌<◌, ◌&&◌, ◌||◌, not, Bool, false, true, List, [], ◌∷◌, ◌++◌, length, map, replicate, take, slice_get, slice_index_or, slice_set, Option, Some, None, if◌then◌else◌}
+use Rattle.std.specs.List.{range_with_len}
 use Rattle.gb_types.specs.declared.entry.Entry.{Entry}
 use Rattle.gb_types.specs.declared.limits.TheConstants.{NODES}
 use Rattle.gb_types.specs.declared.node.NodeId.{NodeId}
@@ -16,7 +17,7 @@ use Rattle.gb_history.specs.declared.call.GroupCall.TheVariants.{Own, Other, Cra
 use Rattle.gb_history.specs.declared.call.GroupCall.{GroupCall}
 use Rattle.gb_rules.specs.declared.phase.Phase.TheVariants.{Made, Opened, Shut, Gone}
 use Rattle.gb_rules.specs.declared.phase.Phase.{Phase}
-use Rattle.gb_alone.specs.Alone.{Group, Member, held_spec, falls, places, reply_to}
+use Rattle.gb_alone.specs.Alone.{Group, Member, held_spec, falls, reply_to}
 use Rattle.gb_alone.specs.Observation.{numbers_below}
 use Rattle.gb_alone.specs.declared.event.GroupEvent.TheVariants.{Tenant, Make as AskMake, Open as AskOpen, Shut as AskShut, Drop as AskDrop, Say as AskSay, Took, Came, Done as Acknowledged, Notice, Stop}
 use Rattle.gb_alone.specs.declared.event.GroupEvent.{GroupEvent}
@@ -97,7 +98,7 @@ abbrev pub value_took : ℕ → ℕ → MemberValue → MemberValue
 value_took b count v = record v { taken = slice_set v.taken b (slice_index_or v.taken b 0 + count) }
 
 abbrev pub value_done : ℕ → ℕ → ℕ → MemberValue → MemberValue
-value_done b place count v = record v { done = slice_set v.done b (places place count ++ slice_index_or v.done b []) }
+value_done b place count v = record v { done = slice_set v.done b (range_with_len place count ++ slice_index_or v.done b []) }
 
 -- what waits for a node is given up
 abbrev pub value_cut : NodeId → MemberValue → MemberValue

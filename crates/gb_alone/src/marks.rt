@@ -1,6 +1,7 @@
 //! The places of items put out to a node that are acknowledged.
 ghost use Rattle.std.specs.Prelude.{◌≡◌, ◌+◌, ◌≤◌, ◌++◌, [], OnOk, length};
-ghost use Rattle.gb_alone.specs.Alone.{is_message, is_marked, is_acknowledged, places};
+ghost use Rattle.std.specs.List.{range_with_len};
+ghost use Rattle.gb_alone.specs.Alone.{is_message, is_marked, is_acknowledged};
 
 use gb_types::entry::Entry;
 use gb_types::memory::OutOfMemory;
@@ -63,7 +64,7 @@ impl Marks {
 
     /// Adds the places from one on, so many. `Err` where there is no memory or no number for them.
     pub(crate) fn add(&mut self, place: u64, count: u64) -> Result<(), OutOfMemory>
-        ensures { OnOk result (self.new ≡ places place count ++ self.old) }
+        ensures { OnOk result (self.new ≡ range_with_len place count ++ self.old) }
     {
         if count == 0 {
             return Ok(());

@@ -11,13 +11,14 @@ use Rattle.gb_types.proofs.SameLemmas.{same_number}
 use Rattle.gb_frame.specs.declared.fault.PacketFault.{PacketFault}
 use Rattle.gb_frame.specs.declared.fault.PacketFault.TheVariants.{Node as NodeFault}
 use Rattle.gb_frame.specs.Packet.{Content}
-use Rattle.gb_frame.specs.Reading.{reading}
+use Rattle.gb_frame.specs.Reading.{reading, is_packet, content_in}
 use Rattle.gb_link.specs.Received.{Received, admission, is_awaited}
 use Rattle.gb_link.specs.declared.receiver.Admission.TheVariants.{First, Seen, Outside}
 use Rattle.gb_link.specs.Ack.{covers}
 use Rattle.gb_node.specs.NodeValue.{NodeValue}
 use Rattle.gb_node.specs.NodeStep.{running_turn, stopped_answer, node_numbered, receiver_from, is_here, if_here, read_at, taken_answer, good_of, fate, kind_of, IsStarved, IsTurn}
-use Rattle.gb_node.specs.Past.{read, packet_in, came, frames_to, is_first, is_taken, is_taken_by, is_frame, is_acked, is_ack}
+use Rattle.gb_node.proofs.PacketLemmas.{read_one}
+use Rattle.gb_node.specs.Past.{read, came, frames_to, is_first, is_taken, is_taken_by, is_frame, is_acked, is_ack}
 use Rattle.gb_node.specs.PastLaw.{PastsSay}
 use Rattle.gb_node.specs.declared.answer.NodeAnswer.{NodeAnswer}
 use Rattle.gb_node.specs.declared.answer.NodeAnswer.TheVariants.{Reply as Replied, Taken, Sent, Ticked, Halted}
@@ -108,7 +109,7 @@ module _ (pasts : PastsSay) (packets : PacketsAreHonest) (plan : Plan) where
       let place = sent bytes refl (ap is_ok took.here) in
       record {
         content = took.content;
-        text = ap (λ k. read k bytes) (sym was.beside.key) ∙ ap packet_in took.text;
+        text = ap (λ k. read k bytes) (sym was.beside.key) ∙ read_one (node_at v a).key bytes took.content took.text;
         good_is = took.good_is;
         honest = packets plan run v comes place.0 (record { to = a; text = bytes }) (contains_get v.packets place.0 (record { to = a; text = bytes }) place.1 place.2);
       }
@@ -172,13 +173,13 @@ module _ (pasts : PastsSay) (packets : PacketsAreHonest) (plan : Plan) where
 
   -- the one packet of bytes that are read
   only : (test : Content → Bool) (bytes : List ℕ) → list_any test (read plan.cluster_key bytes) ≡ true → (c : Content) × (read plan.cluster_key bytes ≡ c ∷ []) × (test c ≡ true)
-  only test bytes e = by (reading plan.cluster_key bytes) refl e
+  only test bytes e = by (is_packet plan.cluster_key bytes) refl e
     where
-      by : (r : Result Content PacketFault) → reading plan.cluster_key bytes ≡ r → list_any test (packet_in r) ≡ true → (c : Content) × (read plan.cluster_key bytes ≡ c ∷ []) × (test c ≡ true)
-      by (Err fault) is e = absurd (cc)
-      by (Ok c) is e = (c, ap packet_in is, tested (or_cases (test c) false e))
+      by : (there : Bool) → is_packet plan.cluster_key bytes ≡ there → list_any test (if there then content_in bytes ∷ [] else []) ≡ true → (c : Content) × (read plan.cluster_key bytes ≡ c ∷ []) × (test c ≡ true)
+      by false is e = absurd (cc)
+      by true is e = (content_in bytes, ap (λ (there : Bool). if there then content_in bytes ∷ [] else []) is, tested (or_cases (test (content_in bytes)) false e))
         where
-          tested : (test c ≡ true) ⊎ (false ≡ true) → test c ≡ true
+          tested : (test (content_in bytes) ≡ true) ⊎ (false ≡ true) → test (content_in bytes) ≡ true
           tested (inl t) = t
           tested (inr f) = absurd (cc)
 

@@ -11,14 +11,14 @@ use Rattle.gb_types.specs.declared.node.NodeId.{NodeId}
 use Rattle.gb_frame.specs.declared.fault.PacketFault.{PacketFault}
 use Rattle.gb_frame.specs.declared.item.Item.{Item}
 use Rattle.gb_frame.specs.Packet.{Content}
-use Rattle.gb_frame.specs.Reading.{reading}
+use Rattle.gb_frame.specs.Reading.{is_packet, content_in}
 use Rattle.gb_link.specs.Received.{Received, base_of, admission, is_awaited}
 use Rattle.gb_link.specs.SendWindow.{SendWindow, has_room, is_in_window}
 use Rattle.gb_link.specs.declared.receiver.Admission.TheVariants.{First, Seen, Outside}
 use Rattle.gb_link.proofs.BaseLemmas.{base_of_from, base_of_below, base_of_lacks}
 use Rattle.gb_node.specs.NodeValue.{NodeValue}
 use Rattle.gb_node.specs.NodeStep.{window_to, receiver_from, is_reached, batch_to, unless_empty, content_to, pack_content, sent, fate, kind_of, IsTurn}
-use Rattle.gb_node.specs.Past.{Happened, ComesTo as NodeComesTo, read, packet_in, came, packed_for, frames_to, numbered, is_taken, is_acked, is_ack}
+use Rattle.gb_node.specs.Past.{Happened, ComesTo as NodeComesTo, read, came, packed_for, frames_to, numbered, is_taken, is_acked, is_ack}
 use Rattle.gb_node.specs.PastLaw.{PastsSay}
 use Rattle.gb_node.specs.SendLaw.{SendersRun}
 use Rattle.gb_node.specs.declared.answer.NodeAnswer.{NodeAnswer}
@@ -42,11 +42,11 @@ use Rattle.gb_cluster.proofs.LinkLemmas.{arrives_honestly, one_content}
 -- A frame is packed where the link has room.
 
 one_read : (key text : List ℕ) → length (map (λ (c : Content). c.items) (read key text)) ≤ 1
-one_read key text = by (reading key text)
+one_read key text = by (is_packet key text)
   where
-    by : (r : Result Content PacketFault) → length (map (λ (c : Content). c.items) (packet_in r)) ≤ 1
-    by (Ok c) = omega arith
-    by (Err fault) = omega arith
+    by : (there : Bool) → length (map (λ (c : Content). c.items) (if there then content_in text ∷ [] else [])) ≤ 1
+    by true = omega arith
+    by false = omega arith
 
 room_for : (v : NodeValue) (b : NodeId) (text : List ℕ) → Sent (SentPacket text) ≡ Sent (sent v (pack_content v b)) → has_room (window_to v b.number) ≡ true
 room_for v b text e = by (is_reached v b) (has_room (window_to v b.number)) refl e

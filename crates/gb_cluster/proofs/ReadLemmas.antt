@@ -9,7 +9,8 @@ use Rattle.gb_frame.specs.Packet.{Content}
 use Rattle.gb_frame.specs.Reading.{reading}
 use Rattle.gb_node.specs.NodeValue.{NodeValue, new_node}
 use Rattle.gb_node.specs.NodeStep.{is_here, if_here, read_at}
-use Rattle.gb_node.specs.Past.{packet_in, read}
+use Rattle.gb_node.specs.Past.{read}
+use Rattle.gb_node.proofs.PacketLemmas.{packet_in, read_in}
 use Rattle.gb_node.specs.PastLaw.{PastsSay}
 use Rattle.gb_cluster.specs.ClusterValue.{node_plan, node_at}
 use Rattle.gb_cluster.specs.Run.{past_at}
@@ -17,7 +18,7 @@ use Rattle.gb_cluster.specs.Links.{PacketsAreHonest, PacketsAreRead}
 use Rattle.gb_cluster.proofs.NodesLemmas.{stays, have_pasts}
 
 pub read_under : (key bytes : List ℕ) (c : Content) → read key bytes ≡ c ∷ [] → reading key bytes ≡ Ok c
-read_under key bytes c e = by (reading key bytes) e
+read_under key bytes c e = by (reading key bytes) (sym (read_in key bytes) ∙ e)
   where
     by : (r : Result Content PacketFault) → packet_in r ≡ c ∷ [] → r ≡ Ok c
     by (Ok d) e = let same : d ≡ c = cc in ap Ok same

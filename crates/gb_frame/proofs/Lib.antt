@@ -8,3 +8,4 @@ pub mod TextLemmas
 pub mod FaultLemmas
 pub mod ReadingLemmas
 pub mod BatchLemmas
+pub mod PacketLemmas

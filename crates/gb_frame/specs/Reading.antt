@@ -1,5 +1,5 @@
 -- Reading bytes as a packet, as a function on lists.
-use Rattle.std.specs.Prelude.{ℕ, zero, suc, ◌%◌, Bool, ◌||◌, ◌&&◌, not, nat_lt, nat_eq, List, [], ◌∷◌, length, take, drop, is_none, find, ◌==◌, Option, Some, None, unwrap_or, option_and_then, Result, Ok, Err, if◌then◌else◌, slice_index}
+use Rattle.std.specs.Prelude.{ℕ, zero, suc, ◌%◌, Bool, ◌||◌, ◌&&◌, not, nat_lt, nat_eq, List, [], ◌∷◌, length, take, drop, is_none, is_some, nat_le, find, ◌==◌, Option, Some, None, unwrap_or, option_and_then, Result, Ok, Err, if◌then◌else◌, slice_index}
 use Rattle.std.specs.Cmp.Lexicographic.{pointwise}
 use Rattle.std.specs.Int.{w16}
 use Rattle.gb_types.specs.declared.version.Version.{Version as TextVersion}
@@ -28,12 +28,10 @@ items_at limit (suc n) bytes = option_and_then (λ first. option_and_then (λ ot
 
 -- the items, and what is left behind them
 abbrev pub left_over : Option (List Item × List ℕ) → List ℕ
-left_over None = []
-left_over (Some x) = x.1
+left_over o = (unwrap_or o ([], [])).1
 
 abbrev pub items_of : Option (List Item × List ℕ) → List Item
-items_of None = []
-items_of (Some x) = x.0
+items_of o = (unwrap_or o ([], [])).0
 
 -- the version that the version byte stands for, where it stands for one
 abbrev pub version_read : List ℕ → TextVersion
@@ -59,6 +57,12 @@ is_counted bytes = if frame_in bytes == 0 then count_in bytes == 0 else nat_lt 0
 -- whether the tag is the one under the key
 abbrev pub is_tagged : List ℕ → List ℕ → Bool
 is_tagged key bytes = pointwise nat_eq (tag_in bytes) (tag_of key (tagged_in bytes))
+
+-- the bytes are the text of a packet under the key, by the limits of the version that they name
+abbrev pub is_packet : List ℕ → List ℕ → Bool
+is_packet key bytes =
+    nat_le SHORTEST (length bytes) && (is_magic bytes && (is_some (version_named (version_in bytes)) && (is_between_nodes (limits_of (version_read bytes)).nodes bytes && (is_acknowledgement bytes
+    && (is_counted bytes && (is_some (parsed bytes) && (nat_eq (length (left_over (parsed bytes))) 0 && (nat_le (length bytes) (limits_of (version_read bytes)).packet && is_tagged key bytes))))))))
 
 -- the test of each fault, by the limits of the version that was read
 abbrev pub test : List ℕ → List ℕ → PacketFault → Bool

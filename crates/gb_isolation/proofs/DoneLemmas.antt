@@ -1,7 +1,7 @@
 -- An acknowledgement is taken: as the past tells, and by the group alone.
 use Rattle.std.proofs.Common.{◌≡◌, ◌≢◌, ℕ, zero, suc, ◌+◌, ◌<◌, ◌≤◌, List, [], ◌∷◌, ◌++◌, length, map, fold, cond, Option, Some, None, Bool, true, false, not, ◌&&◌, ◌||◌, ◌⊎◌, inl, inr, refl, sym, ◌∙◌, ap, subst, arith, nat_eq, nat_lt, nat_le, slice_get, take, add-one, length-append}
 use Rattle.std.specs.Prelude.{All, filter, if◌then◌else◌}
-use Rattle.std.specs.List.{list_any}
+use Rattle.std.specs.List.{list_any, range_with_len}
 use Rattle.std.proofs.lemmas.Bool.{cases_Bool, cases_eq, cases_lt, or_right, or_from, eq-eqb, ne_eqb}
 use Rattle.std.proofs.lemmas.Bool.Decides.{nat_tests}
 use Rattle.std.proofs.lemmas.Option.{same_Some}
@@ -23,7 +23,7 @@ use Rattle.gb_history.specs.History.{said_in}
 use Rattle.gb_rules.specs.Group.{is_member}
 use Rattle.gb_alone.specs.declared.event.GroupEvent.TheVariants.{Done as Acknowledged}
 use Rattle.gb_alone.specs.declared.event.GroupStep.{GroupStep}
-use Rattle.gb_alone.specs.Alone.{Member, Group, after, alone_from, places, is_marked, is_message, is_acknowledged, IsLegalFrom}
+use Rattle.gb_alone.specs.Alone.{Member, Group, after, alone_from, is_marked, is_message, is_acknowledged, IsLegalFrom}
 use Rattle.gb_frame.specs.Items.{entry_of, names, items_for}
 use Rattle.gb_rules.specs.Lifetime.{stepped, where_so}
 use Rattle.gb_node.specs.Past.{numbered}
@@ -318,7 +318,7 @@ pub record Acked (bounds : Bounds) (g : Addr) (me from : NodeId) (group next : G
   pub elsewhere : (b : ℕ) → b ≢ from.number → (next me.number).done b ≡ (group me.number).done b
   pub marks : (place : ℕ) → is_marked place ((next me.number).done from.number) ≡ (added place || is_marked place ((group me.number).done from.number))
 
-marked_places : (place before count : ℕ) (marks : List ℕ) → is_marked place (places (before + 1) count ++ marks) ≡ (is_between before (before + count) place || is_marked place marks)
+marked_places : (place before count : ℕ) (marks : List ℕ) → is_marked place (range_with_len (before + 1) count ++ marks) ≡ (is_between before (before + count) place || is_marked place marks)
 marked_places place before zero marks = sym (or_off (is_between before (before + 0) place) (is_marked place marks) (grind (arith, nat_tests)))
 marked_places place before (suc count) marks =
     ap (λ b. nat_eq (before + 1) place || b) (marked_places place (before + 1) count marks) ∙ by (nat_eq (before + 1) place) (is_between (before + 1) (before + 1 + count) place) (is_between before (before + suc count) place) (is_marked place marks) one
@@ -362,7 +362,7 @@ frame_acked bounds g me from before (suc k) group running may = record {
 }
   where
     there : after bounds g group (record { node = me; event = Acknowledged from (before + 1) (suc k) }) me.number
-        ≡ record (group me.number) { done = λ x. if nat_eq x from.number then places (before + 1) (suc k) ++ (group me.number).done x else (group me.number).done x }
+        ≡ record (group me.number) { done = λ x. if nat_eq x from.number then range_with_len (before + 1) (suc k) ++ (group me.number).done x else (group me.number).done x }
     there = after_there bounds g group me (Acknowledged from (before + 1) (suc k))
 
 -- first these events, then those

@@ -11,7 +11,8 @@ use Rattle.gb_frame.specs.Packet.{Content}
 use Rattle.gb_link.specs.Received.{Received, admission, is_awaited}
 use Rattle.gb_link.specs.declared.receiver.Admission.TheVariants.{First, Seen, Outside}
 use Rattle.gb_node.specs.NodeStep.{node_numbered, receiver_from, fate, kind_of, IsTurn}
-use Rattle.gb_node.specs.Past.{Happened, read, packet_in, came, is_first, is_taken, is_taken_by, is_frame}
+use Rattle.gb_node.proofs.PacketLemmas.{read_one}
+use Rattle.gb_node.specs.Past.{Happened, read, came, is_first, is_taken, is_taken_by, is_frame}
 use Rattle.gb_node.specs.PastLaw.{PastsSay}
 use Rattle.gb_node.specs.declared.answer.NodeAnswer.{NodeAnswer}
 use Rattle.gb_node.specs.declared.answer.NodeAnswer.TheVariants.{Reply as Replied, Taken, Sent, Ticked, Halted}
@@ -74,7 +75,7 @@ taken_once inside pasts plan run d v bytes good comes event answer =
     let frame : good.frame ≡ fate c.frame r = ap (λ (g : Good). g.frame) took.good_is in
     record {
       content = c;
-      text = ap (λ k. read k bytes) (sym was.beside.key) ∙ ap packet_in took.text;
+      text = ap (λ k. read k bytes) (sym was.beside.key) ∙ read_one old.key bytes c took.text;
       first = ap is_first frame ∙ (first_fate r c.frame (λ e. inside plan run d v comes bytes good event answer (frame ∙ e)) ∙ ap (λ b. not (nat_eq c.frame 0) && not b) received);
     }
 

@@ -120,7 +120,7 @@ at_notices_of a (b ∷ bs) = (refl, at_notices_of a bs)
 at_notices : (a : NodeId) (spec : Spec) (test : ℕ → Bool) → AllAre (IsAt a) (notices a spec test)
 at_notices a spec test = at_notices_of a (filter (λ b. is_other spec a.number b && test b) (range_with_len 0 NODES))
 
-at_command : (g : Addr) (a : NodeId) (request : Request) → AllAre (IsAt a) (command_for g a request)
+at_command : (g : Addr) (a : NodeId) (request : Request) → AllAre (IsAt a) (command_for a request)
 at_command g a (AddTenant token row) = tt
 at_command g a (Make token addr spec) = (refl, tt)
 at_command g a (OpenGroup token addr) = (refl, tt)
@@ -146,8 +146,8 @@ at_asked : (plan : NodePlan) (g : Addr) (past : List Happened) (request : Reques
 at_asked plan g past request reply = by (is_stopped past) (is_own_request plan.me g past request)
   where
     by : (stopped own : Bool)
-        → AllAre (IsAt plan.me) (if stopped then (if own then with_stop plan.me (is_met plan.me g past) (command_for g plan.me request) else []) else tenant_given g plan.me request reply ++ (if own then own_requested_by plan g past request reply else []))
-    by true true = at_stop plan.me (is_met plan.me g past) (command_for g plan.me request) (at_command g plan.me request)
+        → AllAre (IsAt plan.me) (if stopped then (if own then with_stop plan.me (is_met plan.me g past) (command_for plan.me request) else []) else tenant_given g plan.me request reply ++ (if own then own_requested_by plan g past request reply else []))
+    by true true = at_stop plan.me (is_met plan.me g past) (command_for plan.me request) (at_command g plan.me request)
     by true false = tt
     by false true = all_both (IsAt plan.me) (tenant_given g plan.me request reply) (own_requested_by plan g past request reply) (at_tenant g plan.me request reply) (at_requested plan g past request reply)
     by false false = all_both (IsAt plan.me) (tenant_given g plan.me request reply) [] (at_tenant g plan.me request reply) tt
@@ -189,7 +189,7 @@ carried_plain event is = refl
 plain_carried : (a : NodeId) (xs : List GroupStep) → AllAre (IsCarried a) xs → AllAre IsPlain xs
 plain_carried a xs all = all_weaker (IsCarried a) IsPlain (λ x is. carried_plain x.event is.1) xs all
 
-plain_command : (g : Addr) (a : NodeId) (request : Request) → AllAre IsPlain (command_for g a request)
+plain_command : (g : Addr) (a : NodeId) (request : Request) → AllAre IsPlain (command_for a request)
 plain_command g a (AddTenant token row) = tt
 plain_command g a (Make token addr spec) = (refl, tt)
 plain_command g a (OpenGroup token addr) = (refl, tt)
@@ -233,16 +233,16 @@ module _ (bounds : Bounds) (plan : NodePlan) (g : Addr) (past : List Happened) (
   own_due (Make token addr spec) Done named made =
       making_due bounds g plan.me spec (filter (λ b. is_other spec plan.me.number b && is_noticed_after plan past b) (range_with_len 0 NODES)) group
       (ap is_some made ∙ ap (λ (t : Bool). is_some (option_or (if t then Some spec else None) (made_with g past))) named)
-  own_due request reply named made = all_due bounds g (tenant_given g plan.me request reply ++ command_for g plan.me request) group (all_both IsPlain (tenant_given g plan.me request reply) (command_for g plan.me request) (plain_tenant g plan.me request reply) (plain_command g plan.me request))
+  own_due request reply named made = all_due bounds g (tenant_given g plan.me request reply ++ command_for plan.me request) group (all_both IsPlain (tenant_given g plan.me request reply) (command_for plan.me request) (plain_tenant g plan.me request reply) (plain_command g plan.me request))
 
   asked_due : (request : Request) (reply : Reply) → (alone_from bounds g group (asked_by plan g past request reply) plan.me.number).spec ≡ made_with g (record { event = Asked request; answer = Replied reply } ∷ past)
       → AreDue bounds g group (asked_by plan g past request reply)
   asked_due request reply = by (is_stopped past) (is_own_request plan.me g past request) refl
     where
       by : (stopped own : Bool) → is_own_request plan.me g past request ≡ own
-          → (alone_from bounds g group (if stopped then (if own then with_stop plan.me (is_met plan.me g past) (command_for g plan.me request) else []) else tenant_given g plan.me request reply ++ (if own then own_requested_by plan g past request reply else [])) plan.me.number).spec ≡ made_with g (record { event = Asked request; answer = Replied reply } ∷ past)
-          → AreDue bounds g group (if stopped then (if own then with_stop plan.me (is_met plan.me g past) (command_for g plan.me request) else []) else tenant_given g plan.me request reply ++ (if own then own_requested_by plan g past request reply else []))
-      by true true is made = all_due bounds g (with_stop plan.me (is_met plan.me g past) (command_for g plan.me request)) group (plain_stop plan.me (is_met plan.me g past) (command_for g plan.me request) (plain_command g plan.me request))
+          → (alone_from bounds g group (if stopped then (if own then with_stop plan.me (is_met plan.me g past) (command_for plan.me request) else []) else tenant_given g plan.me request reply ++ (if own then own_requested_by plan g past request reply else [])) plan.me.number).spec ≡ made_with g (record { event = Asked request; answer = Replied reply } ∷ past)
+          → AreDue bounds g group (if stopped then (if own then with_stop plan.me (is_met plan.me g past) (command_for plan.me request) else []) else tenant_given g plan.me request reply ++ (if own then own_requested_by plan g past request reply else []))
+      by true true is made = all_due bounds g (with_stop plan.me (is_met plan.me g past) (command_for plan.me request)) group (plain_stop plan.me (is_met plan.me g past) (command_for plan.me request) (plain_command g plan.me request))
       by true false is made = tt
       by false true is made = own_due request reply (and_parts (is_named g request) (has_group_token plan.me (tenants_in past) request) is).0 made
       by false false is made = all_due bounds g (tenant_given g plan.me request reply ++ []) group (all_both IsPlain (tenant_given g plan.me request reply) [] (plain_tenant g plan.me request reply) tt)

@@ -38,21 +38,21 @@ use Rattle.gb_isolation.proofs.View.{asked_by, is_noticed_after, own_requested_b
 use Rattle.gb_frame.specs.Packet.{Content}
 
 -- what a request gives besides the command is no command
-commands_own : (plan : NodePlan) (g : Addr) (past : List Happened) (s : ℕ) (request : Request) (reply : Reply) → commands s (own_requested_by plan g past request reply) ≡ commands s (command_for g plan.me request)
+commands_own : (plan : NodePlan) (g : Addr) (past : List Happened) (s : ℕ) (request : Request) (reply : Reply) → commands s (own_requested_by plan g past request reply) ≡ commands s (command_for plan.me request)
 unfolding commands
 commands_own plan g past s (Make token addr spec) Done = ap (λ es. commands_at s (record { node = plan.me; event = AskMake spec }) ++ es) (no_commands_notices s plan.me spec (is_noticed_after plan past))
 commands_own plan g past s request reply = refl
 
-commands_asked : (plan : NodePlan) (g : Addr) (past : List Happened) (s : ℕ) (request : Request) (reply : Reply) → commands s (asked_by plan g past request reply) ≡ commands s (if is_own_request plan.me g past request then command_for g plan.me request else [])
+commands_asked : (plan : NodePlan) (g : Addr) (past : List Happened) (s : ℕ) (request : Request) (reply : Reply) → commands s (asked_by plan g past request reply) ≡ commands s (if is_own_request plan.me g past request then command_for plan.me request else [])
 commands_asked plan g past s request reply = by (is_stopped past) (is_own_request plan.me g past request)
   where
     tenant : (xs : List GroupStep) → commands s (tenant_given g plan.me request reply ++ xs) ≡ commands s xs
     tenant xs = commands-append s (tenant_given g plan.me request reply) xs ∙ ap (λ es. es ++ commands s xs) (no_commands_tenant s g plan.me request reply)
 
     by : (stopped own : Bool)
-        → commands s (if stopped then (if own then with_stop plan.me (is_met plan.me g past) (command_for g plan.me request) else []) else tenant_given g plan.me request reply ++ (if own then own_requested_by plan g past request reply else []))
-        ≡ commands s (if own then command_for g plan.me request else [])
-    by true true = commands_stopped s plan.me (is_met plan.me g past) (command_for g plan.me request)
+        → commands s (if stopped then (if own then with_stop plan.me (is_met plan.me g past) (command_for plan.me request) else []) else tenant_given g plan.me request reply ++ (if own then own_requested_by plan g past request reply else []))
+        ≡ commands s (if own then command_for plan.me request else [])
+    by true true = commands_stopped s plan.me (is_met plan.me g past) (command_for plan.me request)
     by true false = refl
     by false true = tenant (own_requested_by plan g past request reply) ∙ commands_own plan g past s request reply
     by false false = tenant []
@@ -62,7 +62,7 @@ command_pairs : (a : NodeId) (e : GroupEvent) (r : Reply) → command_in e ≡ e
 unfolding commands
 command_pairs a e r is = subst (λ es. Pairs (es ++ []) (r ∷ []) (accepted_in e r)) (sym (ap (λ (t : Bool). if t then command_in e else []) (eq-eqb a.number a.number refl) ∙ is)) (one_pair e r)
 
-named_pairs : (g : Addr) (a : NodeId) (request : Request) (reply : Reply) → is_named g request ≡ true → Pairs (commands a.number (command_for g a request)) (reply ∷ []) (said_by request reply)
+named_pairs : (g : Addr) (a : NodeId) (request : Request) (reply : Reply) → is_named g request ≡ true → Pairs (commands a.number (command_for a request)) (reply ∷ []) (said_by request reply)
 named_pairs g a (AddTenant token row) reply named = absurd (cc)
 named_pairs g a (Make token addr spec) reply named = command_pairs a (AskMake spec) reply refl
 named_pairs g a (OpenGroup token addr) reply named = command_pairs a AskOpen reply refl
@@ -79,7 +79,7 @@ reply_pairs plan g past request reply =
     subst (λ es. Pairs es (reply_in plan.me g past (Asked request) (Replied reply)) (accepted_by plan g past (Asked request) (Replied reply))) (sym (commands_asked plan g past plan.me.number request reply))
     (by (is_own_request plan.me g past request) refl)
   where
-    by : (own : Bool) → is_own_request plan.me g past request ≡ own → Pairs (commands plan.me.number (if own then command_for g plan.me request else [])) (if own then reply ∷ [] else []) (if own then said_by request reply else [])
+    by : (own : Bool) → is_own_request plan.me g past request ≡ own → Pairs (commands plan.me.number (if own then command_for plan.me request else [])) (if own then reply ∷ [] else []) (if own then said_by request reply else [])
     by true is = named_pairs g plan.me request reply (and_parts (is_named g request) (has_group_token plan.me (tenants_in past) request) is).0
     by false is = no_pairs
 

@@ -34,7 +34,7 @@ refused = Refused Stopped
 -- the one command that a request is
 pub record IsCommand (g : Addr) (a : NodeId) (request : Request) : Type 0 where
   pub event : GroupEvent
-  pub one : command_for g a request ≡ record { node = a; event = event } ∷ []
+  pub one : command_for a request ≡ record { node = a; event = event } ∷ []
   pub may : (group : Group) → MayHappen a event group
   pub replied : (bounds : Bounds) (addr : Addr) (group : Group) → member_after bounds addr a event group ≡ commanded a event (reply_to bounds addr a.number event (group a.number)) (group a.number)
   pub nothing : (m : Member) → did a event refused m ≡ m
@@ -112,7 +112,7 @@ module _ (plan : NodePlan) (versions : List Version) (g : Addr) (past : List Hap
   StoppedGoes = Goes (bounds_with plan versions) g plan.me frames_from (view_of plan g (asking request refused ∷ past)) group (asked_by plan g past request refused)
 
   -- what it gives the group
-  given_stopped : is_stopped past ≡ true → (own : Bool) → is_own_request plan.me g past request ≡ own → asked_by plan g past request refused ≡ (if own then with_stop plan.me (is_met plan.me g past) (command_for g plan.me request) else [])
+  given_stopped : is_stopped past ≡ true → (own : Bool) → is_own_request plan.me g past request ≡ own → asked_by plan g past request refused ≡ (if own then with_stop plan.me (is_met plan.me g past) (command_for plan.me request) else [])
   given_stopped stopped own is = rw (stopped, is) refl
 
   -- a request of another group, or with a wrong token

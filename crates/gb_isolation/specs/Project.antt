@@ -2,7 +2,7 @@
 use Rattle.std.specs.Prelude.{ℕ, zero, suc, ◌+◌, ◌-◌, ◌&&◌, ◌||◌, not, Bool, true, false, List, [], ◌∷◌, ◌++◌, length, take, map, filter, Option, Some, None, nat_eq, nat_lt, if◌then◌else◌}
 use Rattle.std.specs.FinSet as set
 use Rattle.std.specs.List.{range_with_len, list_any, flat_map}
-use Rattle.std.specs.Option.{option_or}
+use Rattle.std.specs.Option.{option_or, option_map_or}
 use Rattle.gb_types.specs.declared.address.Addr.{Addr}
 use Rattle.gb_types.specs.declared.entry.Entry.{Entry}
 use Rattle.gb_types.specs.declared.limits.TheConstants.{NODES}
@@ -20,6 +20,7 @@ use Rattle.gb_detect.specs.Silence.{is_noticed}
 use Rattle.gb_rules.specs.Address.{is_addr}
 use Rattle.gb_rules.specs.Group.{is_other}
 use Rattle.gb_rules.specs.Tenant.{reserve_of}
+use Rattle.gb_alone.specs.declared.event.GroupEvent.{GroupEvent}
 use Rattle.gb_alone.specs.declared.event.GroupEvent.TheVariants.{Tenant, Make as AskMake, Open as AskOpen, Shut as AskShut, Drop as AskDrop, Say as AskSay, Fetch as AskFetch, Took, Came, Done as Acknowledged, Notice, Stop as Ends}
 use Rattle.gb_alone.specs.declared.event.GroupStep.{GroupStep}
 use Rattle.gb_frame.specs.Items.{entry_of, items_for}
@@ -59,29 +60,27 @@ has_come key b n (h ∷ past) = list_any (is_frame b n) (came key h.event h.answ
 
 -- Requests.
 
+-- the group that a request names, and its command there
+abbrev pub command_in : Request → Option (Addr × GroupEvent)
+command_in (AddTenant token row) = None
+command_in (Make token addr spec) = Some (addr, AskMake spec)
+command_in (OpenGroup token addr) = Some (addr, AskOpen)
+command_in (ShutGroup token addr) = Some (addr, AskShut)
+command_in (DropGroup token addr) = Some (addr, AskDrop)
+command_in (Say token addr message) = Some (addr, AskSay message)
+command_in (Fetch token addr from most) = Some (addr, AskFetch from most)
+
 -- the request names the group
 abbrev pub is_named : Addr → Request → Bool
-is_named g (AddTenant token row) = false
-is_named g (Make token addr spec) = is_addr g addr
-is_named g (OpenGroup token addr) = is_addr g addr
-is_named g (ShutGroup token addr) = is_addr g addr
-is_named g (DropGroup token addr) = is_addr g addr
-is_named g (Say token addr message) = is_addr g addr
-is_named g (Fetch token addr from most) = is_addr g addr
+is_named g request = option_map_or (λ (c : Addr × GroupEvent). is_addr g c.0) (command_in request) false
 
 -- a request of the group at the node a: it names the group, and comes with the token that it needs by the tenants that were added there
 abbrev pub is_own_request : NodeId → Addr → List Happened → Request → Bool
 is_own_request a g past request = is_named g request && has_group_token a (tenants_in past) request
 
--- the group's command that a request is
-abbrev pub command_for : Addr → NodeId → Request → List GroupStep
-command_for g a (AddTenant token row) = []
-command_for g a (Make token addr spec) = record { node = a; event = AskMake spec } ∷ []
-command_for g a (OpenGroup token addr) = record { node = a; event = AskOpen } ∷ []
-command_for g a (ShutGroup token addr) = record { node = a; event = AskShut } ∷ []
-command_for g a (DropGroup token addr) = record { node = a; event = AskDrop } ∷ []
-command_for g a (Say token addr message) = record { node = a; event = AskSay message } ∷ []
-command_for g a (Fetch token addr from most) = record { node = a; event = AskFetch from most } ∷ []
+-- the command that a request is at the node a, whatever group it names
+abbrev pub command_for : NodeId → Request → List GroupStep
+command_for a request = option_map_or (λ (c : Addr × GroupEvent). record { node = a; event = c.1 } ∷ []) (command_in request) []
 
 -- what the group was made with, if it was
 abbrev pub made_by : Addr → NodeEvent → NodeAnswer → Option Spec
@@ -103,7 +102,7 @@ notices a spec new = map (λ b. record { node = a; event = Notice (node_numbered
 -- what a request of the group gives it at a running node; made, it learns of the members that are noticed there
 abbrev pub own_requested : NodeId → Addr → (ℕ → Bool) → Request → Reply → List GroupStep
 own_requested a g noticed (Make token addr spec) Done = record { node = a; event = AskMake spec } ∷ notices a spec noticed
-own_requested a g noticed request reply = command_for g a request
+own_requested a g noticed request reply = command_for a request
 
 abbrev pub tenant_given : Addr → NodeId → Request → Reply → List GroupStep
 tenant_given g a (AddTenant token row) Done = if nat_eq row.tenant g.tenant then record { node = a; event = Tenant (reserve_of row) } ∷ [] else []
@@ -131,7 +130,7 @@ with_stop a met (c ∷ commands) = if met then c ∷ commands else record { node
 -- what a request with its reply gives the group: a node that has stopped gives its commands alone
 abbrev pub asked : NodeId → Addr → (ℕ → Bool) → List Happened → Request → Reply → List GroupStep
 asked a g noticed past request reply =
-    if is_stopped past then (if is_own_request a g past request then with_stop a (is_met a g past) (command_for g a request) else [])
+    if is_stopped past then (if is_own_request a g past request then with_stop a (is_met a g past) (command_for a request) else [])
     else requested a g noticed past request reply
 
 -- Links.

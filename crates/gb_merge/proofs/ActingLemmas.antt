@@ -14,7 +14,8 @@ use Rattle.gb_frame.specs.Packet.{Content}
 use Rattle.gb_frame.specs.Reading.{reading}
 use Rattle.gb_node.specs.NodeStep.{turn, if_here, IsTurn}
 use Rattle.gb_node.specs.NodeValue.{NodeValue, new_node}
-use Rattle.gb_node.specs.Past.{packet_in, read}
+use Rattle.gb_node.specs.Past.{read}
+use Rattle.gb_node.proofs.PacketLemmas.{packet_in, read_in}
 use Rattle.gb_node.specs.PastLaw.{IsOfPast, PastsSay}
 use Rattle.gb_node.specs.declared.answer.NodeAnswer.{NodeAnswer}
 use Rattle.gb_node.specs.declared.answer.NodeAnswer.TheVariants.{Reply, Taken, Sent, Ticked, Halted}
@@ -79,7 +80,7 @@ good_is pasts plan run v a bytes comes within =
 -- a good packet says for which node it is
 goal_is : (plan : Plan) (a : NodeId) (bytes : List ℕ) (c : Content) → read plan.cluster_key bytes ≡ c ∷ [] → is_good plan a bytes ≡ true → c.to ≡ a.number
 unfolding is_good
-goal_is plan a bytes c says good = by (reading plan.cluster_key bytes) says good
+goal_is plan a bytes c says good = by (reading plan.cluster_key bytes) (sym (read_in plan.cluster_key bytes) ∙ says) good
   where
     right : (d : Content) (t u : Bool) → nat_eq d.to a.number ≡ t → is_ok (if t && u then Ok d else Err Node) ≡ true → d.to ≡ a.number
     right d true u is so = eqb-true d.to a.number is

@@ -46,7 +46,8 @@ use Rattle.gb_table.specs.TableValue.{TableValue, reserve_for, table_noticed, ta
 use Rattle.gb_table.specs.Requests.{is_admitted, table_did, table_reply}
 use Rattle.gb_node.specs.NodeValue.{NodeValue}
 use Rattle.gb_node.specs.NodeStep.{node_numbered, window_to, receiver_from, is_reached, content_to, batch_to, unless_empty, next_batch, sent_batch, newly_done, took_ack, heard, good_of, node_took, node_ticked, node_did, item_done, frame_done, item_comes, items_come, fate, kind_of, frame_comes, notice_each}
-use Rattle.gb_node.specs.Past.{Happened, packet_in, read, packed_for, frames_to, numbered, is_acked, is_first}
+use Rattle.gb_node.proofs.PacketLemmas.{read_one}
+use Rattle.gb_node.specs.Past.{Happened, read, packed_for, frames_to, numbered, is_acked, is_first}
 use Rattle.gb_node.specs.PastGroups.{freed_by, items_freed}
 use Rattle.gb_node.proofs.SlotGroups.{asked_for, done_for, taken_for, packed_from, noticed_for, group_after, StandsForPast}
 use Rattle.gb_node.specs.declared.plan.NodePlan.{NodePlan}
@@ -296,7 +297,7 @@ module _ (each : EachGroup) (plan : NodePlan) (past : List Happened) (v : NodeVa
       let first = is_first (fate c.frame (receiver_from v c.from)) in
       let frees : newly_done c v ≡ freed_by key past c = ap (filter (λ u. covers c.base c.mask u.0)) (undone_is size c.from) in
       let freed = keeps_all (frame_done from) (keeps_frame from) v.table (newly_done c v) in
-      let one : read key bytes ≡ c ∷ [] = ap (λ k. read k bytes) (sym was.beside.key) ∙ ap packet_in is in
+      let one : read key bytes ≡ c ∷ [] = ap (λ k. read k bytes) (sym was.beside.key) ∙ read_one v.key bytes c is in
       frame_comes_in each g from c.frame c.items (receiver_from v c.from) acked.table
       ∙ (ap (λ version. if first then fold (came_for version from) (group_in g acked.table.groups.rows) (items_for g c.items) else group_in g acked.table.groups.rows) (freed.version ∙ was.beside.version)
       ∙ (ap (λ x. if first then fold (came_for plan.version from) x (items_for g c.items) else x) (frames_done_in each g from v.table (newly_done c v) ∙ ap (λ us. fold (done_for from) o (items_for g (items_freed us))) frees)

@@ -29,7 +29,8 @@ use Rattle.gb_detect.specs.Silence.{is_noticed}
 use Rattle.gb_detect.specs.Laws.{NoticedByCalls}
 use Rattle.gb_node.specs.NodeValue.{NodeValue, new_node, IsNodePlan}
 use Rattle.gb_node.specs.NodeStep.{fate, Turn, turn, running_turn, stopped_answer, IsTurn, IsSpelt, is_here, if_here, taken_answer, node_read, next_batch, sent, sent_batch, content_to, window_to, receiver_from, node_numbered, newly_done, heard, took_ack, without_done, receives, again_content, ack_content}
-use Rattle.gb_node.specs.Past.{Happened, ComesTo, read, packet_in, frames_to, numbered, is_acked, is_taken, watched, tenants_in, is_stopped}
+use Rattle.gb_node.proofs.PacketLemmas.{read_one}
+use Rattle.gb_node.specs.Past.{Happened, ComesTo, read, frames_to, numbered, is_acked, is_taken, watched, tenants_in, is_stopped}
 use Rattle.gb_node.specs.PastGroups.{noticed_after, taken_told, packed_told, told_after, told_of}
 use Rattle.gb_node.specs.PastLaw.{IsOfPast, PastsSay}
 use Rattle.gb_node.proofs.SlotGroups.{taken_for, packed_from, group_after, group_of, IsTold, StandsForPast}
@@ -89,7 +90,7 @@ module _ (law : WhatIsWrittenIsRead) (each : EachGroup) (stay : StayApart) (slot
       groups = λ g. took_groups each plan past v was g bytes c is has.windows;
       apart = frame_comes_apart stay (node_numbered c.from) c.frame c.items (receiver_from v c.from) (took_ack c (heard c v)).table (frames_done_apart stay (node_numbered c.from) v.table (newly_done c v) ok);
       told = λ g.
-          let one : read plan.cluster_key bytes ≡ c ∷ [] = ap (λ k. read k bytes) (sym was.beside.key) ∙ ap packet_in is in
+          let one : read plan.cluster_key bytes ≡ c ∷ [] = ap (λ k. read k bytes) (sym was.beside.key) ∙ read_one v.key bytes c is in
           let frame = fate c.frame (receiver_from v c.from) in
           subst (λ cs. IsTold plan.me (fold (taken_for plan.version plan.cluster_key g past frame) (group_of plan g past) cs) (fold (taken_told plan.version plan.me plan.cluster_key g past frame) (told_of plan g past) cs)) (sym one)
           (taken_stands slots plan.version plan.me plan.cluster_key g past frame (group_of plan g past) (told_of plan g past) c (was.told g));

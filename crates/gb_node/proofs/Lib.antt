@@ -10,6 +10,7 @@ pub mod KnownLemmas
 pub mod LinkLemmas
 pub mod NodeLemmas
 pub mod PackLemmas
+pub mod PacketLemmas
 pub mod PastLemmas
 pub mod PlanLemmas
 pub mod ReadLemmas

@@ -26,7 +26,8 @@ use Rattle.gb_link.specs.declared.receiver.Admission.TheVariants.{First, Seen, O
 use Rattle.gb_table.specs.TableValue.{TableValue, table_noticed}
 use Rattle.gb_node.specs.NodeValue.{NodeValue}
 use Rattle.gb_node.specs.NodeStep.{window_to, receiver_from, node_numbered, content_to, sent_batch, without_done, newly_done, item_done, frame_done, item_comes, items_come, frame_comes, receives, fate, kind_of, took_ack, heard, node_took, node_ticked, good_of, notice_each}
-use Rattle.gb_node.specs.Past.{read, packet_in, packed_for, numbered, is_ack, is_frame, is_first}
+use Rattle.gb_node.proofs.PacketLemmas.{read_one}
+use Rattle.gb_node.specs.Past.{read, packed_for, numbered, is_ack, is_frame, is_first}
 use Rattle.gb_node.specs.declared.answer.NodeAnswer.TheVariants.{Taken, Sent, Ticked, Halted}
 use Rattle.gb_node.specs.declared.answer.PacketAnswer.TheVariants.{Good as TakenGood}
 use Rattle.gb_node.specs.declared.answer.Sent.TheVariants.{Packet as SentPacket}
@@ -116,7 +117,7 @@ at_same xs i b x d same within = ap (λ k. get_or (slice_set xs k x) b d) same �
 
 module _ (v : NodeValue) (bytes : List ℕ) (c : Content) (is : reading v.key bytes ≡ Ok c) (windows : length v.windows ≡ NODES) (receivers : length v.receivers ≡ NODES) where
   one : read v.key bytes ≡ c ∷ []
-  one = ap packet_in is
+  one = read_one v.key bytes c is
 
   kept : Keeps v.table (node_took c v).table
   kept =
@@ -184,7 +185,7 @@ module _ (v : NodeValue) (b : NodeId) (items : List Item) (law : WhatIsWrittenIs
 
   pub told : read v.key (packet_text v.key (content_to v b (window_to v b.number).next items)) ≡ content_to v b (window_to v b.number).next items ∷ []
   unfolding said
-  told = ap packet_in (law v.key said fit)
+  told = read_one v.key (packet_text v.key said) said (law v.key said fit)
 
   -- the batch that is read again, where it was packed for the node
   batch_same : (x : NodeId) → nat_eq b.number x.number ≡ true → packed_for v.key x.number (Pack b) (Sent (SentPacket (packet_text v.key said))) ≡ items ∷ []

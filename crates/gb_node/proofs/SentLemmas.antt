@@ -9,13 +9,14 @@ use Rattle.gb_types.specs.declared.reply.Reply.TheVariants.{Refused}
 use Rattle.gb_types.specs.declared.request.Request.{Request}
 use Rattle.gb_types.proofs.BoolLemmas.{and_left}
 use Rattle.gb_frame.specs.Packet.{Content}
-use Rattle.gb_frame.specs.Spelling.{IsPacket}
+use Rattle.gb_frame.specs.Spelling.{IsPacket, packet_text}
 use Rattle.gb_frame.specs.Laws.{WhatIsWrittenIsRead}
 use Rattle.gb_link.specs.SendWindow.{has_room}
 use Rattle.gb_node.specs.NodeValue.{NodeValue}
 use Rattle.gb_node.specs.NodeStep.{turn, running_turn, stopped_answer, window_to, is_reached, is_another, batch_to, unless_empty, pack_content, again_content, ack_content, sent, IsTurn}
 use Rattle.gb_node.specs.SendLaw.{Acts, Says, SendersRun, PacketsSay, ReachedAreOthers, BatchesAreForOthers, OthersAreInside, PacketsAreReadBack}
-use Rattle.gb_node.specs.Past.{read, packet_in}
+use Rattle.gb_node.specs.Past.{read}
+use Rattle.gb_node.proofs.PacketLemmas.{read_one}
 use Rattle.gb_node.specs.declared.answer.NodeAnswer.{NodeAnswer}
 use Rattle.gb_node.specs.declared.answer.NodeAnswer.TheVariants.{Reply as Replied, Taken, Sent, Ticked, Halted}
 use Rattle.gb_node.specs.declared.answer.Sent.TheVariants.{Packet as SentPacket, Nothing, Refused as SentRefused}
@@ -90,4 +91,4 @@ another_in plan past v was b other = other_number b.number plan.nodes plan.me.nu
 
 -- a packet is read under the cluster's key
 pub read_is : WhatIsWrittenIsRead → PacketsAreReadBack
-read_is law plan past v was text c is fit = ap (λ k. read k text) (sym was.beside.key) ∙ (ap (read v.key) is ∙ ap packet_in (law v.key c fit))
+read_is law plan past v was text c is fit = ap (λ k. read k text) (sym was.beside.key) ∙ (ap (read v.key) is ∙ read_one v.key (packet_text v.key c) c (law v.key c fit))

@@ -36,7 +36,8 @@ use Rattle.gb_table.specs.TableValue.{TableValue, new_table}
 use Rattle.gb_table.specs.Requests.{is_admitted, admitted_reply, table_reply}
 use Rattle.gb_node.specs.NodeValue.{NodeValue, IsNodePlan}
 use Rattle.gb_node.specs.NodeStep.{turn, running_turn, window_to, receiver_from, content_to, next_batch, pack_content, is_here, if_here, taken_answer, good_of, fate, kind_of, IsTurn, IsSpelt, IsStarved}
-use Rattle.gb_node.specs.Past.{Happened, ComesTo, read, packet_in, is_first, watched, tenants_in}
+use Rattle.gb_node.specs.Past.{Happened, ComesTo, read, is_first, watched, tenants_in}
+use Rattle.gb_node.proofs.PacketLemmas.{read_one}
 use Rattle.gb_node.specs.PastGroups.{Told, noticed_after, shown_in, told_of}
 use Rattle.gb_node.specs.PastLaw.{IsOfPast}
 use Rattle.gb_node.specs.StepLaw.{is_admitted_by, group_answer, admitted_answer, past_answer, IsAsked, IsPacked, IsTakenIn, IsTicked, IsAnswered, AnswersSay}
@@ -185,7 +186,7 @@ module _ (plan : NodePlan) (right : IsNodePlan plan) (past : List Happened) (v :
           record {
             running = sym was.beside.stopped ∙ running;
             content = c;
-            text_is = ap (λ k. read k bytes) (sym was.beside.key) ∙ ap packet_in is;
+            text_is = ap (λ k. read k bytes) (sym was.beside.key) ∙ read_one v.key bytes c is;
             goal = to_is;
             inside = inside;
             apart = λ one. between v.key bytes c is (one ∙ sym to_is);

@@ -1,13 +1,12 @@
 -- What happened at a node and what came of it: all that follows from that alone. A past has the newest first.
-use Rattle.std.specs.Prelude.{ℕ, ◌≡◌, ◌+◌, ◌&&◌, ◌||◌, Bool, true, false, List, [], ◌∷◌, ◌++◌, length, map, Result, Ok, Err, nat_eq, nat_le, if◌then◌else◌}
+use Rattle.std.specs.Prelude.{ℕ, ◌≡◌, ◌+◌, ◌&&◌, ◌||◌, Bool, true, false, List, [], ◌∷◌, ◌++◌, length, map, nat_eq, nat_le, if◌then◌else◌}
 use Rattle.std.specs.List.{list_any}
 use Rattle.gb_types.specs.declared.reply.Reply.TheVariants.{Done}
 use Rattle.gb_types.specs.declared.request.Request.TheVariants.{AddTenant}
 use Rattle.gb_types.specs.declared.spec.TenantRow.{TenantRow}
-use Rattle.gb_frame.specs.declared.fault.PacketFault.{PacketFault}
 use Rattle.gb_frame.specs.declared.item.Item.{Item}
 use Rattle.gb_frame.specs.Packet.{Content}
-use Rattle.gb_frame.specs.Reading.{reading}
+use Rattle.gb_frame.specs.Reading.{is_packet, content_in}
 use Rattle.gb_link.specs.Ack.{covers}
 use Rattle.gb_detect.specs.Silence.{Call, Heard, Tick as Ticks}
 use Rattle.gb_node.specs.NodeValue.{NodeValue, new_node, IsNodePlan}
@@ -36,13 +35,9 @@ ComesTo plan (h ∷ past) v = (before : NodeValue) × ComesTo plan past before �
 
 -- Packets under the cluster's key.
 
-abbrev pub packet_in : Result Content PacketFault → List Content
-packet_in (Ok c) = c ∷ []
-packet_in (Err fault) = []
-
 -- the packet that bytes are, if they are one
 abbrev pub read : List ℕ → List ℕ → List Content
-read key bytes = packet_in (reading key bytes)
+read key bytes = if is_packet key bytes then content_in bytes ∷ [] else []
 
 -- the packet that was taken
 abbrev pub came : List ℕ → NodeEvent → NodeAnswer → List Content

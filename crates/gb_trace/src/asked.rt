@@ -24,7 +24,7 @@ use std::alloc::Global;
 
 /// The group's command that a request is.
 fn command(alloc: Global, a: NodeId, request: &Request) -> Result<Option<GroupStep>, OutOfMemory>
-    ensures { (addr : AnyAddr) → IfOk result (λ s. option_to_list s ≡ command_for addr a request.now) }
+    ensures { (addr : AnyAddr) → IfOk result (λ s. option_to_list s ≡ command_for a request.now) }
 {
     Ok(match request {
         Request::AddTenant(_, _) => None,
@@ -123,7 +123,7 @@ fn of_stopped(
     request: &Request,
     steps: &mut Vec<GroupStep>,
 ) -> Result<(), OutOfMemory>
-    ensures { OnOk result (steps.new.items ≡ steps.old.items ++ with_stop a (is_met a addr (past_in a before.now)) (command_for addr a request.now)) }
+    ensures { OnOk result (steps.new.items ≡ steps.old.items ++ with_stop a (is_met a addr (past_in a before.now)) (command_for a request.now)) }
 {
     if let Some(step) = command(alloc, a, request)? {
         add_stop(a, was_met(addr, a, before), steps)?;
