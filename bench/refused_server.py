@@ -467,11 +467,13 @@ def not_served(bench, words, keys, expected):
 def print_not_served(bench):
     keys = (session.CLUSTER_KEY.hex() + '\n' + session.ADMIN_KEY.hex() + '\n').encode()
     good = ['--nodes', str(NODES), '--base-port', str(bench.port)]
+    asked = subprocess.run([bench.serve, '--help'], capture_output=True, timeout=SECONDS, check=True).stdout
+    helped = Ended(asked.decode('latin-1').splitlines(), 0)
     head('It does not serve', 'Requests', '`host fault 5`', 'as if none')
     for what, words, given, expected in (
             ('refused words', ['--nodes', 'x'], keys, Ended(['refused words'], 2)),
             ('17 nodes with version 1', ['--nodes', '17', *good[2:]], keys, Ended(['refused words'], 2)),
-            ('help', ['--help'], keys, Ended(['refused words'], 2)),
+            ('help', ['--help'], keys, helped),
             ('bad keys', good, keys[1:], Ended(['bad keys'], 1))):
         most, found = not_served(bench, words, given, expected)
         row(what, most, found['host fault 5'], found[expected.lines[0]])

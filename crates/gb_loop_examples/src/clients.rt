@@ -45,7 +45,8 @@ pub fn serves<H: Net<Listener = TcpListener, Stream = TcpStream> + Threads + Wai
 ) -> bool {
     let mut reader = KEYS;
     let mut found = Vec::new(alloc);
-    let status = serve_main(rt, alloc, words, &mut reader, &mut found);
+    let mut errors = Vec::new(alloc);
+    let status = serve_main(rt, alloc, words, &mut reader, &mut found, &mut errors);
     status == 0 && found.as_slice() == lines
 }
 

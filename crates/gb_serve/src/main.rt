@@ -1,11 +1,12 @@
-//! Serves groups on sockets of this machine: reads its keys on standard input, and writes what it serves and how it ended. Words
-//! that are refused are explained on standard error.
+//! Serves groups on sockets of this machine: reads its keys on standard input, and writes what it serves and how it ended. Why
+//! it did not serve to its end is told on standard error.
 #![tactic(auto)]
 
-use gb_serve_words::words::refusal_text;
+use gb_serve_words::words::{asked_text, refusal_text};
 use gb_server::fault::ServeFault;
+use gb_server::input::StandardInput;
 use gb_server::serve_main::serve_main;
-use gb_server::told::{status_of, tell_end};
+use gb_server::told::{status_of, tell, tell_end};
 use std::alloc::{AllocError, Global};
 use std::io;
 use std::io::{ErrorKind, Write};
@@ -45,7 +46,16 @@ fn give_up(rt: &HostRuntime) -> ExitCode {
     ExitCode::from(status_of(outcome))
 }
 
-/// Status 0: all connections were served; 1: a fault; 2: refused words.
+// Prints what was asked for. The exit status.
+fn show(rt: &HostRuntime, text: &str) -> ExitCode {
+    if tell(&mut io::writer(rt), text.as_bytes()) {
+        ExitCode::from(0)
+    } else {
+        ExitCode::from(1)
+    }
+}
+
+/// Status 0: all connections were served, the server was told to end, or help was asked for; 1: a fault; 2: refused words.
 fn main(rt: HostRuntime) -> ExitCode {
     let alloc = rt.alloc();
     let Ok(strings) = words_of(&rt, alloc) else {
@@ -54,7 +64,21 @@ fn main(rt: HostRuntime) -> ExitCode {
     let Ok(words) = texts_of(alloc, &strings) else {
         return give_up(&rt);
     };
-    let status = serve_main(&rt, alloc, &words, &mut rt.reader(), &mut io::writer(&rt));
+    match asked_text(alloc, &words) {
+        Ok(Some(text)) => return show(&rt, &text),
+        Ok(None) => (),
+        Err(AllocError) => return give_up(&rt),
+    }
+    let status = serve_main(
+        &rt,
+        alloc,
+        &words,
+        &mut StandardInput {
+            reader: rt.reader(),
+        },
+        &mut io::writer(&rt),
+        &mut rt.stderr(),
+    );
     if status == 2 {
         explain(&rt, alloc, &words);
     }

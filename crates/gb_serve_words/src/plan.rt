@@ -24,4 +24,6 @@ pub struct ServePlan {
     pub session_requests: u32,
     /// Whether the tapes of the nodes are kept and merged at the end.
     pub tape: bool,
+    /// Whether the server ends in order when standard input ends.
+    pub stop_at_end: bool,
 }

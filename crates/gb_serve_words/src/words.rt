@@ -1,5 +1,5 @@
 //! The words of the server's command line.
-ghost use Rattle.std.specs.Prelude.{◌≡◌, ◌≢◌, ◌⊎◌, IfOk, IfSome, IfNone, map, [], true, false};
+ghost use Rattle.std.specs.Prelude.{◌≡◌, ◌≢◌, ◌⊎◌, IfOk, IfSome, IfNone, None, map, [], true, false};
 ghost use Rattle.clap.specs.Words.{app_of, found_of, kind_of, matches_of, rows_of, rule_of, takes, fault_of};
 ghost use Rattle.gb_serve_words.specs.Words.{serve_app, number_rule, flag_rule, IsGiven, IsPlanOf, IsWithin, CanName};
 
@@ -10,6 +10,7 @@ use clap::error::ErrorKind;
 use clap::{Arg, ArgAction, ArgMatches, Command, Error};
 use gb_types::limits::NODES;
 use gb_types::version::Version;
+use gb_version::VERSION as PROGRAM;
 use std::alloc::{AllocError, Global};
 
 /// The silence of a cluster whose words give none.
@@ -108,13 +109,23 @@ fn command<'a>(alloc: Global) -> Result<Command<'a>, AllocError>
     let tape = flag_arg(alloc, "tape").help(
         "keep what happens at each node, and merge it at the end into one run of the cluster",
     );
-    with_requests.arg(tape)
+    let with_tape = with_requests.arg(tape)?;
+    let stop_at_end = flag_arg(alloc, "stop-at-end").help(
+        "end in order when standard input ends, as at its line `stop`",
+    );
+    with_tape.arg(stop_at_end)
 }
 
 /// What the help says behind the options.
 static AFTER: &str =
-    "Standard input gives two lines of 64 hexadecimal digits each: the cluster's key and the administrator's key.\n\n\
-Exit status: 0 when all connections were served and, with --tape, merged; 1 for a fault, 2 for words that are refused.";
+    "Standard input gives two lines of 64 hexadecimal digits each: the cluster's key and the administrator's key. A line `stop` behind them \
+ends the server in order, as gb_ctl's shutdown does.\n\n\
+`gb_serve -V` prints the version of the program.\n\n\
+Example:\n\n\
+  key() { od -An -tx1 -N32 /dev/urandom | tr -d ' \\n'; echo; }\n\
+  { key; key; cat; } | gb_serve --nodes 3 --version 2 --base-port 24000 --stop-at-end\n\n\
+Exit status: 0 when all connections were served, or the server was ended in order, and, with --tape, its tapes were merged; 1 for a fault, 2 for \
+words that are refused.";
 
 // What a parse that failed comes to.
 fn fault_from(error: &Error) -> WordFault
@@ -144,6 +155,7 @@ fn plan_of(matches: &ArgMatches<'_>) -> Option<ServePlan>
     let connections = matches.get_one::<u16>("connections");
     let requests = matches.get_one::<u32>("session-requests");
     let tape = matches.get_flag("tape");
+    let stop_at_end = matches.get_flag("stop-at-end");
     let version = Version::from_byte(byte.unwrap_or(VERSION))?;
     if nodes > version.limits().nodes {
         return None;
@@ -159,6 +171,7 @@ fn plan_of(matches: &ArgMatches<'_>) -> Option<ServePlan>
         connections: connections.unwrap_or(CONNECTIONS),
         session_requests: requests.unwrap_or(0),
         tape,
+        stop_at_end,
     })
 }
 
@@ -204,10 +217,32 @@ fn version_refusal(alloc: Global, matches: &ArgMatches<'_>) -> Result<String, Al
 // What a refusal ends with.
 static HINT: &str = "\n\nFor more information, try '--help'.\n";
 
-/// Why words are refused, and the help where they ask for it; nothing of words that are a plan.
+/// Why words are refused; nothing of words that are a plan.
 pub fn refusal_text(alloc: Global, words: &[&str]) -> Result<String, AllocError> {
     match command(alloc)?.try_get_matches_from(words) {
         Ok(matches) => version_refusal(alloc, &matches),
         Err(error) => format!(in alloc; "{error}"),
     }
+}
+
+/// The text that words ask for: the help, or, where the word behind the program's name is `-V`, its version. None: they ask for neither.
+pub fn asked_text(alloc: Global, words: &[&str]) -> Result<Option<String>, AllocError>
+    ensures taken { takes serve_app (map (λ word. word.now) words.entry.now) ≡ true → IfOk result (λ text. text ≡ None) }
+{
+    match command(alloc)?.try_get_matches_from(words) {
+        Ok(_) => Ok(None),
+        Err(error) => match error.kind() {
+            ErrorKind::OutOfMemory => Err(AllocError),
+            ErrorKind::DisplayHelp => Ok(Some(format!(in alloc; "{error}")?)),
+            _ => version_text(alloc, words),
+        },
+    }
+}
+
+// The version, where the word behind the program's name asks for it.
+fn version_text(alloc: Global, words: &[&str]) -> Result<Option<String>, AllocError> {
+    if words.get(1) != Some(&"-V") {
+        return Ok(None);
+    }
+    Ok(Some(format!(in alloc; "gb_serve {PROGRAM}\n")?))
 }

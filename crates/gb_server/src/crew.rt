@@ -24,10 +24,10 @@ fn keep<T: Drop, F: Drop>(
     match started {
         Ok(thread) => {
             if threads.push(thread).is_err() {
-                signals.end();
+                signals.fail();
             }
         }
-        Err(_) => signals.end(),
+        Err(_) => signals.fail(),
     }
 }
 
@@ -42,7 +42,7 @@ fn join_all<L: Tapes, H: Threads>(
     }
 }
 
-/// Holds a server: a thread for each node's loop, with a seat each. When all connections were served they end. Gives the
+/// Holds a server: a thread for each node's loop, with a seat each. They end when the signals say so. Gives the
 /// seats back. OutOfMemory: not all threads could be made, and no connection was served; or a loop could not begin.
 pub fn hold<
     L: Tapes + Send + Sync,
@@ -54,9 +54,10 @@ pub fn hold<
     seats: Vec<Seat<L>>,
     sockets: Vec<Sockets>,
     options: LoopOptions,
+    signals: &Signals,
 ) -> Result<Vec<Seat<L>>, OutOfMemory> {
-    let signals = Signals::new(sockets.len() as u64);
-    let shared = &signals;
+    let shared = signals;
+    shared.hold();
     thread::scope(
         thread::scope_env(),
         rt,
@@ -65,7 +66,7 @@ pub fn hold<
             let mut loops = Vec::new(alloc);
             for own in sockets {
                 let Some(seat) = seats.pop() else {
-                    shared.end();
+                    shared.fail();
                     break;
                 };
                 let made = scope.spawn(move || run_node(
@@ -73,13 +74,12 @@ pub fn hold<
                 ));
                 keep(&mut loops, made, shared);
             }
-            let is_whole = !shared.is_over();
             shared.begin();
             join_all(rt, loops, &mut seats);
-            if is_whole && !shared.has_failed() {
-                Ok(seats)
-            } else {
+            if shared.has_failed() {
                 Err(OutOfMemory)
+            } else {
+                Ok(seats)
             }
         },
     )

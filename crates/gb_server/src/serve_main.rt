@@ -1,6 +1,6 @@
 //! The server from its words to its exit status.
-ghost use Rattle.std.specs.Prelude.{◌≡◌, ◌≢◌, ◌≤◌, ◌+◌, ◌*◌, [], List, true, Ok, Err, codes, map, vec_len};
-ghost use Rattle.std.specs.Io.KnownBytes.{Appends};
+ghost use Rattle.std.specs.Prelude.{◌≡◌, ◌≢◌, ◌≤◌, ◌+◌, ◌*◌, [], ℕ, List, true, Ok, Err, codes, map, vec_len};
+ghost use Rattle.std.specs.Io.KnownBytes.{Appends, Consumes};
 ghost use Rattle.gb_serve_words.specs.Words.{IsWithin};
 ghost use Rattle.gb_server.specs.Behaviour.{AreOptions};
 ghost use Rattle.gb_server.specs.Told.{AreRefused, AreTaken, HasServed, end_line, host_of, lined, serving_line};
@@ -9,13 +9,15 @@ ghost use Rattle.gb_host.specs.Plans.{IsPlan};
 ghost use Rattle.gb_host.specs.SeatValue.{SeatValue};
 ghost use Rattle.gb_server.specs.Ended.{EndsSo, has_closed};
 
-use crate::crew::hold;
+use crate::complaint::complain;
 use crate::descriptors::{connections_of, descriptor_limit};
 use crate::ending::{Ended, end};
 use crate::fault::ServeFault;
+use crate::input::Input;
 use crate::keys::{Keys, read_keys};
+use crate::run::{Given, run};
 use crate::sockets::{Sockets, open_sockets};
-use crate::told::{serving_line, status_of, tell, tell_end};
+use crate::told::{status_of, tell_end};
 use gb_host::here::all_nodes;
 use gb_host::host::Host;
 use gb_host::names::Tapes;
@@ -25,10 +27,9 @@ use gb_loop::options::LoopOptions;
 use gb_serve_words::plan::ServePlan;
 use gb_serve_words::words::read_words;
 use gb_types::limits::NODES;
-use gb_types::memory::OutOfMemory;
 use gb_types::plan::Plan;
 use std::alloc::Global;
-use std::io::{Read, Write};
+use std::io::Write;
 use std::marker::Brand;
 use std::net::{Net, TcpListener, TcpStream};
 use std::sync::Wait;
@@ -91,18 +92,11 @@ fn options_of(plan: ServePlan, connections: u64) -> LoopOptions
     }
 }
 
-// Writes the line that tells what is served. False: it could not be written.
-fn announce<W: Write>(alloc: Global, plan: ServePlan, writer: &mut W) -> Result<bool, OutOfMemory>
-    ensures { result ≡ Ok true → Appends (W.contents writer.old) (W.contents writer.new) (serving_line plan.nodes plan.base_port) }
-{
-    let line = serving_line(alloc, plan.nodes, plan.base_port)?;
-    Ok(tell(writer, &line))
-}
-
 // Serves on sockets that are bound.
 fn serve_host<
     L: Tapes + Send + Sync,
     H: Net<Listener = TcpListener, Stream = TcpStream> + Threads + Wait + Clock + Sync,
+    R: Input,
     W: Write,
 >(
     rt: &H,
@@ -110,6 +104,7 @@ fn serve_host<
     plan: HostPlan,
     serve: ServePlan,
     sockets: Vec<Sockets>,
+    reader: &mut R,
     writer: &mut W,
     pasts: Vec<NodePast>,
 ) -> Result<Ended, ServeFault>
@@ -120,50 +115,59 @@ fn serve_host<
     requires pasts { (vec_len pasts ≡ plan.cluster.nodes) × AreBlank pasts.items }
     requires books { books_of pasts.items ≡ L.books }
     ensures told { has_closed result ≡ true → Appends (W.contents writer.old) (W.contents writer.new) (serving_line serve.nodes serve.base_port) }
+    ensures read { has_closed result ≡ true → (bytes : List ℕ) × Consumes (R.remaining reader.old) (R.remaining reader.new) bytes }
     ensures ends { has_closed result ≡ true → (seats : List SeatValue) × EndsSo plan seats result }
     ensures taken { result ≢ Err ServeFault.RefusedWords }
 {
     let seats = u32::from(plan.cluster.nodes);
     let here = all_nodes(plan.cluster.nodes);
     let (host, seats, _) = Host::<L>::open(alloc, plan, here, seats, pasts)?;
-    if !announce(alloc, serve, writer)? {
-        return Err(ServeFault::Write);
-    }
     let wanted = u64::from(serve.connections);
     let connections = connections_of(wanted, serve.nodes, descriptor_limit());
     let options = options_of(serve, connections);
-    let seats = hold(rt, alloc, &host, seats, sockets, options)?;
+    let given = Given { seats, sockets };
+    let seats = run(rt, alloc, &host, serve, options, given, reader, writer)?;
     end(alloc, host, seats)
 }
 
 // Serves by a plan, with keys.
 fn serve_plan<
     H: Net<Listener = TcpListener, Stream = TcpStream> + Threads + Wait + Clock + Sync,
+    R: Input,
     W: Write,
->(rt: &H, alloc: Global, plan: ServePlan, keys: Keys, writer: &mut W) -> Result<Ended, ServeFault>
+>(
+    rt: &H,
+    alloc: Global,
+    plan: ServePlan,
+    keys: Keys,
+    reader: &mut R,
+    writer: &mut W,
+) -> Result<Ended, ServeFault>
     requires { IsWithin plan }
     ensures told { has_closed result ≡ true → Appends (W.contents writer.old) (W.contents writer.new) (serving_line plan.nodes plan.base_port) }
+    ensures read { has_closed result ≡ true → (bytes : List ℕ) × Consumes (R.remaining reader.old) (R.remaining reader.new) bytes }
     ensures ends { has_closed result ≡ true → (seats : List SeatValue) × EndsSo (host_of plan keys) seats result }
     ensures taken { result ≢ Err ServeFault.RefusedWords }
 {
     let sockets = open_sockets(rt, alloc, plan.nodes, plan.base_port)?;
     let pasts = new_pasts(alloc, plan.nodes)?;
-    serve_host::<Brand, H, W>(
+    serve_host::<Brand, H, R, W>(
         rt,
         alloc,
         host_plan(plan, keys),
         plan,
         sockets,
+        reader,
         writer,
         pasts,
     )
 }
 
-/// Serves by words, with the keys that the reader gives, and writes what it serves. The answer is how it ended, which is still to
-/// be told.
+/// Serves by words, with the keys that the reader gives and what it gives behind them, and writes what it serves. The answer is how
+/// it ended, which is still to be told.
 pub fn serve<
     H: Net<Listener = TcpListener, Stream = TcpStream> + Threads + Wait + Clock + Sync,
-    R: Read,
+    R: Input,
     W: Write,
 >(
     rt: &H,
@@ -177,26 +181,44 @@ pub fn serve<
     ensures taken { AreTaken (map (λ word. word.now) words.now) → result ≢ Err ServeFault.RefusedWords }
 {
     let plan = read_words(alloc, words)?;
-    let Some(keys) = read_keys(reader) else {
-        return Err(ServeFault::BadKeys);
+    let keys = match read_keys(reader) {
+        Ok(keys) => keys,
+        Err(why) => return Err(ServeFault::BadKeys(why)),
     };
-    serve_plan(rt, alloc, plan, keys, writer)
+    serve_plan(rt, alloc, plan, keys, reader, writer)
 }
 
-/// Serves by the words of a command line, of which the first is the program's name, with the keys that the reader gives, and
-/// writes what it serves and how it ended, a line each. The answer is the exit status: 0 when all connections were served and,
-/// with tapes, they were merged, 2 for refused words, 1 for all else. When it answers, its threads have ended and its sockets are closed.
+// Tells why a server did not serve to its end. Why words are refused is told where they were read.
+fn explain<E: Write>(alloc: Global, outcome: Result<Ended, ServeFault>, errors: &mut E)
+    ensures { outcome ≡ Err ServeFault.RefusedWords → errors.new ≡ errors.old }
+{
+    match outcome {
+        Ok(_) => (),
+        Err(ServeFault::RefusedWords) => (),
+        Err(fault) => {
+            let _ = complain(alloc, fault, errors);
+        }
+    }
+}
+
+/// Serves by the words of a command line, of which the first is the program's name, with the keys that the reader gives, and behind
+/// them the line `stop` that ends it, and writes what it serves and how it ended, a line each; why it did not serve to its end is told to `errors`, but for why words are
+/// refused. The answer is the exit status: 0 when all connections were served, or the server was told to
+/// end, and, with tapes, they were merged, 2 for refused
+/// words, 1 for all else. When it answers, its threads have ended and its sockets are closed.
 pub fn serve_main<
     H: Net<Listener = TcpListener, Stream = TcpStream> + Threads + Wait + Clock + Sync,
-    R: Read,
+    R: Input,
     W: Write,
->(rt: &H, alloc: Global, words: &[&str], reader: &mut R, writer: &mut W) -> u8
+    E: Write,
+>(rt: &H, alloc: Global, words: &[&str], reader: &mut R, writer: &mut W, errors: &mut E) -> u8
     ensures status { result ≤ 2 }
     ensures served { result ≡ 0 → (ended : Ended) × HasServed (map (λ word. word.now) words.now) (R.remaining reader.old) (R.remaining reader.new) (W.contents writer.old) (W.contents writer.new) (Ok ended) (end_line ended) }
-    ensures refused { result ≡ 2 → AreRefused (map (λ word. word.now) words.now) × (reader.new ≡ reader.old) × Appends (W.contents writer.old) (W.contents writer.new) (lined (codes "refused words")) }
+    ensures refused { result ≡ 2 → AreRefused (map (λ word. word.now) words.now) × (reader.new ≡ reader.old) × (errors.new ≡ errors.old) × Appends (W.contents writer.old) (W.contents writer.new) (lined (codes "refused words")) }
     ensures taken { AreTaken (map (λ word. word.now) words.now) → result ≢ 2 }
 {
     let outcome = serve(rt, alloc, words, reader, writer);
+    explain(alloc, outcome, errors);
     if outcome == Err(ServeFault::Write) || !tell_end(writer, outcome) {
         return 1;
     }

@@ -6,6 +6,9 @@ use std::sync::atomic::{AtomicBool, AtomicU64, Ordering};
 #[derive(Drop)]
 pub struct Signals {
     left: AtomicU64,
+    // How many loops have not begun.
+    waiting: AtomicU64,
+    is_held: AtomicBool,
     is_begun: AtomicBool,
     is_over: AtomicBool,
     has_failed: AtomicBool,
@@ -16,10 +19,26 @@ impl Signals {
     pub fn new(nodes: u64) -> Signals {
         Signals {
             left: AtomicU64::new(nodes),
+            waiting: AtomicU64::new(nodes),
+            is_held: AtomicBool::new(false),
             is_begun: AtomicBool::new(false),
             is_over: AtomicBool::new(false),
             has_failed: AtomicBool::new(false),
         }
+    }
+
+    /// The threads of loops are being made.
+    pub fn hold(&self) {
+        self.is_held.store(true, Ordering::SeqCst);
+    }
+
+    pub fn is_held(&self) -> bool {
+        self.is_held.load(Ordering::SeqCst)
+    }
+
+    /// Returns true if all loops have begun.
+    pub fn have_begun(&self) -> bool {
+        self.waiting.load(Ordering::SeqCst) == 0
     }
 
     /// All threads have been made: connections may be served.
@@ -52,6 +71,10 @@ impl Ending for Signals {
     fn fail(&self) {
         self.has_failed.store(true, Ordering::SeqCst);
         self.end();
+    }
+
+    fn begun(&self) {
+        self.waiting.fetch_sub(1, Ordering::SeqCst);
     }
 
     fn asked(&self) {

@@ -1,5 +1,5 @@
 //! Worked texts of keys, read in pieces and by readers that fail.
-use gb_server::keys::{Keys, read_keys};
+use gb_server::keys::{KeyFault, Keys, read_keys};
 use std::alloc::Global;
 use std::io::{ErrorKind, Read};
 use std::{cmp, io};
@@ -35,8 +35,8 @@ static TEXT: &[u8] =
     b"1111111111111111111111111111111111111111111111111111111111111111\nabABcdCD22222222222222222222222222222222222222222222222222222222\nrest";
 
 // Whether the keys are those of the text.
-fn are_right(keys: Option<Keys>) -> bool {
-    let Some(keys) = keys else {
+fn are_right(keys: Result<Keys, KeyFault>) -> bool {
+    let Ok(keys) = keys else {
         return false;
     };
     let mut admin = [0x22; 32];
@@ -82,7 +82,7 @@ fn keys_come_in_pieces(rt: HostRuntime) {
     }
 }
 
-// A digit that is none, a line that is too long, a carriage return in front of the line feed: at which place stands which byte.
+// A digit that is none, a line that is too long, a carriage return in the place of the line feed: at which place stands which byte.
 static WRONG: [(usize, u8); 7] = [
     (0, b'g'),
     (63, b' '),
@@ -101,12 +101,46 @@ fn is_refused(alloc: Global, place: usize, byte: u8) -> bool {
     if let Some(found) = text.get_mut(place) {
         *found = byte;
     }
-    read_keys(&mut text.as_slice()).is_none()
+    read_keys(&mut text.as_slice()).is_err()
 }
 
 #[test]
 fn other_texts_are_no_keys(rt: HostRuntime) {
     for (place, byte) in &WRONG {
         assert!(rt; is_refused(rt.alloc(), *place, *byte), "byte {place}");
+    }
+}
+
+// Lines may end with a carriage return and a line feed, and nothing behind the second line is read.
+static LINES: [(&[u8], &[u8]); 2] = [
+    (
+        b"1111111111111111111111111111111111111111111111111111111111111111\r\nabABcdCD22222222222222222222222222222222222222222222222222222222\r\nrest",
+        b"rest",
+    ),
+    (
+        b"1111111111111111111111111111111111111111111111111111111111111111\r\nabABcdCD22222222222222222222222222222222222222222222222222222222",
+        b"",
+    ),
+];
+
+#[test]
+fn lines_of_keys_may_end_both_ways(rt: HostRuntime) {
+    for (text, rest) in &LINES {
+        let mut reader = *text;
+        assert!(rt; are_right(read_keys(&mut reader)) && reader == *rest);
+    }
+}
+
+// A carriage return is part of a line's end only before a line feed.
+static RETURNS: [&[u8]; 2] = [
+    b"1111111111111111111111111111111111111111111111111111111111111111\r\r\nabABcdCD22222222222222222222222222222222222222222222222222222222\n",
+    b"1111111111111111111111111111111111111111111111111111111111111111\nabABcdCD22222222222222222222222222222222222222222222222222222222\r",
+];
+
+#[test]
+fn other_returns_are_characters(rt: HostRuntime) {
+    for text in &RETURNS {
+        let mut reader = *text;
+        assert!(rt; matches!(read_keys(&mut reader), Err(KeyFault::Long { .. })));
     }
 }

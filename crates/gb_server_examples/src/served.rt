@@ -14,17 +14,30 @@ use std::time::Clock;
 pub static KEYS: &[u8] =
     b"1111111111111111111111111111111111111111111111111111111111111111\n2222222222222222222222222222222222222222222222222222222222222222\n";
 
-// What a server prints, with its status, for these words and keys.
-fn printed<H: Net<Listener = TcpListener, Stream = TcpStream> + Threads + Wait + Clock + Sync>(
+/// How a server ended: its status, and what it wrote to standard output and to standard error.
+#[derive(Drop)]
+pub struct Run {
+    pub status: u8,
+    pub lines: Vec<u8>,
+    pub errors: Vec<u8>,
+}
+
+/// How a server with these words and this standard input ends.
+pub fn run_of<H: Net<Listener = TcpListener, Stream = TcpStream> + Threads + Wait + Clock + Sync>(
     rt: &H,
     alloc: Global,
     words: &[&str],
-    keys: &[u8],
-) -> (u8, Vec<u8>) {
-    let mut reader = keys;
+    input: &[u8],
+) -> Run {
+    let mut reader = input;
     let mut lines = Vec::new(alloc);
-    let status = serve_main(rt, alloc, words, &mut reader, &mut lines);
-    (status, lines)
+    let mut errors = Vec::new(alloc);
+    let status = serve_main(rt, alloc, words, &mut reader, &mut lines, &mut errors);
+    Run {
+        status,
+        lines,
+        errors,
+    }
 }
 
 /// Whether a server with these words and keys ends with this status and prints these lines.
@@ -36,8 +49,8 @@ pub fn prints<H: Net<Listener = TcpListener, Stream = TcpStream> + Threads + Wai
     status: u8,
     lines: &[u8],
 ) -> bool {
-    let (ended, found) = printed(rt, alloc, words, keys);
-    ended == status && found.as_slice() == lines
+    let run = run_of(rt, alloc, words, keys);
+    run.status == status && run.lines.as_slice() == lines
 }
 
 /// Whether a client that sends these bytes to a port is told those.
@@ -79,8 +92,44 @@ fn faults_are_told(rt: HostRuntime) {
     let alloc = rt.alloc();
     let is_refused = prints(&rt, alloc, &["gb_serve"], KEYS, 2, b"refused words\n");
     let are_too_many = prints(&rt, alloc, &TOO_MANY, KEYS, 2, b"refused words\n");
-    let is_keyless = prints(&rt, alloc, &KEYLESS, b"", 1, b"bad keys\n");
-    assert!(rt; is_refused && are_too_many && is_keyless);
+    assert!(rt; is_refused && are_too_many);
+}
+
+// What standard input gives, and what is told of it: the line on standard output is the same.
+static BAD_KEYS: [(&[u8], &[u8]); 6] = [
+    (
+        b"",
+        b"gb_serve: bad keys: line 1 is missing; two lines of 64 hexadecimal digits are wanted\n",
+    ),
+    (
+        b"1111111111111111111111111111111111111111111111111111111111111111\r\n",
+        b"gb_serve: bad keys: line 2 is missing; two lines of 64 hexadecimal digits are wanted\n",
+    ),
+    (
+        b"1111111111111111111111111111111111111111111111111111111111111111",
+        b"gb_serve: bad keys: line 2 is missing; two lines of 64 hexadecimal digits are wanted\n",
+    ),
+    (
+        b"1111111111111111111111111111111111111111111111111111111111111111\n222222222222222222222222222222222222222222222222222222222222222\r\n",
+        b"gb_serve: bad keys: line 2 has 63 characters and not 64; two lines of 64 hexadecimal digits are wanted\n",
+    ),
+    (
+        b"admin 1111111111111111111111111111111111111111111111111111111111111111\n",
+        b"gb_serve: bad keys: line 1 has more than 64 characters; two lines of 64 hexadecimal digits are wanted\n",
+    ),
+    (
+        b"1111111111111111111111111111111111111111111111111111111111111111\n222222222222222222222222222222222222222222222222222222222222222g\n",
+        b"gb_serve: bad keys: character 64 of line 2 is no hexadecimal digit; two lines of 64 hexadecimal digits are wanted\n",
+    ),
+];
+
+#[test]
+fn bad_keys_are_explained(rt: HostRuntime) {
+    for (input, want) in &BAD_KEYS {
+        let run = run_of(&rt, rt.alloc(), &KEYLESS, input);
+        let is_right = run.status == 1 && run.lines.as_slice() == b"bad keys\n".as_slice();
+        assert!(rt; is_right && run.errors.as_slice() == *want);
+    }
 }
 
 static TWO_NODES: [&str; 7] = [
@@ -139,9 +188,9 @@ fn merges<H: Net<Listener = TcpListener, Stream = TcpStream> + Threads + Wait + 
     rt: &H,
     alloc: Global,
 ) -> bool {
-    let (status, lines) = printed(rt, alloc, &WITH_TAPES, KEYS);
-    let count = merged(&lines, b"serving 2 nodes from port 28750\n");
-    status == 0 && count.unwrap_or(0) > 2
+    let run = run_of(rt, alloc, &WITH_TAPES, KEYS);
+    let count = merged(&run.lines, b"serving 2 nodes from port 28750\n");
+    run.status == 0 && count.unwrap_or(0) > 2
 }
 
 // With tapes a server merges them at its end: at least the client's request, and what the pumps of both nodes did, is an event.
@@ -222,12 +271,23 @@ fn is_free<H: Net<Listener = TcpListener, Stream = TcpStream>>(
     is_udp && is_tcp
 }
 
+// Whether a server told that a port could not be bound, and which.
+fn is_told_of(run: &Run, errors: &[u8]) -> bool {
+    let is_fault = run.status == 1 && run.lines.as_slice() == b"host fault 3\n".as_slice();
+    is_fault && run.errors.as_slice() == errors
+}
+
 // A port that is bound already is told. Then no socket is left: all ports can be bound.
 #[test]
 fn bound_ports_are_told(rt: HostRuntime) {
     let holder = UdpSocket::bind(&rt, address(28_451)).expect(&rt, "a socket");
-    let is_refused = prints(&rt, rt.alloc(), &BOUND, KEYS, 1, b"host fault 3\n");
+    let packets = run_of(&rt, rt.alloc(), &BOUND, KEYS);
+    drop(holder);
+    let holder = TcpListener::bind(&rt, address(28_515)).expect(&rt, "a listener");
+    let clients = run_of(&rt, rt.alloc(), &BOUND, KEYS);
     drop(holder);
     let (first, second) = (is_free(&rt, 28_450, 28_514), is_free(&rt, 28_451, 28_515));
-    assert!(rt; is_refused && first && second);
+    assert!(rt; first && second);
+    assert!(rt; is_told_of(&packets, b"gb_serve: UDP port 28451 could not be bound\n"));
+    assert!(rt; is_told_of(&clients, b"gb_serve: TCP port 28515 could not be bound\n"));
 }

@@ -1,7 +1,7 @@
 //! Worked words, the plans that they are, and what is said of words that are refused.
 use gb_serve_words::fault::WordFault;
 use gb_serve_words::plan::ServePlan;
-use gb_serve_words::words::{read_words, refusal_text};
+use gb_serve_words::words::{asked_text, read_words, refusal_text};
 use gb_types::version::Version;
 use std::alloc::{AllocError, Global};
 
@@ -133,6 +133,7 @@ fn words_are_plans(rt: HostRuntime) {
             connections: 1_024,
             session_requests: 0,
             tape: *tape,
+            stop_at_end: false,
         };
         let found = read(rt.alloc(), line);
         assert!(rt; found == Ok(want));
@@ -193,14 +194,33 @@ fn words_say_how_loops_behave(rt: HostRuntime) {
             connections: *connections,
             session_requests: *session_requests,
             tape: false,
+            stop_at_end: false,
         };
         let found = read(rt.alloc(), line);
         assert!(rt; found == Ok(want), "{line}");
     }
 }
 
+// Lines, and whether the server ends when standard input ends.
+static ENDS: [(&str, bool); 3] = [
+    ("gb_serve --nodes 1 --base-port 1024", false),
+    (
+        "gb_serve --nodes 1 --base-port 1024 --tape --stop-at-end",
+        true,
+    ),
+    ("gb_serve --stop-at-end --nodes 1 --base-port 1024", true),
+];
+
+#[test]
+fn words_say_what_the_end_of_input_does(rt: HostRuntime) {
+    for (line, want) in &ENDS {
+        let found = read(rt.alloc(), line);
+        assert!(rt; matches!(found, Ok(plan) if plan.stop_at_end == *want));
+    }
+}
+
 // Each number's first value outside its range, words that are too few, too many, unknown, or given twice.
-static REFUSED: [&str; 39] = [
+static REFUSED: [&str; 41] = [
     "gb_serve ",
     "gb_serve --nodes 2",
     "gb_serve --base-port 42000",
@@ -238,6 +258,8 @@ static REFUSED: [&str; 39] = [
     "gb_serve --nodes --base-port 42000",
     "gb_serve --nodes 2 --base-port 42000 --tape --tape",
     "gb_serve --nodes 2 --base-port 42000 --tape=true",
+    "gb_serve --nodes 2 --base-port 42000 --stop-at-end --stop-at-end",
+    "gb_serve --nodes 2 --base-port 42000 --stop-at-end=yes",
     "gb_serve --nodes 2 --base-port 42000 3",
     "gb_serve --help",
 ];
@@ -290,5 +312,50 @@ fn is_said(alloc: Global, line: &str, want: &str) -> bool {
 fn refusals_are_explained(rt: HostRuntime) {
     for (line, want) in &EXPLAINED {
         assert!(rt; is_said(rt.alloc(), line, want));
+    }
+}
+
+// What a line asks for.
+fn asked(alloc: Global, line: &str) -> Option<String> {
+    let words = words_of(alloc, line).ok()?;
+    asked_text(alloc, &words).unwrap_or(None)
+}
+
+// Whether a text has this line in it.
+fn has_line(text: &Option<String>, line: &str) -> bool {
+    match text {
+        Some(text) => text.contains(line),
+        None => false,
+    }
+}
+
+// Whether a line asks for this text.
+fn asks_for(alloc: Global, line: &str, want: &str) -> bool {
+    match asked(alloc, line) {
+        Some(text) => text.as_str() == want,
+        None => false,
+    }
+}
+
+// Lines that ask for neither help nor the version.
+static UNASKED: [&str; 5] = [
+    "gb_serve --nodes 1 --base-port 1024",
+    "gb_serve --nodes 1 --base-port 1024 --version 2",
+    "gb_serve --version",
+    "gb_serve --nodes 1 -V",
+    "gb_serve",
+];
+
+#[test]
+fn help_and_version_are_asked_for(rt: HostRuntime) {
+    let alloc = rt.alloc();
+    let help = asked(alloc, "gb_serve --help");
+    let short = asked(alloc, "gb_serve --nodes 1 -h");
+    assert!(rt; has_line(&help, "\nUsage: gb_serve "));
+    assert!(rt; has_line(&help, "--stop-at-end"));
+    assert!(rt; has_line(&short, "\nUsage: gb_serve "));
+    assert!(rt; asks_for(alloc, "gb_serve -V", "gb_serve 0.1.0\n"));
+    for line in &UNASKED {
+        assert!(rt; asked(alloc, line).is_none());
     }
 }

@@ -1,0 +1,42 @@
+//! Standard input, whose bytes come at their own time.
+use libc::STDIN_FILENO;
+use libc::net::{POLLIN, poll};
+use libc::types::pollfd;
+use std::io;
+use std::io::Read;
+
+/// Bytes that come at their own time.
+pub trait Input: Read {
+    /// Waits until a read would not wait, for so many milliseconds at most. False: it would.
+    fn is_ready(&self, millis: u16) -> bool;
+}
+
+// All bytes are there.
+impl Input for &[u8] {
+    fn is_ready(&self, _millis: u16) -> bool {
+        true
+    }
+}
+
+/// The standard input of the process, and what reads it.
+#[derive(Drop)]
+pub struct StandardInput<R> {
+    pub reader: R,
+}
+
+impl<R: Read> Read for StandardInput<R> {
+    fn read(&mut self, buf: &mut [u8]) -> io::Result<usize> {
+        self.reader.read(buf)
+    }
+}
+
+impl<R: Read> Input for StandardInput<R> {
+    fn is_ready(&self, millis: u16) -> bool {
+        let mut asked = [pollfd {
+            fd: STDIN_FILENO,
+            events: POLLIN,
+            revents: 0,
+        }];
+        poll(&mut asked, i32::from(millis)) > 0
+    }
+}

@@ -1,0 +1,119 @@
+//! The lines of standard input behind the keys: `stop` ends the server in order.
+ghost use Rattle.std.specs.Prelude.{◌≡◌, ◌<◌, ℕ, List, length, take, true};
+ghost use Rattle.std.specs.Io.KnownBytes.{Consumes};
+ghost use Rattle.gb_server.specs.Keys.{is_stop};
+
+use crate::input::Input;
+use crate::keys::{characters, has_feed, read_more};
+use crate::signals::Signals;
+use gb_loop::node_loop::Ending;
+use std::io::Read;
+use std::sync::Wait;
+use std::thread;
+use std::time::{Clock, Duration};
+
+/// How many bytes of a line are kept: more than those of `stop` with its end.
+pub const KEPT: usize = 8;
+
+// How long standard input is waited for before the server is looked at again, in milliseconds.
+const LOOK: u16 = 50;
+
+/// What came of standard input.
+#[derive(Clone, Copy, Debug, PartialEq, Eq)]
+pub enum Heard {
+    /// Nothing, part of a line, or a line that is no order.
+    Nothing,
+    /// A line `stop`.
+    Stop,
+    /// It has ended, or could not be read.
+    End,
+}
+
+// Whether a line says `stop`.
+fn is_stop(line: &[u8]) -> bool
+    ensures { result ≡ is_stop line.now }
+{
+    characters(line) == b"stop".as_slice()
+}
+
+/// Reads a byte of a line into the space behind what is filled. How much of the line is filled then, and what came. A line that is too
+/// long for its space is no order: its last byte gives way to the next.
+pub fn hear<R: Read>(reader: &mut R, space: &mut [u8], filled: usize) -> (usize, Heard)
+    requires { filled < length space.old }
+    ensures within { result.0 < length space.new }
+    ensures stop { result.1 ≡ Heard.Stop → (count : ℕ) × (is_stop (take count space.new) ≡ true) }
+    ensures read { (bytes : List ℕ) × Consumes (R.remaining reader.old) (R.remaining reader.new) bytes }
+{
+    let Some((count, is_over)) = read_more(reader, space, filled) else {
+        return (0, Heard::End);
+    };
+    if is_over {
+        return (0, Heard::End);
+    }
+    let line = &space[..count];
+    if !has_feed(line) {
+        return (count.min(space.len() - 1), Heard::Nothing);
+    }
+    if is_stop(line) {
+        (0, Heard::Stop)
+    } else {
+        (0, Heard::Nothing)
+    }
+}
+
+// How far standard input was read: how much of a line is filled, and whether more may come.
+#[derive(Clone, Copy)]
+struct Place {
+    filled: usize,
+    is_open: bool,
+}
+
+// Waits a moment for standard input, and reads a byte of it where there is one.
+fn heed_once<H: Clock, R: Input>(
+    rt: &H,
+    signals: &Signals,
+    stops_at_end: bool,
+    reader: &mut R,
+    space: &mut [u8],
+    place: Place,
+) -> Place
+    requires { place.filled < length space.old }
+    ensures within { result.filled < length space.new }
+    ensures read { (bytes : List ℕ) × Consumes (R.remaining reader.old) (R.remaining reader.new) bytes }
+{
+    if !place.is_open {
+        thread::sleep(rt, Duration::from_millis(u64::from(LOOK)));
+        return place;
+    }
+    if !reader.is_ready(LOOK) {
+        return place;
+    }
+    let (filled, heard) = hear(reader, space, place.filled);
+    let is_open = heard != Heard::End;
+    if heard == Heard::Stop || (!is_open && stops_at_end) {
+        signals.end();
+    }
+    Place { filled, is_open }
+}
+
+/// Heeds standard input until the server is over: its line `stop` ends it, and its end where that is wanted.
+pub fn heed<H: Wait + Clock, R: Input>(
+    rt: &H,
+    signals: &Signals,
+    stops_at_end: bool,
+    reader: &mut R,
+)
+    ensures { (bytes : List ℕ) × Consumes (R.remaining reader.old) (R.remaining reader.new) bytes }
+{
+    let mut space = [0u8; KEPT];
+    let mut place = Place {
+        filled: 0,
+        is_open: true,
+    };
+    for _ in rt.forever() {
+        if signals.is_over() {
+            break;
+        }
+        place = heed_once(rt, signals, stops_at_end, reader, &mut space, place);
+    }
+}

@@ -1,0 +1,165 @@
+// Servers that standard input ends, and one that ends while standard input waits.
+use crate::messages::{DENIED, OPEN};
+use crate::served::{KEYS, Run, is_told, run_of};
+use gb_server::input::Input;
+use gb_server::orders::{Heard, KEPT, hear};
+use gb_server::serve_main::serve_main;
+use std::alloc::Global;
+use std::io::Read;
+use std::net::{Net, TcpListener, TcpStream};
+use std::sync::Wait;
+use std::sync::atomic::{AtomicBool, Ordering};
+use std::thread::Threads;
+use std::time::{Clock, Duration};
+use std::{io, thread};
+
+// Keys, and behind them, once this is set, more bytes: then the input ends.
+#[derive(Drop)]
+struct Later<'a> {
+    keys: &'a [u8],
+    more: &'a [u8],
+    is_set: &'a AtomicBool,
+}
+
+impl Read for Later<'_> {
+    fn read(&mut self, buf: &mut [u8]) -> io::Result<usize> {
+        if self.keys.is_empty() {
+            self.more.read(buf)
+        } else {
+            self.keys.read(buf)
+        }
+    }
+}
+
+impl Input for Later<'_> {
+    fn is_ready(&self, _millis: u16) -> bool {
+        self.is_set.load(Ordering::SeqCst)
+    }
+}
+
+// How a server with these words ends whose standard input gives the keys, and `more` once this is set.
+fn run_later<H: Net<Listener = TcpListener, Stream = TcpStream> + Threads + Wait + Clock + Sync>(
+    rt: &H,
+    alloc: Global,
+    words: &[&str],
+    more: &[u8],
+    is_set: &AtomicBool,
+) -> Run {
+    let mut reader = Later {
+        keys: KEYS,
+        more,
+        is_set,
+    };
+    let mut lines = Vec::new(alloc);
+    let mut errors = Vec::new(alloc);
+    let status = serve_main(rt, alloc, words, &mut reader, &mut lines, &mut errors);
+    Run {
+        status,
+        lines,
+        errors,
+    }
+}
+
+// Whether a server ended well, and wrote these lines.
+fn has_ended(run: &Run, lines: &[u8]) -> bool {
+    run.status == 0 && run.lines.as_slice() == lines && run.errors.is_empty()
+}
+
+static STOPPED: [&str; 5] = ["gb_serve", "--nodes", "2", "--base-port", "25000"];
+
+// A client is served, and then standard input tells the server to stop, which serves for ever else. A line that is no order is
+// let be.
+#[test]
+fn a_line_stops_a_server(rt: HostRuntime) {
+    let alloc = rt.alloc();
+    let is_set = AtomicBool::new(false);
+    let shared = &is_set;
+    let (run, is_right) = thread::join(
+        &rt,
+        || run_later(&rt, alloc, &STOPPED, b"stop now\nstop\n", shared),
+        || {
+            let is_right = is_told(&rt, alloc, 25_064, OPEN, DENIED);
+            shared.store(true, Ordering::SeqCst);
+            is_right
+        },
+    );
+    assert!(rt; is_right && has_ended(&run, b"serving 2 nodes from port 25000\nclosed\n"));
+}
+
+static AT_END: [&str; 6] = [
+    "gb_serve",
+    "--nodes",
+    "1",
+    "--base-port",
+    "25200",
+    "--stop-at-end",
+];
+
+// Where that is wanted a server ends when standard input ends.
+#[test]
+fn the_end_of_input_stops_a_server(rt: HostRuntime) {
+    let run = run_of(&rt, rt.alloc(), &AT_END, KEYS);
+    assert!(rt; has_ended(&run, b"serving 1 nodes from port 25200\nclosed\n"));
+}
+
+static WAITING: [&str; 7] = [
+    "gb_serve",
+    "--nodes",
+    "1",
+    "--base-port",
+    "25400",
+    "--sessions",
+    "1",
+];
+
+// A server ends that has served all, though its standard input gives nothing and has no end.
+#[test]
+fn a_server_ends_while_input_waits(rt: HostRuntime) {
+    let alloc = rt.alloc();
+    let is_set = AtomicBool::new(false);
+    let shared = &is_set;
+    let (run, is_right) = thread::join(
+        &rt,
+        || run_later(&rt, alloc, &WAITING, b"", shared),
+        || is_told(&rt, alloc, 25_464, OPEN, DENIED),
+    );
+    assert!(rt; is_right && has_ended(&run, b"serving 1 nodes from port 25400\nclosed\n"));
+}
+
+// How many bytes are read until a line stops, of these; 0 where the input ends first.
+fn stops_after(text: &[u8]) -> usize {
+    let mut reader = text;
+    let mut space = [0u8; KEPT];
+    let mut filled = 0;
+    for _ in 0..100 {
+        let (count, heard) = hear(&mut reader, &mut space, filled);
+        filled = count;
+        match heard {
+            Heard::Nothing => (),
+            Heard::Stop => return text.len() - reader.len(),
+            Heard::End => return 0,
+        }
+    }
+    0
+}
+
+static TEXTS: [(&[u8], usize); 8] = [
+    (b"stop\nstop\n", 5),
+    (b"stop\r\n", 6),
+    (b"\n\nstop\n", 7),
+    (b"stop please\nstop\n", 17),
+    (
+        b"a line that is longer than any that is kept stop\nstop\n",
+        54,
+    ),
+    (b"stop", 0),
+    (b"xstop\n stop\nstop \nstopstopstop\n", 0),
+    (b"", 0),
+];
+
+#[test]
+fn one_line_is_an_order(rt: HostRuntime) {
+    for (text, want) in &TEXTS {
+        assert!(rt; stops_after(text) == *want);
+    }
+}
