@@ -1,5 +1,8 @@
 // Fetches that wait: answered when there is something, when their time is over, and when their group is dropped.
-use crate::clients::{Member, gives, joined, reply, serves, waits};
+use crate::clients::{
+    Member, end_server, fetches, figure_at_last, gives, is_at_end, joined, reply, serves, stops,
+    waits,
+};
 use gb_client::fault::ClientFault;
 use gb_session::head::Head;
 use gb_types::node::NodeId;
@@ -174,4 +177,108 @@ fn waits_end_when_they_should(rt: HostRuntime) {
         || all_wait(&rt, alloc),
     );
     assert!(rt; is_served && are_right == [true; 7]);
+}
+
+static STOPPED: [&str; 5] = ["gb_serve", "--nodes=2", "--base-port=25200", "--tick", "20"];
+
+// An administrator at node 1 ends the server as soon as a client waits at node 0, which two watch. Whether it is granted.
+fn stop_waiting<H: Clock>(
+    rt: &H,
+    alloc: Global,
+    watching: &mut Member,
+    admin: &mut Member,
+) -> Result<bool, ClientFault> {
+    let waiting = figure_at_last(rt, alloc, watching, b"connections_waiting=", 1)?;
+    Ok(waiting == 1 && stops(alloc, admin)?)
+}
+
+// Whether a client that would wait for a minute is answered as late when the server ends, and its connection ends then.
+fn ends_with_node<H: Net<Stream = TcpStream> + Clock + Threads + Sync>(
+    rt: &H,
+    alloc: Global,
+) -> Result<[bool; 4], ClientFault> {
+    let mut waiting = joined(rt, 25_200, NodeId::new(0))?;
+    let mut watching = joined(rt, 25_200, NodeId::new(0))?;
+    let mut admin = joined(rt, 25_200, NodeId::new(1))?;
+    let is_ready = gives(alloc, &mut waiting, &PREPARATIONS)?;
+    let (told, is_stopped) = thread::join(
+        rt,
+        || waits(rt, alloc, &mut waiting, &["7 1 0 16"], 60_000),
+        || stop_waiting(rt, alloc, &mut watching, &mut admin),
+    );
+    let (took, text) = told?;
+    let is_late = text.as_slice() == b"log 0".as_slice() && took < 10_000;
+    Ok([is_ready, is_stopped?, is_late, is_at_end(&mut waiting)])
+}
+
+#[test]
+fn a_wait_ends_with_its_node(rt: HostRuntime) {
+    let alloc = rt.alloc();
+    let (is_served, are_right) = thread::join(
+        &rt,
+        || serves(
+            &rt,
+            alloc,
+            &STOPPED,
+            b"serving 2 nodes from port 25200\nclosed\n",
+        ),
+        || ends_with_node(&rt, alloc),
+    );
+    assert!(rt; is_served && are_right == Ok([true; 4]));
+}
+
+static SIXTEEN: [&str; 3] = ["gb_serve", "--nodes=1", "--base-port=26800"];
+
+// Two groups of a node alone, in the second of which something is said.
+static LONE: [(Head, &str, &str); 6] = [
+    (Head::Tenant, "7 4 100 4096 100", "ok"),
+    (Head::Make, "7 1 beb 0 100 4096 100", "ok"),
+    (Head::Open, "7 1", "ok"),
+    (Head::Make, "7 2 beb 0 100 4096 100", "ok"),
+    (Head::Open, "7 2", "ok"),
+    (Head::Say, "7 2 hi", "said 1"),
+];
+
+// Sixteen places of the group in which nothing was said, the same with the other group at the last one, and one place more.
+static EMPTY: [&str; 16] = ["7 1 0 16"; 16];
+
+static LAST: [&str; 16] = [
+    "7 1 0 16", "7 1 0 16", "7 1 0 16", "7 1 0 16", "7 1 0 16", "7 1 0 16", "7 1 0 16", "7 1 0 16",
+    "7 1 0 16", "7 1 0 16", "7 1 0 16", "7 1 0 16", "7 1 0 16", "7 1 0 16", "7 1 0 16", "7 2 0 16",
+];
+
+static ONE_MORE: [&str; 17] = ["7 2 0 16"; 17];
+
+// What a client is told that waits at sixteen places in vain, that finds something at the last one, and that names one more.
+fn wait_at_many<H: Net<Stream = TcpStream> + Clock>(
+    rt: &H,
+    alloc: Global,
+) -> Result<[bool; 4], ClientFault> {
+    let mut member = joined(rt, 26_800, NodeId::new(0))?;
+    let is_ready = gives(alloc, &mut member, &LONE)?;
+    let (took, empty) = waits(rt, alloc, &mut member, &EMPTY, 100)?;
+    let last = fetches(alloc, &mut member, &LAST)?;
+    let more = fetches(alloc, &mut member, &ONE_MORE)?;
+    Ok([
+        is_ready,
+        empty.as_slice() == b"log 0".as_slice() && took >= 100,
+        last.as_slice() == b"at 15 log 1 0:1:6869".as_slice(),
+        more.as_slice() == b"refused 14 Malformed".as_slice() && is_at_end(&mut member),
+    ])
+}
+
+#[test]
+fn a_wait_names_sixteen_places(rt: HostRuntime) {
+    let alloc = rt.alloc();
+    let (is_served, (are_right, is_over)) = thread::join(
+        &rt,
+        || serves(
+            &rt,
+            alloc,
+            &SIXTEEN,
+            b"serving 1 nodes from port 26800\nclosed\n",
+        ),
+        || (wait_at_many(&rt, alloc), end_server(&rt, alloc, 26_800)),
+    );
+    assert!(rt; is_served && is_over && are_right == Ok([true; 4]));
 }

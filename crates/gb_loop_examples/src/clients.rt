@@ -10,6 +10,8 @@ use gb_client::task::{Asked, request_of};
 use gb_server::serve_main::serve_main;
 use gb_session::head::Head;
 use gb_types::node::NodeId;
+use gb_types::number::read_number;
+use gb_types::words::split_words;
 use std::alloc::Global;
 use std::io::{Read, Write};
 use std::net::{Ipv4Addr, Net, SocketAddr, SocketAddrV4, TcpListener, TcpStream};
@@ -35,6 +37,11 @@ const SECRETS: Secrets = Secrets {
     tenant: Some([0x33; 32]),
     token: None,
 };
+
+// What an administrator asks, with the token that docs/FORMATS.md, "Tokens", has: for a node's figures, and for the server's end.
+static STATUS: &[u8] = b"status 674e623760cac750ae766b788c59c762f116bab90bcfb901f9c20ac06448c55d";
+
+static STOP: &[u8] = b"stop 674e623760cac750ae766b788c59c762f116bab90bcfb901f9c20ac06448c55d";
 
 /// Whether a server with these words serves, and ends well with these lines.
 pub fn serves<H: Net<Listener = TcpListener, Stream = TcpStream> + Threads + Wait + Clock + Sync>(
@@ -159,6 +166,73 @@ pub fn reply(
     told(alloc, member)
 }
 
+// The reply of a member's node to a message with this body, if it is no longer than one may be.
+fn reply_to(alloc: Global, member: &mut Member, body: &[u8]) -> Result<Vec<u8>, ClientFault> {
+    if body.len() > 16_384 {
+        return Err(ClientFault::Words);
+    }
+    send(&mut member.stream, body)?;
+    told(alloc, member)
+}
+
+/// Asks for the end of the server at a member's node. Returns true if it is granted, and the connection ends.
+pub fn stops(alloc: Global, member: &mut Member) -> Result<bool, ClientFault> {
+    let text = reply_to(alloc, member, STOP)?;
+    Ok(text.as_slice() == b"ok".as_slice() && is_at_end(member))
+}
+
+/// Asks for the end of the server at node 0 of a server with this base port. Returns true if it is granted.
+pub fn end_server<H: Net<Stream = TcpStream> + Clock>(
+    rt: &H,
+    alloc: Global,
+    base_port: u16,
+) -> bool {
+    let Ok(mut admin) = joined(rt, base_port, NodeId::new(0)) else {
+        return false;
+    };
+    stops(alloc, &mut admin).unwrap_or(false)
+}
+
+/// Whether a member's connection has ended, and nothing more came.
+pub fn is_at_end(member: &mut Member) -> bool {
+    let mut space = [0u8; 1];
+    matches!(member.stream.read(&mut space), Ok(0))
+}
+
+// The number of the figure in a text of figures whose word begins with this.
+fn figure_in(alloc: Global, text: &[u8], name: &[u8]) -> Result<u64, ClientFault> {
+    for word in split_words(alloc, text)? {
+        if let Some(number) = word.strip_prefix(name) {
+            return read_number(number, u64::MAX).ok_or(ClientFault::NoReply);
+        }
+    }
+    Err(ClientFault::NoReply)
+}
+
+/// The figure of a member's node whose word begins with this.
+pub fn figure(alloc: Global, member: &mut Member, name: &[u8]) -> Result<u64, ClientFault> {
+    let text = reply_to(alloc, member, STATUS)?;
+    figure_in(alloc, &text, name)
+}
+
+/// The figure of a member's node whose word begins with this, once it is so great; ten seconds are waited for that.
+pub fn figure_at_last<H: Clock>(
+    rt: &H,
+    alloc: Global,
+    member: &mut Member,
+    name: &[u8],
+    least: u64,
+) -> Result<u64, ClientFault> {
+    for _ in 0..1_000 {
+        let number = figure(alloc, member, name)?;
+        if number >= least {
+            return Ok(number);
+        }
+        thread::sleep(rt, Duration::from_millis(10));
+    }
+    Err(ClientFault::Late)
+}
+
 /// Whether a member's node gives these replies.
 pub fn gives(
     alloc: Global,
@@ -174,16 +248,34 @@ pub fn gives(
     Ok(true)
 }
 
+// This word, and what the fetches at the places of these lines say behind theirs.
+fn places_of(
+    alloc: Global,
+    node: NodeId,
+    word: &[u8],
+    lines: &[&str],
+) -> Result<Vec<u8>, ClientFault> {
+    let mut places = Vec::from_slice(alloc, word)?;
+    for line in lines {
+        let fetch = body_of(alloc, node, Head::Fetch, line)?;
+        places.extend_from_slice(fetch.strip_prefix(b"fetch".as_slice()).unwrap_or(b""))?;
+    }
+    Ok(places)
+}
+
 // The body of fetches that wait, at the places of these lines.
 fn wait_of(alloc: Global, node: NodeId, lines: &[&str], wait: u32) -> Result<Vec<u8>, ClientFault>
     ensures { IfOk result (λ body. vec_len body ≤ BODY) }
 {
-    let mut fetches = Vec::from_slice(alloc, b"fetch")?;
-    for line in lines {
-        let fetch = body_of(alloc, node, Head::Fetch, line)?;
-        fetches.extend_from_slice(fetch.strip_prefix(b"fetch".as_slice()).unwrap_or(b""))?;
-    }
+    let fetches = places_of(alloc, node, b"fetch", lines)?;
     await_text(alloc, &fetches, wait)
+}
+
+/// The reply of a member's node to fetches that do not wait, at the places of these lines, however many there are.
+pub fn fetches(alloc: Global, member: &mut Member, lines: &[&str]) -> Result<Vec<u8>, ClientFault> {
+    let mut body = places_of(alloc, member.node, b"await", lines)?;
+    body.extend_from_slice(b" 0")?;
+    reply_to(alloc, member, &body)
 }
 
 /// The reply of a member's node to fetches that wait for at most `wait` milliseconds, at the places of these lines, whose words are

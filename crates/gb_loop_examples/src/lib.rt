@@ -3,6 +3,8 @@
 #![tactic(auto)]
 
 #[cfg(test)]
+mod addresses;
+#[cfg(test)]
 mod awaits;
 #[cfg(test)]
 mod breaks;
@@ -12,3 +14,7 @@ mod clients;
 mod crowds;
 #[cfg(test)]
 mod limits;
+#[cfg(test)]
+mod loops;
+#[cfg(test)]
+mod ticks;

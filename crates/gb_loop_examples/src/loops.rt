@@ -1,0 +1,280 @@
+// The loop of one node by itself: of a cluster whose other nodes do not run.
+ghost use Rattle.std.specs.Prelude.{◌≡◌, ◌≤◌, vec_len, IfSome};
+ghost use Rattle.gb_host.specs.Pasts.{AreBlank, books_of};
+ghost use Rattle.gb_host.specs.Plans.{IsPlan};
+
+use crate::clients::{address, ask_often};
+use gb_host::close::close;
+use gb_host::here::only;
+use gb_host::host::Host;
+use gb_host::names::Tapes;
+use gb_host::pasts::{NodePast, new_pasts};
+use gb_host::plan::HostPlan;
+use gb_host::seat::Seat;
+use gb_loop::mail::Parts;
+use gb_loop::node_loop::{Ending, LoopSockets, run_loop};
+use gb_loop::options::LoopOptions;
+use gb_port::udp::UdpPort;
+use gb_status::figure::Figure;
+use gb_status::figures::Figures;
+use gb_types::limits::NODES;
+use gb_types::node::{NodeId, NodeSet};
+use gb_types::plan::Plan;
+use gb_types::version::Version;
+use std::alloc::Global;
+use std::marker::Brand;
+use std::net::{Net, TcpListener, TcpStream};
+use std::rt::HostRuntime;
+use std::sync::Wait;
+use std::sync::atomic::{AtomicBool, AtomicU64, Ordering};
+use std::thread;
+use std::time::{Clock, Duration, Instant};
+
+const ME: NodeId = NodeId { number: 0 };
+
+/// A node that runs alone: how many nodes its cluster has, after how many ticks it notices the others, how many microseconds a tick
+/// takes, and the port for its packets. The one for its clients is 64 above.
+#[derive(Clone, Copy)]
+pub struct Alone {
+    pub nodes: u8,
+    pub silence: u16,
+    pub tick: u64,
+    pub port: u16,
+}
+
+/// How far a loop is, and when it is to end: when it is told, when this number of nodes is noticed, or after this number of rounds.
+#[derive(Drop)]
+pub struct Watch<'a, H> {
+    clock: &'a H,
+    begun: Option<Instant>,
+    others: usize,
+    most: u64,
+    rounds: AtomicU64,
+    is_over: AtomicBool,
+    ticks: AtomicU64,
+    micros: AtomicU64,
+}
+
+impl<'a, H: Clock> Watch<'a, H> {
+    /// A loop that begins now.
+    pub fn new(clock: &'a H, others: usize, most: u64) -> Watch<'a, H> {
+        let begun = match Instant::now(clock) {
+            Ok(begun) => Some(begun),
+            Err(_) => None,
+        };
+        Watch {
+            clock,
+            begun,
+            others,
+            most,
+            rounds: AtomicU64::new(0),
+            is_over: AtomicBool::new(false),
+            ticks: AtomicU64::new(0),
+            micros: AtomicU64::new(0),
+        }
+    }
+
+    /// The loop is to end.
+    pub fn end(&self) {
+        self.is_over.store(true, Ordering::SeqCst);
+    }
+
+    /// How many ticks there were when the other nodes were noticed, and how many microseconds after the watch was made that was; 0
+    /// if they were not.
+    pub fn noticed(&self) -> (u64, u64) {
+        (
+            self.ticks.load(Ordering::SeqCst),
+            self.micros.load(Ordering::SeqCst),
+        )
+    }
+
+    // How many microseconds went by.
+    fn elapsed(&self) -> u64 {
+        let Some(begun) = self.begun else {
+            return 0;
+        };
+        match begun.elapsed(self.clock) {
+            Ok(took) => u64::try_from(took.as_micros()).unwrap_or(u64::MAX),
+            Err(_) => 0,
+        }
+    }
+}
+
+impl<'a, H: Clock> Ending for Watch<'a, H> {
+    fn served(&self) {}
+
+    fn fail(&self) {
+        self.end();
+    }
+
+    fn is_over(&self) -> bool {
+        let rounds = self.rounds.fetch_add(1, Ordering::SeqCst);
+        self.is_over.load(Ordering::SeqCst) || rounds >= self.most
+    }
+
+    fn publish(&self, _node: NodeId, figures: &Figures, noticed: &NodeSet) {
+        let is_first = self.ticks.load(Ordering::SeqCst) == 0;
+        if is_first && noticed.count_in(noticed) >= self.others {
+            let micros = self.elapsed();
+            self.ticks
+                .store(figures.value(Figure::Ticks), Ordering::SeqCst);
+            self.micros.store(micros, Ordering::SeqCst);
+            self.end();
+        }
+    }
+}
+
+// The plan of a host of a node that runs alone.
+fn plan_of(alone: Alone) -> HostPlan
+    requires nodes { (1 ≤ alone.nodes) × (alone.nodes ≤ 16) }
+    requires silence { (2 ≤ alone.silence) × (alone.silence ≤ 1000) }
+    ensures nodes { result.cluster.nodes ≡ alone.nodes }
+    ensures limits { IsPlan result }
+{
+    HostPlan {
+        cluster: Plan {
+            nodes: alone.nodes,
+            versions: [Version::One; NODES],
+            silence: alone.silence,
+            places: 1_024,
+            cluster_key: [0x11; 32],
+            admin_key: [0x22; 32],
+        },
+        tape: false,
+        ring: false,
+    }
+}
+
+// How its loop behaves: it serves for ever, and gives a sign of life once a second.
+fn options_of(alone: Alone) -> LoopOptions {
+    LoopOptions {
+        tick: alone.tick,
+        beat: 1_000_000,
+        idle: 0,
+        first: 10_000_000,
+        sessions: 0,
+        connections: 16,
+        requests: u64::MAX,
+    }
+}
+
+// Who listens for clients on a port.
+fn listen<N: Net<Listener = TcpListener, Stream = TcpStream>>(
+    net: &N,
+    port: u16,
+) -> Option<mio::net::TcpListener> {
+    let listener = TcpListener::bind(net, address(port)).ok()?;
+    listener.set_nonblocking(true).ok()?;
+    Some(mio::net::TcpListener::from_std(listener))
+}
+
+// A port and who listens.
+fn open_sockets<N: Net<Listener = TcpListener, Stream = TcpStream>>(
+    net: &N,
+    alloc: Global,
+    alone: Alone,
+) -> Option<(UdpPort, LoopSockets)>
+    requires nodes { (1 ≤ alone.nodes) × (alone.nodes ≤ 16) }
+    requires port { (1024 ≤ alone.port) × (alone.port ≤ 32000) }
+{
+    let port = UdpPort::bind(net, alloc, ME, alone.nodes, alone.port).ok()?;
+    let listener = listen(net, alone.port + 64)?;
+    let fd = port.raw_fd();
+    Some((port, LoopSockets { fd, listener }))
+}
+
+// Runs the loop of a host's node, and closes the host. Returns true if the host and the seat that came back are of one another.
+fn run_host<
+    L: Tapes,
+    H: Wait + Clock,
+    N: Net<Listener = TcpListener, Stream = TcpStream>,
+    E: Ending,
+>(
+    rt: &H,
+    net: &N,
+    alloc: Global,
+    alone: Alone,
+    plan: HostPlan,
+    pasts: Vec<NodePast>,
+    sockets: (UdpPort, LoopSockets),
+    ending: &E,
+) -> Option<bool>
+    requires plan { plan ≡ L.plan }
+    requires limits { IsPlan plan }
+    requires some { 1 ≤ plan.cluster.nodes }
+    requires pasts { (vec_len pasts ≡ plan.cluster.nodes) × AreBlank pasts.items }
+    requires books { books_of pasts.items ≡ L.books }
+{
+    let (port, sockets) = sockets;
+    let (host, mut seats, _) = Host::<L>::open(alloc, plan, only(ME), 1, pasts).ok()?;
+    let seat = seats.pop()?;
+    let options = options_of(alone);
+    let Parts { seat, .. } = run_loop(
+        rt, net, alloc, &host, seat, ME, port, sockets, options, ending,
+    );
+    seats.push(seat).ok()?;
+    Some(close(host, seats).is_ok())
+}
+
+/// Runs the loop of a node that runs alone, until it ends. Returns true if it ended well.
+pub fn runs<H: Wait + Clock, N: Net<Listener = TcpListener, Stream = TcpStream>, E: Ending>(
+    rt: &H,
+    net: &N,
+    alloc: Global,
+    alone: Alone,
+    ending: &E,
+) -> bool
+    requires nodes { (1 ≤ alone.nodes) × (alone.nodes ≤ 16) }
+    requires silence { (2 ≤ alone.silence) × (alone.silence ≤ 1000) }
+    requires port { (1024 ≤ alone.port) × (alone.port ≤ 32000) }
+{
+    let Some(sockets) = open_sockets(net, alloc, alone) else {
+        return false;
+    };
+    let Ok(pasts) = new_pasts(alloc, alone.nodes) else {
+        return false;
+    };
+    let plan = plan_of(alone);
+    run_host::<Brand, H, N, E>(rt, net, alloc, alone, plan, pasts, sockets, ending).unwrap_or(false)
+}
+
+// A node without others, whose time ticks in each round.
+const RESTLESS: Alone = Alone {
+    nodes: 1,
+    silence: 2,
+    tick: 1,
+    port: 25_800,
+};
+
+// Asks a loop a hundred times at its beginning, and again after thirty thousand rounds; then it is told to end. Returns how many
+// replies were right, and whether there were so many rounds.
+fn ask_late<H: Net<Stream = TcpStream> + Clock>(rt: &H, watch: &Watch<'_, H>) -> ([u32; 2], bool) {
+    let early = ask_often(rt, 25_864, 100);
+    for _ in 0..5_000 {
+        let is_late = watch.rounds.load(Ordering::SeqCst) >= 30_000;
+        if is_late || watch.is_over.load(Ordering::SeqCst) {
+            break;
+        }
+        thread::sleep(rt, Duration::from_millis(10));
+    }
+    let rounds = watch.rounds.load(Ordering::SeqCst);
+    let late = ask_often(rt, 25_864, 100);
+    watch.end();
+    ([early, late], rounds >= 30_000)
+}
+
+#[test]
+fn a_loop_ends_only_when_it_is_told(rt: HostRuntime) {
+    let alloc = rt.alloc();
+    let watch = Watch::new(&rt, usize::MAX, u64::MAX);
+    let (has_run, asked) = thread::join(
+        &rt,
+        || {
+            let has_run = runs(&rt, &rt, alloc, RESTLESS, &watch);
+            watch.end();
+            has_run
+        },
+        || ask_late(&rt, &watch),
+    );
+    assert!(rt; has_run && asked == ([100, 100], true));
+}

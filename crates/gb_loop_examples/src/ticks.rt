@@ -1,0 +1,190 @@
+// Time at a node: ticks come by the clock, however many nodes there are.
+ghost use Rattle.std.specs.Prelude.{◌≤◌};
+
+use crate::clients::{end_server, figure, joined, serves};
+use crate::loops::{Alone, Watch, runs};
+use gb_client::fault::ClientFault;
+use gb_types::node::NodeId;
+use std::alloc::Global;
+use std::net::{Net, TcpListener, TcpStream};
+use std::rt::HostRuntime;
+use std::sync::Wait;
+use std::sync::atomic::{AtomicU64, Ordering};
+use std::thread::Threads;
+use std::time::{Clock, Duration, Instant};
+use std::{io, thread};
+
+// A node of two, and one of eight.
+const OF_TWO: Alone = Alone {
+    nodes: 2,
+    silence: 25,
+    tick: 20_000,
+    port: 25_500,
+};
+
+const OF_EIGHT: Alone = Alone {
+    nodes: 8,
+    silence: 20,
+    tick: 40_000,
+    port: 25_600,
+};
+
+// How a node that runs alone notices the others: whether its loop ended well, after how many ticks, and after how many microseconds.
+fn notice<H: Wait + Clock, N: Net<Listener = TcpListener, Stream = TcpStream>>(
+    rt: &H,
+    net: &N,
+    alloc: Global,
+    alone: Alone,
+) -> (bool, u64, u64)
+    requires nodes { (2 ≤ alone.nodes) × (alone.nodes ≤ 16) }
+    requires silence { (2 ≤ alone.silence) × (alone.silence ≤ 1000) }
+    requires port { (1024 ≤ alone.port) × (alone.port ≤ 32000) }
+{
+    let others = usize::from(alone.nodes) - 1;
+    let watch = Watch::new(rt, others, 300);
+    let has_run = runs(rt, net, alloc, alone, &watch);
+    let (ticks, micros) = watch.noticed();
+    (has_run, ticks, micros)
+}
+
+// By the system's clock silence lasts as long as its ticks take at least. A machine that has much to do lets it last longer.
+#[test]
+fn silent_nodes_are_noticed_in_time(rt: HostRuntime) {
+    let alloc = rt.alloc();
+    let (two, eight) = thread::join(
+        &rt,
+        || notice(&rt, &rt, alloc, OF_TWO),
+        || notice(&rt, &rt, alloc, OF_EIGHT),
+    );
+    assert!(rt; two.0 && two.1 == 25 && two.2 >= 500_000 && two.2 < 10_000_000);
+    assert!(rt; eight.0 && eight.1 == 20 && eight.2 >= 800_000 && eight.2 < 10_000_000);
+}
+
+// A clock that has gone on by 700 microseconds whenever it is read.
+#[derive(Drop)]
+struct Steps<'a, R> {
+    rt: &'a R,
+    micros: AtomicU64,
+}
+
+impl<'a, R: Wait> Wait for Steps<'a, R> {}
+
+impl<'a, R> Clock for Steps<'a, R> {
+    fn monotonic(&self) -> io::Result<Duration> {
+        Ok(Duration::from_micros(self.micros.fetch_add(700, Ordering::SeqCst)))
+    }
+
+    fn since_1970(&self) -> io::Result<Duration> {
+        Ok(Duration::from_micros(self.micros.load(Ordering::SeqCst)))
+    }
+}
+
+// A node of two, and one of eight, whose ticks take three steps of that clock.
+const STEPS_OF_TWO: Alone = Alone {
+    nodes: 2,
+    silence: 25,
+    tick: 2_000,
+    port: 25_700,
+};
+
+const STEPS_OF_EIGHT: Alone = Alone {
+    nodes: 8,
+    silence: 25,
+    tick: 2_000,
+    port: 26_300,
+};
+
+// The same by the clock of steps.
+fn notice_in_steps<H: Wait + Net<Listener = TcpListener, Stream = TcpStream>>(
+    rt: &H,
+    alloc: Global,
+    alone: Alone,
+) -> (bool, u64, u64)
+    requires nodes { (2 ≤ alone.nodes) × (alone.nodes ≤ 16) }
+    requires silence { (2 ≤ alone.silence) × (alone.silence ≤ 1000) }
+    requires port { (1024 ≤ alone.port) × (alone.port ≤ 32000) }
+{
+    let clock = Steps {
+        rt,
+        micros: AtomicU64::new(0),
+    };
+    notice(&clock, rt, alloc, alone)
+}
+
+// By that clock silence lasts exactly as long as its ticks take: 25 times three steps, and two before the first tick and behind the last.
+#[test]
+fn silence_lasts_its_ticks(rt: HostRuntime) {
+    let alloc = rt.alloc();
+    let two = notice_in_steps(&rt, alloc, STEPS_OF_TWO);
+    let eight = notice_in_steps(&rt, alloc, STEPS_OF_EIGHT);
+    assert!(rt; two.0 && two.1 == 25 && two.2 >= 52_500 && two.2 <= 54_600);
+    assert!(rt; eight.0 && eight.1 == 25 && eight.2 >= 52_500 && eight.2 <= 54_600);
+}
+
+static TWO: [&str; 5] = ["gb_serve", "--nodes=2", "--base-port=26400", "--tick", "20"];
+
+static EIGHT: [&str; 5] = ["gb_serve", "--nodes=8", "--base-port=26500", "--tick", "20"];
+
+// How many ticks a node of a server made while at least a second went by, and how many milliseconds that took.
+fn count_ticks<H: Net<Stream = TcpStream> + Clock>(
+    rt: &H,
+    alloc: Global,
+    base_port: u16,
+    node: NodeId,
+) -> Result<(u64, u128), ClientFault> {
+    let mut member = joined(rt, base_port, node)?;
+    let Ok(begun) = Instant::now(rt) else {
+        return Err(ClientFault::Connection);
+    };
+    let before = figure(alloc, &mut member, b"ticks=")?;
+    thread::sleep(rt, Duration::from_millis(1_000));
+    let after = figure(alloc, &mut member, b"ticks=")?;
+    let Ok(took) = begun.elapsed(rt) else {
+        return Err(ClientFault::Connection);
+    };
+    Ok((after.saturating_sub(before), took.as_millis()))
+}
+
+// Whether the last node of a server ticks each twenty milliseconds, as its words say, or less often by far where the machine has
+// much to do, but never more often.
+fn ticks_by_the_clock<
+    H: Net<Listener = TcpListener, Stream = TcpStream> + Threads + Wait + Clock + Sync,
+>(rt: &H, alloc: Global, words: &[&str], lines: &[u8], base_port: u16, node: NodeId) -> bool {
+    let (is_served, (counted, is_over)) = thread::join(
+        rt,
+        || serves(rt, alloc, words, lines),
+        || (
+            count_ticks(rt, alloc, base_port, node),
+            end_server(rt, alloc, base_port),
+        ),
+    );
+    let Ok((ticks, millis)) = counted else {
+        return false;
+    };
+    is_served && is_over && ticks >= 5 && u128::from(ticks) * 20 <= millis.saturating_add(40)
+}
+
+#[test]
+fn servers_tick_by_the_clock(rt: HostRuntime) {
+    let alloc = rt.alloc();
+    let (two, eight) = thread::join(
+        &rt,
+        || ticks_by_the_clock(
+            &rt,
+            alloc,
+            &TWO,
+            b"serving 2 nodes from port 26400\nclosed\n",
+            26_400,
+            NodeId::new(1),
+        ),
+        || ticks_by_the_clock(
+            &rt,
+            alloc,
+            &EIGHT,
+            b"serving 8 nodes from port 26500\nclosed\n",
+            26_500,
+            NodeId::new(7),
+        ),
+    );
+    assert!(rt; two && eight);
+}
