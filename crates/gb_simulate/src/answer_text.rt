@@ -17,7 +17,7 @@ use gb_types::reply::Reply;
 use gb_types::reply_text::put_reply;
 
 /// Appends the text of a refusal.
-fn put_refusal(out: &mut Vec<u8>, why: Refusal) -> Result<(), OutOfMemory>
+pub fn put_refusal(out: &mut Vec<u8>, why: Refusal) -> Result<(), OutOfMemory>
     ensures ok { OnOk result (out.new.items ≡ out.old.items ++ reply_spelling (Reply.Refused why)) }
     ensures err { OnErr result (StartsWith out.new.items out.old.items) }
 {
@@ -80,7 +80,7 @@ fn put_fault(out: &mut Vec<u8>, fault: PacketFault) -> Result<(), OutOfMemory>
 }
 
 /// Appends what became of bytes that came.
-fn put_packet(out: &mut Vec<u8>, taken: &PacketAnswer) -> Result<(), OutOfMemory>
+pub fn put_packet(out: &mut Vec<u8>, taken: &PacketAnswer) -> Result<(), OutOfMemory>
     ensures ok { OnOk result (out.new.items ≡ out.old.items ++ packet_spelling taken.now) }
     ensures err { OnErr result (StartsWith out.new.items out.old.items) }
 {
@@ -160,7 +160,7 @@ fn put_noticed(out: &mut Vec<u8>, found: &NodeSet) -> Result<(), OutOfMemory>
 }
 
 /// Appends what a tick brought to light.
-fn put_ticked(out: &mut Vec<u8>, ticked: &Ticked) -> Result<(), OutOfMemory>
+pub fn put_ticked(out: &mut Vec<u8>, ticked: &Ticked) -> Result<(), OutOfMemory>
     ensures ok { OnOk result (out.new.items ≡ out.old.items ++ ticked_spelling ticked.now) }
     ensures err { OnErr result (StartsWith out.new.items out.old.items) }
 {
@@ -171,7 +171,7 @@ fn put_ticked(out: &mut Vec<u8>, ticked: &Ticked) -> Result<(), OutOfMemory>
 }
 
 /// Appends whether a node stopped.
-fn put_halted(out: &mut Vec<u8>, halted: Halted) -> Result<(), OutOfMemory>
+pub fn put_halted(out: &mut Vec<u8>, halted: Halted) -> Result<(), OutOfMemory>
     ensures ok { OnOk result (out.new.items ≡ out.old.items ++ halted_spelling halted) }
     ensures err { OnErr result (StartsWith out.new.items out.old.items) }
 {

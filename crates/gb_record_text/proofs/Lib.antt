@@ -1,0 +1,3 @@
+pub mod TextLemmas
+pub mod LineLemmas
+pub mod RecordLemmas

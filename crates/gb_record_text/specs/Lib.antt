@@ -1,0 +1,2 @@
+pub mod RecordText
+pub mod Records

@@ -1,0 +1,125 @@
+-- The text of a node's record: a line for each entry of its tape, in the words of a schedule and its answers, with tokens, keys and packets in full.
+use Rattle.std.specs.Prelude.{ℕ, List, [], ◌∷◌, ◌++◌, Option, Some, None, codes, decimal}
+use Rattle.hex.specs.Hex.{encode_lower}
+use Rattle.gb_types.specs.KindWord.{kind_word}
+use Rattle.gb_types.specs.PayloadWord.{payload_word}
+use Rattle.gb_types.specs.ReplyText.{reply_spelling}
+use Rattle.gb_types.specs.declared.address.Addr.{Addr}
+use Rattle.gb_types.specs.declared.node.NodeId.{NodeId}
+use Rattle.gb_types.specs.declared.reply.Reply.TheVariants.{Refused}
+use Rattle.gb_types.specs.declared.request.Request.{Request}
+use Rattle.gb_types.specs.declared.request.Request.TheVariants.{AddTenant, Make, OpenGroup, ShutGroup, DropGroup, Say, Fetch}
+use Rattle.gb_types.specs.declared.spec.Spec.{Spec}
+use Rattle.gb_types.specs.declared.spec.TenantRow.{TenantRow}
+use Rattle.gb_node.specs.declared.answer.NodeAnswer.{NodeAnswer}
+use Rattle.gb_node.specs.declared.answer.NodeAnswer.TheVariants.{Reply as Replied, Taken, Sent, Ticked, Halted as Halts}
+use Rattle.gb_node.specs.declared.answer.PacketAnswer.{PacketAnswer}
+use Rattle.gb_node.specs.declared.answer.PacketAnswer.TheVariants.{Good as TakenGood, Fault as TakenFault, Refused as TakenRefused}
+use Rattle.gb_node.specs.declared.answer.Sent.{Sent as SentValue}
+use Rattle.gb_node.specs.declared.answer.Sent.TheVariants.{Packet as SentPacket, Nothing, Refused as SentRefused}
+use Rattle.gb_node.specs.declared.event.NodeEvent.{NodeEvent}
+use Rattle.gb_node.specs.declared.event.NodeEvent.TheVariants.{Request as Asked, Packet as Came, Pack, Again, Ack, Tick, Stop}
+use Rattle.gb_node.specs.declared.tape.TapeEntry.{TapeEntry}
+use Rattle.gb_types.specs.MembersWord.{members_word}
+use Rattle.gb_types.specs.RequestWords.{group_word}
+use Rattle.gb_types.specs.declared.new_message.NewMessage.{NewMessage}
+use Rattle.gb_types.specs.Version.{limits_of}
+use Rattle.gb_record_text.specs.declared.head.RecordHead.{RecordHead}
+use Rattle.gb_simulate.specs.AnswerText.{good_spelling, fault_spelling, ticked_spelling, halted_spelling}
+
+-- a word after a space
+abbrev pub after_space : List ℕ → List ℕ
+after_space word = codes " " ++ word
+
+-- ` A T G`
+abbrev pub address_text : NodeId → Addr → List ℕ
+address_text b addr = after_space (decimal b.number) ++ after_space (decimal addr.tenant) ++ after_space (group_word addr)
+
+-- ` by TOKEN`
+abbrev pub token_text : List ℕ → List ℕ
+token_text token = codes " by " ++ encode_lower token
+
+-- ` MSGS BYTES WINDOW`
+abbrev pub limits_text : ℕ → ℕ → ℕ → List ℕ
+limits_text msgs bytes window = after_space (decimal msgs) ++ after_space (decimal bytes) ++ after_space (decimal window)
+
+abbrev pub row_text : NodeId → TenantRow → List ℕ
+row_text b row = after_space (decimal b.number) ++ after_space (decimal row.tenant) ++ after_space (decimal row.groups) ++ limits_text row.msgs row.bytes row.window ++ codes " key " ++ encode_lower row.key
+
+-- numbers, each after a comma
+abbrev pub each_after_comma : List ℕ → List ℕ
+each_after_comma [] = []
+each_after_comma (b ∷ bs) = codes "," ++ decimal b ++ each_after_comma bs
+
+abbrev pub spec_text : Spec → List ℕ
+spec_text spec = after_space (kind_word spec.kind) ++ after_space (members_word spec.members) ++ limits_text spec.msgs spec.bytes spec.window
+
+-- ` SEQ`, where the message must get a number
+abbrev pub seq_text : Option ℕ → List ℕ
+seq_text None = []
+seq_text (Some seq) = after_space (decimal seq)
+
+-- ` PAYLOAD`, or ` PAYLOAD SEQ`
+abbrev pub message_text : NewMessage → List ℕ
+message_text message = after_space (payload_word message.payload) ++ seq_text message.seq
+
+-- a request as in a schedule, with the tenant's key and the token behind it
+abbrev pub request_text : NodeId → Request → List ℕ
+request_text b (AddTenant token row) = codes "tenant" ++ row_text b row ++ token_text token
+request_text b (Make token addr spec) = codes "make" ++ address_text b addr ++ spec_text spec ++ token_text token
+request_text b (OpenGroup token addr) = codes "open" ++ address_text b addr ++ token_text token
+request_text b (ShutGroup token addr) = codes "shut" ++ address_text b addr ++ token_text token
+request_text b (DropGroup token addr) = codes "drop" ++ address_text b addr ++ token_text token
+request_text b (Say token addr message) = codes "say" ++ address_text b addr ++ message_text message ++ token_text token
+request_text b (Fetch token addr from most) = codes "fetch" ++ address_text b addr ++ after_space (decimal from) ++ after_space (decimal most) ++ token_text token
+
+-- an event: a request, `came B HEX`, or a step of a schedule
+abbrev pub event_text : NodeId → NodeEvent → List ℕ
+event_text b (Asked request) = request_text b request
+event_text b (Came bytes) = codes "came " ++ decimal b.number ++ after_space (payload_word bytes)
+event_text b (Pack to) = codes "pack " ++ decimal b.number ++ after_space (decimal to.number)
+event_text b (Again to frame) = codes "again " ++ decimal b.number ++ after_space (decimal to.number) ++ after_space (decimal frame)
+event_text b (Ack to) = codes "ack " ++ decimal b.number ++ after_space (decimal to.number)
+event_text b Tick = codes "tick " ++ decimal b.number
+event_text b Stop = codes "stop " ++ decimal b.number
+
+-- what became of bytes that came, as in a schedule, and behind a packet that was taken its sender
+abbrev pub taken_text : PacketAnswer → List ℕ
+taken_text (TakenGood good) = good_spelling good ++ after_space (decimal good.from.number)
+taken_text (TakenFault fault) = fault_spelling fault
+taken_text (TakenRefused why) = reply_spelling (Refused why)
+
+-- what was sent, with all its bytes
+abbrev pub sent_text : SentValue → List ℕ
+sent_text (SentPacket text) = codes "packet " ++ payload_word text
+sent_text Nothing = codes "nothing"
+sent_text (SentRefused why) = reply_spelling (Refused why)
+
+-- an answer as in a schedule, with a packet's bytes for its number, and behind `good` the packet's sender
+abbrev pub answer_text : NodeAnswer → List ℕ
+answer_text (Replied reply) = reply_spelling reply
+answer_text (Taken taken) = taken_text taken
+answer_text (Sent sent) = sent_text sent
+answer_text (Ticked ticked) = ticked_spelling ticked
+answer_text (Halts halted) = halted_spelling halted
+
+-- an entry's line, without its line feed: `SEAT COUNT EVENT > ANSWER`
+abbrev pub entry_line : NodeId → TapeEntry → List ℕ
+entry_line b e = decimal e.seat ++ after_space (decimal e.count) ++ after_space (event_text b e.event) ++ codes " > " ++ answer_text e.answer
+
+-- the lines of entries
+abbrev pub entry_lines : NodeId → List TapeEntry → List ℕ
+entry_lines b [] = []
+entry_lines b (e ∷ es) = entry_line b e ++ 10 ∷ entry_lines b es
+
+-- what a record says of its node and its cluster: `tape 1 NODE NODES SILENCE PLACES VERSION`
+abbrev pub head_line : RecordHead → List ℕ
+head_line h = codes "tape 1" ++ after_space (decimal h.node.number) ++ after_space (decimal h.nodes) ++ after_space (decimal h.silence) ++ after_space (decimal h.places) ++ after_space (decimal (limits_of h.version).byte)
+
+-- the line behind a tape that is whole
+abbrev pub last_line : List ℕ
+last_line = codes "end\n"
+
+-- the record of a whole tape
+abbrev pub record_text : RecordHead → List TapeEntry → List ℕ
+record_text h entries = head_line h ++ 10 ∷ (entry_lines h.node entries ++ last_line)

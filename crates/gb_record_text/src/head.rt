@@ -1,0 +1,69 @@
+//! The first line of a record: which node's it is, and of which cluster.
+ghost use Rattle.std.specs.Prelude.{◌≡◌, ◌++◌, OnOk, IfOk, IfSome};
+ghost use Rattle.gb_record_text.specs.RecordText.{head_line};
+
+use crate::reading::read_node;
+use crate::writing::put_after;
+use gb_types::memory::{OutOfMemory, put_bytes};
+use gb_types::node::NodeId;
+use gb_types::request_words::read_u16;
+use gb_types::version::Version;
+use gb_types::words::split_words;
+use std::alloc::Global;
+
+/// What a record says of its node and its cluster.
+#[derive(Clone, Copy, PartialEq, Eq)]
+pub struct RecordHead {
+    /// The node whose tape the record is.
+    pub node: NodeId,
+    /// How many nodes the cluster has, 1 to 32.
+    pub nodes: u8,
+    /// How many ticks without a packet make a node noticed.
+    pub silence: u16,
+    /// How many groups the tenants of a node may reserve in all.
+    pub places: u16,
+    /// The version of packets that the node sends.
+    pub version: Version,
+}
+
+/// Appends the first line of a record, without its line feed.
+pub fn put_head(out: &mut Vec<u8>, head: &RecordHead) -> Result<(), OutOfMemory>
+    ensures { OnOk result (out.new.items ≡ out.old.items ++ head_line head.now) }
+{
+    put_bytes(out, b"tape 1")?;
+    put_after(out, u64::from(head.node.number))?;
+    put_after(out, u64::from(head.nodes))?;
+    put_after(out, u64::from(head.silence))?;
+    put_after(out, u64::from(head.places))?;
+    put_after(out, u64::from(head.version.limits().byte))
+}
+
+// Returns what the words of a first line may say.
+fn read_words(words: &[&[u8]]) -> Option<RecordHead> {
+    let [_tape, _one, node, nodes, silence, places, version] = words else {
+        return None;
+    };
+    Some(RecordHead {
+        node: read_node(node)?,
+        nodes: u8::try_from(read_u16(nodes)?).ok()?,
+        silence: read_u16(silence)?,
+        places: read_u16(places)?,
+        version: Version::from_byte(u8::try_from(read_u16(version)?).ok()?)?,
+    })
+}
+
+/// Returns what a record says whose first line this is, without its line feed. Returns None where it is no first line.
+pub fn read_head(alloc: Global, line: &[u8]) -> Result<Option<RecordHead>, OutOfMemory>
+    ensures { IfOk result (λ found. IfSome found (λ head. head_line head ≡ line.now)) }
+{
+    let words = split_words(alloc, line)?;
+    let Some(head) = read_words(&words) else {
+        return Ok(None);
+    };
+    let mut text = Vec::new(alloc);
+    put_head(&mut text, &head)?;
+    if text.as_slice() != line {
+        return Ok(None);
+    }
+    Ok(Some(head))
+}

@@ -1,0 +1,10 @@
+//! The text of a node's record: a first line, and a line for each entry of its tape, written exactly and read back exactly. Read
+//! `writing::put_entry` and `reading::read_entry`, then `record::write_record` and `reader::read_record`; specs/RecordText.antt has
+//! the text.
+#![tactic(auto)]
+
+pub mod head;
+pub mod reader;
+pub mod reading;
+pub mod record;
+pub mod writing;
