@@ -15,6 +15,8 @@ mod merged;
 #[cfg(test)]
 mod order;
 #[cfg(test)]
+mod records;
+#[cfg(test)]
 mod requests;
 #[cfg(test)]
 mod steps;

@@ -30,7 +30,7 @@ pub struct Case {
 }
 
 /// A plan by which node 1 sends another version than the others.
-fn plan(nodes: u8) -> Plan
+pub fn plan(nodes: u8) -> Plan
     ensures { IsClusterPlan result }
 {
     let mut versions = [Version::One; NODES];

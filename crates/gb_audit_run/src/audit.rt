@@ -1,0 +1,291 @@
+//! The audit of the records of a cluster's nodes.
+ghost use Rattle.std.specs.Prelude.{◌≡◌, length, IfOk, IfSome};
+ghost use Rattle.gb_cluster.specs.ClusterValue.{IsClusterPlan};
+ghost use Rattle.gb_merge.specs.Front.{IsMergedFront};
+
+use crate::cluster::{ClusterKeys, are_of_one, plan_of};
+use crate::left::{is_sent, merged_counts, sender_of};
+use crate::lines::{put_bad_line, put_fault, put_left, put_merged, put_stranger, put_tape};
+use crate::replay::first_wrong;
+use gb_cluster::event::Event;
+use gb_merge::fault::AuditFault;
+use gb_merge::front::{front_is_one_run, merge_front};
+use gb_node::tape::Tape;
+use gb_record_text::head::RecordHead;
+use gb_record_text::reader::{ReadFault, Record, read_record};
+use gb_types::limits::NODES;
+use gb_types::memory::{OutOfMemory, put_bytes};
+use gb_types::plan::Plan;
+use std::alloc::Global;
+
+/// How an audit ended.
+#[derive(Clone, Copy, Debug, PartialEq, Eq)]
+pub enum Verdict {
+    /// All entries of all records are one run of the cluster.
+    Whole,
+    /// The first entries of the records are one run, and behind them some are left.
+    Left,
+    /// The records are not what nodes of one cluster did; the last line says why.
+    Refused,
+}
+
+/// A file: its name, and what stands in it.
+#[derive(Clone, Copy)]
+pub struct Source<'a> {
+    pub name: &'a str,
+    pub text: &'a [u8],
+}
+
+/// The part of records that is one run of the cluster.
+#[derive(Drop)]
+pub struct Audited {
+    /// The plan of the cluster that the records are of.
+    pub plan: Plan,
+    /// The tapes of the records, by the nodes' numbers; an empty one for a node without a record.
+    pub tapes: Vec<Tape>,
+    /// The events of the run.
+    pub events: Vec<Event>,
+    pub verdict: Verdict,
+}
+
+// What is known of a node's record besides its entries.
+#[derive(Clone, Copy)]
+struct Label<'a> {
+    name: &'a str,
+    is_whole: bool,
+}
+
+// Reads the records. Returns None where a file is no record, or not one of the cluster of the first; the last line says so.
+fn read_all(
+    alloc: Global,
+    sources: &[Source<'_>],
+    out: &mut Vec<u8>,
+) -> Result<Option<Vec<Record>>, OutOfMemory> {
+    let mut records: Vec<Record> = Vec::new(alloc);
+    for source in sources {
+        let record = match read_record(alloc, source.text) {
+            Ok(record) => record,
+            Err(ReadFault::BadLine(line)) => {
+                put_bad_line(out, line, source.name)?;
+                return Ok(None);
+            }
+            Err(ReadFault::OutOfMemory) => return Err(OutOfMemory),
+        };
+        for other in &records {
+            if !are_of_one(&other.head, &record.head) {
+                put_stranger(out, source.name)?;
+                return Ok(None);
+            }
+        }
+        let torn = if record.is_whole {
+            None
+        } else {
+            Some(record.torn)
+        };
+        put_tape(
+            out,
+            source.name,
+            record.head.node.number,
+            record.entries.len(),
+            torn,
+        )?;
+        records.push(record)?;
+    }
+    Ok(Some(records))
+}
+
+// Returns what records say of their nodes and their cluster.
+fn heads_of(alloc: Global, records: &[Record]) -> Result<Vec<RecordHead>, OutOfMemory> {
+    let mut heads = Vec::new(alloc);
+    for record in records {
+        heads.push(record.head)?;
+    }
+    Ok(heads)
+}
+
+// Returns true if each answer of each record is what its node gives alone. Otherwise the last line says which is not.
+fn are_replayed(
+    alloc: Global,
+    plan: &Plan,
+    sources: &[Source<'_>],
+    records: &[Record],
+    out: &mut Vec<u8>,
+) -> Result<bool, OutOfMemory>
+    requires { IsClusterPlan plan.now }
+{
+    for place in 0..records.len().min(sources.len()) {
+        let record = &records[place];
+        let node = record.head.node;
+        if node.number >= plan.nodes {
+            put_stranger(out, sources[place].name)?;
+            return Ok(false);
+        }
+        if let Some(wrong) = first_wrong(alloc, plan, node, &record.entries) {
+            put_fault(
+                out,
+                AuditFault::Differs.number(),
+                sources[place].name,
+                wrong,
+            )?;
+            return Ok(false);
+        }
+    }
+    Ok(true)
+}
+
+// Returns a label for each number of a node: the name of its record and whether it is whole.
+fn labels_of<'a>(sources: &[Source<'a>], records: &[Record]) -> [Label<'a>; NODES] {
+    let mut labels = [Label {
+        name: "-",
+        is_whole: false,
+    }; NODES];
+    for place in 0..records.len().min(sources.len()) {
+        let record = &records[place];
+        labels[record.head.node.index()] = Label {
+            name: sources[place].name,
+            is_whole: record.is_whole,
+        };
+    }
+    labels
+}
+
+// Returns the tapes of records by the numbers of their nodes, with an empty one for each node without a record.
+fn tapes_of(alloc: Global, nodes: u8, records: Vec<Record>) -> Result<Vec<Tape>, OutOfMemory>
+    ensures { IfOk result (λ tapes. length tapes.items ≡ nodes) }
+{
+    let mut tapes: Vec<Tape> = Vec::new(alloc);
+    for _ in 0..nodes {
+        tapes.push(Tape::from(Vec::new(alloc)))?;
+    }
+    for record in records {
+        let Record { head, entries, .. } = record;
+        if let Some(tape) = tapes.get_mut(head.node.index()) {
+            *tape = Tape::from(entries);
+        }
+    }
+    Ok(tapes)
+}
+
+// What is left of a node's record.
+#[derive(Clone, Copy, PartialEq, Eq)]
+enum Rest {
+    // No entry.
+    Nothing,
+    // Entries, and one run may have them: more of a record that was cut short may be missing.
+    Waiting,
+    // Entries of which the first takes a packet that its sender, whose record is whole, did not send.
+    Stranger,
+}
+
+// Tells what is left of a node's record behind the entries that are in the run.
+fn tell_rest(
+    plan: &Plan,
+    tapes: &[Tape],
+    labels: &[Label<'_>; NODES],
+    node: u8,
+    merged: usize,
+    out: &mut Vec<u8>,
+) -> Result<Rest, OutOfMemory> {
+    let place = usize::from(node);
+    let (Some(tape), Some(label)) = (tapes.get(place), labels.get(place)) else {
+        return Ok(Rest::Nothing);
+    };
+    let Some(next) = tape.as_slice().get(merged) else {
+        return Ok(Rest::Nothing);
+    };
+    let sender = sender_of(plan, next);
+    if let Some(from) = sender
+        && let (Some(theirs), Some(other)) = (tapes.get(from.index()), labels.get(from.index()))
+        && other.is_whole
+        && !is_sent(theirs.as_slice(), next)
+    {
+        put_fault(out, AuditFault::Stranger.number(), label.name, merged)?;
+        return Ok(Rest::Stranger);
+    }
+    let count = tape.as_slice().len().saturating_sub(merged);
+    let from = match sender {
+        Some(from) => Some(from.number),
+        None => None,
+    };
+    put_left(out, label.name, merged, count, from)?;
+    Ok(Rest::Waiting)
+}
+
+// Tells what is left of all records behind the entries that are in the run.
+fn tell_all(
+    plan: &Plan,
+    tapes: &[Tape],
+    labels: &[Label<'_>; NODES],
+    counts: &[usize; NODES],
+    out: &mut Vec<u8>,
+) -> Result<Verdict, OutOfMemory> {
+    let mut is_left = false;
+    let mut is_cut = false;
+    for node in 0..plan.nodes {
+        let place = usize::from(node);
+        let (Some(merged), Some(label)) = (counts.get(place), labels.get(place)) else {
+            return Ok(Verdict::Refused);
+        };
+        is_cut = is_cut || !label.is_whole;
+        match tell_rest(plan, tapes, labels, node, *merged, out)? {
+            Rest::Nothing => {}
+            Rest::Waiting => is_left = true,
+            Rest::Stranger => return Ok(Verdict::Refused),
+        }
+    }
+    if is_left && !is_cut {
+        put_bytes(out, b"audit fault 2\n")?;
+        return Ok(Verdict::Refused);
+    }
+    Ok(if is_left {
+        Verdict::Left
+    } else {
+        Verdict::Whole
+    })
+}
+
+/// Audits the records of a cluster's nodes, given in any order, under the cluster's keys, and appends a line for each thing that it
+/// finds. Returns the part of the records that is one run of the cluster. Returns None where the records are not of one cluster, or an
+/// answer in them is not what its node gives.
+pub fn audit(
+    alloc: Global,
+    sources: &[Source<'_>],
+    keys: ClusterKeys,
+    out: &mut Vec<u8>,
+) -> Result<Option<Audited>, OutOfMemory>
+    ensures { IfOk result (λ found. IfSome found (λ run. IsMergedFront run.plan run.tapes.items run.events.items)) }
+{
+    let Some(records) = read_all(alloc, sources, out)? else {
+        return Ok(None);
+    };
+    let heads = heads_of(alloc, &records)?;
+    let Some(plan) = plan_of(&heads, keys) else {
+        if let Some(source) = sources.first() {
+            put_stranger(out, source.name)?;
+        }
+        return Ok(None);
+    };
+    if !are_replayed(alloc, &plan, sources, &records, out)? {
+        return Ok(None);
+    }
+    let labels = labels_of(sources, &records);
+    let tapes = tapes_of(alloc, plan.nodes, records)?;
+    front_is_one_run();
+    let events = match merge_front(alloc, &plan, &tapes) {
+        Ok(events) => events,
+        Err(AuditFault::OutOfMemory) => return Err(OutOfMemory),
+        Err(_) => {
+            put_bytes(out, b"audit fault 3\n")?;
+            return Ok(None);
+        }
+    };
+    let counts = merged_counts(alloc, &tapes, &events)?;
+    let verdict = tell_all(&plan, &tapes, &labels, &counts, out)?;
+    put_merged(out, events.len())?;
+    Ok(Some(Audited {
+        plan,
+        tapes,
+        events,
+        verdict,
+    }))
+}

@@ -1,0 +1,75 @@
+//! The cluster that records speak of.
+ghost use Rattle.std.specs.Prelude.{◌≡◌, ◌<◌, ◌≤◌, ℕ, IfSome, IsTrue};
+ghost use Rattle.gb_types.specs.Version.{limits_of, version_at};
+ghost use Rattle.gb_types.specs.declared.limits.TheConstants.{NODES as MOST};
+ghost use Rattle.gb_cluster.specs.ClusterValue.{IsClusterPlan};
+
+use gb_record_text::head::RecordHead;
+use gb_types::limits::{NODES, PLACES, SILENCE_MAX, SILENCE_MIN};
+use gb_types::plan::Plan;
+use gb_types::version::Version;
+
+/// The keys of a cluster.
+#[derive(Clone, Copy)]
+pub struct ClusterKeys {
+    /// The key under which the nodes tag their packets.
+    pub cluster: [u8; 32],
+    /// The key of the administrator's token.
+    pub admin: [u8; 32],
+}
+
+// Returns true if the version that each node sends can name them all.
+fn is_named(plan: &Plan) -> bool
+    requires { plan.now.nodes ≤ MOST }
+    ensures { IsTrue result → (a : ℕ) → a < plan.now.nodes → plan.now.nodes ≤ (limits_of (version_at plan.now.versions a)).nodes }
+{
+    for number in 0..plan.nodes {
+        let version = plan.versions[usize::from(number)];
+        if plan.nodes > version.limits().nodes {
+            return false;
+        }
+    }
+    true
+}
+
+// Returns true if a cluster may be started with this plan.
+fn is_plan(plan: &Plan) -> bool
+    ensures { IsTrue result → IsClusterPlan plan.now }
+{
+    1 <= plan.nodes
+        && usize::from(plan.nodes) <= NODES
+        && is_named(plan)
+        && plan.places <= PLACES
+        && SILENCE_MIN <= plan.silence
+        && plan.silence <= SILENCE_MAX
+}
+
+/// Returns true if two records may be of one cluster: of two nodes, with one number of nodes, one silence and one number of places.
+pub fn are_of_one(first: &RecordHead, other: &RecordHead) -> bool {
+    first.nodes == other.nodes
+        && first.silence == other.silence
+        && first.places == other.places
+        && first.node.number != other.node.number
+}
+
+/// Returns the plan of the cluster that these records are of, under its keys. Returns None where no cluster has such a plan. A node
+/// without a record sends the version of the first one.
+pub fn plan_of(heads: &[RecordHead], keys: ClusterKeys) -> Option<Plan>
+    ensures { IfSome result IsClusterPlan }
+{
+    let first = heads.first()?;
+    let mut versions: [Version; NODES] = [first.version; NODES];
+    for head in heads {
+        versions[head.node.index()] = head.version;
+    }
+    let (cluster_key, admin_key) = (keys.cluster, keys.admin);
+    let plan = Plan {
+        nodes: first.nodes,
+        versions,
+        silence: first.silence,
+        places: first.places,
+        cluster_key,
+        admin_key,
+    };
+    if is_plan(&plan) { Some(plan) } else { None }
+}

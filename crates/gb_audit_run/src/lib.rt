@@ -1,0 +1,9 @@
+//! Auditing records: whether what the nodes of a cluster recorded is one run of the cluster. Read `audit::audit`.
+#![tactic(auto)]
+
+pub mod audit;
+pub mod cluster;
+pub mod left;
+pub mod lines;
+pub mod replay;
+pub mod verdict;

@@ -1,0 +1,27 @@
+//! Replaying one record alone.
+ghost use Rattle.std.specs.Prelude.{◌≡◌, ◌<◌};
+ghost use Rattle.gb_cluster.specs.ClusterValue.{IsClusterPlan};
+
+use gb_cluster::plan::node_plan;
+use gb_node::node::Node;
+use gb_node::tape::TapeEntry;
+use gb_types::node::NodeId;
+use gb_types::plan::Plan;
+use std::alloc::Global;
+
+/// Returns how many entries stand before the first one whose answer is not what a node gives that took the entries before it. Returns
+/// None where all answers are right.
+pub fn first_wrong(alloc: Global, plan: &Plan, me: NodeId, entries: &[TapeEntry]) -> Option<usize>
+    requires plan { IsClusterPlan plan.now }
+    requires here { me.number < plan.now.nodes }
+{
+    let mut node = Node::start(alloc, &node_plan(plan, me));
+    for place in 0..entries.len() {
+        let entry = &entries[place];
+        let answer = node.take(&entry.event);
+        if !answer.is(&entry.answer) {
+            return Some(place);
+        }
+    }
+    None
+}

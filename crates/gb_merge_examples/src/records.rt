@@ -1,0 +1,254 @@
+// Records of two nodes that did things together, and what an audit says of them, and of records that were changed afterwards.
+use crate::merged::plan;
+use crate::requests::{ADMIN_KEY, Asked};
+use crate::steps::{At, Step, Taped, hand_over, start, take_all};
+use gb_audit_run::audit::{Source, audit};
+use gb_audit_run::cluster::ClusterKeys;
+use gb_audit_run::verdict::status_of;
+use gb_node::tape::Tape;
+use gb_record_text::head::RecordHead;
+use gb_record_text::record::write_record;
+use gb_types::memory::{OutOfMemory, put_bytes};
+use gb_types::node::NodeId;
+use std::alloc::Global;
+use std::rt::HostRuntime;
+
+// Both nodes make a group and open it. Node 0 says a message, packs it and takes its acknowledgement; node 1 takes it and fetches it.
+// Both have seven entries.
+static STEPS: [At; 14] = [
+    (0, Step::Ask(Asked::AddTenant)),
+    (0, Step::Ask(Asked::MakeGroup)),
+    (0, Step::Ask(Asked::OpenGroup)),
+    (1, Step::Ask(Asked::AddTenant)),
+    (1, Step::Ask(Asked::MakeGroup)),
+    (1, Step::Ask(Asked::OpenGroup)),
+    (0, Step::Ask(Asked::Say(b"a"))),
+    (0, Step::Pack(1)),
+    (1, Step::Come(0, 4)),
+    (1, Step::Ask(Asked::Fetch(0, 16))),
+    (1, Step::Ack(0)),
+    (0, Step::Come(1, 5)),
+    (0, Step::Tick),
+    (1, Step::Tick),
+];
+
+// A change of a record. Lines count from 1.
+#[derive(Clone, Copy)]
+enum Change {
+    None,
+    // These bytes of a line become others.
+    Replace(usize, &'static [u8], &'static [u8]),
+    // A line is left out.
+    Drop(usize),
+    // A line and the next one are exchanged.
+    Exchange(usize),
+    // Only so many lines are left, and the first bytes of the next one.
+    Cut(usize, usize),
+    // Only so many lines are left, and the line `end`.
+    End(usize),
+}
+
+// Appends a line with some of its bytes replaced, where they stand there.
+fn put_replaced(out: &mut Vec<u8>, line: &[u8], old: &[u8], new: &[u8]) -> Result<(), OutOfMemory> {
+    for at in 0..line.len() {
+        if line[at..].starts_with(old) {
+            put_bytes(out, &line[..at])?;
+            put_bytes(out, new)?;
+            return put_bytes(out, &line[at + old.len()..]);
+        }
+    }
+    put_bytes(out, line)
+}
+
+// Returns a text with a change.
+fn changed(alloc: Global, text: &[u8], change: Change) -> Result<Vec<u8>, OutOfMemory> {
+    let mut lines: Vec<&[u8]> = Vec::new(alloc);
+    for line in text.split(|byte| *byte == b'\n') {
+        lines.push(line)?;
+    }
+    // What stands behind the last line feed is no line.
+    let count = lines.len().saturating_sub(1);
+    let mut out = Vec::new(alloc);
+    for place in 0..count {
+        let line = lines[place];
+        let number = place + 1;
+        match change {
+            Change::Replace(at, old, new) if at == number => {
+                put_replaced(&mut out, line, old, new)?;
+            }
+            Change::Drop(at) if at == number => continue,
+            Change::Exchange(at) if at == number && number < count => {
+                put_bytes(&mut out, lines[number])?;
+            }
+            Change::Exchange(at) if at > 0 && at == place => {
+                put_bytes(&mut out, lines[at - 1])?;
+            }
+            Change::Cut(most, bytes) if most == place => {
+                put_bytes(&mut out, &line[..bytes.min(line.len())])?;
+                return Ok(out);
+            }
+            Change::End(most) if most == place => {
+                put_bytes(&mut out, b"end\n")?;
+                return Ok(out);
+            }
+            _ => put_bytes(&mut out, line)?,
+        }
+        put_bytes(&mut out, b"\n")?;
+    }
+    Ok(out)
+}
+
+// Returns the records of the nodes after these steps.
+fn records(alloc: Global) -> Result<Vec<Vec<u8>>, OutOfMemory> {
+    let plan = plan(2);
+    let mut nodes: Vec<Taped> = Vec::new(alloc);
+    start(alloc, &plan, &mut nodes)?;
+    take_all(alloc, &mut nodes, &STEPS)?;
+    let mut tapes: Vec<Tape> = Vec::new(alloc);
+    hand_over(alloc, &mut nodes, &mut tapes)?;
+    let mut texts = Vec::new(alloc);
+    for number in 0..tapes.len().min(2) {
+        let node = NodeId::new(number as u8);
+        let head = RecordHead {
+            node,
+            nodes: plan.nodes,
+            silence: plan.silence,
+            places: plan.places,
+            version: plan.bounds().version_of(node),
+        };
+        let mut text = Vec::new(alloc);
+        if write_record(alloc, &mut text, &head, tapes[number].as_slice()).is_err() {
+            return Err(OutOfMemory);
+        }
+        texts.push(text)?;
+    }
+    Ok(texts)
+}
+
+// Changes of the records of node 0 and of node 1, what an audit prints then, and its status.
+struct Case {
+    first: Change,
+    second: Change,
+    lines: &'static str,
+    status: u8,
+}
+
+// Returns true if an audit of the records after the changes prints these lines and has this status.
+fn is_told(
+    alloc: Global,
+    texts: &[Vec<u8>],
+    cluster: [u8; 32],
+    case: &Case,
+) -> Result<bool, OutOfMemory> {
+    let [first, second] = texts else {
+        return Ok(false);
+    };
+    let first = changed(alloc, first, case.first)?;
+    let second = changed(alloc, second, case.second)?;
+    let sources = [
+        Source {
+            name: "a",
+            text: first.as_slice(),
+        },
+        Source {
+            name: "b",
+            text: second.as_slice(),
+        },
+    ];
+    let keys = ClusterKeys {
+        cluster,
+        admin: ADMIN_KEY,
+    };
+    let mut out = Vec::new(alloc);
+    let found = audit(alloc, &sources, keys, &mut out)?;
+    Ok(out.as_slice() == case.lines.as_bytes() && status_of(&found) == case.status)
+}
+
+static CASES: [Case; 10] = [
+    Case {
+        first: Change::None,
+        second: Change::None,
+        lines: "tape a node 0 entries 7 whole\ntape b node 1 entries 7 whole\nmerged 14 events\n",
+        status: 0,
+    },
+    // An answer is changed: what node 1 fetched.
+    Case {
+        first: Change::None,
+        second: Change::Replace(6, b"0:1:61", b"0:1:62"),
+        lines: "tape a node 0 entries 7 whole\ntape b node 1 entries 7 whole\naudit fault 3 b line 6\n",
+        status: 1,
+    },
+    // An entry is dropped: the opening of the group in which node 0 says a message.
+    Case {
+        first: Change::Drop(4),
+        second: Change::None,
+        lines: "tape a node 0 entries 6 whole\ntape b node 1 entries 7 whole\naudit fault 3 a line 4\n",
+        status: 1,
+    },
+    // Two entries are exchanged: the making of the group and its opening.
+    Case {
+        first: Change::Exchange(3),
+        second: Change::None,
+        lines: "tape a node 0 entries 7 whole\ntape b node 1 entries 7 whole\naudit fault 3 a line 3\n",
+        status: 1,
+    },
+    // A packet is invented: node 0, whose record is whole, did not send the one that node 1 took.
+    Case {
+        first: Change::End(5),
+        second: Change::None,
+        lines: "tape a node 0 entries 4 whole\ntape b node 1 entries 7 whole\naudit fault 1 b line 5\nmerged 7 events\n",
+        status: 1,
+    },
+    // A record is cut short: node 1 waits for a packet that may have been sent behind the cut.
+    Case {
+        first: Change::Cut(5, 3),
+        second: Change::None,
+        lines: "tape a node 0 entries 4 cut torn 3\ntape b node 1 entries 7 whole\nleft b line 5 entries 4 awaits 0\nmerged 7 events\n",
+        status: 3,
+    },
+    // The record is said to be another node's.
+    Case {
+        first: Change::Replace(1, b"tape 1 0", b"tape 1 1"),
+        second: Change::None,
+        lines: "bad line 2 of a\n",
+        status: 1,
+    },
+    // The records are of two clusters.
+    Case {
+        first: Change::None,
+        second: Change::Replace(1, b"2 3 4", b"2 5 4"),
+        lines: "tape a node 0 entries 7 whole\nnot one cluster: b\n",
+        status: 1,
+    },
+    // A number is spelt in another way.
+    Case {
+        first: Change::Replace(8, b"tick 0", b"tick 00"),
+        second: Change::None,
+        lines: "bad line 8 of a\n",
+        status: 1,
+    },
+    // Something stands behind the end.
+    Case {
+        first: Change::Exchange(8),
+        second: Change::None,
+        lines: "bad line 9 of a\n",
+        status: 1,
+    },
+];
+
+// Returns true if the audit of each case prints its lines.
+fn are_told(alloc: Global) -> Result<bool, OutOfMemory> {
+    let texts = records(alloc)?;
+    for case in &CASES {
+        if !is_told(alloc, &texts, [3; 32], case)? {
+            return Ok(false);
+        }
+    }
+    Ok(true)
+}
+
+#[test]
+fn an_audit_finds_what_was_changed(rt: HostRuntime) {
+    let told = are_told(rt.alloc());
+    assert!(rt; told == Ok(true));
+}
