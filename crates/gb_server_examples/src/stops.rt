@@ -132,11 +132,14 @@ fn stops_after(text: &[u8]) -> usize {
     let mut space = [0u8; KEPT];
     let mut filled = 0;
     for _ in 0..100 {
+        if filled >= KEPT {
+            return 0;
+        }
         let (count, heard) = hear(&mut reader, &mut space, filled);
         filled = count;
         match heard {
             Heard::Nothing => (),
-            Heard::Stop => return text.len() - reader.len(),
+            Heard::Stop => return text.len().saturating_sub(reader.len()),
             Heard::End => return 0,
         }
     }
