@@ -3,7 +3,7 @@ use Rattle.std.proofs.Common.{◌≡◌, ◌≢◌, ℕ, zero, suc, ◌<◌, ◌
 use Rattle.std.specs.Prelude.{◌⊎◌, Bool, cond, not, nat_lt, Option, Some, None, IsSome, position}
 use Rattle.std.proofs.lemmas.List.{length-map, map-append}
 use Rattle.std.specs.List.{position_or_len}
-use Rattle.std.proofs.lemmas.Bool.{cases_lt, lt-ltb}
+use Rattle.std.proofs.lemmas.Bool.{cases_eq, cases_lt, lt-ltb}
 use Rattle.indexmap.specs.IndexMap.{insert_entry}
 use Rattle.slab.specs.Slab.{Slab, get}
 use Rattle.gb_types.specs.declared.address.Addr.{Addr}
@@ -14,7 +14,7 @@ use Rattle.gb_groups.specs.declared.slots.Place.{Place}
 use Rattle.gb_groups.specs.declared.slots.Place.TheVariants.{Key, Gone}
 use Rattle.gb_groups.specs.SlotsValue.{Row, row_at, counters, HaveCounters, IsShort, AreShort, AreApart, no_row, AreFirst}
 use Rattle.gb_groups.specs.Slots.{slot_under, row_of, place_at, AreKept}
-use Rattle.gb_groups.proofs.SlotsLemmas.{no_entry_at, row_is, made_of, row_made}
+use Rattle.gb_groups.proofs.SlotsLemmas.{no_entry_at, leads_within, row_is, made_of, row_made}
 use Rattle.gb_rules.proofs.AddressLemmas.{addr_same}
 
 -- where a place stands in a list that has one more
@@ -41,7 +41,7 @@ pub record Grows (old new : Slab SlotState) (key : ℕ) (v : SlotState) : Type 0
   pub here : get new key ≡ Some v
   pub others : (k : ℕ) → k ≢ key → get new k ≡ get old k
 
-not_free : (o : Option SlotState) → IsSome o → o ≡ None → ⊥
+pub not_free : (o : Option SlotState) → IsSome o → o ≡ None → ⊥
 not_free None h e = absurd (cc)
 not_free (Some v) h e = absurd (cc)
 
@@ -61,7 +61,7 @@ pub map-grown : {X : Type 0} (f : Addr → Option SlotState → X) (old new : Sl
 map-grown f old new key v addr es g kept =
     map-append (made_of f new) es ((addr, Key key) ∷ []) ∙ ap (λ xs. xs ++ f addr (get new key) ∷ []) (map-same f old new es (kept_under old new key v es g kept)) ∙ ap (λ o. map (made_of f old) es ++ f addr o ∷ []) g.here
 
-key_same : (k j : ℕ) → Key k ≡ Key j → k ≡ j
+pub key_same : (k j : ℕ) → Key k ≡ Key j → k ≡ j
 key_same k j e = cc
 
 end_counters : (rows : List Row) (row : Row) → HaveCounters rows → counters row ≡ NODES → HaveCounters (rows ++ row ∷ [])
@@ -169,12 +169,37 @@ alone_grown old new key v addr es g kept p q k m n =
       ]
     ]
 
+placed_grown : (old new : Slab SlotState) (key : ℕ) (v : SlotState) (addr : Addr) (es : List (Addr × Place)) → Grows old new key v → AreKept es old → (k : ℕ) → IsSome (get new k) → (p : ℕ) × (place_at (es ++ (addr, Key key) ∷ []) p ≡ Key k)
+unfolding AtEnd
+placed_grown old new key v addr es g kept k some =
+    elim (cases_eq k key) [
+      | inl e ↦ (
+        length es,
+        elim (at_end es (addr, Key key) no_entry_at (length es)) [
+          | inl w ↦ let l = w.0 in absurd (omega arith)
+          | inr (inl w) ↦ ap (λ (x : Addr × Place). x.1) w.1 ∙ ap Key (sym e)
+          | inr (inr w) ↦ let l = w.0 in absurd (omega arith)
+        ],
+      )
+      | inr ne ↦
+          let at = kept.placed k (subst (λ (o : Option SlotState). IsSome o) (g.others k ne) some) in
+          let within = leads_within es at.0 k at.1 in (
+            at.0,
+            elim (at_end es (addr, Key key) no_entry_at at.0) [
+              | inl w ↦ ap (λ (x : Addr × Place). x.1) w.1 ∙ at.1
+              | inr (inl w) ↦ let l = w.0 in absurd (omega arith)
+              | inr (inr w) ↦ let l = w.0 in absurd (omega arith)
+            ],
+          )
+    ]
+
 pub kept_grown : (old new : Slab SlotState) (key : ℕ) (v : SlotState) (addr : Addr) (es : List (Addr × Place)) → Grows old new key v → AreKept es old → length v.taken ≡ NODES → IsShort PAYLOAD (Some v) → addr.generation ≡ 0 → position (λ (r : Row). is_addr addr r.addr) (map (row_of old) es) ≡ None → AreKept (es ++ (addr, Key key) ∷ []) new
 kept_grown old new key v addr es g kept size short begun none =
     let rows = map-grown row_made old new key v addr es g kept in
     record {
       there = there_grown old new key v addr es g kept;
       alone = alone_grown old new key v addr es g kept;
+      placed = placed_grown old new key v addr es g kept;
       counters = subst HaveCounters (sym rows) (end_counters (map (row_of old) es) (row_made addr (Some v)) kept.counters size);
       short = subst (AreShort PAYLOAD) (sym rows) (end_short (map (row_of old) es) (row_made addr (Some v)) kept.short short);
       apart = subst AreApart (sym rows) (end_apart (map (row_of old) es) (row_made addr (Some v)) kept.apart none);
@@ -195,4 +220,4 @@ insert-new eq addr place slots es same none =
 pub kept_same : (es now : List (Addr × Place)) (slots new : Slab SlotState) (capacity : ℕ) → now ≡ es → new ≡ record slots { capacity = capacity } → AreKept es slots → AreKept now new
 kept_same es now slots new capacity e f kept =
     subst (λ (xs : List (Addr × Place)). AreKept xs new) (sym e)
-    (subst (λ (s : Slab SlotState). AreKept es s) (sym f) (record { there = kept.there; alone = kept.alone; counters = kept.counters; short = kept.short; apart = kept.apart; first = kept.first }))
+    (subst (λ (s : Slab SlotState). AreKept es s) (sym f) (record { there = kept.there; alone = kept.alone; placed = kept.placed; counters = kept.counters; short = kept.short; apart = kept.apart; first = kept.first }))

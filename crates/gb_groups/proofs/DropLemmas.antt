@@ -16,10 +16,11 @@ use Rattle.gb_groups.specs.declared.slots.Place.TheVariants.{Key, Gone}
 use Rattle.gb_groups.specs.SlotsValue.{Row, row_at, gone, unless_gone, HaveCounters, AreShort, AreApart, no_row, AreFirst}
 use Rattle.gb_groups.specs.Slots.{slot_under, row_of, place_at, AreKept}
 use Rattle.gb_groups.proofs.SlotsLemmas.{no_entry_at, made_of, row_made, row_is, counters_changed, short_changed}
-use Rattle.gb_groups.proofs.AddLemmas.{map-same, same_under}
+use Rattle.gb_groups.proofs.AddLemmas.{map-same, same_under, key_same, not_free}
 
 -- a slab without the slot under a key
 pub record Without (old new : Slab SlotState) (key : ℕ) : Type 0 where
+  pub gone : get new key ≡ None
   pub others : (k : ℕ) → k ≢ key → get new k ≡ get old k
 
 map-dropped : {X : Type 0} (f : Addr → Option SlotState → X) (old new : Slab SlotState) (key p : ℕ) (es : List (Addr × Place)) → Without old new key → place_at es p ≡ Key key → ((q : ℕ) → place_at es q ≡ Key key → q ≡ p) → map (made_of f new) (set_value_at es p Gone) ≡ set (map (made_of f old) es) p (f (get_or es p no_entry_at).0 None)
@@ -73,6 +74,17 @@ pub record Dropped (es : List (Addr × Place)) (old new : Slab SlotState) (p : �
   pub kept : AreKept (set_value_at es p Gone) new
   pub rows : map (row_of new) (set_value_at es p Gone) ≡ set (map (row_of old) es) p (gone (row_at (map (row_of old) es) p))
 
+-- each slot that is left stands where it stood
+placed_still : (es : List (Addr × Place)) (old new : Slab SlotState) (p key k : ℕ) → Without old new key → AreKept es old → place_at es p ≡ Key key → IsSome (get new k) → (q : ℕ) × (place_at (set_value_at es p Gone) q ≡ Key k)
+placed_still es old new p key k w kept here some =
+    elim (cases_eq k key) [
+      | inl e ↦ absurd (not_free (get new k) some (ap (get new) e ∙ w.gone))
+      | inr ne ↦
+          let at = kept.placed k (subst (λ (o : Option SlotState). IsSome o) (w.others k ne) some) in
+          let other : at.0 ≢ p = λ s. ne (key_same k key (sym at.1 ∙ ap (place_at es) s ∙ here)) in
+          (at.0, place_other es p at.0 other ∙ at.1)
+    ]
+
 pub dropped : (es : List (Addr × Place)) (old new : Slab SlotState) (p key : ℕ) → Without old new key → AreKept es old → place_at es p ≡ Key key → Dropped es old new p
 dropped es old new p key w kept here =
     let alone = λ (q : ℕ) (m : place_at es q ≡ Key key). kept.alone q p key m here in
@@ -86,6 +98,7 @@ dropped es old new p key w kept here =
             let ne : k ≢ key = λ e. s.0 (alone q (s.1 ∙ ap Key e)) in
             subst (λ (o : Option SlotState). IsSome o) (sym (w.others k ne)) (kept.there q k s.1);
         alone = λ q r k m n. kept.alone q r k (still_there es p q k m).1 (still_there es p r k n).1;
+        placed = λ k some. placed_still es old new p key k w kept here some;
         counters = subst HaveCounters (sym rows) (counters_changed (map (row_of old) es) p (gone row) kept.counters refl);
         short = subst (AreShort PAYLOAD) (sym rows) (short_changed (map (row_of old) es) p (gone row) kept.short tt);
         apart = subst AreApart (sym rows) (apart_changed (map (row_of old) es) p (gone row) kept.apart refl);
@@ -93,16 +106,6 @@ dropped es old new p key w kept here =
       };
       rows = rows;
     }
-
-past_gone : (es : List (Addr × Place)) (p : ℕ) → length es ≤ p → place_at es p ≡ Gone
-past_gone es p h = ap (λ (e : Addr × Place). e.1) (get_or_past es p no_entry_at h)
-
-pub leads_within : (es : List (Addr × Place)) (p k : ℕ) → place_at es p ≡ Key k → p < length es
-leads_within es p k here =
-    elim (cases_lt p (length es)) [
-      | inl h ↦ h
-      | inr h ↦ let n : Gone ≡ Key k = sym (past_gone es p h) ∙ here in absurd (cc)
-    ]
 
 reply_go : (o : Option SlotState) → IsSome o → Done ≡ unless_gone drop_answer o
 reply_go None h = absurd (cc)

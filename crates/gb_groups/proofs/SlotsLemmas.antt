@@ -1,5 +1,5 @@
 -- A write under one key changes one group.
-use Rattle.std.proofs.Common.{◌≡◌, ℕ, zero, suc, ◌<◌, List, [], ◌∷◌, length, map, get_or, refl, ap, sym, ◌∙◌, subst, arith, inl, inr}
+use Rattle.std.proofs.Common.{◌≡◌, ℕ, zero, suc, ◌<◌, ◌≤◌, List, [], ◌∷◌, length, map, get_or, refl, ap, sym, ◌∙◌, subst, arith, inl, inr}
 use Rattle.std.specs.List.{position_or_len}
 use Rattle.std.specs.Prelude.{Bool, cond, not, nat_lt, ◌+◌, Option, Some, None, IsSome, IfSome, option_map, option_copied, position}
 use Rattle.std.specs.Borrow.{Bor}
@@ -20,6 +20,17 @@ use Rattle.gb_groups.specs.Slots.{slot_under, row_of, place_at, AreKept}
 -- what stands past the end of the entries
 abbrev pub no_entry_at : Addr × Place
 no_entry_at = record { 0 = record { tenant = 0; group = 0; generation = 0 }; 1 = Gone }
+
+past_gone : (es : List (Addr × Place)) (p : ℕ) → length es ≤ p → place_at es p ≡ Gone
+past_gone es p h = ap (λ (e : Addr × Place). e.1) (get_or_past es p no_entry_at h)
+
+-- a place that leads to a key is one of these
+pub leads_within : (es : List (Addr × Place)) (p k : ℕ) → place_at es p ≡ Key k → p < length es
+leads_within es p k here =
+    elim (cases_lt p (length es)) [
+      | inl h ↦ h
+      | inr h ↦ let n : Gone ≡ Key k = sym (past_gone es p h) ∙ here in absurd (cc)
+    ]
 
 -- a slot that is there stands within the slab
 pub some_within : (slots : Slab SlotState) (k : ℕ) (v : SlotState) → Some v ≡ get slots k → k < length slots.slots
@@ -122,6 +133,10 @@ changed f es slots p k v new kept here at is size stays =
           | inr ne ↦ subst (λ (o : Option SlotState). IsSome o) (sym (get_or-set_other slots.slots k j (Some new) None ne)) (kept.there q j m)
         ];
         alone = kept.alone;
+        placed = λ j some. elim (cases_eq j k) [
+          | inl e ↦ (p, here ∙ ap Key (sym e))
+          | inr ne ↦ kept.placed j (subst (λ (o : Option SlotState). IsSome o) (get_or-set_other slots.slots k j (Some new) None ne) some)
+        ];
         counters = subst HaveCounters (sym rows) (counters_changed (map (row_of slots) es) p (on_slot f (row_at (map (row_of slots) es) p)) kept.counters count);
         short = subst (AreShort PAYLOAD) (sym rows) (short_changed (map (row_of slots) es) p (on_slot f (row_at (map (row_of slots) es) p)) kept.short short);
         apart = record { apart = λ q r hq hr same. kept.apart.apart q r (omega arith) (omega arith) (sym (addr q) ∙ same ∙ addr r) };

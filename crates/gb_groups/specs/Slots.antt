@@ -25,10 +25,11 @@ slots_of entries slots = record { rows = map (row_of slots) entries }
 abbrev pub place_at : List (Addr × Place) → ℕ → Place
 place_at entries p = (slice_index_or entries p (record { 0 = record { tenant = 0; group = 0; generation = 0 }; 1 = Gone })).1
 
--- each key has a slot, and no two places have one key; what slots know is within the limits
+-- each key has a slot, no two places have one key, and each slot stands at some place; what slots know is within the limits
 pub record AreKept (entries : List (Addr × Place)) (slots : Slab SlotState) : Type 0 where
   pub there : (p k : ℕ) → place_at entries p ≡ Key k → IsSome (get slots k)
   pub alone : (p q k : ℕ) → place_at entries p ≡ Key k → place_at entries q ≡ Key k → p ≡ q
+  pub placed : (k : ℕ) → IsSome (get slots k) → (p : ℕ) × (place_at entries p ≡ Key k)
   pub counters : HaveCounters (map (row_of slots) entries)
   pub short : AreShort PAYLOAD (map (row_of slots) entries)
   pub apart : AreApart (map (row_of slots) entries)

@@ -8,7 +8,8 @@ use Rattle.gb_groups.specs.declared.slots.Slots.TheInside.{Inside}
 use Rattle.gb_groups.specs.declared.slots.Place.TheVariants.{Gone}
 use Rattle.gb_groups.specs.SlotsValue.{SlotsValue, row_at, gone, unless_gone}
 use Rattle.gb_groups.specs.Slots.{row_of, AreKept, AreLent}
-use Rattle.gb_groups.proofs.DropLemmas.{Without, dropped, leads_within, reply_here}
+use Rattle.gb_groups.proofs.DropLemmas.{Without, dropped, reply_here}
+use Rattle.gb_groups.proofs.SlotsLemmas.{leads_within}
 use Rattle.gb_groups.proofs.LentLemmas.{lent_dropped}
 use Rattle.gb_groups.proofs.slots.Slots.remove.Goals as goal
 use Rattle.gb_groups.proofs.slots.Slots.remove.Goals.{in-Some-get_index_mut, in_default-get_index_mut}
@@ -23,7 +24,7 @@ invariant_of-self c =
       | in-Some-get_index_mut w ↦ w.self-inside-is
       | in_default-get_index_mut w ↦ let f = w.in_default-get_index_mut.ensures.found.1 (leads_within es p key c.in-Some.ensures) in absurd (cc)
     ] in
-    let without : Without slots c.try_remove.new.self key = record { others = λ k ne. c.try_remove.ensures.updates.others k ne ∙ ap (λ (i : Inside). get i.slots k) at } in
+    let without : Without slots c.try_remove.new.self key = record { gone = c.try_remove.ensures.updates.changed; others = λ k ne. c.try_remove.ensures.updates.others k ne ∙ ap (λ (i : Inside). get i.slots k) at } in
     let after = dropped es slots c.try_remove.new.self p key without c.self.invariant.0 c.in-Some.ensures in (
       subst (λ (i : Inside). AreKept i.places.entries c.try_remove.new.self) (sym at) after.kept,
       subst (λ (i : Inside). AreLent c.try_remove.new.self i.effects) (sym at) (lent_dropped slots c.try_remove.new.self key c.self.inside.effects without c.try_remove.ensures.updates.changed c.self.invariant.1),
@@ -43,7 +44,7 @@ returns-clause-rows c =
       | in-Some-get_index_mut w ↦ w.self-inside-is
       | in_default-get_index_mut w ↦ let f = w.in_default-get_index_mut.ensures.found.1 (leads_within es p key c.in-Some.ensures) in absurd (cc)
     ] in
-    let without : Without slots c.try_remove.new.self key = record { others = λ k ne. c.try_remove.ensures.updates.others k ne ∙ ap (λ (i : Inside). get i.slots k) at } in
+    let without : Without slots c.try_remove.new.self key = record { gone = c.try_remove.ensures.updates.changed; others = λ k ne. c.try_remove.ensures.updates.others k ne ∙ ap (λ (i : Inside). get i.slots k) at } in
     let after = dropped es slots c.try_remove.new.self p key without c.self.invariant.0 c.in-Some.ensures in
     ap (λ (i : Inside). map (row_of c.try_remove.new.self) i.places.entries) at ∙ after.rows ∙ ap (λ (w : SlotsValue). set w.rows p (gone (row_at w.rows p))) c.self.view_is
 
