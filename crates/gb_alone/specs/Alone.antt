@@ -1,6 +1,7 @@
 -- One group, by itself: no links, frames, packets or other groups. Histories have the newest first.
 use Rattle.std.specs.Prelude.{ℕ, zero, suc, ◌+◌, ◌-◌, ◌≡◌, ◌≤◌, ◌<◌, ◌&&◌, ◌||◌, not, Bool, true, false, List, [], ◌∷◌, ◌++◌, length, fold, take, Option, Some, None, is_some, option_map, slice_get, nat_eq, if◌then◌else◌}
 use Rattle.std.specs.List.{list_all, list_any, range_with_len}
+use Rattle.std.specs.Option.{option_map_or}
 use Rattle.gb_types.specs.Rising.{rising}
 use Rattle.gb_types.specs.Version.{version_at}
 use Rattle.gb_types.specs.declared.entry.Entry.{Entry}
@@ -55,8 +56,7 @@ Group = ℕ → Member
 
 -- what was delivered at a node
 abbrev pub log_at : ℕ → Option Spec → List GroupCall → List Entry
-log_at me None told = []
-log_at me (Some spec) told = log_of spec me told
+log_at me o told = option_map_or (λ spec. log_of spec me told) o []
 
 -- the spec of a group that was made and not dropped
 abbrev pub held_spec : Phase → Option Spec → Option Spec

@@ -61,8 +61,16 @@ is_tagged key bytes = pointwise nat_eq (tag_in bytes) (tag_of key (tagged_in byt
 -- the bytes are the text of a packet under the key, by the limits of the version that they name
 abbrev pub is_packet : List ℕ → List ℕ → Bool
 is_packet key bytes =
-    nat_le SHORTEST (length bytes) && (is_magic bytes && (is_some (version_named (version_in bytes)) && (is_between_nodes (limits_of (version_read bytes)).nodes bytes && (is_acknowledgement bytes
-    && (is_counted bytes && (is_some (parsed bytes) && (nat_eq (length (left_over (parsed bytes))) 0 && (nat_le (length bytes) (limits_of (version_read bytes)).packet && is_tagged key bytes))))))))
+    nat_le SHORTEST (length bytes)
+    && (is_magic bytes
+    && (is_some (version_named (version_in bytes))
+    && (is_between_nodes (limits_of (version_read bytes)).nodes bytes
+    && (is_acknowledgement bytes
+    && (is_counted bytes
+    && (is_some (parsed bytes)
+    && (nat_eq (length (left_over (parsed bytes))) 0
+    && (nat_le (length bytes) (limits_of (version_read bytes)).packet
+    && is_tagged key bytes))))))))
 
 -- the test of each fault, by the limits of the version that was read
 abbrev pub test : List ℕ → List ℕ → PacketFault → Bool

@@ -28,7 +28,7 @@ use Rattle.gb_frame.specs.Items.{entry_of, names, items_for}
 use Rattle.gb_rules.specs.Lifetime.{stepped, where_so}
 use Rattle.gb_node.specs.Past.{numbered}
 use Rattle.gb_node.specs.PastGroups.{Told, waiting_of, items_freed, finished_by, done_told}
-use Rattle.gb_isolation.specs.Project.{group_items, group_items_of, offset, acknowledged, all_acknowledged}
+use Rattle.gb_isolation.specs.Project.{group_items, group_items_of, offset, if_any, all_acknowledged}
 use Rattle.gb_isolation.proofs.View.{View, MemberIs, AreMarked, KeepsAcks, IsInside, Fits, Goes, said_of, acknowledged_of}
 use Rattle.gb_isolation.proofs.GoesLemmas.{legal-append, after_there, after_elsewhere}
 use Rattle.gb_isolation.proofs.MemberLemmas.{same_member}
@@ -351,7 +351,7 @@ same_acked bounds g me from group next given added other same was = record {
 -- one frame's items are acknowledged
 frame_acked : (bounds : Bounds) (g : Addr) (me from : NodeId) (before count : ℕ) (group : Group) → (group me.number).stopped ≡ false
     → ((place : ℕ) → is_between before (before + count) place ≡ true → (is_marked place ((group from.number).come me.number) ≡ true) × (is_marked place ((group me.number).done from.number) ≡ false))
-    → Acked bounds g me from group (alone_from bounds g group (acknowledged me from (before + 1) count)) (acknowledged me from (before + 1) count) (is_between before (before + count))
+    → Acked bounds g me from group (alone_from bounds g group (if_any me count (Acknowledged from (before + 1) count))) (if_any me count (Acknowledged from (before + 1) count)) (is_between before (before + count))
 frame_acked bounds g me from before zero group running may = none_acked bounds g me from group (is_between before (before + 0)) (λ place. grind (arith, nat_tests))
 frame_acked bounds g me from before (suc k) group running may = record {
   legal = ((running, omega arith, λ place low high. may place (grind (arith, nat_tests, low, high))), tt);
@@ -409,8 +409,8 @@ all_acked bounds g me from new n before (f ∷ fs) group apart running may = go 
     go (inr old) rest = rw old (same_acked bounds g me from group (alone_from bounds g group later) later (is_in g new (n + 1) (before + count) fs) (is_in g new n before (f ∷ fs)) (λ place. ap (λ b. (b && is_between before (before + count) place) || is_in g new (n + 1) (before + count) fs place) old) (rest group apart running (λ place is. may place (or_right (new n && is_between before (before + count) place) (is_in g new (n + 1) (before + count) fs place) is))))
     go (inl now) rest =
         let one = frame_acked bounds g me from before count group running (λ place is. may place (rw (now, is) refl)) in
-        let mid : Group = alone_from bounds g group (acknowledged me from (before + 1) count) in
-        rw now (acked-append bounds g me from group mid (acknowledged me from (before + 1) count) later (is_between before (before + count)) (is_in g new (n + 1) (before + count) fs) (is_in g new n before (f ∷ fs)) refl (λ place. ap (λ b. (b && is_between before (before + count) place) || is_in g new (n + 1) (before + count) fs place) now) one
+        let mid : Group = alone_from bounds g group (if_any me count (Acknowledged from (before + 1) count)) in
+        rw now (acked-append bounds g me from group mid (if_any me count (Acknowledged from (before + 1) count)) later (is_between before (before + count)) (is_in g new (n + 1) (before + count) fs) (is_in g new n before (f ∷ fs)) refl (λ place. ap (λ b. (b && is_between before (before + count) place) || is_in g new (n + 1) (before + count) fs place) now) one
         (rest mid apart (ap (λ (m : Member). m.stopped) one.member ∙ running) (λ place is.
         let was = may place (or_right (new n && is_between before (before + count) place) (is_in g new (n + 1) (before + count) fs place) is) in
         let above = in_above g new (n + 1) (before + count) fs place is in (

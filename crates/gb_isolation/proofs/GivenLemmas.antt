@@ -39,7 +39,7 @@ use Rattle.gb_cluster.specs.Run.{Did, past_at}
 use Rattle.gb_types.specs.declared.plan.Plan.{Plan}
 use Rattle.gb_types.specs.declared.plan.Bounds.{Bounds}
 use Rattle.gb_types.specs.Version.{bounds_of}
-use Rattle.gb_isolation.specs.Project.{group_items, group_items_of, offset, is_named, is_own_request, command_for, made_with, notices, tenant_given, is_met, with_stop, took, comes, acknowledged, all_acknowledged, is_new_ack, is_new_frame, acknowledges, brings, arrived, ticked, gives}
+use Rattle.gb_isolation.specs.Project.{group_items, group_items_of, offset, is_named, is_own_request, command_for, made_by, made_with, notices, tenant_given, is_met, with_stop, if_any, comes, all_acknowledged, is_new_ack, is_new_frame, acknowledges, brings, arrived, ticked, gives}
 use Rattle.gb_isolation.proofs.NoticeLemmas.{notices_of, notices_there, notices_keep}
 use Rattle.gb_isolation.proofs.GoesLemmas.{after_there}
 use Rattle.gb_isolation.proofs.View.{asked_by, is_noticed_after, own_requested_by}
@@ -73,23 +73,22 @@ is_carrying event = false
 abbrev pub IsCarried : NodeId → GroupStep → Type 0
 IsCarried a step = (step.node ≡ a) × (is_carrying step.event ≡ true)
 
-pub carried_took : (a b : NodeId) (k : ℕ) → AllAre (IsCarried a) (took a b k)
-carried_took a b zero = tt
-carried_took a b (suc k) = ((refl, refl), tt)
+pub carried_any : (a : NodeId) (k : ℕ) (event : GroupEvent) → is_carrying event ≡ true → AllAre (IsCarried a) (if_any a k event)
+carried_any a zero event is = tt
+carried_any a (suc k) event is = ((refl, is), tt)
 
 carried_comes : (from to : NodeId) (place k : ℕ) → AllAre (IsCarried to) (comes from to place k)
 carried_comes from to place zero = tt
 carried_comes from to place (suc k) = ((refl, refl), carried_comes from to (place + 1) k)
 
-carried_acknowledged : (a b : NodeId) (place k : ℕ) → AllAre (IsCarried a) (acknowledged a b place k)
-carried_acknowledged a b place zero = tt
-carried_acknowledged a b place (suc k) = ((refl, refl), tt)
-
 carried_all : (g : Addr) (a b : NodeId) (test : ℕ → Bool) (n before : ℕ) (fs : List (List Item)) → AllAre (IsCarried a) (all_acknowledged g a b test n before fs)
 carried_all g a b test n before [] = tt
 carried_all g a b test n before (f ∷ fs) =
-    all_both (IsCarried a) (if test n then acknowledged a b (before + 1) (length (group_items g f)) else []) (all_acknowledged g a b test (n + 1) (before + length (group_items g f)) fs)
-    (elim (test n) as (λ t. AllAre (IsCarried a) (if t then acknowledged a b (before + 1) (length (group_items g f)) else [])) [ true ↦ carried_acknowledged a b (before + 1) (length (group_items g f)) | false ↦ tt ])
+    all_both (IsCarried a) (if test n then if_any a (length (group_items g f)) (Acknowledged b (before + 1) (length (group_items g f))) else []) (all_acknowledged g a b test (n + 1) (before + length (group_items g f)) fs)
+    (elim (test n) as (λ t. AllAre (IsCarried a) (if t then if_any a (length (group_items g f)) (Acknowledged b (before + 1) (length (group_items g f))) else [])) [
+      | true ↦ carried_any a (length (group_items g f)) (Acknowledged b (before + 1) (length (group_items g f))) refl
+      | false ↦ tt
+    ])
     (carried_all g a b test (n + 1) (before + length (group_items g f)) fs)
 
 carried_arrived : (plan : Plan) (g : Addr) (run : List Did) (a : NodeId) (c : Content) → AllAre (IsCarried a) (arrived plan g run a c)
@@ -138,9 +137,14 @@ at_tenant : (g : Addr) (a : NodeId) (request : Request) (reply : Reply) → AllA
 at_tenant g a (AddTenant token row) Done = elim (nat_eq row.tenant g.tenant) as (λ t. AllAre (IsAt a) (if t then record { node = a; event = Tenant (reserve_of row) } ∷ [] else [])) [ true ↦ (refl, tt) | false ↦ tt ]
 at_tenant g a request reply = tt
 
+at_ticked : (a : NodeId) (found : ℕ → Bool) (o : Option Spec) → AllAre (IsAt a) (ticked a found o)
+at_ticked a found None = tt
+at_ticked a found (Some spec) = at_notices a spec found
+
 at_requested : (plan : NodePlan) (g : Addr) (past : List Happened) (request : Request) (reply : Reply) → AllAre (IsAt plan.me) (own_requested_by plan g past request reply)
-at_requested plan g past (Make token addr spec) Done = (refl, at_notices plan.me spec (is_noticed_after plan past))
-at_requested plan g past request reply = at_command g plan.me request
+at_requested plan g past request reply =
+    all_both (IsAt plan.me) (command_for plan.me request) (ticked plan.me (is_noticed_after plan past) (made_by g (Asked request) (Replied reply))) (at_command g plan.me request)
+    (at_ticked plan.me (is_noticed_after plan past) (made_by g (Asked request) (Replied reply)))
 
 at_asked : (plan : NodePlan) (g : Addr) (past : List Happened) (request : Request) (reply : Reply) → AllAre (IsAt plan.me) (asked_by plan g past request reply)
 at_asked plan g past request reply = by (is_stopped past) (is_own_request plan.me g past request)
@@ -152,14 +156,11 @@ at_asked plan g past request reply = by (is_stopped past) (is_own_request plan.m
     by false true = all_both (IsAt plan.me) (tenant_given g plan.me request reply) (own_requested_by plan g past request reply) (at_tenant g plan.me request reply) (at_requested plan g past request reply)
     by false false = all_both (IsAt plan.me) (tenant_given g plan.me request reply) [] (at_tenant g plan.me request reply) tt
 
-at_ticked : (a : NodeId) (found : ℕ → Bool) (o : Option Spec) → AllAre (IsAt a) (ticked a found o)
-at_ticked a found None = tt
-at_ticked a found (Some spec) = at_notices a spec found
-
 -- what an event gives happens where the event does
 pub given_at : (plan : Plan) (g : Addr) (run : List Did) (a : NodeId) (e : NodeEvent) (x : NodeAnswer) → AllAre (IsAt a) (gives plan g run a e x)
 given_at plan g run a (Asked request) (Replied reply) = at_asked (node_plan plan a) g (past_at a run) request reply
-given_at plan g run a (Pack b) (Sent (SentPacket text)) = at_carried a (took a b (length (group_items_of g (map (λ (c : Content). c.items) (read plan.cluster_key text))))) (carried_took a b (length (group_items_of g (map (λ (c : Content). c.items) (read plan.cluster_key text)))))
+given_at plan g run a (Pack b) (Sent (SentPacket text)) =
+    let k : ℕ = length (group_items_of g (map (λ (c : Content). c.items) (read plan.cluster_key text))) in at_carried a (if_any a k (Took b k)) (carried_any a k (Took b k) refl)
 given_at plan g run a (Brought bytes) (Taken (TakenGood good)) = at_carried a (flat_map (arrived plan g run a) (read plan.cluster_key bytes)) (carried_packets plan g run a (read plan.cluster_key bytes))
 given_at plan g run a Tick (Ticked (Noticed found)) = at_ticked a (set.contains found) (made_with g (past_at a run))
 given_at plan g run a e x = tt
@@ -231,8 +232,10 @@ module _ (bounds : Bounds) (plan : NodePlan) (g : Addr) (past : List Happened) (
       → AreDue bounds g group (tenant_given g plan.me request reply ++ own_requested_by plan g past request reply)
   unfolding made_with
   own_due (Make token addr spec) Done named made =
-      making_due bounds g plan.me spec (filter (λ b. is_other spec plan.me.number b && is_noticed_after plan past b) (range_with_len 0 NODES)) group
-      (ap is_some made ∙ ap (λ (t : Bool). is_some (option_or (if t then Some spec else None) (made_with g past))) named)
+      let given : Bool → List GroupStep = λ t. record { node = plan.me; event = AskMake spec } ∷ ticked plan.me (is_noticed_after plan past) (if t then Some spec else None) in
+      subst (λ t. AreDue bounds g group (given t)) (sym named)
+      (making_due bounds g plan.me spec (filter (λ b. is_other spec plan.me.number b && is_noticed_after plan past b) (range_with_len 0 NODES)) group
+      (ap (λ (t : Bool). is_some (alone_from bounds g group (given t) plan.me.number).spec) (sym named) ∙ (ap is_some made ∙ ap (λ (t : Bool). is_some (option_or (if t then Some spec else None) (made_with g past))) named)))
   own_due request reply named made = all_due bounds g (tenant_given g plan.me request reply ++ command_for plan.me request) group (all_both IsPlain (tenant_given g plan.me request reply) (command_for plan.me request) (plain_tenant g plan.me request reply) (plain_command g plan.me request))
 
   asked_due : (request : Request) (reply : Reply) → (alone_from bounds g group (asked_by plan g past request reply) plan.me.number).spec ≡ made_with g (record { event = Asked request; answer = Replied reply } ∷ past)
@@ -257,7 +260,7 @@ pub given_due : (plan : Plan) (g : Addr) (run : List Did) (group : Group) (a : N
 given_due plan g run group a (Asked request) (Replied reply) before now = asked_due (bounds_of plan) (node_plan plan a) g (past_at a run) group request reply now
 given_due plan g run group a (Pack b) (Sent (SentPacket text)) before now =
     let k : ℕ = length (group_items_of g (map (λ (c : Content). c.items) (read plan.cluster_key text))) in
-    all_due (bounds_of plan) g (took a b k) group (plain_carried a (took a b k) (carried_took a b k))
+    all_due (bounds_of plan) g (if_any a k (Took b k)) group (plain_carried a (if_any a k (Took b k)) (carried_any a k (Took b k) refl))
 given_due plan g run group a (Brought bytes) (Taken (TakenGood good)) before now =
     let given : List GroupStep = flat_map (arrived plan g run a) (read plan.cluster_key bytes) in
     all_due (bounds_of plan) g given group (plain_carried a given (carried_packets plan g run a (read plan.cluster_key bytes)))

@@ -1,5 +1,5 @@
 -- What making a group at a running node does to it: the group learns of the nodes that were noticed before.
-use Rattle.gb_isolation.specs.Project.{notices}
+use Rattle.gb_isolation.specs.Project.{notices, ticked}
 use Rattle.std.proofs.Common.{◌≡◌, ℕ, ◌<◌, List, [], ◌∷◌, ◌++◌, length, Option, Some, None, Bool, true, false, ◌&&◌, ◌||◌, refl, sym, ◌∙◌, ap, subst, arith}
 use Rattle.std.specs.Option.{option_or}
 use Rattle.std.specs.Prelude.{if◌then◌else◌, is_some, nat_le, option_map}
@@ -181,7 +181,9 @@ module _ (plan : NodePlan) (versions : List Version) (g : Addr) (past : List Hap
       view_own plan g past (Make token addr spec) Done (Some (Some (told_first spec plan.me noticed))) (Some spec) running own refl
       (ap (λ o. or_added o (if is_addr g addr then Some (Some (told_first spec plan.me noticed)) else None)) free ∙ ap (λ b. if b then Some (Some (told_first spec plan.me noticed)) else None) named)
       (ap (λ b. option_or (if b then Some spec else None) (made_with g past)) named) in
-      subst (λ es. Goes (bounds_with plan versions) g plan.me frames_from (view_of plan g (asking (Make token addr spec) Done ∷ past)) group es) (sym (given_own plan versions g past (Make token addr spec) Done frames_from group running own ∙ ap (λ (new : ℕ → Bool). record { node = plan.me; event = AskMake spec } ∷ notices plan.me spec new) silent))
+      subst (λ es. Goes (bounds_with plan versions) g plan.me frames_from (view_of plan g (asking (Make token addr spec) Done ∷ past)) group es) (sym (given_own plan versions g past (Make token addr spec) Done frames_from group running own
+      ∙ (ap (λ (t : Bool). record { node = plan.me; event = AskMake spec } ∷ ticked plan.me (is_noticed_after plan past) (if t then Some spec else None)) named
+      ∙ ap (λ (new : ℕ → Bool). record { node = plan.me; event = AskMake spec } ∷ notices plan.me spec new) silent)))
       (subst (λ (v : View). Goes (bounds_with plan versions) g plan.me frames_from v group (record { node = plan.me; event = AskMake spec } ∷ notices_of plan.me (noticed_members spec plan.me.number before.noticed))) (sym later)
       (made_goes (bounds_with plan versions) g plan.me frames_from before group spec noticed refl below free unmet_here answered fits))
   made_by_reply r running own named is silent below fits =

@@ -28,7 +28,7 @@ use Rattle.gb_node.specs.declared.answer.NodeAnswer.TheVariants.{Sent}
 use Rattle.gb_node.specs.declared.answer.Sent.TheVariants.{Packet as SentPacket}
 use Rattle.gb_node.specs.declared.event.NodeEvent.TheVariants.{Pack}
 use Rattle.gb_node.specs.declared.plan.NodePlan.{NodePlan}
-use Rattle.gb_isolation.specs.Project.{group_items, group_items_of, made_with, replies_in, is_met, took}
+use Rattle.gb_isolation.specs.Project.{group_items, group_items_of, made_with, replies_in, is_met, if_any}
 use Rattle.gb_isolation.proofs.View.{View, view_of, Fits, Goes, MemberIs, AreMarked, KeepsAcks, IsInside, said_of, acknowledged_of, bounds_with}
 use Rattle.gb_isolation.proofs.AcknowledgedLemmas.{none_acknowledged, acknowledged-append}
 use Rattle.gb_isolation.proofs.GoesLemmas.{goes_none, goes_one}
@@ -208,7 +208,7 @@ module _ (plan : NodePlan) (versions : List Version) (g : Addr) (past : List Hap
           by true is = let low = acked_within plan.cluster_key x n past is in absurd (omega (arith, low, far))
           by false is = is
 
-  goes_by : (n : ℕ) → n ≡ k → Goes (bounds_with plan versions) g plan.me frames_from (view_packed b f k v) group (took plan.me b n)
+  goes_by : (n : ℕ) → n ≡ k → Goes (bounds_with plan versions) g plan.me frames_from (view_packed b f k v) group (if_any plan.me n (Took b n))
   goes_by zero is = goes_none (bounds_with plan versions) g plan.me frames_from (view_packed b f k v) group (subst (Fits plan.nodes g plan.me.number frames_from (view_packed b f k v)) same fits_took)
     where
       same : member_took b k m ≡ m
@@ -226,7 +226,7 @@ module _ (plan : NodePlan) (versions : List Version) (g : Addr) (past : List Hap
           (was.stopped ∙ running_unmet plan g past right.running, omega arith, omega (arith, taken, is, right.enough g, ap length put, length-append (group_items_of g (v.frames b.number)) waits))
 
   -- a packet is packed
-  pub packed_goes : Goes (bounds_with plan versions) g plan.me frames_from (view_of plan g (packing b text ∷ past)) group (took plan.me b (length (group_items_of g (map (λ (c : Content). c.items) (read plan.cluster_key text)))))
+  pub packed_goes : Goes (bounds_with plan versions) g plan.me frames_from (view_of plan g (packing b text ∷ past)) group (if_any plan.me (length (group_items_of g (map (λ (c : Content). c.items) (read plan.cluster_key text)))) (Took b (length (group_items_of g (map (λ (c : Content). c.items) (read plan.cluster_key text))))))
   packed_goes =
-      subst (λ w. Goes (bounds_with plan versions) g plan.me frames_from w group (took plan.me b (length (group_items_of g (map (λ (c : Content). c.items) (read plan.cluster_key text)))))) (sym (packed_view plan g past b text right.content right.text_is))
+      subst (λ w. Goes (bounds_with plan versions) g plan.me frames_from w group (if_any plan.me (length (group_items_of g (map (λ (c : Content). c.items) (read plan.cluster_key text)))) (Took b (length (group_items_of g (map (λ (c : Content). c.items) (read plan.cluster_key text))))))) (sym (packed_view plan g past b text right.content right.text_is))
       (goes_by (length (group_items_of g (map (λ (c : Content). c.items) (read plan.cluster_key text)))) (ap (λ cs. length (group_items_of g (map (λ (c : Content). c.items) cs))) right.text_is ∙ (ap length (group_items_of-one g f) ∙ long)))

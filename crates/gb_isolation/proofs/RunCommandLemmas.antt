@@ -14,7 +14,7 @@ use Rattle.gb_types.specs.declared.request.Request.TheVariants.{AddTenant, Make,
 use Rattle.gb_types.proofs.SameLemmas.{same_number}
 use Rattle.gb_alone.specs.Laws.{accepted_in}
 use Rattle.gb_alone.specs.declared.event.GroupEvent.{GroupEvent}
-use Rattle.gb_alone.specs.declared.event.GroupEvent.TheVariants.{Make as AskMake, Open as AskOpen, Shut as AskShut, Drop as AskDrop, Say as AskSay, Fetch as AskFetch}
+use Rattle.gb_alone.specs.declared.event.GroupEvent.TheVariants.{Make as AskMake, Open as AskOpen, Shut as AskShut, Drop as AskDrop, Say as AskSay, Fetch as AskFetch, Took}
 use Rattle.gb_alone.specs.declared.event.GroupStep.{GroupStep}
 use Rattle.gb_alone.proofs.CommandLemmas.{command_in, commands_at, commands, commands-append, Pairs, pairs_append, no_pairs, one_pair}
 use Rattle.gb_node.specs.StepLaw.{has_group_token}
@@ -31,17 +31,19 @@ use Rattle.gb_cluster.specs.ClusterValue.{node_plan}
 use Rattle.gb_cluster.specs.Run.{Did, past_at}
 use Rattle.gb_types.specs.declared.plan.Plan.{Plan}
 use Rattle.gb_cluster.proofs.NodesLemmas.{past_same, past_other}
-use Rattle.gb_isolation.specs.Project.{group_items_of, is_named, is_own_request, command_for, made_with, tenant_given, is_met, with_stop, took, arrived, ticked, gives, project, reply_in, replies_in}
+use Rattle.gb_isolation.specs.Project.{group_items_of, is_named, is_own_request, command_for, made_by, made_with, tenant_given, is_met, with_stop, if_any, arrived, ticked, gives, project, reply_in, replies_in}
 use Rattle.gb_isolation.specs.RunLaws.{said_by, accepted_by, accepted_in_past}
-use Rattle.gb_isolation.proofs.GivenLemmas.{carried_took, carried_packets, given_at, no_commands_elsewhere, no_commands_carried, no_commands_notices, no_commands_ticked, no_commands_tenant, commands_stopped}
+use Rattle.gb_isolation.proofs.GivenLemmas.{carried_any, carried_packets, given_at, no_commands_elsewhere, no_commands_carried, no_commands_ticked, no_commands_tenant, commands_stopped}
 use Rattle.gb_isolation.proofs.View.{asked_by, is_noticed_after, own_requested_by}
 use Rattle.gb_frame.specs.Packet.{Content}
 
 -- what a request gives besides the command is no command
 commands_own : (plan : NodePlan) (g : Addr) (past : List Happened) (s : ℕ) (request : Request) (reply : Reply) → commands s (own_requested_by plan g past request reply) ≡ commands s (command_for plan.me request)
 unfolding commands
-commands_own plan g past s (Make token addr spec) Done = ap (λ es. commands_at s (record { node = plan.me; event = AskMake spec }) ++ es) (no_commands_notices s plan.me spec (is_noticed_after plan past))
-commands_own plan g past s request reply = refl
+commands_own plan g past s request reply =
+    commands-append s (command_for plan.me request) (ticked plan.me (is_noticed_after plan past) (made_by g (Asked request) (Replied reply)))
+    ∙ (ap (λ es. commands s (command_for plan.me request) ++ es) (no_commands_ticked s plan.me (is_noticed_after plan past) (made_by g (Asked request) (Replied reply)))
+    ∙ append-nil (commands s (command_for plan.me request)))
 
 commands_asked : (plan : NodePlan) (g : Addr) (past : List Happened) (s : ℕ) (request : Request) (reply : Reply) → commands s (asked_by plan g past request reply) ≡ commands s (if is_own_request plan.me g past request then command_for plan.me request else [])
 commands_asked plan g past s request reply = by (is_stopped past) (is_own_request plan.me g past request)
@@ -92,7 +94,7 @@ unfolding commands
 given_pairs plan g run a (Asked request) (Replied reply) = reply_pairs (node_plan plan a) g (past_at a run) request reply
 given_pairs plan g run a (Pack b) (Sent (SentPacket text)) =
     let k : ℕ = length (group_items_of g (map (λ (c : Content). c.items) (read plan.cluster_key text))) in
-    none_paired (commands a.number (took a b k)) (no_commands_carried a.number a (took a b k) (carried_took a b k))
+    none_paired (commands a.number (if_any a k (Took b k))) (no_commands_carried a.number a (if_any a k (Took b k)) (carried_any a k (Took b k) refl))
 given_pairs plan g run a (Brought bytes) (Taken (TakenGood good)) =
     let given : List GroupStep = flat_map (arrived plan g run a) (read plan.cluster_key bytes) in
     none_paired (commands a.number given) (no_commands_carried a.number a given (carried_packets plan g run a (read plan.cluster_key bytes)))

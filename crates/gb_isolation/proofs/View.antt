@@ -1,5 +1,5 @@
 -- What a group has at a node, read from the node's past, and how it stands for the group alone.
-use Rattle.std.specs.Prelude.{ℕ, ◌+◌, ◌≡◌, ◌≢◌, ◌≤◌, ◌<◌, ◌&&◌, not, nat_eq, nat_lt, Bool, true, false, List, [], ◌++◌, length, Option, Some, None, is_some, option_map}
+use Rattle.std.specs.Prelude.{ℕ, ◌+◌, ◌≡◌, ◌≢◌, ◌≤◌, ◌<◌, ◌&&◌, not, nat_eq, nat_lt, Bool, true, false, List, [], ◌++◌, length, Option, Some, None, is_some, option_map, if◌then◌else◌}
 use Rattle.std.specs.FinSet as set
 use Rattle.gb_types.specs.declared.address.Addr.{Addr}
 use Rattle.gb_types.specs.declared.entry.Entry.{Entry}
@@ -18,6 +18,8 @@ use Rattle.gb_alone.specs.Alone.{Member, Group, alone, alone_from, is_marked, is
 use Rattle.gb_alone.specs.declared.event.GroupStep.{GroupStep}
 use Rattle.gb_node.specs.NodeStep.{node_numbered}
 use Rattle.gb_node.specs.Past.{Happened, frames_to, is_acked, is_taken, tenants_in, watched}
+use Rattle.gb_node.specs.declared.answer.NodeAnswer.TheVariants.{Reply as Replied}
+use Rattle.gb_node.specs.declared.event.NodeEvent.TheVariants.{Request as Asked}
 use Rattle.gb_node.specs.PastGroups.{Told, noticed_after, waiting_of, told_of}
 use Rattle.gb_node.specs.declared.plan.NodePlan.{NodePlan}
 use Rattle.gb_cluster.specs.ClusterValue.{node_plan}
@@ -26,7 +28,7 @@ use Rattle.gb_types.specs.declared.plan.Plan.{Plan}
 use Rattle.gb_types.specs.declared.plan.Bounds.{Bounds}
 use Rattle.gb_types.specs.declared.version.Version.{Version}
 use Rattle.gb_types.specs.Version.{bounds_of}
-use Rattle.gb_isolation.specs.Project.{project, asked, requested, own_requested, group_items_of, offset, made_with, replies_in, is_met}
+use Rattle.gb_isolation.specs.Project.{project, asked, is_own_request, command_for, tenant_given, ticked, group_items_of, offset, made_by, made_with, replies_in, is_met}
 
 -- What a group has at a node.
 pub record View : Type 0 where
@@ -165,10 +167,10 @@ abbrev pub is_noticed_after : NodePlan → List Happened → ℕ → Bool
 is_noticed_after plan past b = (nat_lt b plan.nodes && not (nat_eq b plan.me.number)) && is_noticed plan.silence b (watched plan.cluster_key past)
 
 abbrev pub own_requested_by : NodePlan → Addr → List Happened → Request → Reply → List GroupStep
-own_requested_by plan g past request reply = own_requested plan.me g (is_noticed_after plan past) request reply
+own_requested_by plan g past request reply = command_for plan.me request ++ ticked plan.me (is_noticed_after plan past) (made_by g (Asked request) (Replied reply))
 
 abbrev pub requested_by : NodePlan → Addr → List Happened → Request → Reply → List GroupStep
-requested_by plan g past request reply = requested plan.me g (is_noticed_after plan past) past request reply
+requested_by plan g past request reply = tenant_given g plan.me request reply ++ (if is_own_request plan.me g past request then own_requested_by plan g past request reply else [])
 
 abbrev pub asked_by : NodePlan → Addr → List Happened → Request → Reply → List GroupStep
 asked_by plan g past request reply = asked plan.me g (is_noticed_after plan past) past request reply

@@ -44,8 +44,7 @@ abbrev pub group_items : Addr → List Item → List Entry
 group_items g frame = map entry_of (items_for g frame)
 
 unfoldable pub group_items_of : Addr → List (List Item) → List Entry
-group_items_of g [] = []
-group_items_of g (f ∷ fs) = group_items g f ++ group_items_of g fs
+group_items_of g frames = flat_map (group_items g) frames
 
 -- how many items of the group there are in the first n of these frames
 abbrev pub offset : Addr → List (List Item) → ℕ → ℕ
@@ -55,8 +54,7 @@ offset g fs n = length (group_items_of g (take n fs))
 
 -- a good packet of the node b with this frame number came before
 unfoldable pub has_come : List ℕ → ℕ → ℕ → List Happened → Bool
-has_come key b n [] = false
-has_come key b n (h ∷ past) = list_any (is_frame b n) (came key h.event h.answer) || has_come key b n past
+has_come key b n past = list_any (λ (h : Happened). list_any (is_frame b n) (came key h.event h.answer)) past
 
 -- Requests.
 
@@ -99,18 +97,13 @@ is_noticed_at plan a past b = (nat_lt b plan.nodes && not (nat_eq b a.number)) &
 abbrev pub notices : NodeId → Spec → (ℕ → Bool) → List GroupStep
 notices a spec new = map (λ b. record { node = a; event = Notice (node_numbered b) }) (filter (λ b. is_other spec a.number b && new b) (range_with_len 0 NODES))
 
--- what a request of the group gives it at a running node; made, it learns of the members that are noticed there
-abbrev pub own_requested : NodeId → Addr → (ℕ → Bool) → Request → Reply → List GroupStep
-own_requested a g noticed (Make token addr spec) Done = record { node = a; event = AskMake spec } ∷ notices a spec noticed
-own_requested a g noticed request reply = command_for a request
+-- a made group learns of these nodes that they are noticed, if they are other members
+abbrev pub ticked : NodeId → (ℕ → Bool) → Option Spec → List GroupStep
+ticked a found made = option_map_or (λ spec. notices a spec found) made []
 
 abbrev pub tenant_given : Addr → NodeId → Request → Reply → List GroupStep
 tenant_given g a (AddTenant token row) Done = if nat_eq row.tenant g.tenant then record { node = a; event = Tenant (reserve_of row) } ∷ [] else []
 tenant_given g a request reply = []
-
--- what any request with its reply gives the group at a running node
-abbrev pub requested : NodeId → Addr → (ℕ → Bool) → List Happened → Request → Reply → List GroupStep
-requested a g noticed past request reply = tenant_given g a request reply ++ (if is_own_request a g past request then own_requested a g noticed request reply else [])
 
 -- a request of the group is asked at a node that has stopped
 abbrev pub is_met_by : NodeId → Addr → List Happened → NodeEvent → NodeAnswer → Bool
@@ -127,34 +120,32 @@ abbrev pub with_stop : NodeId → Bool → List GroupStep → List GroupStep
 with_stop a met [] = []
 with_stop a met (c ∷ commands) = if met then c ∷ commands else record { node = a; event = Ends } ∷ c ∷ commands
 
--- what a request with its reply gives the group: a node that has stopped gives its commands alone
+-- A node that has stopped gives the group its commands alone. At a running node a request that makes the group gives it
+-- the notices of the members that are noticed there, too.
 abbrev pub asked : NodeId → Addr → (ℕ → Bool) → List Happened → Request → Reply → List GroupStep
 asked a g noticed past request reply =
     if is_stopped past then (if is_own_request a g past request then with_stop a (is_met a g past) (command_for a request) else [])
-    else requested a g noticed past request reply
+    else tenant_given g a request reply
+    ++ (if is_own_request a g past request then command_for a request ++ ticked a noticed (made_by g (Asked request) (Replied reply)) else [])
 
 -- Links.
 
--- so many items of the group are carried, where there are any
-abbrev pub took : NodeId → NodeId → ℕ → List GroupStep
-took a b zero = []
-took a b (suc k) = record { node = a; event = Took b (suc k) } ∷ []
+-- the event at the node, if it is of some items
+abbrev pub if_any : NodeId → ℕ → GroupEvent → List GroupStep
+if_any a zero event = []
+if_any a (suc k) event = record { node = a; event = event } ∷ []
 
 -- so many items come, with the places after this one
 abbrev pub comes : NodeId → NodeId → ℕ → ℕ → List GroupStep
 comes from to place zero = []
 comes from to place (suc k) = record { node = to; event = Came from (place + 1) } ∷ comes from to (place + 1) k
 
--- so many items are acknowledged, from a place on, where there are any
-abbrev pub acknowledged : NodeId → NodeId → ℕ → ℕ → List GroupStep
-acknowledged a b place zero = []
-acknowledged a b place (suc k) = record { node = a; event = Acknowledged b place (suc k) } ∷ []
-
 -- of these frames from a to b, of which the first has the number n and stands behind so many items of the group, those are acknowledged whose numbers pass the test
 abbrev pub all_acknowledged : Addr → NodeId → NodeId → (ℕ → Bool) → ℕ → ℕ → List (List Item) → List GroupStep
 all_acknowledged g a b new n before [] = []
 all_acknowledged g a b new n before (f ∷ fs) =
-    (if new n then acknowledged a b (before + 1) (length (group_items g f)) else []) ++ all_acknowledged g a b new (n + 1) (before + length (group_items g f)) fs
+    let count = length (group_items g f) in
+    (if new n then if_any a count (Acknowledged b (before + 1) count) else []) ++ all_acknowledged g a b new (n + 1) (before + length (group_items g f)) fs
 
 -- the packet acknowledges the frame with this number for the first time
 abbrev pub is_new_ack : List ℕ → List Happened → Content → ℕ → Bool
@@ -174,17 +165,13 @@ brings plan g run a c = comes (node_numbered c.from) a (offset g (frames_to plan
 abbrev pub arrived : Plan → Addr → List Did → NodeId → Content → List GroupStep
 arrived plan g run a c = acknowledges plan g (past_at a run) a c ++ (if is_new_frame plan.cluster_key (past_at a run) c then brings plan g run a c else [])
 
--- a tick gives a made group its notices
-abbrev pub ticked : NodeId → (ℕ → Bool) → Option Spec → List GroupStep
-ticked a found None = []
-ticked a found (Some spec) = notices a spec found
-
 -- The projection.
 
 -- what an event at a node with its answer gives the group, after this run
 abbrev pub gives : Plan → Addr → List Did → NodeId → NodeEvent → NodeAnswer → List GroupStep
 gives plan g run a (Asked request) (Replied reply) = asked a g (is_noticed_at plan a (past_at a run)) (past_at a run) request reply
-gives plan g run a (Pack b) (Sent (SentPacket text)) = took a b (length (group_items_of g (map (λ (c : Content). c.items) (read plan.cluster_key text))))
+gives plan g run a (Pack b) (Sent (SentPacket text)) =
+    let count = length (group_items_of g (map (λ (c : Content). c.items) (read plan.cluster_key text))) in if_any a count (Took b count)
 gives plan g run a (Brought bytes) (Taken (TakenGood good)) = flat_map (arrived plan g run a) (read plan.cluster_key bytes)
 gives plan g run a Tick (Ticked (Noticed found)) = ticked a (set.contains found) (made_with g (past_at a run))
 gives plan g run a event answer = []

@@ -110,5 +110,4 @@ stops Stop (Halted HaltDone) = true
 stops event answer = false
 
 unfoldable pub is_stopped : List Happened → Bool
-is_stopped [] = false
-is_stopped (h ∷ past) = stops h.event h.answer || is_stopped past
+is_stopped past = list_any (λ (h : Happened). stops h.event h.answer) past

@@ -13,38 +13,23 @@ use Rattle.gb_alone.specs.declared.event.GroupEvent.TheVariants.{Make as AskMake
 use Rattle.gb_alone.specs.declared.event.GroupStep.{GroupStep}
 use Rattle.gb_node.specs.declared.answer.NodeAnswer.TheVariants.{Reply as Replied}
 use Rattle.gb_node.specs.declared.event.NodeEvent.TheVariants.{Request as Asked}
-use Rattle.gb_isolation.specs.Project.{is_named, command_for, made_by, notices, ticked, own_requested, with_stop}
-
--- a request of the group gives its command, and the notices that a group which it makes has at once
-own_is : (a : NodeId) (g : Addr) (noticed : ℕ → Bool) (request : Request) (reply : Reply) → is_named g request ≡ true
-    → own_requested a g noticed request reply ≡ command_for a request ++ ticked a noticed (made_by g (Asked request) (Replied reply))
-own_is a g noticed (AddTenant token row) reply named = refl
-own_is a g noticed (Make token addr spec) Done named =
-    ap (λ t. record { node = a; event = AskMake spec } ∷ ticked a noticed (if t then Some spec else None)) (sym named)
-own_is a g noticed (Make token addr spec) (Said seq) named = refl
-own_is a g noticed (Make token addr spec) (Log entries) named = refl
-own_is a g noticed (Make token addr spec) (Refused why) named = refl
-own_is a g noticed (OpenGroup token addr) reply named = refl
-own_is a g noticed (ShutGroup token addr) reply named = refl
-own_is a g noticed (DropGroup token addr) reply named = refl
-own_is a g noticed (Say token addr message) reply named = refl
-own_is a g noticed (Fetch token addr from most) reply named = refl
+use Rattle.gb_isolation.specs.Project.{command_for, made_by, notices, ticked, with_stop}
 
 -- it makes none
-pub own_alone : (a : NodeId) (g : Addr) (noticed : ℕ → Bool) (request : Request) (reply : Reply) (steps later given : List GroupStep) → is_named g request ≡ true → None ≡ made_by g (Asked request) (Replied reply)
-    → given ≡ command_for a request → later ≡ steps ++ given → later ≡ steps ++ own_requested a g noticed request reply
-own_alone a g noticed request reply steps later given named none is adds =
+pub own_alone : (a : NodeId) (g : Addr) (noticed : ℕ → Bool) (request : Request) (reply : Reply) (steps later given : List GroupStep) → None ≡ made_by g (Asked request) (Replied reply)
+    → given ≡ command_for a request → later ≡ steps ++ given → later ≡ steps ++ (command_for a request ++ ticked a noticed (made_by g (Asked request) (Replied reply)))
+own_alone a g noticed request reply steps later given none is adds =
     adds
-    ∙ ap (λ xs. steps ++ xs) (is ∙ (sym (append-nil (command_for a request))
-    ∙ (ap (λ (o : Option Spec). command_for a request ++ ticked a noticed o) none ∙ sym (own_is a g noticed request reply named))))
+    ∙ ap (λ xs. steps ++ xs) (is ∙ (sym (append-nil (command_for a request)) ∙ ap (λ (o : Option Spec). command_for a request ++ ticked a noticed o) none))
 
 -- it makes one
-pub own_made : (a : NodeId) (g : Addr) (noticed : ℕ → Bool) (request : Request) (reply : Reply) (spec : Spec) (steps later given : List GroupStep) → is_named g request ≡ true → Some spec ≡ made_by g (Asked request) (Replied reply)
-    → given ≡ command_for a request → later ≡ steps ++ given → later ++ notices a spec noticed ≡ steps ++ own_requested a g noticed request reply
-own_made a g noticed request reply spec steps later given named one is adds =
+pub own_made : (a : NodeId) (g : Addr) (noticed : ℕ → Bool) (request : Request) (reply : Reply) (spec : Spec) (steps later given : List GroupStep) → Some spec ≡ made_by g (Asked request) (Replied reply)
+    → given ≡ command_for a request → later ≡ steps ++ given
+    → later ++ notices a spec noticed ≡ steps ++ (command_for a request ++ ticked a noticed (made_by g (Asked request) (Replied reply)))
+own_made a g noticed request reply spec steps later given one is adds =
     ap (λ xs. xs ++ notices a spec noticed) (adds ∙ ap (λ xs. steps ++ xs) is)
     ∙ (append_assoc steps (command_for a request) (notices a spec noticed)
-    ∙ ap (λ xs. steps ++ xs) (ap (λ (o : Option Spec). command_for a request ++ ticked a noticed o) one ∙ sym (own_is a g noticed request reply named)))
+    ∙ ap (λ xs. steps ++ xs) (ap (λ (o : Option Spec). command_for a request ++ ticked a noticed o) one))
 
 -- the stop stands before the command, unless one met it before
 pub stop_shown : (a : NodeId) (met : Bool) (step : GroupStep) (steps stopped later commands : List GroupStep) → commands ≡ step ∷ [] → stopped ≡ steps ++ (if met then [] else record { node = a; event = Stop } ∷ [])

@@ -7,25 +7,22 @@ use Rattle.gb_types.specs.declared.address.Addr.{Addr}
 use Rattle.gb_types.specs.declared.node.NodeId.{NodeId}
 use Rattle.gb_frame.specs.declared.item.Item.{Item}
 use Rattle.gb_frame.specs.Packet.{Content}
-use Rattle.gb_alone.specs.declared.event.GroupEvent.TheVariants.{Took, Came, Done}
+use Rattle.gb_alone.specs.declared.event.GroupEvent.{GroupEvent}
+use Rattle.gb_alone.specs.declared.event.GroupEvent.TheVariants.{Came, Done}
 use Rattle.gb_alone.specs.declared.event.GroupStep.{GroupStep}
 use Rattle.gb_node.specs.NodeStep.{node_numbered}
 use Rattle.gb_node.specs.Past.{Happened, read, packed_for, frames_to}
 use Rattle.gb_cluster.specs.Run.{past_at}
 use Rattle.gb_types.specs.declared.plan.Plan.{Plan}
 use Rattle.gb_isolation.proofs.MarkLemmas.{group_items_of-none, group_items_of-one}
-use Rattle.gb_isolation.specs.Project.{group_items, group_items_of, offset, took, comes, acknowledged, all_acknowledged, is_new_ack, acknowledges}
+use Rattle.gb_isolation.specs.Project.{group_items, group_items_of, offset, if_any, comes, all_acknowledged, is_new_ack, acknowledges}
 use Rattle.gb_trace.specs.Counts.{counts_acknowledged}
 use Rattle.gb_trace.specs.Deeds.{past_in}
 
 -- one step, where there are any items
-pub took_some : (a b : NodeId) (k : ℕ) → k ≢ 0 → took a b k ≡ record { node = a; event = Took b k } ∷ []
-took_some a b zero some = absurd (some refl)
-took_some a b (suc k) some = refl
-
-pub acknowledged_some : (a b : NodeId) (place k : ℕ) → k ≢ 0 → acknowledged a b place k ≡ record { node = a; event = Done b place k } ∷ []
-acknowledged_some a b place zero some = absurd (some refl)
-acknowledged_some a b place (suc k) some = refl
+pub any_some : (a : NodeId) (k : ℕ) (event : GroupEvent) → k ≢ 0 → if_any a k event ≡ record { node = a; event = event } ∷ []
+any_some a zero event some = absurd (some refl)
+any_some a (suc k) event some = refl
 
 comes_some : (from to : NodeId) (place k : ℕ) → k ≢ 0 → comes from to place k ≡ record { node = to; event = Came from (place + 1) } ∷ comes from to (place + 1) (k - 1)
 comes_some from to place zero some = absurd (some refl)
@@ -75,11 +72,11 @@ offset_is g fs n = counts_are g (take n fs) ∙ ap sum (sym (take-map (λ f. len
 all_counted : (g : Addr) (a b : NodeId) (new : ℕ → Bool) (n before : ℕ) (fs : List (List Item)) → all_acknowledged g a b new n before fs ≡ counts_acknowledged a b new n before (counted g fs)
 all_counted g a b new n before [] = refl
 all_counted g a b new n before (f ∷ fs) =
-    ap (λ xs. (if new n then acknowledged a b (before + 1) (length (group_items g f)) else []) ++ xs) (all_counted g a b new (n + 1) (before + length (group_items g f)) fs)
+    ap (λ xs. (if new n then if_any a (length (group_items g f)) (Done b (before + 1) (length (group_items g f))) else []) ++ xs) (all_counted g a b new (n + 1) (before + length (group_items g f)) fs)
 
 -- what the frame with the number n gives, where it stands behind so many items
 abbrev one_counted : NodeId → NodeId → (ℕ → Bool) → ℕ → ℕ → ℕ → List GroupStep
-one_counted a b new n before k = if new n then acknowledged a b (before + 1) k else []
+one_counted a b new n before k = if new n then if_any a k (Done b (before + 1) k) else []
 
 -- one frame more
 counted_more : (a b : NodeId) (new : ℕ → Bool) (n before : ℕ) (ks : List ℕ) (k : ℕ)
@@ -98,15 +95,15 @@ counted_more a b new n before (h ∷ ks) k =
 
 -- the steps with those of one frame more
 pub counted_on : (a b : NodeId) (new : ℕ → Bool) (ks : List ℕ) (i place : ℕ) (before now later : List GroupStep) → i < length ks → place ≡ 1 + sum (take i ks)
-    → later ≡ now ++ (if new (i + 1) then acknowledged a b place (get_or ks i 0) else []) → now ≡ before ++ counts_acknowledged a b new 1 0 (take i ks) → later ≡ before ++ counts_acknowledged a b new 1 0 (take (i + 1) ks)
+    → later ≡ now ++ (if new (i + 1) then if_any a (get_or ks i 0) (Done b place (get_or ks i 0)) else []) → now ≡ before ++ counts_acknowledged a b new 1 0 (take i ks) → later ≡ before ++ counts_acknowledged a b new 1 0 (take (i + 1) ks)
 counted_on a b new ks i place before now later lt is adds was =
     let k : ℕ = get_or ks i 0 in
     let number : i + 1 ≡ 1 + length (take i ks) = omega (arith, length-take i ks) in
     let behind : place ≡ 0 + sum (take i ks) + 1 = omega (arith, is) in
     adds
-    ∙ (ap (λ xs. xs ++ (if new (i + 1) then acknowledged a b place k else [])) was
-    ∙ (append_assoc before (counts_acknowledged a b new 1 0 (take i ks)) (if new (i + 1) then acknowledged a b place k else [])
-    ∙ ap (λ xs. before ++ xs) (ap (λ xs. counts_acknowledged a b new 1 0 (take i ks) ++ xs) (ap (λ n. if new n then acknowledged a b place k else []) number ∙ ap (λ p. if new (1 + length (take i ks)) then acknowledged a b p k else []) behind)
+    ∙ (ap (λ xs. xs ++ (if new (i + 1) then if_any a k (Done b place k) else [])) was
+    ∙ (append_assoc before (counts_acknowledged a b new 1 0 (take i ks)) (if new (i + 1) then if_any a k (Done b place k) else [])
+    ∙ ap (λ xs. before ++ xs) (ap (λ xs. counts_acknowledged a b new 1 0 (take i ks) ++ xs) (ap (λ n. if new n then if_any a k (Done b place k) else []) number ∙ ap (λ p. if new (1 + length (take i ks)) then if_any a k (Done b p k) else []) behind)
     ∙ (sym (counted_more a b new 1 0 (take i ks) k) ∙ ap (counts_acknowledged a b new 1 0) (sym (take_more ks i 0 lt))))))
 
 pub place_on : (ks : List ℕ) (i place next : ℕ) → i < length ks → place ≡ 1 + sum (take i ks) → next ≡ place + get_or ks i 0 → next ≡ 1 + sum (take (i + 1) ks)

@@ -2,9 +2,9 @@
 use Rattle.std.specs.Prelude.{ℕ, ◌+◌, Bool, List, [], ◌∷◌, ◌++◌, if◌then◌else◌}
 use Rattle.gb_types.specs.declared.node.NodeId.{NodeId}
 use Rattle.gb_alone.specs.declared.event.GroupStep.{GroupStep}
-use Rattle.gb_isolation.specs.Project.{acknowledged}
+use Rattle.gb_isolation.specs.Project.{if_any}
 
 -- of frames from a to b with so many items, of which the first has the number n and stands behind so many, those are acknowledged whose numbers pass the test
 abbrev pub counts_acknowledged : NodeId → NodeId → (ℕ → Bool) → ℕ → ℕ → List ℕ → List GroupStep
 counts_acknowledged a b new n before [] = []
-counts_acknowledged a b new n before (k ∷ ks) = (if new n then acknowledged a b (before + 1) k else []) ++ counts_acknowledged a b new (n + 1) (before + k) ks
+counts_acknowledged a b new n before (k ∷ ks) = (if new n then if_any a k (Done b (before + 1) k) else []) ++ counts_acknowledged a b new (n + 1) (before + k) ks

@@ -4,7 +4,9 @@ ghost use Rattle.std.specs.Option.{option_to_list};
 ghost use Rattle.gb_types.specs.declared.limits.TheConstants.{SILENCE_MIN as LEAST};
 ghost use Rattle.gb_types.specs.declared.address.Addr.{Addr as AnyAddr};
 ghost use Rattle.gb_alone.specs.declared.event.GroupEvent.TheVariants.{Stop as Ends};
-ghost use Rattle.gb_isolation.specs.Project.{command_for, is_named, is_noticed_at, own_requested, tenant_given, requested, with_stop, is_met, asked};
+ghost use Rattle.gb_isolation.specs.Project.{command_for, made_by, is_own_request as is_own, is_noticed_at, ticked, tenant_given, with_stop, is_met, asked};
+ghost use Rattle.gb_node.specs.declared.answer.NodeAnswer.TheVariants.{Reply as Replied};
+ghost use Rattle.gb_node.specs.declared.event.NodeEvent.TheVariants.{Request as Asked};
 ghost use Rattle.gb_trace.specs.Deeds.{past_in};
 
 use crate::deed::Deed;
@@ -50,10 +52,9 @@ fn of_own(
     reply: &Reply,
     steps: &mut Vec<GroupStep>,
 ) -> Result<(), OutOfMemory>
-    requires named { is_named addr request.now ≡ true }
     requires least { LEAST ≤ plan.now.silence }
     requires key { key.now ≡ plan.now.cluster_key }
-    ensures { OnOk result (steps.new.items ≡ steps.old.items ++ own_requested a addr (is_noticed_at plan.now a (past_in a before.now)) request.now reply.now) }
+    ensures { OnOk result (steps.new.items ≡ steps.old.items ++ (command_for a request.now ++ ticked a (is_noticed_at plan.now a (past_in a before.now)) (made_by addr (Asked request.now) (Replied reply.now)))) }
 {
     add(command(alloc, a, request)?, steps)?;
     match made(addr, request, reply) {
@@ -95,7 +96,7 @@ fn of_running(
 ) -> Result<(), OutOfMemory>
     requires least { LEAST ≤ plan.now.silence }
     requires key { key.now ≡ plan.now.cluster_key }
-    ensures { OnOk result (steps.new.items ≡ steps.old.items ++ requested a addr (is_noticed_at plan.now a (past_in a before.now)) (past_in a before.now) request.now reply.now) }
+    ensures { OnOk result (steps.new.items ≡ steps.old.items ++ (tenant_given addr a request.now reply.now ++ (if is_own a addr (past_in a before.now) request.now then command_for a request.now ++ ticked a (is_noticed_at plan.now a (past_in a before.now)) (made_by addr (Asked request.now) (Replied reply.now)) else []))) }
 {
     add(tenant(addr, a, request, reply), steps)?;
     if is_own_request(addr, a, before, request) {

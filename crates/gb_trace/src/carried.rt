@@ -4,7 +4,7 @@ ghost use Rattle.std.specs.List.{flat_map};
 ghost use Rattle.std.specs.Option.{option_to_list};
 ghost use Rattle.gb_node.specs.Past as packets;
 ghost use Rattle.gb_node.specs.NodeStep.{node_numbered};
-ghost use Rattle.gb_isolation.specs.Project.{group_items_of, took, comes, acknowledged, is_new_ack, is_new_frame, acknowledges, brings, arrived};
+ghost use Rattle.gb_isolation.specs.Project.{group_items_of, if_any, comes, is_new_ack, is_new_frame, acknowledges, brings, arrived};
 ghost use Rattle.gb_trace.specs.Counts.{counts_acknowledged};
 ghost use Rattle.gb_trace.specs.Deeds.{past_in};
 ghost use Rattle.gb_frame.specs.Packet.{Content};
@@ -24,7 +24,7 @@ use gb_types::plan::Plan;
 use std::alloc::Global;
 
 /// What a packet that was packed for the other node gives the group.
-#[tactic(auto, using(crate::proofs::CountLemmas::took_some, crate::proofs::CountLemmas::text_none, crate::proofs::CountLemmas::text_one))]
+#[tactic(auto, using(crate::proofs::CountLemmas::any_some, crate::proofs::CountLemmas::text_none, crate::proofs::CountLemmas::text_one))]
 pub(crate) fn of_packed(
     addr: Addr,
     key: &HmacKey,
@@ -32,7 +32,7 @@ pub(crate) fn of_packed(
     b: NodeId,
     text: &[u8],
 ) -> Option<GroupStep>
-    ensures { option_to_list result ≡ took a b (length (group_items_of addr (map (λ (c : Content). c.items) (packets.read key.now text.now)))) }
+    ensures { option_to_list result ≡ if_any a (length (group_items_of addr (map (λ (c : Content). c.items) (packets.read key.now text.now)))) (Took b (length (group_items_of addr (map (λ (c : Content). c.items) (packets.read key.now text.now))))) }
 {
     let packet = read(key, text)?;
     let count = count_in(addr, &packet);
@@ -42,8 +42,8 @@ pub(crate) fn of_packed(
     Some(at(a, GroupEvent::Took(b, count)))
 }
 
-/// Adds that so many items are acknowledged from a place on, where there are any.
-#[tactic(auto, using(crate::proofs::CountLemmas::acknowledged_some))]
+/// Adds that this number of items is acknowledged, from a place on, unless it is 0.
+#[tactic(auto, using(crate::proofs::CountLemmas::any_some))]
 fn add_acknowledged(
     a: NodeId,
     b: NodeId,
@@ -51,7 +51,7 @@ fn add_acknowledged(
     count: u64,
     steps: &mut Vec<GroupStep>,
 ) -> Result<(), OutOfMemory>
-    ensures { OnOk result (steps.new.items ≡ steps.old.items ++ acknowledged a b place count) }
+    ensures { OnOk result (steps.new.items ≡ steps.old.items ++ if_any a count (Done b place count)) }
 {
     if count != 0 {
         steps.push(at(a, GroupEvent::Done(b, place, count)))?;
@@ -87,7 +87,7 @@ fn is_new(key: &HmacKey, before: &[Deed], a: NodeId, packet: &PacketView<'_>, nu
     covers(head.base, head.mask, number) && !was_acknowledged(key, a, head.from, number, before)
 }
 
-/// Adds that so many items are acknowledged from a place on, those of a frame, where the packet acknowledges it for the
+/// Adds that this number of items is acknowledged, from a place on, those of a frame, where the packet acknowledges it for the
 /// first time.
 fn add_new(
     key: &HmacKey,
@@ -99,7 +99,7 @@ fn add_new(
     count: u64,
     steps: &mut Vec<GroupStep>,
 ) -> Result<(), OutOfMemory>
-    ensures { OnOk result (steps.new.items ≡ steps.old.items ++ (if is_new_ack key.now (past_in a before.now) packet.now number then acknowledged a (node_numbered packet.now.from) place count else [])) }
+    ensures { OnOk result (steps.new.items ≡ steps.old.items ++ (if is_new_ack key.now (past_in a before.now) packet.now number then if_any a count (Done (node_numbered packet.now.from) place count) else [])) }
 {
     if is_new(key, before, a, packet, number) {
         return add_acknowledged(a, sender(packet), place, count, steps);
