@@ -12,6 +12,8 @@ use std::io::{Error, ErrorKind, Read, Write};
 /// The bytes of the longest reply that is taken. A log of 16 entries has fewer, each with a payload of 4,096 bytes in two digits.
 pub const REPLY: u32 = 262_144;
 
+const _: () = prove!(REPLY == 262_144);
+
 // Why a message was not carried: the time for it passed, or the connection failed.
 fn fault_of(error: &Error) -> ClientFault
     ensures { (result ≡ ClientFault.Late) ⊎ (result ≡ ClientFault.Lost) }

@@ -12,6 +12,8 @@ use std::alloc::Global;
 /// How many groups a page of a list has at most.
 pub const ROWS: u32 = 64;
 
+const _: () = prove!(ROWS == 64);
+
 // A word and a token behind it.
 fn with_token(alloc: Global, word: &[u8], token: &[u8; 32]) -> Result<Vec<u8>, OutOfMemory>
     ensures { IfOk result (λ body. body.items ≡ word.now ++ codes " " ++ encode_lower token.now) }

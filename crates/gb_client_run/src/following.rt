@@ -21,6 +21,8 @@ use std::io::{Read, Write};
 /// How many milliseconds a node is let wait at most for something new.
 pub const WAIT: u32 = 30_000;
 
+const _: () = prove!(WAIT == 30_000);
+
 // The next reply of a node to a fetch that waits.
 fn next_reply<R: Read>(alloc: Global, reader: &mut R) -> Result<Reply, ClientFault>
     ensures { IfOk result (λ reply. Consumes (R.remaining reader.old) (R.remaining reader.new) (framed (reply_spelling reply))) }

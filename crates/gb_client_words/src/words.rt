@@ -568,6 +568,8 @@ fn task<'a>(
 // How many seconds a reply may take, if not told.
 const SECONDS: u32 = 10;
 
+const _: () = prove!(SECONDS == 10);
+
 /// What the words of a command line ask for, where clap took them.
 pub fn plan_of<'a>(alloc: Global, matches: &ArgMatches<'a>) -> Result<Plan<'a>, PlanFault> {
     let (name, inner) = matches.subcommand().ok_or(PlanFault::NoSubcommand)?;

@@ -23,6 +23,8 @@ use std::process::ExitCode;
 // The bytes of the longest text of secrets.
 const SECRETS: u64 = 65_536;
 
+const _: () = prove!(SECRETS == 65_536);
+
 // What may be read of the secrets.
 fn read_some<R: Read + Drop>(alloc: Global, reader: R) -> Result<Vec<u8>, ClientFault> {
     let mut text = Vec::new(alloc);

@@ -18,6 +18,8 @@ use std::thread;
 /// How many entries wait for a recorder at most.
 pub const WAITING: usize = 16_384;
 
+const _: () = prove!(WAITING == 16_384);
+
 /// Notes what happens at a node for its recorder. Contracts see the node and all that was noted, which no memory holds.
 #[derive(Drop)]
 pub struct Outlet<L: Tapes> {

@@ -19,6 +19,8 @@ pub const PACKETS: usize = 64;
 
 pub const FRAMES: usize = 64;
 
+const _: () = prove!(FRAMES == 64 && PACKETS == 64);
+
 impl<'a, L: Tapes, H: Wait + Clock, P: Port> NodeLoop<'a, L, H, P> {
     // Returns the node with this number, if it is another one.
     fn other(&self, number: u8) -> Option<NodeId> {

@@ -13,6 +13,8 @@ use std::io::{ErrorKind, Read, Write};
 /// How often a write is tried again in one turn while the stream takes only a part.
 const WRITES: u32 = 64;
 
+const _: () = prove!(WRITES == 64);
+
 /// A client's session, and the replies that its stream did not take yet.
 #[derive(Drop)]
 pub struct Client {

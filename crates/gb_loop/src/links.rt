@@ -5,12 +5,16 @@ pub const AGAIN: u64 = 4_000;
 
 pub const AGAIN_MOST: u64 = 256_000;
 
+const _: () = prove!(AGAIN_MOST == 256_000 && AGAIN == 4_000);
+
 /// How many frames may be open at first, at least and at most.
 pub const ROOM: u64 = 16;
 
 pub const ROOM_LEAST: u64 = 4;
 
 pub const ROOM_MOST: u64 = 64;
+
+const _: () = prove!(ROOM_MOST == 64 && ROOM == 16 && ROOM_LEAST == 4);
 
 /// What a loop knows of the link to another node, and what it owes it.
 #[derive(Clone, Copy)]

@@ -35,6 +35,8 @@ pub const PIECE: usize = 65_536;
 /// How long a round waits at most, in microseconds: so soon an end is seen.
 pub const LOOK: u64 = 100_000;
 
+const _: () = prove!(LOOK == 100_000 && PIECE == 65_536);
+
 // The tokens of the two sockets that are no connection.
 const UDP: usize = usize::MAX;
 

@@ -27,6 +27,8 @@ pub const ACCEPTS: usize = 64;
 /// The bytes of replies that a turn makes before they are written.
 pub const ROOM: usize = 65_536;
 
+const _: () = prove!(ROOM == 65_536 && ACCEPTS == 64);
+
 // A turn that reads, one that looks again at what came before, one that answers the message in front as late, and the last turn.
 const READS: Way = Way {
     reads: true,
@@ -63,6 +65,8 @@ const LAST_READ: Way = Way {
 pub const LAST_TURNS: usize = 64;
 
 pub const LAST_LOOKS: usize = 100;
+
+const _: () = prove!(LAST_LOOKS == 100 && LAST_TURNS == 64);
 
 // Returns true if an answer tells of nodes that are noticed from now on, or that the node stopped.
 fn has_news(answer: &NodeAnswer) -> bool {

@@ -18,6 +18,8 @@ use thiserror::Error;
 /// and is then too long for a packet.
 pub const SPACE: usize = PACKET + 1;
 
+const _: () = prove!(SPACE == 16_385);
+
 /// Why a port could not be bound.
 #[derive(Clone, Copy, Debug, PartialEq, Eq, Error)]
 pub enum BindFault {

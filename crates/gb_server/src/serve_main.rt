@@ -66,6 +66,8 @@ fn host_plan(plan: ServePlan, keys: Keys) -> HostPlan
 // How long a connection may be silent that asked nothing yet, in microseconds.
 const FIRST: u64 = 10_000_000;
 
+const _: () = prove!(FIRST == 10_000_000);
+
 // How the loops behave, with this limit of connections at each node: a sign of life eight times in the silence that makes a
 // node noticed, and at least every tick.
 fn options_of(plan: ServePlan, connections: u64) -> LoopOptions

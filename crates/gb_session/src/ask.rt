@@ -18,8 +18,12 @@ use std::alloc::Global;
 /// The most places that one `await` names.
 pub const PLACES: usize = 16;
 
+const _: () = prove!(PLACES == 16);
+
 /// The longest wait that an `await` names, in milliseconds.
 pub const WAIT: u32 = 60_000;
+
+const _: () = prove!(WAIT == 60_000);
 
 /// What one fetch asks: a token, a group, the first place of its log that is wanted, and the most entries.
 #[derive(Clone, Copy)]

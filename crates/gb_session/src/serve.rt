@@ -15,11 +15,17 @@ use thiserror::Error;
 /// The most messages that a session answers.
 pub const REQUESTS: u64 = 1_000_000;
 
+const _: () = prove!(REQUESTS == 1_000_000);
+
 /// The most reads of a session, and the most tries of one read or one write that is interrupted.
 pub const READS: u64 = 4_000_000;
 
+const _: () = prove!(READS == 4_000_000);
+
 /// The bytes that one read takes at most.
 pub const PIECE: usize = 65_536;
+
+const _: () = prove!(PIECE == 65_536);
 
 /// How a session ended.
 #[derive(Clone, Copy, PartialEq, Eq)]

@@ -29,6 +29,8 @@ use std::marker::Model;
 /// The bytes of the longest reply: its length has four bytes.
 const REPLY: usize = 4_294_967_295;
 
+const _: () = prove!(REPLY == 4_294_967_295);
+
 /// The message at the front of some bytes.
 #[derive(Drop)]
 pub enum AskFront {

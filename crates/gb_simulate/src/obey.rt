@@ -33,6 +33,8 @@ const _: () = prove!(LINES == 1_000_000);
 /// How many groups the tenants of a node may make in all.
 const PLACES: u16 = 1_024;
 
+const _: () = prove!(PLACES == 1_024);
+
 /// What the cluster of a schedule is started with.
 fn plan_of(start: &ClusterStart) -> Plan
     ensures { result ≡ plan_of start.now }

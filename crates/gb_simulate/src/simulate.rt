@@ -21,6 +21,8 @@ use std::io::{Read, Write};
 /// The bytes of answers that are gathered before they are written, where no read comes first.
 const GATHERED: usize = 16_384;
 
+const _: () = prove!(GATHERED == 16_384);
+
 /// Ends a schedule: line `number` is bad.
 fn end_badly(number: u64, why: BadLine, gathered: &mut Vec<u8>) -> Result<SimEnd, OutOfMemory>
     ensures ok { IfOk result (λ end. (end ≡ SimEnd.BadLine number why) × (gathered.new.items ≡ gathered.old.items ++ bad_line number)) }

@@ -4,6 +4,8 @@ use gb_groups::listing::GroupRow;
 /// The most groups that one list names.
 pub const LISTED: u32 = 64;
 
+const _: () = prove!(LISTED == 64);
+
 /// Some of a node's groups, in the order in which they were made.
 #[derive(Drop)]
 pub struct Listing {
