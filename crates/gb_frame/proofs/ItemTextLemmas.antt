@@ -3,6 +3,7 @@ use Rattle.std.proofs.Common.{◌≡◌, ℕ, List, [], ◌∷◌, ◌++◌, Som
 use Rattle.std.proofs.lemmas.List.Elements.{All-head, All-tail}
 use Rattle.std.proofs.lemmas.List.Concat.{flat_map-cons}
 use Rattle.gb_types.specs.declared.limits.TheConstants.{PAYLOAD}
+use Rattle.gb_types.specs.declared.version.Version.{Version}
 use Rattle.gb_frame.specs.declared.item.Item.{Item}
 use Rattle.gb_frame.specs.Spelling.{item_text, items_text, IsItem, AreTexts}
 use Rattle.gb_frame.specs.Reading.{item_at}
@@ -10,23 +11,23 @@ use Rattle.gb_frame.proofs.ItemLemmas.{item_again, none_at_end}
 use Rattle.gb_types.proofs.ReadLemmas.{some_same}
 
 -- the first item stands at the front, and the others behind it
-pub first_again : (bytes : List ℕ) (i : Item) (items : List Item) → AreTexts bytes (i ∷ items) → item_at PAYLOAD bytes ≡ Some (i, items_text items)
-first_again bytes i items t =
-    let parts : bytes ≡ item_text i ++ items_text items = t.parts ∙ flat_map-cons item_text i items in
-    let first = All-head IsItem i items t.fit in
-    ap (item_at PAYLOAD) parts ∙ item_again PAYLOAD i (items_text items) first first.length
+pub first_again : (version : Version) (bytes : List ℕ) (i : Item) (items : List Item) → AreTexts version bytes (i ∷ items) → item_at version PAYLOAD bytes ≡ Some (i, items_text version items)
+first_again version bytes i items t =
+    let parts : bytes ≡ item_text version i ++ items_text version items = t.parts ∙ flat_map-cons (item_text version) i items in
+    let first = All-head (IsItem version) i items t.fit in
+    ap (item_at version PAYLOAD) parts ∙ item_again version PAYLOAD i (items_text version items) first first.length
 
 -- where no item stands at the front, there are none
-pub none_again : (bytes : List ℕ) (items : List Item) → AreTexts bytes items → item_at PAYLOAD bytes ≡ None → items ≡ []
-none_again bytes [] t none = refl
-none_again bytes (i ∷ items) t none = let found = first_again bytes i items t in absurd cc
+pub none_again : (version : Version) (bytes : List ℕ) (items : List Item) → AreTexts version bytes items → item_at version PAYLOAD bytes ≡ None → items ≡ []
+none_again version bytes [] t none = refl
+none_again version bytes (i ∷ items) t none = let found = first_again version bytes i items t in absurd cc
 
 -- the items behind the one at the front
-pub behind_first : (bytes : List ℕ) (items : List Item) (i : Item) (rest : List ℕ) → AreTexts bytes items → item_at PAYLOAD bytes ≡ Some (i, rest)
-    → (left : List Item) × AreTexts rest left × (items ≡ i ∷ left)
-behind_first bytes [] i rest t found = absurd (let none = sym found ∙ (ap (item_at PAYLOAD) t.parts ∙ none_at_end PAYLOAD) in cc)
-behind_first bytes (j ∷ items) i rest t found =
-    let same = some_same (i, rest) (j, items_text items) (sym found ∙ first_again bytes j items t) in
+pub behind_first : (version : Version) (bytes : List ℕ) (items : List Item) (i : Item) (rest : List ℕ) → AreTexts version bytes items → item_at version PAYLOAD bytes ≡ Some (i, rest)
+    → (left : List Item) × AreTexts version rest left × (items ≡ i ∷ left)
+behind_first version bytes [] i rest t found = absurd (let none = sym found ∙ (ap (item_at version PAYLOAD) t.parts ∙ none_at_end version PAYLOAD) in cc)
+behind_first version bytes (j ∷ items) i rest t found =
+    let same = some_same (i, rest) (j, items_text version items) (sym found ∙ first_again version bytes j items t) in
     let item : i ≡ j = ap (λ (x : Item × List ℕ). x.0) same in
-    let left : rest ≡ items_text items = ap (λ (x : Item × List ℕ). x.1) same in
-    (items, record { parts = left; fit = All-tail IsItem j items t.fit }, ap (λ x. x ∷ items) (sym item))
+    let left : rest ≡ items_text version items = ap (λ (x : Item × List ℕ). x.1) same in
+    (items, record { parts = left; fit = All-tail (IsItem version) j items t.fit }, ap (λ x. x ∷ items) (sym item))

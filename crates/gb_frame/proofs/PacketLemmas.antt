@@ -7,7 +7,7 @@ use Rattle.gb_frame.specs.declared.limits.TheConstants.{SHORTEST}
 use Rattle.gb_frame.specs.declared.fault.PacketFault.{PacketFault}
 use Rattle.gb_frame.specs.declared.fault.PacketFault.TheVariants.{Short, Magic, Version, Node, Mask, Count, Length, Trailing, TooLong, Tag}
 use Rattle.gb_frame.specs.Fields.{version_in}
-use Rattle.gb_frame.specs.Reading.{is_magic, is_between_nodes, is_acknowledgement, is_counted, is_tagged, version_read, parsed, left_over, test, fault_in, is_packet}
+use Rattle.gb_frame.specs.Reading.{is_magic, is_between_nodes, is_acknowledgement, is_counted, is_tagged, version_read, parsed, left_over, fault_in, is_packet}
 
 not_not : (b : Bool) → b ≡ not (not b)
 not_not true = refl

@@ -1,5 +1,5 @@
 -- Reading finds a packet exactly in its text, and otherwise the first fault of the table.
-use Rattle.std.proofs.Common.{◌≡◌, ◌≢◌, ℕ, ◌-◌, ◌^◌, ◌≤◌, Bool, true, false, cond, List, [], ◌∷◌, ◌++◌, length, take, drop, codes, Option, Some, None, Ok, refl, sym, ap, ◌∙◌, arith, inl, inr, ◌⊎◌}
+use Rattle.std.proofs.Common.{◌≡◌, ◌≢◌, ℕ, ◌-◌, ◌^◌, ◌≤◌, Bool, true, false, cond, List, [], ◌∷◌, ◌++◌, length, take, drop, codes, Option, Some, None, Ok, refl, sym, ap, subst, ◌∙◌, arith, inl, inr, ◌⊎◌}
 use Rattle.std.specs.Prelude.{find, is_ok, not, ◌&&◌, ◌==◌, ◌%◌, nat_lt, is_none, if◌then◌else◌}
 use Rattle.std.specs.Cmp.Lexicographic.{same_text, other_text}
 use Rattle.std.specs.Int.{w16, w64, to_be_bytes}
@@ -27,20 +27,16 @@ use Rattle.gb_frame.proofs.ItemLemmas.{items_take, stand_again}
 use Rattle.gb_frame.proofs.TextLemmas.{text_reads}
 use Rattle.gb_frame.proofs.FaultLemmas.{found_first, found_none, faults_numbered, below_eleven, IsGood, magic_there, magic_told, counted_there, nodes_there, acknowledged_there, parsed_there, named_there, none_told}
 
--- the longest payload of the version that was read
-abbrev payload_limit : List ℕ → ℕ
-payload_limit bytes = (limits_of (version_read bytes)).payload
-
 -- ---- a test that says so
 
 none_stand : (key bytes : List ℕ) → is_none (parsed bytes) ≡ true → HasFault key bytes Length
-none_stand key bytes e items rest s = let found = stand_again (payload_limit bytes) (count_in bytes) (items_in bytes) items rest s in absurd (let there : is_none (parsed bytes) ≡ false = ap is_none found in cc)
+none_stand key bytes e items rest s = let found = stand_again (version_read bytes) (count_in bytes) (items_in bytes) items rest s in absurd (let there : is_none (parsed bytes) ≡ false = ap is_none found in cc)
 
 left_stand : (key bytes : List ℕ) → IsBytes bytes → (o : Option (List Item × List ℕ)) → parsed bytes ≡ o → nat_lt 0 (length (left_over o)) ≡ true → HasFault key bytes Trailing
 left_stand key bytes fits None is e = absurd cc
 left_stand key bytes fits (Some x) is e =
     let long = ltb-true _ _ e in
-    (x.0, x.1, λ none. let h : length x.1 ≡ 0 = ap length none in absurd (omega arith), items_take (payload_limit bytes) (count_in bytes) (items_in bytes) x (limits_are_within (version_read bytes)).payload (IsBytes-drop HEADER (tagged_in bytes) (IsBytes-take (length bytes - TAG) bytes fits)) is)
+    (x.0, x.1, λ none. let h : length x.1 ≡ 0 = ap length none in absurd (omega arith), items_take (version_read bytes) (count_in bytes) (items_in bytes) x (IsBytes-drop HEADER (tagged_in bytes) (IsBytes-take (length bytes - TAG) bytes fits)) is)
 
 nodes_wrong : (a b n : ℕ) → (nat_lt a n && nat_lt b n && not (a == b)) ≡ false → (n ≤ a) ⊎ (n ≤ b) ⊎ (a ≡ b)
 nodes_wrong a b n e =
@@ -85,11 +81,11 @@ says key bytes Tag fits e = other_text (tag_in bytes) (tag_of key (tagged_in byt
 
 some_stands : (key bytes : List ℕ) → IsBytes bytes → (o : Option (List Item × List ℕ)) → parsed bytes ≡ o → is_none o ≡ false → ¬ (HasFault key bytes Length)
 some_stands key bytes fits None is e = absurd cc
-some_stands key bytes fits (Some x) is e = λ no. no x.0 x.1 (items_take (payload_limit bytes) (count_in bytes) (items_in bytes) x (limits_are_within (version_read bytes)).payload (IsBytes-drop HEADER (tagged_in bytes) (IsBytes-take (length bytes - TAG) bytes fits)) is)
+some_stands key bytes fits (Some x) is e = λ no. no x.0 x.1 (items_take (version_read bytes) (count_in bytes) (items_in bytes) x (IsBytes-drop HEADER (tagged_in bytes) (IsBytes-take (length bytes - TAG) bytes fits)) is)
 
 none_left : (key bytes : List ℕ) → nat_lt 0 (length (left_over (parsed bytes))) ≡ false → ¬ (HasFault key bytes Trailing)
 none_left key bytes e (items, rest, more, s) =
-    let found = stand_again (payload_limit bytes) (count_in bytes) (items_in bytes) items rest s in
+    let found = stand_again (version_read bytes) (count_in bytes) (items_in bytes) items rest s in
     let left : left_over (parsed bytes) ≡ rest = ap left_over found in
     more (nil_from_length rest (let h = ltb-false _ _ e in let k = ap length left in omega arith))
 
@@ -169,24 +165,24 @@ behind_header : (bytes : List ℕ) → SHORTEST ≤ length bytes → drop 31 byt
 behind_header bytes long =
     ap (drop 31) (sym (take-append-drop (length bytes - TAG) bytes)) ∙ drop-append-le 31 (tagged_in bytes) (tag_in bytes) (omega (arith, length-take (length bytes - TAG) bytes))
 
-spelled : (key bytes : List ℕ) → IsBytes bytes → IsGood key bytes → Stand (payload_limit bytes) (count_in bytes) (items_in bytes) (items_of (parsed bytes)) [] → bytes ≡ packet_text key (content_in bytes)
+spelled : (key bytes : List ℕ) → IsBytes bytes → IsGood key bytes → Stand (version_read bytes) (count_in bytes) (items_in bytes) (items_of (parsed bytes)) [] → bytes ≡ packet_text key (content_in bytes)
 unfolding header_text
 spelled key bytes fits g s =
     let c : Content = content_in bytes in
     let byte : ℕ = (limits_of c.version).byte in
-    let items : items_in bytes ≡ items_text c.items = s.parts ∙ append-nil (items_text c.items) in
-    let cells = header_cut bytes byte (items_text c.items ++ tag_in bytes) fits g.long g.magic (byte_of_named (version_in bytes) c.version g.version) (behind_header bytes g.long ∙ ap (λ t. t ++ tag_in bytes) items) in
-    let whole : bytes ≡ tagged_text c ++ tag_in bytes = cells ∙ ap (λ n. codes "GB" ++ (byte ∷ from_in bytes ∷ to_in bytes ∷ (to_be_bytes w64 (base_in bytes) ++ (to_be_bytes w64 (mask_in bytes) ++ (to_be_bytes w64 (frame_in bytes) ++ (to_be_bytes w16 n ++ (items_text c.items ++ tag_in bytes))))))) (sym s.count) in
+    let items : items_in bytes ≡ items_text c.version c.items = s.parts ∙ append-nil (items_text c.version c.items) in
+    let cells = header_cut bytes byte (items_text c.version c.items ++ tag_in bytes) fits g.long g.magic (byte_of_named (version_in bytes) c.version g.version) (behind_header bytes g.long ∙ ap (λ t. t ++ tag_in bytes) items) in
+    let whole : bytes ≡ tagged_text c ++ tag_in bytes = cells ∙ ap (λ n. codes "GB" ++ (byte ∷ from_in bytes ∷ to_in bytes ∷ (to_be_bytes w64 (base_in bytes) ++ (to_be_bytes w64 (mask_in bytes) ++ (to_be_bytes w64 (frame_in bytes) ++ (to_be_bytes w16 n ++ (items_text c.version c.items ++ tag_in bytes))))))) (sym s.count) in
     let cut : length (tagged_text c) ≡ length bytes - TAG = let h = ap length whole ∙ length-append (tagged_text c) (tag_in bytes) in let k = length-drop (length bytes - TAG) bytes in let l = g.long in omega (arith, h, k, l) in
     let tagged : tagged_in bytes ≡ tagged_text c = ap (take (length bytes - TAG)) whole ∙ take_at (tagged_text c) (tag_in bytes) (length bytes - TAG) cut in
     whole ∙ ap (λ t. tagged_text c ++ t) (g.tag ∙ ap (tag_of key) tagged)
 
-within : (key bytes : List ℕ) → IsGood key bytes → Stand (payload_limit bytes) (count_in bytes) (items_in bytes) (items_of (parsed bytes)) [] → IsWithinLimits (content_in bytes)
+within : (key bytes : List ℕ) → IsGood key bytes → Stand (version_read bytes) (count_in bytes) (items_in bytes) (items_of (parsed bytes)) [] → IsWithinLimits (content_in bytes)
 within key bytes g s =
     let items = items_of (parsed bytes) in
     let long = g.long in
     let short = g.short in
-    let texts : length (items_in bytes) ≡ length (items_text items) = ap length (s.parts ∙ append-nil (items_text items)) in
+    let texts : length (items_in bytes) ≡ length (items_text (version_read bytes) items) = ap length (s.parts ∙ append-nil (items_text (version_read bytes) items)) in
     record {
       from = g.from;
       to = g.to;
@@ -202,7 +198,7 @@ pub is_text : (key bytes : List ℕ) → IsBytes bytes → fault_in key bytes �
 is_text key bytes fits none =
     let g = good key bytes none in
     let limits = limits_are_within (version_read bytes) in
-    let s : Stand (payload_limit bytes) (count_in bytes) (items_in bytes) (items_of (parsed bytes)) [] = items_take (payload_limit bytes) (count_in bytes) (items_in bytes) (items_of (parsed bytes), []) limits.payload (IsBytes-drop HEADER (tagged_in bytes) (IsBytes-take (length bytes - TAG) bytes fits)) g.parsed in (
+    let s : Stand (version_read bytes) (count_in bytes) (items_in bytes) (items_of (parsed bytes)) [] = items_take (version_read bytes) (count_in bytes) (items_in bytes) (items_of (parsed bytes), []) (IsBytes-drop HEADER (tagged_in bytes) (IsBytes-take (length bytes - TAG) bytes fits)) g.parsed in (
       record {
         limits = within key bytes g s;
         fields = record {
@@ -226,7 +222,8 @@ no_fault key bytes c t f =
     let room = p.limits.room in
     let limit_nodes : (limits_of (version_read bytes)).nodes ≡ (limits_of c.version).nodes = ap (λ (v : TextVersion). (limits_of v).nodes) r.version in
     let limit_packet : (limits_of (version_read bytes)).packet ≡ (limits_of c.version).packet = ap (λ (v : TextVersion). (limits_of v).packet) r.version in
-    let s : Stand (payload_limit bytes) (count_in bytes) (items_in bytes) c.items [] = record { count = sym r.count; fit = p.items; payloads = rw (r.version, payload_limit) p.limits.payloads; parts = r.items ∙ sym (append-nil (items_text c.items)) } in
+    let s : Stand (version_read bytes) (count_in bytes) (items_in bytes) c.items [] =
+    subst (λ (v : TextVersion). Stand v (count_in bytes) (items_in bytes) c.items []) (sym r.version) (record { count = sym r.count; fit = p.items; payloads = p.limits.payloads; parts = r.items ∙ sym (append-nil (items_text c.version c.items)) }) in
     elim f as (λ f. ¬ (HasFault key bytes f)) [
       | Short ↦ λ h. let l = r.len in absurd (omega arith)
       | Magic ↦ λ h. h r.magic
@@ -247,7 +244,7 @@ no_fault key bytes c t f =
         | inr a ↦ a.0 (r.frame ∙ p.limits.frame.1 (sym r.count ∙ a.1))
       ]
       | Length ↦ λ h. h c.items [] s
-      | Trailing ↦ λ h. h.2 (ap (λ x. x.1) (some_same (h.0, h.1) (c.items, []) (sym (stand_again (payload_limit bytes) (count_in bytes) (items_in bytes) h.0 h.1 h.3) ∙ r.parsed)))
+      | Trailing ↦ λ h. h.2 (ap (λ x. x.1) (some_same (h.0, h.1) (c.items, []) (sym (stand_again (version_read bytes) (count_in bytes) (items_in bytes) h.0 h.1 h.3) ∙ r.parsed)))
       | TooLong ↦ λ h. let l = r.len in absurd (omega (arith, h, l, limit_packet, room, shortest_fits c.version))
       | Tag ↦ λ h. h (r.tag ∙ ap (tag_of key) (sym r.tagged))
     ]

@@ -3,15 +3,21 @@ use Rattle.std.proofs.Common.{◌≡◌, ℕ, ◌+◌, ◌-◌, ◌*◌, ◌<◌
 use Rattle.std.proofs.lemmas.List.{length-append, take_more, flat_map_more}
 use Rattle.std.proofs.lemmas.List.Folds.{length-flat_map-take}
 use Rattle.std.proofs.lemmas.List.Concat.{flat_map-cons}
+use Rattle.gb_types.specs.Version.{limits_of}
+use Rattle.gb_types.specs.declared.version.Version.{Version}
+use Rattle.gb_types.specs.declared.version.Version.TheVariants.{One, Two, Three}
+use Rattle.gb_types.proofs.VersionLemmas.{header_least}
 use Rattle.gb_frame.specs.declared.item.Item.{Item}
 use Rattle.gb_frame.specs.Spelling.{item_text, items_text}
 
-pub length-item_text : (i : Item) → length (item_text i) ≡ 9 + length i.payload
-length-item_text i = omega arith
+pub length-item_text : (version : Version) (i : Item) → length (item_text version i) ≡ (limits_of version).item_header + length i.payload
+length-item_text One i = omega arith
+length-item_text Two i = omega arith
+length-item_text Three i = omega arith
 
 -- one more item
-pub texts_more : (items : List Item) (i : ℕ) (d : Item) → i < length items → items_text (take (i + 1) items) ≡ items_text (take i items) ++ item_text (get_or items i d)
-texts_more items i d below = ap items_text (take_more items i d below) ∙ sym (flat_map_more item_text [] (take i items) (get_or items i d))
+pub texts_more : (version : Version) (items : List Item) (i : ℕ) (d : Item) → i < length items → items_text version (take (i + 1) items) ≡ items_text version (take i items) ++ item_text version (get_or items i d)
+texts_more version items i d below = ap (items_text version) (take_more items i d below) ∙ sym (flat_map_more (item_text version) [] (take i items) (get_or items i d))
 
 -- an item whose payload is too long
 pub too_long : (limit : ℕ) (items : List Item) (i : ℕ) (item : Item) → i < length items → item ≡ get_or items i item → limit < length item.payload
@@ -19,38 +25,38 @@ pub too_long : (limit : ℕ) (items : List Item) (i : ℕ) (item : Item) → i <
 too_long limit items i item below is long all = let fits = all i item below in let same = ap (λ (x : Item). length x.payload) is in absurd (omega (arith, fits, same, long))
 
 -- an item for which no room is left
-pub no_room : (all : ℕ) (items : List Item) (i : ℕ) (item : Item) (room : ℕ) → i < length items → item ≡ get_or items i item → room < 9 + length item.payload
-    → length (items_text (take i items)) + room ≡ all → length (items_text items) ≤ all → ⊥
-no_room all items i item room below is none so_far within =
-    let before = length-flat_map-take item_text items i item below in
-    let here = length-item_text item in let same = ap (λ (x : Item). length (item_text x)) is in
+pub no_room : (version : Version) (all : ℕ) (items : List Item) (i : ℕ) (item : Item) (room : ℕ) → i < length items → item ≡ get_or items i item → room < (limits_of version).item_header + length item.payload
+    → length (items_text version (take i items)) + room ≡ all → length (items_text version items) ≤ all → ⊥
+no_room version all items i item room below is none so_far within =
+    let before = length-flat_map-take (item_text version) items i item below in
+    let here = length-item_text version item in let same = ap (λ (x : Item). length (item_text version x)) is in
     absurd (omega (arith, before, here, same))
 
 -- one more item has room
-pub room_more : (all : ℕ) (items : List Item) (i : ℕ) (item : Item) (room : ℕ) → i < length items → item ≡ get_or items i item → 9 + length item.payload ≤ room
-    → length (items_text (take i items)) + room ≡ all → length (items_text (take (i + 1) items)) + (room - (9 + length item.payload)) ≡ all
-room_more all items i item room below is fits so_far =
-    let here = length-item_text item in let same = ap (λ (x : Item). length (item_text x)) is in
-    let whole : length (items_text (take (i + 1) items)) ≡ length (items_text (take i items)) + length (item_text (get_or items i item)) = ap length (texts_more items i item below) ∙ length-append (items_text (take i items)) (item_text (get_or items i item)) in
+pub room_more : (version : Version) (all : ℕ) (items : List Item) (i : ℕ) (item : Item) (room : ℕ) → i < length items → item ≡ get_or items i item → (limits_of version).item_header + length item.payload ≤ room
+    → length (items_text version (take i items)) + room ≡ all → length (items_text version (take (i + 1) items)) + (room - ((limits_of version).item_header + length item.payload)) ≡ all
+room_more version all items i item room below is fits so_far =
+    let here = length-item_text version item in let same = ap (λ (x : Item). length (item_text version x)) is in
+    let whole : length (items_text version (take (i + 1) items)) ≡ length (items_text version (take i items)) + length (item_text version (get_or items i item)) = ap length (texts_more version items i item below) ∙ length-append (items_text version (take i items)) (item_text version (get_or items i item)) in
     omega (arith, here, same, whole)
 
 -- each item has at least its header
-pub count_fits : (items : List Item) → 9 * length items ≤ length (items_text items)
-count_fits [] = omega arith
-count_fits (i ∷ items) = let rest = count_fits items in let here = length-item_text i in let both = ap length (flat_map-cons item_text i items) ∙ length-append (item_text i) (items_text items) in omega (arith, rest, here, both)
+pub count_fits : (version : Version) (items : List Item) → 9 * length items ≤ length (items_text version items)
+count_fits version [] = omega arith
+count_fits version (i ∷ items) = let rest = count_fits version items in let least = header_least version in let here = length-item_text version i in let both = ap length (flat_map-cons (item_text version) i items) ∙ length-append (item_text version i) (items_text version items) in omega (arith, rest, least, here, both)
 
 -- what stands before an item, and the item, are not more than all
-pub one_fits : (items : List Item) (i : ℕ) (item : Item) → i < length items → item ≡ get_or items i item → length (items_text (take i items)) + (9 + length item.payload) ≤ length (items_text items)
-one_fits items i item below is =
-    let before = length-flat_map-take item_text items i item below in
-    let here = length-item_text item in
-    let same = ap (λ (x : Item). length (item_text x)) is in
+pub one_fits : (version : Version) (items : List Item) (i : ℕ) (item : Item) → i < length items → item ≡ get_or items i item → length (items_text version (take i items)) + ((limits_of version).item_header + length item.payload) ≤ length (items_text version items)
+one_fits version items i item below is =
+    let before = length-flat_map-take (item_text version) items i item below in
+    let here = length-item_text version item in
+    let same = ap (λ (x : Item). length (item_text version x)) is in
     omega (arith, before, here, same)
 
 -- the length with one more item
-pub length_more : (items : List Item) (i : ℕ) (item : Item) → i < length items → item ≡ get_or items i item → length (items_text (take (i + 1) items)) ≡ length (items_text (take i items)) + (9 + length item.payload)
-length_more items i item below is =
-    let here = length-item_text item in
-    let same = ap (λ (x : Item). length (item_text x)) is in
-    let whole = ap length (texts_more items i item below) ∙ length-append (items_text (take i items)) (item_text (get_or items i item)) in
+pub length_more : (version : Version) (items : List Item) (i : ℕ) (item : Item) → i < length items → item ≡ get_or items i item → length (items_text version (take (i + 1) items)) ≡ length (items_text version (take i items)) + ((limits_of version).item_header + length item.payload)
+length_more version items i item below is =
+    let here = length-item_text version item in
+    let same = ap (λ (x : Item). length (item_text version x)) is in
+    let whole = ap length (texts_more version items i item below) ∙ length-append (items_text version (take i items)) (item_text version (get_or items i item)) in
     omega (arith, here, same, whole)

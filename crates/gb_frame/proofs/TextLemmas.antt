@@ -26,7 +26,7 @@ length-tag_of key text = omega (arith, length-take TAG (hmac_of key text), lengt
 
 -- the fields of bytes are those of a packet
 pub record Reads (key bytes : List ℕ) (c : Content) : Type 0 where
-  pub len : length bytes ≡ SHORTEST + length (items_text c.items)
+  pub len : length bytes ≡ SHORTEST + length (items_text c.version c.items)
   pub magic : take 2 bytes ≡ codes "GB"
   pub named : version_named (version_in bytes) ≡ Some c.version
   pub version : version_read bytes ≡ c.version
@@ -38,7 +38,7 @@ pub record Reads (key bytes : List ℕ) (c : Content) : Type 0 where
   pub count : count_in bytes ≡ length c.items
   pub tagged : tagged_in bytes ≡ tagged_text c
   pub tag : tag_in bytes ≡ tag_of key (tagged_text c)
-  pub items : items_in bytes ≡ items_text c.items
+  pub items : items_in bytes ≡ items_text c.version c.items
   pub parsed : parsed bytes ≡ Some (c.items, [])
 
 pub reads : (key : List ℕ) (c : Content) → IsPacket c → Reads key (packet_text key c) c
@@ -49,12 +49,12 @@ reads key c p =
     let tag_len = length-tag_of key (tagged_text c) in
     let total : length bytes ≡ length (tagged_text c) + 8 = omega (arith, length-append (tagged_text c) tag, tag_len) in
     let before : length (tagged_text c) ≡ length bytes - 8 = omega arith in
-    let few : length c.items < 2 ^ 16 = let room = p.limits.room in omega (arith, count_fits c.items, room_within c.version) in
+    let few : length c.items < 2 ^ 16 = let room = p.limits.room in omega (arith, count_fits c.version c.items, room_within c.version) in
     let count : count_in bytes ≡ length c.items = number_again w16 (2 ^ 16) wide16 29 bytes (length c.items) few refl in
     let tagged : tagged_in bytes ≡ tagged_text c = take_at (tagged_text c) tag (length bytes - 8) before in
-    let items : items_in bytes ≡ items_text c.items = ap (drop 31) tagged in
+    let items : items_in bytes ≡ items_text c.version c.items = ap (drop 31) tagged in
     let limit : ℕ = (limits_of c.version).payload in
-    let all : items_at limit (length c.items) (items_text c.items) ≡ Some (c.items, []) = ap (items_at limit (length c.items)) (sym (append-nil (items_text c.items))) ∙ items_again limit c.items [] p.items p.limits.payloads in
+    let all : items_at c.version limit (length c.items) (items_text c.version c.items) ≡ Some (c.items, []) = ap (items_at c.version limit (length c.items)) (sym (append-nil (items_text c.version c.items))) ∙ items_again c.version limit c.items [] p.items p.limits.payloads in
     let named : version_named (version_in bytes) ≡ Some c.version = named_by_byte c.version in
     let version : version_read bytes ≡ c.version = ap (λ o. unwrap_or o One) named in
     record {
@@ -71,7 +71,7 @@ reads key c p =
       tagged = tagged;
       tag = drop_at (tagged_text c) tag (length bytes - 8) before;
       items = items;
-      parsed = ap (λ (v : Version). items_at (limits_of v).payload (count_in bytes) (items_in bytes)) version ∙ rw (count, items) all;
+      parsed = ap (λ (v : Version). items_at v (limits_of v).payload (count_in bytes) (items_in bytes)) version ∙ rw (count, items) all;
     }
 
 pub text_reads : (key bytes : List ℕ) (c : Content) → IsText key bytes c → Reads key bytes c

@@ -1,7 +1,7 @@
 -- What a version's packets have room for.
 use Rattle.std.proofs.Common.{◌≤◌, arith}
 use Rattle.gb_types.specs.declared.version.Version.{Version}
-use Rattle.gb_types.specs.declared.version.Version.TheVariants.{One, Two}
+use Rattle.gb_types.specs.declared.version.Version.TheVariants.{One, Two, Three}
 use Rattle.gb_types.specs.Version.{limits_of, limits_are_within}
 use Rattle.gb_frame.specs.declared.limits.TheConstants.{SHORTEST, ROOM}
 use Rattle.gb_frame.specs.Room.{room_of}
@@ -10,6 +10,7 @@ use Rattle.gb_frame.specs.Room.{room_of}
 pub shortest_fits : (v : Version) → SHORTEST ≤ (limits_of v).packet
 shortest_fits One = omega arith
 shortest_fits Two = omega arith
+shortest_fits Three = omega arith
 
 pub room_within : (v : Version) → room_of v ≤ ROOM
 room_within v = let most = (limits_are_within v).packet in omega (arith, most)

@@ -1,6 +1,7 @@
 -- Items one after the other, as loops over them go.
 use Rattle.std.proofs.Common.{◌≡◌, ℕ, suc, List, [], ◌∷◌, Option, Some, None, refl}
 use Rattle.std.specs.Prelude.{option_map, option_and_then, IsSome}
+use Rattle.gb_types.specs.declared.version.Version.{Version}
 use Rattle.gb_frame.specs.declared.item.Item.{Item}
 use Rattle.gb_frame.specs.Reading.{item_at, items_at, left_over}
 
@@ -8,18 +9,18 @@ use Rattle.gb_frame.specs.Reading.{item_at, items_at, left_over}
 abbrev pub behind : Option (List Item × List ℕ) → Option (List ℕ)
 behind o = option_map (λ x. x.1) o
 
-pub no_item : (limit n : ℕ) (bytes : List ℕ) → item_at limit bytes ≡ None → items_at limit (suc n) bytes ≡ None
+pub no_item : (version : Version) (limit n : ℕ) (bytes : List ℕ) → item_at version limit bytes ≡ None → items_at version limit (suc n) bytes ≡ None
 unfolding items_at
-no_item limit n bytes none = rw none refl
+no_item version limit n bytes none = rw none refl
 
-pub behind_more : (limit n : ℕ) (bytes : List ℕ) (i : Item) (rest : List ℕ) → item_at limit bytes ≡ Some (i, rest) → behind (items_at limit (suc n) bytes) ≡ behind (items_at limit n rest)
+pub behind_more : (version : Version) (limit n : ℕ) (bytes : List ℕ) (i : Item) (rest : List ℕ) → item_at version limit bytes ≡ Some (i, rest) → behind (items_at version limit (suc n) bytes) ≡ behind (items_at version limit n rest)
 unfolding items_at
-behind_more limit n bytes i rest found =
-    rw found (elim (items_at limit n rest) as (λ o. behind (option_and_then (λ others. Some (i ∷ others.0, others.1)) o) ≡ behind o) [ None ↦ refl | Some x ↦ refl ])
+behind_more version limit n bytes i rest found =
+    rw found (elim (items_at version limit n rest) as (λ o. behind (option_and_then (λ others. Some (i ∷ others.0, others.1)) o) ≡ behind o) [ None ↦ refl | Some x ↦ refl ])
 
-pub none_left : (limit : ℕ) (bytes : List ℕ) → items_at limit 0 bytes ≡ Some ([], bytes)
+pub none_left : (version : Version) (limit : ℕ) (bytes : List ℕ) → items_at version limit 0 bytes ≡ Some ([], bytes)
 unfolding items_at
-none_left limit bytes = refl
+none_left version limit bytes = refl
 
 pub behind_none : (o : Option (List Item × List ℕ)) → None ≡ behind o → o ≡ None
 behind_none None e = refl

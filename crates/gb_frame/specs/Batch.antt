@@ -14,25 +14,25 @@ first_and others None = []
 first_and others (Some x) = x.0 ∷ others x.1
 
 -- at most n items, read one after another from the front of the bytes; reading ends where no item with a payload of at most PAYLOAD bytes stands
-unfoldable pub items_from : ℕ → List ℕ → List Item
-items_from zero bytes = []
-items_from (suc n) bytes = first_and (items_from n) (item_at PAYLOAD bytes)
+unfoldable pub items_from : Version → ℕ → List ℕ → List Item
+items_from version zero bytes = []
+items_from version (suc n) bytes = first_and (items_from version n) (item_at version PAYLOAD bytes)
 
 -- the items with these texts
-abbrev pub batch_in : List ℕ → List Item
-batch_in bytes = items_from (length bytes) bytes
+abbrev pub batch_in : Version → List ℕ → List Item
+batch_in version bytes = items_from version (length bytes) bytes
 
--- these bytes are texts of items, some, and no more than a packet of any version has room for
-pub record IsBatch (bytes : List ℕ) : Type 0 where
-  pub texts : AreTexts bytes (batch_in bytes)
+-- these bytes are texts of items of the version, some, and no more than a packet of any version has room for
+pub record IsBatch (version : Version) (bytes : List ℕ) : Type 0 where
+  pub texts : AreTexts version bytes (batch_in version bytes)
   pub some : 0 < length bytes
   pub room : length bytes ≤ ROOM
 
 -- the items fit a packet of a version: each payload is within its limit, and there is room for them
 pub record FitPacket (version : Version) (items : List Item) : Type 0 where
   pub payloads : All (λ i. length i.payload ≤ (limits_of version).payload) items
-  pub room : length (items_text items) ≤ room_of version
+  pub room : length (items_text version items) ≤ room_of version
 
 -- texts tell which items they are of
 abbrev pub TextsTellItems : Type 0
-TextsTellItems = (bytes : List ℕ) (items : List Item) → AreTexts bytes items → batch_in bytes ≡ items
+TextsTellItems = (version : Version) (bytes : List ℕ) (items : List Item) → AreTexts version bytes items → batch_in version bytes ≡ items

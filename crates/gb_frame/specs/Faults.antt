@@ -1,6 +1,7 @@
 -- The table of faults: where each holds of bytes, and which is the first.
 use Rattle.std.specs.Prelude.{◌≡◌, ◌≢◌, ℕ, ◌<◌, ◌≤◌, ◌%◌, ◌⊎◌, List, [], ◌++◌, length, take, codes, All, None}
 use Rattle.gb_types.specs.Version.{limits_of, version_named}
+use Rattle.gb_types.specs.declared.version.Version.{Version as TextVersion}
 use Rattle.gb_frame.specs.declared.limits.TheConstants.{SHORTEST}
 use Rattle.gb_frame.specs.declared.fault.PacketFault.{PacketFault}
 use Rattle.gb_frame.specs.declared.fault.PacketFault.TheVariants.{Short, Magic, Version, Node, Mask, Count, Length, Trailing, TooLong, Tag}
@@ -22,12 +23,12 @@ fault_number Trailing = 8
 fault_number TooLong = 9
 fault_number Tag = 10
 
--- The bytes are the texts of n items, followed by the rest. Each payload has at most `limit` bytes.
-pub record Stand (limit n : ℕ) (bytes : List ℕ) (items : List Item) (rest : List ℕ) : Type 0 where
+-- The bytes are the texts of n items of the version, followed by the rest. Each payload is within the version's limit.
+pub record Stand (version : TextVersion) (n : ℕ) (bytes : List ℕ) (items : List Item) (rest : List ℕ) : Type 0 where
   pub count : length items ≡ n
-  pub fit : All IsItem items
-  pub payloads : All (λ i. length i.payload ≤ limit) items
-  pub parts : bytes ≡ items_text items ++ rest
+  pub fit : All (IsItem version) items
+  pub payloads : All (λ i. length i.payload ≤ (limits_of version).payload) items
+  pub parts : bytes ≡ items_text version items ++ rest
 
 -- where a fault holds, whatever else does; the limits are those of the version that the version byte stands for
 abbrev pub HasFault : List ℕ → List ℕ → PacketFault → Type 0
@@ -37,8 +38,8 @@ HasFault key bytes Version = version_named (version_in bytes) ≡ None
 HasFault key bytes Node = ((limits_of (version_read bytes)).nodes ≤ from_in bytes) ⊎ ((limits_of (version_read bytes)).nodes ≤ to_in bytes) ⊎ (from_in bytes ≡ to_in bytes)
 HasFault key bytes Mask = (base_in bytes ≡ 0) ⊎ (mask_in bytes % 2 ≡ 1)
 HasFault key bytes Count = ((frame_in bytes ≡ 0) × (count_in bytes ≢ 0)) ⊎ ((frame_in bytes ≢ 0) × (count_in bytes ≡ 0))
-HasFault key bytes Length = (items : List Item) (rest : List ℕ) → ¬ Stand (limits_of (version_read bytes)).payload (count_in bytes) (items_in bytes) items rest
-HasFault key bytes Trailing = (items : List Item) × (rest : List ℕ) × (rest ≢ []) × Stand (limits_of (version_read bytes)).payload (count_in bytes) (items_in bytes) items rest
+HasFault key bytes Length = (items : List Item) (rest : List ℕ) → ¬ Stand (version_read bytes) (count_in bytes) (items_in bytes) items rest
+HasFault key bytes Trailing = (items : List Item) × (rest : List ℕ) × (rest ≢ []) × Stand (version_read bytes) (count_in bytes) (items_in bytes) items rest
 HasFault key bytes TooLong = (limits_of (version_read bytes)).packet < length bytes
 HasFault key bytes Tag = tag_in bytes ≢ tag_of key (tagged_in bytes)
 

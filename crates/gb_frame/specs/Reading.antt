@@ -1,11 +1,11 @@
 -- Reading bytes as a packet, as a function on lists.
-use Rattle.std.specs.Prelude.{ℕ, zero, suc, ◌%◌, Bool, ◌||◌, ◌&&◌, not, nat_lt, nat_eq, List, [], ◌∷◌, length, take, drop, is_none, is_some, nat_le, find, ◌==◌, Option, Some, None, unwrap_or, option_and_then, Result, Ok, Err, if◌then◌else◌, slice_index}
+use Rattle.std.specs.Prelude.{ℕ, zero, suc, ◌%◌, ◌-◌, Bool, ◌||◌, ◌&&◌, not, nat_lt, nat_eq, List, [], ◌∷◌, length, take, drop, is_none, is_some, nat_le, find, ◌==◌, Option, Some, None, unwrap_or, option_and_then, Result, Ok, Err, if◌then◌else◌, slice_index}
 use Rattle.std.specs.Cmp.Lexicographic.{pointwise}
-use Rattle.std.specs.Int.{w16}
+use Rattle.std.specs.Int.{w16, w32}
 use Rattle.gb_types.specs.declared.version.Version.{Version as TextVersion}
-use Rattle.gb_types.specs.declared.version.Version.TheVariants.{One}
+use Rattle.gb_types.specs.declared.version.Version.TheVariants.{One, Two, Three}
 use Rattle.gb_types.specs.Version.{limits_of, version_named}
-use Rattle.gb_frame.specs.declared.limits.TheConstants.{ITEM_HEADER, SHORTEST}
+use Rattle.gb_frame.specs.declared.limits.TheConstants.{SHORTEST}
 use Rattle.gb_frame.specs.declared.item.Item.{Item}
 use Rattle.gb_frame.specs.declared.fault.PacketFault.{PacketFault}
 use Rattle.gb_frame.specs.declared.fault.PacketFault.TheVariants.{Short, Magic, Version, Node, Mask, Count, Length, Trailing, TooLong, Tag}
@@ -13,18 +13,26 @@ use Rattle.gb_frame.specs.Fields.{number_at, version_in, from_in, to_in, base_in
 use Rattle.gb_frame.specs.Packet.{Content}
 use Rattle.gb_frame.specs.Spelling.{tag_of}
 
--- the item at the front, and the bytes after it; the limit is the longest payload's
-unfoldable pub item_at : ℕ → List ℕ → Option (Item × List ℕ)
-item_at limit bytes =
-    let len = number_at w16 7 bytes in
-    let rest = drop ITEM_HEADER bytes in
-    if nat_lt (length bytes) ITEM_HEADER || (nat_lt limit len || nat_lt (length rest) len) then None
-    else Some (record { tenant = number_at w16 0 bytes; group = number_at w16 2 bytes; generation = 0; origin = slice_index bytes 4; seq = number_at w16 5 bytes; payload = take len rest }, drop len rest)
+-- the generation of the item at the front, the first where the items of the version name none
+abbrev pub generation_at : TextVersion → List ℕ → ℕ
+generation_at One bytes = 0
+generation_at Two bytes = 0
+generation_at Three bytes = number_at w32 4 bytes
+
+-- The item at the front, and the bytes after it; the limit is the longest payload's. The last fields of the header are the origin, the sequence
+-- number and the payload's length.
+unfoldable pub item_at : TextVersion → ℕ → List ℕ → Option (Item × List ℕ)
+item_at version limit bytes =
+    let header = (limits_of version).item_header in
+    let len = number_at w16 (header - 2) bytes in
+    let rest = drop header bytes in
+    if nat_lt (length bytes) header || (nat_lt limit len || nat_lt (length rest) len) then None
+    else Some (record { tenant = number_at w16 0 bytes; group = number_at w16 2 bytes; generation = generation_at version bytes; origin = slice_index bytes (header - 5); seq = number_at w16 (header - 4) bytes; payload = take len rest }, drop len rest)
 
 -- so many items at the front, and the bytes after them
-unfoldable pub items_at : ℕ → ℕ → List ℕ → Option (List Item × List ℕ)
-items_at limit zero bytes = Some ([], bytes)
-items_at limit (suc n) bytes = option_and_then (λ first. option_and_then (λ others. Some (first.0 ∷ others.0, others.1)) (items_at limit n first.1)) (item_at limit bytes)
+unfoldable pub items_at : TextVersion → ℕ → ℕ → List ℕ → Option (List Item × List ℕ)
+items_at version limit zero bytes = Some ([], bytes)
+items_at version limit (suc n) bytes = option_and_then (λ first. option_and_then (λ others. Some (first.0 ∷ others.0, others.1)) (items_at version limit n first.1)) (item_at version limit bytes)
 
 -- the items, and what is left behind them
 abbrev pub left_over : Option (List Item × List ℕ) → List ℕ
@@ -39,7 +47,7 @@ version_read bytes = unwrap_or (version_named (version_in bytes)) One
 
 -- the items and what is left, where all items that are counted are there
 abbrev pub parsed : List ℕ → Option (List Item × List ℕ)
-parsed bytes = items_at (limits_of (version_read bytes)).payload (count_in bytes) (items_in bytes)
+parsed bytes = items_at (version_read bytes) (limits_of (version_read bytes)).payload (count_in bytes) (items_in bytes)
 
 -- the tests of the header
 abbrev pub is_magic : List ℕ → Bool

@@ -1,21 +1,33 @@
 -- The one text of each packet under a key: the header, the items, and the tag of both.
 use Rattle.std.specs.Prelude.{◌≡◌, ◌≢◌, ℕ, ◌%◌, ◌^◌, ◌<◌, ◌≤◌, ◌↔◌, List, [], ◌∷◌, ◌++◌, length, take, slice_index_or, codes, All}
-use Rattle.std.specs.Int.{w16, w64, to_be_bytes}
+use Rattle.std.specs.Int.{w16, w32, w64, to_be_bytes}
 use Rattle.std.specs.List.{flat_map}
 use Rattle.gb_types.specs.declared.limits.TheConstants.{NODES, PAYLOAD}
 use Rattle.gb_cap.specs.Hmac.{hmac_of}
 use Rattle.gb_types.specs.Version.{limits_of}
+use Rattle.gb_types.specs.declared.version.Version.{Version}
+use Rattle.gb_types.specs.declared.version.Version.TheVariants.{One, Two, Three}
 use Rattle.gb_frame.specs.declared.limits.TheConstants.{TAG}
 use Rattle.gb_frame.specs.declared.item.Item.{Item}
 use Rattle.gb_frame.specs.Packet.{Content}
 use Rattle.gb_frame.specs.Room.{room_of}
 
--- an item: tenant, group, origin, sequence number, the payload's length, the payload
-abbrev pub item_text : Item → List ℕ
-item_text i = to_be_bytes w16 i.tenant ++ to_be_bytes w16 i.group ++ i.origin ∷ [] ++ to_be_bytes w16 i.seq ++ to_be_bytes w16 (length i.payload) ++ i.payload
+-- a generation, where the items of the version name theirs
+abbrev pub generation_text : Version → ℕ → List ℕ
+generation_text One generation = []
+generation_text Two generation = []
+generation_text Three generation = to_be_bytes w32 generation
 
-abbrev pub items_text : List Item → List ℕ
-items_text items = flat_map item_text items
+-- an item's header: tenant, group, generation, origin, sequence number, the payload's length
+abbrev pub item_head : Version → Item → List ℕ
+item_head version i = to_be_bytes w16 i.tenant ++ (to_be_bytes w16 i.group ++ (generation_text version i.generation ++ (i.origin ∷ to_be_bytes w16 i.seq ++ to_be_bytes w16 (length i.payload))))
+
+-- an item: its header and its payload
+abbrev pub item_text : Version → Item → List ℕ
+item_text version i = item_head version i ++ i.payload
+
+abbrev pub items_text : Version → List Item → List ℕ
+items_text version items = flat_map (item_text version) items
 
 -- the header: magic, version, sender, destination, acknowledgement, frame number, count of items
 unfoldable pub header_text : Content → List ℕ
@@ -23,7 +35,7 @@ header_text c = codes "GB" ++ (limits_of c.version).byte ∷ c.from ∷ c.to ∷
 
 -- what the tag is made of
 abbrev pub tagged_text : Content → List ℕ
-tagged_text c = header_text c ++ items_text c.items
+tagged_text c = header_text c ++ items_text c.version c.items
 
 -- the first bytes of the HMAC under the key
 unfoldable pub tag_of : List ℕ → List ℕ → List ℕ
@@ -36,20 +48,26 @@ packet_text key c = tagged_text c ++ tag_of key (tagged_text c)
 abbrev pub IsBytes : List ℕ → Type 0
 IsBytes bytes = (i : ℕ) → slice_index_or bytes i 0 < 2 ^ 8
 
--- an item that has a text: its generation is the first, since no version of the text names another
-pub record IsItem (i : Item) : Type 0 where
+-- the generation of an item can be told: it is the first where the items of the version name none
+abbrev pub HasGeneration : Version → Item → Type 0
+HasGeneration One i = i.generation ≡ 0
+HasGeneration Two i = i.generation ≡ 0
+HasGeneration Three i = i.generation < 2 ^ 32
+
+-- an item that has a text of the version
+pub record IsItem (version : Version) (i : Item) : Type 0 where
   pub tenant : i.tenant < 2 ^ 16
   pub group : i.group < 2 ^ 16
-  pub generation : i.generation ≡ 0
+  pub generation : HasGeneration version i
   pub origin : i.origin < 2 ^ 8
   pub seq : i.seq < 2 ^ 16
   pub bytes : IsBytes i.payload
   pub length : length i.payload ≤ PAYLOAD
 
 -- these bytes are the texts of these items, one after another
-pub record AreTexts (bytes : List ℕ) (items : List Item) : Type 0 where
-  pub parts : bytes ≡ items_text items
-  pub fit : All IsItem items
+pub record AreTexts (version : Version) (bytes : List ℕ) (items : List Item) : Type 0 where
+  pub parts : bytes ≡ items_text version items
+  pub fit : All (IsItem version) items
 
 -- the limits that a packet's sender keeps to, which are those of the packet's version
 pub record IsWithinLimits (c : Content) : Type 0 where
@@ -60,7 +78,7 @@ pub record IsWithinLimits (c : Content) : Type 0 where
   pub mask : c.mask % 2 ≡ 0
   pub frame : (c.frame ≡ 0) ↔ (length c.items ≡ 0)
   pub payloads : All (λ i. length i.payload ≤ (limits_of c.version).payload) c.items
-  pub room : length (items_text c.items) ≤ room_of c.version
+  pub room : length (items_text c.version c.items) ≤ room_of c.version
 
 -- each field fits the bytes that it is written in
 pub record FitsFields (c : Content) : Type 0 where
@@ -74,7 +92,7 @@ pub record FitsFields (c : Content) : Type 0 where
 pub record IsPacket (c : Content) : Type 0 where
   pub limits : IsWithinLimits c
   pub fields : FitsFields c
-  pub items : All IsItem c.items
+  pub items : All (IsItem c.version) c.items
 
 -- the bytes are this packet's text under the key
 abbrev pub IsText : List ℕ → List ℕ → Content → Type 0

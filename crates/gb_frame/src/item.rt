@@ -1,12 +1,13 @@
 //! Items: one message of one group each, and their texts.
 ghost use Rattle.std.specs.Prelude.{◌≡◌, ◌+◌, ◌≤◌, ◌++◌, List, length, MatchOption, IsSome, All, None, Some, vec_len, vec_capacity};
 ghost use Rattle.gb_types.specs.declared.limits.TheConstants.{PAYLOAD};
-ghost use Rattle.gb_frame.specs.declared.limits.TheConstants.{ITEM_HEADER, ROOM};
+ghost use Rattle.gb_types.specs.Version.{limits_of};
+ghost use Rattle.gb_frame.specs.declared.limits.TheConstants.{ROOM};
 
-use crate::limits::ITEM_HEADER;
-use crate::number::u16_at;
+use crate::number::{u16_at, u32_at};
 use gb_types::limits::PAYLOAD;
 use gb_types::payload::Payload;
+use gb_types::version::Version;
 
 /// A message of a group on its way. Nothing but the payload's length is judged here.
 #[derive(Drop)]
@@ -35,8 +36,8 @@ pub struct ItemView<'a> {
 }
 
 ghost use Rattle.gb_frame.specs.Packet.{item_of};
-ghost use Rattle.gb_frame.specs.Spelling.{item_text, items_text, IsItem, IsBytes, AreTexts};
-ghost use Rattle.gb_frame.specs.Reading.{item_at, items_at, left_over};
+ghost use Rattle.gb_frame.specs.Spelling.{item_head, item_text, items_text, HasGeneration, IsItem, IsBytes, AreTexts};
+ghost use Rattle.gb_frame.specs.Reading.{generation_at, item_at, items_at, left_over};
 ghost use Rattle.gb_frame.specs.declared.item.Item.{Item};
 
 impl Item {
@@ -62,85 +63,119 @@ fn are_bytes(payload: &[u8])
     ensures { IsBytes payload.now }
 {}
 
-/// Appends an item's text, which does not name its generation, the first. Takes no memory.
-pub fn put_item(item: ItemView<'_>, text: &mut Vec<u8>)
-    requires first { item.generation ≡ 0 }
-    requires payload { length item.payload.now ≤ PAYLOAD }
-    requires room { vec_len text.old + ITEM_HEADER + length item.payload.now ≤ vec_capacity text.old }
-    ensures written { text.new.items ≡ text.old.items ++ item_text (item_of item.entry) }
-    ensures len { vec_len text.new ≡ vec_len text.old + ITEM_HEADER + length item.entry.payload.now }
+/// Appends bytes. Takes no memory.
+pub(crate) fn append(text: &mut Vec<u8>, bytes: &[u8])
+    requires { vec_len text.old + length bytes.now ≤ vec_capacity text.old }
+    ensures items { text.new.items ≡ text.old.items ++ bytes.now }
+    ensures len { vec_len text.new ≡ vec_len text.old + length bytes.now }
     ensures capacity { vec_capacity text.old ≤ vec_capacity text.new }
-    ensures fits { IsItem (item_of item.entry) }
 {
-    let tenant = item.tenant.to_be_bytes();
-    let group = item.group.to_be_bytes();
-    let seq = item.seq.to_be_bytes();
-    let payload = item.payload;
-    are_bytes(payload);
-    let len = (payload.len() as u16).to_be_bytes();
-    let header = [
-        tenant[0],
-        tenant[1],
-        group[0],
-        group[1],
-        item.origin,
-        seq[0],
-        seq[1],
-        len[0],
-        len[1],
-    ];
-    text.extend_from_slice(&header).unwrap();
-    text.extend_from_slice(payload).unwrap();
+    text.extend_from_slice(bytes).unwrap();
 }
 
-/// Appends the texts of items of first generations. Takes no memory.
-pub fn put_items(items: &[Item], text: &mut Vec<u8>)
-    requires first { All (λ i. i.generation ≡ 0) items.now }
-    requires payloads { All (λ i. length i.payload ≤ PAYLOAD) items.now }
-    requires room { vec_len text.old + length (items_text items.now) ≤ vec_capacity text.old }
-    ensures written { text.new.items ≡ text.old.items ++ items_text items.now }
-    ensures len { vec_len text.new ≡ vec_len text.old + length (items_text items.now) }
+/// Appends an item's header. Takes no memory.
+fn put_head(version: Version, item: ItemView<'_>, text: &mut Vec<u8>)
+    requires payload { length item.payload.now ≤ PAYLOAD }
+    requires room { vec_len text.old + (limits_of version).item_header ≤ vec_capacity text.old }
+    ensures written { text.new.items ≡ text.old.items ++ item_head version (item_of item.entry) }
+    ensures len { vec_len text.new ≡ vec_len text.old + (limits_of version).item_header }
     ensures capacity { vec_capacity text.old ≤ vec_capacity text.new }
-    ensures fit { All IsItem items.now }
+{
+    let [t0, t1] = item.tenant.to_be_bytes();
+    let [g0, g1] = item.group.to_be_bytes();
+    let [n0, n1, n2, n3] = item.generation.to_be_bytes();
+    let [s0, s1] = item.seq.to_be_bytes();
+    let [l0, l1] = (item.payload.len() as u16).to_be_bytes();
+    match version {
+        Version::One | Version::Two => {
+            append(text, &[t0, t1, g0, g1, item.origin, s0, s1, l0, l1]);
+        }
+        Version::Three => {
+            append(
+                text,
+                &[t0, t1, g0, g1, n0, n1, n2, n3, item.origin, s0, s1, l0, l1],
+            );
+        }
+    }
+}
+
+/// Appends an item's text in this version. Texts of versions 1 and 2 name no generation: their items are of generation 0. Takes no
+/// memory.
+pub fn put_item(version: Version, item: ItemView<'_>, text: &mut Vec<u8>)
+    requires generation { HasGeneration version (item_of item) }
+    requires payload { length item.payload.now ≤ PAYLOAD }
+    requires room { vec_len text.old + (limits_of version).item_header + length item.payload.now ≤ vec_capacity text.old }
+    ensures written { text.new.items ≡ text.old.items ++ item_text version (item_of item.entry) }
+    ensures len { vec_len text.new ≡ vec_len text.old + (limits_of version).item_header + length item.entry.payload.now }
+    ensures capacity { vec_capacity text.old ≤ vec_capacity text.new }
+    ensures fits { IsItem version (item_of item.entry) }
+{
+    let payload = item.payload;
+    are_bytes(payload);
+    put_head(version, item, text);
+    append(text, payload);
+}
+
+/// Appends the texts of items in this version. Takes no memory.
+pub fn put_items(version: Version, items: &[Item], text: &mut Vec<u8>)
+    requires generations { All (HasGeneration version) items.now }
+    requires payloads { All (λ i. length i.payload ≤ PAYLOAD) items.now }
+    requires room { vec_len text.old + length (items_text version items.now) ≤ vec_capacity text.old }
+    ensures written { text.new.items ≡ text.old.items ++ items_text version items.now }
+    ensures len { vec_len text.new ≡ vec_len text.old + length (items_text version items.now) }
+    ensures capacity { vec_capacity text.old ≤ vec_capacity text.new }
+    ensures fit { All (IsItem version) items.now }
 {
     for item in items {
-        put_item(item.view(), text);
+        put_item(version, item.view(), text);
+    }
+}
+
+/// The generation that the item at the front is of: the first where the items of the version name none.
+fn generation_of(version: Version, texts: &[u8]) -> u32
+    requires { (limits_of version).item_header ≤ length texts.now }
+    ensures { result ≡ generation_at version texts.now }
+{
+    match version {
+        Version::One | Version::Two => 0,
+        Version::Three => u32_at(texts, 4),
     }
 }
 
 /// The item at the front of these texts and the texts behind it; `None` where no whole item stands
 /// there, or its payload is longer than the limit. Takes no memory.
 #[tactic(auto, unfolding(crate::specs::Reading::item_at))]
-pub fn first_item(limit: usize, texts: &[u8]) -> Option<(ItemView<'_>, &[u8])>
-    ensures { MatchOption result (item_at limit texts.now ≡ None) (λ x. item_at limit texts.now ≡ Some (item_of x.0, x.1.now)) }
+pub fn first_item(version: Version, limit: usize, texts: &[u8]) -> Option<(ItemView<'_>, &[u8])>
+    ensures { MatchOption result (item_at version limit texts.now ≡ None) (λ x. item_at version limit texts.now ≡ Some (item_of x.0, x.1.now)) }
 {
-    if texts.len() < ITEM_HEADER {
+    let header = version.limits().item_header;
+    if texts.len() < header {
         return None;
     }
-    let len = u16_at(texts, 7) as usize;
-    let rest = &texts[ITEM_HEADER..];
+    let len = u16_at(texts, header - 2) as usize;
+    let rest = &texts[header..];
     if len > limit || len > rest.len() {
         return None;
     }
     let item = ItemView {
         tenant: u16_at(texts, 0),
         group: u16_at(texts, 2),
-        generation: 0,
-        origin: texts[4],
-        seq: u16_at(texts, 5),
+        generation: generation_of(version, texts),
+        origin: texts[header - 5],
+        seq: u16_at(texts, header - 4),
         payload: &rest[..len],
     };
     Some((item, &rest[len..]))
 }
 
-/// Returns the bytes behind the first `count` items, whose payloads have at most `limit` bytes each. Returns `None` where the
-/// bytes do not begin with `count` such items. Takes no memory.
-pub(crate) fn skip_items(limit: usize, count: u16, texts: &[u8]) -> Option<&[u8]>
-    ensures { MatchOption result (items_at limit count texts.now ≡ None) (λ rest. IsSome (items_at limit count texts.now) × (left_over (items_at limit count texts.now) ≡ rest.now)) }
+/// Returns the bytes behind the first `count` items of this version, whose payloads have at most `limit` bytes each. Returns
+/// `None` where the bytes do not begin with `count` such items. Takes no memory.
+pub(crate) fn skip_items(version: Version, limit: usize, count: u16, texts: &[u8]) -> Option<&[u8]>
+    ensures { MatchOption result (items_at version limit count texts.now ≡ None) (λ rest. IsSome (items_at version limit count texts.now) × (left_over (items_at version limit count texts.now) ≡ rest.now)) }
 {
     let mut rest = texts;
     for _ in 0..count {
-        let Some((_item, after)) = first_item(limit, rest) else {
+        let Some((_item, after)) = first_item(version, limit, rest) else {
             return None;
         };
         rest = after;
@@ -148,14 +183,14 @@ pub(crate) fn skip_items(limit: usize, count: u16, texts: &[u8]) -> Option<&[u8]
     Some(rest)
 }
 
-/// How many items have these texts. Takes no memory.
-pub fn count_items(texts: &[u8]) -> u16
+/// How many items have these texts in this version. Takes no memory.
+pub fn count_items(version: Version, texts: &[u8]) -> u16
     requires { length texts.now ≤ ROOM }
-    ensures { (items : List Item) → AreTexts texts.now items → result ≡ length items }
+    ensures { (items : List Item) → AreTexts version texts.now items → result ≡ length items }
 {
     let mut rest = texts;
     let mut count = 0;
-    while let Some((_item, after)) = first_item(PAYLOAD, rest) {
+    while let Some((_item, after)) = first_item(version, PAYLOAD, rest) {
         rest = after;
         count += 1;
     }

@@ -17,7 +17,7 @@ pub fn what_is_written_is_read()
     ensures { WhatIsWrittenIsRead }
 {}
 
-/// Texts of items tell which items they are of.
+/// Texts of items tell which items they are of, in each version.
 pub fn texts_tell_items()
     ensures { TextsTellItems }
 {}

@@ -9,9 +9,6 @@ use gb_types::version::Version;
 /// The bytes before the items.
 pub const HEADER: usize = 31;
 
-/// The bytes of an item before its payload.
-pub const ITEM_HEADER: usize = 9;
-
 /// The bytes of the tag.
 pub const TAG: usize = 8;
 
@@ -24,7 +21,7 @@ pub const ROOM: usize = 16_345;
 const _: () = prove!(HEADER + TAG == SHORTEST && SHORTEST + ROOM == PACKET);
 
 // The values that the definitions of the text cite.
-const _: () = prove!(HEADER == 31 && ITEM_HEADER == 9 && TAG == 8);
+const _: () = prove!(HEADER == 31 && TAG == 8);
 
 const _: () = prove!(NODES == 32 && PAYLOAD == 4_096 && PACKET == 16_384);
 

@@ -1,6 +1,6 @@
 // Numbers in bytes, high byte first.
 ghost use Rattle.std.specs.Prelude.{◌≡◌, ◌+◌, ◌≤◌, length};
-ghost use Rattle.std.specs.Int.{w16, w64};
+ghost use Rattle.std.specs.Int.{w16, w32, w64};
 ghost use Rattle.gb_frame.specs.Fields.{number_at};
 
 /// The number in two bytes.
@@ -10,6 +10,15 @@ pub fn u16_at(bytes: &[u8], at: usize) -> u16
     ensures { result ≡ number_at w16 at bytes.now }
 {
     u16::from_be_bytes([bytes[at], bytes[at + 1]])
+}
+
+/// The number in four bytes.
+#[tactic(auto, unfolding(crate::specs::Fields::number_at))]
+pub fn u32_at(bytes: &[u8], at: usize) -> u32
+    requires { at + 4 ≤ length bytes.now }
+    ensures { result ≡ number_at w32 at bytes.now }
+{
+    u32::from_be_bytes([bytes[at], bytes[at + 1], bytes[at + 2], bytes[at + 3]])
 }
 
 /// The number in eight bytes.

@@ -4,7 +4,7 @@ ghost use Rattle.gb_types.specs.Version.{limits_of};
 ghost use Rattle.gb_frame.specs.Room.{room_of};
 
 use crate::item::Item;
-use crate::limits::{ITEM_HEADER, room};
+use crate::limits::room;
 use gb_types::node::NodeId;
 use gb_types::version::Version;
 
@@ -44,17 +44,17 @@ ghost use Rattle.gb_frame.specs.Spelling.{items_text, IsWithinLimits};
 /// How many of the bytes that a packet of this version has for items these leave, where they fit and each
 /// payload is within the version's limit.
 pub fn room_beside(version: Version, items: &[Item]) -> Option<usize>
-    ensures fits { IsSome result ↔ (All (λ i. length i.payload ≤ (limits_of version).payload) items.now × (length (items_text items.now) ≤ room_of version)) }
-    ensures left { IfSome result (λ room. length (items_text items.now) + room ≡ room_of version) }
+    ensures fits { IsSome result ↔ (All (λ i. length i.payload ≤ (limits_of version).payload) items.now × (length (items_text version items.now) ≤ room_of version)) }
+    ensures left { IfSome result (λ room. length (items_text version items.now) + room ≡ room_of version) }
 {
-    let limit = version.limits().payload;
+    let limits = version.limits();
     let mut left = room(version);
     for item in items {
         let payload = item.payload.len();
-        if payload > limit {
+        if payload > limits.payload {
             return None;
         }
-        let len = ITEM_HEADER + payload;
+        let len = limits.item_header + payload;
         if len > left {
             return None;
         }

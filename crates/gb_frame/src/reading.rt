@@ -40,7 +40,7 @@ fn first_fault(bytes: &[u8], key: &HmacKey) -> Option<PacketFault>
     if !has_counted_frame(bytes) {
         return Some(PacketFault::Count);
     }
-    let Some(rest) = skip_items(limits.payload, count_of(bytes), texts_of(bytes)) else {
+    let Some(rest) = skip_items(version, limits.payload, count_of(bytes), texts_of(bytes)) else {
         return Some(PacketFault::Length);
     };
     if !rest.is_empty() {

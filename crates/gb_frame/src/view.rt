@@ -13,6 +13,7 @@ use crate::item::{ItemView, first_item};
 use crate::packet::Head;
 use gb_types::limits::PAYLOAD;
 use gb_types::node::NodeId;
+use gb_types::version::Version;
 use std::marker::Model;
 
 /// A packet whose payloads lie in the bytes that it was read from. Contracts see what it says.
@@ -31,9 +32,9 @@ impl<'a> Model for PacketView<'a> {
 
     ghost Value = { Content };
 
-    ghost view = { λ v. packet_of v.head (batch_in v.texts.now) };
+    ghost view = { λ v. packet_of v.head (batch_in v.head.version v.texts.now) };
 
-    ghost invariant = { λ v. v.count ≡ length (batch_in v.texts.now) };
+    ghost invariant = { λ v. v.count ≡ length (batch_in v.head.version v.texts.now) };
 }
 
 impl<'a> PacketView<'a> {
@@ -77,13 +78,17 @@ impl<'a> PacketView<'a> {
     pub fn items(&self) -> ItemViews<'a>
         ensures { result ≡ self.now.items }
     {
-        ItemViews { texts: self.texts }
+        ItemViews {
+            version: self.head.version,
+            texts: self.texts,
+        }
     }
 }
 
 /// The items of a packet or a batch that are still to come, in turn. Contracts see their list.
 #[derive(Drop)]
 pub struct ItemViews<'a> {
+    version: Version,
     texts: &'a [u8],
 }
 
@@ -94,15 +99,15 @@ impl<'a> Model for ItemViews<'a> {
 
     ghost Value = { List Item };
 
-    ghost view = { λ v. batch_in v.texts.now };
+    ghost view = { λ v. batch_in v.version v.texts.now };
 }
 
 impl<'a> ItemViews<'a> {
-    /// The items whose texts stand at the front, with no packet round them, in turn. Takes no memory.
-    pub fn of_texts(texts: &'a [u8]) -> ItemViews<'a>
-        ensures { result ≡ batch_in texts.now }
+    /// The items whose texts in this version stand at the front, with no packet round them, in turn. Takes no memory.
+    pub fn of_texts(version: Version, texts: &'a [u8]) -> ItemViews<'a>
+        ensures { result ≡ batch_in version texts.now }
     {
-        ItemViews { texts }
+        ItemViews { version, texts }
     }
 }
 
@@ -114,7 +119,7 @@ impl<'a> Iterator for ItemViews<'a> {
     ghost remaining = { item_count (λ left. left) };
 
     fn next(&mut self) -> Option<ItemView<'a>> {
-        let Some((item, rest)) = first_item(PAYLOAD, self.texts) else {
+        let Some((item, rest)) = first_item(self.version, PAYLOAD, self.texts) else {
             return None;
         };
         self.texts = rest;

@@ -3,24 +3,14 @@ ghost use Rattle.std.specs.Prelude.{◌≡◌, ◌+◌, ◌≤◌, ◌++◌, Lis
 ghost use Rattle.gb_frame.specs.declared.limits.TheConstants.{HEADER, TAG, SHORTEST};
 ghost use Rattle.gb_frame.specs.declared.item.Item.{Item};
 ghost use Rattle.gb_frame.specs.Packet.{content, packet_of};
-ghost use Rattle.gb_frame.specs.Spelling.{header_text, tag_of, packet_text, AreTexts, IsWithinLimits, FitsFields, IsPacket, IsText};
+ghost use Rattle.gb_frame.specs.Spelling.{header_text, tag_of, packet_text, AreTexts, HasGeneration, IsWithinLimits, FitsFields, IsPacket, IsText};
 
-use crate::item::put_items;
+use crate::item::{append, put_items};
 use crate::packet::{Head, Packet, room_beside};
 use crate::tag::tag;
 use gb_cap::hmac::HmacKey;
 use gb_types::memory::OutOfMemory;
 use std::alloc::Global;
-
-/// Appends bytes. Takes no memory.
-fn append(text: &mut Vec<u8>, bytes: &[u8])
-    requires { vec_len text.old + length bytes.now ≤ vec_capacity text.old }
-    ensures items { text.new.items ≡ text.old.items ++ bytes.now }
-    ensures len { vec_len text.new ≡ vec_len text.old + length bytes.now }
-    ensures capacity { vec_capacity text.old ≤ vec_capacity text.new }
-{
-    text.extend_from_slice(bytes).unwrap();
-}
 
 /// Appends the header of a packet with so many items. Takes no memory.
 #[tactic(auto, unfolding(crate::specs::Spelling::header_text), using(std::proofs::lemmas::List::append_assoc))]
@@ -57,28 +47,28 @@ fn put_tag(start: usize, key: &HmacKey, text: &mut Vec<u8>)
     append(text, &end);
 }
 
-/// Returns the one text of a packet under a key. Its items are of first generations.
+/// Returns the one text of a packet under a key.
 pub fn encode(alloc: Global, packet: &Packet, key: &HmacKey) -> Result<Vec<u8>, OutOfMemory>
     requires limits { IsWithinLimits (content packet.now) }
-    requires first { All (λ i. i.generation ≡ 0) (content packet.now).items }
+    requires generations { All (HasGeneration packet.now.version) (content packet.now).items }
     ensures { IfOk result (λ text. IsText key.now text.items (content packet.now)) }
 {
     let room = room_beside(packet.version, &packet.items).unwrap();
     let mut text = Vec::with_capacity(alloc, packet.version.limits().packet - room)?;
     let count = packet.items.len() as u16;
     put_header(packet.head(), count, &mut text);
-    put_items(&packet.items, &mut text);
+    put_items(packet.version, &packet.items, &mut text);
     put_tag(0, key, &mut text);
     Ok(text)
 }
 
-/// Appends the text of the packet with this head and so many items, whose texts `put_item` wrote: what
+/// Appends the text of the packet with this head and so many items, whose texts in its version `put_item` wrote: what
 /// `encode` gives. Takes no memory.
 pub fn wrap(head: Head, count: u16, texts: &[u8], key: &HmacKey, packet: &mut Vec<u8>)
-    requires packet { (items : List Item) × AreTexts texts.now items × (length items ≡ count) × IsWithinLimits (packet_of head items) }
+    requires packet { (items : List Item) × AreTexts head.version texts.now items × (length items ≡ count) × IsWithinLimits (packet_of head items) }
     requires room { vec_len packet.old + SHORTEST + length texts.now ≤ vec_capacity packet.old }
-    ensures written { (items : List Item) → AreTexts texts.now items → packet.new.items ≡ packet.old.items ++ packet_text key.now (packet_of head items) }
-    ensures packet { (items : List Item) → AreTexts texts.now items → IsPacket (packet_of head items) }
+    ensures written { (items : List Item) → AreTexts head.version texts.now items → packet.new.items ≡ packet.old.items ++ packet_text key.now (packet_of head items) }
+    ensures packet { (items : List Item) → AreTexts head.version texts.now items → IsPacket (packet_of head items) }
     ensures capacity { vec_capacity packet.old ≤ vec_capacity packet.new }
 {
     let start = packet.len();

@@ -5,17 +5,18 @@ use Rattle.gb_types.specs.declared.limits.TheConstants.{NODES, PAYLOAD, PACKET}
 use Rattle.gb_types.specs.declared.plan.Bounds.{Bounds}
 use Rattle.gb_types.specs.declared.plan.Plan.{Plan}
 use Rattle.gb_types.specs.declared.version.Version.{Version}
-use Rattle.gb_types.specs.declared.version.Version.TheVariants.{One, Two}
+use Rattle.gb_types.specs.declared.version.Version.TheVariants.{One, Two, Three}
 use Rattle.gb_types.specs.declared.version.VersionLimits.{VersionLimits}
 
--- what a version allows: the byte that stands for it, nodes, bytes of a payload, bytes of a packet
+-- what a version allows: the byte that stands for it, nodes, bytes of a payload, bytes of a packet, bytes of an item before its payload
 abbrev pub limits_of : Version → VersionLimits
-limits_of One = record { byte = 1; nodes = 16; payload = 1024; packet = 8192 }
-limits_of Two = record { byte = 2; nodes = 32; payload = 4096; packet = 16384 }
+limits_of One = record { byte = 1; nodes = 16; payload = 1024; packet = 8192; item_header = 9 }
+limits_of Two = record { byte = 2; nodes = 32; payload = 4096; packet = 16384; item_header = 9 }
+limits_of Three = record { byte = 3; nodes = 32; payload = 4096; packet = 16384; item_header = 13 }
 
 -- the version that a byte stands for
 abbrev pub version_named : ℕ → Option Version
-version_named byte = if byte == 1 then Some One else (if byte == 2 then Some Two else None)
+version_named byte = if byte == 1 then Some One else (if byte == 2 then Some Two else (if byte == 3 then Some Three else None))
 
 -- the version that a node sends, where each node of a cluster sends its own
 abbrev pub version_at : List Version → ℕ → Version
@@ -30,7 +31,9 @@ pub record AreWithinGreatest (limits : VersionLimits) : Type 0 where
   pub nodes : limits.nodes ≤ NODES
   pub payload : limits.payload ≤ PAYLOAD
   pub packet : limits.packet ≤ PACKET
+  pub item_header : limits.item_header ≤ 13
 
 pub limits_are_within : (version : Version) → AreWithinGreatest (limits_of version)
-limits_are_within One = record { nodes = lit≤ tt; payload = lit≤ tt; packet = lit≤ tt }
-limits_are_within Two = record { nodes = lit≤ tt; payload = lit≤ tt; packet = lit≤ tt }
+limits_are_within One = record { nodes = lit≤ tt; payload = lit≤ tt; packet = lit≤ tt; item_header = lit≤ tt }
+limits_are_within Two = record { nodes = lit≤ tt; payload = lit≤ tt; packet = lit≤ tt; item_header = lit≤ tt }
+limits_are_within Three = record { nodes = lit≤ tt; payload = lit≤ tt; packet = lit≤ tt; item_header = lit≤ tt }

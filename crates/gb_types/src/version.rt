@@ -1,5 +1,5 @@
 //! The versions of the packet text, and what each allows.
-ghost use Rattle.std.specs.Prelude.{◌≡◌};
+ghost use Rattle.std.specs.Prelude.{◌≡◌, ◌≤◌};
 ghost use Rattle.gb_types.specs.Version.{limits_of, version_named, AreWithinGreatest};
 
 /// A version of the packet text. A node sends one version, and reads them all.
@@ -9,6 +9,8 @@ pub enum Version {
     One,
     /// 32 nodes, payloads of 4,096 bytes, packets of 16,384 bytes.
     Two,
+    /// The limits of version 2. Each item names the generation of its group.
+    Three,
 }
 
 /// What a version of the packet text allows.
@@ -22,6 +24,8 @@ pub struct VersionLimits {
     pub payload: usize,
     /// The bytes of the longest packet.
     pub packet: usize,
+    /// The bytes of an item before its payload: 9, and 4 more where the item names its generation.
+    pub item_header: usize,
 }
 
 impl Version {
@@ -29,6 +33,7 @@ impl Version {
     pub fn limits(self) -> VersionLimits
         ensures value { result ≡ limits_of self }
         ensures greatest { AreWithinGreatest result }
+        ensures header { 9 ≤ result.item_header }
     {
         match self {
             Version::One => VersionLimits {
@@ -36,12 +41,21 @@ impl Version {
                 nodes: 16,
                 payload: 1_024,
                 packet: 8_192,
+                item_header: 9,
             },
             Version::Two => VersionLimits {
                 byte: 2,
                 nodes: 32,
                 payload: 4_096,
                 packet: 16_384,
+                item_header: 9,
+            },
+            Version::Three => VersionLimits {
+                byte: 3,
+                nodes: 32,
+                payload: 4_096,
+                packet: 16_384,
+                item_header: 13,
             },
         }
     }
@@ -53,6 +67,7 @@ impl Version {
         match byte {
             1 => Some(Version::One),
             2 => Some(Version::Two),
+            3 => Some(Version::Three),
             _ => None,
         }
     }

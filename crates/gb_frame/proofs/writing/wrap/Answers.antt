@@ -8,7 +8,7 @@ use Rattle.gb_frame.proofs.writing.wrap.Goals as goal
 
 pub returns-clause-written : goal.returns-clause-written
 returns-clause-written c = λ items t.
-    let count = one_count c.args.texts.now items c.requires.packet.0 t c.requires.packet.1 ∙ c.requires.packet.2 in
+    let count = one_count c.args.head.version c.args.texts.now items c.requires.packet.0 t c.requires.packet.1 ∙ c.requires.packet.2 in
     let before = c.args.packet.now.items in
     let content = packet_of c.args.head items in
     let header = c.put_header.ensures.written items count in
@@ -19,7 +19,7 @@ returns-clause-written c = λ items t.
 
 pub returns-clause-packet : goal.returns-clause-packet
 returns-clause-packet c = λ items t.
-    let same = sym (texts_tell_items c.args.texts.now c.requires.packet.0 c.requires.packet.1) ∙ texts_tell_items c.args.texts.now items t in
+    let same = sym (texts_tell_items c.args.head.version c.args.texts.now c.requires.packet.0 c.requires.packet.1) ∙ texts_tell_items c.args.head.version c.args.texts.now items t in
     record {
       limits = subst (λ (these : List Item). IsWithinLimits (packet_of c.args.head these)) same c.requires.packet.3;
       fields = c.put_header.ensures.fits items;

@@ -1,0 +1,5 @@
+use Rattle.std.proofs.Common.{rules}
+use Rattle.gb_frame.proofs.item.put_head.Goals as goal
+
+pub returns-in-Three-clause-written : goal.returns-in-Three-clause-written
+returns-in-Three-clause-written c = rw c.in-Three.is (search rules)
