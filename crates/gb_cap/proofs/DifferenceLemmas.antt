@@ -1,41 +1,46 @@
--- The xors of the bytes of two texts, joined by or, are zero where the texts agree.
-use Rattle.std.proofs.Common.{◌≡◌, ℕ, ◌+◌, ◌<◌, List, length, get_or, bit_or, bit_xor, ◌↔◌, refl, sym, ap, ◌∙◌, arith, inl, inr}
-use Rattle.std.specs.Int.Bits.{xor_self}
-use lib.Bits.{xor_assoc, xor_zero_r, xor_zero_l}
-use Rattle.std.proofs.lemmas.Nat.{le_or_l, le_or_r}
-use Rattle.std.proofs.lemmas.List.{same_lists, get_or_default}
-use Rattle.std.proofs.lemmas.Bool.{cases_lt}
+-- How many places there are where two texts differ.
+use Rattle.std.proofs.Common.{◌≡◌, ℕ, ◌+◌, ◌<◌, true, false, cond, nat_eq, List, [], ◌∷◌, length, take, get_or, ◌↔◌, refl, sym, ap, ◌∙◌, arith}
+use Rattle.std.specs.Prelude.{not, zip, count_by}
+use Rattle.std.proofs.lemmas.Bool.{eqb-true, eq-eqb}
+use Rattle.std.proofs.lemmas.List.Sums.{sum_by-cons, count_by_more_no, count_by_more_yes}
+use Rattle.std.proofs.lemmas.Slice.Zip.{get_or-zip, length-zip}
+use mir.Val.{bool_byte}
+use Rattle.gb_cap.specs.Compare.{are_unlike}
 
--- the number is zero exactly where the texts agree below n
-pub record TellsBelow (first second : List ℕ) (n difference : ℕ) : Type 0 where
-  pub agree : difference ≡ 0 → (k : ℕ) → k < n → get_or first k 0 ≡ get_or second k 0
-  pub zero : ((k : ℕ) → k < n → get_or first k 0 ≡ get_or second k 0) → difference ≡ 0
+-- one place more
+pub count_more : (xs ys : List ℕ) (i count : ℕ) → length xs ≡ length ys → i < length xs → count ≡ count_by are_unlike (take i (zip xs ys))
+    → count + bool_byte (not (nat_eq (get_or xs i 0) (get_or ys i 0))) ≡ count_by are_unlike (take (i + 1) (zip xs ys))
+count_more xs ys i count len below so_far =
+    let beside : length (zip xs ys) ≡ length xs = omega (arith, length-zip xs ys, len) in
+    let here = get_or-zip xs ys i (0, 0) below (omega arith) in
+    elim (nat_eq (get_or xs i 0) (get_or ys i 0)) as (λ b. nat_eq (get_or xs i 0) (get_or ys i 0) ≡ b → count + bool_byte (not b) ≡ count_by are_unlike (take (i + 1) (zip xs ys))) [
+      | true ↦ λ same. let none = count_by_more_no are_unlike (zip xs ys) i (0, 0) (omega arith) (ap are_unlike here ∙ ap not same) in omega (arith, none, so_far)
+      | false ↦ λ other. let one = count_by_more_yes are_unlike (zip xs ys) i (0, 0) (omega arith) (ap are_unlike here ∙ ap not other) in omega (arith, one, so_far)
+    ] refl
 
-same_from_xor : (a b : ℕ) → bit_xor a b ≡ 0 → a ≡ b
-same_from_xor a b none =
-    sym (xor_zero_r a) ∙ ap (λ x. bit_xor a x) (sym (xor_self b)) ∙ sym (xor_assoc a b b) ∙ ap (λ x. bit_xor x b) none ∙ xor_zero_l b
+none_unlike : (xs ys : List ℕ) → length xs ≡ length ys → count_by are_unlike (zip xs ys) ≡ 0 → xs ≡ ys
+none_unlike [] [] len none = refl
+none_unlike [] (y ∷ ys) len none = absurd (omega (arith, len))
+none_unlike (x ∷ xs) [] len none = absurd (omega (arith, len))
+none_unlike (x ∷ xs) (y ∷ ys) len none =
+    let parts = sum_by-cons (λ (p : ℕ × ℕ). cond (are_unlike p) 1 0) (x, y) (zip xs ys) in
+    let rest = none_unlike xs ys (omega (arith, len)) (omega (arith, parts, none)) in
+    elim (nat_eq x y) as (λ b. nat_eq x y ≡ b → cond (not b) 1 0 + count_by are_unlike (zip xs ys) ≡ 0 → x ∷ xs ≡ y ∷ ys) [
+      | true ↦ λ same _. ap (λ z. z ∷ xs) (eqb-true x y same) ∙ ap (λ zs. y ∷ zs) rest
+      | false ↦ λ _ sum. absurd (omega (arith, sum))
+    ] refl (sym parts ∙ none)
 
-pub tells_none : (first second : List ℕ) → TellsBelow first second 0 0
-tells_none first second = record { agree = λ _ k below. absurd (omega arith); zero = λ _. refl }
+no_difference : (xs : List ℕ) → count_by are_unlike (zip xs xs) ≡ 0
+no_difference [] = refl
+no_difference (x ∷ xs) =
+    let parts = sum_by-cons (λ (p : ℕ × ℕ). cond (are_unlike p) 1 0) (x, x) (zip xs xs) in
+    let here : cond (not (nat_eq x x)) 1 0 ≡ 0 = ap {B = ℕ} (λ b. cond (not b) 1 0) (eq-eqb x x refl) in
+    let rest = no_difference xs in
+    omega (arith, parts, here, rest)
 
-pub tells_more : (first second : List ℕ) (n difference : ℕ) → TellsBelow first second n difference → TellsBelow first second (n + 1) (bit_or difference (bit_xor (get_or first n 0) (get_or second n 0)))
-tells_more first second n difference so_far =
-    let here = bit_xor (get_or first n 0) (get_or second n 0) in
-    record {
-      agree = λ none k below.
-          let before : difference ≡ 0 = omega (arith, le_or_l difference here, none) in
-          let now : here ≡ 0 = omega (arith, le_or_r difference here, none) in
-          elim (cases_lt k n) [
-            | inl lt ↦ so_far.agree before k lt
-            | inr le ↦ let at : k ≡ n = omega arith in rw at (same_from_xor _ _ now)
-          ];
-      zero = λ same.
-          let before : difference ≡ 0 = so_far.zero (λ k below. same k (omega arith)) in
-          rw (before, same n (omega arith), xor_self) refl;
-    }
-
-pub tells_all : (first second : List ℕ) (difference : ℕ) → length first ≡ length second → TellsBelow first second (length first) difference → (difference ≡ 0) ↔ (first ≡ second)
-tells_all first second difference len told = (
-  λ none. same_lists first second len (λ k d below. get_or_default first k d 0 below ∙ told.agree none k below ∙ get_or_default second k 0 d (omega arith)),
-  λ same. told.zero (λ k below. ap (λ xs. get_or xs k 0) same),
+-- no place is one where they differ exactly where they are equal
+pub counts_same : (xs ys : List ℕ) (count : ℕ) → length xs ≡ length ys → count ≡ count_by are_unlike (zip xs ys) → (count ≡ 0) ↔ (xs ≡ ys)
+counts_same xs ys count len is = (
+  λ none. none_unlike xs ys len (sym is ∙ none),
+  λ same. is ∙ (ap (λ zs. count_by are_unlike (zip xs zs)) (sym same) ∙ no_difference xs),
 )

@@ -1,15 +1,17 @@
 //! Comparing secrets without an early exit.
-ghost use Rattle.std.specs.Prelude.{◌≡◌, ◌↔◌, length, IsTrue};
+ghost use Rattle.std.specs.Prelude.{◌≡◌, ◌↔◌, length, zip, count_by};
+ghost use Rattle.gb_cap.specs.Compare.{are_unlike};
 
-/// Whether two texts of one length are equal. Each byte of both is read, wherever they differ, so that
-/// the time taken says nothing of the place.
-pub fn is_same(first: &[u8], second: &[u8]) -> bool
+/// Returns the number of places where two texts of one length differ: 0 if and only if they are equal. Nobody knows that number
+/// without a look at each byte of both, so the time that a comparison takes says nothing of where the texts differ.
+pub fn count_differences(first: &[u8], second: &[u8]) -> usize
     requires { length first.now ≡ length second.now }
-    ensures { IsTrue result ↔ (first.now ≡ second.now) }
+    ensures count { result ≡ count_by are_unlike (zip first.now second.now) }
+    ensures same { (result ≡ 0) ↔ (first.now ≡ second.now) }
 {
-    let mut difference = 0;
+    let mut count = 0;
     for i in 0..first.len() {
-        difference |= first[i] ^ second[i];
+        count += usize::from(first[i] != second[i]);
     }
-    difference == 0
+    count
 }

@@ -2,7 +2,7 @@
 ghost use Rattle.std.specs.Prelude.{◌≡◌, ◌↔◌, IsTrue};
 ghost use Rattle.gb_cap.specs.Token.{token_of, TextsTellNeedsApart, SharedTokensCollide};
 
-use crate::compare::is_same;
+use crate::compare::count_differences;
 use crate::hmac::{HmacKey, Key, Mac};
 use gb_types::node::NodeId;
 
@@ -46,7 +46,7 @@ impl HmacKey {
     pub fn admits(&self, need: Need, token: &Token) -> bool
         ensures { IsTrue result ↔ (token.now ≡ token_of self.now need) }
     {
-        is_same(token, &self.token(need))
+        count_differences(token, &self.token(need)) == 0
     }
 }
 

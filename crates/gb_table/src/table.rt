@@ -24,7 +24,7 @@ ghost use Rattle.gb_table.specs.Requests.{is_admitted, is_by_tenant, place_for, 
 
 use crate::listing::{LISTED, Listing};
 use crate::tenants::Tenants;
-use gb_cap::compare::is_same;
+use gb_cap::compare::count_differences;
 use gb_cap::hmac::{HmacKey, Key};
 use gb_cap::token::{Need, Token};
 use gb_frame::item::ItemView;
@@ -100,7 +100,7 @@ impl Model for Table {
 fn is_kept(token: &Token, kept: &Token) -> bool
     ensures { result ≡ bytes_eq token.now kept.now }
 {
-    is_same(token, kept)
+    count_differences(token, kept) == 0
 }
 
 impl Table {
