@@ -47,8 +47,7 @@ bytes_in told origin = bytes_of origin (known told)
 unfoldable pub said_in : List GroupCall → ℕ
 said_in [] = 0
 said_in (Own x ∷ told) = said_in told + 1
-said_in (Other p x ∷ told) = said_in told
-said_in (Crashed q ∷ told) = said_in told
+said_in (c ∷ told) = said_in told
 
 -- the messages that the group's broadcast delivers, in order
 abbrev pub delivered : Spec → ℕ → List GroupCall → List MsgId

@@ -1,5 +1,6 @@
 -- Lists of messages with their payloads.
-use Rattle.std.specs.Prelude.{ℕ, ◌+◌, Bool, false, ◌||◌, List, [], ◌∷◌, ◌++◌, length, nat_eq, if◌then◌else◌}
+use Rattle.std.specs.Prelude.{ℕ, ◌+◌, Bool, List, [], ◌∷◌, ◌++◌, length, nat_eq, if◌then◌else◌}
+use Rattle.std.specs.List.{list_any}
 use Rattle.gb_types.specs.declared.entry.Entry.{Entry}
 use Rattle.gb_types.specs.declared.message.MsgId.{MsgId}
 use Rattle.gb_types.specs.Entry.{message_of}
@@ -7,8 +8,7 @@ use Rattle.gb_types.specs.Message.{same}
 
 -- the list has the message
 abbrev pub has : List Entry → MsgId → Bool
-has [] m = false
-has (x ∷ xs) m = same (message_of x) m || has xs m
+has xs m = list_any (λ (x : Entry). same (message_of x) m) xs
 
 -- the payload of the message, as the list has it first
 abbrev pub payload_in : List Entry → MsgId → List ℕ

@@ -24,16 +24,12 @@ module_of kind.FifoMajority = MajorityAck
 
 -- the kind keeps the order of each origin: first in, first out (Cachin, Guerraoui, Rodrigues 2011, section 3.9; Hadzilacos, Toueg 1994)
 abbrev pub is_fifo : Kind → Bool
-is_fifo kind.Beb = false
-is_fifo kind.Lazy = false
-is_fifo kind.Eager = false
-is_fifo kind.AllAck = false
-is_fifo kind.Majority = false
 is_fifo kind.FifoBeb = true
 is_fifo kind.FifoLazy = true
 is_fifo kind.FifoEager = true
 is_fifo kind.FifoAllAck = true
 is_fifo kind.FifoMajority = true
+is_fifo kind = false
 
 -- what the call c delivers: what the module delivers, or what that sets free in the order of each origin
 abbrev pub kind_delivers : Kind → ℕ → List ℕ → Call → List Call → List MsgId
