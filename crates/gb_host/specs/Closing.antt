@@ -18,7 +18,7 @@ use Rattle.gb_host.specs.declared.plan.HostPlan.{HostPlan}
 abbrev pub tape_at : List (List TapeEntry) → ℕ → List TapeEntry
 tape_at tapes k = slice_index_or tapes k []
 
--- the list with a number, empty where there is none
+-- the list with a number, or an empty one past the end
 abbrev pub list_at : List (List SeatEntry) → ℕ → List SeatEntry
 list_at lists s = slice_index_or lists s []
 

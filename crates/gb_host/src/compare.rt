@@ -82,7 +82,7 @@ fn left_over(lists: &[CallList], node: u8, cursors: &[Cursor]) -> Option<u32>
     None
 }
 
-// The cursors at the beginning of so many lists.
+// Returns a cursor at the beginning of each of this number of lists.
 fn beginnings(alloc: Global, lists: &[CallList]) -> Result<Vec<Cursor>, OutOfMemory>
     ensures as_many { IfOk result (λ c. vec_len c ≡ length lists.now) }
     ensures bounded { IfOk result (λ c. AreBounded c.items lists.now) }
@@ -115,7 +115,7 @@ fn differing_in(
     Ok(left_over(lists, node, cursors.as_slice()))
 }
 
-// Whether a call's node is past so many nodes.
+// Returns true if the number of a call's node is not below this number of nodes.
 fn is_misplaced(list: &[SeatEntry], nodes: usize) -> bool
     ensures { MatchBool result ((k : ℕ) × (nodes ≤ k) × (calls_at k list.now ≢ [])) ((k : ℕ) → nodes ≤ k → calls_at k list.now ≡ []) }
 {
@@ -127,7 +127,7 @@ fn is_misplaced(list: &[SeatEntry], nodes: usize) -> bool
     false
 }
 
-// The number of a list with a call at a node past so many nodes.
+// Returns the number of a list with a call at a node whose number is not below this number of nodes.
 fn misplaced(lists: &[CallList], nodes: usize) -> Option<u32>
     requires few { length lists.now < 2 ^ 32 }
     ensures some { IfSome result (λ s. (k : ℕ) × (nodes ≤ k) × (calls_at k (list_at lists.now s) ≢ [])) }

@@ -13,7 +13,7 @@ use gb_types::memory::OutOfMemory;
 use gb_types::node::NodeId;
 use std::alloc::Global;
 
-/// A story of which anything may be told.
+/// A story that may be anything.
 pub struct Anything;
 
 impl<E> Story<E> for Anything {

@@ -196,7 +196,7 @@ abbrev is_own_at : ℕ → ℕ → (ℕ → Bool) → ℕ → List Entry → Boo
 is_own_at me k test place [] = false
 is_own_at me k test place (x ∷ xs) = (is_message me k x && test place) || is_own_at me k test (place + 1) xs
 
--- of these frames, of which the first has the number n, one whose number passes the test has the message
+-- among these frames, numbered from n on, one whose number passes the test has the message
 abbrev is_in_acked : Addr → ℕ → ℕ → (ℕ → Bool) → ℕ → List (List Item) → Bool
 is_in_acked g me k acked n [] = false
 is_in_acked g me k acked n (f ∷ fs) = (acked n && list_any (is_message me k) (group_items g f)) || is_in_acked g me k acked (n + 1) fs

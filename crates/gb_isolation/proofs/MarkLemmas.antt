@@ -70,7 +70,7 @@ item_there g (f ∷ fs) ys (suc i) j p e is has =
 abbrev pub is_between : ℕ → ℕ → ℕ → Bool
 is_between low high place = nat_lt low place && nat_le place high
 
--- of these frames, of which the first has the number n and stands behind so many items of the group, one whose number passes the test has the item with this place
+-- among these frames, numbered from n on and behind `before` items of the group, one whose number passes the test has the item with this place
 abbrev pub is_in : Addr → (ℕ → Bool) → ℕ → ℕ → List (List Item) → ℕ → Bool
 is_in g new n before [] place = false
 is_in g new n before (f ∷ fs) place = (new n && is_between before (before + length (group_items g f)) place) || is_in g new (n + 1) (before + length (group_items g f)) fs place

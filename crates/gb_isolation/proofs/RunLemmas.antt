@@ -280,7 +280,7 @@ module _ (laws : Laws) (plan : Plan) (g : Addr) (run : List Did) (before : Clust
       by b inside (inl same) = subst (λ (c : NodeId). Fits plan.nodes g c.number (frames_for plan (d ∷ run) c) (view_at plan g (d ∷ run) c) (later c.number)) (same_number a b same) here
       by b inside (inr other) = elsewhere b inside other
 
--- every group of which no request was refused for want of memory behaves so in every run
+-- every group that had no request refused for want of memory behaves so in every run
 pub behaves : Laws → (plan : Plan) (g : Addr) (run : List Did) (v : ClusterValue) → ComesTo plan run v → is_fed g run ≡ true → BehavesAlone plan g run
 unfolding ComesTo is_fed project
 behaves laws plan g [] v comes fed = record { legal = tt; fits = new_fits plan g }

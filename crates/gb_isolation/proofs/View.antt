@@ -118,7 +118,7 @@ abbrev pub is_concerned : ℕ → ℕ → Option Spec → Bool
 is_concerned me b None = false
 is_concerned me b (Some spec) = is_other spec me b
 
--- The view is that of the group alone at the node me of so many, to which the other nodes packed these frames.
+-- The view is that of the group alone at the node me of this number of nodes. The other nodes packed these frames for it.
 pub record Fits (nodes : ℕ) (g : Addr) (me : ℕ) (frames_from : ℕ → List (List Item)) (v : View) (m : Member) : Type 0 where
   pub reserve : m.reserve ≡ v.reserve
   pub told : MemberIs v.told m

@@ -84,7 +84,7 @@ pub record IsIsolated (plan : Plan) (run : List Did) (v : ClusterValue) (g : Add
   -- and as many items are carried
   pub carried : (a b : NodeId) → a.number < plan.nodes → b.number < plan.nodes → (alone_in plan g run a.number).taken b.number ≡ length (group_items_of g (frames_to plan.cluster_key b.number (past_at a run)))
 
--- each group of every run is isolated of which no request was refused for want of memory
+-- each group of every run is isolated that had no request refused for lack of memory
 abbrev pub GroupsAreIsolated : Type 0
 GroupsAreIsolated = (plan : Plan) (run : List Did) (v : ClusterValue) → ComesTo plan run v → (g : Addr) → is_fed g run ≡ true → IsIsolated plan run v g
 

@@ -135,12 +135,13 @@ abbrev pub if_any : NodeId → ℕ → GroupEvent → List GroupStep
 if_any a zero event = []
 if_any a (suc k) event = record { node = a; event = event } ∷ []
 
--- so many items come, with the places after this one
+-- this number of items comes, with the places after this one
 abbrev pub comes : NodeId → NodeId → ℕ → ℕ → List GroupStep
 comes from to place zero = []
 comes from to place (suc k) = record { node = to; event = Came from (place + 1) } ∷ comes from to (place + 1) k
 
--- of these frames from a to b, of which the first has the number n and stands behind so many items of the group, those are acknowledged whose numbers pass the test
+-- The items of these frames from a to b are acknowledged whose frame's number passes the test. The frames are numbered from n on, and `before` items of the
+-- group stand in the frames before them.
 abbrev pub all_acknowledged : Addr → NodeId → NodeId → (ℕ → Bool) → ℕ → ℕ → List (List Item) → List GroupStep
 all_acknowledged g a b new n before [] = []
 all_acknowledged g a b new n before (f ∷ fs) =

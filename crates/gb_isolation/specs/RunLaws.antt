@@ -58,7 +58,7 @@ accepted_in_past plan g (h ∷ past) = accepted_in_past plan g past ++ accepted_
 abbrev pub accepted_there : Plan → Addr → List Did → ℕ → List Accepted
 accepted_there plan g run s = accepted_in_past (node_plan plan (node_numbered s)) g (past_at (node_numbered s) run)
 
--- what a law of groups says of each group of which no request was refused for want of memory, in every run of every cluster
+-- what a law of groups says of each group that had no request refused for lack of memory, in every run of every cluster
 abbrev pub OfGroupsInRuns : (Plan → List Did → ClusterValue → Addr → Type 0) → Type 0
 OfGroupsInRuns Property = (plan : Plan) (run : List Did) (v : ClusterValue) → ComesTo plan run v → (g : Addr) → is_fed g run ≡ true → Property plan run v g
 

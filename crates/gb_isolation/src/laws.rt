@@ -7,7 +7,7 @@ use gb_cluster::laws::{links_hold, nothing_is_outside};
 use gb_duties::laws::{agreement, duties};
 use gb_node::past::{answers_say, pasts_say};
 
-/// The main law: for every plan, every run of a cluster and every group of which no request was refused for want of
+/// The main law: for every plan, every run of a cluster and every group that had no request refused for want of
 /// memory, what concerns the group in the run is a legal list of events of the group by itself, and its replies, its logs,
 /// and the items that it puts out are those that it has alone, whatever other tenants do and whatever batches hold. The
 /// function does nothing when it runs; its contract is the law.

@@ -247,7 +247,7 @@ const RESTLESS: Alone = Alone {
 };
 
 // Asks a loop a hundred times at its beginning, and again after thirty thousand rounds; then it is told to end. Returns how many
-// replies were right, and whether there were so many rounds.
+// replies were right, and whether there was that number of rounds.
 fn ask_late<H: Net<Stream = TcpStream> + Clock>(rt: &H, watch: &Watch<'_, H>) -> ([u32; 2], bool) {
     let early = ask_often(rt, 25_864, 100);
     for _ in 0..5_000 {

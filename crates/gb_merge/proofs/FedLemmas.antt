@@ -246,7 +246,7 @@ same_replies a g (h ∷ past) free =
         ∙ (ap (λ (rs : List Reply). rs ++ reply_in a g (fed_happened past) h.event h.answer) rest
         ∙ ap (λ (rs : List Reply). replies_in a g past ++ rs) (reply_by_tenants a g (fed_happened past) past h.event h.answer (same_tenants past)))
 
--- a group of which no request was refused so got the replies of the run
+-- a group that had no request refused so got the replies of the run
 pub replies_are : (a : NodeId) (g : Addr) (tape : List TapeEntry) (past : List Happened) → past ≡ past_of (fed_of tape) → is_fed_at a g (past_of tape) ≡ true → replies_in a g past ≡ replies_in a g (past_of tape)
 replies_are a g tape past is free = ap (replies_in a g) (is ∙ past_of-fed tape) ∙ same_replies a g (past_of tape) free
 

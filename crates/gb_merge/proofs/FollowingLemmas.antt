@@ -148,7 +148,7 @@ cut (y ∷ xs) (suc i) x at = ap (λ zs. y ∷ zs) (cut xs i x at)
 
 -- The loop.
 
--- so many of the events happened
+-- this number of the events happened
 pub record IsAt (plan : Plan) (events : List Event) (picks : List Pick) (i : ℕ) (v : ClusterValue) : Type 0 where
   pub stands : Stands plan (take i picks) v
   pub replays : Replays (new_cluster plan) (take i events) (take i picks) v

@@ -46,7 +46,7 @@ pub record IsOneRunOfFed (plan : Plan) (tapes : List (List TapeEntry)) (events :
   pub isolated : (g : Addr) → IsIsolated plan (run_of m.picks) m.last g
   -- the refused entries changed nothing: each node ends as the replay of its whole tape, which leaves it as it was at each of them
   pub nodes : (a : NodeId) → a.number < plan.nodes → node_at m.last a ≡ replay plan a (tape_of tapes a.number)
-  -- a group of which no request was so refused at a node got there the replies that it gets in the run
+  -- a group that had no request so refused at a node got there the replies that it gets in the run
   pub replies : (g : Addr) (a : NodeId) → is_fed_at a g (past_of (tape_of tapes a.number)) ≡ true → replies_in a g (past_at a (run_of m.picks)) ≡ replies_in a g (past_of (tape_of tapes a.number))
 
 abbrev pub FedIsOneRun : Type 0

@@ -101,7 +101,7 @@ pub record HasStranger (plan : Plan) (a : NodeId) (sent : List (List ℕ)) (entr
 
 -- Running.
 
--- each entry was taken at one of so many nodes
+-- each entry was taken at a node with a number below this
 unfoldable pub ArePlaced : ℕ → List Pick → Type 0
 ArePlaced nodes [] = Unit {0}
 ArePlaced nodes (p ∷ picks) = (p.node.number < nodes) × ArePlaced nodes picks

@@ -26,7 +26,7 @@ pub fn merge_fed(alloc: Global, plan: &Plan, tapes: &[Tape]) -> Result<Vec<Event
 }
 
 /// What is merged so is one run of a cluster, in which each group is what it is alone. Each node ends in it as the replay of
-/// its whole tape, and a group of which no request was refused for lack of memory at a node got there the replies of the
+/// its whole tape, and a group that had no request refused for lack of memory at a node got there the replies of the
 /// run. The function does nothing when it runs; its contract is the law.
 pub fn fed_is_one_run()
     ensures { FedIsOneRun }

@@ -42,9 +42,9 @@ enum Change {
     Drop(usize),
     // A line and the next one are exchanged.
     Exchange(usize),
-    // Only so many lines are left, and the first bytes of the next one.
+    // Only the first lines are left, and the first bytes of the next one.
     Cut(usize, usize),
-    // Only so many lines are left, and the line `end`.
+    // Only the first lines are left, and the line `end`.
     End(usize),
 }
 

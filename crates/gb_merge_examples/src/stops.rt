@@ -42,7 +42,7 @@ fn without_a_stop(rt: HostRuntime) {
 /// How many events there are with a stop.
 const EVENTS: usize = 15;
 
-/// How many events are merged, with a stop of a node after so many of the steps.
+/// Returns how many events are merged, with a stop of a node after this number of steps.
 fn stopped(alloc: Global, after: usize, at: u8) -> Result<usize, AuditFault> {
     let mut steps = Vec::from_slice(alloc, &STEPS)?;
     if after <= steps.len() {
@@ -52,7 +52,7 @@ fn stopped(alloc: Global, after: usize, at: u8) -> Result<usize, AuditFault> {
     Ok(events.len())
 }
 
-/// Whether all events are merged, with a stop of either node after so many of the steps.
+/// Returns true if all events are merged, with a stop of either node after this number of steps.
 fn are_merged(alloc: Global, after: usize) -> bool {
     let first = stopped(alloc, after, 0);
     let second = stopped(alloc, after, 1);

@@ -1,4 +1,4 @@
-//! The first line of a record: which node's it is, and of which cluster.
+//! The first line of a record. It names the node and says what its cluster was made with.
 ghost use Rattle.std.specs.Prelude.{◌≡◌, ◌++◌, OnOk, IfOk, IfSome};
 ghost use Rattle.gb_record_text.specs.RecordText.{head_line};
 

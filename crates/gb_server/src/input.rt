@@ -7,7 +7,7 @@ use std::io::Read;
 
 /// Bytes that come at their own time.
 pub trait Input: Read {
-    /// Waits until a read would not wait, for so many milliseconds at most. False: it would.
+    /// Waits until a read would not wait, for this number of milliseconds at most. Returns false if it would still wait.
     fn is_ready(&self, millis: u16) -> bool;
 }
 

@@ -9,7 +9,7 @@ use std::{io, thread};
 /// How many milliseconds a gate is held at most.
 const PATIENCE: u64 = 10_000;
 
-/// Gives so many requests, one in each read. One of the reads fails, counted from 1; 0: none.
+/// A reader that returns this number of requests, one in each read. One of the reads fails, counted from 1; 0: none.
 #[derive(Drop)]
 pub struct Asking {
     requests: u64,

@@ -4,7 +4,7 @@ use std::alloc::Global;
 use std::io::{ErrorKind, Read};
 use std::{cmp, io};
 
-/// Gives bytes by pieces of at most so many. Each other read is interrupted, and one at the end fails where `fails` is set.
+/// A reader that returns bytes by pieces of at most this size. Each other read is interrupted, and one at the end fails where `fails` is set.
 #[derive(Drop)]
 struct Pieces<'a> {
     bytes: &'a [u8],

@@ -165,7 +165,7 @@ fn two_nodes_are_served(rt: HostRuntime) {
     assert!(rt; is_served && first && second);
 }
 
-// How many events were merged, where these are a server's lines: this one, and that so many were.
+// Returns how many events were merged, by a server's lines: this one, and the one that tells the number.
 fn merged(lines: &[u8], first: &[u8]) -> Option<u64> {
     let rest = lines.strip_prefix(first)?;
     let count = rest.strip_prefix(b"merged ".as_slice())?;

@@ -26,7 +26,7 @@ AreRunSteps plan [] run v = (run ≡ []) × (v ≡ new_cluster plan)
 AreRunSteps plan (step ∷ steps) run v =
     (before : ClusterValue) × (earlier : List Did) × AreRunSteps plan steps earlier before × IsStep before step.event step.answer v × Happens before step.event step.answer earlier v run
 
--- in a cluster of so many nodes a line spells the event of a step, and its answer is the step's
+-- in a cluster of this number of nodes a line spells the event of a step, and its answer is the step's
 pub record TellsStep (nodes : ℕ) (line answer : List ℕ) (step : RunStep) : Type 0 where
   pub command : Command
   pub spelt : IsCommandLine (Some nodes) line command

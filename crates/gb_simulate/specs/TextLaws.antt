@@ -1,4 +1,4 @@
--- What a schedule makes a cluster answer is the text of a run, of which all holds that a cluster promises.
+-- What a schedule makes a cluster answer is the text of a run that keeps all promises of a cluster.
 use Rattle.std.specs.Prelude.{ℕ, ◌≡◌, ◌<◌, true, List, [], ◌++◌, reverse, Option, Some, None, All, slice_get}
 use Rattle.gb_types.specs.declared.address.Addr.{Addr}
 use Rattle.gb_types.specs.declared.node.NodeId.{NodeId}
@@ -51,7 +51,7 @@ pub record KeepsPromises (plan : Plan) (run : List Did) (v : ClusterValue) : Typ
   pub ample : is_ample run ≡ true → (g : Addr) → is_fed g run ≡ true
   pub groups : (g : Addr) → is_fed g run ≡ true → IsServed plan run v g
 
--- these lines are those of a run, of which all holds that a cluster promises; or they ask for nothing
+-- these lines are those of a run that keeps all promises of a cluster; or they ask for nothing
 abbrev pub TellsLawfulRun : List (List ℕ) → List ℕ → Option ClusterValue → Type 0
 TellsLawfulRun lines text None = All IsSilent lines × (text ≡ [])
 TellsLawfulRun lines text (Some v) = (run : List Did) × (told : IsRunOf lines text run v) × KeepsPromises (plan_of told.start) run v

@@ -74,7 +74,7 @@ all_counted g a b new n before [] = refl
 all_counted g a b new n before (f ∷ fs) =
     ap (λ xs. (if new n then if_any a (length (group_items g f)) (Done b (before + 1) (length (group_items g f))) else []) ++ xs) (all_counted g a b new (n + 1) (before + length (group_items g f)) fs)
 
--- what the frame with the number n gives, where it stands behind so many items
+-- what the frame with the number n gives, behind `before` items
 abbrev one_counted : NodeId → NodeId → (ℕ → Bool) → ℕ → ℕ → ℕ → List GroupStep
 one_counted a b new n before k = if new n then if_any a k (Done b (before + 1) k) else []
 
@@ -109,7 +109,7 @@ counted_on a b new ks i place before now later lt is adds was =
 pub place_on : (ks : List ℕ) (i place next : ℕ) → i < length ks → place ≡ 1 + sum (take i ks) → next ≡ place + get_or ks i 0 → next ≡ 1 + sum (take (i + 1) ks)
 place_on ks i place next lt is adds = let more = sum_by_more (λ n. n) ks i 0 lt in omega (arith, is, adds, more)
 
--- what a packet acknowledges, where the frames for its sender have so many items
+-- what a packet acknowledges, by the numbers of items of the frames for its sender
 pub acknowledged_is : (plan : Plan) (g : Addr) (past : List Happened) (a : NodeId) (c : Content) (key ks : List ℕ) (n : ℕ) → key ≡ plan.cluster_key → n ≡ c.from → ks ≡ counted g (frames_to key n past)
     → counts_acknowledged a (node_numbered c.from) (is_new_ack key past c) 1 0 ks ≡ acknowledges plan g past a c
 acknowledged_is plan g past a c key ks n same is are =

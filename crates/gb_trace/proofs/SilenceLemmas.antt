@@ -27,7 +27,7 @@ noticed_heard : (s b : ℕ) (cs : List Content) (calls : List Call) → 0 < s �
 noticed_heard s b [] calls positive = refl
 noticed_heard s b (c ∷ cs) calls positive = noticed-heard s b c.from (heard_in cs calls) positive ∙ noticed_heard s b cs calls positive
 
--- so many ticks since the node was heard, after at most i of them, and whether it was silent for too long at some moment
+-- the number of ticks since the node was heard, at most i of them, and whether it was silent for too long at some moment
 pub record Heeds (s b i unheard : ℕ) (silent : Bool) (calls : List Call) : Type 0 where
   pub since : unheard ≡ ticks_since b calls
   pub silent_is : silent ≡ is_noticed s b calls

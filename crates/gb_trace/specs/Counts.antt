@@ -4,7 +4,8 @@ use Rattle.gb_types.specs.declared.node.NodeId.{NodeId}
 use Rattle.gb_alone.specs.declared.event.GroupStep.{GroupStep}
 use Rattle.gb_isolation.specs.Project.{if_any}
 
--- of frames from a to b with so many items, of which the first has the number n and stands behind so many, those are acknowledged whose numbers pass the test
+-- The items of frames from a to b are acknowledged whose frame's number passes the test, where the frames have these numbers of items. The frames are
+-- numbered from n on, and `before` items stand in the frames before them.
 abbrev pub counts_acknowledged : NodeId → NodeId → (ℕ → Bool) → ℕ → ℕ → List ℕ → List GroupStep
 counts_acknowledged a b new n before [] = []
 counts_acknowledged a b new n before (k ∷ ks) = (if new n then if_any a k (Done b (before + 1) k) else []) ++ counts_acknowledged a b new (n + 1) (before + k) ks

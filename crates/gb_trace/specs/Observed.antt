@@ -34,7 +34,7 @@ observed plan g run = map (λ a. observed_at plan g run (node_numbered a)) (numb
 abbrev pub IsolatedGroupsAreSeenAlone : Type 0
 IsolatedGroupsAreSeenAlone = (plan : Plan) (run : List Did) (v : ClusterValue) (g : Addr) → plan.nodes ≤ NODES → IsIsolated plan run v g → observed plan g run ≡ observed_alone plan.nodes (alone_in plan g run)
 
--- In a run, a group of which no request was refused for want of memory: the projection is legal, and what is seen of the group is what these steps make of it alone.
+-- In a run, a group that had no request refused for lack of memory: the projection is legal, and what is seen of the group is what these steps make of it alone.
 abbrev pub FedGroupsAreSeenAlone : Type 0
 FedGroupsAreSeenAlone =
     (plan : Plan) (events : List Event) (answers : List Answer) (packets : List Posted) (v : ClusterValue) → IsRun plan events answers packets v

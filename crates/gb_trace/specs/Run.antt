@@ -19,7 +19,7 @@ use Rattle.gb_isolation.specs.Project.{is_fed, is_own_request}
 use Rattle.gb_isolation.specs.RunLaws.{fetched_alone}
 use Rattle.gb_trace.specs.Trace.{own_answer, run_of, IsRun}
 
--- each group of which no request was refused for want of memory is what it is alone
+-- each group that had no request refused for lack of memory is what it is alone
 abbrev pub IsIsolatedRun : Plan → List Event → List Answer → List Posted → ClusterValue → Type 0
 IsIsolatedRun plan events answers packets v = (g : Addr) → is_fed g (run_of events answers packets) ≡ true → IsIsolated plan (run_of events answers packets) v g
 

@@ -58,7 +58,7 @@ all_did packets (e ∷ events) (a ∷ answers) = did_in packets e a ++ all_did p
 abbrev pub run_of : List Event → List Answer → List Posted → List Did
 run_of events answers packets = reverse (all_did packets events answers)
 
--- each group of which no request was refused for lack of memory is seen in the run as what it is alone
+-- each group that had no request refused for lack of memory is seen in the run as what it is alone
 abbrev pub AreSeenAlone : Plan → List Event → List Answer → List Posted → Type 0
 AreSeenAlone plan events answers packets = (g : Addr) → is_fed g (run_of events answers packets) ≡ true → IsSeenAlone plan (run_of events answers packets) g
 

@@ -59,7 +59,7 @@ fn add_acknowledged(
     Ok(())
 }
 
-/// Adds that so many items come, with the places after this one. `Err` also where there is no number for them.
+/// Adds that this number of items comes, with the places after this one. `Err` also where there is no number for them.
 fn add_comes(
     from: NodeId,
     to: NodeId,
@@ -107,7 +107,7 @@ fn add_new(
     Ok(())
 }
 
-/// Adds what the packet's acknowledgement gives the group, where the frames for its sender have so many items of it.
+/// Adds what the packet's acknowledgement gives the group. `counts` are the numbers of its items in the frames for the packet's sender.
 /// `Err` also where there is no number for them.
 fn add_all_acknowledged(
     key: &HmacKey,

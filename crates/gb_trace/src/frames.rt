@@ -130,7 +130,7 @@ pub(crate) fn counts_to(
     Ok(counts)
 }
 
-/// How many items the first frames have together, so many. `Err` where there is no number for them.
+/// Returns how many items the first `frames` frames have together. `Err` where there is no number for them.
 pub(crate) fn first_of(counts: &[u64], frames: u64) -> Result<u64, OutOfMemory>
     ensures { IfOk result (λ n. n ≡ sum (take frames counts.now)) }
 {

@@ -107,7 +107,7 @@ fn items_to(
     Ok(items)
 }
 
-/// The group's items that are carried from the node to each of so many.
+/// Returns the group's items that are carried from the node to each node of the cluster.
 #[tactic(auto, using(gb_alone::proofs::ObservationLemmas::map_more, gb_alone::proofs::ObservationLemmas::map_none))]
 fn items_from(
     alloc: Global,

@@ -40,7 +40,7 @@ fn has_refusal(answers: &[Answer]) -> bool
     answers.iter().any(is_refused)
 }
 
-/// Whether the node that acts is one of so many.
+/// Returns true if the node that acts has a number below this.
 fn is_placed(nodes: usize, event: &Event) -> bool
     ensures { IsTrue result ↔ IsPlaced nodes event.now }
 {
@@ -50,7 +50,7 @@ fn is_placed(nodes: usize, event: &Event) -> bool
     }
 }
 
-/// Whether each node that acts is one of so many.
+/// Returns true if each node that acts has a number below this.
 #[tactic(auto, using(crate::proofs::RunLemmas::placed_none, crate::proofs::RunLemmas::placed_more, crate::proofs::RunLemmas::placed_all, crate::proofs::RunLemmas::placed_each))]
 pub fn are_placed(nodes: usize, events: &[Event]) -> bool
     ensures { IsTrue result ↔ All (IsPlaced nodes) events.now }

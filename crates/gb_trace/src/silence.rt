@@ -28,7 +28,7 @@ fn ticks(deed: &Deed) -> bool
     }
 }
 
-/// For how many ticks the other node was not heard, after this but for its own tick, where it was so many before.
+/// Returns for how many ticks the other node was not heard after this, but for its own tick. `unheard` is that number before it.
 fn unheard_after(key: &HmacKey, b: NodeId, deed: &Deed, unheard: usize) -> usize
     ensures { result ≡ (if list_any (is_from b.number) (taken_by key.now deed.now.event deed.now.answer) then 0 else unheard) }
 {
@@ -51,7 +51,7 @@ fn is_silent(unheard: usize, silence: u16, before: bool) -> bool
     unheard >= usize::from(silence) || before
 }
 
-/// Whether the other node was not heard at the node for so many ticks, at some moment so far.
+/// Returns true if the other node was not heard at the node for this number of ticks, at some moment so far.
 #[tactic(auto, using(crate::proofs::PastLemmas::here, crate::proofs::PastLemmas::elsewhere, crate::proofs::PastLemmas::whole), unfolding(gb_node::specs::Past::watched, gb_cluster::specs::Run::past_at))]
 fn was_silent(key: &HmacKey, a: NodeId, b: NodeId, silence: u16, deeds: &[Deed]) -> bool
     requires { LEAST ≤ silence }

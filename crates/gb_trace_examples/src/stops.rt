@@ -413,7 +413,7 @@ pub fn are_fetched(answers: &[Answer], logs: &[usize]) -> bool {
     left.is_empty()
 }
 
-/// Whether all is right in a run of the schedule as it is, for so many nodes, with these logs. The events are added to a list, which
+/// Whether all is right in a run of the schedule as it is, for this number of nodes, with these logs. The events are added to a list, which
 /// is empty before.
 fn read_as_it_is(
     alloc: Global,
@@ -442,7 +442,7 @@ fn is_worked(
     read_as_it_is(alloc, lines, nodes, logs, &mut events)
 }
 
-/// All is right in a run of the schedule as it is, with these logs, and in one with a stop of each of so many nodes after each event.
+/// All is right in a run of the schedule as it is, with these logs, and in one with a stop of each node after each event.
 fn compare(
     rt: &impl Abort,
     alloc: Global,

@@ -195,7 +195,7 @@ fn each_head_spells_its_request(rt: HostRuntime) -> Result<(), Fail> {
     Ok(())
 }
 
-/// A say in the group 1 of this tenant, with so many digits of payload.
+/// A say in the group 1 of this tenant, with this number of digits of payload.
 fn say(alloc: Global, tenant: &[u8], digits: usize) -> Result<Vec<u8>, OutOfMemory> {
     let mut body = Vec::new(alloc);
     for part in [b"say ".as_slice(), &DIGITS, b" ", tenant, b" 1 "] {
@@ -212,7 +212,7 @@ fn is_malformed(alloc: Global, body: &[u8]) -> bool {
     matches!(parse_request(alloc, body), Err(Refusal::Malformed))
 }
 
-/// Whether the bytes are so many, and spell a say of so many bytes.
+/// Returns true if there are this many bytes, and they spell a say of this length.
 fn is_say(alloc: Global, body: &[u8], len: usize, said: usize) -> bool {
     match &parse_request(alloc, body) {
         Ok(Request::Say(_, _, message)) => body.len() == len && message.payload.len() == said,

@@ -46,7 +46,7 @@ pub record SendsTo (r : ℕ) (me : NodeId) (b : ℕ) (is_heard : Bool) (es : Lis
 abbrev pub IsPartTo : ℕ → NodeId → ℕ → Bool → List SeatEntry → Type 0
 IsPartTo r me b is_heard es = (rest : List SeatEntry) × SendsTo r me b is_heard (es ++ rest)
 
--- what a pump sends in a turn to each other node below b, rising, of which those in the set were heard
+-- what a pump sends in a turn to each other node below b, rising; the nodes in the set were heard
 abbrev pub SendsAll : ℕ → NodeId → set.FinSet nat_cmp → ℕ → List SeatEntry → Type 0
 SendsAll r me heard zero es = es ≡ []
 SendsAll r me heard (suc b) es = MatchBool (b == me.number) (SendsAll r me heard b es)
@@ -56,11 +56,11 @@ SendsAll r me heard (suc b) es = MatchBool (b == me.number) (SendsAll r me heard
 abbrev pub IsPartAll : ℕ → NodeId → set.FinSet nat_cmp → ℕ → List SeatEntry → Type 0
 IsPartAll r me heard nodes es = (rest : List SeatEntry) × SendsAll r me heard nodes (es ++ rest)
 
--- at most so many packets came
+-- at most this number of packets came
 abbrev pub IsReceived : NodeId → ℕ → List SeatEntry → Type 0
 IsReceived me n es = ArePackets me es × (length es ≤ n)
 
--- so many came, and these nodes were heard
+-- this number of packets came, and these nodes were heard
 abbrev pub HasReceived : NodeId → ℕ → set.FinSet nat_cmp → List SeatEntry → Type 0
 HasReceived me n heard es = IsReceived me n es × (heard ≡ heard_in es)
 

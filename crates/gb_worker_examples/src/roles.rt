@@ -26,7 +26,7 @@ pub const TURNS: u64 = 50;
 pub enum Role<'a, P> {
     /// Carries a node's packets until no caller is left, and for `TURNS` turns at least.
     Pump(NodeId, P),
-    /// Makes so many turns of ticks.
+    /// Makes this number of turns of ticks.
     Ticker(u64),
     /// Says these words at a node, this number of times.
     Sayer(NodeId, &'a [u8], u64),
@@ -42,7 +42,7 @@ pub enum Role<'a, P> {
     Lost,
 }
 
-/// A gate that is passed once in a millisecond, while callers are left, and so many times at least.
+/// A gate that is passed once in a millisecond, while callers are left, and this number of times at least.
 #[derive(Drop)]
 struct Paced<'a, R> {
     rt: &'a R,
