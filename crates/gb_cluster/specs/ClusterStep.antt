@@ -52,7 +52,7 @@ pub record NodeActs (old : ClusterValue) (a : NodeId) (event : NodeEvent) (answe
   pub reason : IsForReason (node_at old a) event answer
   pub after : new ≡ cluster old.plan (slice_set old.nodes a.number node) (old.packets ++ posted event answer)
 
--- the node's answer, with the number of a packet in place of its bytes, where so many were sent before
+-- the node's answer, with the number of a packet in place of its bytes; `count` packets were sent before
 abbrev pub sending : ℕ → SentValue → Sending
 sending count (SentPacket text) = SendingPacket (count + 1)
 sending count Nothing = SendingNothing
@@ -102,7 +102,7 @@ abbrev pub IsPlaced : ℕ → Event → Type 0
 IsPlaced nodes (At a event) = a.number < nodes
 IsPlaced nodes (Arrive k) = Unit {0}
 
--- each packet goes to one of so many nodes
+-- each packet goes to a node with a number below this
 abbrev pub AreForNodes : ℕ → List Posted → Type 0
 AreForNodes nodes packets = (k : ℕ) (p : Posted) → slice_get packets k ≡ Some p → p.to.number < nodes
 

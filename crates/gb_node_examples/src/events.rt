@@ -68,7 +68,7 @@ fn say(alloc: Global, me: u8, addr: Addr, bytes: &[u8]) -> Result<NodeEvent, Out
     Ok(NodeEvent::Request(Request::Say(member(addr, me), addr, message)))
 }
 
-/// The packet with this number among those that were sent comes; no bytes come where there is none.
+/// The packet with this number among those that were sent comes; no bytes come if there is no such packet.
 fn arrive(alloc: Global, sent: &[PacketText], number: usize) -> Result<NodeEvent, OutOfMemory> {
     let bytes: &[u8] = match sent.get(number) {
         Some(packet) => packet.as_slice(),

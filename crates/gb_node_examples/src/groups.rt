@@ -154,7 +154,7 @@ enum To {
     Friend,
 }
 
-/// The next batches for nodes, with room for so many bytes, have these items.
+/// The next batches for nodes, with room for this number of bytes, have these items.
 fn give(
     rt: &impl Abort,
     alloc: Global,
@@ -272,7 +272,7 @@ fn nothing_waits_for_a_noticed_node(rt: HostRuntime) -> Result<(), Fail> {
     Ok(())
 }
 
-/// Groups 1 to `last` are made, where the first so many were made before.
+/// Groups 1 to `last` are made. The first of them were made before.
 fn open_to(rt: &impl Abort, groups: &mut Groups, made: u16, last: u16) {
     for group in made..last {
         let reply = take(groups, Step::Open, group + 1);

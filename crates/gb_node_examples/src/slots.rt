@@ -23,7 +23,7 @@ const TOO_LONG_FOR_TWO: &[u8] = &[7; 4_097];
 
 const LONGEST_OF_TWO: &[u8] = &[7; 4_096];
 
-/// Each member says so many messages of so many bytes in all, so many of them unfinished at once.
+/// Each member may say this number of messages with this number of bytes in all, and this number of them may be unfinished at once.
 #[derive(Clone, Copy)]
 struct Limits {
     msgs: u32,

@@ -71,7 +71,7 @@ pub enum Step {
 pub enum Told {
     Done,
     Said(u16),
-    /// A log with so many entries.
+    /// A log with this number of entries.
     Log(usize),
     /// A request is refused.
     Refused(Refusal),

@@ -29,14 +29,14 @@ const TENANT_KEY: Key = [2; 32];
 /// What is asked of the group 0 or 1 of the tenant 7.
 #[derive(Clone, Copy)]
 enum Ask {
-    /// Adds a tenant that may make so many groups.
+    /// Adds a tenant that may make this number of groups.
     Tenant(u16, u32),
-    /// Makes a group of one member and the friend, where so many messages may be said.
+    /// Makes a group of one member and the friend, who may each say this number of messages.
     Make(u16, NodeId, u32),
     Open(u16),
     Shut(u16),
     Drop(u16),
-    /// Says so many zeros.
+    /// Says a payload of this number of zeros.
     Say(u16, usize),
     /// Reads the log from a place on.
     Fetch(u16, u32),

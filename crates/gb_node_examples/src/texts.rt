@@ -128,7 +128,7 @@ fn answers_faulty(alloc: Global, node: &mut Node, faulty: &Faulty) -> Result<boo
     Ok(answers(node, &text, *fault))
 }
 
-/// Whether the node answers so many bytes of `TEXT`, without the last zeros, by their fault.
+/// Returns true if the node answers the first bytes of `TEXT`, without the last zeros, by their fault.
 fn answers_cut(node: &mut Node, length: usize) -> bool {
     let text = TEXT.get(..length).unwrap_or(TEXT);
     if length < 39 {

@@ -5,7 +5,7 @@ use gb_types::reply::Reply;
 #[derive(Clone, Copy, PartialEq)]
 pub enum Told {
     Done,
-    /// A log with so many entries.
+    /// A log with this number of entries.
     Log(usize),
     Refused(Refusal),
 }

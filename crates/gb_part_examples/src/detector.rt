@@ -40,7 +40,7 @@ fn holds(detector: &mut Detector, step: &Step) -> bool {
     }
 }
 
-/// Makes the calls, so many times.
+/// Makes the calls, this number of times.
 fn compare(rt: &impl Abort, detector: &mut Detector, times: usize, steps: &[Step]) {
     for _ in 0..times {
         for step in steps {

@@ -82,7 +82,7 @@ fn bytes(alloc: Global, digits: &str) -> Result<Vec<u8>, Fail> {
     Ok(hex::decode(alloc, digits)?)
 }
 
-/// A message of group 1 of tenant 7, of so many bytes `a`.
+/// Returns a message of group 1 of tenant 7 that has the byte `a` this number of times.
 fn item(alloc: Global, len: u16) -> Result<Item, OutOfMemory> {
     let mut payload = Vec::new(alloc);
     for _ in 0..len {

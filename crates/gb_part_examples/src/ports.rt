@@ -197,7 +197,7 @@ fn is_taken(rt: &HostRuntime) -> bool {
     }
 }
 
-// A packet of so many bytes goes from one port to a node; what is told of that.
+// A packet of this length goes from one port to a node. Returns what is told of that.
 fn sent_long(
     rt: &HostRuntime,
     port: &mut UdpPort,

@@ -33,7 +33,7 @@ impl Answers for Denies {
     }
 }
 
-/// Gives bytes by pieces of at most so many, and fails where `fails` is set and they are at their end. Each other
+/// Returns bytes by pieces of at most this size, and fails where `fails` is set and they are at their end. Each other
 /// read is interrupted.
 #[derive(Drop)]
 struct Pieces<'a> {
@@ -60,7 +60,7 @@ impl Read for Pieces<'_> {
     }
 }
 
-/// Takes so many bytes, and then fails.
+/// Takes this number of bytes, and then fails.
 #[derive(Drop)]
 struct Space {
     taken: Vec<u8>,
@@ -138,7 +138,7 @@ fn with_space(alloc: Global, left: usize) -> Space {
     }
 }
 
-/// Holds a session, by pieces of so many bytes.
+/// Holds a session, by pieces of this number of bytes.
 fn is_held(alloc: Global, case: &Case, piece: usize) -> Result<bool, SessionFault> {
     let (read, written, end) = *case;
     let mut out = with_space(alloc, 1_000);
@@ -276,7 +276,7 @@ const OPEN_AND_HEY: &[u8] =
 /// What is told of a message that spells no request.
 const TOLD: &[u8] = b"\x00\x00\x00\x14refused 14 Malformed";
 
-/// Gives the request so many times, one a read, and then the last bytes in one read. Counts the reads.
+/// Returns the request this number of times, one a read, and then the last bytes in one read. Counts the reads.
 #[derive(Drop)]
 struct Requests<'a> {
     left: u64,
@@ -300,7 +300,7 @@ impl Read for Requests<'_> {
     }
 }
 
-/// Gives so many bytes of the request, again and again, one a read. Counts the reads.
+/// Returns the first bytes of the request, again and again, one a read. Counts the reads.
 #[derive(Drop)]
 struct Bytes {
     left: u64,
@@ -320,7 +320,7 @@ impl Read for Bytes {
     }
 }
 
-/// Is interrupted so many times, and then at its end.
+/// Is interrupted this number of times, and then at its end.
 #[derive(Drop)]
 struct Interrupts {
     left: u64,
@@ -336,7 +336,7 @@ impl Read for Interrupts {
     }
 }
 
-/// Counts the bytes that are as so many replies give them, and keeps the others.
+/// Counts the bytes that are those of this number of replies, and keeps the others.
 #[derive(Drop)]
 struct Replies {
     left: u64,
@@ -363,7 +363,7 @@ impl Write for Replies {
     }
 }
 
-/// Where so many replies are expected.
+/// Expects this number of replies.
 fn with_replies(alloc: Global, replies: u32) -> Replies {
     Replies {
         left: u64::from(replies) * 20,
@@ -372,7 +372,7 @@ fn with_replies(alloc: Global, replies: u32) -> Replies {
     }
 }
 
-/// Whether so many replies were written, and these bytes.
+/// Returns true if this number of replies was written, and these bytes.
 fn has_written(out: &Replies, others: &[u8]) -> bool {
     out.left == 0 && out.others.as_slice() == others
 }
@@ -409,7 +409,7 @@ fn a_session_answers_so_many_requests(rt: HostRuntime) -> Result<(), Fail> {
     Ok(())
 }
 
-/// Holds a session of so many bytes, one a read.
+/// Holds a session of this number of bytes, one a read.
 fn is_cut(alloc: Global, left: u64, reads: u64, end: SessionEnd) -> Result<bool, SessionFault> {
     let mut reader = Bytes { left, reads: 0 };
     let mut out = with_replies(alloc, 51_948);
@@ -433,7 +433,7 @@ fn a_session_makes_so_many_reads(rt: HostRuntime) -> Result<(), Fail> {
     Ok(())
 }
 
-/// Whether a session ends so after so many interrupted reads, and writes nothing.
+/// Returns true if a session ends so after this number of interrupted reads, and writes nothing.
 fn is_made_again(alloc: Global, left: u64, end: Result<SessionEnd, SessionFault>) -> bool {
     let mut out = with_replies(alloc, 0);
     let found = serve(alloc, &mut Denies, &mut Interrupts { left }, &mut out);

@@ -4,7 +4,7 @@ use gb_simulate::outcome::{BadLine, SimEnd, SimFault};
 /// A schedule, the text that it makes, and how it ends.
 pub type Case = (&'static str, &'static str, SimEnd);
 
-/// Lines, and the text that they make. `*` stands for a payload, `#` for a number, and `%` for so many bytes of
+/// Lines, and the text that they make. `*` stands for a payload, `#` for a number, and `%` for a number of bytes of
 /// `UNTAGGED`.
 type Text = (&'static str, &'static str);
 
@@ -14,7 +14,7 @@ pub type Part = (Text, u16, u16);
 /// How many bytes a payload has, and a schedule in parts.
 pub type Built = (usize, &'static [Part]);
 
-/// A byte that is repeated so many times as a schedule, the most that is read at once, the text that it makes, and how
+/// A byte that is repeated this number of times as a schedule, the most that is read at once, the text that it makes, and how
 /// it ends.
 pub type Repeated = (u8, usize, usize, &'static str, SimEnd);
 

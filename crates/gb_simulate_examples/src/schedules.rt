@@ -18,7 +18,7 @@ use std::io::{ErrorKind, Read, Write};
 use std::process::Abort;
 use std::{cmp, io};
 
-/// Gives a text by pieces of at most so many bytes, and fails where `fails` is set and the text is at its end.
+/// Returns a text by pieces of at most this size, and fails where `fails` is set and the text is at its end.
 #[derive(Drop)]
 struct Pieces<'a> {
     text: &'a [u8],
@@ -39,7 +39,7 @@ impl Read for Pieces<'_> {
     }
 }
 
-/// Takes so many bytes, by pieces of at most so many, and then fails so, or takes nothing. Where
+/// Takes this number of bytes, by pieces of at most this size, and then fails so, or takes nothing. Where
 /// `interrupted` is set the next write is interrupted, and where `stuck` is set each flush fails.
 #[derive(Drop)]
 struct Space {
@@ -159,7 +159,7 @@ fn makes(
     Ok(found == end && out.taken.as_slice() == answers)
 }
 
-/// Whether a schedule makes this text, and ends so, where it is read and written in pieces of so many bytes.
+/// Whether a schedule makes this text, and ends so, where it is read and written in pieces of this size.
 fn makes_in_pieces(
     alloc: Global,
     schedule: &[u8],
@@ -173,7 +173,7 @@ fn makes_in_pieces(
     makes(alloc, &mut reader, &mut out, answers, end)
 }
 
-/// Runs a schedule, by pieces of so many bytes.
+/// Runs a schedule, by pieces of this size.
 fn is_run(alloc: Global, case: &Case, piece: usize) -> Result<bool, SimFault> {
     let (schedule, answers, end) = *case;
     makes_in_pieces(
@@ -185,7 +185,7 @@ fn is_run(alloc: Global, case: &Case, piece: usize) -> Result<bool, SimFault> {
     )
 }
 
-/// Runs schedules, by pieces of so many bytes.
+/// Runs schedules, by pieces of this size.
 fn are_run(alloc: Global, cases: &[Case], piece: usize) -> Result<bool, SimFault> {
     for case in cases {
         if !is_run(alloc, case, piece)? {
@@ -248,7 +248,7 @@ fn payloads_are_written_in_lower_case(rt: HostRuntime) {
     judge(&rt, are_run(rt.alloc(), IN_LOWER_CASE, 3));
 }
 
-/// Appends a payload of so many bytes.
+/// Appends a payload of this number of bytes.
 fn put_payload(out: &mut Vec<u8>, bytes: usize) -> Result<(), OutOfMemory> {
     for _ in 0..bytes {
         out.extend_from_slice(b"61")?;
@@ -379,7 +379,7 @@ fn a_window_of_64_frames(rt: HostRuntime) {
     judge(&rt, are_built_and_run(rt.alloc(), WINDOW_OF_64_FRAMES));
 }
 
-/// A byte so many times.
+/// Returns a byte this number of times.
 fn repeated(alloc: Global, byte: u8, count: usize) -> Result<Vec<u8>, OutOfMemory> {
     Ok(vec![in alloc; byte; count]?)
 }
@@ -480,7 +480,7 @@ fn an_interrupted_write_is_made_again(rt: HostRuntime) {
     judge(&rt, is_written_again(rt.alloc()));
 }
 
-/// Whether the lines are all read, and so many bytes are flushed.
+/// Returns true if the lines are all read, and this number of bytes is flushed.
 fn is_flushed_in_time(alloc: Global, count: usize) -> Result<bool, SimFault> {
     let flushed = Cell::new(0);
     let mut reader = Asking {

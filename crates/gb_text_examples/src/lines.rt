@@ -6,7 +6,7 @@ use std::io::{ErrorKind, Read};
 use std::test::Fail;
 use std::{cmp, io};
 
-/// Gives a text by pieces of at most so many bytes, and fails at one read.
+/// Returns a text by pieces of at most this size, and fails at one read.
 #[derive(Drop)]
 struct Pieces<'a> {
     text: &'a [u8],
@@ -179,14 +179,14 @@ fn nothing_is_lost_at_a_failed_read(rt: HostRuntime) -> Result<(), Fail> {
     Ok(())
 }
 
-/// A line of so many bytes, and a short one.
+/// A line of this number of bytes, and a short one.
 fn long_line(alloc: Global, count: usize) -> Result<Vec<u8>, AllocError> {
     let mut text = vec![in alloc; b'#'; count]?;
     text.extend_from_slice(b"\nb")?;
     Ok(text)
 }
 
-/// Whether what is shown of a line of so many bytes, and a short one, ends so in any pieces.
+/// Returns true if what is shown of a line of this number of bytes, and a short one, ends so in any pieces.
 fn is_long_line_read(alloc: Global, count: usize, ends: &str) -> Result<bool, OutOfMemory> {
     let text = long_line(alloc, count)?;
     for piece in [7, 65_536, 131_072] {
@@ -206,7 +206,7 @@ fn the_longest_line(rt: HostRuntime) -> Result<(), Fail> {
     Ok(())
 }
 
-/// Whether what is shown of one line of so many bytes ends so.
+/// Returns true if what is shown of one line of this number of bytes ends so.
 fn is_one_line_read(alloc: Global, count: usize, ends: &str) -> Result<bool, OutOfMemory> {
     let text = vec![in alloc; b'#'; count]?;
     shows_last(alloc, &mut in_pieces(&text, 1_000), ends)
@@ -221,7 +221,7 @@ fn the_longest_line_without_its_line_feed(rt: HostRuntime) -> Result<(), Fail> {
     Ok(())
 }
 
-/// Is interrupted so many times, and then gives a text byte by byte.
+/// Is interrupted this number of times, and then returns a text byte by byte.
 #[derive(Drop)]
 struct Interrupted<'a> {
     left: u64,
@@ -242,7 +242,7 @@ impl Read for Interrupted<'_> {
     }
 }
 
-/// Whether the next line is told so after so many interrupted reads.
+/// Returns true if the next line is told so after this number of interrupted reads.
 fn gives_after(alloc: Global, left: u64, next: &Next) -> Result<bool, OutOfMemory> {
     let mut lines = LineBuffer::new(alloc)?;
     let mut reader = Interrupted {

@@ -300,7 +300,7 @@ fn set(rt: &impl Abort, numbers: &[u8]) -> NodeSet {
     found
 }
 
-/// The number of the first node of the set from this place on; 32 where there is none.
+/// Returns the number of the first node of the set from this place on, or 32.
 fn next_number(set: &NodeSet, from: usize) -> u8 {
     match set.next_from(from) {
         Some(node) => node.number,
