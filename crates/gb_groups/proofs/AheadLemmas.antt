@@ -6,6 +6,7 @@ use Rattle.std.proofs.lemmas.Bool.{cases_lt, lt-ltb, le-ltb}
 use Rattle.std.specs.Prelude.{sum_by, if◌then◌else◌}
 use Rattle.gb_types.specs.declared.entry.Entry.{Entry}
 use Rattle.std.proofs.lemmas.List.Sums.{sum_by-cons}
+use Rattle.gb_types.specs.declared.version.Version.{Version}
 use Rattle.gb_groups.specs.SlotsValue.{Row, no_entry}
 use Rattle.gb_groups.specs.Packing.{Visit, visit, walk, queue, queues, fit, size}
 use Rattle.gb_groups.specs.Ahead.{visits, ahead}
@@ -79,44 +80,44 @@ look_gives dest from lap at nth rows row h l v e z =
     look_step from lap at (queues dest rows) (omega arith) l
     ∙ ap (λ q. map (visit at) q ++ walk (at + 1) (ahead from lap (at + 1) 0 (queues dest rows))) some
 
-pub fit-full : (room : ℕ) (v : Visit) (vs : List Visit) → room < size v → fit room (v ∷ vs) ≡ []
+pub fit-full : (version : Version) (room : ℕ) (v : Visit) (vs : List Visit) → room < size version v → fit version room (v ∷ vs) ≡ []
 unfolding fit
-fit-full room v vs h = ap (λ b. if b then [] else v ∷ fit (room - size v) vs) (lt-ltb room (size v) h)
+fit-full version room v vs h = ap (λ b. if b then [] else v ∷ fit version (room - size version v) vs) (lt-ltb room (size version v) h)
 
-pub fit-more : (room : ℕ) (v : Visit) (vs : List Visit) → size v ≤ room → fit room (v ∷ vs) ≡ v ∷ fit (room - size v) vs
+pub fit-more : (version : Version) (room : ℕ) (v : Visit) (vs : List Visit) → size version v ≤ room → fit version room (v ∷ vs) ≡ v ∷ fit version (room - size version v) vs
 unfolding fit
-fit-more room v vs h = ap (λ b. if b then [] else v ∷ fit (room - size v) vs) (le-ltb room (size v) h)
+fit-more version room v vs h = ap (λ b. if b then [] else v ∷ fit version (room - size version v) vs) (le-ltb room (size version v) h)
 
-pub fit-none : (room : ℕ) → fit room [] ≡ []
+pub fit-none : (version : Version) (room : ℕ) → fit version room [] ≡ []
 unfolding fit
-fit-none room = refl
+fit-none version room = refl
 
 -- so many items of a batch were counted, and so many bytes of the room are left for the rest
-pub record Measured (room left many : ℕ) (here batch : List Visit) : Type 0 where
-  pub count : many + length (fit left here) ≡ length batch
-  pub bytes : sum_by size (fit left here) + room ≡ sum_by size batch + left
+pub record Measured (version : Version) (room left many : ℕ) (here batch : List Visit) : Type 0 where
+  pub count : many + length (fit version left here) ≡ length batch
+  pub bytes : sum_by (size version) (fit version left here) + room ≡ sum_by (size version) batch + left
 
-pub measured_start : (room : ℕ) (vs : List Visit) → Measured room room 0 vs (fit room vs)
-measured_start room vs = record { count = omega arith; bytes = refl }
+pub measured_start : (version : Version) (room : ℕ) (vs : List Visit) → Measured version room room 0 vs (fit version room vs)
+measured_start version room vs = record { count = omega arith; bytes = refl }
 
 -- nothing more fits
-measured_whole : (room left many : ℕ) (here batch : List Visit) → Measured room left many here batch → fit left here ≡ [] → (many ≡ length batch) × (room ≡ sum_by size batch + left)
-measured_whole room left many here batch m f =
-    let n : length (fit left here) ≡ 0 = ap length f in
-    let b : sum_by size (fit left here) ≡ 0 = ap (sum_by size) f in
+measured_whole : (version : Version) (room left many : ℕ) (here batch : List Visit) → Measured version room left many here batch → fit version left here ≡ [] → (many ≡ length batch) × (room ≡ sum_by (size version) batch + left)
+measured_whole version room left many here batch m f =
+    let n : length (fit version left here) ≡ 0 = ap length f in
+    let b : sum_by (size version) (fit version left here) ≡ 0 = ap (sum_by (size version)) f in
     (omega (arith, m.count), omega (arith, m.bytes))
 
-pub measured_stop : (room left many : ℕ) (here there batch : List Visit) (v : Visit) → Measured room left many here batch → here ≡ v ∷ there → left < size v → (many ≡ length batch) × (room ≡ sum_by size batch + left)
-measured_stop room left many here there batch v m e s = measured_whole room left many here batch m (ap (fit left) e ∙ fit-full left v there s)
+pub measured_stop : (version : Version) (room left many : ℕ) (here there batch : List Visit) (v : Visit) → Measured version room left many here batch → here ≡ v ∷ there → left < size version v → (many ≡ length batch) × (room ≡ sum_by (size version) batch + left)
+measured_stop version room left many here there batch v m e s = measured_whole version room left many here batch m (ap (fit version left) e ∙ fit-full version left v there s)
 
-pub measured_none : (room left many : ℕ) (here batch : List Visit) → Measured room left many here batch → here ≡ [] → (many ≡ length batch) × (room ≡ sum_by size batch + left)
-measured_none room left many here batch m e = measured_whole room left many here batch m (ap (fit left) e ∙ fit-none left)
+pub measured_none : (version : Version) (room left many : ℕ) (here batch : List Visit) → Measured version room left many here batch → here ≡ [] → (many ≡ length batch) × (room ≡ sum_by (size version) batch + left)
+measured_none version room left many here batch m e = measured_whole version room left many here batch m (ap (fit version left) e ∙ fit-none version left)
 
-pub measured_more : (room left many : ℕ) (here there batch : List Visit) (v : Visit) → Measured room left many here batch → here ≡ v ∷ there → size v ≤ left → Measured room (left - size v) (many + 1) there batch
-measured_more room left many here there batch v m e s =
-    let f : fit left here ≡ v ∷ fit (left - size v) there = ap (fit left) e ∙ fit-more left v there s in
-    let n : length (fit left here) ≡ suc (length (fit (left - size v) there)) = ap length f in
-    let b : sum_by size (fit left here) ≡ size v + sum_by size (fit (left - size v) there) = ap (sum_by size) f ∙ sum_by-cons size v (fit (left - size v) there) in
+pub measured_more : (version : Version) (room left many : ℕ) (here there batch : List Visit) (v : Visit) → Measured version room left many here batch → here ≡ v ∷ there → size version v ≤ left → Measured version room (left - size version v) (many + 1) there batch
+measured_more version room left many here there batch v m e s =
+    let f : fit version left here ≡ v ∷ fit version (left - size version v) there = ap (fit version left) e ∙ fit-more version left v there s in
+    let n : length (fit version left here) ≡ suc (length (fit version (left - size version v) there)) = ap length f in
+    let b : sum_by (size version) (fit version left here) ≡ size version v + sum_by (size version) (fit version (left - size version v) there) = ap (sum_by (size version)) f ∙ sum_by-cons (size version) v (fit version (left - size version v) there) in
     record { count = omega (arith, m.count); bytes = omega (arith, m.bytes) }
 
 pub visits-first : (from lap at nth : ℕ) → at < from → nth ≡ lap - 1 → nth ≡ visits from lap at at

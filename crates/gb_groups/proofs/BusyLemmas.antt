@@ -4,6 +4,8 @@ use Rattle.std.proofs.Math.ListN.{set}
 use Rattle.std.proofs.lemmas.Bool.{cases_lt, cases_eq}
 use Rattle.std.proofs.lemmas.List.{get_or_past, get_or-set_same, get_or-set_other, length-set, set-get_or, length-drop, get_or_default}
 use Rattle.gb_types.specs.declared.entry.Entry.{Entry}
+use Rattle.gb_types.specs.Version.{limits_of}
+use Rattle.gb_types.specs.declared.version.Version.{Version}
 use Rattle.gb_groups.specs.SlotsValue.{Row, row_at, counters, no_entry, no_row}
 use Rattle.std.specs.Prelude.{sum_by}
 use Rattle.gb_groups.specs.Packing.{Visit, walk, queue, queues, took, first_place, visit, size, fit}
@@ -234,15 +236,15 @@ pub row_here : (rows : List Row) (p : ℕ) → p < length rows → row_at rows p
 row_here rows p h = get_or_default rows p no_row (row_at rows p) h
 
 -- the visit's item does not fit: the batch is whole
-pub turn_stop : (dest from lap at to q nth room left many : ℕ) (rows : List Row) (batch : List Visit) → IsTurn dest from lap at rows to q → nth ≡ visits from to q q → Measured room left many (walk at (ahead from lap at 0 (queues dest rows))) batch → left < 9 + length (get_or (queue dest (row_at rows q)) nth no_entry).payload → (many ≡ length batch) × (room ≡ sum_by size batch + left)
-turn_stop dest from lap at to q nth room left many rows batch t v m s =
-    measured_stop room left many (walk at (ahead from lap at 0 (queues dest rows))) _ batch (visit q (get_or (queue dest (row_at rows q)) nth no_entry)) m (turn_gives dest from lap at to q nth rows (row_at rows q) t v (row_here rows q t.within)) s
+pub turn_stop : (version : Version) (dest from lap at to q nth room left many : ℕ) (rows : List Row) (batch : List Visit) → IsTurn dest from lap at rows to q → nth ≡ visits from to q q → Measured version room left many (walk at (ahead from lap at 0 (queues dest rows))) batch → left < (limits_of version).item_header + length (get_or (queue dest (row_at rows q)) nth no_entry).payload → (many ≡ length batch) × (room ≡ sum_by (size version) batch + left)
+turn_stop version dest from lap at to q nth room left many rows batch t v m s =
+    measured_stop version room left many (walk at (ahead from lap at 0 (queues dest rows))) _ batch (visit q (get_or (queue dest (row_at rows q)) nth no_entry)) m (turn_gives dest from lap at to q nth rows (row_at rows q) t v (row_here rows q t.within)) s
 
 -- the visit's item fits
-pub turn_taken : (dest from lap at to q nth room left many : ℕ) (rows : List Row) (batch : List Visit) → IsTurn dest from lap at rows to q → nth ≡ visits from to q q → Measured room left many (walk at (ahead from lap at 0 (queues dest rows))) batch → 9 + length (get_or (queue dest (row_at rows q)) nth no_entry).payload ≤ left →
-    Measured room (left - (9 + length (get_or (queue dest (row_at rows q)) nth no_entry).payload)) (many + 1) (walk (q + 1) (ahead from to (q + 1) 0 (queues dest rows))) batch
-turn_taken dest from lap at to q nth room left many rows batch t v m s =
-    measured_more room left many (walk at (ahead from lap at 0 (queues dest rows))) (walk (q + 1) (ahead from to (q + 1) 0 (queues dest rows))) batch (visit q (get_or (queue dest (row_at rows q)) nth no_entry)) m (turn_gives dest from lap at to q nth rows (row_at rows q) t v (row_here rows q t.within)) s
+pub turn_taken : (version : Version) (dest from lap at to q nth room left many : ℕ) (rows : List Row) (batch : List Visit) → IsTurn dest from lap at rows to q → nth ≡ visits from to q q → Measured version room left many (walk at (ahead from lap at 0 (queues dest rows))) batch → (limits_of version).item_header + length (get_or (queue dest (row_at rows q)) nth no_entry).payload ≤ left →
+    Measured version room (left - ((limits_of version).item_header + length (get_or (queue dest (row_at rows q)) nth no_entry).payload)) (many + 1) (walk (q + 1) (ahead from to (q + 1) 0 (queues dest rows))) batch
+turn_taken version dest from lap at to q nth room left many rows batch t v m s =
+    measured_more version room left many (walk at (ahead from lap at 0 (queues dest rows))) (walk (q + 1) (ahead from to (q + 1) 0 (queues dest rows))) batch (visit q (get_or (queue dest (row_at rows q)) nth no_entry)) m (turn_gives dest from lap at to q nth rows (row_at rows q) t v (row_here rows q t.within)) s
 
 -- at the beginning the busy places are those with something left
 pub active_start : (dest from : ℕ) (words : List ℕ) (rows : List Row) → IsBusy dest words rows → IsActive words (ahead from 0 from 0 (queues dest rows))
@@ -253,7 +255,7 @@ active_start dest from words rows b =
     record { few = let f = b.few in omega arith; each = λ p. b.each p ∙ ap (λ L. min 1 (length (get_or L p []))) (sym e) }
 
 -- where the walk visits no place, nothing fits
-pub nothing_fits : (room : ℕ) (vs : List Visit) → first_place vs ≡ None → (0 ≡ length (fit room vs)) × (0 ≡ sum_by size (fit room vs))
+pub nothing_fits : (version : Version) (room : ℕ) (vs : List Visit) → first_place vs ≡ None → (0 ≡ length (fit version room vs)) × (0 ≡ sum_by (size version) (fit version room vs))
 unfolding fit
-nothing_fits room [] none = (refl, refl)
-nothing_fits room (v ∷ vs) none = cc
+nothing_fits version room [] none = (refl, refl)
+nothing_fits version room (v ∷ vs) none = cc

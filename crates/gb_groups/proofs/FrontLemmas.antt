@@ -5,6 +5,7 @@ use Rattle.std.proofs.lemmas.List.{take-append-drop, take_at, take-map, append-n
 use Rattle.std.proofs.lemmas.List.Elements.{filter-append}
 use Rattle.std.proofs.lemmas.List.Sums.{length-filter}
 use Rattle.std.proofs.lemmas.Bool.{cases_lt, cases_eq, ne_eqb, ltb-true, lt-ltb, cases_Bool}
+use Rattle.gb_types.specs.declared.version.Version.{Version}
 use Rattle.gb_groups.specs.Turns.{heads, rounds, longest, in_turns, tails}
 use Rattle.gb_types.specs.declared.entry.Entry.{Entry}
 use Rattle.gb_types.specs.declared.limits.TheConstants.{NODES}
@@ -172,18 +173,18 @@ filter_front f n xs =
     ∙ ap (take (count_by f (take n xs))) (filter-append f (take n xs) (drop n xs))
     ∙ take_at (filter f (take n xs)) (filter f (drop n xs)) (count_by f (take n xs)) (length-filter f (take n xs)))
 
-pub batch_of : (dest room p : ℕ) (t : GroupsValue) → p < length t.rows → filter (is_at p) (batch dest room t) ≡ map (visit p) (take (share p (batch dest room t)) (queue dest (row_at t.rows p)))
-batch_of dest room p t h =
+pub batch_of : (version : Version) (dest room p : ℕ) (t : GroupsValue) → p < length t.rows → filter (is_at p) (batch version dest room t) ≡ map (visit p) (take (share p (batch version dest room t)) (queue dest (row_at t.rows p)))
+batch_of version dest room p t h =
     let vs = walk_to dest t in
-    let n = length (fit room vs) in
+    let n = length (fit version room vs) in
     let l = length-queues dest t.rows in
-    let front : take n vs ≡ fit room vs = (fit-front room vs).1 in
+    let front : take n vs ≡ fit version room vs = (fit-front version room vs).1 in
     let q : get_or (queues dest t.rows) p [] ≡ queue dest (row_at t.rows p) = queues_at dest t.rows p (row_at t.rows p) h (get_or_default t.rows p no_row (row_at t.rows p) h) in
     ap (filter (is_at p)) (sym front)
     ∙ filter_front (is_at p) n vs
     ∙ ap (λ us. take (share p us) (filter (is_at p) vs)) front
-    ∙ ap (take (share p (fit room vs))) (walk_of p (get_or t.cursors dest 0) (queues dest t.rows) (omega arith) ∙ ap (map (visit p)) q)
-    ∙ take-map (visit p) (share p (fit room vs)) (queue dest (row_at t.rows p))
+    ∙ ap (take (share p (fit version room vs))) (walk_of p (get_or t.cursors dest 0) (queues dest t.rows) (omega arith) ∙ ap (map (visit p)) q)
+    ∙ take-map (visit p) (share p (fit version room vs)) (queue dest (row_at t.rows p))
 
 -- ---- by addresses
 
@@ -250,11 +251,11 @@ pub walk_below : (c : ℕ) (qs : List (List Entry)) → Const (is_below (length 
 walk_below c qs = walk_passes (is_below (length qs)) c qs (placed-below (length qs) 0 qs (omega arith))
 
 -- a batch is from the front of its walk
-pub batch_passes : (f : Visit → Bool) (dest room : ℕ) (t : GroupsValue) → Const f true (walk_to dest t) → Const f true (batch dest room t)
-batch_passes f dest room t ok =
+pub batch_passes : (f : Visit → Bool) (version : Version) (dest room : ℕ) (t : GroupsValue) → Const f true (walk_to dest t) → Const f true (batch version dest room t)
+batch_passes f version dest room t ok =
     let vs = walk_to dest t in
-    let front : take (length (fit room vs)) vs ≡ fit room vs = (fit-front room vs).1 in
-    (rw front at (Const-take f true (length (fit room vs)) vs ok))
+    let front : take (length (fit version room vs)) vs ≡ fit version room vs = (fit-front version room vs).1 in
+    (rw front at (Const-take f true (length (fit version room vs)) vs ok))
 
 pub agree : {A : Type 0} (g f h : A → Bool) → ((x : A) → g x ≡ true → f x ≡ h x) → (xs : List A) → Const g true xs → filter f xs ≡ filter h xs
 agree g f h e [] c = refl
@@ -285,24 +286,24 @@ map-item t p [] = refl
 map-item t p (w ∷ q) = ap (λ r. item_of (row_at t.rows p) w ∷ r) (map-item t p q)
 
 -- a batch is from groups that are here
-pub batch_below : (dest room : ℕ) (t : GroupsValue) → Const (is_below (length t.rows)) true (batch dest room t)
-batch_below dest room t =
-    batch_passes (is_below (length t.rows)) dest room t (rw (length-queues dest t.rows) at (walk_below (get_or t.cursors dest 0) (queues dest t.rows)))
+pub batch_below : (version : Version) (dest room : ℕ) (t : GroupsValue) → Const (is_below (length t.rows)) true (batch version dest room t)
+batch_below version dest room t =
+    batch_passes (is_below (length t.rows)) version dest room t (rw (length-queues dest t.rows) at (walk_below (get_or t.cursors dest 0) (queues dest t.rows)))
 
-pub items_front : (dest room : ℕ) (t : GroupsValue) (p : ℕ) → AreApart t.rows → p < length t.rows → filter (is_of (row_at t.rows p)) (items t.rows (batch dest room t)) ≡ map (item_of (row_at t.rows p)) (take (share p (batch dest room t)) (queue dest (row_at t.rows p)))
-items_front dest room t p ok h =
-    filter-map (is_of (row_at t.rows p)) (item_at t.rows) (batch dest room t)
-    ∙ ap (map (item_at t.rows)) (agree (is_below (length t.rows)) (λ v. is_of (row_at t.rows p) (item_at t.rows v)) (is_at p) (same_test t p ok h) (batch dest room t) (batch_below dest room t) ∙ batch_of dest room p t h)
-    ∙ map-item t p (take (share p (batch dest room t)) (queue dest (row_at t.rows p)))
+pub items_front : (version : Version) (dest room : ℕ) (t : GroupsValue) (p : ℕ) → AreApart t.rows → p < length t.rows → filter (is_of (row_at t.rows p)) (items t.rows (batch version dest room t)) ≡ map (item_of (row_at t.rows p)) (take (share p (batch version dest room t)) (queue dest (row_at t.rows p)))
+items_front version dest room t p ok h =
+    filter-map (is_of (row_at t.rows p)) (item_at t.rows) (batch version dest room t)
+    ∙ ap (map (item_at t.rows)) (agree (is_below (length t.rows)) (λ v. is_of (row_at t.rows p) (item_at t.rows v)) (is_at p) (same_test t p ok h) (batch version dest room t) (batch_below version dest room t) ∙ batch_of version dest room p t h)
+    ∙ map-item t p (take (share p (batch version dest room t)) (queue dest (row_at t.rows p)))
 
 -- what a packing does to each group
-pub is_front : (dest room : ℕ) (t : GroupsValue) → dest < NODES → AreApart t.rows → HaveCounters t.rows → (p : ℕ) → p < length t.rows → IsFront dest room t p
-is_front dest room t d ok all p h =
-    let k = share p (batch dest room t) in
+pub is_front : (version : Version) (dest room : ℕ) (t : GroupsValue) → dest < NODES → AreApart t.rows → HaveCounters t.rows → (p : ℕ) → p < length t.rows → IsFront version dest room t p
+is_front version dest room t d ok all p h =
+    let k = share p (batch version dest room t) in
     let row = row_at t.rows p in
-    let new : row_at (packed dest room t).rows p ≡ took dest k row = get_or-gave dest 0 p (batch dest room t) t.rows no_row h ∙ ap (λ n. took dest (share n (batch dest room t)) row) (zero-add p) in
+    let new : row_at (packed version dest room t).rows p ≡ took dest k row = get_or-gave dest 0 p (batch version dest room t) t.rows no_row h ∙ ap (λ n. took dest (share n (batch version dest room t)) row) (zero-add p) in
     record {
-      front = items_front dest room t p ok h;
+      front = items_front version dest room t p ok h;
       rest = ap (queue dest) new ∙ queue-took dest k row (let c = all.each p in omega arith);
       others = λ e ne. ap (queue e) new ∙ queue-other dest e k row ne;
       row = new;

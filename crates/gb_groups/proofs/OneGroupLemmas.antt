@@ -14,6 +14,7 @@ use Rattle.gb_rules.proofs.AddressLemmas.{addr_is}
 use Rattle.gb_rules.specs.Address.{is_addr}
 use Rattle.gb_slot.specs.SlotState.{SlotState}
 use Rattle.gb_slot.specs.Slot.{slot_came, slot_took}
+use Rattle.gb_types.specs.declared.version.Version.{Version}
 use Rattle.gb_groups.specs.SlotsValue.{Row, row_at, no_row, on_slot, gone, AreApart}
 use Rattle.gb_groups.specs.GroupsValue.{GroupsValue, batch, packed}
 use Rattle.gb_groups.specs.Packing.{Visit, visit, share, is_at, items, item_at, queue, gave}
@@ -249,9 +250,9 @@ first_at g (r ∷ rows) (suc p) l e =
       | inr h ↦ rw h (first_at g rows p (omega arith) e)
     ]
 
-module _ (g : Addr) (dest room : ℕ) (t : GroupsValue) (apart : AreApart t.rows) where
+module _ (g : Addr) (version : Version) (dest room : ℕ) (t : GroupsValue) (apart : AreApart t.rows) where
   abbrev vs : List Visit
-  vs = batch dest room t
+  vs = batch version dest room t
 
   abbrev is : List Item
   is = items t.rows vs
@@ -266,21 +267,21 @@ module _ (g : Addr) (dest room : ℕ) (t : GroupsValue) (apart : AreApart t.rows
         | inr h ↦ h
       ] in
       filter-map (names g) (item_at t.rows) vs
-      ∙ (ap (map (item_at t.rows)) (agree (is_below (length t.rows)) (λ v. names g (item_at t.rows v)) (λ v. false) off vs (batch_below dest room t)) ∙ ap (map (item_at t.rows)) (filter-never vs))
+      ∙ (ap (map (item_at t.rows)) (agree (is_below (length t.rows)) (λ v. names g (item_at t.rows v)) (λ v. false) off vs (batch_below version dest room t)) ∙ ap (map (item_at t.rows)) (filter-never vs))
 
   -- those of a group at a place are a front of what waits there
   present : (p : ℕ) → Some p ≡ place_of g t.rows → items_for g is ≡ map (item_for g) (take (share p vs) (queue dest (row_at t.rows p)))
   present p e =
       let there = place_is g t.rows p e in
       same_filter (names g) (is_of (row_at t.rows p)) (λ i. names_is g (row_at t.rows p) i there.1) is
-      ∙ (items_front dest room t p apart there.0 ∙ ap (λ a. map (item_for a) (take (share p vs) (queue dest (row_at t.rows p)))) (sym (addr_is g (row_at t.rows p).addr there.1)))
+      ∙ (items_front version dest room t p apart there.0 ∙ ap (λ a. map (item_for a) (take (share p vs) (queue dest (row_at t.rows p)))) (sym (addr_is g (row_at t.rows p).addr there.1)))
 
   share_is : (p : ℕ) → Some p ≡ place_of g t.rows → length (items_for g is) ≡ share p vs
   share_is p e =
       let front = take (share p vs) (queue dest (row_at t.rows p)) in
       let a = ap length (present p e) in
       let b = map-length (item_for g) front in
-      let c = ap length (batch_of dest room p t (place_is g t.rows p e).0) in
+      let c = ap length (batch_of version dest room p t (place_is g t.rows p e).0) in
       let d = map-length (visit p) front in
       let f = length-filter (is_at p) vs in
       omega (arith, a, b, c, d, f)
@@ -289,14 +290,14 @@ module _ (g : Addr) (dest room : ℕ) (t : GroupsValue) (apart : AreApart t.rows
   front_at None e = let m = missing (sym e) in m ∙ sym (ap (λ xs. map (item_for g) (take (length xs) [])) m)
   front_at (Some p) e = present p e ∙ ap (λ n. map (item_for g) (take n (queue dest (row_at t.rows p)))) (sym (share_is p e))
 
-  packed_at : (o : Option ℕ) → o ≡ place_of g t.rows → option_map (λ (row : Row). row.slot) (option_map (row_at (packed dest room t).rows) o) ≡ stepped (slot_took dest (length (items_for g is))) (option_map (λ (row : Row). row.slot) (option_map (row_at t.rows) o))
+  packed_at : (o : Option ℕ) → o ≡ place_of g t.rows → option_map (λ (row : Row). row.slot) (option_map (row_at (packed version dest room t).rows) o) ≡ stepped (slot_took dest (length (items_for g is))) (option_map (λ (row : Row). row.slot) (option_map (row_at t.rows) o))
   packed_at None e = refl
   packed_at (Some p) e =
       let new = get_or-gave dest 0 p vs t.rows no_row (place_is g t.rows p e).0 in
       ap (λ (row : Row). Some row.slot) new ∙ ap (λ n. Some (option_map (slot_took dest n) (row_at t.rows p).slot)) (ap (λ q. share q vs) (zero-add p) ∙ sym (share_is p e))
 
-  packed_in : group_in g (packed dest room t).rows ≡ stepped (slot_took dest (length (items_for g is))) (group_in g t.rows)
-  packed_in = ap (λ o. option_map (λ (row : Row). row.slot) (option_map (row_at (packed dest room t).rows) o)) (place_gave g dest 0 vs t.rows) ∙ packed_at (place_of g t.rows) refl
+  packed_in : group_in g (packed version dest room t).rows ≡ stepped (slot_took dest (length (items_for g is))) (group_in g t.rows)
+  packed_in = ap (λ o. option_map (λ (row : Row). row.slot) (option_map (row_at (packed version dest room t).rows) o)) (place_gave g dest 0 vs t.rows) ∙ packed_at (place_of g t.rows) refl
 
 pub each_group : EachGroup
 each_group = record {
@@ -305,7 +306,7 @@ each_group = record {
   appended = added_in;
   every = all_in;
   arrived = came_in;
-  front = λ g dest room t apart. front_at g dest room t apart (place_of g t.rows) refl;
+  front = λ g version dest room t apart. front_at g version dest room t apart (place_of g t.rows) refl;
   taken = packed_in;
 }
 
@@ -354,5 +355,5 @@ stay_apart = record {
       apart_same rows (drop_at addr rows) (ap addrs is ∙ addrs_changed addr gone (λ r. refl) rows) ok;
   appended = end_apart;
   every = λ step rows ok. apart_same rows (map (on_slot step) rows) (addrs_all step rows) ok;
-  taken = λ dest room t ok. apart_same t.rows (packed dest room t).rows (addrs_gave dest 0 (batch dest room t) t.rows) ok;
+  taken = λ version dest room t ok. apart_same t.rows (packed version dest room t).rows (addrs_gave dest 0 (batch version dest room t) t.rows) ok;
 }

@@ -16,11 +16,12 @@ use Rattle.gb_history.specs.Messages.{payload_in, entry_in}
 use Rattle.gb_rules.specs.Group.{is_other}
 use Rattle.gb_slot.specs.Slot.{taken_for}
 use Rattle.gb_slot.specs.SlotState.{SlotState}
+use Rattle.gb_types.specs.declared.version.Version.{Version}
 use Rattle.gb_groups.specs.SlotsValue.{Row, row_at, no_row, IsShort, AreShort}
 use Rattle.gb_groups.specs.GroupsValue.{GroupsValue, cursor_for, walk_to, batch}
 use Rattle.gb_groups.specs.Packing.{Visit, visit, placed, fit, size, is_at, queue, queue_of, queues, items}
 use Rattle.gb_groups.specs.AtAddress.{place_of}
-use Rattle.gb_groups.specs.OneGroup.{LONGEST, NothingWaits, waiting_in}
+use Rattle.gb_groups.specs.OneGroup.{longest_item, NothingWaits, waiting_in}
 use Rattle.gb_groups.proofs.AddressLemmas.{place_is}
 use Rattle.gb_groups.proofs.StepLemmas.{waiting_fits}
 use Rattle.gb_groups.proofs.WalkLemmas.{length-queues, queues_at}
@@ -31,7 +32,7 @@ first_short : (dest : ℕ) (o : Option SlotState) → IsShort PAYLOAD o → (x :
 first_short dest None short x xs e = absurd (cc)
 first_short dest (Some s) short x xs e = waiting_fits PAYLOAD s dest 0 x short (ap (λ ys. slice_get ys 0) e)
 
-module _ (dest room : ℕ) (t : GroupsValue) (short : AreShort PAYLOAD t.rows) (enough : LONGEST ≤ room) where
+module _ (version : Version) (dest room : ℕ) (t : GroupsValue) (short : AreShort PAYLOAD t.rows) (enough : longest_item version ≤ room) where
   at_place : (p : ℕ) → p < length t.rows → filter (is_at p) (walk_to dest t) ≡ map (visit p) (queue dest (row_at t.rows p))
   at_place p within =
       let l = length-queues dest t.rows in
@@ -39,14 +40,14 @@ module _ (dest room : ℕ) (t : GroupsValue) (short : AreShort PAYLOAD t.rows) (
       ∙ ap (map (visit p)) (queues_at dest t.rows p (row_at t.rows p) within (get_or_default t.rows p no_row (row_at t.rows p) within))
 
   -- the first of the walk has room
-  fits : (v : Visit) (vs : List Visit) → walk_to dest t ≡ v ∷ vs → size v ≤ room
+  fits : (v : Visit) (vs : List Visit) → walk_to dest t ≡ v ∷ vs → size version v ≤ room
   fits v vs e =
       let below : Const (is_below (length (queues dest t.rows))) true (v ∷ vs) = (rw e at (walk_below (cursor_for dest t) (queues dest t.rows))) in
       let l = length-queues dest t.rows in
       let within : v.place < length t.rows = let b = ltb-true v.place (length (queues dest t.rows)) below.0 in omega (arith, b, l) in
       by (queue dest (row_at t.rows v.place)) refl (sym (ap (λ b. cond b (v ∷ filter (is_at v.place) vs) (filter (is_at v.place) vs)) (eq-eqb v.place v.place refl)) ∙ (ap (filter (is_at v.place)) (sym e) ∙ at_place v.place within))
     where
-      by : (q : List Entry) → queue dest (row_at t.rows v.place) ≡ q → v ∷ filter (is_at v.place) vs ≡ map (visit v.place) (queue dest (row_at t.rows v.place)) → size v ≤ room
+      by : (q : List Entry) → queue dest (row_at t.rows v.place) ≡ q → v ∷ filter (is_at v.place) vs ≡ map (visit v.place) (queue dest (row_at t.rows v.place)) → size version v ≤ room
       by [] is same = let none : v ∷ filter (is_at v.place) vs ≡ [] = same ∙ ap (map (visit v.place)) is in absurd (cc)
       by (x ∷ xs) is same =
           let some : v ∷ filter (is_at v.place) vs ≡ visit v.place x ∷ map (visit v.place) xs = same ∙ ap (map (visit v.place)) is in
@@ -55,21 +56,21 @@ module _ (dest room : ℕ) (t : GroupsValue) (short : AreShort PAYLOAD t.rows) (
           let s = first_short dest (row_at t.rows v.place).slot (short.each v.place) x xs is in
           omega (arith, l, s, enough)
 
-  some_fit : (v : Visit) (vs : List Visit) → walk_to dest t ≡ v ∷ vs → length (batch dest room t) ≡ 0 → ⊥
+  some_fit : (v : Visit) (vs : List Visit) → walk_to dest t ≡ v ∷ vs → length (batch version dest room t) ≡ 0 → ⊥
   unfolding fit
   some_fit v vs e none =
-      let room_for : ltb room (size v) ≡ false = le-ltb room (size v) (fits v vs e) in
-      let long = ap (λ ws. length (fit room ws)) e ∙ ap (λ b. length (if b then [] else v ∷ fit (room - size v) vs)) room_for in
+      let room_for : ltb room (size version v) ≡ false = le-ltb room (size version v) (fits v vs e) in
+      let long = ap (λ ws. length (fit version room ws)) e ∙ ap (λ b. length (if b then [] else v ∷ fit version (room - size version v) vs)) room_for in
       omega (arith, long, none)
 
-  walk_empty : length (batch dest room t) ≡ 0 → walk_to dest t ≡ []
+  walk_empty : length (batch version dest room t) ≡ 0 → walk_to dest t ≡ []
   walk_empty none = by (walk_to dest t) refl
     where
       by : (vs : List Visit) → walk_to dest t ≡ vs → walk_to dest t ≡ []
       by [] e = e
       by (v ∷ vs) e = absurd (some_fit v vs e none)
 
-  pub nothing_waits : length (batch dest room t) ≡ 0 → NothingWaits dest t.rows
+  pub nothing_waits : length (batch version dest room t) ≡ 0 → NothingWaits dest t.rows
   nothing_waits none g = by (place_of g t.rows) refl
     where
       by : (o : Option ℕ) → o ≡ place_of g t.rows → waiting_in (option_map (λ (row : Row). row.slot) (option_map (row_at t.rows) o)) dest ≡ []
@@ -112,8 +113,8 @@ items_short limit rows [] h = tt
 items_short limit rows (v ∷ vs) h = (leb-true (length v.item.payload) limit h.0, items_short limit rows vs h.1)
 
 -- the payloads of a batch are no longer than those of the messages that the groups know
-pub batch_short : (limit dest room : ℕ) (t : GroupsValue) → AreShort limit t.rows → All (λ (i : Item). length i.payload ≤ limit) (items t.rows (batch dest room t))
-batch_short limit dest room t short =
-    All-from_recursion (λ (i : Item). length i.payload ≤ limit) (items t.rows (batch dest room t))
-    (items_short limit t.rows (batch dest room t)
-    (batch_passes (is_short limit) dest room t (walk_passes (is_short limit) (cursor_for dest t) (queues dest t.rows) (placed_short limit dest 0 t.rows short.each))))
+pub batch_short : (version : Version) (limit dest room : ℕ) (t : GroupsValue) → AreShort limit t.rows → All (λ (i : Item). length i.payload ≤ limit) (items t.rows (batch version dest room t))
+batch_short version limit dest room t short =
+    All-from_recursion (λ (i : Item). length i.payload ≤ limit) (items t.rows (batch version dest room t))
+    (items_short limit t.rows (batch version dest room t)
+    (batch_passes (is_short limit) version dest room t (walk_passes (is_short limit) (cursor_for dest t) (queues dest t.rows) (placed_short limit dest 0 t.rows short.each))))

@@ -1,6 +1,7 @@
 -- All groups of a node, with where packing goes on, as contracts see them.
 use Rattle.std.specs.Prelude.{ℕ, ◌≡◌, ◌≢◌, ◌≤◌, ◌<◌, min, List, [], length, replicate, slice_index_or, slice_set}
 use Rattle.gb_types.specs.declared.limits.TheConstants.{NODES, PLACES}
+use Rattle.gb_types.specs.declared.version.Version.{Version}
 use Rattle.gb_groups.specs.SlotsValue.{Row}
 use Rattle.gb_groups.specs.Packing.{Visit, queues, walk, fit, gave, new_cursor}
 use Rattle.gb_groups.specs.PlaceSet.{has}
@@ -23,14 +24,14 @@ cursor_for dest t = slice_index_or t.cursors dest 0
 abbrev pub walk_to : ℕ → GroupsValue → List Visit
 walk_to dest t = walk (cursor_for dest t) (queues dest t.rows)
 
--- what a packing for a node takes
-abbrev pub batch : ℕ → ℕ → GroupsValue → List Visit
-batch dest room t = fit room (walk_to dest t)
+-- what a packing for a node takes, with items of the version that have at most so many bytes
+abbrev pub batch : Version → ℕ → ℕ → GroupsValue → List Visit
+batch version dest room t = fit version room (walk_to dest t)
 
 -- after a packing
-abbrev pub packed : ℕ → ℕ → GroupsValue → GroupsValue
-packed dest room t =
-    let vs = batch dest room t in
+abbrev pub packed : Version → ℕ → ℕ → GroupsValue → GroupsValue
+packed version dest room t =
+    let vs = batch version dest room t in
     record t {
       rows = gave dest 0 vs t.rows;
       cursors = slice_set t.cursors dest (new_cursor (length t.rows) (cursor_for dest t) (length vs) (walk_to dest t));

@@ -12,6 +12,8 @@ use Rattle.gb_rules.specs.Group.{is_too_long}
 use Rattle.gb_rules.specs.Lifetime.{stepped, dropped, or_added, where_so}
 use Rattle.gb_slot.specs.SlotState.{SlotState}
 use Rattle.gb_slot.specs.Slot.{slot_came, slot_took}
+use Rattle.gb_types.specs.Version.{limits_of}
+use Rattle.gb_types.specs.declared.version.Version.{Version}
 use Rattle.gb_groups.specs.SlotsValue.{Row, on_slot, AreApart}
 use Rattle.gb_groups.specs.GroupsValue.{GroupsValue, batch, packed}
 use Rattle.gb_groups.specs.Packing.{items, queue_of}
@@ -31,8 +33,8 @@ waiting_in None dest = []
 waiting_in (Some slot) dest = queue_of dest slot
 
 -- the bytes that the longest message takes in a packet
-abbrev pub LONGEST : ℕ
-LONGEST = 9 + PAYLOAD
+abbrev pub longest_item : Version → ℕ
+longest_item version = (limits_of version).item_header + PAYLOAD
 
 -- nothing waits for a node in any group
 abbrev pub NothingWaits : ℕ → List Row → Type 0
@@ -50,10 +52,10 @@ pub record EachGroup : Type 0 where
   -- of the items of a frame each group takes those that name it, in order
   pub arrived : (version : Version) (g : Addr) (from : NodeId) (items : List Item) (rows : List Row) → group_in g (fold (λ rows i. item_came version from i rows) rows items) ≡ fold (came_for version from) (group_in g rows) (items_for g items)
   -- a batch has of each group a front of what waits there, in order, and takes that
-  pub front : (g : Addr) (dest room : ℕ) (t : GroupsValue) → AreApart t.rows
-      → items_for g (items t.rows (batch dest room t)) ≡ map (item_for g) (take (length (items_for g (items t.rows (batch dest room t)))) (waiting_in (group_in g t.rows) dest))
-  pub taken : (g : Addr) (dest room : ℕ) (t : GroupsValue) → AreApart t.rows
-      → group_in g (packed dest room t).rows ≡ stepped (slot_took dest (length (items_for g (items t.rows (batch dest room t))))) (group_in g t.rows)
+  pub front : (g : Addr) (version : Version) (dest room : ℕ) (t : GroupsValue) → AreApart t.rows
+      → items_for g (items t.rows (batch version dest room t)) ≡ map (item_for g) (take (length (items_for g (items t.rows (batch version dest room t)))) (waiting_in (group_in g t.rows) dest))
+  pub taken : (g : Addr) (version : Version) (dest room : ℕ) (t : GroupsValue) → AreApart t.rows
+      → group_in g (packed version dest room t).rows ≡ stepped (slot_took dest (length (items_for g (items t.rows (batch version dest room t))))) (group_in g t.rows)
 
 -- No two groups ever have one address.
 pub record StayApart : Type 0 where
@@ -61,4 +63,4 @@ pub record StayApart : Type 0 where
   pub erased : (addr : Addr) (rows : List Row) → AreApart rows → AreApart (drop_at addr rows)
   pub appended : (rows : List Row) (row : Row) → AreApart rows → place_of row.addr rows ≡ None → AreApart (rows ++ row ∷ [])
   pub every : (step : SlotState → SlotState) (rows : List Row) → AreApart rows → AreApart (map (on_slot step) rows)
-  pub taken : (dest room : ℕ) (t : GroupsValue) → AreApart t.rows → AreApart (packed dest room t).rows
+  pub taken : (version : Version) (dest room : ℕ) (t : GroupsValue) → AreApart t.rows → AreApart (packed version dest room t).rows

@@ -1,6 +1,8 @@
 -- What one packing takes: the walk round the groups, the batch, and where the next walk begins.
 use Rattle.std.specs.Prelude.{ℕ, suc, ◌+◌, ◌-◌, ◌==◌, Bool, if◌then◌else◌, List, [], ◌∷◌, ◌++◌, length, take, drop, map, Option, Some, None, option_map, slice_get, slice_index_or, count_by, ltb}
+use Rattle.gb_types.specs.Version.{limits_of}
 use Rattle.gb_types.specs.declared.entry.Entry.{Entry}
+use Rattle.gb_types.specs.declared.version.Version.{Version}
 use Rattle.gb_frame.specs.declared.item.Item.{Item}
 use Rattle.gb_frame.specs.Items.{item_for}
 use Rattle.gb_slot.specs.Slot.{waiting, slot_took}
@@ -29,14 +31,14 @@ from_place c xs = drop c xs ++ take c xs
 unfoldable pub walk : ℕ → List (List Entry) → List Visit
 walk cursor qs = in_turns (from_place cursor (placed 0 qs))
 
--- the bytes that an item takes in a packet
-abbrev pub size : Visit → ℕ
-size v = 9 + length v.item.payload
+-- the bytes that an item takes in a packet of the version
+abbrev pub size : Version → Visit → ℕ
+size version v = (limits_of version).item_header + length v.item.payload
 
 -- the longest front of a walk whose items have at most so many bytes
-unfoldable pub fit : ℕ → List Visit → List Visit
-fit room [] = []
-fit room (v ∷ vs) = if ltb room (size v) then [] else v ∷ fit (room - size v) vs
+unfoldable pub fit : Version → ℕ → List Visit → List Visit
+fit version room [] = []
+fit version room (v ∷ vs) = if ltb room (size version v) then [] else v ∷ fit version (room - size version v) vs
 
 -- the place after one, of so many; place 0 comes after the last
 abbrev pub place_after : ℕ → ℕ → ℕ

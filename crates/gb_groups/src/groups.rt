@@ -17,7 +17,7 @@ ghost use Rattle.std.specs.FinSet as set;
 ghost use Rattle.gb_groups.specs.Members.{has_member, IsEnrolled, IsNextMember};
 ghost use Rattle.gb_groups.specs.Covered.{HaveWord, HaveGrown};
 ghost use Rattle.gb_groups.specs.Packing.{items, size};
-ghost use Rattle.gb_groups.specs.OneGroup.{LONGEST, NothingWaits};
+ghost use Rattle.gb_groups.specs.OneGroup.{longest_item, NothingWaits};
 ghost use Rattle.gb_groups.specs.Listing.{listed_from};
 ghost use Rattle.gb_frame.specs.Spelling.{items_text, IsItem};
 
@@ -415,40 +415,54 @@ impl Groups {
         }
     }
 
-    /// How many items the next batch for a node has where it may have so many bytes, 65,535 at most, and how many
+    /// How many items of this version the next batch for a node has where it may have so many bytes, 65,535 at most, and how many
     /// bytes they take. Where there is room for the longest message, a batch without items says that nothing waits.
-    pub fn measure(&self, dest: NodeId, room: usize) -> (u16, usize)
+    pub fn measure(&self, version: Version, dest: NodeId, room: usize) -> (u16, usize)
         requires { room ≤ 65535 }
-        ensures count { result.0 ≡ length (batch dest.number room self.now) }
-        ensures bytes { result.1 ≡ sum_by size (batch dest.number room self.now) }
+        ensures count { result.0 ≡ length (batch version dest.number room self.now) }
+        ensures bytes { result.1 ≡ sum_by (size version) (batch version dest.number room self.now) }
         ensures most { result.1 ≤ room }
-        ensures none { result.0 ≡ 0 → LONGEST ≤ room → NothingWaits dest.number self.now.rows }
+        ensures none { result.0 ≡ 0 → longest_item version ≤ room → NothingWaits dest.number self.now.rows }
     {
         // The proof reads that no message is longer than one may be.
         let _places = self.slots.len();
         let to = dest.index();
-        measure(&self.slots, &self.busy[to], dest, self.cursors[to], room)
+        measure(
+            &self.slots,
+            &self.busy[to],
+            version,
+            dest,
+            self.cursors[to],
+            room,
+        )
     }
 
-    /// Appends the texts of the items of the next batch for a node, the longest front of the walk that has so many
+    /// Appends the texts in this version of the items of the next batch for a node, the longest front of the walk that has so many
     /// bytes, 65,535 at most; `count` and the capacity of `out` are what `measure` says of it. Takes no memory.
-    pub fn pack_into(&mut self, dest: NodeId, room: usize, count: u16, out: &mut Vec<u8>)
+    pub fn pack_into(
+        &mut self,
+        version: Version,
+        dest: NodeId,
+        room: usize,
+        count: u16,
+        out: &mut Vec<u8>,
+    )
         requires room { room ≤ 65535 }
-        requires count { count ≡ length (batch dest.number room self.old) }
-        requires capacity { vec_len out.old + sum_by size (batch dest.number room self.old) ≤ vec_capacity out.old }
-        ensures written { out.new.items ≡ out.old.items ++ items_text (items self.old.rows (batch dest.number room self.old)) }
-        ensures fit { All IsItem (items self.old.rows (batch dest.number room self.old)) }
-        ensures len { vec_len out.new ≡ vec_len out.old + sum_by size (batch dest.number room self.old) }
+        requires count { count ≡ length (batch version dest.number room self.old) }
+        requires capacity { vec_len out.old + sum_by (size version) (batch version dest.number room self.old) ≤ vec_capacity out.old }
+        ensures written { out.new.items ≡ out.old.items ++ items_text version (items self.old.rows (batch version dest.number room self.old)) }
+        ensures fit { All (IsItem version) (items self.old.rows (batch version dest.number room self.old)) }
+        ensures len { vec_len out.new ≡ vec_len out.old + sum_by (size version) (batch version dest.number room self.old) }
         ensures capacity { vec_capacity out.old ≤ vec_capacity out.new }
-        ensures state { self.new ≡ packed dest.number room self.old }
-        ensures longest { IsLongest room (walk_to dest.number self.old) (batch dest.number room self.old) }
-        ensures own { (p : ℕ) → p < length self.old.rows → IsFront dest.number room self.old p }
+        ensures state { self.new ≡ packed version dest.number room self.old }
+        ensures longest { IsLongest version room (walk_to dest.number self.old) (batch version dest.number room self.old) }
+        ensures own { (p : ℕ) → p < length self.old.rows → IsFront version dest.number room self.old p }
     {
         // The proof reads that no two groups have one address.
         let _places = self.slots.len();
         let to = dest.index();
         let from = self.cursors[to];
         let busy = &mut self.busy[to];
-        self.cursors[to] = advance(&mut self.slots, busy, dest, from, count, out);
+        self.cursors[to] = advance(&mut self.slots, busy, version, dest, from, count, out);
     }
 }

@@ -9,8 +9,8 @@ ghost use Rattle.gb_groups.specs.Packing.{queues, walk, size, fit, gave, new_cur
 
 use crate::place_set::{PlaceSet, next_of, remove_of};
 use crate::slots::Slots;
-use gb_frame::limits::ITEM_HEADER;
 use gb_types::node::NodeId;
+use gb_types::version::Version;
 
 /// The first place from one on, going round, where something waits for a node.
 pub fn next_place(slots: &Slots, busy: &PlaceSet, dest: NodeId, from: usize) -> Option<usize>
@@ -33,10 +33,12 @@ pub fn next_place(slots: &Slots, busy: &PlaceSet, dest: NodeId, from: usize) -> 
     }
 }
 
-/// Lets the groups give so many items to a node, appends the items' texts, and gives the new cursor. Takes no memory.
+/// Lets the groups give so many items to a node, appends the items' texts in this version, and gives the new cursor. Takes no
+/// memory.
 pub fn advance(
     slots: &mut Slots,
     busy: &mut PlaceSet,
+    version: Version,
     dest: NodeId,
     from: usize,
     count: u16,
@@ -45,21 +47,21 @@ pub fn advance(
     requires from { from ≤ length slots.old.rows }
     requires index { IsBusy dest.number busy.old slots.old.rows }
     requires there { count ≤ length (walk from (queues dest.number slots.old.rows)) }
-    requires capacity { vec_len out.old + sum_by size (take count (walk from (queues dest.number slots.old.rows))) ≤ vec_capacity out.old }
+    requires capacity { vec_len out.old + sum_by (size version) (take count (walk from (queues dest.number slots.old.rows))) ≤ vec_capacity out.old }
     ensures within { result ≤ length slots.old.rows }
     ensures rows { slots.new.rows ≡ gave dest.number 0 (take count (walk from (queues dest.number slots.old.rows))) slots.old.rows }
     ensures index { IsBusy dest.number busy.new slots.new.rows }
     ensures words { length busy.new ≡ length busy.old }
     ensures cursor { result ≡ new_cursor (length slots.old.rows) from count (walk from (queues dest.number slots.old.rows)) }
-    ensures written { out.new.items ≡ out.old.items ++ items_text (items slots.old.rows (take count (walk from (queues dest.number slots.old.rows)))) }
-    ensures fit { All IsItem (items slots.old.rows (take count (walk from (queues dest.number slots.old.rows)))) }
-    ensures len { vec_len out.new ≡ vec_len out.old + sum_by size (take count (walk from (queues dest.number slots.old.rows))) }
+    ensures written { out.new.items ≡ out.old.items ++ items_text version (items slots.old.rows (take count (walk from (queues dest.number slots.old.rows)))) }
+    ensures fit { All (IsItem version) (items slots.old.rows (take count (walk from (queues dest.number slots.old.rows)))) }
+    ensures len { vec_len out.new ≡ vec_len out.old + sum_by (size version) (take count (walk from (queues dest.number slots.old.rows))) }
     ensures capacity { vec_capacity out.old ≤ vec_capacity out.new }
 {
     let mut at = from;
     for _step in 0..count {
         let place = next_place(slots, busy, dest, at).unwrap();
-        if slots.give(place, dest, out) == 0 {
+        if slots.give(version, place, dest, out) == 0 {
             busy.remove(place);
         }
         at = place + 1;
@@ -104,12 +106,13 @@ fn next_turn(
     }
 }
 
-/// How many items fit of the walk to a node, and how many bytes they take. `active` are the words of the node's set of busy
+/// How many items of this version fit of the walk to a node, and how many bytes they take. `active` are the words of the node's set of busy
 /// places, and `summary` says which have a place; a place is taken out once all that waits there is counted.
 fn measure_busy<const N: usize>(
     slots: &Slots,
     mut active: [u64; N],
     mut summary: u64,
+    version: Version,
     dest: NodeId,
     from: usize,
     room: usize,
@@ -119,17 +122,18 @@ fn measure_busy<const N: usize>(
     requires from { from ≤ length slots.now.rows }
     requires room { room ≤ 65535 }
     requires index { IsBusy dest.number active slots.now.rows }
-    ensures count { result.0 ≡ length (fit room (walk from (queues dest.number slots.now.rows))) }
-    ensures bytes { result.1 ≡ sum_by size (fit room (walk from (queues dest.number slots.now.rows))) }
+    ensures count { result.0 ≡ length (fit version room (walk from (queues dest.number slots.now.rows))) }
+    ensures bytes { result.1 ≡ sum_by (size version) (fit version room (walk from (queues dest.number slots.now.rows))) }
 {
     let mut count: u16 = 0;
     let mut at = from;
     let mut lap = 0;
     let mut left = room;
+    let header = version.limits().item_header;
     while let Some((round, place)) = next_turn(slots, &active, summary, dest, from, lap, at) {
         let nth = if place < from { round - 1 } else { round };
         let (payload, waiting) = slots.measure_at(place, dest, nth);
-        let bytes = ITEM_HEADER + payload;
+        let bytes = header + payload;
         if left < bytes {
             return (count, room - left);
         }
@@ -144,11 +148,12 @@ fn measure_busy<const N: usize>(
     (count, room - left)
 }
 
-/// How many items fit of the walk to a node, and how many bytes they take. `busy` is the node's set of busy places. It is copied
+/// How many items of this version fit of the walk to a node, and how many bytes they take. `busy` is the node's set of busy places. It is copied
 /// where it is not empty: one word at a node of up to 64 groups, 8 with up to 512, else all.
 pub fn measure(
     slots: &Slots,
     busy: &PlaceSet,
+    version: Version,
     dest: NodeId,
     from: usize,
     room: usize,
@@ -156,18 +161,18 @@ pub fn measure(
     requires from { from ≤ length slots.now.rows }
     requires room { room ≤ 65535 }
     requires index { IsBusy dest.number busy.now slots.now.rows }
-    ensures count { result.0 ≡ length (fit room (walk from (queues dest.number slots.now.rows))) }
-    ensures bytes { result.1 ≡ sum_by size (fit room (walk from (queues dest.number slots.now.rows))) }
+    ensures count { result.0 ≡ length (fit version room (walk from (queues dest.number slots.now.rows))) }
+    ensures bytes { result.1 ≡ sum_by (size version) (fit version room (walk from (queues dest.number slots.now.rows))) }
 {
     if next_place(slots, busy, dest, from).is_none() {
         return (0, 0);
     }
     let summary = busy.summary();
     if let Some(words) = busy.first_words::<1>() {
-        return measure_busy(slots, words, summary, dest, from, room);
+        return measure_busy(slots, words, summary, version, dest, from, room);
     }
     if let Some(words) = busy.first_words::<8>() {
-        return measure_busy(slots, words, summary, dest, from, room);
+        return measure_busy(slots, words, summary, version, dest, from, room);
     }
-    measure_busy(slots, busy.words(), summary, dest, from, room)
+    measure_busy(slots, busy.words(), summary, version, dest, from, room)
 }

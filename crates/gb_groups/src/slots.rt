@@ -8,7 +8,7 @@ ghost use Rattle.gb_rules.specs.declared.phase.Phase.TheVariants as Phase;
 ghost use Rattle.gb_slot.specs.Slot.{IsWithinLimits, new_slot, waiting, slot_came, slot_done, slot_noticed, slot_moved, slot_said};
 ghost use Rattle.gb_groups.specs.SlotsValue.{no_entry, row_at, on_slot, HaveCounters, IsShort, AreShort, AreApart, unless_gone, gone};
 ghost use Rattle.gb_frame.specs.Spelling.{item_text, IsItem};
-ghost use Rattle.gb_frame.specs.declared.limits.TheConstants.{ITEM_HEADER};
+ghost use Rattle.gb_types.specs.Version.{limits_of};
 ghost use Rattle.gb_groups.specs.Packing.{queue, first_entry, took, item_of};
 ghost use Rattle.gb_groups.specs.Slots.{place_at};
 ghost use Rattle.gb_groups.specs.Busy.{IsPutOut};
@@ -165,18 +165,19 @@ impl Slots {
         (payload.len(), slot.waiting_for(dest))
     }
 
-    /// Appends the text of the first item that waits for a node in the group at a place, and takes the item to be sent.
+    /// Appends the text in this version of the first item that waits for a node in the group at a place, and takes the item to be
+    /// sent.
     /// Says how many wait then. Takes no memory.
-    pub fn give(&mut self, place: usize, dest: NodeId, out: &mut Vec<u8>) -> usize
+    pub fn give(&mut self, version: Version, place: usize, dest: NodeId, out: &mut Vec<u8>) -> usize
         requires place { place < length self.old.rows }
         requires item { 0 < length (queue dest.number (row_at self.old.rows place)) }
-        requires room { vec_len out.old + ITEM_HEADER + length (first_entry dest.number (row_at self.old.rows place)).payload ≤ vec_capacity out.old }
+        requires room { vec_len out.old + (limits_of version).item_header + length (first_entry dest.number (row_at self.old.rows place)).payload ≤ vec_capacity out.old }
         ensures rows { self.new.rows ≡ slice_set self.old.rows place (took dest.number 1 (row_at self.old.rows place)) }
         ensures left { result ≡ length (queue dest.number (took dest.number 1 (row_at self.old.rows place))) }
-        ensures written { out.new.items ≡ out.old.items ++ item_text (item_of (row_at self.old.rows place) (first_entry dest.number (row_at self.old.rows place))) }
-        ensures len { vec_len out.new ≡ vec_len out.old + ITEM_HEADER + length (first_entry dest.number (row_at self.old.rows place)).payload }
+        ensures written { out.new.items ≡ out.old.items ++ item_text version (item_of (row_at self.old.rows place) (first_entry dest.number (row_at self.old.rows place))) }
+        ensures len { vec_len out.new ≡ vec_len out.old + (limits_of version).item_header + length (first_entry dest.number (row_at self.old.rows place)).payload }
         ensures capacity { vec_capacity out.old ≤ vec_capacity out.new }
-        ensures fits { IsItem (item_of (row_at self.old.rows place) (first_entry dest.number (row_at self.old.rows place))) }
+        ensures fits { IsItem version (item_of (row_at self.old.rows place) (first_entry dest.number (row_at self.old.rows place))) }
     {
         let addr = self.addr(place);
         let Some(key) = key_at(&self.places, place) else {
@@ -185,7 +186,7 @@ impl Slots {
         let Some(slot) = self.slots.get_mut(key) else {
             unreachable!()
         };
-        put_first(addr, slot, dest, out);
+        put_first(version, addr, slot, dest, out);
         slot.took(dest, 1);
         slot.waiting_for(dest)
     }
@@ -376,19 +377,20 @@ impl Slots {
     }
 }
 
-/// Appends the text of the first item that waits for a node in a group. Takes no memory.
-fn put_first(addr: Addr, slot: &Slot, dest: NodeId, out: &mut Vec<u8>)
+/// Appends the text in this version of the first item that waits for a node in a group. Takes no memory.
+fn put_first(version: Version, addr: Addr, slot: &Slot, dest: NodeId, out: &mut Vec<u8>)
     requires first { addr.generation ≡ 0 }
     requires short { IsShort PAYLOAD (Some slot.now) }
     requires item { 0 < length (waiting slot.now dest.number) }
-    requires room { vec_len out.old + ITEM_HEADER + length (slice_index_or (waiting slot.now dest.number) 0 no_entry).payload ≤ vec_capacity out.old }
-    ensures written { out.new.items ≡ out.old.items ++ item_text (item_of (record { addr = addr; slot = Some slot.now }) (slice_index_or (waiting slot.now dest.number) 0 no_entry)) }
-    ensures len { vec_len out.new ≡ vec_len out.old + ITEM_HEADER + length (slice_index_or (waiting slot.now dest.number) 0 no_entry).payload }
+    requires room { vec_len out.old + (limits_of version).item_header + length (slice_index_or (waiting slot.now dest.number) 0 no_entry).payload ≤ vec_capacity out.old }
+    ensures written { out.new.items ≡ out.old.items ++ item_text version (item_of (record { addr = addr; slot = Some slot.now }) (slice_index_or (waiting slot.now dest.number) 0 no_entry)) }
+    ensures len { vec_len out.new ≡ vec_len out.old + (limits_of version).item_header + length (slice_index_or (waiting slot.now dest.number) 0 no_entry).payload }
     ensures capacity { vec_capacity out.old ≤ vec_capacity out.new }
-    ensures fits { IsItem (item_of (record { addr = addr; slot = Some slot.now }) (slice_index_or (waiting slot.now dest.number) 0 no_entry)) }
+    ensures fits { IsItem version (item_of (record { addr = addr; slot = Some slot.now }) (slice_index_or (waiting slot.now dest.number) 0 no_entry)) }
 {
     let (m, payload) = slot.peek_at(dest, 0);
     put_item(
+        version,
         ItemView {
             tenant: addr.tenant,
             group: addr.group,

@@ -51,4 +51,4 @@ table_noticed who t = with_rows (map (on_slot (slot_noticed who)) t.groups.rows)
 
 -- after what waited for a node was packed
 abbrev pub table_packed : ℕ → ℕ → TableValue → TableValue
-table_packed dest room t = record t { groups = packed dest room t.groups }
+table_packed dest room t = record t { groups = packed t.version dest room t.groups }

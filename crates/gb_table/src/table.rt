@@ -12,7 +12,7 @@ ghost use Rattle.gb_rules.specs.Tenant.{row_of, reserved, tenant_answer, make_an
 ghost use Rattle.gb_frame.specs.Items.{address_of};
 ghost use Rattle.gb_groups.specs.AtAddress.{place_of, group_reply, OthersKept};
 ghost use Rattle.gb_groups.specs.Fair.{IsFront, IsLongest};
-ghost use Rattle.gb_groups.specs.OneGroup.{LONGEST, NothingWaits};
+ghost use Rattle.gb_groups.specs.OneGroup.{longest_item, NothingWaits};
 ghost use Rattle.gb_groups.specs.GroupsValue.{walk_to, batch};
 ghost use Rattle.gb_groups.specs.Packing.{items, size};
 ghost use Rattle.gb_table.specs.TableValue.{new_table, reserve_for, table_came, table_done, table_noticed, table_packed};
@@ -393,29 +393,30 @@ impl Table {
     /// bytes they take. Where there is room for the longest message, a batch without items says that nothing waits.
     pub fn measure(&self, dest: NodeId, room: usize) -> (u16, usize)
         requires { room ≤ 65535 }
-        ensures count { result.0 ≡ length (batch dest.number room self.now.groups) }
-        ensures bytes { result.1 ≡ sum_by size (batch dest.number room self.now.groups) }
+        ensures count { result.0 ≡ length (batch self.now.version dest.number room self.now.groups) }
+        ensures bytes { result.1 ≡ sum_by (size self.now.version) (batch self.now.version dest.number room self.now.groups) }
         ensures most { result.1 ≤ room }
-        ensures none { result.0 ≡ 0 → LONGEST ≤ room → NothingWaits dest.number self.now.groups.rows }
+        ensures none { result.0 ≡ 0 → longest_item self.now.version ≤ room → NothingWaits dest.number self.now.groups.rows }
     {
-        self.groups.measure(dest, room)
+        self.groups.measure(self.version, dest, room)
     }
 
     /// Appends the texts of the items of the next batch for a node, which may have so many bytes, 65,535 at most;
     /// `count` and the capacity of `out` are what `measure` says of it. Takes no memory.
     pub fn pack_into(&mut self, dest: NodeId, room: usize, count: u16, out: &mut Vec<u8>)
         requires room { room ≤ 65535 }
-        requires count { count ≡ length (batch dest.number room self.old.groups) }
-        requires capacity { vec_len out.old + sum_by size (batch dest.number room self.old.groups) ≤ vec_capacity out.old }
-        ensures written { out.new.items ≡ out.old.items ++ items_text (items self.old.groups.rows (batch dest.number room self.old.groups)) }
-        ensures payloads { All (λ i. length i.payload ≤ (limits_of self.old.version).payload) (items self.old.groups.rows (batch dest.number room self.old.groups)) }
-        ensures fit { All IsItem (items self.old.groups.rows (batch dest.number room self.old.groups)) }
-        ensures len { vec_len out.new ≡ vec_len out.old + sum_by size (batch dest.number room self.old.groups) }
+        requires count { count ≡ length (batch self.old.version dest.number room self.old.groups) }
+        requires capacity { vec_len out.old + sum_by (size self.old.version) (batch self.old.version dest.number room self.old.groups) ≤ vec_capacity out.old }
+        ensures written { out.new.items ≡ out.old.items ++ items_text self.old.version (items self.old.groups.rows (batch self.old.version dest.number room self.old.groups)) }
+        ensures payloads { All (λ i. length i.payload ≤ (limits_of self.old.version).payload) (items self.old.groups.rows (batch self.old.version dest.number room self.old.groups)) }
+        ensures fit { All (IsItem self.old.version) (items self.old.groups.rows (batch self.old.version dest.number room self.old.groups)) }
+        ensures len { vec_len out.new ≡ vec_len out.old + sum_by (size self.old.version) (batch self.old.version dest.number room self.old.groups) }
         ensures capacity { vec_capacity out.old ≤ vec_capacity out.new }
         ensures state { self.new ≡ table_packed dest.number room self.old }
-        ensures longest { IsLongest room (walk_to dest.number self.old.groups) (batch dest.number room self.old.groups) }
-        ensures own { (p : ℕ) → p < length self.old.groups.rows → IsFront dest.number room self.old.groups p }
+        ensures longest { IsLongest self.old.version room (walk_to dest.number self.old.groups) (batch self.old.version dest.number room self.old.groups) }
+        ensures own { (p : ℕ) → p < length self.old.groups.rows → IsFront self.old.version dest.number room self.old.groups p }
     {
-        self.groups.pack_into(dest, room, count, out);
+        self.groups
+            .pack_into(self.version, dest, room, count, out);
     }
 }

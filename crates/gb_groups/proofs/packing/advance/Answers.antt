@@ -15,7 +15,7 @@ use Rattle.gb_groups.proofs.packing.advance.Goals as goal
 use Rattle.gb_groups.proofs.packing.advance.Goals.{then-give-eq0, else-give-eq0}
 
 pub loop-step-init : goal.loop-step-init
-loop-step-init c = record { index = c.requires.index; words = refl; size = refl; within = c.requires.from; rows = sym (gave-none c.args.dest.number 0 c.args.slots.now.rows); rest = refl; wrote = wrote_none c.args.slots.now.rows (walk c.args.from (queues c.args.dest.number c.args.slots.now.rows)) _ _; capacity = omega arith; last = λ h. absurd (omega arith) }
+loop-step-init c = record { index = c.requires.index; words = refl; size = refl; within = c.requires.from; rows = sym (gave-none c.args.dest.number 0 c.args.slots.now.rows); rest = refl; wrote = wrote_none c.args.version c.args.slots.now.rows (walk c.args.from (queues c.args.dest.number c.args.slots.now.rows)) _ _; capacity = omega arith; last = λ h. absurd (omega arith) }
 
 -- the first place of the walk is that of the next visit
 next_is : (r : Option ℕ) (here vs : List Visit) (k : ℕ) → r ≡ first_place here → here ≡ drop k vs → r ≡ first_place (drop k vs)
@@ -61,8 +61,8 @@ give-requires-clause-room c =
     let l : k < length vs = omega (arith, c.requires.there) in
     let first = first_visit dest rows p c.loop-step.at k row vs within here busy same c.loop-step.invariant.rest l in
     let bytes = ap (λ (i : Item). length i.payload) (item_here dest p k rows c.args.slots.now.rows vs (first_entry dest row) c.loop-step.invariant.rows within first) in
-    let sum = sum-more k vs l in
-    let fewer = sum-fewer (k + 1) c.args.count vs (omega arith) in
+    let sum = sum-more c.args.version k vs l in
+    let fewer = sum-fewer c.args.version (k + 1) c.args.count vs (omega arith) in
     let size = c.loop-step.invariant.wrote.size in
     let more = c.loop-step.invariant.capacity in
     omega (arith, c.requires.capacity)
@@ -102,7 +102,7 @@ loop-step-preserved c =
       within = rw length-set (omega arith);
       rows = gave_step dest p k rows c.args.slots.now.rows row vs c.loop-step.invariant.rows within here l one.place;
       rest = one.rest;
-      wrote = wrote_more c.args.slots.now.rows vs _ _ k _ _ (item_of row (first_entry dest row)) _ _ l c.loop-step.invariant.wrote item c.give.ensures.fits (omega (arith, c.give.ensures.len)) c.give.ensures.written;
+      wrote = wrote_more c.args.version c.args.slots.now.rows vs _ _ k _ _ (item_of row (first_entry dest row)) _ _ l c.loop-step.invariant.wrote item c.give.ensures.fits (omega (arith, c.give.ensures.len)) c.give.ensures.written;
       capacity = let more = c.give.ensures.capacity in omega (arith, c.loop-step.invariant.capacity);
       last = λ _. omega (arith, one.place);
     })

@@ -16,7 +16,7 @@ invariant-loop-step l =
       within : l.at ≤ length l.slots.rows;
       rows : l.slots.rows ≡ gave l.dest.number 0 (take l._step vs) l.fn.slots.rows;
       rest : walk l.at (queues l.dest.number l.slots.rows) ≡ drop l._step vs;
-      wrote : Wrote l.fn.slots.rows vs (vec_len l.fn.out) l.fn.out.items l._step (vec_len l.out) l.out.items;
+      wrote : Wrote l.version l.fn.slots.rows vs (vec_len l.fn.out) l.fn.out.items l._step (vec_len l.out) l.out.items;
       capacity : vec_capacity l.fn.out ≤ vec_capacity l.out;
       last : 0 < l._step → l.at ≡ suc (get_or vs (l._step - 1) nowhere).place;
     }

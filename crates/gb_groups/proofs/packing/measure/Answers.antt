@@ -6,9 +6,9 @@ use Rattle.gb_groups.proofs.packing.measure.Goals as goal
 pub returns-then-is_none-clause-count : goal.returns-then-is_none-clause-count
 returns-then-is_none-clause-count c =
     let none : first_place (walk c.args.from (queues c.args.dest.number c.args.slots.now.rows)) ≡ None = search rules in
-    (nothing_fits c.args.room (walk c.args.from (queues c.args.dest.number c.args.slots.now.rows)) none).0
+    (nothing_fits c.args.version c.args.room (walk c.args.from (queues c.args.dest.number c.args.slots.now.rows)) none).0
 
 pub returns-then-is_none-clause-bytes : goal.returns-then-is_none-clause-bytes
 returns-then-is_none-clause-bytes c =
     let none : first_place (walk c.args.from (queues c.args.dest.number c.args.slots.now.rows)) ≡ None = search rules in
-    (nothing_fits c.args.room (walk c.args.from (queues c.args.dest.number c.args.slots.now.rows)) none).1
+    (nothing_fits c.args.version c.args.room (walk c.args.from (queues c.args.dest.number c.args.slots.now.rows)) none).1

@@ -1,5 +1,7 @@
 use Rattle.std.proofs.Common.{◌≡◌, ◌+◌, [], List, ℕ, length, get_or, ap, refl, arith}
 use Rattle.gb_types.specs.declared.entry.Entry.{Entry}
+use Rattle.gb_types.specs.Version.{limits_of}
+use Rattle.gb_types.specs.declared.version.VersionLimits.{VersionLimits}
 use Rattle.gb_groups.specs.SlotsValue.{Row, row_at, no_entry}
 use Rattle.gb_groups.specs.Packing.{queue, queues, fit, walk}
 use Rattle.gb_groups.specs.Ahead.{visits, ahead, IsActive, IsTurn}
@@ -20,7 +22,7 @@ loop-round-init g c =
       index = active_start c.args.dest.number c.args.from c.args.active rows c.requires.index;
       few = omega arith;
       summary = c.requires.summary;
-      same = rw e (measured_start c.args.room (walk c.args.from (queues c.args.dest.number rows)));
+      same = rw e (measured_start c.args.version c.args.room (walk c.args.from (queues c.args.dest.number rows)));
     }
 
 pub measure_at-payload-requires : goal.measure_at-payload-requires
@@ -51,8 +53,9 @@ returns-then-left-bytes-clause-count g c =
       | then-place-from w ↦ visits-first from to q nth w.if-place-from.true w.nth-is
       | else-place-from w ↦ visits-later from to q nth w.if-place-from.false w.nth-is
     ] in
+    let header : c.limits-header.result.item_header ≡ (limits_of c.args.version).item_header = ap (λ (l : VersionLimits). l.item_header) c.limits-header.ensures.value in
     let bytes = c.measure_at-payload.ensures.bytes in
-    let whole = turn_stop dest from c.loop-round.lap c.loop-round.at to q nth c.args.room c.loop-round.left c.loop-round.count rows (fit c.args.room (walk from (queues dest rows))) t v c.loop-round.invariant.same (omega (arith, c.if-left-bytes.true)) in
+    let whole = turn_stop c.args.version dest from c.loop-round.lap c.loop-round.at to q nth c.args.room c.loop-round.left c.loop-round.count rows (fit c.args.version c.args.room (walk from (queues dest rows))) t v c.loop-round.invariant.same (omega (arith, c.if-left-bytes.true)) in
     whole.0
 
 pub returns-then-left-bytes-clause-bytes : goal.returns-then-left-bytes-clause-bytes
@@ -68,8 +71,9 @@ returns-then-left-bytes-clause-bytes g c =
       | then-place-from w ↦ visits-first from to q nth w.if-place-from.true w.nth-is
       | else-place-from w ↦ visits-later from to q nth w.if-place-from.false w.nth-is
     ] in
+    let header : c.limits-header.result.item_header ≡ (limits_of c.args.version).item_header = ap (λ (l : VersionLimits). l.item_header) c.limits-header.ensures.value in
     let bytes = c.measure_at-payload.ensures.bytes in
-    let whole = turn_stop dest from c.loop-round.lap c.loop-round.at to q nth c.args.room c.loop-round.left c.loop-round.count rows (fit c.args.room (walk from (queues dest rows))) t v c.loop-round.invariant.same (omega (arith, c.if-left-bytes.true)) in
+    let whole = turn_stop c.args.version dest from c.loop-round.lap c.loop-round.at to q nth c.args.room c.loop-round.left c.loop-round.count rows (fit c.args.version c.args.room (walk from (queues dest rows))) t v c.loop-round.invariant.same (omega (arith, c.if-left-bytes.true)) in
     let sum = whole.1 in omega arith
 
 pub loop-round-preserved : goal.loop-round-preserved
@@ -104,22 +108,24 @@ loop-round-preserved g c =
       | then-waiting-nth w ↦ rw w.active-is (rw w.summary-is w.remove_of.ensures.summary)
       | else-waiting-nth w ↦ rw w.active-is (rw w.summary-is i.summary)
     ] in
+    let header : c.limits-header.result.item_header ≡ (limits_of c.args.version).item_header = ap (λ (l : VersionLimits). l.item_header) c.limits-header.ensures.value in
+    let least = c.limits-header.ensures.header in
     let bytes : c.measure_at-payload.result.0 ≡ length e.payload = len in
-    rw bytes (record {
+    rw (bytes, header) (record {
       within = let h = t.within in omega arith;
       begun = λ h. t.begun (omega arith);
-      laps = let h = t.near in omega (arith, i.laps);
-      few = let h = i.few in omega (arith, bytes, fits);
+      laps = let h = t.near in omega (arith, i.laps, header, least);
+      few = let h = i.few in omega (arith, bytes, header, least, fits);
       index = index;
       summary = summary;
-      same = turn_taken dest from c.loop-round.lap c.loop-round.at to q nth c.args.room c.loop-round.left c.loop-round.count rows (fit c.args.room (walk from (queues dest rows))) t v i.same (omega (arith, bytes, fits));
+      same = turn_taken c.args.version dest from c.loop-round.lap c.loop-round.at to q nth c.args.room c.loop-round.left c.loop-round.count rows (fit c.args.version c.args.room (walk from (queues dest rows))) t v i.same (omega (arith, bytes, header, fits));
     })
 
 pub returns-clause-count : goal.returns-clause-count
-returns-clause-count g c = (measured_none c.args.room c.loop-round.left c.loop-round.count _ _ c.loop-round.invariant.same c.in_default.ensures.turn).0
+returns-clause-count g c = (measured_none c.args.version c.args.room c.loop-round.left c.loop-round.count _ _ c.loop-round.invariant.same c.in_default.ensures.turn).0
 
 pub returns-clause-bytes : goal.returns-clause-bytes
-returns-clause-bytes g c = let sum = (measured_none c.args.room c.loop-round.left c.loop-round.count _ _ c.loop-round.invariant.same c.in_default.ensures.turn).1 in omega arith
+returns-clause-bytes g c = let sum = (measured_none c.args.version c.args.room c.loop-round.left c.loop-round.count _ _ c.loop-round.invariant.same c.in_default.ensures.turn).1 in omega arith
 
 pub next_turn-requires-clause-summary : goal.next_turn-requires-clause-summary
 next_turn-requires-clause-summary g c = c.loop-round.invariant.summary

@@ -15,7 +15,7 @@ invariant-loop-round g l =
       few : 9 * l.count + l.left ≤ l.room;
       summary : IsSummary l.active l.summary;
       index : IsActive l.active (ahead l.from l.lap l.at 0 waiting);
-      same : Measured l.room l.left l.count (walk l.at (ahead l.from l.lap l.at 0 waiting)) (fit l.room (walk l.from waiting));
+      same : Measured l.fn.version l.room l.left l.count (walk l.at (ahead l.from l.lap l.at 0 waiting)) (fit l.fn.version l.room (walk l.from waiting));
     }
 
 abbrev pub decreases-loop-round : goal.decreases-loop-round

@@ -14,17 +14,17 @@ measure-requires-clause-index c =
 
 pub returns-clause-count : goal.returns-clause-count
 returns-clause-count c =
-    count_is c.args.dest.number c.index-to.result c.args.room _ (record { rows = c.self.inside.slots.rows; cursors = c.self.inside.cursors }) c.args.self.now c.index-to.ensures.value c.measure.ensures.count c.self.view_is
+    count_is c.args.version c.args.dest.number c.index-to.result c.args.room _ (record { rows = c.self.inside.slots.rows; cursors = c.self.inside.cursors }) c.args.self.now c.index-to.ensures.value c.measure.ensures.count c.self.view_is
 
 pub returns-clause-bytes : goal.returns-clause-bytes
 returns-clause-bytes c =
-    bytes_is c.args.dest.number c.index-to.result c.args.room _ (record { rows = c.self.inside.slots.rows; cursors = c.self.inside.cursors }) c.args.self.now c.index-to.ensures.value c.measure.ensures.bytes c.self.view_is
+    bytes_is c.args.version c.args.dest.number c.index-to.result c.args.room _ (record { rows = c.self.inside.slots.rows; cursors = c.self.inside.cursors }) c.args.self.now c.index-to.ensures.value c.measure.ensures.bytes c.self.view_is
 
 pub returns-clause-most : goal.returns-clause-most
 returns-clause-most c =
-    let fits = fit-fits c.args.room (walk (get_or c.self.inside.cursors c.index-to.result 0) (queues c.args.dest.number c.self.inside.slots.rows)) in
+    let fits = fit-fits c.args.version c.args.room (walk (get_or c.self.inside.cursors c.index-to.result 0) (queues c.args.dest.number c.self.inside.slots.rows)) in
     omega (arith, fits, c.measure.ensures.bytes)
 
 pub returns-clause-none : goal.returns-clause-none
 returns-clause-none c none enough =
-    nothing_waits c.args.dest.number c.args.room c.args.self.now (subst (λ (t : GroupsValue). AreShort PAYLOAD t.rows) c.self.view_is c.len-places.ensures.short) enough (sym (returns-clause-count c) ∙ none)
+    nothing_waits c.args.version c.args.dest.number c.args.room c.args.self.now (subst (λ (t : GroupsValue). AreShort PAYLOAD t.rows) c.self.view_is c.len-places.ensures.short) enough (sym (returns-clause-count c) ∙ none)

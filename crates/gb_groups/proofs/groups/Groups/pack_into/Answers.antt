@@ -20,16 +20,16 @@ advance-requires-clause-index c =
 pub advance-requires-clause-there : goal.advance-requires-clause-there
 advance-requires-clause-there c =
     let W = walk (get_or c.self.inside.cursors c.index-to.result 0) (queues c.args.dest.number c.self.inside.slots.rows) in
-    let k = count_from c.args.dest.number c.index-to.result c.args.room c.args.count (record { rows = c.self.inside.slots.rows; cursors = c.self.inside.cursors }) c.args.self.now c.index-to.ensures.value c.self.view_is c.requires.count in
-    omega (arith, k, (fit-front c.args.room W).0)
+    let k = count_from c.args.version c.args.dest.number c.index-to.result c.args.room c.args.count (record { rows = c.self.inside.slots.rows; cursors = c.self.inside.cursors }) c.args.self.now c.index-to.ensures.value c.self.view_is c.requires.count in
+    omega (arith, k, (fit-front c.args.version c.args.room W).0)
 
 pub advance-requires-clause-capacity : goal.advance-requires-clause-capacity
 advance-requires-clause-capacity c =
     let dest = c.args.dest.number in
     let T : GroupsValue = record { rows = c.self.inside.slots.rows; cursors = c.self.inside.cursors } in
-    let k = count_from dest c.index-to.result c.args.room c.args.count T c.args.self.now c.index-to.ensures.value c.self.view_is c.requires.count in
-    let taken = taken_is dest c.index-to.result c.args.room c.args.count T c.args.self.now c.index-to.ensures.value k c.self.view_is in
-    let sum = ap (λ (us : List Visit). sum_by size us) taken in
+    let k = count_from c.args.version dest c.index-to.result c.args.room c.args.count T c.args.self.now c.index-to.ensures.value c.self.view_is c.requires.count in
+    let taken = taken_is c.args.version dest c.index-to.result c.args.room c.args.count T c.args.self.now c.index-to.ensures.value k c.self.view_is in
+    let sum = ap (λ (us : List Visit). sum_by (size c.args.version) us) taken in
     omega (arith, c.requires.capacity)
 
 pub invariant_of-self : goal.invariant_of-self
@@ -50,39 +50,39 @@ pub returns-clause-written : goal.returns-clause-written
 returns-clause-written c =
     let dest = c.args.dest.number in
     let T : GroupsValue = record { rows = c.self.inside.slots.rows; cursors = c.self.inside.cursors } in
-    let k = count_from dest c.index-to.result c.args.room c.args.count T c.args.self.now c.index-to.ensures.value c.self.view_is c.requires.count in
-    let taken = taken_is dest c.index-to.result c.args.room c.args.count T c.args.self.now c.index-to.ensures.value k c.self.view_is in
-    c.advance.ensures.written ∙ ap (λ (us : List Visit). c.args.out.now.items ++ items_text (items T.rows us)) taken
-    ∙ ap (λ (v : GroupsValue). c.args.out.now.items ++ items_text (items v.rows (batch dest c.args.room c.args.self.now))) c.self.view_is
+    let k = count_from c.args.version dest c.index-to.result c.args.room c.args.count T c.args.self.now c.index-to.ensures.value c.self.view_is c.requires.count in
+    let taken = taken_is c.args.version dest c.index-to.result c.args.room c.args.count T c.args.self.now c.index-to.ensures.value k c.self.view_is in
+    c.advance.ensures.written ∙ ap (λ (us : List Visit). c.args.out.now.items ++ items_text c.args.version (items T.rows us)) taken
+    ∙ ap (λ (v : GroupsValue). c.args.out.now.items ++ items_text c.args.version (items v.rows (batch c.args.version dest c.args.room c.args.self.now))) c.self.view_is
 
 pub returns-clause-fit : goal.returns-clause-fit
 returns-clause-fit c =
     let dest = c.args.dest.number in
     let T : GroupsValue = record { rows = c.self.inside.slots.rows; cursors = c.self.inside.cursors } in
-    let k = count_from dest c.index-to.result c.args.room c.args.count T c.args.self.now c.index-to.ensures.value c.self.view_is c.requires.count in
-    let taken = taken_is dest c.index-to.result c.args.room c.args.count T c.args.self.now c.index-to.ensures.value k c.self.view_is in
-    subst (λ (v : GroupsValue). All IsItem (items v.rows (batch dest c.args.room c.args.self.now))) c.self.view_is
-    (subst (λ (us : List Visit). All IsItem (items T.rows us)) taken c.advance.ensures.fit)
+    let k = count_from c.args.version dest c.index-to.result c.args.room c.args.count T c.args.self.now c.index-to.ensures.value c.self.view_is c.requires.count in
+    let taken = taken_is c.args.version dest c.index-to.result c.args.room c.args.count T c.args.self.now c.index-to.ensures.value k c.self.view_is in
+    subst (λ (v : GroupsValue). All (IsItem c.args.version) (items v.rows (batch c.args.version dest c.args.room c.args.self.now))) c.self.view_is
+    (subst (λ (us : List Visit). All (IsItem c.args.version) (items T.rows us)) taken c.advance.ensures.fit)
 
 pub returns-clause-len : goal.returns-clause-len
 returns-clause-len c =
     let dest = c.args.dest.number in
     let T : GroupsValue = record { rows = c.self.inside.slots.rows; cursors = c.self.inside.cursors } in
-    let k = count_from dest c.index-to.result c.args.room c.args.count T c.args.self.now c.index-to.ensures.value c.self.view_is c.requires.count in
-    let taken = taken_is dest c.index-to.result c.args.room c.args.count T c.args.self.now c.index-to.ensures.value k c.self.view_is in
-    let sum = ap (λ (us : List Visit). sum_by size us) taken in
+    let k = count_from c.args.version dest c.index-to.result c.args.room c.args.count T c.args.self.now c.index-to.ensures.value c.self.view_is c.requires.count in
+    let taken = taken_is c.args.version dest c.index-to.result c.args.room c.args.count T c.args.self.now c.index-to.ensures.value k c.self.view_is in
+    let sum = ap (λ (us : List Visit). sum_by (size c.args.version) us) taken in
     omega (arith, c.advance.ensures.len)
 
 pub returns-clause-state : goal.returns-clause-state
 returns-clause-state c =
     let T : GroupsValue = record { rows = c.self.inside.slots.rows; cursors = c.self.inside.cursors } in
-    let k = count_from c.args.dest.number c.index-to.result c.args.room c.args.count T c.args.self.now c.index-to.ensures.value c.self.view_is c.requires.count in
-    packed_at c.args.dest.number c.index-to.result c.args.room c.args.count c.advance.result T c.advance.new.slots.rows c.index-to.ensures.value k c.advance.ensures.rows c.advance.ensures.cursor
-    ∙ ap (packed c.args.dest.number c.args.room) c.self.view_is
+    let k = count_from c.args.version c.args.dest.number c.index-to.result c.args.room c.args.count T c.args.self.now c.index-to.ensures.value c.self.view_is c.requires.count in
+    packed_at c.args.version c.args.dest.number c.index-to.result c.args.room c.args.count c.advance.result T c.advance.new.slots.rows c.index-to.ensures.value k c.advance.ensures.rows c.advance.ensures.cursor
+    ∙ ap (packed c.args.version c.args.dest.number c.args.room) c.self.view_is
 
 pub returns-clause-longest : goal.returns-clause-longest
-returns-clause-longest c = is_longest c.args.room (walk_to c.args.dest.number c.args.self.now)
+returns-clause-longest c = is_longest c.args.version c.args.room (walk_to c.args.dest.number c.args.self.now)
 
 pub returns-clause-own : goal.returns-clause-own
 returns-clause-own c =
-    is_front c.args.dest.number c.args.room c.args.self.now c.args.dest.below (subst (λ (v : GroupsValue). AreApart v.rows) c.self.view_is c.len-places.ensures.apart) (subst (λ (v : GroupsValue). HaveCounters v.rows) c.self.view_is c.len-places.ensures.counters)
+    is_front c.args.version c.args.dest.number c.args.room c.args.self.now c.args.dest.below (subst (λ (v : GroupsValue). AreApart v.rows) c.self.view_is c.len-places.ensures.apart) (subst (λ (v : GroupsValue). HaveCounters v.rows) c.self.view_is c.len-places.ensures.counters)
