@@ -416,7 +416,6 @@ impl Table {
         ensures longest { IsLongest self.old.version room (walk_to dest.number self.old.groups) (batch self.old.version dest.number room self.old.groups) }
         ensures own { (p : ℕ) → p < length self.old.groups.rows → IsFront self.old.version dest.number room self.old.groups p }
     {
-        self.groups
-            .pack_into(self.version, dest, room, count, out);
+        self.groups.pack_into(self.version, dest, room, count, out);
     }
 }

@@ -15,12 +15,12 @@ use Rattle.gb_table.proofs.table.Table.pack_into.Goals as goal
 
 pub invariant_of-self : goal.invariant_of-self
 invariant_of-self c = (
-  within_step c.self.inside.places c.self.inside.tenants c.self.inside.groups.rows _ (ap (λ (v : GroupsValue). addrs_of v.rows) c.pack_into.ensures.state ∙ addrs-gave c.args.dest.number 0 (batch c.args.dest.number c.args.room c.self.inside.groups) c.self.inside.groups.rows) c.self.invariant.0,
+  within_step c.self.inside.places c.self.inside.tenants c.self.inside.groups.rows _ (ap (λ (v : GroupsValue). addrs_of v.rows) c.pack_into.ensures.state ∙ addrs-gave c.args.dest.number 0 (batch c.self.inside.version c.args.dest.number c.args.room c.self.inside.groups) c.self.inside.groups.rows) c.self.invariant.0,
   c.self.invariant.1,
-  subst (AreOwn c.self.inside.me c.self.inside.version) (sym (ap (λ (v : GroupsValue). v.rows) c.pack_into.ensures.state)) (at_gave c.self.inside.me c.self.inside.version c.args.dest.number 0 (batch c.args.dest.number c.args.room c.self.inside.groups) c.self.inside.groups.rows c.self.invariant.2),
+  subst (AreOwn c.self.inside.me c.self.inside.version) (sym (ap (λ (v : GroupsValue). v.rows) c.pack_into.ensures.state)) (at_gave c.self.inside.me c.self.inside.version c.args.dest.number 0 (batch c.self.inside.version c.args.dest.number c.args.room c.self.inside.groups) c.self.inside.groups.rows c.self.invariant.2),
 )
 
 pub returns-clause-payloads : goal.returns-clause-payloads
 returns-clause-payloads c =
-    subst (λ (t : TableValue). All (λ (i : Item). length i.payload ≤ (limits_of t.version).payload) (items t.groups.rows (batch c.args.dest.number c.args.room t.groups))) c.self.view_is
-    (batch_short (limits_of c.self.inside.version).payload c.args.dest.number c.args.room c.self.inside.groups (short_rows c.self.inside.me c.self.inside.version c.self.inside.groups.rows c.self.invariant.2))
+    subst (λ (t : TableValue). All (λ (i : Item). length i.payload ≤ (limits_of t.version).payload) (items t.groups.rows (batch t.version c.args.dest.number c.args.room t.groups))) c.self.view_is
+    (batch_short c.self.inside.version (limits_of c.self.inside.version).payload c.args.dest.number c.args.room c.self.inside.groups (short_rows c.self.inside.me c.self.inside.version c.self.inside.groups.rows c.self.invariant.2))
