@@ -5,6 +5,7 @@ use Rattle.std.specs.declared.vec.Vec.{Vec}
 use Rattle.std.specs.declared.alloc.Global.{Global}
 use Rattle.std.proofs.lemmas.Bool.{cases_Bool}
 use Rattle.gb_types.specs.declared.node.NodeId.{NodeId}
+use Rattle.gb_types.specs.declared.version.Version.{Version}
 use Rattle.gb_table.specs.TableValue.{TableValue}
 use Rattle.gb_frame.specs.declared.item.Item.{Item}
 use Rattle.gb_link.specs.Ack.{covers}
@@ -14,16 +15,16 @@ use Rattle.gb_node.specs.NodeStep.{frame_done, without_done}
 use Rattle.gb_node.proofs.FrameLemmas.{Text}
 
 -- frames ascend by their numbers alone
-ascending_frame : (low : ℕ) (us : List Text) → AreAscending low us → AreAscending low (map frame_of us)
-ascending_frame low [] h = tt
-ascending_frame low (u ∷ us) h = (h.0, ascending_frame (u.0 + 1) us h.1)
+ascending_frame : (version : Version) (low : ℕ) (us : List Text) → AreAscending low us → AreAscending low (map (frame_of version) us)
+ascending_frame version low [] h = tt
+ascending_frame version low (u ∷ us) h = (h.0, ascending_frame version (u.0 + 1) us h.1)
 
-recent_frame : (next : ℕ) (us : List Text) → AreRecent next us → AreRecent next (map frame_of us)
-recent_frame next [] h = tt
-recent_frame next (u ∷ us) h = (h.0, h.1, recent_frame next us h.2)
+recent_frame : (version : Version) (next : ℕ) (us : List Text) → AreRecent next us → AreRecent next (map (frame_of version) us)
+recent_frame version next [] h = tt
+recent_frame version next (u ∷ us) h = (h.0, h.1, recent_frame version next us h.2)
 
-pub window_frame : (w : SendWindow (Vec ℕ Global)) → IsWindow w → IsWindow (window_of w)
-window_frame w h = record { started = h.started; last = h.last; ascending = ascending_frame 1 w.undone h.ascending; recent = recent_frame w.next w.undone h.recent }
+pub window_frame : (version : Version) (w : SendWindow (Vec ℕ Global)) → IsWindow w → IsWindow (window_of version w)
+window_frame version w h = record { started = h.started; last = h.last; ascending = ascending_frame version 1 w.undone h.ascending; recent = recent_frame version w.next w.undone h.recent }
 
 module _ {F : Type 0} where
   -- all that pass are no more than all

@@ -6,6 +6,7 @@ use Rattle.std.specs.List.{find, filter, slice_get}
 use Rattle.std.specs.declared.vec.Vec.{Vec}
 use Rattle.std.specs.declared.alloc.Global.{Global}
 use Rattle.gb_frame.specs.Batch.{batch_in, IsBatch}
+use Rattle.gb_types.specs.declared.version.Version.{Version}
 use Rattle.gb_link.specs.SendWindow.{SendWindow, IsWindow, AreAscending, frame_again, without_first, acknowledged, freed}
 use Rattle.gb_link.specs.Ack.{covers}
 use Rattle.gb_node.specs.Frames.{frame_of, window_of, AreBatches}
@@ -13,65 +14,65 @@ use Rattle.gb_node.specs.Frames.{frame_of, window_of, AreBatches}
 abbrev pub Text : Type 0
 Text = ℕ × Vec ℕ Global
 
-pub find_frame : (test : ℕ → Bool) (us : List Text) → find (λ u. test u.0) (map frame_of us) ≡ option_map frame_of (find (λ u. test u.0) us)
-find_frame test [] = refl
-find_frame test (u ∷ us) = elim (test u.0) as (λ b. cond b (Some (frame_of u)) (find (λ u. test u.0) (map frame_of us)) ≡ option_map frame_of (cond b (Some u) (find (λ u. test u.0) us))) [
+pub find_frame : (version : Version) (test : ℕ → Bool) (us : List Text) → find (λ u. test u.0) (map (frame_of version) us) ≡ option_map (frame_of version) (find (λ u. test u.0) us)
+find_frame version test [] = refl
+find_frame version test (u ∷ us) = elim (test u.0) as (λ b. cond b (Some (frame_of version u)) (find (λ u. test u.0) (map (frame_of version) us)) ≡ option_map (frame_of version) (cond b (Some u) (find (λ u. test u.0) us))) [
   | true ↦ refl
-  | false ↦ find_frame test us
+  | false ↦ find_frame version test us
 ]
 
-pub filter_frame : (test : ℕ → Bool) (us : List Text) → filter (λ u. test u.0) (map frame_of us) ≡ map frame_of (filter (λ u. test u.0) us)
-filter_frame test [] = refl
-filter_frame test (u ∷ us) = elim (test u.0) as (λ b. cond b (frame_of u ∷ filter (λ u. test u.0) (map frame_of us)) (filter (λ u. test u.0) (map frame_of us)) ≡ map frame_of (cond b (u ∷ filter (λ u. test u.0) us) (filter (λ u. test u.0) us))) [
-  | true ↦ ap (λ xs. frame_of u ∷ xs) (filter_frame test us)
-  | false ↦ filter_frame test us
+pub filter_frame : (version : Version) (test : ℕ → Bool) (us : List Text) → filter (λ u. test u.0) (map (frame_of version) us) ≡ map (frame_of version) (filter (λ u. test u.0) us)
+filter_frame version test [] = refl
+filter_frame version test (u ∷ us) = elim (test u.0) as (λ b. cond b (frame_of version u ∷ filter (λ u. test u.0) (map (frame_of version) us)) (filter (λ u. test u.0) (map (frame_of version) us)) ≡ map (frame_of version) (cond b (u ∷ filter (λ u. test u.0) us) (filter (λ u. test u.0) us))) [
+  | true ↦ ap (λ xs. frame_of version u ∷ xs) (filter_frame version test us)
+  | false ↦ filter_frame version test us
 ]
 
-pub without_frame : (test : ℕ → Bool) (us : List Text) → without_first (λ u. test u.0) (map frame_of us) ≡ map frame_of (without_first (λ u. test u.0) us)
-without_frame test [] = refl
-without_frame test (u ∷ us) = elim (test u.0) as (λ b. cond b (map frame_of us) (frame_of u ∷ without_first (λ u. test u.0) (map frame_of us)) ≡ map frame_of (cond b us (u ∷ without_first (λ u. test u.0) us))) [
+pub without_frame : (version : Version) (test : ℕ → Bool) (us : List Text) → without_first (λ u. test u.0) (map (frame_of version) us) ≡ map (frame_of version) (without_first (λ u. test u.0) us)
+without_frame version test [] = refl
+without_frame version test (u ∷ us) = elim (test u.0) as (λ b. cond b (map (frame_of version) us) (frame_of version u ∷ without_first (λ u. test u.0) (map (frame_of version) us)) ≡ map (frame_of version) (cond b us (u ∷ without_first (λ u. test u.0) us))) [
   | true ↦ refl
-  | false ↦ ap (λ xs. frame_of u ∷ xs) (without_frame test us)
+  | false ↦ ap (λ xs. frame_of version u ∷ xs) (without_frame version test us)
 ]
 
 -- the first one
-first_frame : (us : List Text) → slice_get (map frame_of us) 0 ≡ option_map frame_of (slice_get us 0)
-first_frame [] = refl
-first_frame (u ∷ us) = refl
+first_frame : (version : Version) (us : List Text) → slice_get (map (frame_of version) us) 0 ≡ option_map (frame_of version) (slice_get us 0)
+first_frame version [] = refl
+first_frame version (u ∷ us) = refl
 
-pub again_frame : (w : SendWindow (Vec ℕ Global)) (n : ℕ) → frame_again (window_of w) n ≡ option_map frame_of (frame_again w n)
-again_frame w n = elim (nat_eq n 0) as (λ b. cond b (slice_get (map frame_of w.undone) 0) (find (λ u. nat_eq u.0 n) (map frame_of w.undone)) ≡ option_map frame_of (cond b (slice_get w.undone 0) (find (λ u. nat_eq u.0 n) w.undone))) [
-  | true ↦ first_frame w.undone
-  | false ↦ find_frame (λ k. nat_eq k n) w.undone
+pub again_frame : (version : Version) (w : SendWindow (Vec ℕ Global)) (n : ℕ) → frame_again (window_of version w) n ≡ option_map (frame_of version) (frame_again w n)
+again_frame version w n = elim (nat_eq n 0) as (λ b. cond b (slice_get (map (frame_of version) w.undone) 0) (find (λ u. nat_eq u.0 n) (map (frame_of version) w.undone)) ≡ option_map (frame_of version) (cond b (slice_get w.undone 0) (find (λ u. nat_eq u.0 n) w.undone))) [
+  | true ↦ first_frame version w.undone
+  | false ↦ find_frame version (λ k. nat_eq k n) w.undone
 ]
 
 -- a frame that is found is a batch
-pub found_batch : (test : Text → Bool) (us : List Text) (u : Text) → AreBatches us → find test us ≡ Some u → IsBatch u.1.items
-found_batch test [] u all found = absurd cc
-found_batch test (v ∷ us) u all found = elim (test v) as (λ b. cond b (Some v) (find test us) ≡ Some u → IsBatch u.1.items) [
-  | true ↦ λ e. (let same : v ≡ u = cc in subst (λ (x : Text). IsBatch x.1.items) same all.0)
-  | false ↦ λ e. found_batch test us u all.1 e
+pub found_batch : (version : Version) (test : Text → Bool) (us : List Text) (u : Text) → AreBatches version us → find test us ≡ Some u → IsBatch version u.1.items
+found_batch version test [] u all found = absurd cc
+found_batch version test (v ∷ us) u all found = elim (test v) as (λ b. cond b (Some v) (find test us) ≡ Some u → IsBatch version u.1.items) [
+  | true ↦ λ e. (let same : v ≡ u = cc in subst (λ (x : Text). IsBatch version x.1.items) same all.0)
+  | false ↦ λ e. found_batch version test us u all.1 e
 ] found
 
-pub without_batch : (test : Text → Bool) (us : List Text) → AreBatches us → AreBatches (without_first test us)
-without_batch test [] all = tt
-without_batch test (u ∷ us) all = elim (test u) as (λ b. AreBatches (cond b us (u ∷ without_first test us))) [
+pub without_batch : (version : Version) (test : Text → Bool) (us : List Text) → AreBatches version us → AreBatches version (without_first test us)
+without_batch version test [] all = tt
+without_batch version test (u ∷ us) all = elim (test u) as (λ b. AreBatches version (cond b us (u ∷ without_first test us))) [
   | true ↦ all.1
-  | false ↦ (all.0, without_batch test us all.1)
+  | false ↦ (all.0, without_batch version test us all.1)
 ]
 
-pub more_batches : (us : List Text) (u : Text) → AreBatches us → IsBatch u.1.items → AreBatches (us ++ u ∷ [])
-more_batches [] u all one = (one, tt)
-more_batches (v ∷ us) u all one = (all.0, more_batches us u all.1 one)
+pub more_batches : (version : Version) (us : List Text) (u : Text) → AreBatches version us → IsBatch version u.1.items → AreBatches version (us ++ u ∷ [])
+more_batches version [] u all one = (one, tt)
+more_batches version (v ∷ us) u all one = (all.0, more_batches version us u all.1 one)
 
-first_batch : (us : List Text) (u : Text) → AreBatches us → slice_get us 0 ≡ Some u → IsBatch u.1.items
-first_batch [] u all found = absurd cc
-first_batch (v ∷ us) u all found = (let same : v ≡ u = cc in subst (λ (x : Text). IsBatch x.1.items) same all.0)
+first_batch : (version : Version) (us : List Text) (u : Text) → AreBatches version us → slice_get us 0 ≡ Some u → IsBatch version u.1.items
+first_batch version [] u all found = absurd cc
+first_batch version (v ∷ us) u all found = (let same : v ≡ u = cc in subst (λ (x : Text). IsBatch version x.1.items) same all.0)
 
-again_batch : (w : SendWindow (Vec ℕ Global)) (n : ℕ) (u : Text) → AreBatches w.undone → frame_again w n ≡ Some u → IsBatch u.1.items
-again_batch w n u all found = elim (nat_eq n 0) as (λ b. cond b (slice_get w.undone 0) (find (λ u. nat_eq u.0 n) w.undone) ≡ Some u → IsBatch u.1.items) [
-  | true ↦ first_batch w.undone u all
-  | false ↦ found_batch (λ u. nat_eq u.0 n) w.undone u all
+again_batch : (version : Version) (w : SendWindow (Vec ℕ Global)) (n : ℕ) (u : Text) → AreBatches version w.undone → frame_again w n ≡ Some u → IsBatch version u.1.items
+again_batch version w n u all found = elim (nat_eq n 0) as (λ b. cond b (slice_get w.undone 0) (find (λ u. nat_eq u.0 n) w.undone) ≡ Some u → IsBatch version u.1.items) [
+  | true ↦ first_batch version w.undone u all
+  | false ↦ found_batch version (λ u. nat_eq u.0 n) w.undone u all
 ] found
 
 -- frames are numbered from 1
@@ -92,31 +93,31 @@ again_numbered w n u h found = elim (nat_eq n 0) as (λ b. cond b (slice_get w.u
   | false ↦ found_numbered (λ u. nat_eq u.0 n) 1 w.undone u h.ascending
 ] found
 
-pub again_some : (w : SendWindow (Vec ℕ Global)) (n k : ℕ) (texts : Vec ℕ Global) → AreBatches w.undone → IsWindow w → Some (k, texts) ≡ frame_again w n
-    → (frame_again (window_of w) n ≡ Some (k, batch_in texts.items)) × IsBatch texts.items × (0 < k)
-again_some w n k texts all kept found = (again_frame w n ∙ ap (option_map frame_of) (sym found), again_batch w n (k, texts) all (sym found), again_numbered w n (k, texts) kept (sym found))
+pub again_some : (version : Version) (w : SendWindow (Vec ℕ Global)) (n k : ℕ) (texts : Vec ℕ Global) → AreBatches version w.undone → IsWindow w → Some (k, texts) ≡ frame_again w n
+    → (frame_again (window_of version w) n ≡ Some (k, batch_in version texts.items)) × IsBatch version texts.items × (0 < k)
+again_some version w n k texts all kept found = (again_frame version w n ∙ ap (option_map (frame_of version)) (sym found), again_batch version w n (k, texts) all (sym found), again_numbered w n (k, texts) kept (sym found))
 
-pub again_none : (w : SendWindow (Vec ℕ Global)) (n : ℕ) → None ≡ frame_again w n → frame_again (window_of w) n ≡ None
-again_none w n none = again_frame w n ∙ ap (option_map frame_of) (sym none)
+pub again_none : (version : Version) (w : SendWindow (Vec ℕ Global)) (n : ℕ) → None ≡ frame_again w n → frame_again (window_of version w) n ≡ None
+again_none version w n none = again_frame version w n ∙ ap (option_map (frame_of version)) (sym none)
 
 -- an acknowledgement
-pub acked_frame : (w : SendWindow (Vec ℕ Global)) (base mask : ℕ) → window_of (acknowledged w base mask) ≡ acknowledged (window_of w) base mask
-acked_frame w base mask = ap (λ us. record { next = w.next; undone = us }) (sym (without_frame (covers base mask) w.undone))
+pub acked_frame : (version : Version) (w : SendWindow (Vec ℕ Global)) (base mask : ℕ) → window_of version (acknowledged w base mask) ≡ acknowledged (window_of version w) base mask
+acked_frame version w base mask = ap (λ us. record { next = w.next; undone = us }) (sym (without_frame version (covers base mask) w.undone))
 
-freed_frame : (w : SendWindow (Vec ℕ Global)) (base mask : ℕ) → freed (window_of w) base mask ≡ map frame_of (freed w base mask)
-freed_frame w base mask = filter_frame (covers base mask) w.undone
+freed_frame : (version : Version) (w : SendWindow (Vec ℕ Global)) (base mask : ℕ) → freed (window_of version w) base mask ≡ map (frame_of version) (freed w base mask)
+freed_frame version w base mask = filter_frame version (covers base mask) w.undone
 
-none_freed : (w : SendWindow (Vec ℕ Global)) (base mask : ℕ) → freed w base mask ≡ [] → freed (window_of w) base mask ≡ []
-none_freed w base mask none = freed_frame w base mask ∙ ap (map frame_of) none
+none_freed : (version : Version) (w : SendWindow (Vec ℕ Global)) (base mask : ℕ) → freed w base mask ≡ [] → freed (window_of version w) base mask ≡ []
+none_freed version w base mask none = freed_frame version w base mask ∙ ap (map (frame_of version)) none
 
-one_freed : (w x : SendWindow (Vec ℕ Global)) (base mask : ℕ) (u : Text) → AreBatches w.undone → find (λ u. covers base mask u.0) w.undone ≡ Some u → freed w base mask ≡ u ∷ freed x base mask
-    → (freed (window_of w) base mask ≡ (u.0, batch_in u.1.items) ∷ freed (window_of x) base mask) × IsBatch u.1.items
-one_freed w x base mask u all found first =
-    (freed_frame w base mask ∙ ap (map frame_of) first ∙ ap (λ us. frame_of u ∷ us) (sym (freed_frame x base mask)), found_batch (λ u. covers base mask u.0) w.undone u all found)
+one_freed : (version : Version) (w x : SendWindow (Vec ℕ Global)) (base mask : ℕ) (u : Text) → AreBatches version w.undone → find (λ u. covers base mask u.0) w.undone ≡ Some u → freed w base mask ≡ u ∷ freed x base mask
+    → (freed (window_of version w) base mask ≡ (u.0, batch_in version u.1.items) ∷ freed (window_of version x) base mask) × IsBatch version u.1.items
+one_freed version w x base mask u all found first =
+    (freed_frame version w base mask ∙ ap (map (frame_of version)) first ∙ ap (λ us. frame_of version u ∷ us) (sym (freed_frame version x base mask)), found_batch version (λ u. covers base mask u.0) w.undone u all found)
 
 -- the first one that is freed, if there is one
-pub acked_first : (w x : SendWindow (Vec ℕ Global)) (base mask : ℕ) (o : Option Text) → AreBatches w.undone → o ≡ find (λ u. covers base mask u.0) w.undone
+pub acked_first : (version : Version) (w x : SendWindow (Vec ℕ Global)) (base mask : ℕ) (o : Option Text) → AreBatches version w.undone → o ≡ find (λ u. covers base mask u.0) w.undone
     → MatchOption o (freed w base mask ≡ []) (λ u. freed w base mask ≡ u ∷ freed x base mask)
-    → MatchOption o (freed (window_of w) base mask ≡ []) (λ u. (freed (window_of w) base mask ≡ (u.0, batch_in u.1.items) ∷ freed (window_of x) base mask) × IsBatch u.1.items)
-acked_first w x base mask None all found first = none_freed w base mask first
-acked_first w x base mask (Some u) all found first = one_freed w x base mask u all (sym found) first
+    → MatchOption o (freed (window_of version w) base mask ≡ []) (λ u. (freed (window_of version w) base mask ≡ (u.0, batch_in version u.1.items) ∷ freed (window_of version x) base mask) × IsBatch version u.1.items)
+acked_first version w x base mask None all found first = none_freed version w base mask first
+acked_first version w x base mask (Some u) all found first = one_freed version w x base mask u all (sym found) first

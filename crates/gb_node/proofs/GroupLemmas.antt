@@ -207,7 +207,7 @@ notices_in law g t (b ∷ found) =
 pub packed_in : EachGroup → (g : Addr) (b : NodeId) (items : List Item) (t : TableValue) → AreApart t.groups.rows → items ≡ batch_to t b
     → group_in g (table_packed b.number (room_of t.version) t).groups.rows ≡ stepped (slot_took b.number (length (items_for g items))) (group_in g t.groups.rows)
 packed_in law g b items t apart is =
-    law.taken g b.number (room_of t.version) t.groups apart ∙ ap (λ xs. stepped (slot_took b.number (length (items_for g xs))) (group_in g t.groups.rows)) (sym is)
+    law.taken g t.version b.number (room_of t.version) t.groups apart ∙ ap (λ xs. stepped (slot_took b.number (length (items_for g xs))) (group_in g t.groups.rows)) (sym is)
 
 -- No two groups have one address.
 
@@ -334,7 +334,7 @@ next_items v b items e = by (is_reached v b && has_room (window_to v b.number)) 
 pub front_taken : EachGroup → (v : NodeValue) (b : NodeId) (g : Addr) (items : List Item) → AreApart v.table.groups.rows → items ≡ batch_to v.table b
     → items_for g items ≡ map (item_for g) (take (length (items_for g items)) (waiting_in (group_in g v.table.groups.rows) b.number))
 front_taken law v b g items apart is =
-    subst (λ xs. items_for g xs ≡ map (item_for g) (take (length (items_for g xs)) (waiting_in (group_in g v.table.groups.rows) b.number))) (sym is) (law.front g b.number (room_of v.table.version) v.table.groups apart)
+    subst (λ xs. items_for g xs ≡ map (item_for g) (take (length (items_for g xs)) (waiting_in (group_in g v.table.groups.rows) b.number))) (sym is) (law.front g v.table.version b.number (room_of v.table.version) v.table.groups apart)
 
 -- a batch takes no more of a group than waits there
 pub waiting_enough : EachGroup → (v : NodeValue) (b : NodeId) (g : Addr) (items : List Item) → AreApart v.table.groups.rows → items ≡ batch_to v.table b → length (items_for g items) ≤ length (waiting_in (group_in g v.table.groups.rows) b.number)

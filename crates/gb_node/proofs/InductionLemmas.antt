@@ -113,7 +113,7 @@ module _ (law : WhatIsWrittenIsRead) (each : EachGroup) (stay : StayApart) (slot
         moved = packed_moved v b items law fit has.windows;
         tables = record { windows = length-set v.windows b.number (pushed (window_to v b.number) items) ∙ has.windows; receivers = has.receivers };
         groups = λ g. packed_groups each plan past v was g b items law fit has.windows ok (next_items v b items is);
-        apart = stay.taken b.number (room_of v.table.version) v.table.groups ok;
+        apart = stay.taken v.table.version b.number (room_of v.table.version) v.table.groups ok;
         told = λ g.
             let c = content_to v b (window_to v b.number).next items in
             let one : read plan.cluster_key (packet_text v.key c) ≡ c ∷ [] = ap (λ k. read k (packet_text v.key c)) (sym was.beside.key) ∙ packet_told v b items law fit has.windows in

@@ -23,3 +23,4 @@ pub mod ToldLemmas
 pub mod TookLemmas
 pub mod VersionLemmas
 pub mod WaitsLemmas
+pub mod WindowLemmas

@@ -1,30 +1,33 @@
 -- A batch that is written is a frame.
 use Rattle.std.proofs.lemmas.Bool.Decides.{nat_tests}
-use Rattle.std.specs.Prelude.{find, option_map}
+use Rattle.std.specs.Prelude.{find, map, option_map}
 use Rattle.std.specs.declared.vec.Vec.{Vec}
 use Rattle.std.specs.declared.alloc.Global.{Global}
+use Rattle.std.proofs.lemmas.List.{map-append}
 use Rattle.gb_node.specs.Frames.{frame_of, window_of}
 use Rattle.gb_node.proofs.FrameLemmas.{again_frame}
 use Rattle.gb_link.specs.SendWindow.{SendWindow, IsWindow, AreRecent, pushed, frame_again}
-use Rattle.std.proofs.Common.{◌≡◌, true, false, Some, nat_eq, ℕ, ◌<◌, ◌≤◌, List, [], ◌∷◌, ◌++◌, length, refl, sym, ap, subst, ◌∙◌, arith, All}
+use Rattle.std.proofs.Common.{◌≡◌, true, false, Some, nat_eq, ℕ, ◌+◌, ◌<◌, ◌≤◌, List, [], ◌∷◌, ◌++◌, length, refl, sym, ap, subst, ◌∙◌, arith, All}
 use Rattle.std.specs.Prelude.{sum_by}
 use Rattle.std.proofs.lemmas.List.Sums.{sum_by-cons}
 use Rattle.gb_frame.specs.declared.item.Item.{Item}
 use Rattle.gb_frame.specs.declared.limits.TheConstants.{ROOM}
+use Rattle.gb_types.specs.declared.version.Version.{Version}
+use Rattle.gb_types.proofs.VersionLemmas.{header_least}
 use Rattle.gb_frame.specs.Batch.{batch_in, IsBatch, TextsTellItems}
 use Rattle.gb_frame.specs.Spelling.{items_text, IsItem, AreTexts}
 use Rattle.gb_groups.specs.Packing.{Visit, size}
 
 -- some items have some bytes
-pub some_bytes : (vs : List Visit) → 0 < length vs → 0 < sum_by size vs
-some_bytes [] some = absurd (omega (arith, some))
-some_bytes (v ∷ vs) some = let whole = sum_by-cons size v vs in omega (arith, whole)
+pub some_bytes : (version : Version) (vs : List Visit) → 0 < length vs → 0 < sum_by (size version) vs
+some_bytes version [] some = absurd (omega (arith, some))
+some_bytes version (v ∷ vs) some = let whole = sum_by-cons (size version) v vs in let least = header_least version in omega (arith, whole, least)
 
-pub batch_written : TextsTellItems → (bytes before : List ℕ) (items : List Item) → before ≡ [] → bytes ≡ before ++ items_text items → All IsItem items → 0 < length bytes → length bytes ≤ ROOM → IsBatch bytes
-batch_written tell bytes before items empty written fit some room =
-    let texts : AreTexts bytes items = record { parts = written ∙ ap (λ b. b ++ items_text items) empty; fit = fit } in
+pub batch_written : TextsTellItems → (version : Version) (bytes before : List ℕ) (items : List Item) → before ≡ [] → bytes ≡ before ++ items_text version items → All (IsItem version) items → 0 < length bytes → length bytes ≤ ROOM → IsBatch version bytes
+batch_written tell version bytes before items empty written fit some room =
+    let texts : AreTexts version bytes items = record { parts = written ∙ ap (λ b. b ++ items_text version items) empty; fit = fit } in
     record {
-      texts = subst (λ is. AreTexts bytes is) (sym (tell bytes items texts)) texts;
+      texts = subst (λ is. AreTexts version bytes is) (sym (tell version bytes items texts)) texts;
       some = some;
       room = room;
     }
@@ -38,12 +41,18 @@ pub again_pushed : {F : Type 0} (w : SendWindow F) (f : F) → IsWindow w → fr
 again_pushed w f h = let some : nat_eq w.next 0 ≡ false = grind (arith, nat_tests, h.started) in rw some (find_pushed w.next f w.undone h.recent)
 
 -- the texts that were pushed are found under their number
-pub pushed_frame : (w x : SendWindow (Vec ℕ Global)) (out : Vec ℕ Global) (n : ℕ) (items : List Item) → IsWindow w → x ≡ pushed w out → n ≡ w.next → batch_in out.items ≡ items
-    → (0 < n) × (n ≡ w.next) × (frame_again (window_of x) n ≡ Some (n, items))
-pushed_frame w x out n items h is number batch =
+pub pushed_frame : (version : Version) (w x : SendWindow (Vec ℕ Global)) (out : Vec ℕ Global) (n : ℕ) (items : List Item) → IsWindow w → x ≡ pushed w out → n ≡ w.next → batch_in version out.items ≡ items
+    → (0 < n) × (n ≡ w.next) × (frame_again (window_of version x) n ≡ Some (n, items))
+pushed_frame version w x out n items h is number batch =
     let found : frame_again x n ≡ Some (n, out) = rw (is, number) (again_pushed w out h) in
-    (omega (arith, h.started, number), number, again_frame x n ∙ (ap (option_map frame_of) found ∙ ap (λ is. Some (n, is)) batch))
+    (omega (arith, h.started, number), number, again_frame version x n ∙ (ap (option_map (frame_of version)) found ∙ ap (λ is. Some (n, is)) batch))
 
 -- what was written are the texts of these items
-pub batch_is : TextsTellItems → (bytes before : List ℕ) (items : List Item) → before ≡ [] → bytes ≡ before ++ items_text items → All IsItem items → batch_in bytes ≡ items
-batch_is tell bytes before items empty written fit = tell bytes items (record { parts = written ∙ ap (λ b. b ++ items_text items) empty; fit = fit })
+pub batch_is : TextsTellItems → (version : Version) (bytes before : List ℕ) (items : List Item) → before ≡ [] → bytes ≡ before ++ items_text version items → All (IsItem version) items → batch_in version bytes ≡ items
+batch_is tell version bytes before items empty written fit = tell version bytes items (record { parts = written ∙ ap (λ b. b ++ items_text version items) empty; fit = fit })
+
+-- the window with the texts that were pushed has their items
+pub pushed_whole : (version : Version) (w : SendWindow (Vec ℕ Global)) (out : Vec ℕ Global) (items : List Item) → batch_in version out.items ≡ items
+    → window_of version (pushed w out) ≡ pushed (window_of version w) items
+pushed_whole version w out items batch =
+    ap (λ us. record { next = w.next + 1; undone = us }) (map-append (frame_of version) w.undone ((w.next, out) ∷ []) ∙ ap (λ is. map (frame_of version) w.undone ++ (w.next, is) ∷ []) batch)

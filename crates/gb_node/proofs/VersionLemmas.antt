@@ -1,5 +1,5 @@
 -- A node's version can name all nodes, and each frame that is not acknowledged fits a packet of it, whatever happens.
-use Rattle.std.proofs.Common.{◌≡◌, ℕ, zero, suc, ◌≤◌, ◌<◌, Bool, true, false, cond, List, [], ◌∷◌, ◌++◌, Some, None, nat_eq, get_or, Bor, sym, ap, subst, ◌∙◌, arith}
+use Rattle.std.proofs.Common.{◌≡◌, ℕ, zero, suc, ◌≤◌, ◌<◌, Bool, true, false, cond, List, [], ◌∷◌, ◌++◌, Some, None, nat_eq, get_or, Bor, refl, sym, ap, subst, ◌∙◌, arith}
 use Rattle.std.specs.Prelude.{Option, MatchOption, filter, find, fold, replicate, slice_get, slice_index_or}
 use Rattle.std.specs.FinSet as set
 use Rattle.std.specs.Ordering.{nat_cmp}
@@ -13,10 +13,10 @@ use Rattle.gb_types.specs.declared.version.Version.{Version}
 use Rattle.gb_frame.specs.Batch.{batch_in, IsBatch, FitPacket}
 use Rattle.gb_frame.specs.declared.item.Item.{Item}
 use Rattle.gb_link.specs.Received.{Received}
-use Rattle.gb_link.specs.SendWindow.{SendWindow, new_window, frame_again}
+use Rattle.gb_link.specs.SendWindow.{SendWindow, pushed, frame_again}
 use Rattle.gb_table.specs.Requests.{table_did}
 use Rattle.gb_table.specs.TableValue.{TableValue}
-use Rattle.gb_node.specs.Frames.{AreFitting, KeepsVersion}
+use Rattle.gb_node.specs.Frames.{FrameWindow, new_frames, AreFitting, IsOfVersion, KeepsVersion}
 use Rattle.gb_node.specs.NodeStep.{without_done, frame_done, frame_comes, notice_each}
 use Rattle.gb_node.specs.NodeValue.{new_node}
 use Rattle.gb_node.specs.declared.plan.NodePlan.{NodePlan}
@@ -56,36 +56,50 @@ again_fits version w n u fit found = elim (nat_eq n 0) as (λ b. cond b (slice_g
 ] found
 
 -- a window is written
-set_fits : (version : Version) (ws : List (SendWindow (List Item))) (c : ℕ) (w : SendWindow (List Item)) → ((b : ℕ) → AreFitting version (slice_index_or ws b new_window).undone) → AreFitting version w.undone
-    → (b : ℕ) → AreFitting version (slice_index_or (set_at ws c w) b new_window).undone
-set_fits version [] c w all fit b = all b
-set_fits version (x ∷ ws) zero w all fit zero = fit
-set_fits version (x ∷ ws) zero w all fit (suc b) = all (suc b)
-set_fits version (x ∷ ws) (suc c) w all fit zero = all zero
-set_fits version (x ∷ ws) (suc c) w all fit (suc b) = set_fits version ws c w (λ n. all (suc n)) fit b
+set_fits : (version : Version) (d : FrameWindow) (ws : List FrameWindow) (c : ℕ) (w : FrameWindow) → ((b : ℕ) → IsOfVersion version (slice_index_or ws b d)) → IsOfVersion version w
+    → (b : ℕ) → IsOfVersion version (slice_index_or (set_at ws c w) b d)
+set_fits version d [] c w all fit b = all b
+set_fits version d (x ∷ ws) zero w all fit zero = fit
+set_fits version d (x ∷ ws) zero w all fit (suc b) = all (suc b)
+set_fits version d (x ∷ ws) (suc c) w all fit zero = all zero
+set_fits version d (x ∷ ws) (suc c) w all fit (suc b) = set_fits version d ws c w (λ n. all (suc n)) fit b
 
 -- Tables.
 
 -- a table of the same node, with the same cluster and version
-same_table : (t u : TableValue) (ws : List (SendWindow (List Item))) → u.me ≡ t.me → u.nodes ≡ t.nodes → u.version ≡ t.version → KeepsVersion t ws → KeepsVersion u ws
+same_table : (t u : TableValue) (ws : List FrameWindow) → u.me ≡ t.me → u.nodes ≡ t.nodes → u.version ≡ t.version → KeepsVersion t ws → KeepsVersion u ws
 same_table t u ws me nodes version k = record {
   nodes = subst (λ (v : Version). u.nodes ≤ (limits_of v).nodes) (sym version) (subst (λ n. n ≤ (limits_of t.version).nodes) (sym nodes) k.nodes);
   me = let e = ap (λ (x : NodeId). x.number) me in let inside = k.me in omega (arith, e, nodes, inside);
-  frames = λ b. subst (λ (v : Version). AreFitting v (slice_index_or ws b new_window).undone) (sym version) (k.frames b);
+  frames = λ b. subst (λ (v : Version). IsOfVersion v (slice_index_or ws b (new_frames v))) (sym version) (k.frames b);
 }
 
-pub did_keeps : (noticed : set.FinSet nat_cmp) (r : Request) (reply : Reply) (t : TableValue) (ws : List (SendWindow (List Item))) → KeepsVersion t ws → KeepsVersion (table_did noticed r reply t) ws
+pub did_keeps : (noticed : set.FinSet nat_cmp) (r : Request) (reply : Reply) (t : TableValue) (ws : List FrameWindow) → KeepsVersion t ws → KeepsVersion (table_did noticed r reply t) ws
 did_keeps noticed r reply t ws k = let same = did_same noticed r reply t in same_table t (table_did noticed r reply t) ws same.me same.nodes same.version k
 
-pub noticed_keeps : (t : TableValue) (found : List ℕ) (ws : List (SendWindow (List Item))) → KeepsVersion t ws → KeepsVersion (notice_each t found) ws
+pub noticed_keeps : (t : TableValue) (found : List ℕ) (ws : List FrameWindow) → KeepsVersion t ws → KeepsVersion (notice_each t found) ws
 noticed_keeps t found ws k = let same = keeps_notices t found in same_table t (notice_each t found) ws same.me same.nodes same.version k
 
+-- a batch is packed
+pub packed_keeps : (t u : TableValue) (ws : List FrameWindow) (k : ℕ) (old w : FrameWindow) (items : List Item)
+    → u.me ≡ t.me → u.nodes ≡ t.nodes → u.version ≡ t.version → w ≡ record { version = old.version; window = pushed old.window items } → old ≡ get_or ws k (new_frames t.version) → FitPacket t.version items → KeepsVersion t ws
+    → KeepsVersion u (set_at ws k w)
+packed_keeps t u ws k old w items me nodes version pushed here fit keeps =
+    let was : IsOfVersion t.version old = subst (IsOfVersion t.version) (sym here) (keeps.frames k) in
+    same_table t u (set_at ws k w) me nodes version (record {
+      nodes = keeps.nodes;
+      me = keeps.me;
+      frames = set_fits t.version (new_frames t.version) ws k w keeps.frames
+          (subst (IsOfVersion t.version) (sym pushed) (record { same = was.same; fitting = push_fits t.version old.window.undone old.window.next items was.fitting fit }));
+    })
+
 -- a packet is taken: the frames that it acknowledges are done, then its own frame comes
-pub taken_keeps : (t mid u : TableValue) (ws : List (SendWindow (List Item))) (k : ℕ) (old w : SendWindow (List Item)) (from : NodeId) (us : List (ℕ × List Item)) (n : ℕ) (items : List Item) (r : Received) (base mask : ℕ)
-    → mid ≡ fold (frame_done from) t us → u ≡ frame_comes from n items r mid → w ≡ without_done base mask old → old ≡ get_or ws k new_window → KeepsVersion t ws → KeepsVersion u (set_at ws k w)
+pub taken_keeps : (t mid u : TableValue) (ws : List FrameWindow) (k : ℕ) (old w : FrameWindow) (from : NodeId) (us : List (ℕ × List Item)) (n : ℕ) (items : List Item) (r : Received) (base mask : ℕ)
+    → mid ≡ fold (frame_done from) t us → u ≡ frame_comes from n items r mid → w ≡ record { version = old.version; window = without_done base mask old.window } → old ≡ get_or ws k (new_frames t.version) → KeepsVersion t ws → KeepsVersion u (set_at ws k w)
 taken_keeps t mid u ws k old w from us n items r base mask done came without here keeps =
     let acked = keeps_all (frame_done from) (keeps_frame from) t us in
     let arrived = keeps_arrived from n items r mid in
+    let was : IsOfVersion t.version old = subst (IsOfVersion t.version) (sym here) (keeps.frames k) in
     same_table t u (set_at ws k w)
     (ap (λ (x : TableValue). x.me) came ∙ arrived.me ∙ ap (λ (x : TableValue). x.me) done ∙ acked.me)
     (ap (λ (x : TableValue). x.nodes) came ∙ arrived.nodes ∙ ap (λ (x : TableValue). x.nodes) done ∙ acked.nodes)
@@ -93,23 +107,24 @@ taken_keeps t mid u ws k old w from us n items r base mask done came without her
     (record {
       nodes = keeps.nodes;
       me = keeps.me;
-      frames = set_fits t.version ws k w keeps.frames
-          (subst (λ (x : SendWindow (List Item)). AreFitting t.version x.undone) (sym without)
-          (filter_fits t.version _ old.undone (subst (λ (x : SendWindow (List Item)). AreFitting t.version x.undone) (sym here) (keeps.frames k))));
+      frames = set_fits t.version (new_frames t.version) ws k w keeps.frames
+          (subst (IsOfVersion t.version) (sym without) (record { same = was.same; fitting = filter_fits t.version _ old.window.undone was.fitting }));
     })
 
--- what is found to be sent again fits
-pub undone_fits : (version : Version) (w : SendWindow (List Item)) (n : ℕ) (o : Option (ℕ × Bor (List ℕ))) → AreFitting version w.undone
-    → MatchOption o (frame_again w n ≡ None) (λ r. (frame_again w n ≡ Some (r.0, batch_in r.1.now)) × IsBatch r.1.now × (0 < r.0))
-    → MatchOption o (frame_again w n ≡ None) (λ r. (frame_again w n ≡ Some (r.0, batch_in r.1.now)) × IsBatch r.1.now × (0 < r.0) × FitPacket version (batch_in r.1.now))
-undone_fits version w n None fit h = h
-undone_fits version w n (Some r) fit h = (h.0, h.1, h.2, again_fits version w n (r.0, batch_in r.1.now) fit h.0)
+-- what is found to be sent again is of the version, and fits
+pub undone_fits : (version : Version) (w : FrameWindow) (n : ℕ) (o : Option (ℕ × Bor (List ℕ))) → IsOfVersion version w
+    → MatchOption o (frame_again w.window n ≡ None) (λ r. (frame_again w.window n ≡ Some (r.0, batch_in w.version r.1.now)) × IsBatch w.version r.1.now × (0 < r.0))
+    → MatchOption o (frame_again w.window n ≡ None) (λ r. (frame_again w.window n ≡ Some (r.0, batch_in version r.1.now)) × IsBatch version r.1.now × (0 < r.0) × FitPacket version (batch_in version r.1.now))
+undone_fits version w n None is h = h
+undone_fits version w n (Some r) is h =
+    let found = h.0 ∙ ap (λ (v : Version). Some (r.0, batch_in v r.1.now)) is.same in
+    (found, subst (λ (v : Version). IsBatch v r.1.now) is.same h.1, h.2, again_fits version w.window n (r.0, batch_in version r.1.now) is.fitting found)
 
 -- a node is started
-none_undone : (n b : ℕ) (version : Version) → AreFitting version (slice_index_or (replicate n new_window) b new_window).undone
-none_undone zero b version = tt
-none_undone (suc n) zero version = tt
+none_undone : (n b : ℕ) (version : Version) → IsOfVersion version (slice_index_or (replicate n (new_frames version)) b (new_frames version))
+none_undone zero b version = record { same = refl; fitting = tt }
+none_undone (suc n) zero version = record { same = refl; fitting = tt }
 none_undone (suc n) (suc b) version = none_undone n b version
 
-pub started_keeps : (plan : NodePlan) → plan.nodes ≤ (limits_of plan.version).nodes → plan.me.number < plan.nodes → KeepsVersion (new_node plan).table (new_node plan).windows
+pub started_keeps : (plan : NodePlan) → plan.nodes ≤ (limits_of plan.version).nodes → plan.me.number < plan.nodes → KeepsVersion (new_node plan).table (replicate NODES (new_frames plan.version))
 started_keeps plan named member = record { nodes = named; me = member; frames = λ b. none_undone NODES b plan.version }

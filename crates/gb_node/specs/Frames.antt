@@ -11,17 +11,30 @@ use Rattle.gb_frame.specs.declared.packet.Head.{Head}
 use Rattle.gb_link.specs.SendWindow.{SendWindow, new_window}
 use Rattle.gb_table.specs.TableValue.{TableValue}
 
--- a frame by its items
-abbrev pub frame_of : ℕ × Vec ℕ Global → ℕ × List Item
-frame_of u = (u.0, batch_in u.1.items)
+-- a frame by its items, whose texts are of the version
+abbrev pub frame_of : Version → ℕ × Vec ℕ Global → ℕ × List Item
+frame_of version u = (u.0, batch_in version u.1.items)
 
 -- a window by its frames' items
-abbrev pub window_of : SendWindow (Vec ℕ Global) → SendWindow (List Item)
-window_of w = record { next = w.next; undone = map frame_of w.undone }
+abbrev pub window_of : Version → SendWindow (Vec ℕ Global) → SendWindow (List Item)
+window_of version w = record { next = w.next; undone = map (frame_of version) w.undone }
 
 -- each frame is a batch
-abbrev pub AreBatches : List (ℕ × Vec ℕ Global) → Type 0
-AreBatches undone = AllByRecursion (λ u. IsBatch u.1.items) undone
+abbrev pub AreBatches : Version → List (ℕ × Vec ℕ Global) → Type 0
+AreBatches version undone = AllByRecursion (λ u. IsBatch version u.1.items) undone
+
+-- the sending end of a link whose frames' texts are of a version
+pub record FrameWindow : Type 0 where
+  pub version : Version
+  pub window : SendWindow (List Item)
+
+-- nothing was sent
+abbrev pub new_frames : Version → FrameWindow
+new_frames version = record { version = version; window = new_window }
+
+-- the windows by their frames' items
+abbrev pub windows_of : List FrameWindow → List (SendWindow (List Item))
+windows_of ws = map (λ w. w.window) ws
 
 -- the head of a packet that can be written: between two nodes that its version can name, with an acknowledgement
 pub record IsHead (h : Head) : Type 0 where
@@ -35,12 +48,17 @@ pub record IsHead (h : Head) : Type 0 where
 abbrev pub AreFitting : Version → List (ℕ × List Item) → Type 0
 AreFitting version undone = AllByRecursion (λ u. FitPacket version u.1) undone
 
--- What holds of a node after any events. It is a node of its cluster. Its version can name all nodes of the cluster. Each frame that is
--- not acknowledged fits a packet of that version.
-pub record KeepsVersion (t : TableValue) (windows : List (SendWindow (List Item))) : Type 0 where
+-- the window's texts are of this version, and each of its frames fits a packet of it
+pub record IsOfVersion (version : Version) (w : FrameWindow) : Type 0 where
+  pub same : w.version ≡ version
+  pub fitting : AreFitting version w.window.undone
+
+-- What holds of a node after any events. It is a node of its cluster. Its version can name all nodes of the cluster. The texts of the frames
+-- that are not acknowledged are of that version, and each frame fits a packet of it.
+pub record KeepsVersion (t : TableValue) (windows : List FrameWindow) : Type 0 where
   pub nodes : t.nodes ≤ (limits_of t.version).nodes
   pub me : t.me.number < t.nodes
-  pub frames : (b : ℕ) → AreFitting t.version (slice_index_or windows b new_window).undone
+  pub frames : (b : ℕ) → IsOfVersion t.version (slice_index_or windows b (new_frames t.version))
 
 -- the items of a frame that may be there
 abbrev pub items_of_frame : Option (ℕ × List Item) → List Item

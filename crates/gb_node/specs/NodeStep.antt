@@ -72,7 +72,7 @@ content_to v b frame items = record { version = v.table.version; from = v.table.
 
 -- what a batch for a node has now
 abbrev pub batch_to : TableValue → NodeId → List Item
-batch_to t b = items t.groups.rows (batch b.number (room_of t.version) t.groups)
+batch_to t b = items t.groups.rows (batch t.version b.number (room_of t.version) t.groups)
 
 abbrev pub unless_empty : List Item → Option (List Item)
 unless_empty [] = None

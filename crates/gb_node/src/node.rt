@@ -15,7 +15,7 @@ ghost use Rattle.gb_groups.specs.Packing.{size};
 ghost use Rattle.gb_cap.specs.declared.token.Need.TheVariants.{Admin};
 ghost use Rattle.gb_table.specs.Admission.{is_token};
 ghost use Rattle.gb_table.specs.Requests.{is_admitted};
-ghost use Rattle.gb_node.specs.Frames.{items_of_frame, IsHead};
+ghost use Rattle.gb_node.specs.Frames.{new_frames, items_of_frame, IsHead};
 ghost use Rattle.gb_node.specs.Listing.{Lists};
 ghost use Rattle.gb_node.specs.NodeValue.{new_node};
 ghost use Rattle.gb_node.specs.Reads.{is_read, packet_room, IsWithin};
@@ -46,6 +46,7 @@ use gb_types::node::NodeId;
 use gb_types::refusal::Refusal;
 use gb_types::reply::Reply;
 use gb_types::request::Request;
+use gb_types::version::Version;
 use std::alloc::Global;
 use std::marker::Model;
 
@@ -83,55 +84,56 @@ impl Model for Node {
     ghost use Rattle.std.specs.Ordering.{nat_cmp};
     ghost use Rattle.std.specs.FinSet as set;
     ghost use Rattle.gb_node.specs.NodeValue.{NodeValue};
+    ghost use Rattle.gb_node.specs.Frames.{windows_of};
 
     ghost Value = { NodeValue };
 
     ghost coded = { Prim.hlevel (codes, set.code {R = nat_cmp} coded_ℕ) };
 
-    ghost view = { λ n. record { key = n.key; table = n.table; windows = n.windows; receivers = n.receivers; watch = n.detector; stopped = n.stopped } };
+    ghost view = { λ n. record { key = n.key; table = n.table; windows = windows_of n.windows; receivers = n.receivers; watch = n.detector; stopped = n.stopped } };
 
     ghost use Rattle.gb_node.specs.Frames.{KeepsVersion};
 
     ghost invariant = { λ n. KeepsVersion n.table n.windows };
 }
 
-/// For each node, the sending end of a link on which nothing was sent.
-fn new_windows(alloc: Global) -> [Window; NODES]
-    ensures { result ≡ replicate MOST new_window }
+/// For each node, the sending end of a link on which nothing was sent. Texts will be of this version.
+fn new_windows(alloc: Global, version: Version) -> [Window; NODES]
+    ensures { result ≡ replicate MOST (new_frames version) }
 {
     [
-        Window::new(alloc),
-        Window::new(alloc),
-        Window::new(alloc),
-        Window::new(alloc),
-        Window::new(alloc),
-        Window::new(alloc),
-        Window::new(alloc),
-        Window::new(alloc),
-        Window::new(alloc),
-        Window::new(alloc),
-        Window::new(alloc),
-        Window::new(alloc),
-        Window::new(alloc),
-        Window::new(alloc),
-        Window::new(alloc),
-        Window::new(alloc),
-        Window::new(alloc),
-        Window::new(alloc),
-        Window::new(alloc),
-        Window::new(alloc),
-        Window::new(alloc),
-        Window::new(alloc),
-        Window::new(alloc),
-        Window::new(alloc),
-        Window::new(alloc),
-        Window::new(alloc),
-        Window::new(alloc),
-        Window::new(alloc),
-        Window::new(alloc),
-        Window::new(alloc),
-        Window::new(alloc),
-        Window::new(alloc),
+        Window::new(alloc, version),
+        Window::new(alloc, version),
+        Window::new(alloc, version),
+        Window::new(alloc, version),
+        Window::new(alloc, version),
+        Window::new(alloc, version),
+        Window::new(alloc, version),
+        Window::new(alloc, version),
+        Window::new(alloc, version),
+        Window::new(alloc, version),
+        Window::new(alloc, version),
+        Window::new(alloc, version),
+        Window::new(alloc, version),
+        Window::new(alloc, version),
+        Window::new(alloc, version),
+        Window::new(alloc, version),
+        Window::new(alloc, version),
+        Window::new(alloc, version),
+        Window::new(alloc, version),
+        Window::new(alloc, version),
+        Window::new(alloc, version),
+        Window::new(alloc, version),
+        Window::new(alloc, version),
+        Window::new(alloc, version),
+        Window::new(alloc, version),
+        Window::new(alloc, version),
+        Window::new(alloc, version),
+        Window::new(alloc, version),
+        Window::new(alloc, version),
+        Window::new(alloc, version),
+        Window::new(alloc, version),
+        Window::new(alloc, version),
     ]
 }
 
@@ -196,7 +198,7 @@ impl Node {
                 plan.places,
                 &plan.admin_key,
             ),
-            windows: new_windows(alloc),
+            windows: new_windows(alloc, plan.version),
             receivers: new_receivers(),
             detector: Detector::new(plan.me, plan.nodes, plan.silence),
             stopped: false,
@@ -250,6 +252,13 @@ impl Node {
         self.is_another(to) && !self.detector.noticed().contains(to)
     }
 
+    /// Whether one more frame may be sent to the node.
+    fn has_room(&self, to: NodeId) -> bool
+        ensures { result ≡ has_room (window_to self.now to.number) }
+    {
+        self.windows[to.index()].room()
+    }
+
     /// The head of a packet to another node, with this frame's number: it acknowledges what came from there so far.
     fn head(&self, to: NodeId, frame: u64) -> Head
         requires { is_another self.now to ≡ true }
@@ -274,11 +283,11 @@ impl Node {
     fn push_batch(&mut self, to: NodeId, count: u16, bytes: usize) -> Result<u64, OutOfMemory>
         requires room { has_room (window_to self.old to.number) ≡ true }
         requires some { 0 < count }
-        requires count { count ≡ length (batch to.number (room_of self.old.table.version) self.old.table.groups) }
-        requires bytes { bytes ≡ sum_by size (batch to.number (room_of self.old.table.version) self.old.table.groups) }
+        requires count { count ≡ length (batch self.old.table.version to.number (room_of self.old.table.version) self.old.table.groups) }
+        requires bytes { bytes ≡ sum_by (size self.old.table.version) (batch self.old.table.version to.number (room_of self.old.table.version) self.old.table.groups) }
         ensures state { OnOk result (self.new ≡ sent_batch to (Some (batch_to self.old.table to)) self.old) }
         ensures frame { IfOk result (λ number. (0 < number) × (number ≡ (window_to self.old to.number).next) × (frame_again (window_to self.new to.number) number ≡ Some (number, batch_to self.old.table to))) }
-        ensures texts { OnOk result (length (items_text (batch_to self.old.table to)) ≡ bytes) }
+        ensures texts { OnOk result (length (items_text self.old.table.version (batch_to self.old.table to)) ≡ bytes) }
         ensures err { OnErr result (self.new ≡ self.old) }
     {
         let window = &mut self.windows[to.index()];
@@ -288,7 +297,7 @@ impl Node {
     /// The texts of the frame for a node with this number that was not acknowledged, and the number; for 0 the lowest
     /// such frame.
     fn undone(&self, to: NodeId, number: u64) -> Option<(u64, &[u8])>
-        ensures { MatchOption result (frame_again (window_to self.now to.number) number ≡ None) (λ r. (frame_again (window_to self.now to.number) number ≡ Some (r.0, batch_in r.1.now)) × IsBatch r.1.now × (0 < r.0) × FitPacket self.now.table.version (batch_in r.1.now)) }
+        ensures { MatchOption result (frame_again (window_to self.now to.number) number ≡ None) (λ r. (frame_again (window_to self.now to.number) number ≡ Some (r.0, batch_in self.now.table.version r.1.now)) × IsBatch self.now.table.version r.1.now × (0 < r.0) × FitPacket self.now.table.version (batch_in self.now.table.version r.1.now)) }
     {
         self.windows[to.index()].again(number)
     }
@@ -301,7 +310,7 @@ impl Node {
         requires frame { IsSome (frame_again (window_to self.now to.number) number) }
         requires count { length (items_of_frame (frame_again (window_to self.now to.number) number)) ≡ count }
         requires empty { packet.items ≡ [] }
-        requires room { SHORTEST + length (items_text (items_of_frame (frame_again (window_to self.now to.number) number))) ≤ vec_capacity packet }
+        requires room { SHORTEST + length (items_text self.now.table.version (items_of_frame (frame_again (window_to self.now to.number) number))) ≤ vec_capacity packet }
         ensures text { result ≡ packet_text self.now.key (content_to self.now to number (items_of_frame (frame_again (window_to self.now to.number) number))) }
         ensures packet { IsPacket (content_to self.now to number (items_of_frame (frame_again (window_to self.now to.number) number))) }
     {
@@ -321,8 +330,8 @@ impl Node {
         requires another { is_another self.old to ≡ true }
         requires room { has_room (window_to self.old to.number) ≡ true }
         requires some { 0 < count }
-        requires count { count ≡ length (batch to.number (room_of self.old.table.version) self.old.table.groups) }
-        requires bytes { bytes ≡ sum_by size (batch to.number (room_of self.old.table.version) self.old.table.groups) }
+        requires count { count ≡ length (batch self.old.table.version to.number (room_of self.old.table.version) self.old.table.groups) }
+        requires bytes { bytes ≡ sum_by (size self.old.table.version) (batch self.old.table.version to.number (room_of self.old.table.version) self.old.table.groups) }
         requires most { bytes ≤ room_of self.old.table.version }
         ensures packet { IfOk result (λ p. p ≡ packet_text self.old.key (content_to self.old to (window_to self.old to.number).next (batch_to self.old.table to))) }
         ensures spelt { OnOk result (IsPacket (content_to self.old to (window_to self.old to.number).next (batch_to self.old.table to))) }
@@ -345,7 +354,7 @@ impl Node {
         if self.stopped {
             return Sent::Refused(Refusal::Stopped);
         }
-        if !self.is_reached(to) || !self.windows[to.index()].room() {
+        if !self.is_reached(to) || !self.has_room(to) {
             return Sent::Nothing;
         }
         let (count, bytes) = self.table.measure(to, room(self.table.version()));
@@ -362,13 +371,13 @@ impl Node {
     fn frame(&self, to: NodeId, number: u64, texts: &[u8]) -> Result<PacketText, OutOfMemory>
         requires another { is_another self.now to ≡ true }
         requires number { 0 < number }
-        requires batch { IsBatch texts.now }
-        requires fit { FitPacket self.now.table.version (batch_in texts.now) }
-        ensures text { IfOk result (λ p. p ≡ packet_text self.now.key (content_to self.now to number (batch_in texts.now))) }
-        ensures packet { OnOk result (IsPacket (content_to self.now to number (batch_in texts.now))) }
+        requires batch { IsBatch self.now.table.version texts.now }
+        requires fit { FitPacket self.now.table.version (batch_in self.now.table.version texts.now) }
+        ensures text { IfOk result (λ p. p ≡ packet_text self.now.key (content_to self.now to number (batch_in self.now.table.version texts.now))) }
+        ensures packet { OnOk result (IsPacket (content_to self.now to number (batch_in self.now.table.version texts.now))) }
     {
         let packet = Vec::with_capacity(self.alloc, SHORTEST + texts.len())?;
-        let count = count_items(texts);
+        let count = count_items(self.table.version(), texts);
         Ok(frame_packet(self.head(to, number), count, texts, self.key.key(), packet))
     }
 

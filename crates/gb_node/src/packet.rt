@@ -14,7 +14,7 @@ use gb_frame::writing::wrap;
 use gb_types::memory::OutOfMemory;
 use std::alloc::Global;
 
-/// The packet with this head and the frame of so many items with these texts, written into an empty vector with room for it.
+/// The packet with this head and the frame of so many items with these texts, which are of the head's version, written into an empty vector with room for it.
 pub fn frame_packet(
     head: Head,
     count: u16,
@@ -24,13 +24,13 @@ pub fn frame_packet(
 ) -> PacketText
     requires head { IsHead head }
     requires frame { 0 < head.frame }
-    requires batch { IsBatch texts.now }
-    requires fit { FitPacket head.version (batch_in texts.now) }
-    requires count { length (batch_in texts.now) ≡ count }
+    requires batch { IsBatch head.version texts.now }
+    requires fit { FitPacket head.version (batch_in head.version texts.now) }
+    requires count { length (batch_in head.version texts.now) ≡ count }
     requires empty { packet.items ≡ [] }
     requires room { SHORTEST + length texts.now ≤ vec_capacity packet }
-    ensures text { result ≡ packet_text key.now (packet_of head (batch_in texts.now)) }
-    ensures packet { IsPacket (packet_of head (batch_in texts.now)) }
+    ensures text { result ≡ packet_text key.now (packet_of head (batch_in head.version texts.now)) }
+    ensures packet { IsPacket (packet_of head (batch_in head.version texts.now)) }
 {
     wrap(head, count, texts, key, &mut packet);
     PacketText::from(packet)

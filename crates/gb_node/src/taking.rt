@@ -15,6 +15,7 @@ use gb_table::table::Table;
 use gb_types::address::Addr;
 use gb_types::message::MsgId;
 use gb_types::node::{NodeId, NodeSet};
+use gb_types::version::Version;
 
 /// An item is acknowledged by a node.
 fn finish_item(table: &mut Table, by: NodeId, item: ItemView<'_>)
@@ -35,12 +36,12 @@ fn finish_item(table: &mut Table, by: NodeId, item: ItemView<'_>)
     table.done(by, addr, m);
 }
 
-/// A frame with these texts is acknowledged by a node: each of its items is, in order.
-fn finish_frame(table: &mut Table, by: NodeId, texts: &[u8])
-    requires { IsBatch texts.now }
-    ensures { table.new ≡ fold (item_done by) table.old (batch_in texts.now) }
+/// A frame with these texts, which are of this version, is acknowledged by a node: each of its items is, in order.
+fn finish_frame(table: &mut Table, by: NodeId, version: Version, texts: &[u8])
+    requires { IsBatch version texts.now }
+    ensures { table.new ≡ fold (item_done by) table.old (batch_in version texts.now) }
 {
-    for item in ItemViews::of_texts(texts) {
+    for item in ItemViews::of_texts(version, texts) {
         finish_item(table, by, item);
     }
 }
@@ -48,15 +49,16 @@ fn finish_frame(table: &mut Table, by: NodeId, texts: &[u8])
 /// Takes an acknowledgement from a node: the frames that it newly covers are done, by rising number. How many these
 /// are, at most 64.
 pub fn take_ack(table: &mut Table, window: &mut Window, by: NodeId, base: u64, mask: u64) -> u32
-    ensures count { result ≡ length (freed window.old base mask) }
-    ensures window { window.new ≡ without_done base mask window.old }
-    ensures table { table.new ≡ fold (frame_done by) table.old (freed window.old base mask) }
+    ensures count { result ≡ length (freed window.old.window base mask) }
+    ensures window { window.new ≡ record window.old { window = without_done base mask window.old.window } }
+    ensures table { table.new ≡ fold (frame_done by) table.old (freed window.old.window base mask) }
 {
     // The proof reads how many frames may be undone.
     let _ = window.room();
+    let version = window.version();
     let mut done = 0;
     while let Some((_, texts)) = window.acked(base, mask) {
-        finish_frame(table, by, &texts);
+        finish_frame(table, by, version, &texts);
         window.reuse(texts);
         done += 1;
     }

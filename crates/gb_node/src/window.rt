@@ -3,7 +3,8 @@ ghost use Rattle.std.specs.Prelude.{◌≡◌, ◌<◌, ◌∷◌, [], true, len
 ghost use Rattle.gb_frame.specs.Room.{room_of};
 ghost use Rattle.gb_frame.specs.Batch.{batch_in, IsBatch, FitPacket};
 ghost use Rattle.gb_frame.specs.Spelling.{items_text};
-ghost use Rattle.gb_link.specs.SendWindow.{IsWindow, new_window, has_room, pushed, frame_again, freed, acknowledged};
+ghost use Rattle.gb_node.specs.Frames.{new_frames};
+ghost use Rattle.gb_link.specs.SendWindow.{IsWindow, has_room, pushed, frame_again, freed, acknowledged};
 ghost use Rattle.gb_groups.specs.GroupsValue.{batch};
 ghost use Rattle.gb_groups.specs.Packing.{size};
 ghost use Rattle.gb_table.specs.TableValue.{table_packed};
@@ -15,50 +16,58 @@ use gb_link::spaced::SpacedSender;
 use gb_table::table::Table;
 use gb_types::memory::OutOfMemory;
 use gb_types::node::NodeId;
+use gb_types::version::Version;
 use std::alloc::Global;
 use std::marker::Model;
 
-/// The frames to a node that are not acknowledged, each a batch of items. Contracts see the items; kept are their texts,
-/// each payload once.
+/// The frames to a node that are not acknowledged, each a batch of items. Contracts see the items; kept are their texts in one
+/// version, each payload once.
 #[derive(Drop)]
 pub struct Window {
+    /// The version of the texts.
+    version: Version,
     sender: SpacedSender<Vec<u8>>,
 }
 
 impl Model for Window {
-    ghost use Rattle.std.specs.Prelude.{List};
-    ghost use Rattle.gb_frame.specs.declared.item.Item.{Item};
-    ghost use Rattle.gb_link.specs.SendWindow.{SendWindow};
-    ghost use Rattle.gb_node.specs.Frames.{window_of, AreBatches};
+    ghost use Rattle.gb_node.specs.Frames.{FrameWindow, window_of, AreBatches};
 
-    ghost Value = { SendWindow (List Item) };
+    ghost Value = { FrameWindow };
 
-    ghost view = { λ w. window_of w.sender.window };
+    ghost view = { λ w. record { version = w.version; window = window_of w.version w.sender.window } };
 
-    ghost invariant = { λ w. AreBatches w.sender.window.undone };
+    ghost invariant = { λ w. AreBatches w.version w.sender.window.undone };
 }
 
 impl Window {
-    /// Nothing was sent.
-    pub fn new(alloc: Global) -> Window
-        ensures { result ≡ new_window }
+    /// Nothing was sent. Texts will be of this version.
+    pub fn new(alloc: Global, version: Version) -> Window
+        ensures { result ≡ new_frames version }
     {
         Window {
+            version,
             sender: SpacedSender::new(alloc),
         }
     }
 
+    /// The version of the texts.
+    pub fn version(&self) -> Version
+        ensures { result ≡ self.now.version }
+    {
+        self.version
+    }
+
     /// Whether one more frame may be sent.
     pub fn room(&self) -> bool
-        ensures room { result ≡ has_room self.now }
-        ensures window { IsWindow self.now }
+        ensures room { result ≡ has_room self.now.window }
+        ensures window { IsWindow self.now.window }
     {
         self.sender.room()
     }
 
     /// The texts of the frame with this number that is not acknowledged, and the number; for 0 the lowest such frame.
     pub fn again(&self, number: u64) -> Option<(u64, &[u8])>
-        ensures { MatchOption result (frame_again self.now number ≡ None) (λ r. (frame_again self.now number ≡ Some (r.0, batch_in r.1.now)) × IsBatch r.1.now × (0 < r.0)) }
+        ensures { MatchOption result (frame_again self.now.window number ≡ None) (λ r. (frame_again self.now.window number ≡ Some (r.0, batch_in self.now.version r.1.now)) × IsBatch self.now.version r.1.now × (0 < r.0)) }
     {
         // The proof reads that frames are numbered from 1.
         let _ = self.sender.room();
@@ -71,8 +80,8 @@ impl Window {
     /// Hands out the texts of the lowest frame that the acknowledgement covers, with its number; it is done then. To take
     /// an acknowledgement whole, call until there is none.
     pub fn acked(&mut self, base: u64, mask: u64) -> Option<(u64, Vec<u8>)>
-        ensures first { MatchOption result (freed self.old base mask ≡ []) (λ u. (freed self.old base mask ≡ (u.0, batch_in u.1.items) ∷ freed self.new base mask) × IsBatch u.1.items) }
-        ensures done { self.new ≡ acknowledged self.old base mask }
+        ensures first { MatchOption result (freed self.old.window base mask ≡ []) (λ u. (freed self.old.window base mask ≡ (u.0, batch_in self.old.version u.1.items) ∷ freed self.new.window base mask) × IsBatch self.old.version u.1.items) }
+        ensures done { self.new ≡ record self.old { window = acknowledged self.old.window base mask } }
     {
         self.sender.acked(base, mask)
     }
@@ -93,13 +102,14 @@ impl Window {
         count: u16,
         bytes: usize,
     ) -> Result<u64, OutOfMemory>
-        requires room { has_room self.old ≡ true }
+        requires version { self.old.version ≡ table.old.version }
+        requires room { has_room self.old.window ≡ true }
         requires some { 0 < count }
-        requires count { count ≡ length (batch to.number (room_of table.old.version) table.old.groups) }
-        requires bytes { bytes ≡ sum_by size (batch to.number (room_of table.old.version) table.old.groups) }
-        ensures frame { IfOk result (λ number. (0 < number) × (number ≡ self.old.next) × (frame_again self.new number ≡ Some (number, batch_to table.old to))) }
-        ensures texts { OnOk result (length (items_text (batch_to table.old to)) ≡ bytes) }
-        ensures window { OnOk result (self.new ≡ pushed self.old (batch_to table.old to)) }
+        requires count { count ≡ length (batch table.old.version to.number (room_of table.old.version) table.old.groups) }
+        requires bytes { bytes ≡ sum_by (size table.old.version) (batch table.old.version to.number (room_of table.old.version) table.old.groups) }
+        ensures frame { IfOk result (λ number. (0 < number) × (number ≡ self.old.window.next) × (frame_again self.new.window number ≡ Some (number, batch_to table.old to))) }
+        ensures texts { OnOk result (length (items_text table.old.version (batch_to table.old to)) ≡ bytes) }
+        ensures window { OnOk result (self.new ≡ record self.old { window = pushed self.old.window (batch_to table.old to) }) }
         ensures fit { OnOk result (FitPacket table.old.version (batch_to table.old to)) }
         ensures table { OnOk result (table.new ≡ table_packed to.number (room_of table.old.version) table.old) }
         ensures err { OnErr result ((self.new ≡ self.old) × (table.new ≡ table.old)) }

@@ -5,4 +5,4 @@ use Rattle.gb_node.specs.NodeStep.{item_done}
 use Rattle.gb_node.proofs.taking.finish_frame.Given as goal
 
 abbrev pub invariant-loop-item : goal.invariant-loop-item
-invariant-loop-item l = fold (item_done l.by) l.table l.item-iterator ≡ fold (item_done l.by) l.initial.table (batch_in l.texts)
+invariant-loop-item l = fold (item_done l.by) l.table l.item-iterator ≡ fold (item_done l.by) l.initial.table (batch_in l.fn.version l.texts)

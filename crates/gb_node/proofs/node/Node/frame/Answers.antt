@@ -1,13 +1,15 @@
 use Rattle.std.proofs.Common.{subst}
 use Rattle.gb_frame.specs.Spelling.{IsPacket}
 use Rattle.std.proofs.Common.{ap, ◌∙◌}
+use Rattle.gb_types.specs.declared.version.Version.{Version}
+use Rattle.gb_frame.specs.Packet.{packet_of}
 use Rattle.gb_frame.specs.Batch.{batch_in}
 use Rattle.gb_node.specs.NodeValue.{NodeValue}
 use Rattle.gb_node.proofs.NodeLemmas.{written}
 use Rattle.gb_node.proofs.node.Node.frame.Goals as goal
 
 pub returns-clause-text : goal.returns-clause-text
-returns-clause-text c = written c.args.self.now c.args.to c.args.number (batch_in c.args.texts.now) _ _ _ c.frame_packet.ensures.text (c.key.ensures ∙ ap (λ (v : NodeValue). v.key) c.self.view_is) (c.head.ensures.content _)
+returns-clause-text c = written c.args.self.now c.args.to c.args.number (batch_in c.args.self.now.table.version c.args.texts.now) _ _ _ c.frame_packet.ensures.text (c.key.ensures ∙ ap (λ (v : NodeValue). v.key) c.self.view_is) (ap (λ (v : Version). packet_of c.head.result (batch_in v c.args.texts.now)) c.head.ensures.version ∙ c.head.ensures.content (batch_in c.args.self.now.table.version c.args.texts.now))
 
 pub returns-clause-packet : goal.returns-clause-packet
-returns-clause-packet c = subst IsPacket (c.head.ensures.content (batch_in c.args.texts.now)) c.frame_packet.ensures.packet
+returns-clause-packet c = subst IsPacket (ap (λ (v : Version). packet_of c.head.result (batch_in v c.args.texts.now)) c.head.ensures.version ∙ c.head.ensures.content (batch_in c.args.self.now.table.version c.args.texts.now)) c.frame_packet.ensures.packet

@@ -10,4 +10,4 @@ pub write_frame-requires-clause-count : goal.write_frame-requires-clause-count
 write_frame-requires-clause-count c =
     let groups = c.args.self.now.table.groups in
     let sent = ap (λ frame. length (items_of_frame frame)) c.in_ok-number.ensures.frame.2 in
-    sent ∙ (length-map (batch c.args.to.number (room_of c.args.self.now.table.version) groups) (item_at groups.rows) ∙ sym c.requires.count)
+    sent ∙ (length-map (batch c.args.self.now.table.version c.args.to.number (room_of c.args.self.now.table.version) groups) (item_at groups.rows) ∙ sym c.requires.count)
