@@ -20,14 +20,17 @@ import sys
 KEY = bytes([0x11] * 32)
 HEAD = ">2sBBBQQQH"  # magic, version, sender, destination, base, mask, frame number, count of items
 ITEM = ">HHBHH"  # tenant, group, origin, sequence number, length
+GENERATION_ITEM = ">HHIBHH"  # tenant, group, generation, origin, sequence number, length
+ITEMS = {1: ITEM, 2: ITEM, 3: GENERATION_ITEM}
 TAG = 8
 
 Limits = collections.namedtuple("Limits", "nodes payload packet")
-LIMITS = {1: Limits(16, 1_024, 8_192), 2: Limits(32, 4_096, 16_384)}
+LIMITS = {1: Limits(16, 1_024, 8_192), 2: Limits(32, 4_096, 16_384), 3: Limits(32, 4_096, 16_384)}
 
 FAULTS = "Short Magic Version Node Mask Count Length Trailing TooLong Tag".split()
 
-Packet = collections.namedtuple("Packet", "version sender destination base mask frame payloads")
+# The generations are one for each payload; the form is the struct of an item's header.
+Packet = collections.namedtuple("Packet", "version sender destination base mask frame payloads generations form")
 
 
 def tag(text):
@@ -35,10 +38,13 @@ def tag(text):
 
 
 def written(packet):
-    """The text of a packet. Its items are messages 1, 2, .. of its sender in group 1 of tenant 7."""
+    """The text of a packet. Its items are messages 1, 2, .. of its sender in each of their generations of group 1 of tenant 7."""
     text = struct.pack(HEAD, b"GB", *packet[:6], len(packet.payloads))
-    for place, payload in enumerate(packet.payloads):
-        text += struct.pack(ITEM, 7, 1, packet.sender, 1 + place, len(payload)) + payload
+    said = collections.Counter()
+    for generation, payload in zip(packet.generations, packet.payloads):
+        said[generation] += 1
+        named = (7, 1, generation) if packet.form == GENERATION_ITEM else (7, 1)
+        text += struct.pack(packet.form, *named, packet.sender, said[generation], len(payload)) + payload
     return text + tag(text)
 
 
@@ -61,10 +67,10 @@ def fault(text):
         return 6
     place = head
     for _ in range(count):
-        payload = place + struct.calcsize(ITEM)
+        payload = place + struct.calcsize(ITEMS[version])
         if payload > end:
             return 7
-        length = struct.unpack(ITEM, text[place:payload])[4]
+        length = struct.unpack(ITEMS[version], text[place:payload])[-1]
         if length > limits.payload or payload + length > end:
             return 7
         place = payload + length
@@ -84,12 +90,13 @@ def payloads(lengths):
     return [bytes([0x61 + place]) * length for place, length in enumerate(lengths)]
 
 
-def message(version, sender=0, destination=1, lengths=(1,)):
-    return Packet(version, sender, destination, 1, 0, 1, payloads(lengths))
+def message(version, sender=0, destination=1, lengths=(1,), generations=None, form=None):
+    form = form or ITEMS.get(version, ITEM)
+    return Packet(version, sender, destination, 1, 0, 1, payloads(lengths), generations or len(lengths) * [0], form)
 
 
 def acknowledgement(version):
-    return Packet(version, 1, 0, 1, 2, 0, [])
+    return Packet(version, 1, 0, 1, 2, 0, [], [], ITEM)
 
 
 # What each packet is, the packet, and its fault.
@@ -102,7 +109,9 @@ SHORT = [
     ("the same in version 1", message(1, 31, 0), 4),
     ("version 2, message 1 of node 32 to node 0", message(2, 32, 0), 4),
     ("message 1 of node 0 to node 1, with version byte 0", message(0), 3),
-    ("the same with version byte 3", message(3), 3),
+    ("the same with version byte 3", message(3, form=ITEM), 7),
+    ("the same with version byte 4", message(4), 3),
+    ("version 3, message 1 of node 0 in generation 0 and message 1 in generation 1", message(3, 0, 1, [1, 1], [0, 1]), 0),
 ]
 
 # Packets with long payloads, and their faults.
@@ -115,6 +124,10 @@ LONG = [
     (message(2, 31, 0, [4_097]), 7),
     (message(2, 31, 0, 3 * [4_096] + [4_021]), 0),
     (message(2, 31, 0, 3 * [4_096] + [4_022]), 9),
+    (message(3, 31, 0, [4_096]), 0),
+    (message(3, 31, 0, [4_097]), 7),
+    (message(3, 31, 0, 3 * [4_096] + [4_005]), 0),
+    (message(3, 31, 0, 3 * [4_096] + [4_006]), 9),
 ]
 
 
@@ -135,7 +148,7 @@ def tables():
     yield "|---|---|---|---|---|---|---|---|---|"
     for packet, number in LONG:
         text = written(packet)
-        before = text[: struct.calcsize(HEAD) + struct.calcsize(ITEM)]
+        before = text[: struct.calcsize(HEAD) + struct.calcsize(packet.form)]
         yield " | ".join((
             f"| {packet.version} | {packet.sender} | {packet.destination} | {lengths_told(packet)} | {len(text):,}",
             f"`{before.hex()}` | `{text[-TAG:].hex()}` | `{hashlib.sha256(text).hexdigest()}` | {answer(number)} |"))

@@ -76,7 +76,7 @@ class WrongPhase(Refused):
 
 
 class TooLong(Refused):
-    """The payload has more than 1,024 bytes in version 1, or 4,096 bytes in version 2."""
+    """The payload has more than 1,024 bytes in version 1, or 4,096 bytes in versions 2 and 3."""
 
     number, name = 7, "TooLong"
 

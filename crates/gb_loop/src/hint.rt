@@ -2,6 +2,7 @@
 use gb_frame::limits::{HEADER, TAG};
 use gb_frame::view::ItemViews;
 use gb_types::address::Addr;
+use gb_types::version::Version;
 
 /// What a packet acknowledges: every frame below `base`, and `base + i` where bit i of the mask is set.
 #[derive(Clone, Copy)]
@@ -33,9 +34,12 @@ pub fn put_addresses(bytes: &[u8], addresses: &mut Vec<Addr>) -> bool {
     if bytes.len() < HEADER + TAG {
         return true;
     }
+    let Some(version) = Version::from_byte(bytes[2]) else {
+        return true;
+    };
     let mut is_whole = true;
     let texts = &bytes[HEADER..bytes.len() - TAG];
-    for item in ItemViews::of_texts(texts) {
+    for item in ItemViews::of_texts(version, texts) {
         let address = Addr {
             tenant: item.tenant,
             group: item.group,

@@ -7,7 +7,7 @@ use Rattle.std.proofs.lemmas.List.{take_more_set, map-append, take_all, take_mor
 use Rattle.std.proofs.lemmas.List.Splits.{slice_split_none, slice_split_at, join_with_byte-slice_split}
 use Rattle.gb_types.specs.declared.limits.TheConstants.{NODES}
 use Rattle.gb_types.specs.declared.version.Version.{Version}
-use Rattle.gb_types.specs.declared.version.Version.TheVariants.{One, Two}
+use Rattle.gb_types.specs.declared.version.Version.TheVariants.{One, Two, Three}
 use Rattle.gb_types.specs.Version.{limits_of, version_at, version_named}
 use Rattle.gb_types.proofs.MembersLemmas.{parts_of, lacks}
 use Rattle.gb_types.proofs.ReadLemmas.{Reads, found, only, reads_one, some_same}
@@ -21,6 +21,7 @@ number version = decimal (limits_of version).byte
 pub byte_is_small : (v : Version) → (limits_of v).byte ≤ 255
 byte_is_small One = omega arith
 byte_is_small Two = omega arith
+byte_is_small Three = omega arith
 
 -- versions with one number are equal
 pub same_version : (v w : Version) → number v ≡ number w → v ≡ w
