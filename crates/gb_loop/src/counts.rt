@@ -43,14 +43,29 @@ pub(crate) fn refused_figure(why: Refusal) -> Figure {
     }
 }
 
-// Counts a request under `asked`, and what was replied to it.
-pub(crate) fn count_reply(figures: &mut Figures, asked: Figure, reply: &Reply) {
+// Returns how many places for groups a request reserves where it is done.
+pub(crate) fn places_asked(request: &Request) -> u64 {
+    match request {
+        Request::AddTenant(_, row) => u64::from(row.groups),
+        _ => 0,
+    }
+}
+
+// Notes that places for groups were reserved.
+fn reserve(figures: &mut Figures, places: u64) {
+    let left = figures.value(Figure::PlacesLeft).saturating_sub(places);
+    figures.set(Figure::PlacesLeft, left);
+}
+
+// Counts a request under `asked`, and what was replied to it. Where it was done it reserved this number of places for groups.
+pub(crate) fn count_reply(figures: &mut Figures, asked: Figure, places: u64, reply: &Reply) {
     figures.add(asked, 1);
     match reply {
         Reply::Said(_) => figures.add(Figure::Said, 1),
         Reply::Log(entries) => figures.add(Figure::Fetched, entries.as_slice().len() as u64),
         Reply::Refused(why) => figures.add(refused_figure(*why), 1),
         Reply::Done => match asked {
+            Figure::RequestsTenant => reserve(figures, places),
             Figure::RequestsMake => figures.add(Figure::GroupsMade, 1),
             Figure::RequestsDrop => figures.add(Figure::GroupsDropped, 1),
             _ => {}

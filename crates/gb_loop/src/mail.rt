@@ -11,7 +11,7 @@ ghost use Rattle.gb_worker.specs.Carried.{GivesNothing, HasCarried};
 ghost use Rattle.gb_worker.specs.Gained.{noted};
 ghost use Rattle.gb_loop.specs.Mailed.{HasCalled, HasMailed};
 
-use crate::counts::{asked_figure, count_packet, count_reply, count_tick, sent_figure};
+use crate::counts::{asked_figure, count_packet, count_reply, count_tick, places_asked, sent_figure};
 use crate::hint::{Hint, hint_of, put_addresses};
 use crate::operate::operate;
 use gb_host::fault::HostFault;
@@ -254,6 +254,8 @@ impl<'a, L: Tapes, H: Wait, P: Port> Mail<'a, L, H, P> {
             port: Snapshot::of(&port),
             seat: Snapshot::of(&seat),
         };
+        let mut figures = Figures::new();
+        figures.set(Figure::PlacesLeft, u64::from(host.plan().cluster.places));
         Mail {
             rt,
             host,
@@ -265,7 +267,7 @@ impl<'a, L: Tapes, H: Wait, P: Port> Mail<'a, L, H, P> {
             is_touched: false,
             is_short: false,
             ends: AtomicBool::new(false),
-            figures: Figures::new(),
+            figures,
         }
     }
 
@@ -428,9 +430,10 @@ impl<'a, L: Tapes, H: Wait, P: Port> Answers for Mail<'a, L, H, P> {
     fn answer(&mut self, request: Request) -> Reply {
         let address = changed_by(&request);
         let asked = asked_figure(&request);
+        let places = places_asked(&request);
         let event = NodeEvent::Request(request);
         let reply = reply_of(ask(self.rt, self.host, &mut self.seat, self.origin.node, event));
-        count_reply(&mut self.figures, asked, &reply);
+        count_reply(&mut self.figures, asked, places, &reply);
         if let Some(address) = address {
             self.touch(address);
         }

@@ -12,6 +12,7 @@ use gb_host::host::Host;
 use gb_host::names::Tapes;
 use gb_host::seat::Seat;
 use gb_port::port::Port;
+use gb_status::figure::Figure;
 use gb_status::figures::Figures;
 use gb_types::address::Addr;
 use gb_types::memory::OutOfMemory;
@@ -59,7 +60,8 @@ pub trait Ending {
     /// An administrator has asked for the end at a node.
     fn asked(&self) {}
 
-    /// What a node counted until its last tick, and the nodes that it noticed. Told once a tick.
+    /// What a node counted until its last tick, and the nodes that it noticed. Told when the loop begins, once a tick, and when it has
+    /// ended.
     fn publish(&self, _node: NodeId, _figures: &Figures, _noticed: &NodeSet) {}
 }
 
@@ -263,6 +265,8 @@ impl<'a, L: Tapes, H: Wait + Clock, P: Port> NodeLoop<'a, L, H, P> {
             return;
         };
         ending.begun();
+        self.mail.set(Figure::Running, 1);
+        self.publish(ending);
         'rounds: for _ in self.rt.forever() {
             if ending.is_over() {
                 break;
@@ -270,6 +274,7 @@ impl<'a, L: Tapes, H: Wait + Clock, P: Port> NodeLoop<'a, L, H, P> {
             self.round(&mut poll, &mut events, ending);
         }
         self.finish();
+        self.mail.set(Figure::Running, 0);
         self.publish(ending);
     }
 

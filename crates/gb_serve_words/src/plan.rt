@@ -1,5 +1,6 @@
 //! What a server is told to do.
 use gb_types::version::Version;
+use std::net::SocketAddr;
 
 /// What the words of a command line tell a server to do.
 #[derive(Clone, Copy, PartialEq, Eq)]
@@ -26,4 +27,8 @@ pub struct ServePlan {
     pub tape: bool,
     /// Whether the server ends in order when standard input ends.
     pub stop_at_end: bool,
+    /// Where HTTP requests for the figures and the state of the nodes are answered; `None`: nowhere.
+    pub status: Option<SocketAddr>,
+    /// Whether no log is written.
+    pub quiet: bool,
 }

@@ -1,7 +1,7 @@
 //! The words of the server's command line.
-ghost use Rattle.std.specs.Prelude.{◌≡◌, ◌≢◌, ◌⊎◌, IfOk, IfSome, IfNone, None, map, [], true, false};
-ghost use Rattle.clap.specs.Words.{app_of, found_of, kind_of, matches_of, rows_of, rule_of, takes, fault_of};
-ghost use Rattle.gb_serve_words.specs.Words.{serve_app, number_rule, flag_rule, IsGiven, IsPlanOf, IsWithin, CanName};
+ghost use Rattle.std.specs.Prelude.{◌≡◌, ◌≢◌, ◌⊎◌, IfOk, IfSome, IfNone, None, codes, map, [], true, false};
+ghost use Rattle.clap.specs.Words.{app_of, found_of, kind_of, matches_of, one_of, rows_of, rule_of, takes, fault_of};
+ghost use Rattle.gb_serve_words.specs.Words.{serve_app, number_rule, text_rule, flag_rule, HasAddress, IsAddressOf, IsGiven, IsPlanOf, IsWithin, CanServe};
 
 use crate::fault::WordFault;
 use crate::plan::ServePlan;
@@ -12,6 +12,7 @@ use gb_types::limits::NODES;
 use gb_types::version::Version;
 use gb_version::VERSION as PROGRAM;
 use std::alloc::{AllocError, Global};
+use std::net::SocketAddr;
 
 /// The silence of a cluster whose words give none.
 pub const SILENCE: u16 = 50;
@@ -39,6 +40,17 @@ fn number_arg<'a>(alloc: Global, name: &'static str, least: u16, most: u32) -> A
         .long(name)
         .action(ArgAction::Set)
         .value_parser(ValueParser::Signed(i64::from(least), i64::from(most)))
+}
+
+// An option with a text.
+fn text_arg<'a>(alloc: Global, name: &'static str) -> Arg<'a>
+    ensures rule { rule_of result ≡ text_rule name.entry.now }
+    ensures local { result.global ≡ false }
+{
+    Arg::new(alloc, name)
+        .long(name)
+        .action(ArgAction::Set)
+        .value_parser(ValueParser::String)
 }
 
 // An option without a value, which stands among the words or does not.
@@ -113,7 +125,13 @@ fn command<'a>(alloc: Global) -> Result<Command<'a>, AllocError>
     let stop_at_end = flag_arg(alloc, "stop-at-end").help(
         "end in order when standard input ends, as at its line `stop`",
     );
-    with_tape.arg(stop_at_end)
+    let with_stop = with_tape.arg(stop_at_end)?;
+    let status = text_arg(alloc, "status").value_name("ADDR").help(
+        "answer GET /metrics and GET /healthz by HTTP at this address, as 127.0.0.1:9100",
+    );
+    let with_status = with_stop.arg(status)?;
+    let quiet = flag_arg(alloc, "quiet").help("write no log to standard error");
+    with_status.arg(quiet)
 }
 
 /// What the help says behind the options.
@@ -138,12 +156,24 @@ fn fault_from(error: &Error) -> WordFault
     }
 }
 
-// Returns the plan of words that `clap` took; `None` where their version does not exist or cannot name their number of nodes.
+// Returns the address that is given for the status; `None` where its text is no address.
+fn status_of(matches: &ArgMatches<'_>) -> Option<Option<SocketAddr>>
+    ensures read { IfSome result (IsAddressOf (one_of (codes "status") (rows_of (found_of matches.now)))) }
+    ensures none { IfNone result (HasAddress (one_of (codes "status") (rows_of (found_of matches.now))) → ⊥) }
+{
+    match matches.try_get_one::<SocketAddr>("status") {
+        Ok(status) => Some(status),
+        Err(_) => None,
+    }
+}
+
+// Returns the plan of words that `clap` took; `None` where their version does not exist or cannot name their number of nodes, or their
+// address for the status is none.
 fn plan_of(matches: &ArgMatches<'_>) -> Option<ServePlan>
     requires { IsGiven (rows_of (found_of matches.now)) }
     ensures read { IfSome result (IsPlanOf (rows_of (found_of matches.now))) }
     ensures within { IfSome result IsWithin }
-    ensures none { IfNone result (CanName (rows_of (found_of matches.now)) → ⊥) }
+    ensures none { IfNone result (CanServe (rows_of (found_of matches.now)) → ⊥) }
 {
     let nodes = matches.get_one::<u8>("nodes").unwrap();
     let base_port = matches.get_one::<u16>("base-port").unwrap();
@@ -156,10 +186,12 @@ fn plan_of(matches: &ArgMatches<'_>) -> Option<ServePlan>
     let requests = matches.get_one::<u32>("session-requests");
     let tape = matches.get_flag("tape");
     let stop_at_end = matches.get_flag("stop-at-end");
+    let quiet = matches.get_flag("quiet");
     let version = Version::from_byte(byte.unwrap_or(VERSION))?;
     if nodes > version.limits().nodes {
         return None;
     }
+    let status = status_of(matches)?;
     Some(ServePlan {
         nodes,
         version,
@@ -172,19 +204,21 @@ fn plan_of(matches: &ArgMatches<'_>) -> Option<ServePlan>
         session_requests: requests.unwrap_or(0),
         tape,
         stop_at_end,
+        status,
+        quiet,
     })
 }
 
 /// Returns what the words of a command line tell a server to do; the first word is the program's name. Refused: `clap` refuses
-/// the words, or their version does not exist or cannot name their number of nodes.
+/// the words, their version does not exist or cannot name their number of nodes, or their address for the status is none.
 pub fn read_words<'a>(alloc: Global, words: &'a [&'a str]) -> Result<ServePlan, WordFault>
     ensures given { IfOk result (λ plan. IsPlanOf (matches_of serve_app (map (λ word. word.now) words.entry.now)) plan) }
     ensures within { IfOk result (λ plan. IsWithin plan) }
     ensures accepted { IfOk result (λ _. fault_of serve_app (map (λ word. word.now) words.entry.now) ≡ []) }
     ensures refused { result ≡ Err WordFault.Refused → (fault_of serve_app (map (λ word. word.now) words.entry.now) ≢ [])
-        ⊎ (CanName (matches_of serve_app (map (λ word. word.now) words.entry.now)) → ⊥) }
+        ⊎ (CanServe (matches_of serve_app (map (λ word. word.now) words.entry.now)) → ⊥) }
     ensures taken { takes serve_app (map (λ word. word.now) words.entry.now) ≡ true
-        → CanName (matches_of serve_app (map (λ word. word.now) words.entry.now)) → result ≢ Err WordFault.Refused }
+        → CanServe (matches_of serve_app (map (λ word. word.now) words.entry.now)) → result ≢ Err WordFault.Refused }
 {
     let command = command(alloc)?;
     match command.try_get_matches_from(words) {
@@ -197,7 +231,7 @@ pub fn read_words<'a>(alloc: Global, words: &'a [&'a str]) -> Result<ServePlan, 
 }
 
 // Why words that `clap` took are no plan; nothing of words that are one.
-fn version_refusal(alloc: Global, matches: &ArgMatches<'_>) -> Result<String, AllocError> {
+fn plan_refusal(alloc: Global, matches: &ArgMatches<'_>) -> Result<String, AllocError> {
     let nodes = matches.get_one::<u8>("nodes").unwrap_or(0);
     let byte = matches.get_one::<u8>("packet-version").unwrap_or(VERSION);
     let Some(version) = Version::from_byte(byte) else {
@@ -211,6 +245,12 @@ fn version_refusal(alloc: Global, matches: &ArgMatches<'_>) -> Result<String, Al
             "error: invalid value '{nodes}' for '--nodes <N>': packets of version {byte} can name {most}{HINT}"
         );
     }
+    if status_of(matches).is_none() {
+        let text = matches.get_str("status").unwrap_or("");
+        return format!(in alloc;
+            "error: invalid value '{text}' for '--status <ADDR>': an IP address and a port are wanted, as 127.0.0.1:9100 or [::1]:9100{HINT}"
+        );
+    }
     Ok(String::new(alloc))
 }
 
@@ -220,7 +260,7 @@ static HINT: &str = "\n\nFor more information, try '--help'.\n";
 /// Why words are refused; nothing of words that are a plan.
 pub fn refusal_text(alloc: Global, words: &[&str]) -> Result<String, AllocError> {
     match command(alloc)?.try_get_matches_from(words) {
-        Ok(matches) => version_refusal(alloc, &matches),
+        Ok(matches) => plan_refusal(alloc, &matches),
         Err(error) => format!(in alloc; "{error}"),
     }
 }

@@ -1,11 +1,12 @@
 -- What is told on standard error of a server that did not serve to its end.
 use Rattle.std.specs.Prelude.{ℕ, List, ◌++◌, codes, decimal}
+use Rattle.std.specs.Net.Text.{socket_text}
 use Rattle.gb_merge.specs.declared.fault.AuditFault.{AuditFault}
 use Rattle.gb_merge.specs.declared.fault.AuditFault.TheVariants as audit
 use Rattle.gb_server.specs.Told.{lined}
 use Rattle.gb_server.specs.declared.fault.ServeFault.{ServeFault}
 use Rattle.gb_server.specs.declared.fault.ServeFault.TheVariants.{RefusedWords, BadKeys, NoNode, ForeignSeat, Port, Differs, OutOfMemory, Full, Audit, Write}
-use Rattle.gb_server.specs.declared.sockets.PortName.TheVariants.{Udp, Tcp}
+use Rattle.gb_server.specs.declared.sockets.PortName.TheVariants.{Udp, Tcp, Status}
 use Rattle.gb_server.specs.declared.keys.KeyFault.{KeyFault}
 use Rattle.gb_server.specs.declared.keys.KeyFault.TheVariants as keys
 
@@ -32,6 +33,7 @@ fault_words NoNode = codes "a call at a node that is not there"
 fault_words ForeignSeat = codes "the seats are not those of the host"
 fault_words (Port (Udp port)) = codes "UDP port " ++ decimal port ++ codes " could not be bound"
 fault_words (Port (Tcp port)) = codes "TCP port " ++ decimal port ++ codes " could not be bound"
+fault_words (Port (Status address)) = codes "status address " ++ socket_text address ++ codes " could not be bound"
 fault_words Differs = codes "a node's calls are not its entries in the tapes"
 fault_words OutOfMemory = codes "out of memory, or no thread could be made"
 fault_words Full = codes "too many calls"

@@ -1,10 +1,12 @@
 //! What a server tells on standard error of why it did not serve to its end.
 ghost use Rattle.std.specs.Prelude.{◌≡◌, ◌++◌, true, OnOk, IfOk, decimal};
 ghost use Rattle.std.specs.Io.KnownBytes.{Appends};
+ghost use Rattle.std.specs.Net.Text.{socket_text};
 ghost use Rattle.gb_server.specs.Complaint.{audit_words, complaint, fault_words, key_words};
 
 use crate::fault::ServeFault;
 use crate::keys::KeyFault;
+use crate::server_log::put_address;
 use crate::sockets::PortName;
 use crate::told::tell;
 use gb_merge::fault::AuditFault;
@@ -12,6 +14,7 @@ use gb_types::memory::{OutOfMemory, put_bytes};
 use gb_types::number::put_number;
 use std::alloc::Global;
 use std::io::Write;
+use std::net::SocketAddr;
 
 // Appends a number, with words before it and behind it.
 fn put_with(text: &mut Vec<u8>, front: &[u8], number: u64, back: &[u8]) -> Result<(), OutOfMemory>
@@ -110,6 +113,20 @@ fn put_bad_keys(text: &mut Vec<u8>, why: KeyFault) -> Result<(), OutOfMemory>
     put_bytes(text, b"; two lines of 64 hexadecimal digits are wanted")
 }
 
+// Appends an address, with words before it and behind it.
+fn put_with_address(
+    text: &mut Vec<u8>,
+    front: &[u8],
+    address: SocketAddr,
+    back: &[u8],
+) -> Result<(), OutOfMemory>
+    ensures { OnOk result (text.new.items ≡ text.old.items ++ (front.now ++ socket_text address ++ back.now)) }
+{
+    put_bytes(text, front)?;
+    put_address(text, address)?;
+    put_bytes(text, back)
+}
+
 // Appends which port could not be bound.
 fn put_port(text: &mut Vec<u8>, port: PortName) -> Result<(), OutOfMemory>
     ensures { OnOk result (text.new.items ≡ text.old.items ++ fault_words (ServeFault.Port port)) }
@@ -125,6 +142,12 @@ fn put_port(text: &mut Vec<u8>, port: PortName) -> Result<(), OutOfMemory>
             text,
             b"TCP port ",
             u64::from(port),
+            b" could not be bound",
+        ),
+        PortName::Status(address) => put_with_address(
+            text,
+            b"status address ",
+            address,
             b" could not be bound",
         ),
     }

@@ -3,11 +3,12 @@ ghost use Rattle.std.specs.Prelude.{◌≡◌, ◌<◌, ℕ, List, length, take,
 ghost use Rattle.std.specs.Io.KnownBytes.{Consumes};
 ghost use Rattle.gb_server.specs.Keys.{is_stop};
 
+use crate::desk::Desk;
 use crate::input::Input;
 use crate::keys::{characters, has_feed, read_more};
-use crate::signals::Signals;
+use crate::signals::{Signals, Why};
 use gb_loop::node_loop::Ending;
-use std::io::Read;
+use std::io::{Read, Write};
 use std::sync::Wait;
 use std::thread;
 use std::time::{Clock, Duration};
@@ -17,6 +18,9 @@ pub const KEPT: usize = 8;
 
 // How long standard input is waited for before the server is looked at again, in milliseconds.
 const LOOK: u16 = 50;
+
+// How long the threads of loops that end are waited for before the server is looked at again, in milliseconds.
+const LAST_LOOK: u64 = 10;
 
 /// What came of standard input.
 #[derive(Clone, Copy, Debug, PartialEq, Eq)]
@@ -68,7 +72,7 @@ struct Place {
     is_open: bool,
 }
 
-// Waits a moment for standard input, and reads a byte of it where there is one.
+// Waits a moment for standard input, and reads a byte of it where there is one. Where the server is over nothing is read.
 fn heed_once<H: Clock, R: Input>(
     rt: &H,
     signals: &Signals,
@@ -81,6 +85,10 @@ fn heed_once<H: Clock, R: Input>(
     ensures within { result.filled < length space.new }
     ensures read { (bytes : List ℕ) × Consumes (R.remaining reader.old) (R.remaining reader.new) bytes }
 {
+    if signals.is_over() {
+        thread::sleep(rt, Duration::from_millis(LAST_LOOK));
+        return place;
+    }
     if !place.is_open {
         thread::sleep(rt, Duration::from_millis(u64::from(LOOK)));
         return place;
@@ -90,18 +98,23 @@ fn heed_once<H: Clock, R: Input>(
     }
     let (filled, heard) = hear(reader, space, place.filled);
     let is_open = heard != Heard::End;
-    if heard == Heard::Stop || (!is_open && stops_at_end) {
-        signals.end();
+    if heard == Heard::Stop {
+        signals.end(Why::Stopped);
+    } else if !is_open && stops_at_end {
+        signals.end(Why::InputEnded);
     }
     Place { filled, is_open }
 }
 
-/// Heeds standard input until the server is over: its line `stop` ends it, and its end where that is wanted.
-pub fn heed<H: Wait + Clock, R: Input>(
+/// Heeds standard input until the server is over: its line `stop` ends it, and its end where that is wanted. Until the threads of all loops
+/// have ended the desk is looked at too.
+pub fn heed<H: Wait + Clock, R: Input, E: Write>(
     rt: &H,
     signals: &Signals,
     stops_at_end: bool,
+    desk: &mut Desk,
     reader: &mut R,
+    errors: &mut E,
 )
     ensures { (bytes : List ℕ) × Consumes (R.remaining reader.old) (R.remaining reader.new) bytes }
 {
@@ -111,7 +124,9 @@ pub fn heed<H: Wait + Clock, R: Input>(
         is_open: true,
     };
     for _ in rt.forever() {
-        if signals.is_over() {
+        let have_left = signals.have_left();
+        desk.look(rt, signals, errors);
+        if have_left {
             break;
         }
         place = heed_once(rt, signals, stops_at_end, reader, &mut space, place);

@@ -1,12 +1,16 @@
 //! The threads of a server, and what stands beside them.
 ghost use Rattle.std.specs.Prelude.{◌≡◌, ℕ, List, OnOk};
 ghost use Rattle.std.specs.Io.KnownBytes.{Appends, Consumes};
+ghost use Rattle.gb_serve_words.specs.Words.{IsWithin};
 ghost use Rattle.gb_server.specs.Told.{serving_line};
 
 use crate::crew::hold;
+use crate::desk::Desk;
 use crate::input::Input;
+use crate::server_log::ServerLog;
 use crate::signals::Signals;
 use crate::sockets::Sockets;
+use crate::status::StatusServer;
 use crate::told::serving_line;
 use crate::watch::watch;
 use gb_host::host::Host;
@@ -62,15 +66,34 @@ fn hold_given<
     signals: &Signals,
 ) -> Option<Vec<Seat<L>>> {
     let Given { seats, sockets } = given.take()?;
-    hold(rt, alloc, host, seats, sockets, options, signals).ok()
+    let held = hold(rt, alloc, host, seats, sockets, options, signals);
+    signals.leave();
+    held.ok()
 }
 
-/// Holds a server, tells that it serves once all its loops have begun, and heeds standard input. Gives the seats back.
+// What a server tells of itself: its log, and its status at this listener, if there is one.
+fn desk_of<H: Clock>(
+    rt: &H,
+    alloc: Global,
+    serve: ServePlan,
+    listener: Option<TcpListener>,
+) -> Result<Desk, OutOfMemory> {
+    let log = ServerLog::new(alloc, serve.nodes, serve.quiet)?;
+    let status = match listener {
+        Some(listener) => Some(StatusServer::new(rt, alloc, listener)),
+        None => None,
+    };
+    Ok(Desk { log, status })
+}
+
+/// Holds a server, tells that it serves once all its loops have begun, and heeds standard input. Tells its status at this listener, if there
+/// is one. Gives the seats back.
 pub fn run<
     L: Tapes + Send + Sync,
     H: Net<Listener = TcpListener, Stream = TcpStream> + Threads + Wait + Clock + Sync,
     R: Input,
     W: Write,
+    E: Write,
 >(
     rt: &H,
     alloc: Global,
@@ -78,22 +101,25 @@ pub fn run<
     serve: ServePlan,
     options: LoopOptions,
     given: Given<L>,
+    listener: Option<TcpListener>,
     reader: &mut R,
     writer: &mut W,
+    errors: &mut E,
 ) -> Result<Vec<Seat<L>>, RunFault>
+    requires within { IsWithin serve }
     ensures told { OnOk result (Appends (W.contents writer.old) (W.contents writer.new) (serving_line serve.nodes serve.base_port)) }
     ensures read { OnOk result ((bytes : List ℕ) × Consumes (R.remaining reader.old) (R.remaining reader.new) bytes) }
 {
     let line = serving_line(alloc, serve.nodes, serve.base_port)?;
-    let signals = Signals::new(u64::from(serve.nodes));
+    let signals = Signals::new(alloc, serve.nodes)?;
+    let mut desk = desk_of(rt, alloc, serve, listener)?;
     let shared = &signals;
     let text = line.as_slice();
-    let stops_at_end = serve.stop_at_end;
     let mut given = Some(given);
     let (held, is_told) = join_mut(
         rt,
         &mut || hold_given(rt, alloc, host, &mut given, options, shared),
-        &mut || watch(rt, shared, text, stops_at_end, reader, writer),
+        &mut || watch(rt, shared, text, serve, &mut desk, reader, writer, errors),
     );
     let Some(seats) = held else {
         return Err(RunFault::OutOfMemory);

@@ -16,7 +16,7 @@ use crate::fault::ServeFault;
 use crate::input::Input;
 use crate::keys::{Keys, read_keys};
 use crate::run::{Given, run};
-use crate::sockets::{Sockets, open_sockets};
+use crate::sockets::{Sockets, open_sockets, open_status};
 use crate::told::{status_of, tell_end};
 use gb_host::here::all_nodes;
 use gb_host::host::Host;
@@ -100,14 +100,17 @@ fn serve_host<
     H: Net<Listener = TcpListener, Stream = TcpStream> + Threads + Wait + Clock + Sync,
     R: Input,
     W: Write,
+    E: Write,
 >(
     rt: &H,
     alloc: Global,
     plan: HostPlan,
     serve: ServePlan,
     sockets: Vec<Sockets>,
+    listener: Option<TcpListener>,
     reader: &mut R,
     writer: &mut W,
+    errors: &mut E,
     pasts: Vec<NodePast>,
 ) -> Result<Ended, ServeFault>
     requires plan { plan ≡ L.plan }
@@ -128,7 +131,9 @@ fn serve_host<
     let connections = connections_of(wanted, serve.nodes, descriptor_limit());
     let options = options_of(serve, connections);
     let given = Given { seats, sockets };
-    let seats = run(rt, alloc, &host, serve, options, given, reader, writer)?;
+    let seats = run(
+        rt, alloc, &host, serve, options, given, listener, reader, writer, errors,
+    )?;
     end(alloc, host, seats)
 }
 
@@ -137,6 +142,7 @@ fn serve_plan<
     H: Net<Listener = TcpListener, Stream = TcpStream> + Threads + Wait + Clock + Sync,
     R: Input,
     W: Write,
+    E: Write,
 >(
     rt: &H,
     alloc: Global,
@@ -144,6 +150,7 @@ fn serve_plan<
     keys: Keys,
     reader: &mut R,
     writer: &mut W,
+    errors: &mut E,
 ) -> Result<Ended, ServeFault>
     requires { IsWithin plan }
     ensures told { has_closed result ≡ true → Appends (W.contents writer.old) (W.contents writer.new) (serving_line plan.nodes plan.base_port) }
@@ -152,34 +159,39 @@ fn serve_plan<
     ensures taken { result ≢ Err ServeFault.RefusedWords }
 {
     let sockets = open_sockets(rt, alloc, plan.nodes, plan.base_port)?;
+    let listener = open_status(rt, plan.status)?;
     let pasts = new_pasts(alloc, plan.nodes)?;
-    serve_host::<Brand, H, R, W>(
+    serve_host::<Brand, H, R, W, E>(
         rt,
         alloc,
         host_plan(plan, keys),
         plan,
         sockets,
+        listener,
         reader,
         writer,
+        errors,
         pasts,
     )
 }
 
-/// Serves by words, with the keys that the reader gives and what it gives behind them, and writes what it serves. The answer is how
-/// it ended, which is still to be told.
+/// Serves by words, with the keys that the reader gives and what it gives behind them, and writes what it serves, and its log to `errors`. The
+/// answer is how it ended, which is still to be told.
 pub fn serve<
     H: Net<Listener = TcpListener, Stream = TcpStream> + Threads + Wait + Clock + Sync,
     R: Input,
     W: Write,
+    E: Write,
 >(
     rt: &H,
     alloc: Global,
     words: &[&str],
     reader: &mut R,
     writer: &mut W,
+    errors: &mut E,
 ) -> Result<Ended, ServeFault>
     ensures served { has_closed result ≡ true → HasServed (map (λ word. word.now) words.now) (R.remaining reader.old) (R.remaining reader.new) (W.contents writer.old) (W.contents writer.new) result [] }
-    ensures refused { result ≡ Err ServeFault.RefusedWords → AreRefused (map (λ word. word.now) words.now) × (reader.new ≡ reader.old) × (writer.new ≡ writer.old) }
+    ensures refused { result ≡ Err ServeFault.RefusedWords → AreRefused (map (λ word. word.now) words.now) × (reader.new ≡ reader.old) × (writer.new ≡ writer.old) × (errors.new ≡ errors.old) }
     ensures taken { AreTaken (map (λ word. word.now) words.now) → result ≢ Err ServeFault.RefusedWords }
 {
     let plan = read_words(alloc, words)?;
@@ -187,7 +199,7 @@ pub fn serve<
         Ok(keys) => keys,
         Err(why) => return Err(ServeFault::BadKeys(why)),
     };
-    serve_plan(rt, alloc, plan, keys, reader, writer)
+    serve_plan(rt, alloc, plan, keys, reader, writer, errors)
 }
 
 // Tells why a server did not serve to its end. Why words are refused is told where they were read.
@@ -204,8 +216,8 @@ fn explain<E: Write>(alloc: Global, outcome: Result<Ended, ServeFault>, errors: 
 }
 
 /// Serves by the words of a command line, of which the first is the program's name, with the keys that the reader gives, and behind
-/// them the line `stop` that ends it, and writes what it serves and how it ended, a line each; why it did not serve to its end is told to `errors`, but for why words are
-/// refused. The answer is the exit status: 0 when all connections were served, or the server was told to
+/// them the line `stop` that ends it, and writes what it serves and how it ended, a line each. Its log is written to `errors`, and why it did not serve to its end, but for
+/// why words are refused. The answer is the exit status: 0 when all connections were served, or the server was told to
 /// end, and, with tapes, they were merged, 2 for refused
 /// words, 1 for all else. When it answers, its threads have ended and its sockets are closed.
 pub fn serve_main<
@@ -219,7 +231,7 @@ pub fn serve_main<
     ensures refused { result ≡ 2 → AreRefused (map (λ word. word.now) words.now) × (reader.new ≡ reader.old) × (errors.new ≡ errors.old) × Appends (W.contents writer.old) (W.contents writer.new) (lined (codes "refused words")) }
     ensures taken { AreTaken (map (λ word. word.now) words.now) → result ≢ 2 }
 {
-    let outcome = serve(rt, alloc, words, reader, writer);
+    let outcome = serve(rt, alloc, words, reader, writer, errors);
     explain(alloc, outcome, errors);
     if outcome == Err(ServeFault::Write) || !tell_end(writer, outcome) {
         return 1;

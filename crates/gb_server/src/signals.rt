@@ -1,6 +1,53 @@
 //! What the threads of a server tell one another.
 use gb_loop::node_loop::Ending;
+use gb_status::board::Board;
+use gb_status::figures::Figures;
+use gb_types::memory::OutOfMemory;
+use gb_types::node::{NodeId, NodeSet};
+use std::alloc::Global;
 use std::sync::atomic::{AtomicBool, AtomicU64, Ordering};
+
+/// Why a server ends.
+#[derive(Clone, Copy, Debug, PartialEq, Eq)]
+pub enum Why {
+    /// All connections that it was to serve were served.
+    Served,
+    /// An administrator asked for it.
+    Asked,
+    /// Standard input had the line `stop`.
+    Stopped,
+    /// Standard input ended.
+    InputEnded,
+    /// A loop could not begin.
+    Failed,
+    /// A line could not be written to standard output.
+    Unwritten,
+}
+
+// The number that stands for a reason, from 1.
+fn number_of(why: Why) -> u64 {
+    match why {
+        Why::Served => 1,
+        Why::Asked => 2,
+        Why::Stopped => 3,
+        Why::InputEnded => 4,
+        Why::Failed => 5,
+        Why::Unwritten => 6,
+    }
+}
+
+// The reason that a number stands for.
+fn why_of(number: u64) -> Option<Why> {
+    match number {
+        1 => Some(Why::Served),
+        2 => Some(Why::Asked),
+        3 => Some(Why::Stopped),
+        4 => Some(Why::InputEnded),
+        5 => Some(Why::Failed),
+        6 => Some(Why::Unwritten),
+        _ => None,
+    }
+}
 
 /// How far a server is. Any thread may look, at any time.
 #[derive(Drop)]
@@ -10,21 +57,28 @@ pub struct Signals {
     waiting: AtomicU64,
     is_held: AtomicBool,
     is_begun: AtomicBool,
-    is_over: AtomicBool,
+    // The number of the reason why the server ends; 0: it does not end.
+    why: AtomicU64,
+    have_left: AtomicBool,
     has_failed: AtomicBool,
+    board: Board,
 }
 
 impl Signals {
     /// A server that has not begun, with this number of nodes.
-    pub fn new(nodes: u64) -> Signals {
-        Signals {
-            left: AtomicU64::new(nodes),
-            waiting: AtomicU64::new(nodes),
+    pub fn new(alloc: Global, nodes: u8) -> Result<Signals, OutOfMemory> {
+        let board = Board::new(alloc, nodes)?;
+        let count = u64::from(nodes);
+        Ok(Signals {
+            left: AtomicU64::new(count),
+            waiting: AtomicU64::new(count),
             is_held: AtomicBool::new(false),
             is_begun: AtomicBool::new(false),
-            is_over: AtomicBool::new(false),
+            why: AtomicU64::new(0),
+            have_left: AtomicBool::new(false),
             has_failed: AtomicBool::new(false),
-        }
+            board,
+        })
     }
 
     /// The threads of loops are being made.
@@ -46,9 +100,31 @@ impl Signals {
         self.is_begun.store(true, Ordering::SeqCst);
     }
 
-    /// The loops end.
-    pub fn end(&self) {
-        self.is_over.store(true, Ordering::SeqCst);
+    /// The loops end, for this reason unless they end for another already.
+    pub fn end(&self, why: Why) {
+        let _ = self
+            .why
+            .compare_exchange(0, number_of(why), Ordering::SeqCst, Ordering::SeqCst);
+    }
+
+    /// Returns why the loops end. None: they do not.
+    pub fn why(&self) -> Option<Why> {
+        why_of(self.why.load(Ordering::SeqCst))
+    }
+
+    /// The threads of all loops have ended.
+    pub fn leave(&self) {
+        self.have_left.store(true, Ordering::SeqCst);
+    }
+
+    /// Returns true if the threads of all loops have ended.
+    pub fn have_left(&self) -> bool {
+        self.have_left.load(Ordering::SeqCst)
+    }
+
+    /// Where the loops put their figures.
+    pub fn board(&self) -> &Board {
+        &self.board
     }
 
     pub fn is_begun(&self) -> bool {
@@ -64,13 +140,13 @@ impl Signals {
 impl Ending for Signals {
     fn served(&self) {
         if self.left.fetch_sub(1, Ordering::SeqCst) <= 1 {
-            self.end();
+            self.end(Why::Served);
         }
     }
 
     fn fail(&self) {
         self.has_failed.store(true, Ordering::SeqCst);
-        self.end();
+        self.end(Why::Failed);
     }
 
     fn begun(&self) {
@@ -78,10 +154,14 @@ impl Ending for Signals {
     }
 
     fn asked(&self) {
-        self.end();
+        self.end(Why::Asked);
     }
 
     fn is_over(&self) -> bool {
-        self.is_over.load(Ordering::SeqCst)
+        self.why.load(Ordering::SeqCst) != 0
+    }
+
+    fn publish(&self, node: NodeId, figures: &Figures, noticed: &NodeSet) {
+        self.board.put(node, figures, noticed);
     }
 }

@@ -260,8 +260,8 @@ static BOUND: [&str; 7] = [
     "1",
 ];
 
-// Whether a node's two ports can be bound.
-fn is_free<H: Net<Listener = TcpListener, Stream = TcpStream>>(
+/// Whether a node's two ports can be bound.
+pub fn is_free<H: Net<Listener = TcpListener, Stream = TcpStream>>(
     rt: &H,
     packets: u16,
     clients: u16,

@@ -60,12 +60,19 @@ fn run_later<H: Net<Listener = TcpListener, Stream = TcpStream> + Threads + Wait
     }
 }
 
-// Whether a server ended well, and wrote these lines.
+// Whether a server ended well, and wrote these lines, and no log.
 fn has_ended(run: &Run, lines: &[u8]) -> bool {
     run.status == 0 && run.lines.as_slice() == lines && run.errors.is_empty()
 }
 
-static STOPPED: [&str; 5] = ["gb_serve", "--nodes", "2", "--base-port", "25000"];
+static STOPPED: [&str; 6] = [
+    "gb_serve",
+    "--nodes",
+    "2",
+    "--base-port",
+    "25000",
+    "--quiet",
+];
 
 // A client is served, and then standard input tells the server to stop, which serves for ever else. A line that is no order is
 // let be.
@@ -86,13 +93,14 @@ fn a_line_stops_a_server(rt: HostRuntime) {
     assert!(rt; is_right && has_ended(&run, b"serving 2 nodes from port 25000\nclosed\n"));
 }
 
-static AT_END: [&str; 6] = [
+static AT_END: [&str; 7] = [
     "gb_serve",
     "--nodes",
     "1",
     "--base-port",
     "25200",
     "--stop-at-end",
+    "--quiet",
 ];
 
 // Where that is wanted a server ends when standard input ends.
@@ -102,12 +110,13 @@ fn the_end_of_input_stops_a_server(rt: HostRuntime) {
     assert!(rt; has_ended(&run, b"serving 1 nodes from port 25200\nclosed\n"));
 }
 
-static WAITING: [&str; 7] = [
+static WAITING: [&str; 8] = [
     "gb_serve",
     "--nodes",
     "1",
     "--base-port",
     "25400",
+    "--quiet",
     "--sessions",
     "1",
 ];

@@ -1,3 +1,4 @@
 pub mod Names
 pub mod Figures
 pub mod Http
+pub mod News

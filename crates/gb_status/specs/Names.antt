@@ -1,7 +1,7 @@
 -- The names of a node's figures, and how they stand in a text. Source: the text exposition format 0.0.4 of Prometheus.
 use Rattle.std.specs.Prelude.{ℕ, List, [], ◌++◌, ◌∷◌, codes}
 use Rattle.gb_status.specs.declared.figure.Figure.{Figure}
-use Rattle.gb_status.specs.declared.figure.Figure.TheVariants.{RequestsTenant, RequestsMake, RequestsOpen, RequestsShut, RequestsDrop, RequestsSay, RequestsFetch, RefusedDenied, RefusedNoGroup, RefusedSpent, RefusedBadMembers, RefusedOverReserve, RefusedWrongPhase, RefusedTooLong, RefusedBudget, RefusedBytes, RefusedWindow, RefusedBadPlace, RefusedNoRoom, RefusedTenantThere, RefusedMalformed, RefusedStopped, RefusedOutOfMemory, Said, Fetched, GroupsMade, GroupsDropped, FramesPacked, FramesAgain, Acknowledgements, PacketsBare, PacketsFirst, PacketsSeen, PacketsOutside, Items, FaultShort, FaultMagic, FaultVersion, FaultNode, FaultMask, FaultCount, FaultLength, FaultTrailing, FaultTooLong, FaultTag, Lost, PortFailures, Noticed, Ticks, Accepted, TurnedAway, Open, Waiting}
+use Rattle.gb_status.specs.declared.figure.Figure.TheVariants.{RequestsTenant, RequestsMake, RequestsOpen, RequestsShut, RequestsDrop, RequestsSay, RequestsFetch, RefusedDenied, RefusedNoGroup, RefusedSpent, RefusedBadMembers, RefusedOverReserve, RefusedWrongPhase, RefusedTooLong, RefusedBudget, RefusedBytes, RefusedWindow, RefusedBadPlace, RefusedNoRoom, RefusedTenantThere, RefusedMalformed, RefusedStopped, RefusedOutOfMemory, Said, Fetched, GroupsMade, GroupsDropped, FramesPacked, FramesAgain, Acknowledgements, PacketsBare, PacketsFirst, PacketsSeen, PacketsOutside, Items, FaultShort, FaultMagic, FaultVersion, FaultNode, FaultMask, FaultCount, FaultLength, FaultTrailing, FaultTooLong, FaultTag, Lost, PortFailures, Noticed, Ticks, Accepted, TurnedAway, Open, Waiting, PlacesLeft, Running}
 
 abbrev pub quote : List ℕ
 quote = 34 ∷ []
@@ -64,6 +64,8 @@ place_of Accepted = 49
 place_of TurnedAway = 50
 place_of Open = 51
 place_of Waiting = 52
+place_of PlacesLeft = 53
+place_of Running = 54
 
 -- the name of a figure in the reply to `status`
 abbrev pub word_of : Figure → List ℕ
@@ -120,6 +122,8 @@ word_of Accepted = codes "connections_accepted"
 word_of TurnedAway = codes "connections_refused"
 word_of Open = codes "connections_open"
 word_of Waiting = codes "connections_waiting"
+word_of PlacesLeft = codes "places_left"
+word_of Running = codes "running"
 
 -- the name of a figure in the text that Prometheus reads
 abbrev pub family_of : Figure → List ℕ
@@ -176,6 +180,8 @@ family_of Accepted = codes "foqradesh_connections_accepted_total"
 family_of TurnedAway = codes "foqradesh_connections_refused_total"
 family_of Open = codes "foqradesh_connections_open"
 family_of Waiting = codes "foqradesh_connections_waiting"
+family_of PlacesLeft = codes "foqradesh_places_left"
+family_of Running = codes "foqradesh_node_running"
 
 -- what stands behind the node in that text's braces
 abbrev pub label_of : Figure → List ℕ
@@ -232,6 +238,8 @@ label_of Accepted = []
 label_of TurnedAway = []
 label_of Open = []
 label_of Waiting = []
+label_of PlacesLeft = []
+label_of Running = []
 
 -- the lines that stand above a name's first figure, and nothing for its others
 abbrev pub head_of : Figure → List ℕ
@@ -288,3 +296,5 @@ head_of Accepted = codes "# HELP foqradesh_connections_accepted_total Connection
 head_of TurnedAway = codes "# HELP foqradesh_connections_refused_total Connections closed at once since as many were open as are allowed." ++ line_feed ++ codes "# TYPE foqradesh_connections_refused_total counter" ++ line_feed
 head_of Open = codes "# HELP foqradesh_connections_open Connections open at the last tick." ++ line_feed ++ codes "# TYPE foqradesh_connections_open gauge" ++ line_feed
 head_of Waiting = codes "# HELP foqradesh_connections_waiting Connections whose await waited at the last tick." ++ line_feed ++ codes "# TYPE foqradesh_connections_waiting gauge" ++ line_feed
+head_of PlacesLeft = codes "# HELP foqradesh_places_left Places for groups that no tenant has reserved." ++ line_feed ++ codes "# TYPE foqradesh_places_left gauge" ++ line_feed
+head_of Running = codes "# HELP foqradesh_node_running Whether the loop of the node runs: 1 or 0." ++ line_feed ++ codes "# TYPE foqradesh_node_running gauge" ++ line_feed

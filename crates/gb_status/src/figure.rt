@@ -4,12 +4,12 @@ ghost use Rattle.gb_status.specs.Names.{head_of, label_of, family_of, place_of, 
 ghost use Rattle.gb_status.specs.declared.figure.TheConstants.{COUNT};
 
 /// How many figures a node has.
-pub const COUNT: usize = 53;
+pub const COUNT: usize = 55;
 
 // Definitions cite this value.
-const _: () = prove!(COUNT == 53);
+const _: () = prove!(COUNT == 55);
 
-/// A figure of a node. All count from the server's start but the last two, which say how many there are.
+/// A figure of a node. All count from the server's start but the last four, which say what is so.
 #[derive(Clone, Copy, Debug, PartialEq, Eq)]
 pub enum Figure {
     /// Requests to take a tenant in.
@@ -118,6 +118,10 @@ pub enum Figure {
     Open,
     /// Connections whose await waited at the last tick.
     Waiting,
+    /// Places for groups that no tenant has reserved.
+    PlacesLeft,
+    /// Whether the loop of the node runs: 1, and 0 before it begins and after it ended.
+    Running,
 }
 
 /// Every figure, in the order in which they are told.
@@ -175,6 +179,8 @@ pub const FIGURES: [Figure; COUNT] = [
     Figure::TurnedAway,
     Figure::Open,
     Figure::Waiting,
+    Figure::PlacesLeft,
+    Figure::Running,
 ];
 
 impl Figure {
@@ -244,6 +250,8 @@ impl Figure {
             Figure::TurnedAway => b"connections_refused",
             Figure::Open => b"connections_open",
             Figure::Waiting => b"connections_waiting",
+            Figure::PlacesLeft => b"places_left",
+            Figure::Running => b"running",
         }
     }
 
@@ -305,6 +313,8 @@ impl Figure {
             Figure::TurnedAway => b"foqradesh_connections_refused_total",
             Figure::Open => b"foqradesh_connections_open",
             Figure::Waiting => b"foqradesh_connections_waiting",
+            Figure::PlacesLeft => b"foqradesh_places_left",
+            Figure::Running => b"foqradesh_node_running",
         }
     }
 
@@ -366,6 +376,8 @@ impl Figure {
             Figure::TurnedAway => b"",
             Figure::Open => b"",
             Figure::Waiting => b"",
+            Figure::PlacesLeft => b"",
+            Figure::Running => b"",
         }
     }
 
@@ -447,6 +459,10 @@ impl Figure {
                 b"# HELP foqradesh_connections_open Connections open at the last tick.\n# TYPE foqradesh_connections_open gauge\n",
             Figure::Waiting =>
                 b"# HELP foqradesh_connections_waiting Connections whose await waited at the last tick.\n# TYPE foqradesh_connections_waiting gauge\n",
+            Figure::PlacesLeft =>
+                b"# HELP foqradesh_places_left Places for groups that no tenant has reserved.\n# TYPE foqradesh_places_left gauge\n",
+            Figure::Running =>
+                b"# HELP foqradesh_node_running Whether the loop of the node runs: 1 or 0.\n# TYPE foqradesh_node_running gauge\n",
         }
     }
 }

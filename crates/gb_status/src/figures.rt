@@ -15,7 +15,7 @@ pub struct Figures {
 impl Figures {
     /// Nothing was counted.
     pub fn new() -> Figures
-        ensures { result.numbers ≡ replicate 53 0 }
+        ensures { result.numbers ≡ replicate 55 0 }
     {
         Figures {
             numbers: [0; COUNT],

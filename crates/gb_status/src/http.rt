@@ -1,7 +1,8 @@
 //! What is asked for by HTTP, and how it is answered.
-ghost use Rattle.std.specs.Prelude.{◌≡◌, IfOk};
-ghost use Rattle.gb_status.specs.Http.{Asks, answer_of, code_of, lines_of, note_of, place_asked, response_text};
+ghost use Rattle.std.specs.Prelude.{◌≡◌, IfNone, IfOk, IfSome, true};
+ghost use Rattle.gb_status.specs.Http.{Asks, IsReply, all_run, answer_of, code_of, lines_of, note_of, place_asked, response_text};
 
+use crate::figure::Figure;
 use crate::figures::Figures;
 use crate::text::metrics_text;
 use gb_types::memory::{OutOfMemory, put_bytes};
@@ -159,4 +160,31 @@ pub fn answer(
     }
     put_bytes(&mut body, note_of(asked, is_serving))?;
     response(alloc, code_of(asked, is_serving), &body)
+}
+
+/// Returns the answer to the bytes of a request. None: the head of the request is not whole, and more of it may come.
+pub fn reply(
+    alloc: Global,
+    bytes: &[u8],
+    may_come: bool,
+    all: &[Figures],
+    is_serving: bool,
+) -> Result<Option<Vec<u8>>, OutOfMemory>
+    ensures some { IfOk result (λ reply. IfSome reply (λ text. IsReply bytes.now may_come all.now is_serving text.items)) }
+    ensures none { IfOk result (λ reply. IfNone reply ((may_come ≡ true) × Asks bytes.now Asked.More)) }
+{
+    let asked = asked_for(bytes);
+    if may_come && asked == Asked::More {
+        return Ok(None);
+    }
+    let text = answer(alloc, asked, all, is_serving)?;
+    Ok(Some(text))
+}
+
+/// Returns true if the loops of all nodes run.
+pub fn all_run(all: &[Figures]) -> bool
+    ensures { result ≡ all_run all.now }
+{
+    all.iter()
+        .all(|figures| figures.value(Figure::Running) == 1)
 }

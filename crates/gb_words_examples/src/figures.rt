@@ -36,7 +36,7 @@ fn a_status_has_each_figure_once(rt: HostRuntime) {
     );
     assert!(rt;
         text.ends_with(
-            b" ticks=18446744073709551615 connections_accepted=0 connections_refused=0 connections_open=0 connections_waiting=0"
+            b" ticks=18446744073709551615 connections_accepted=0 connections_refused=0 connections_open=0 connections_waiting=0 places_left=0 running=0"
         )
     );
     assert!(rt;
@@ -72,8 +72,8 @@ fn metrics_are_told_of_each_node(rt: HostRuntime) {
             b"# TYPE foqradesh_connections_open gauge\nfoqradesh_connections_open{node=\"0\"} 0\nfoqradesh_connections_open{node=\"1\"} 0\n"
         )
     );
-    assert!(rt; text.ends_with(b"foqradesh_connections_waiting{node=\"1\"} 0\n"));
-    assert!(rt; text.iter().filter(|byte| **byte == b'#').count() == 2 * 20);
+    assert!(rt; text.ends_with(b"foqradesh_node_running{node=\"1\"} 0\n"));
+    assert!(rt; text.iter().filter(|byte| **byte == b'#').count() == 2 * 22);
 }
 
 // Heads, and what they ask for.

@@ -4,6 +4,7 @@ use gb_serve_words::plan::ServePlan;
 use gb_serve_words::words::{asked_text, read_words, refusal_text};
 use gb_types::version::Version;
 use std::alloc::{AllocError, Global};
+use std::net::{Ipv4Addr, Ipv6Addr, SocketAddr, SocketAddrV4, SocketAddrV6};
 
 // The words of a line.
 fn words_of(alloc: Global, line: &str) -> Result<Vec<&str>, AllocError> {
@@ -134,6 +135,8 @@ fn words_are_plans(rt: HostRuntime) {
             session_requests: 0,
             tape: *tape,
             stop_at_end: false,
+            status: None,
+            quiet: false,
         };
         let found = read(rt.alloc(), line);
         assert!(rt; found == Ok(want));
@@ -195,6 +198,8 @@ fn words_say_how_loops_behave(rt: HostRuntime) {
             session_requests: *session_requests,
             tape: false,
             stop_at_end: false,
+            status: None,
+            quiet: false,
         };
         let found = read(rt.alloc(), line);
         assert!(rt; found == Ok(want), "{line}");
@@ -219,8 +224,46 @@ fn words_say_what_the_end_of_input_does(rt: HostRuntime) {
     }
 }
 
+// Where the line at this place of the list below wants the status to be told.
+fn wanted_status(place: usize) -> Option<SocketAddr> {
+    let four = Ipv4Addr::new(127, 0, 0, 1);
+    let six = Ipv6Addr::new(0, 0, 0, 0, 0, 0, 0, 1);
+    match place {
+        1 | 3 => Some(SocketAddr::V4(SocketAddrV4::new(four, 9_100))),
+        2 => Some(SocketAddr::V6(SocketAddrV6::new(six, 65_535, 0, 0))),
+        _ => None,
+    }
+}
+
+// Lines, and whether they want no log.
+static STATUSES: [(&str, bool); 5] = [
+    ("gb_serve --nodes 1 --base-port 1024", false),
+    (
+        "gb_serve --nodes 1 --base-port 1024 --status 127.0.0.1:9100",
+        false,
+    ),
+    (
+        "gb_serve --status=[::1]:65535 --nodes 1 --base-port 1024 --quiet",
+        true,
+    ),
+    (
+        "gb_serve --quiet --nodes 1 --status 127.0.0.1:9100 --base-port 1024",
+        true,
+    ),
+    ("gb_serve --nodes 1 --base-port 1024 --quiet", true),
+];
+
+#[test]
+fn words_say_where_the_status_is_told(rt: HostRuntime) {
+    for (place, (line, quiet)) in STATUSES.iter().enumerate() {
+        let found = read(rt.alloc(), line);
+        let want = wanted_status(place);
+        assert!(rt; matches!(found, Ok(plan) if plan.status == want && plan.quiet == *quiet));
+    }
+}
+
 // Each number's first value outside its range, words that are too few, too many, unknown, or given twice.
-static REFUSED: [&str; 41] = [
+static REFUSED: [&str; 51] = [
     "gb_serve ",
     "gb_serve --nodes 2",
     "gb_serve --base-port 42000",
@@ -260,6 +303,16 @@ static REFUSED: [&str; 41] = [
     "gb_serve --nodes 2 --base-port 42000 --tape=true",
     "gb_serve --nodes 2 --base-port 42000 --stop-at-end --stop-at-end",
     "gb_serve --nodes 2 --base-port 42000 --stop-at-end=yes",
+    "gb_serve --nodes 2 --base-port 42000 --status",
+    "gb_serve --nodes 2 --base-port 42000 --status 127.0.0.1",
+    "gb_serve --nodes 2 --base-port 42000 --status :9100",
+    "gb_serve --nodes 2 --base-port 42000 --status 9100",
+    "gb_serve --nodes 2 --base-port 42000 --status 127.0.0.1:65536",
+    "gb_serve --nodes 2 --base-port 42000 --status ::1:9100",
+    "gb_serve --nodes 2 --base-port 42000 --status localhost:9100",
+    "gb_serve --nodes 2 --base-port 42000 --status 127.0.0.1:1 --status 127.0.0.1:2",
+    "gb_serve --nodes 2 --base-port 42000 --quiet --quiet",
+    "gb_serve --nodes 2 --base-port 42000 --quiet=no",
     "gb_serve --nodes 2 --base-port 42000 3",
     "gb_serve --help",
 ];
@@ -272,7 +325,7 @@ fn words_are_refused(rt: HostRuntime) {
     }
 }
 
-static EXPLAINED: [(&str, &str); 7] = [
+static EXPLAINED: [(&str, &str); 8] = [
     (
         "gb_serve --nodes 33 --base-port 42000",
         "error: invalid value '33' for '--nodes <N>': 33 is not in 1..=32\n\nFor more information, try '--help'.\n",
@@ -292,6 +345,10 @@ static EXPLAINED: [(&str, &str); 7] = [
     (
         "gb_serve --nodes 2",
         "error: the following required arguments were not provided:\n  --base-port <P>\n\nUsage: gb_serve --nodes <N> --base-port <P>\n\nFor more information, try '--help'.\n",
+    ),
+    (
+        "gb_serve --nodes 2 --base-port 42000 --status localhost:9100",
+        "error: invalid value 'localhost:9100' for '--status <ADDR>': an IP address and a port are wanted, as 127.0.0.1:9100 or [::1]:9100\n\nFor more information, try '--help'.\n",
     ),
     ("gb_serve --nodes 2 --base-port 42000", ""),
     ("gb_serve --nodes 32 --base-port 42000 --version 2", ""),
@@ -353,6 +410,7 @@ fn help_and_version_are_asked_for(rt: HostRuntime) {
     let short = asked(alloc, "gb_serve --nodes 1 -h");
     assert!(rt; has_line(&help, "\nUsage: gb_serve "));
     assert!(rt; has_line(&help, "--stop-at-end"));
+    assert!(rt; has_line(&help, "--status <ADDR>") && has_line(&help, "--quiet"));
     assert!(rt; has_line(&short, "\nUsage: gb_serve "));
     assert!(rt; asks_for(alloc, "gb_serve -V", "gb_serve 0.1.0\n"));
     for line in &UNASKED {

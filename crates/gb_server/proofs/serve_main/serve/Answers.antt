@@ -8,7 +8,7 @@ use Rattle.gb_server.proofs.serve_main.serve.Goals as goal
 pub returns-in_err-plan-clause-refused : goal.returns-in_err-plan-clause-refused
 returns-in_err-plan-clause-refused g c = λ refused.
     let why = words_refused c.from_residual.result c.in_err-plan.field-0.0 c.from_residual.ensures.1 refused in
-    (c.in_err-plan.ensures.refused (ap Err why), refl, refl)
+    (c.in_err-plan.ensures.refused (ap Err why), refl, refl, refl)
 
 pub returns-clause-served : goal.returns-clause-served
 returns-clause-served g c = λ closed.

@@ -1,0 +1,211 @@
+//! The log of a server, on standard error: one line for each event that an operator must know.
+ghost use Rattle.std.specs.Prelude.{◌≡◌, ◌≤◌, ◌++◌, ◌+◌, ◌-◌, IfOk, OnOk, codes, decimal, true};
+ghost use Rattle.gb_server.specs.ServerLog.{begin_line, end_line_of, end_words, range_words, status_words};
+ghost use Rattle.std.specs.Net.Text.{socket_text};
+ghost use Rattle.gb_serve_words.specs.Words.{IsWithin};
+
+use crate::signals::{Signals, Why};
+use crate::told::tell;
+use gb_loop::node_loop::Ending;
+use gb_serve_words::plan::ServePlan;
+use gb_status::board::Board;
+use gb_status::news::{Told, put_news};
+use gb_types::memory::{OutOfMemory, put_bytes};
+use gb_types::node::NodeId;
+use gb_types::number::put_number;
+use std::alloc::Global;
+use std::io::Write;
+use std::net::SocketAddr;
+
+/// What the log has told.
+#[derive(Drop)]
+pub struct ServerLog {
+    /// Nothing is written.
+    pub is_quiet: bool,
+    alloc: Global,
+    // Of each node.
+    told: Vec<Told>,
+    // Why the server ends.
+    is_end_told: bool,
+}
+
+// Appends an address.
+pub(crate) fn put_address(out: &mut Vec<u8>, address: SocketAddr) -> Result<(), OutOfMemory>
+    ensures { OnOk result (out.new.items ≡ out.old.items ++ socket_text address) }
+{
+    let text = address.to_string(*out.allocator())?;
+    put_bytes(out, text.as_bytes())
+}
+
+// Appends words, and the first and the last of `count` ports from `first` on.
+fn put_range(out: &mut Vec<u8>, words: &[u8], first: u64, count: u64) -> Result<(), OutOfMemory>
+    requires some { 1 ≤ count }
+    requires low { (first ≤ 100000) × (count ≤ 100000) }
+    ensures { OnOk result (out.new.items ≡ out.old.items ++ (words.now ++ range_words first count)) }
+{
+    put_bytes(out, words)?;
+    put_number(out, first)?;
+    put_bytes(out, b" to ")?;
+    put_number(out, first + count - 1)
+}
+
+// Appends where the status is told, if it is.
+fn put_status(out: &mut Vec<u8>, status: Option<SocketAddr>) -> Result<(), OutOfMemory>
+    ensures { OnOk result (out.new.items ≡ out.old.items ++ status_words status) }
+{
+    match status {
+        Some(address) => {
+            put_bytes(out, b", status at http://")?;
+            put_address(out, address)?;
+            put_bytes(out, b"/metrics")
+        }
+        None => Ok(()),
+    }
+}
+
+// Appends the version and the number of nodes.
+fn put_version(out: &mut Vec<u8>, version: &[u8], nodes: u64) -> Result<(), OutOfMemory>
+    ensures { OnOk result (out.new.items ≡ out.old.items ++ (codes "gb_serve " ++ version.now ++ codes ": " ++ decimal nodes)) }
+{
+    put_bytes(out, b"gb_serve ")?;
+    put_bytes(out, version)?;
+    put_bytes(out, b": ")?;
+    put_number(out, nodes)
+}
+
+/// Returns the first line of the log: the version of the program, the number of nodes, their ports, and the address where the status is
+/// told, if it is.
+pub fn begin_line(
+    alloc: Global,
+    version: &[u8],
+    plan: ServePlan,
+    status: Option<SocketAddr>,
+) -> Result<Vec<u8>, OutOfMemory>
+    requires within { IsWithin plan }
+    ensures { IfOk result (λ line. line.items ≡ begin_line version.now plan.nodes plan.base_port status) }
+{
+    let (nodes, base) = (u64::from(plan.nodes), u64::from(plan.base_port));
+    let mut line = Vec::new(alloc);
+    put_version(&mut line, version, nodes)?;
+    put_range(&mut line, b" nodes, packets at UDP 127.0.0.1:", base, nodes)?;
+    put_range(&mut line, b", sessions at TCP 127.0.0.1:", base + 64, nodes)?;
+    put_status(&mut line, status)?;
+    put_bytes(&mut line, b"\n")?;
+    Ok(line)
+}
+
+// Why a server ends.
+fn end_words(why: Why) -> &'static [u8]
+    ensures { result.now ≡ end_words why }
+{
+    match why {
+        Why::Served => b"all connections were served",
+        Why::Asked => b"an administrator asked for it",
+        Why::Stopped => b"standard input said stop",
+        Why::InputEnded => b"standard input ended",
+        Why::Failed => b"a loop could not begin",
+        Why::Unwritten => b"a line could not be written to standard output",
+    }
+}
+
+/// Returns the line that tells why a server ends.
+pub fn end_line(alloc: Global, why: Why) -> Result<Vec<u8>, OutOfMemory>
+    ensures { IfOk result (λ line. line.items ≡ end_line_of why) }
+{
+    let mut line = Vec::new(alloc);
+    put_bytes(&mut line, b"gb_serve: ends: ")?;
+    put_bytes(&mut line, end_words(why))?;
+    put_bytes(&mut line, b"\n")?;
+    Ok(line)
+}
+
+// Returns the lines that tell what is new of a node, and notes that it was told.
+fn news(alloc: Global, board: &Board, node: NodeId, told: &mut Told) -> Result<Vec<u8>, OutOfMemory> {
+    let (figures, noticed) = (board.figures(node), board.noticed(node));
+    let mut lines = Vec::new(alloc);
+    put_news(&mut lines, u64::from(node.number), told, &figures, &noticed)?;
+    told.note(&figures, &noticed);
+    Ok(lines)
+}
+
+// Writes lines; those for which there is no memory, or which cannot be written, are lost.
+fn write<E: Write>(errors: &mut E, lines: Result<Vec<u8>, OutOfMemory>) {
+    if let Ok(lines) = lines
+        && !lines.is_empty()
+    {
+        let _ = tell(errors, &lines);
+    }
+}
+
+impl ServerLog {
+    /// A log that has told nothing of so many nodes.
+    pub fn new(alloc: Global, nodes: u8, is_quiet: bool) -> Result<ServerLog, OutOfMemory>
+        ensures { IfOk result (λ made. made.is_quiet ≡ is_quiet) }
+    {
+        let mut told = Vec::new(alloc);
+        for _ in 0..nodes {
+            told.push(Told::new())?;
+        }
+        Ok(ServerLog {
+            is_quiet,
+            alloc,
+            told,
+            is_end_told: false,
+        })
+    }
+
+    /// Writes the first line.
+    pub fn begin<E: Write>(
+        &self,
+        version: &[u8],
+        plan: ServePlan,
+        status: Option<SocketAddr>,
+        errors: &mut E,
+    )
+        requires within { IsWithin plan }
+        ensures quiet { self.now.is_quiet ≡ true → errors.new ≡ errors.old }
+    {
+        if self.is_quiet {
+            return;
+        }
+        write(errors, begin_line(self.alloc, version, plan, status));
+    }
+
+    // Writes what is new of the nodes.
+    fn tell_news<E: Write>(&mut self, board: &Board, errors: &mut E)
+        ensures quiet { self.new.is_quiet ≡ self.old.is_quiet }
+    {
+        for number in 0..self.told.len() {
+            if let Some(node) = NodeId::from_number(number as u8)
+                && let Some(told) = self.told.get_mut(number)
+            {
+                write(errors, news(self.alloc, board, node, told));
+            }
+        }
+    }
+
+    // Writes why the server ends, once.
+    fn tell_end<E: Write>(&mut self, signals: &Signals, errors: &mut E)
+        ensures quiet { self.new.is_quiet ≡ self.old.is_quiet }
+    {
+        if self.is_end_told {
+            return;
+        }
+        if let Some(why) = signals.why() {
+            write(errors, end_line(self.alloc, why));
+            self.is_end_told = true;
+        }
+    }
+
+    /// Writes what is new since the last look: at the nodes, and why the server ends.
+    pub fn look<E: Write>(&mut self, signals: &Signals, errors: &mut E)
+        ensures quiet { self.old.is_quiet ≡ true → errors.new ≡ errors.old }
+        ensures same { self.new.is_quiet ≡ self.old.is_quiet }
+    {
+        if self.is_quiet {
+            return;
+        }
+        self.tell_news(signals.board(), errors);
+        self.tell_end(signals, errors);
+    }
+}

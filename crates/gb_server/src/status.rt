@@ -1,0 +1,203 @@
+//! Who asks for the status of a server by HTTP, and how they are answered: a thread looks at them now and then, and waits for none.
+use gb_loop::clock::LoopClock;
+use gb_status::board::Board;
+use gb_status::http::{all_run, reply};
+use gb_types::memory::{OutOfMemory, put_bytes};
+use std::alloc::Global;
+use std::io::{ErrorKind, Read, Write};
+use std::net::{Shutdown, SocketAddr, TcpListener, TcpStream};
+use std::time::Clock;
+
+/// How many bytes of a request are read at most.
+pub const MOST: usize = 4_096;
+
+/// How many clients are served at once. One more takes the place of the one that came first.
+pub const CLIENTS: usize = 8;
+
+/// After how many microseconds a client is left that was not answered, or does not close its connection.
+pub const LIMIT: u64 = 2_000_000;
+
+// How often a write is tried again in one look while the stream takes only a part.
+const WRITES: u32 = 64;
+
+/// How far a client is.
+#[derive(Clone, Copy, Debug, PartialEq, Eq)]
+enum Stage {
+    /// Its request is read.
+    Asks,
+    /// The answer is sent.
+    IsTold,
+    /// All was sent: it is waited for until it closes the connection.
+    Leaves,
+}
+
+/// A client that asks for the status.
+#[derive(Drop)]
+struct StatusClient {
+    stream: TcpStream,
+    stage: Stage,
+    // The bytes of the request, and then those of the answer.
+    bytes: Vec<u8>,
+    // How many bytes of the answer were sent.
+    sent: usize,
+    // When it is left.
+    until: u64,
+}
+
+/// Listens for those who ask for the status.
+#[derive(Drop)]
+pub struct StatusServer {
+    alloc: Global,
+    listener: TcpListener,
+    clock: LoopClock,
+    clients: Vec<StatusClient>,
+}
+
+// Returns the answer to the bytes of a request, by what stands at a board; None: more are waited for.
+fn reply_by(
+    alloc: Global,
+    bytes: &[u8],
+    may_come: bool,
+    board: &Board,
+    is_over: bool,
+) -> Result<Option<Vec<u8>>, OutOfMemory> {
+    let all = board.all(alloc)?;
+    let is_serving = all_run(&all) && !is_over;
+    reply(alloc, bytes, may_come, &all, is_serving)
+}
+
+impl StatusClient {
+    // Reads what came of the request, and makes the answer once it is whole. Returns false if the client is lost.
+    fn hear(&mut self, alloc: Global, board: &Board, is_over: bool) -> bool {
+        let mut space = [0u8; MOST];
+        let mut reader = &self.stream;
+        let count = match reader.read(&mut space) {
+            Ok(count) => count,
+            Err(error) => {
+                let kind = error.kind();
+                return kind == ErrorKind::WouldBlock || kind == ErrorKind::Interrupted;
+            }
+        };
+        if put_bytes(&mut self.bytes, &space[..count]).is_err() {
+            return false;
+        }
+        let may_come = count > 0 && self.bytes.len() < MOST;
+        match reply_by(alloc, &self.bytes, may_come, board, is_over) {
+            Ok(Some(answer)) => {
+                self.bytes = answer;
+                self.stage = Stage::IsTold;
+                true
+            }
+            Ok(None) => true,
+            Err(OutOfMemory) => false,
+        }
+    }
+
+    // Sends what the stream takes of the answer. Returns false if the client is lost.
+    fn tell(&mut self) -> bool {
+        for _ in 0..WRITES {
+            let Some(rest) = self.bytes.get(self.sent..) else {
+                return false;
+            };
+            if rest.is_empty() {
+                self.stage = Stage::Leaves;
+                return self.stream.shutdown(Shutdown::Write).is_ok();
+            }
+            let mut writer = &self.stream;
+            match writer.write(rest) {
+                Ok(0) => return false,
+                Ok(count) => self.sent = self.sent.saturating_add(count),
+                Err(error) => {
+                    let kind = error.kind();
+                    return kind == ErrorKind::WouldBlock || kind == ErrorKind::Interrupted;
+                }
+            }
+        }
+        true
+    }
+
+    // Reads on, so that the answer is not lost with bytes that nobody read. Returns false if the client has left.
+    fn drain(&mut self) -> bool {
+        let mut space = [0u8; MOST];
+        let mut reader = &self.stream;
+        match reader.read(&mut space) {
+            Ok(count) => count > 0,
+            Err(error) => {
+                let kind = error.kind();
+                kind == ErrorKind::WouldBlock || kind == ErrorKind::Interrupted
+            }
+        }
+    }
+
+    // Does what there is to do. Returns false if the client is served or lost.
+    fn look(&mut self, alloc: Global, board: &Board, is_over: bool, now: u64) -> bool {
+        if now >= self.until {
+            return false;
+        }
+        if self.stage == Stage::Asks && !self.hear(alloc, board, is_over) {
+            return false;
+        }
+        if self.stage == Stage::IsTold && !self.tell() {
+            return false;
+        }
+        self.stage != Stage::Leaves || self.drain()
+    }
+}
+
+impl StatusServer {
+    /// One that has no client, and whose listener waits for none.
+    pub fn new<H: Clock>(rt: &H, alloc: Global, listener: TcpListener) -> StatusServer {
+        StatusServer {
+            alloc,
+            listener,
+            clock: LoopClock::new(rt),
+            clients: Vec::new(alloc),
+        }
+    }
+
+    /// Where it listens; None: the system does not say.
+    pub fn address(&self) -> Option<SocketAddr> {
+        self.listener.local_addr().ok()
+    }
+
+    // Takes a client in, in place of the first where there are as many as are served at once.
+    fn take(&mut self, stream: TcpStream, now: u64) {
+        if stream.set_nonblocking(true).is_err() {
+            return;
+        }
+        if self.clients.len() >= CLIENTS {
+            let _ = self.clients.remove(0);
+        }
+        let client = StatusClient {
+            stream,
+            stage: Stage::Asks,
+            bytes: Vec::new(self.alloc),
+            sent: 0,
+            until: now.saturating_add(LIMIT),
+        };
+        let _ = self.clients.push(client);
+    }
+
+    // Takes in who came.
+    fn accept(&mut self, now: u64) {
+        for _ in 0..CLIENTS {
+            match self.listener.accept() {
+                Ok((stream, _)) => self.take(stream, now),
+                Err(_) => return,
+            }
+        }
+    }
+
+    /// Takes in who came, and does for each client what there is to do, by what stands at a board. Waits for nobody.
+    pub fn look<H: Clock>(&mut self, rt: &H, board: &Board, is_over: bool) {
+        let now = self.clock.now(rt);
+        self.accept(now);
+        let clients = std::mem::replace(&mut self.clients, Vec::new(self.alloc));
+        for client in clients {
+            let mut client = client;
+            if client.look(self.alloc, board, is_over, now) {
+                let _ = self.clients.push(client);
+            }
+        }
+    }
+}

@@ -1,0 +1,8 @@
+use Rattle.std.proofs.Common.{◌≡◌, ◌++◌}
+use Rattle.gb_types.specs.Rising.{rising}
+use Rattle.gb_status.specs.News.{notices_of}
+use Rattle.gb_status.proofs.news.put_notices.Given as goal
+
+-- with the lines of the nodes that are still to come all is written
+abbrev pub invariant-loop-other : goal.invariant-loop-other
+invariant-loop-other l = l.out.items ++ notices_of l.node l.told l.other-iterator ≡ l.fn.out.items ++ notices_of l.node l.told (rising l.noticed)

@@ -1,0 +1,54 @@
+-- The lines of the log that tell of a node, by its figures and the nodes that it noticed.
+use Rattle.std.specs.Prelude.{ℕ, Bool, List, [], ◌++◌, ◌||◌, codes, decimal, nat_lt, if◌then◌else◌}
+use Rattle.std.specs.FinSet as set
+use Rattle.std.specs.List.{flat_map}
+use Rattle.std.specs.Ordering.{nat_cmp}
+use Rattle.gb_types.specs.Rising.{rising}
+use Rattle.gb_status.specs.Figures.{value_of}
+use Rattle.gb_status.specs.Names.{line_feed}
+use Rattle.gb_status.specs.declared.figure.Figure.TheVariants.{Lost, RefusedOutOfMemory, TurnedAway}
+use Rattle.gb_status.specs.declared.figures.Figures.{Figures}
+use Rattle.gb_status.specs.declared.news.Told.{Told}
+
+-- what a line of the log that tells of a node begins with
+abbrev pub front_of : ℕ → List ℕ
+front_of node = codes "gb_serve: node " ++ decimal node
+
+-- a line that tells of a node
+abbrev pub line_of : ℕ → List ℕ → List ℕ
+line_of node words = front_of node ++ (words ++ line_feed)
+
+-- the node noticed another one
+abbrev pub noticed_line : ℕ → ℕ → List ℕ
+noticed_line node other = front_of node ++ (codes " noticed node " ++ decimal other) ++ (codes " as crashed" ++ line_feed)
+
+-- the line of a noticed node, unless it was told before
+abbrev pub notice_of : ℕ → set.FinSet nat_cmp → ℕ → List ℕ
+notice_of node told other = if set.contains told other then [] else noticed_line node other
+
+-- the lines of all noticed nodes, rising, but those that were told before
+abbrev pub notices_of : ℕ → set.FinSet nat_cmp → List ℕ → List ℕ
+notices_of node told noticed = flat_map (notice_of node told) noticed
+
+abbrev pub full_line : ℕ → List ℕ
+full_line node = line_of node (codes " has as many connections as are allowed, and closes more")
+
+abbrev pub short_line : ℕ → List ℕ
+short_line node = line_of node (codes " lacked memory")
+
+-- a connection was closed since as many were open as are allowed
+abbrev pub is_full : Figures → Bool
+is_full figures = nat_lt 0 (value_of figures TurnedAway)
+
+-- there was no memory for a request or for a packet
+abbrev pub is_short : Figures → Bool
+is_short figures = nat_lt 0 (value_of figures Lost) || nat_lt 0 (value_of figures RefusedOutOfMemory)
+
+-- a line that is told once
+abbrev pub once : Bool → Bool → List ℕ → List ℕ
+once is_told is_so line = if is_told then [] else (if is_so then line else [])
+
+-- what is new of a node
+abbrev pub news_of : ℕ → Told → Figures → List ℕ → List ℕ
+news_of node told figures noticed =
+    notices_of node told.noticed noticed ++ once told.is_full (is_full figures) (full_line node) ++ once told.is_short (is_short figures) (short_line node)

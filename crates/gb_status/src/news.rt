@@ -1,0 +1,190 @@
+//! What the log tells of a node, by its figures and the nodes that it noticed.
+ghost use Rattle.std.specs.Prelude.{◌≡◌, ◌++◌, ◌||◌, OnOk, decimal, false};
+ghost use Rattle.std.specs.FinSet as set;
+ghost use Rattle.gb_types.specs.Rising.{rising};
+ghost use Rattle.gb_status.specs.Names.{line_feed};
+ghost use Rattle.gb_status.specs.News.{front_of, full_line, is_full, is_short, line_of, news_of, notice_of, noticed_line, notices_of, once, short_line};
+
+use crate::figure::Figure;
+use crate::figures::Figures;
+use gb_types::memory::{OutOfMemory, put_bytes};
+use gb_types::node::{NodeId, NodeSet};
+use gb_types::number::put_number;
+
+/// What the log has told of a node.
+#[derive(Drop)]
+pub struct Told {
+    /// The nodes that this one noticed.
+    pub noticed: NodeSet,
+    /// That it has as many connections as are allowed.
+    pub is_full: bool,
+    /// That it lacked memory.
+    pub is_short: bool,
+}
+
+impl Told {
+    /// Nothing was told.
+    pub fn new() -> Told
+        ensures noticed { result.noticed ≡ set.empty }
+        ensures others { (result.is_full ≡ false) × (result.is_short ≡ false) }
+    {
+        Told {
+            noticed: NodeSet::new(),
+            is_full: false,
+            is_short: false,
+        }
+    }
+
+    /// Notes that what is new by these figures was told.
+    pub fn note(&mut self, figures: &Figures, noticed: &NodeSet)
+        ensures noticed { self.new.noticed ≡ set.union self.old.noticed noticed.now }
+        ensures full { self.new.is_full ≡ (self.old.is_full || is_full figures.now) }
+        ensures short { self.new.is_short ≡ (self.old.is_short || is_short figures.now) }
+    {
+        self.noticed = self.noticed.union(noticed);
+        self.is_full = self.is_full || is_full(figures);
+        self.is_short = self.is_short || is_short(figures);
+    }
+}
+
+// Returns true if a connection was closed since as many were open as are allowed.
+fn is_full(figures: &Figures) -> bool
+    ensures { result ≡ is_full figures.now }
+{
+    figures.value(Figure::TurnedAway) > 0
+}
+
+// Returns true if there was no memory for a request or for a packet.
+fn is_short(figures: &Figures) -> bool
+    ensures { result ≡ is_short figures.now }
+{
+    figures.value(Figure::Lost) > 0 || figures.value(Figure::RefusedOutOfMemory) > 0
+}
+
+// Appends words and a number.
+fn put_numbered(out: &mut Vec<u8>, words: &[u8], number: u64) -> Result<(), OutOfMemory>
+    ensures { OnOk result (out.new.items ≡ out.old.items ++ (words.now ++ decimal number)) }
+{
+    put_bytes(out, words)?;
+    put_number(out, number)
+}
+
+// Appends words and the end of the line.
+fn put_last(out: &mut Vec<u8>, words: &[u8]) -> Result<(), OutOfMemory>
+    ensures { OnOk result (out.new.items ≡ out.old.items ++ (words.now ++ line_feed)) }
+{
+    put_bytes(out, words)?;
+    put_bytes(out, b"\n")
+}
+
+// Appends the front of a line that tells of a node.
+fn put_front(out: &mut Vec<u8>, node: u64) -> Result<(), OutOfMemory>
+    ensures { OnOk result (out.new.items ≡ out.old.items ++ front_of node) }
+{
+    put_numbered(out, b"gb_serve: node ", node)
+}
+
+// Appends the line of a noticed node.
+fn put_noticed(out: &mut Vec<u8>, node: u64, other: u64) -> Result<(), OutOfMemory>
+    ensures { OnOk result (out.new.items ≡ out.old.items ++ noticed_line node other) }
+{
+    put_front(out, node)?;
+    put_numbered(out, b" noticed node ", other)?;
+    put_last(out, b" as crashed")
+}
+
+// Appends the line of a noticed node, unless it was told before.
+fn put_notice(
+    out: &mut Vec<u8>,
+    node: u64,
+    told: &NodeSet,
+    other: NodeId,
+) -> Result<(), OutOfMemory>
+    ensures { OnOk result (out.new.items ≡ out.old.items ++ notice_of node told.now other.number) }
+{
+    if told.contains(other) {
+        return Ok(());
+    }
+    put_noticed(out, node, u64::from(other.number))
+}
+
+// Appends the lines of the noticed nodes that were not told before.
+fn put_notices(
+    out: &mut Vec<u8>,
+    node: u64,
+    told: &NodeSet,
+    noticed: &NodeSet,
+) -> Result<(), OutOfMemory>
+    ensures { OnOk result (out.new.items ≡ out.old.items ++ notices_of node told.now (rising noticed.now)) }
+{
+    for other in noticed.nodes() {
+        put_notice(out, node, told, other)?;
+    }
+    Ok(())
+}
+
+// Appends a line that tells of a node, if it is so and was not told before.
+fn put_once(
+    out: &mut Vec<u8>,
+    node: u64,
+    is_told: bool,
+    is_so: bool,
+    words: &[u8],
+) -> Result<(), OutOfMemory>
+    ensures { OnOk result (out.new.items ≡ out.old.items ++ once is_told is_so (line_of node words.now)) }
+{
+    if is_told {
+        return Ok(());
+    }
+    if !is_so {
+        return Ok(());
+    }
+    put_front(out, node)?;
+    put_last(out, words)
+}
+
+// Appends that a node has as many connections as are allowed, once.
+fn put_full(out: &mut Vec<u8>, node: u64, told: &Told, figures: &Figures) -> Result<(), OutOfMemory>
+    ensures { OnOk result (out.new.items ≡ out.old.items ++ once told.now.is_full (is_full figures.now) (full_line node)) }
+{
+    put_once(
+        out,
+        node,
+        told.is_full,
+        is_full(figures),
+        b" has as many connections as are allowed, and closes more",
+    )
+}
+
+// Appends that a node lacked memory, once.
+fn put_short(
+    out: &mut Vec<u8>,
+    node: u64,
+    told: &Told,
+    figures: &Figures,
+) -> Result<(), OutOfMemory>
+    ensures { OnOk result (out.new.items ≡ out.old.items ++ once told.now.is_short (is_short figures.now) (short_line node)) }
+{
+    put_once(
+        out,
+        node,
+        told.is_short,
+        is_short(figures),
+        b" lacked memory",
+    )
+}
+
+/// Appends the lines that tell what is new of the node with this number, by its figures and the nodes that it noticed.
+pub fn put_news(
+    out: &mut Vec<u8>,
+    node: u64,
+    told: &Told,
+    figures: &Figures,
+    noticed: &NodeSet,
+) -> Result<(), OutOfMemory>
+    ensures { OnOk result (out.new.items ≡ out.old.items ++ news_of node told.now figures.now (rising noticed.now)) }
+{
+    put_notices(out, node, &told.noticed, noticed)?;
+    put_full(out, node, told, figures)?;
+    put_short(out, node, told, figures)
+}
