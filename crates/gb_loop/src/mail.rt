@@ -11,7 +11,9 @@ ghost use Rattle.gb_worker.specs.Carried.{GivesNothing, HasCarried};
 ghost use Rattle.gb_worker.specs.Gained.{noted};
 ghost use Rattle.gb_loop.specs.Mailed.{HasCalled, HasMailed};
 
-use crate::counts::{asked_figure, count_packet, count_reply, count_tick, places_asked, sent_figure};
+use crate::counts::{
+    asked_figure, count_packet, count_reply, count_tick, places_asked, sent_figure,
+};
 use crate::hint::{Hint, hint_of, put_addresses};
 use crate::operate::operate;
 use gb_host::fault::HostFault;

@@ -119,24 +119,25 @@ fn compare(rt: &impl Abort, groups: &mut Groups, steps: &[(Step, u16, Told)]) {
     }
 }
 
-/// The next batch for a node has items of these groups, with these numbers, in this order.
+/// The next batch for a node has items of these groups, with these numbers, in this order, in the version.
 fn packs(
     groups: &mut Groups,
     alloc: Global,
+    version: Version,
     dest: NodeId,
     room: u16,
     want: &[(u16, u16)],
 ) -> Result<bool, OutOfMemory> {
     let room = usize::from(room);
-    let (count, bytes) = groups.measure(dest, room);
+    let (count, bytes) = groups.measure(version, dest, room);
     let mut out = Vec::with_capacity(alloc, bytes)?;
-    groups.pack_into(dest, room, count, &mut out);
+    groups.pack_into(version, dest, room, count, &mut out);
     if out.len() != bytes || want.len() != usize::from(count) {
         return Ok(false);
     }
     let mut texts = out.as_slice();
     for (group, seq) in want {
-        let Some((item, rest)) = first_item(1_024, texts) else {
+        let Some((item, rest)) = first_item(version, 1_024, texts) else {
             return Ok(false);
         };
         if item.tenant != 7 || item.origin != 0 || item.group != *group || item.seq != *seq {
@@ -166,7 +167,7 @@ fn give(
             To::Me => ME,
             To::Friend => FRIEND,
         };
-        let packed = packs(groups, alloc, dest, *room, want)?;
+        let packed = packs(groups, alloc, Version::One, dest, *room, want)?;
         assert!(rt; packed);
     }
     Ok(())

@@ -79,6 +79,8 @@ pub enum Told {
     Sent(usize),
     /// The same of version 2.
     SentTwo(usize),
+    /// The same of version 3.
+    SentThree(usize),
     Nothing,
     /// A packet is not sent, for this reason.
     NotSent(Refusal),
@@ -129,11 +131,13 @@ pub fn unlike(alloc: Global) -> Result<Vec<Node>, OutOfMemory> {
     Ok(nodes)
 }
 
-/// The first two nodes and the last one of a cluster of 32, at which nothing has happened.
-pub fn far(alloc: Global) -> Result<Vec<Node>, OutOfMemory> {
+/// The first two nodes and the last one of a cluster of 32 of this version, at which nothing has happened.
+pub fn far(alloc: Global, version: Version) -> Result<Vec<Node>, OutOfMemory>
+    requires { 32 ≤ (limits_of version).nodes }
+{
     let mut nodes = Vec::new(alloc);
     for number in [FIRST, SECOND, LAST] {
-        nodes.push(start(alloc, number, 32, Version::Two))?;
+        nodes.push(start(alloc, number, 32, version))?;
     }
     Ok(nodes)
 }
@@ -165,6 +169,7 @@ fn is_sent(sent: &Sent, wanted: &Told) -> bool {
     match (sent, wanted) {
         (Sent::Packet(packet), Told::Sent(wanted)) => is_packet(packet, 1, *wanted),
         (Sent::Packet(packet), Told::SentTwo(wanted)) => is_packet(packet, 2, *wanted),
+        (Sent::Packet(packet), Told::SentThree(wanted)) => is_packet(packet, 3, *wanted),
         (Sent::Nothing, Told::Nothing) => true,
         (Sent::Refused(why), Told::NotSent(wanted)) => *why == *wanted,
         _ => false,

@@ -5,6 +5,7 @@ use gb_node::answer::Frame;
 use gb_types::address::Addr;
 use gb_types::kind::Kind;
 use gb_types::refusal::Refusal;
+use gb_types::version::Version;
 use std::rt::HostRuntime;
 use std::test::Fail;
 
@@ -34,6 +35,11 @@ const OVERFILLS_ONE: &[u8] = &[b'a'; 914];
 const FILLS_TWO: &[u8] = &[b'a'; 4_021];
 
 const OVERFILLS_TWO: &[u8] = &[b'a'; 4_022];
+
+/// The same of version 3.
+const FILLS_THREE: &[u8] = &[b'a'; 4_005];
+
+const OVERFILLS_THREE: &[u8] = &[b'a'; 4_006];
 
 /// The first node is of version 2 and the second of version 1. What is too long at the second is let fall there, and the
 /// frame is acknowledged.
@@ -105,7 +111,7 @@ const LONGEST_PACKETS: &[Line] = &[
 #[test]
 fn longest_packets(rt: HostRuntime) -> Result<(), Fail> {
     run(&rt, rt.alloc(), LONGEST_PACKETS)?;
-    let mut nodes = far(rt.alloc())?;
+    let mut nodes = far(rt.alloc(), Version::Two)?;
     run_at(&rt, rt.alloc(), &mut nodes, LONGEST_PACKETS)?;
     Ok(())
 }
@@ -175,8 +181,45 @@ const ROOM_OF_TWO: &[Line] = &[
 
 #[test]
 fn room_of_version_two(rt: HostRuntime) -> Result<(), Fail> {
-    let mut nodes = far(rt.alloc())?;
+    let mut nodes = far(rt.alloc(), Version::Two)?;
     run_at(&rt, rt.alloc(), &mut nodes, ROOM_OF_TWO)?;
+    Ok(())
+}
+
+/// A packet of version 3 has 16,345 bytes for items, each with a header of 13. A frame is sent again as it was, and acknowledged.
+const ROOM_OF_THREE: &[Line] = &[
+    (FIRST, Step::Tenant(7), Told::Done),
+    (FIRST, Step::MakeFar(BESIDE, Kind::Beb), Told::Done),
+    (FIRST, Step::Open(BESIDE), Told::Done),
+    (FIRST, Step::Say(BESIDE, LONGEST_OF_TWO), Told::Said(1)),
+    (FIRST, Step::Say(BESIDE, LONGEST_OF_TWO), Told::Said(2)),
+    (FIRST, Step::Say(BESIDE, LONGEST_OF_TWO), Told::Said(3)),
+    (FIRST, Step::Say(BESIDE, FILLS_THREE), Told::Said(4)),
+    (FIRST, Step::Pack(LAST), Told::SentThree(16_384)),
+    (FIRST, Step::Pack(LAST), Told::Nothing),
+    (FIRST, Step::Say(BESIDE, LONGEST_OF_TWO), Told::Said(5)),
+    (FIRST, Step::Say(BESIDE, LONGEST_OF_TWO), Told::Said(6)),
+    (FIRST, Step::Say(BESIDE, LONGEST_OF_TWO), Told::Said(7)),
+    (FIRST, Step::Say(BESIDE, OVERFILLS_THREE), Told::Said(8)),
+    (FIRST, Step::Pack(LAST), Told::SentThree(12_366)),
+    (FIRST, Step::Pack(LAST), Told::SentThree(4_058)),
+    (FIRST, Step::Pack(LAST), Told::Nothing),
+    (LAST, Step::Arrive(0), Told::Came(FIRST, Frame::First, 4, 0)),
+    (LAST, Step::Arrive(2), Told::Came(FIRST, Frame::First, 1, 0)),
+    (FIRST, Step::Again(LAST, 2), Told::SentThree(12_366)),
+    (LAST, Step::Arrive(3), Told::Came(FIRST, Frame::First, 3, 0)),
+    (LAST, Step::Ack(FIRST), Told::SentThree(39)),
+    (
+        FIRST,
+        Step::Arrive(4),
+        Told::Came(LAST, Frame::Nothing, 0, 3),
+    ),
+];
+
+#[test]
+fn room_of_version_three(rt: HostRuntime) -> Result<(), Fail> {
+    let mut nodes = far(rt.alloc(), Version::Three)?;
+    run_at(&rt, rt.alloc(), &mut nodes, ROOM_OF_THREE)?;
     Ok(())
 }
 
@@ -233,7 +276,7 @@ const THE_LAST_NODE: &[Line] = &[
 
 #[test]
 fn the_last_node_says_and_hears(rt: HostRuntime) -> Result<(), Fail> {
-    let mut nodes = far(rt.alloc())?;
+    let mut nodes = far(rt.alloc(), Version::Two)?;
     run_at(&rt, rt.alloc(), &mut nodes, THE_LAST_NODE)?;
     Ok(())
 }

@@ -1,5 +1,6 @@
 //! Packets: what is written and read, each fault, and each limit at its last allowed and first refused value.
-ghost use Rattle.std.specs.Prelude.{◌≡◌, ◌↔◌, All, IsTrue};
+ghost use Rattle.std.specs.Prelude.{All, IsTrue};
+ghost use Rattle.gb_frame.specs.Spelling.{HasGeneration};
 
 use gb_cap::hmac::HmacKey;
 use gb_frame::fault::PacketFault;
@@ -33,6 +34,10 @@ const ACKNOWLEDGEMENT: &str =
 const FAR: &str =
     "4742021f1e0000000000000001000000000000000000000000000000010001000700011f0001000161afd14fdc10d256e1";
 
+/// The packet of version 3 of node 0 to node 1 with two items of one group, of generations 0 and 1, with its tag.
+const GENERATIONS: &str =
+    "4742030001000000000000000100000000000000000000000000000001000200070001000000000000010001610007000100000001000001000162f55173670c2d4225";
+
 /// A version of the text and its limits: its byte, its last node, the number beyond it (0 stands for no such number), its longest
 /// payload, the payloads of a packet of the greatest length, that length, and how many of its bytes are for items.
 struct Longest {
@@ -64,6 +69,16 @@ const LONGEST: &[Longest] = &[
         beyond: 0,
         payload: 4_096,
         payloads: [4_096, 0, 4_096, 0, 4_096, 0, 0, 3_985],
+        packet: 16_384,
+        room: 16_345,
+    },
+    Longest {
+        version: Version::Three,
+        byte: 3,
+        node: 31,
+        beyond: 0,
+        payload: 4_096,
+        payloads: [4_096, 0, 4_096, 0, 4_096, 0, 0, 3_953],
         packet: 16_384,
         room: 16_345,
     },
@@ -115,16 +130,19 @@ fn packet(alloc: Global, version: Version, payloads: &[u16]) -> Result<Packet, O
     })
 }
 
-/// Whether each item is of a group's first generation.
-fn are_first(items: &[Item]) -> bool
-    ensures { IsTrue result ↔ All (λ item. item.generation ≡ 0) items.now }
+/// Whether the version can tell the generation of each item.
+fn are_told(version: Version, items: &[Item]) -> bool
+    ensures { IsTrue result → All (HasGeneration version) items.now }
 {
-    items.iter().all(|item| item.generation == 0)
+    match version {
+        Version::One | Version::Two => items.iter().all(|item| item.generation == 0),
+        Version::Three => true,
+    }
 }
 
 /// The packet's text, if it can be written.
 fn written(alloc: Global, packet: &Packet) -> Result<Option<Vec<u8>>, OutOfMemory> {
-    if !packet.is_within_limits() || !are_first(&packet.items) {
+    if !packet.is_within_limits() || !are_told(packet.version, &packet.items) {
         return Ok(None);
     }
     Ok(Some(encode(alloc, packet, &key())?))
@@ -143,7 +161,11 @@ fn shaped(alloc: Global, version: u8, payloads: &[u16]) -> Result<Vec<u8>, Fail>
     }
     for payload in payloads {
         let len = payload.to_be_bytes();
-        text.extend_from_slice(&[0, 7, 0, 1, 0, 0, 1, len[0], len[1]])?;
+        text.extend_from_slice(&[0, 7, 0, 1])?;
+        if version == 3 {
+            text.extend_from_slice(&[0; 4])?;
+        }
+        text.extend_from_slice(&[0, 0, 1, len[0], len[1]])?;
         for _ in 0..*payload {
             text.push(0x61)?;
         }
@@ -230,9 +252,11 @@ fn told_head() -> Head {
 
 /// Whether one item of the byte `a` stands in the frame, which is none where payloads have no bytes.
 fn has_one_item(frame: &[u8]) -> bool {
-    match first_item(1, frame) {
+    match first_item(Version::One, 1, frame) {
         Some((first, rest)) => {
-            first.payload == b"a".as_slice() && rest.is_empty() && first_item(0, frame).is_none()
+            first.payload == b"a".as_slice()
+                && rest.is_empty()
+                && first_item(Version::One, 0, frame).is_none()
         }
         None => false,
     }
@@ -251,8 +275,8 @@ fn a_frame_is_wrapped(rt: HostRuntime) -> Result<(), Fail> {
         payload: b"a",
     };
     let mut frame = Vec::with_capacity(alloc, 10)?;
-    put_item(item, &mut frame);
-    let count = count_items(&frame);
+    put_item(Version::One, item, &mut frame);
+    let count = count_items(Version::One, &frame);
     let head = Head {
         version: Version::One,
         from: NodeId { number: 0 },
@@ -319,6 +343,53 @@ fn version_two_is_read(rt: HostRuntime) -> Result<(), Fail> {
     Ok(())
 }
 
+/// The packet of `GENERATIONS`.
+fn packet_of_generations(alloc: Global) -> Result<Packet, OutOfMemory> {
+    let mut packet = packet(alloc, Version::Three, &[1, 1])?;
+    if let Some(item) = packet.items.last_mut() {
+        item.generation = 1;
+        item.payload = Payload::from_slice(alloc, b"b")?;
+    }
+    Ok(packet)
+}
+
+/// Whether these are the items of `GENERATIONS`.
+fn are_of_generations(read: &PacketView<'_>) -> bool {
+    let mut items = read.items();
+    let (Some(first), Some(second)) = (items.next(), items.next()) else {
+        return false;
+    };
+    let numbers = (first.generation, first.seq, second.generation, second.seq);
+    numbers == (0, 1, 1, 1)
+        && first.payload == b"a".as_slice()
+        && second.payload == b"b".as_slice()
+        && items.next().is_none()
+}
+
+/// Two items of one group, of generations 0 and 1, are written in version 3 and read again.
+#[test]
+fn items_of_version_three_name_their_generation(rt: HostRuntime) -> Result<(), Fail> {
+    let packet = packet_of_generations(rt.alloc())?;
+    compare(&rt, rt.alloc(), &packet, GENERATIONS)?;
+    let text = bytes(rt.alloc(), GENERATIONS)?;
+    let Ok(read) = decode(&text, &key()) else {
+        return Err(Fail::from("the text is a packet's"));
+    };
+    let held = read.head().version == Version::Three && are_of_generations(&read);
+    assert!(rt; held);
+    Ok(())
+}
+
+/// An item of generation 1 has no text in versions 1 and 2.
+#[test]
+fn versions_one_and_two_name_no_generation(rt: HostRuntime) -> Result<(), Fail> {
+    let mut packet = packet_of_generations(rt.alloc())?;
+    packet.version = Version::Two;
+    let text = written(rt.alloc(), &packet)?;
+    assert!(rt; text.is_none());
+    Ok(())
+}
+
 #[test]
 fn what_has_no_items_is_read(rt: HostRuntime) -> Result<(), Fail> {
     let text = bytes(rt.alloc(), ACKNOWLEDGEMENT)?;
@@ -360,7 +431,8 @@ const FAULTS: &[Changed] = &[
     (1, 0, 0x00, PacketFault::Magic),
     (1, 2, 0x00, PacketFault::Version),
     (1, 2, 0x02, PacketFault::Tag),
-    (1, 2, 0x03, PacketFault::Version),
+    (1, 2, 0x03, PacketFault::Length),
+    (1, 2, 0x04, PacketFault::Version),
     (1, 4, 0x00, PacketFault::Node),
     (1, 4, 15, PacketFault::Tag),
     (1, 4, 16, PacketFault::Node),
@@ -379,6 +451,10 @@ const FAULTS: &[Changed] = &[
     (1, 29, 0xff, PacketFault::Length),
     (1, 38, 0x04, PacketFault::Length),
     (2, 38, 0x10, PacketFault::Length),
+    (3, 4, 31, PacketFault::Tag),
+    (3, 4, 32, PacketFault::Node),
+    (3, 35, 0xff, PacketFault::Tag),
+    (3, 42, 0x10, PacketFault::Length),
 ];
 
 /// Whether the changed text has this fault.
@@ -459,7 +535,7 @@ fn has_limit(alloc: Global, case: &Longest, payload: u16, within: bool) -> Resul
     Ok(found == within && read == Some(fault))
 }
 
-/// The longest payload is 1,024 bytes in version 1 and 4,096 in version 2.
+/// The longest payload is 1,024 bytes in version 1, and 4,096 in versions 2 and 3.
 #[test]
 fn longest_payload(rt: HostRuntime) -> Result<(), Fail> {
     for case in LONGEST {
@@ -506,7 +582,7 @@ fn longer_is_refused(alloc: Global, case: &Longest) -> Result<bool, Fail> {
     Ok(!within && longer && fault == Some(PacketFault::TooLong))
 }
 
-/// The longest packet is 8,192 bytes in version 1 and 16,384 in version 2.
+/// The longest packet is 8,192 bytes in version 1, and 16,384 in versions 2 and 3.
 #[test]
 fn longest_packet(rt: HostRuntime) -> Result<(), Fail> {
     for case in LONGEST {

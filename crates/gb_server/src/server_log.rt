@@ -120,7 +120,12 @@ pub fn end_line(alloc: Global, why: Why) -> Result<Vec<u8>, OutOfMemory>
 }
 
 // Returns the lines that tell what is new of a node, and notes that it was told.
-fn news(alloc: Global, board: &Board, node: NodeId, told: &mut Told) -> Result<Vec<u8>, OutOfMemory> {
+fn news(
+    alloc: Global,
+    board: &Board,
+    node: NodeId,
+    told: &mut Told,
+) -> Result<Vec<u8>, OutOfMemory> {
     let (figures, noticed) = (board.figures(node), board.noticed(node));
     let mut lines = Vec::new(alloc);
     put_news(&mut lines, u64::from(node.number), told, &figures, &noticed)?;

@@ -94,7 +94,8 @@ fn asks<H: Net<Stream = TcpStream> + Clock>(
     let is_sent = send_garbage(rt, 24_701);
     let has_figures = has_figures(rt, alloc, 24_790);
     let health = told(rt, alloc, 24_790, HEALTH);
-    let is_well = matches!(health, Some(text) if text.starts_with(b"HTTP/1.1 200 ") && text.ends_with(b"\r\n\r\nok\n"));
+    let is_well =
+        matches!(health, Some(text) if text.starts_with(b"HTTP/1.1 200 ") && text.ends_with(b"\r\n\r\nok\n"));
     Ok([is_given && is_refused, is_sent, has_figures, is_well])
 }
 
@@ -197,7 +198,10 @@ static ANSWERS: [(&[u8], &[u8]); 8] = [
         b"GET /healthz HTTP/1.1\r\nHost: a\r\n\r\n",
         b"HTTP/1.1 200 OK\r\n",
     ),
-    (b"GET / HTTP/1.1\r\nHost: a\r\n\r\n", b"HTTP/1.1 404 Not Found\r\n"),
+    (
+        b"GET / HTTP/1.1\r\nHost: a\r\n\r\n",
+        b"HTTP/1.1 404 Not Found\r\n",
+    ),
     (
         b"GET /metrics?x=1 HTTP/1.1\r\nHost: a\r\n\r\n",
         b"HTTP/1.1 404 Not Found\r\n",

@@ -18,7 +18,7 @@ fn read(alloc: Global, line: &str) -> Result<ServePlan, WordFault> {
 }
 
 // Lines, and the number of nodes, the version, the base port, the silence and the sessions that they are, and whether there are tapes.
-static PLANS: [(&str, u8, Version, u16, u16, u16, bool); 11] = [
+static PLANS: [(&str, u8, Version, u16, u16, u16, bool); 12] = [
     (
         "gb_serve --nodes 1 --base-port 1024",
         1,
@@ -104,6 +104,15 @@ static PLANS: [(&str, u8, Version, u16, u16, u16, bool); 11] = [
         "gb_serve --version=2 --nodes 17 --base-port 42000",
         17,
         Version::Two,
+        42_000,
+        50,
+        0,
+        false,
+    ),
+    (
+        "gb_serve --nodes 32 --base-port 42000 --version 3",
+        32,
+        Version::Three,
         42_000,
         50,
         0,
@@ -263,7 +272,7 @@ fn words_say_where_the_status_is_told(rt: HostRuntime) {
 }
 
 // Each number's first value outside its range, words that are too few, too many, unknown, or given twice.
-static REFUSED: [&str; 51] = [
+static REFUSED: [&str; 52] = [
     "gb_serve ",
     "gb_serve --nodes 2",
     "gb_serve --base-port 42000",
@@ -274,7 +283,8 @@ static REFUSED: [&str; 51] = [
     "gb_serve --nodes 33 --base-port 42000",
     "gb_serve --nodes 33 --base-port 42000 --version 2",
     "gb_serve --nodes 2 --base-port 42000 --version 0",
-    "gb_serve --nodes 2 --base-port 42000 --version 3",
+    "gb_serve --nodes 33 --base-port 42000 --version 3",
+    "gb_serve --nodes 2 --base-port 42000 --version 4",
     "gb_serve --nodes 2 --base-port 42000 --version 257",
     "gb_serve --nodes 2 --base-port 42000 --version two",
     "gb_serve --nodes 2 --base-port 42000 --version -1",
@@ -335,8 +345,8 @@ static EXPLAINED: [(&str, &str); 8] = [
         "error: invalid value '17' for '--nodes <N>': packets of version 1 can name 16\n\nFor more information, try '--help'.\n",
     ),
     (
-        "gb_serve --nodes 2 --base-port 42000 --version 3",
-        "error: invalid value '3' for '--version <V>': there is no such version\n\nFor more information, try '--help'.\n",
+        "gb_serve --nodes 2 --base-port 42000 --version 4",
+        "error: invalid value '4' for '--version <V>': there is no such version\n\nFor more information, try '--help'.\n",
     ),
     (
         "gb_serve --nodes 2 --base-port 42000 --version 256",
