@@ -1,5 +1,6 @@
 //! Packets: what is written and read, each fault, and each limit at its last allowed and first refused value.
 ghost use Rattle.std.specs.Prelude.{All, IsTrue};
+ghost use Rattle.gb_frame.specs.Packet.{item_of};
 ghost use Rattle.gb_frame.specs.Spelling.{HasGeneration};
 
 use gb_cap::hmac::HmacKey;
@@ -130,14 +131,26 @@ fn packet(alloc: Global, version: Version, payloads: &[u16]) -> Result<Packet, O
     })
 }
 
+/// Whether the version can tell the generation of an item.
+fn can_tell(version: Version, item: ItemView<'_>) -> bool
+    ensures { IsTrue result → HasGeneration version (item_of item.entry) }
+{
+    match version {
+        Version::One | Version::Two => item.generation == 0,
+        Version::Three => true,
+    }
+}
+
 /// Whether the version can tell the generation of each item.
 fn are_told(version: Version, items: &[Item]) -> bool
     ensures { IsTrue result → All (HasGeneration version) items.now }
 {
-    match version {
-        Version::One | Version::Two => items.iter().all(|item| item.generation == 0),
-        Version::Three => true,
+    for item in items {
+        if !can_tell(version, item.view()) {
+            return false;
+        }
     }
+    true
 }
 
 /// The packet's text, if it can be written.
