@@ -1,6 +1,7 @@
 -- Frames by how many items of a group they have.
 use Rattle.std.specs.Prelude.{ℕ, ◌+◌, Bool, List, [], ◌∷◌, ◌++◌, if◌then◌else◌}
 use Rattle.gb_types.specs.declared.node.NodeId.{NodeId}
+use Rattle.gb_alone.specs.declared.event.GroupEvent.TheVariants.{Done}
 use Rattle.gb_alone.specs.declared.event.GroupStep.{GroupStep}
 use Rattle.gb_isolation.specs.Project.{if_any}
 

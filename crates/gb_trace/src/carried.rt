@@ -4,6 +4,7 @@ ghost use Rattle.std.specs.List.{flat_map};
 ghost use Rattle.std.specs.Option.{option_to_list};
 ghost use Rattle.gb_node.specs.Past as packets;
 ghost use Rattle.gb_node.specs.NodeStep.{node_numbered};
+ghost use Rattle.gb_alone.specs.declared.event.GroupEvent.TheVariants.{Took, Done};
 ghost use Rattle.gb_isolation.specs.Project.{group_items_of, if_any, comes, is_new_ack, is_new_frame, acknowledges, brings, arrived};
 ghost use Rattle.gb_trace.specs.Counts.{counts_acknowledged};
 ghost use Rattle.gb_trace.specs.Deeds.{past_in};
