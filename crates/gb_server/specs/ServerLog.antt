@@ -15,11 +15,15 @@ abbrev pub status_words : Option SocketAddr → List ℕ
 status_words (Some address) = codes ", status at http://" ++ socket_text address ++ codes "/metrics"
 status_words None = []
 
+-- the ports of so many nodes, from a base port on
+abbrev pub port_words : ℕ → ℕ → List ℕ
+port_words nodes base =
+    (codes " nodes, packets at UDP 127.0.0.1:" ++ range_words base nodes) ++ (codes ", sessions at TCP 127.0.0.1:" ++ range_words (base + 64) nodes)
+
 -- the first line: the version, how many nodes there are, their ports, and where the status is told
 abbrev pub begin_line : List ℕ → ℕ → ℕ → Option SocketAddr → List ℕ
 begin_line version nodes port status =
-    lined ((codes "gb_serve " ++ version ++ codes ": " ++ decimal nodes) ++ (codes " nodes, packets at UDP 127.0.0.1:" ++ range_words port nodes)
-    ++ (codes ", sessions at TCP 127.0.0.1:" ++ range_words (port + 64) nodes) ++ status_words status)
+    lined ((codes "gb_serve " ++ version ++ codes ": " ++ decimal nodes) ++ port_words nodes port ++ status_words status)
 
 -- why a server ends
 abbrev pub end_words : Why → List ℕ

@@ -1,6 +1,6 @@
 //! The log of a server, on standard error: one line for each event that an operator must know.
 ghost use Rattle.std.specs.Prelude.{◌≡◌, ◌≤◌, ◌++◌, ◌+◌, ◌-◌, IfOk, OnOk, codes, decimal, true};
-ghost use Rattle.gb_server.specs.ServerLog.{begin_line, end_line_of, end_words, range_words, status_words};
+ghost use Rattle.gb_server.specs.ServerLog.{begin_line, end_line_of, end_words, port_words, range_words, status_words};
 ghost use Rattle.std.specs.Net.Text.{socket_text};
 ghost use Rattle.gb_serve_words.specs.Words.{IsWithin};
 
@@ -23,6 +23,7 @@ pub struct ServerLog {
     /// Nothing is written.
     pub is_quiet: bool,
     alloc: Global,
+    nodes: u8,
     // Of each node.
     told: Vec<Told>,
     // Why the server ends.
@@ -47,6 +48,16 @@ fn put_range(out: &mut Vec<u8>, words: &[u8], first: u64, count: u64) -> Result<
     put_number(out, first)?;
     put_bytes(out, b" to ")?;
     put_number(out, first + count - 1)
+}
+
+// Appends the ports of so many nodes, from a base port on.
+fn put_ports(out: &mut Vec<u8>, nodes: u64, base: u64) -> Result<(), OutOfMemory>
+    requires nodes { (1 ≤ nodes) × (nodes ≤ 32) }
+    requires base { base ≤ 65000 }
+    ensures { OnOk result (out.new.items ≡ out.old.items ++ port_words nodes base) }
+{
+    put_range(out, b" nodes, packets at UDP 127.0.0.1:", base, nodes)?;
+    put_range(out, b", sessions at TCP 127.0.0.1:", base + 64, nodes)
 }
 
 // Appends where the status is told, if it is.
@@ -78,17 +89,17 @@ fn put_version(out: &mut Vec<u8>, version: &[u8], nodes: u64) -> Result<(), OutO
 pub fn begin_line(
     alloc: Global,
     version: &[u8],
-    plan: ServePlan,
+    nodes: u64,
+    base: u64,
     status: Option<SocketAddr>,
 ) -> Result<Vec<u8>, OutOfMemory>
-    requires within { IsWithin plan }
-    ensures { IfOk result (λ line. line.items ≡ begin_line version.now plan.nodes plan.base_port status) }
+    requires nodes { (1 ≤ nodes) × (nodes ≤ 32) }
+    requires base { base ≤ 65000 }
+    ensures { IfOk result (λ line. line.items ≡ begin_line version.now nodes base status) }
 {
-    let (nodes, base) = (u64::from(plan.nodes), u64::from(plan.base_port));
     let mut line = Vec::new(alloc);
     put_version(&mut line, version, nodes)?;
-    put_range(&mut line, b" nodes, packets at UDP 127.0.0.1:", base, nodes)?;
-    put_range(&mut line, b", sessions at TCP 127.0.0.1:", base + 64, nodes)?;
+    put_ports(&mut line, nodes, base)?;
     put_status(&mut line, status)?;
     put_bytes(&mut line, b"\n")?;
     Ok(line)
@@ -154,6 +165,7 @@ impl ServerLog {
         Ok(ServerLog {
             is_quiet,
             alloc,
+            nodes,
             told,
             is_end_told: false,
         })
@@ -173,16 +185,17 @@ impl ServerLog {
         if self.is_quiet {
             return;
         }
-        write(errors, begin_line(self.alloc, version, plan, status));
+        let (nodes, base) = (u64::from(plan.nodes), u64::from(plan.base_port));
+        write(errors, begin_line(self.alloc, version, nodes, base, status));
     }
 
     // Writes what is new of the nodes.
     fn tell_news<E: Write>(&mut self, board: &Board, errors: &mut E)
         ensures quiet { self.new.is_quiet ≡ self.old.is_quiet }
     {
-        for number in 0..self.told.len() {
-            if let Some(node) = NodeId::from_number(number as u8)
-                && let Some(told) = self.told.get_mut(number)
+        for number in 0..self.nodes {
+            if let Some(node) = NodeId::from_number(number)
+                && let Some(told) = self.told.get_mut(usize::from(number))
             {
                 write(errors, news(self.alloc, board, node, told));
             }
