@@ -89,7 +89,7 @@ fn asks<H: Net<Stream = TcpStream> + Clock>(
     let is_refused = gives(
         alloc,
         &mut other,
-        &[(Head::Open, "8 1", "refused 2 NoGroup")],
+        &[(Head::Open, "8 1", "refused 1 Denied")],
     )?;
     let is_sent = send_garbage(rt, 24_701);
     let has_figures = has_figures(rt, alloc, 24_790);
