@@ -285,9 +285,9 @@ fn the_first_line(rt: HostRuntime) -> Result<(), Fail> {
 #[test]
 fn the_first_line_with_versions(rt: HostRuntime) -> Result<(), Fail> {
     let good = compare(&rt, rt.alloc(), None, VERSIONED_LINES)?;
-    assert!(rt; good == 9);
+    assert!(rt; good == 12);
     let bad = compare(&rt, rt.alloc(), None, BAD_VERSIONED_LINES)?;
-    assert!(rt; bad == 46);
+    assert!(rt; bad == 47);
     Ok(())
 }
 
