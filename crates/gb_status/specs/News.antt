@@ -3,6 +3,7 @@ use Rattle.std.specs.Prelude.{ℕ, Bool, List, [], ◌++◌, ◌||◌, codes, de
 use Rattle.std.specs.FinSet as set
 use Rattle.std.specs.List.{flat_map}
 use Rattle.std.specs.Ordering.{nat_cmp}
+use Rattle.gb_types.specs.Rising.{rising}
 use Rattle.gb_status.specs.Figures.{value_of}
 use Rattle.gb_status.specs.Names.{line_feed}
 use Rattle.gb_status.specs.declared.figure.Figure.TheVariants.{Lost, RefusedOutOfMemory, TurnedAway}
