@@ -76,7 +76,8 @@ const FAULTY: &[Faulty] = &[
     // With eight zeros in place of the tag.
     (49, 0, 0, Tag::Nothing, PacketFault::Magic),
     (49, 2, 2, Tag::Nothing, PacketFault::Tag),
-    (49, 2, 3, Tag::Nothing, PacketFault::Version),
+    (49, 2, 3, Tag::Nothing, PacketFault::Length),
+    (49, 2, 4, Tag::Nothing, PacketFault::Version),
     (49, 4, 0, Tag::Nothing, PacketFault::Node),
     (49, 20, 1, Tag::Nothing, PacketFault::Mask),
     (49, 12, 0, Tag::Nothing, PacketFault::Mask),
