@@ -86,8 +86,48 @@ fn desk_of<H: Clock>(
     Ok(Desk { log, status })
 }
 
+// Holds a server with what is given, and beside it writes this text once all its loops have begun, heeds standard input and serves the desk.
+fn hold_and_watch<
+    L: Tapes + Send + Sync,
+    H: Net<Listener = TcpListener, Stream = TcpStream> + Threads + Wait + Clock + Sync,
+    R: Input,
+    W: Write,
+    E: Write,
+>(
+    rt: &H,
+    alloc: Global,
+    host: &Host<L>,
+    options: LoopOptions,
+    given: Given<L>,
+    signals: &Signals,
+    text: &[u8],
+    serve: ServePlan,
+    desk: &mut Desk,
+    reader: &mut R,
+    writer: &mut W,
+    errors: &mut E,
+) -> Result<Vec<Seat<L>>, RunFault>
+    requires within { IsWithin serve }
+    ensures told { OnOk result (Appends (W.contents writer.old) (W.contents writer.new) text.now) }
+    ensures read { OnOk result ((bytes : List ℕ) × Consumes (R.remaining reader.old) (R.remaining reader.new) bytes) }
+{
+    let mut given = Some(given);
+    let (held, is_told) = join_mut(
+        rt,
+        &mut || hold_given(rt, alloc, host, &mut given, options, signals),
+        &mut || watch(rt, signals, text, serve, desk, reader, writer, errors),
+    );
+    let Some(seats) = held else {
+        return Err(RunFault::OutOfMemory);
+    };
+    if !is_told {
+        return Err(RunFault::Write);
+    }
+    Ok(seats)
+}
+
 /// Holds a server, tells that it serves once all its loops have begun, and heeds standard input. Tells its status at this listener, if there
-/// is one. Gives the seats back.
+/// is one. Returns the seats.
 pub fn run<
     L: Tapes + Send + Sync,
     H: Net<Listener = TcpListener, Stream = TcpStream> + Threads + Wait + Clock + Sync,
@@ -113,19 +153,8 @@ pub fn run<
     let line = serving_line(alloc, serve.nodes, serve.base_port)?;
     let signals = Signals::new(alloc, serve.nodes)?;
     let mut desk = desk_of(rt, alloc, serve, listener)?;
-    let shared = &signals;
     let text = line.as_slice();
-    let mut given = Some(given);
-    let (held, is_told) = join_mut(
-        rt,
-        &mut || hold_given(rt, alloc, host, &mut given, options, shared),
-        &mut || watch(rt, shared, text, serve, &mut desk, reader, writer, errors),
-    );
-    let Some(seats) = held else {
-        return Err(RunFault::OutOfMemory);
-    };
-    if !is_told {
-        return Err(RunFault::Write);
-    }
-    Ok(seats)
+    hold_and_watch(
+        rt, alloc, host, options, given, &signals, text, serve, &mut desk, reader, writer, errors,
+    )
 }
