@@ -1,7 +1,9 @@
 //! The audit of the records of a cluster's nodes.
-ghost use Rattle.std.specs.Prelude.{◌≡◌, length, IfOk, IfSome};
+ghost use Rattle.std.specs.Prelude.{◌≡◌, ◌≢◌, ◌<◌, ◌↔◌, length, map, sum, AllPairs, All, IfOk, IfSome, IsTrue};
+ghost use Rattle.std.specs.List.{range_with_len};
 ghost use Rattle.gb_cluster.specs.ClusterValue.{IsClusterPlan};
-ghost use Rattle.gb_merge.specs.Front.{IsMergedFront};
+ghost use Rattle.gb_audit_run.specs.Audits.{AreOfOne, AreRecords, IsAudit, IsOfPlan, entries_of};
+ghost use Rattle.gb_audit_run.specs.declared.audit.Verdict.TheVariants.{Whole};
 
 use crate::cluster::{ClusterKeys, are_of_one, plan_of};
 use crate::left::{is_sent, merged_counts, sender_of};
@@ -55,12 +57,27 @@ struct Label<'a> {
     is_whole: bool,
 }
 
+// Returns true if a record may be of another node of the cluster that these are of.
+#[tactic(auto, using(crate::proofs::AuditLemmas::none_yet, crate::proofs::AuditLemmas::one_more, crate::proofs::AuditLemmas::all_seen, crate::proofs::AuditLemmas::each_seen))]
+fn is_one_more(records: &[Record], record: &Record) -> bool
+    ensures { IsTrue result ↔ All (λ r. AreOfOne r.head record.now.head) records.now }
+{
+    for other in records {
+        if !are_of_one(&other.head, &record.head) {
+            return false;
+        }
+    }
+    true
+}
+
 // Reads the records. Returns None where a file is no record, or not one of the cluster of the first; the last line says so.
 fn read_all(
     alloc: Global,
     sources: &[Source<'_>],
     out: &mut Vec<u8>,
-) -> Result<Option<Vec<Record>>, OutOfMemory> {
+) -> Result<Option<Vec<Record>>, OutOfMemory>
+    ensures { IfOk result (λ found. IfSome found (λ records. AreRecords sources.now records.items)) }
+{
     let mut records: Vec<Record> = Vec::new(alloc);
     for source in sources {
         let record = match read_record(alloc, source.text) {
@@ -71,11 +88,9 @@ fn read_all(
             }
             Err(ReadFault::OutOfMemory) => return Err(OutOfMemory),
         };
-        for other in &records {
-            if !are_of_one(&other.head, &record.head) {
-                put_stranger(out, source.name)?;
-                return Ok(None);
-            }
+        if !is_one_more(&records, &record) {
+            put_stranger(out, source.name)?;
+            return Ok(None);
         }
         let torn = if record.is_whole {
             None
@@ -95,7 +110,9 @@ fn read_all(
 }
 
 // Returns what records say of their nodes and their cluster.
-fn heads_of(alloc: Global, records: &[Record]) -> Result<Vec<RecordHead>, OutOfMemory> {
+fn heads_of(alloc: Global, records: &[Record]) -> Result<Vec<RecordHead>, OutOfMemory>
+    ensures { IfOk result (λ heads. heads.items ≡ map (λ r. r.head) records.now) }
+{
     let mut heads = Vec::new(alloc);
     for record in records {
         heads.push(record.head)?;
@@ -111,15 +128,12 @@ fn are_replayed(
     records: &[Record],
     out: &mut Vec<u8>,
 ) -> Result<bool, OutOfMemory>
-    requires { IsClusterPlan plan.now }
+    requires plan { IsClusterPlan plan.now }
+    requires here { All (λ r. r.head.node.number < plan.now.nodes) records.now }
 {
     for place in 0..records.len().min(sources.len()) {
         let record = &records[place];
         let node = record.head.node;
-        if node.number >= plan.nodes {
-            put_stranger(out, sources[place].name)?;
-            return Ok(false);
-        }
         if let Some(wrong) = first_wrong(alloc, plan, node, &record.entries) {
             put_fault(
                 out,
@@ -151,17 +165,17 @@ fn labels_of<'a>(sources: &[Source<'a>], records: &[Record]) -> [Label<'a>; NODE
 
 // Returns the tapes of records by the numbers of their nodes, with an empty one for each node without a record.
 fn tapes_of(alloc: Global, nodes: u8, records: Vec<Record>) -> Result<Vec<Tape>, OutOfMemory>
-    ensures { IfOk result (λ tapes. length tapes.items ≡ nodes) }
+    requires here { All (λ r. r.head.node.number < nodes) records.items }
+    ensures { IfOk result (λ tapes. tapes.items ≡ map (entries_of records.items) (range_with_len 0 nodes)) }
 {
     let mut tapes: Vec<Tape> = Vec::new(alloc);
     for _ in 0..nodes {
         tapes.push(Tape::from(Vec::new(alloc)))?;
     }
-    for record in records {
+    let mut left = records;
+    while let Some(record) = left.pop() {
         let Record { head, entries, .. } = record;
-        if let Some(tape) = tapes.get_mut(head.node.index()) {
-            *tape = Tape::from(entries);
-        }
+        tapes[head.node.index()] = Tape::from(entries);
     }
     Ok(tapes)
 }
@@ -211,15 +225,31 @@ fn tell_rest(
     Ok(Rest::Waiting)
 }
 
-// Tells what is left of all records behind the entries that are in the run.
+// Returns true if tapes have this number of entries together.
+fn have_entries(tapes: &[Tape], count: usize) -> bool
+    ensures { IsTrue result ↔ (count ≡ sum (map length tapes.now)) }
+{
+    let mut left = count;
+    for tape in tapes {
+        let entries = tape.as_slice().len();
+        if entries > left {
+            return false;
+        }
+        left -= entries;
+    }
+    left == 0
+}
+
+// Tells what is left of all records behind the entries that are in the run, where some is.
 fn tell_all(
     plan: &Plan,
     tapes: &[Tape],
     labels: &[Label<'_>; NODES],
     counts: &[usize; NODES],
     out: &mut Vec<u8>,
-) -> Result<Verdict, OutOfMemory> {
-    let mut is_left = false;
+) -> Result<Verdict, OutOfMemory>
+    ensures { IfOk result (λ verdict. verdict ≢ Whole) }
+{
     let mut is_cut = false;
     for node in 0..plan.nodes {
         let place = usize::from(node);
@@ -227,21 +257,15 @@ fn tell_all(
             return Ok(Verdict::Refused);
         };
         is_cut = is_cut || !label.is_whole;
-        match tell_rest(plan, tapes, labels, node, *merged, out)? {
-            Rest::Nothing => {}
-            Rest::Waiting => is_left = true,
-            Rest::Stranger => return Ok(Verdict::Refused),
+        if tell_rest(plan, tapes, labels, node, *merged, out)? == Rest::Stranger {
+            return Ok(Verdict::Refused);
         }
     }
-    if is_left && !is_cut {
-        put_bytes(out, b"audit fault 2\n")?;
-        return Ok(Verdict::Refused);
+    if is_cut {
+        return Ok(Verdict::Left);
     }
-    Ok(if is_left {
-        Verdict::Left
-    } else {
-        Verdict::Whole
-    })
+    put_bytes(out, b"audit fault 2\n")?;
+    Ok(Verdict::Refused)
 }
 
 /// Audits the records of a cluster's nodes, given in any order, under the cluster's keys, and appends a line for each thing that it
@@ -253,7 +277,7 @@ pub fn audit(
     keys: ClusterKeys,
     out: &mut Vec<u8>,
 ) -> Result<Option<Audited>, OutOfMemory>
-    ensures { IfOk result (λ found. IfSome found (λ run. IsMergedFront run.plan run.tapes.items run.events.items)) }
+    ensures { IfOk result (λ found. IfSome found (IsAudit sources.now keys)) }
 {
     let Some(records) = read_all(alloc, sources, out)? else {
         return Ok(None);
@@ -279,8 +303,12 @@ pub fn audit(
             return Ok(None);
         }
     };
-    let counts = merged_counts(alloc, &tapes, &events)?;
-    let verdict = tell_all(&plan, &tapes, &labels, &counts, out)?;
+    let verdict = if have_entries(&tapes, events.len()) {
+        Verdict::Whole
+    } else {
+        let counts = merged_counts(alloc, &tapes, &events)?;
+        tell_all(&plan, &tapes, &labels, &counts, out)?
+    };
     put_merged(out, events.len())?;
     Ok(Some(Audited {
         plan,

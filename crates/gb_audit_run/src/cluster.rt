@@ -1,8 +1,9 @@
 //! The cluster that records speak of.
-ghost use Rattle.std.specs.Prelude.{◌≡◌, ◌<◌, ◌≤◌, ℕ, IfSome, IsTrue};
+ghost use Rattle.std.specs.Prelude.{◌≡◌, ◌≢◌, ◌<◌, ◌≤◌, ◌↔◌, ℕ, length, All, AllPairs, IfSome, IsTrue};
 ghost use Rattle.gb_types.specs.Version.{limits_of, version_at};
 ghost use Rattle.gb_types.specs.declared.limits.TheConstants.{NODES as MOST};
 ghost use Rattle.gb_cluster.specs.ClusterValue.{IsClusterPlan};
+ghost use Rattle.gb_audit_run.specs.Audits.{AreOfOne, IsOfPlan};
 
 use gb_record_text::head::RecordHead;
 use gb_types::limits::{NODES, PLACES, SILENCE_MAX, SILENCE_MIN};
@@ -45,23 +46,53 @@ fn is_plan(plan: &Plan) -> bool
 }
 
 /// Returns true if two records may be of one cluster: of two nodes, with one number of nodes, one silence and one number of places.
-pub fn are_of_one(first: &RecordHead, other: &RecordHead) -> bool {
+pub fn are_of_one(first: &RecordHead, other: &RecordHead) -> bool
+    ensures { IsTrue result ↔ AreOfOne first.now other.now }
+{
     first.nodes == other.nodes
         && first.silence == other.silence
         && first.places == other.places
         && first.node.number != other.node.number
 }
 
-/// Returns the plan of the cluster that these records are of, under its keys. Returns None where no cluster has such a plan. A node
-/// without a record sends the version of the first one.
-pub fn plan_of(heads: &[RecordHead], keys: ClusterKeys) -> Option<Plan>
-    ensures { IfSome result IsClusterPlan }
+// Returns the version that each node sends, by the nodes' numbers: what its record says. A node without a record sends this one.
+fn versions_of(heads: &[RecordHead], other: Version) -> [Version; NODES]
+    requires one { AllPairs AreOfOne heads.now }
+    ensures { All (λ h. version_at result h.node.number ≡ h.version) heads.now }
 {
-    let first = heads.first()?;
-    let mut versions: [Version; NODES] = [first.version; NODES];
+    let mut versions: [Version; NODES] = [other; NODES];
     for head in heads {
         versions[head.node.index()] = head.version;
     }
+    versions
+}
+
+// Returns true if each node has a number below this.
+#[tactic(auto, using(crate::proofs::AuditLemmas::none_yet, crate::proofs::AuditLemmas::one_more, crate::proofs::AuditLemmas::all_seen, crate::proofs::AuditLemmas::each_seen))]
+fn are_below(nodes: u8, heads: &[RecordHead]) -> bool
+    ensures { IsTrue result ↔ All (λ h. h.node.number < nodes) heads.now }
+{
+    for head in heads {
+        if head.node.number >= nodes {
+            return false;
+        }
+    }
+    true
+}
+
+/// Returns the plan of the cluster that these records are of, under its keys. Returns None where no cluster has such a plan. A node
+/// without a record sends the version of the first one.
+pub fn plan_of(heads: &[RecordHead], keys: ClusterKeys) -> Option<Plan>
+    requires one { AllPairs AreOfOne heads.now }
+    ensures plan { IfSome result IsClusterPlan }
+    ensures keys { IfSome result (λ p. (p.cluster_key ≡ keys.cluster) × (p.admin_key ≡ keys.admin)) }
+    ensures fit { IfSome result (λ p. All (IsOfPlan p) heads.now) }
+{
+    let first = heads.first()?;
+    if !are_below(first.nodes, heads) {
+        return None;
+    }
+    let versions = versions_of(heads, first.version);
     let (cluster_key, admin_key) = (keys.cluster, keys.admin);
     let plan = Plan {
         nodes: first.nodes,

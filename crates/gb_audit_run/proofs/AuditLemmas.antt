@@ -1,0 +1,178 @@
+-- Records, one after another, and the tapes that they make.
+use Rattle.std.proofs.Common.{◌≡◌, ◌≢◌, ℕ, zero, suc, ◌+◌, ◌<◌, ◌≤◌, Bool, true, false, nat_eq, List, [], ◌∷◌, ◌++◌, length, map, take, get_or, All, ◌↔◌, refl, sym, ap, ◌∙◌, subst, arith, inl, inr, append_assoc}
+use Rattle.std.specs.Prelude.{Option, Some, None, IsSome, Vec, vec_len, find, AllPairs, sum, slice_get}
+use Rattle.std.specs.List.{range_with_len, AllZip}
+use Rattle.std.specs.Option.{option_map_or, option_or}
+use Rattle.std.proofs.Math.ListN.{set}
+use Rattle.std.proofs.lemmas.Bool.{cases_eq, cases_lt, eq-eqb, ne_eqb}
+use Rattle.std.proofs.lemmas.List.{take_more, take_all, take-map, get_or-take, length-take-le, map-append, get_or-set_same, get_or-set_other, length-set, length-map, same_lists, get_or_default, append-nil}
+use Rattle.std.proofs.Math.ListN.{get_or-map}
+use Rattle.std.proofs.lemmas.List.Elements.{All-append, All-get_or}
+use Rattle.std.proofs.lemmas.Slice.Zip.{all_zipped_more}
+use Rattle.std.proofs.lemmas.List.FromFn.{length-map-range_with_len, get_or-map-range_with_len, map-range_with_len_more}
+use Rattle.std.proofs.lemmas.List.Sums.{sum_by-take-le, sum_by-append, sum_by-cons}
+use Rattle.std.specs.declared.alloc.Global.{Global}
+use Rattle.gb_types.specs.Version.{version_at}
+use Rattle.gb_types.specs.declared.version.Version.{Version}
+use Rattle.gb_types.specs.declared.version.Version.TheVariants.{One}
+use Rattle.gb_node.specs.declared.tape.TapeEntry.{TapeEntry}
+use Rattle.gb_record_text.specs.declared.head.RecordHead.{RecordHead}
+use Rattle.gb_record_text.specs.declared.reader.Record.{Record}
+use Rattle.gb_audit_run.specs.declared.audit.Source.{Source}
+use Rattle.gb_audit_run.specs.Audits.{AreOfOne, HasText, is_of, entries_of}
+
+-- a test of each element of a list, from the first on
+
+pub none_yet : {X : Type 0} (P : X → Type 0) (xs : List X) → All P (take 0 xs)
+none_yet P xs k d lt = absurd (omega arith)
+
+pub one_more : {X : Type 0} (P : X → Type 0) (xs : List X) (i : ℕ) (x : X) → i < length xs → x ≡ get_or xs i x → P x → All P (take i xs) → All P (take (i + 1) xs)
+one_more P xs i x lt is here before =
+    subst (All P) (sym (take_more xs i x lt ∙ ap (λ y. take i xs ++ y ∷ []) (sym is)))
+    (All-append P (take i xs) (x ∷ []) before (λ k d lt. only k d lt))
+  where
+    only : (k : ℕ) (d : _) → k < 1 → P (get_or (x ∷ []) k d)
+    only zero d lt = here
+    only (suc k) d lt = absurd (omega arith)
+
+pub all_seen : {X : Type 0} (P : X → Type 0) (xs : List X) (i : ℕ) → length xs ≤ i → All P (take i xs) → All P xs
+all_seen P xs i le all = subst (All P) (take_all i xs le) all
+
+pub each_seen : {X : Type 0} (P : X → Type 0) (xs : List X) (i : ℕ) (x : X) → i < length xs → x ≡ get_or xs i x → All P xs → P x
+each_seen P xs i x lt is all = subst P (sym is) (All-get_or P xs i x lt all)
+
+-- The versions that the nodes of some first lines send.
+
+abbrev pub SendsIt : List Version → RecordHead → Type 0
+SendsIt versions h = version_at versions h.node.number ≡ h.version
+
+pub versions_more : (heads : List RecordHead) (versions : List Version) (i : ℕ) (h : RecordHead) → i < length heads → h ≡ get_or heads i h → AllPairs AreOfOne heads → h.node.number < length versions
+    → All (SendsIt versions) (take i heads) → All (SendsIt (set versions h.node.number h.version)) (take (i + 1) heads)
+versions_more heads versions i h lt is one within before =
+    one_more (SendsIt (set versions h.node.number h.version)) heads i h lt is (get_or-set_same versions h.node.number h.version One within)
+    (λ k d below.
+    let low : k < i = omega (arith, length-take-le i heads (omega arith)) in
+    let there : get_or (take i heads) k d ≡ get_or heads k d = get_or-take i heads k d low in
+    let apart = (one k i d low lt).apart in
+    let here : get_or heads i d ≡ h = sym (is ∙ get_or_default heads i h d lt) in
+    let other : (get_or (take i heads) k d).node.number ≢ h.node.number = λ same. apart (ap (λ (x : RecordHead). x.node.number) (sym there) ∙ same ∙ ap (λ (x : RecordHead). x.node.number) (sym here)) in
+    get_or-set_other versions h.node.number (get_or (take i heads) k d).node.number h.version One other ∙ before k d below)
+
+-- The tapes that some records make, by the nodes' numbers.
+
+abbrev pub AreTapes : ℕ → List Record → List (List TapeEntry) → Type 0
+AreTapes nodes records tapes = (length tapes ≡ nodes) × ((b : ℕ) → b < nodes → get_or tapes b [] ≡ entries_of records b)
+
+pub are_tapes : (nodes : ℕ) (records : List Record) (tapes : List (List TapeEntry)) → AreTapes nodes records tapes → tapes ≡ map (entries_of records) (range_with_len 0 nodes)
+are_tapes nodes records tapes made =
+    let len = length-map-range_with_len (entries_of records) 0 nodes in
+    same_lists tapes (map (entries_of records) (range_with_len 0 nodes)) (made.0 ∙ sym len)
+    (λ k d lt. get_or_default tapes k d [] lt ∙ (made.1 k (omega (arith, made.0)) ∙ sym (get_or-map-range_with_len (entries_of records) 0 nodes k k d (omega (arith, made.0)) (omega arith))))
+
+-- one record more, which stands before the others
+tape_set : (nodes : ℕ) (done : List Record) (tapes : List (List TapeEntry)) (r : Record) → r.head.node.number < nodes → AreTapes nodes done tapes → AreTapes nodes (r ∷ done) (set tapes r.head.node.number r.entries.items)
+tape_set nodes done tapes r within made = (
+  length-set tapes r.head.node.number r.entries.items ∙ made.0,
+  λ b below. elim (cases_eq b r.head.node.number) [
+    | inl e ↦ ap (λ n. get_or (set tapes r.head.node.number r.entries.items) n []) e ∙ (get_or-set_same tapes r.head.node.number r.entries.items [] (omega (arith, made.0)) ∙ sym (mine b e))
+    | inr ne ↦ get_or-set_other tapes r.head.node.number b r.entries.items [] ne ∙ (made.1 b below ∙ sym (others b ne))
+  ],
+)
+  where
+    mine : (b : ℕ) → b ≡ r.head.node.number → entries_of (r ∷ done) b ≡ r.entries.items
+    mine b e = rw (eq-eqb r.head.node.number b (sym e)) refl
+
+    others : (b : ℕ) → b ≢ r.head.node.number → entries_of (r ∷ done) b ≡ entries_of done b
+    others b ne = rw (ne_eqb r.head.node.number b (λ e. ne (sym e))) refl
+
+all_behind : {X : Type 0} (P : X → Type 0) (xs ys : List X) → All P (xs ++ ys) → All P ys
+all_behind P [] ys all = all
+all_behind P (x ∷ xs) ys all = all_behind P xs ys (λ k d lt. all (suc k) d (omega (arith, lt)))
+
+-- these records are left, and of the others, which stand behind them, the tapes are made
+pub record AreMade (nodes : ℕ) (all left : List Record) (tapes : List (List TapeEntry)) : Type 0 where
+  pub done : List Record
+  pub parts : all ≡ left ++ done
+  pub made : AreTapes nodes done tapes
+
+pub made_none : (nodes : ℕ) (all : List Record) (tapes : List (List TapeEntry)) → length tapes ≡ nodes → All (λ (t : List TapeEntry). t ≡ []) tapes → AreMade nodes all all tapes
+made_none nodes all tapes len blank = record { done = []; parts = sym (append-nil all); made = (len, λ b below. blank b [] (omega (arith, len))) }
+
+pub made_more : (nodes : ℕ) (all left rest : List Record) (tapes : List (List TapeEntry)) (r : Record) → All (λ (x : Record). x.head.node.number < nodes) all → left ≡ rest ++ r ∷ [] → AreMade nodes all left tapes
+    → AreMade nodes all rest (set tapes r.head.node.number r.entries.items)
+made_more nodes all left rest tapes r here popped made = record { done = r ∷ made.done; parts = parts; made = tape_set nodes made.done tapes r (within 0 r (omega arith)) made.made }
+  where
+    parts : all ≡ rest ++ r ∷ made.done
+    parts = made.parts ∙ (ap (λ xs. xs ++ made.done) popped ∙ append_assoc rest (r ∷ []) made.done)
+
+    within : All (λ (x : Record). x.head.node.number < nodes) (r ∷ made.done)
+    within = all_behind (λ (x : Record). x.head.node.number < nodes) rest (r ∷ made.done) (subst (All (λ (x : Record). x.head.node.number < nodes)) parts here)
+
+pub all_made : (nodes : ℕ) (all left : List Record) (tapes : List (List TapeEntry)) → left ≡ [] → AreMade nodes all left tapes → tapes ≡ map (entries_of all) (range_with_len 0 nodes)
+all_made nodes all left tapes none made =
+    are_tapes nodes made.done tapes made.made ∙ ap (λ rs. map (entries_of rs) (range_with_len 0 nodes)) (sym (made.parts ∙ ap (λ xs. xs ++ made.done) none))
+
+-- the first lines of records of one cluster are of one
+pub heads_of_one : (records : List Record) → AllPairs (λ (r : Record) (s : Record). AreOfOne r.head s.head) records → AllPairs AreOfOne (map (λ (r : Record). r.head) records)
+heads_of_one [] one i j d lt below = absurd (omega (arith, below))
+heads_of_one (x ∷ xs) one i j d lt below =
+    let len = length-map (x ∷ xs) (λ (r : Record). r.head) in
+    let at : (k : ℕ) → k < length (x ∷ xs) → get_or (map (λ (r : Record). r.head) (x ∷ xs)) k d ≡ (get_or (x ∷ xs) k x).head =
+    λ k h. get_or_default (map (λ (r : Record). r.head) (x ∷ xs)) k d x.head (omega (arith, len)) ∙ get_or-map (λ (r : Record). r.head) (x ∷ xs) k x in
+    subst (λ (h : RecordHead). AreOfOne (get_or (map (λ (r : Record). r.head) (x ∷ xs)) i d) h) (sym (at j (omega (arith, len))))
+    (subst (λ (h : RecordHead). AreOfOne h (get_or (x ∷ xs) j x).head) (sym (at i (omega (arith, len)))) (one i j x lt (omega (arith, len))))
+
+pub heads_of_all : (P : RecordHead → Type 0) (records : List Record) → All P (map (λ (r : Record). r.head) records) → All (λ (r : Record). P r.head) records
+heads_of_all P records all k d lt =
+    let len = length-map records (λ (r : Record). r.head) in
+    subst P (get_or-map (λ (r : Record). r.head) records k d) (all k d.head (omega (arith, len)))
+
+pub first_is : (heads : List RecordHead) (first : RecordHead) → Some first ≡ slice_get heads 0 → first ≡ get_or heads 0 first
+first_is [] first e = absurd (cc)
+first_is (h ∷ heads) first e = cc
+
+-- one text more is read
+pub read_more : (sources : List Source) (records : List Record) (i : ℕ) (d : Source) (record_read : Record) → i < length sources → HasText (get_or sources i d) record_read → AllZip HasText (take i sources) records
+    → AllZip HasText (take (i + 1) sources) (records ++ record_read ∷ [])
+read_more sources records i d record_read lt has before =
+    subst (λ xs. AllZip HasText xs (records ++ record_read ∷ [])) (sym (take_more sources i d lt)) (all_zipped_more HasText (take i sources) records (get_or sources i d) record_read before has)
+
+-- one element more of a list that is mapped
+pub mapped_more : {X Y : Type 0} (f : X → Y) (xs : List X) (i : ℕ) (x : X) → i < length xs → x ≡ get_or xs i x → map f (take (i + 1) xs) ≡ map f (take i xs) ++ f x ∷ []
+mapped_more f xs i x lt is = ap (map f) (take_more xs i x lt ∙ ap (λ y. take i xs ++ y ∷ []) (sym is)) ∙ map-append f (take i xs) (x ∷ [])
+
+-- a tape's entries and those of the tapes before it are not more than all
+pub sum_past : (tapes : List (List TapeEntry)) (i : ℕ) (tape : List TapeEntry) → i < length tapes → tape ≡ get_or tapes i tape → sum (map length (take i tapes)) + length tape ≤ sum (map length tapes)
+sum_past tapes i tape lt is =
+    let more : sum (map length (take (i + 1) tapes)) ≡ sum (map length (take i tapes)) + sum (length tape ∷ []) = ap sum (mapped_more length tapes i tape lt is) ∙ sum_by-append (λ n. n) (map length (take i tapes)) (length tape ∷ []) in
+    let one = sum_by-cons (λ n. n) (length tape) [] in
+    let le = sum_by-take-le (λ n. n) (map length tapes) (i + 1) in
+    let same = ap sum (take-map length (i + 1) tapes) in
+    omega (arith, more, one, le, same)
+
+-- the first lines say the same of the cluster as the first of them
+pub like_first : (heads : List RecordHead) (first : RecordHead) (k : ℕ) (d : RecordHead) → first ≡ get_or heads 0 first → AllPairs AreOfOne heads → k < length heads
+    → ((get_or heads k d).nodes ≡ first.nodes) × (((get_or heads k d).silence ≡ first.silence) × ((get_or heads k d).places ≡ first.places))
+like_first heads first zero d is one lt =
+    let here = get_or_default heads 0 d first lt ∙ sym is in (ap (λ (h : RecordHead). h.nodes) here, (ap (λ (h : RecordHead). h.silence) here, ap (λ (h : RecordHead). h.places) here))
+like_first heads first (suc k) d is one lt =
+    let pair = one 0 (suc k) d (omega arith) lt in
+    let here : get_or heads 0 d ≡ first = get_or_default heads 0 d first (omega (arith, lt)) ∙ sym is in (
+      sym pair.nodes ∙ ap (λ (h : RecordHead). h.nodes) here,
+      (sym pair.silence ∙ ap (λ (h : RecordHead). h.silence) here, sym pair.places ∙ ap (λ (h : RecordHead). h.places) here),
+    )
+
+-- a list from which nothing can be popped
+pub none_left : (left : Vec Record Global) (popped : Option Record) → popped ≡ None → IsSome popped ↔ (0 < vec_len left) → left.items ≡ []
+none_left left popped none variant = empty left.items (by left.items refl)
+  where
+    empty : (xs : List Record) → length xs ≡ 0 → xs ≡ []
+    empty [] e = refl
+    empty (x ∷ xs) e = absurd (omega (arith, e))
+
+    by : (xs : List Record) → left.items ≡ xs → length xs ≡ 0
+    by [] e = refl
+    by (x ∷ xs) e =
+        let some : 0 < vec_len left = omega (arith, left.ok.0, ap length e) in
+        let is : IsSome popped = variant.1 some in
+        absurd (subst (λ (o : Option Record). IsSome o → ⊥) (sym none) (λ i. cc) is)

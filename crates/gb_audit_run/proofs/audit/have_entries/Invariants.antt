@@ -1,0 +1,6 @@
+use Rattle.std.proofs.Common.{take, ◌≡◌, ◌+◌, map, length}
+use Rattle.std.specs.Prelude.{sum}
+use Rattle.gb_audit_run.proofs.audit.have_entries.Given as goal
+
+abbrev pub invariant-loop-tape : goal.invariant-loop-tape
+invariant-loop-tape l = l.left + sum (map length (take l.tape-index l.tapes)) ≡ l.count

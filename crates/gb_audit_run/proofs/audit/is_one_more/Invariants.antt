@@ -1,0 +1,7 @@
+use Rattle.std.proofs.Common.{take}
+use Rattle.std.specs.Prelude.{All}
+use Rattle.gb_audit_run.specs.Audits.{AreOfOne}
+use Rattle.gb_audit_run.proofs.audit.is_one_more.Given as goal
+
+abbrev pub invariant-loop-other : goal.invariant-loop-other
+invariant-loop-other l = All (λ r. AreOfOne r.head l.record.head) (take l.other-index l.records)

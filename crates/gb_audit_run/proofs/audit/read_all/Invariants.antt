@@ -1,0 +1,8 @@
+use Rattle.std.proofs.Common.{take}
+use Rattle.std.specs.Prelude.{AllPairs}
+use Rattle.std.specs.List.{AllZip}
+use Rattle.gb_audit_run.specs.Audits.{AreOfOne, HasText}
+use Rattle.gb_audit_run.proofs.audit.read_all.Given as goal
+
+abbrev pub invariant-loop-source : goal.invariant-loop-source
+invariant-loop-source l = AllZip HasText (take l.source-index l.sources) l.records.items × AllPairs (λ r. λ s. AreOfOne r.head s.head) l.records.items

@@ -1,0 +1,8 @@
+use Rattle.std.proofs.Common.{take, ◌≡◌, length}
+use Rattle.std.specs.Prelude.{All}
+use Rattle.gb_types.specs.declared.limits.TheConstants.{NODES}
+use Rattle.gb_audit_run.proofs.AuditLemmas.{SendsIt}
+use Rattle.gb_audit_run.proofs.cluster.versions_of.Given as goal
+
+abbrev pub invariant-loop-head : goal.invariant-loop-head
+invariant-loop-head l = (length l.versions ≡ NODES) × All (SendsIt l.versions) (take l.head-index l.heads)

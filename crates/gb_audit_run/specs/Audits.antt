@@ -1,0 +1,62 @@
+-- What an audit returns, from the texts of records that it was given.
+use Rattle.std.specs.Prelude.{◌≡◌, ◌≢◌, ◌↔◌, ℕ, ◌<◌, List, [], length, map, sum, find, nat_eq, All, AllPairs, Bool}
+use Rattle.std.specs.List.{AllZip, range_with_len}
+use Rattle.std.specs.Option.{option_map_or}
+use Rattle.gb_types.specs.Version.{version_at}
+use Rattle.gb_types.specs.declared.plan.Plan.{Plan}
+use Rattle.gb_node.specs.declared.tape.TapeEntry.{TapeEntry}
+use Rattle.gb_cluster.specs.ClusterValue.{IsClusterPlan}
+use Rattle.gb_cluster.specs.declared.event.Event.{Event}
+use Rattle.gb_merge.specs.Front.{IsMergedFront}
+use Rattle.gb_record_text.specs.Records.{IsRecord}
+use Rattle.gb_record_text.specs.declared.head.RecordHead.{RecordHead}
+use Rattle.gb_record_text.specs.declared.reader.Record.{Record}
+use Rattle.gb_audit_run.specs.declared.audit.Audited.{Audited}
+use Rattle.gb_audit_run.specs.declared.audit.Source.{Source}
+use Rattle.gb_audit_run.specs.declared.audit.Verdict.TheVariants.{Whole}
+use Rattle.gb_audit_run.specs.declared.cluster.ClusterKeys.{ClusterKeys}
+
+-- two first lines that may be of two nodes of one cluster
+pub record AreOfOne (first other : RecordHead) : Type 0 where
+  pub nodes : first.nodes ≡ other.nodes
+  pub silence : first.silence ≡ other.silence
+  pub places : first.places ≡ other.places
+  pub apart : first.node.number ≢ other.node.number
+
+-- the text is that of the record
+abbrev pub HasText : Source → Record → Type 0
+HasText source r = IsRecord r source.text.now
+
+-- each text is a record, and no two are of one node or of two clusters
+pub record AreRecords (sources : List Source) (records : List Record) : Type 0 where
+  pub read : AllZip HasText sources records
+  pub one : AllPairs (λ (r : Record) (s : Record). AreOfOne r.head s.head) records
+
+-- what a first line says is what the plan has
+pub record IsOfPlan (plan : Plan) (head : RecordHead) : Type 0 where
+  pub here : head.node.number < plan.nodes
+  pub nodes : head.nodes ≡ plan.nodes
+  pub silence : head.silence ≡ plan.silence
+  pub places : head.places ≡ plan.places
+  pub version : version_at plan.versions head.node.number ≡ head.version
+
+-- the record is one of the node's
+abbrev pub is_of : ℕ → Record → Bool
+is_of b r = nat_eq r.head.node.number b
+
+-- the entries of a node: those of its record, and none if it has no record
+abbrev pub entries_of : List Record → ℕ → List TapeEntry
+entries_of records b = option_map_or (λ (r : Record). r.entries.items) (find (is_of b) records) []
+
+-- What is audited are these texts: the plan and the tapes are those of their records, under these keys. The events are a run of
+-- the first entries of the tapes, and the verdict is `Whole` exactly if they are all of them.
+pub record IsAudit (sources : List Source) (keys : ClusterKeys) (run : Audited) : Type 0 where
+  pub records : List Record
+  pub are : AreRecords sources records
+  pub plan : IsClusterPlan run.plan
+  pub fit : All (λ (r : Record). IsOfPlan run.plan r.head) records
+  pub cluster_key : run.plan.cluster_key ≡ keys.cluster
+  pub admin_key : run.plan.admin_key ≡ keys.admin
+  pub tapes : run.tapes.items ≡ map (entries_of records) (range_with_len 0 run.plan.nodes)
+  pub front : IsMergedFront run.plan run.tapes.items run.events.items
+  pub whole : (run.verdict ≡ Whole) ↔ (length run.events.items ≡ sum (map length run.tapes.items))
