@@ -1,32 +1,23 @@
 //! What a server tells of itself while it serves: its log, and its status to who asks for it.
-ghost use Rattle.gb_serve_words.specs.Words.{IsWithin};
-
 use crate::server_log::ServerLog;
 use crate::signals::Signals;
 use crate::status::StatusServer;
 use gb_loop::node_loop::Ending;
-use gb_serve_words::plan::ServePlan;
-use gb_version::VERSION;
 use std::io::Write;
 use std::time::Clock;
 
-/// A log, and who answers requests for the status, if anybody does.
+/// A log with its first line, and who answers requests for the status, if anybody does.
 #[derive(Drop)]
 pub struct Desk {
     pub log: ServerLog,
+    pub first: Vec<u8>,
     pub status: Option<StatusServer>,
 }
 
 impl Desk {
     /// Writes the first line of the log.
-    pub fn begin<E: Write>(&self, plan: ServePlan, errors: &mut E)
-        requires within { IsWithin plan }
-    {
-        let address = match &self.status {
-            Some(status) => status.address(),
-            None => None,
-        };
-        self.log.begin(VERSION.as_bytes(), plan, address, errors);
+    pub fn begin<E: Write>(&self, errors: &mut E) {
+        self.log.begin(&self.first, errors);
     }
 
     /// Writes what is new to the log, and answers who asks for the status. Waits for nobody.

@@ -3,12 +3,11 @@ ghost use Rattle.std.specs.Prelude.{◌≡◌, ◌<◌, ℕ, List, length, take,
 ghost use Rattle.std.specs.Io.KnownBytes.{Consumes};
 ghost use Rattle.gb_server.specs.Keys.{is_stop};
 
-use crate::desk::Desk;
 use crate::input::Input;
 use crate::keys::{characters, has_feed, read_more};
 use crate::signals::{Signals, Why};
 use gb_loop::node_loop::Ending;
-use std::io::{Read, Write};
+use std::io::Read;
 use std::sync::Wait;
 use std::thread;
 use std::time::{Clock, Duration};
@@ -18,9 +17,6 @@ pub const KEPT: usize = 8;
 
 // How long standard input is waited for before the server is looked at again, in milliseconds.
 const LOOK: u16 = 50;
-
-// How long the threads of loops that end are waited for before the server is looked at again, in milliseconds.
-const LAST_LOOK: u64 = 10;
 
 /// What came of standard input.
 #[derive(Clone, Copy, Debug, PartialEq, Eq)]
@@ -72,7 +68,7 @@ struct Place {
     is_open: bool,
 }
 
-// Waits a moment for standard input, and reads a byte of it where there is one. Where the server is over nothing is read.
+// Waits a moment for standard input, and reads a byte of it where there is one.
 fn heed_once<H: Clock, R: Input>(
     rt: &H,
     signals: &Signals,
@@ -85,10 +81,6 @@ fn heed_once<H: Clock, R: Input>(
     ensures within { result.filled < length space.new }
     ensures read { (bytes : List ℕ) × Consumes (R.remaining reader.old) (R.remaining reader.new) bytes }
 {
-    if signals.is_over() {
-        thread::sleep(rt, Duration::from_millis(LAST_LOOK));
-        return place;
-    }
     if !place.is_open {
         thread::sleep(rt, Duration::from_millis(u64::from(LOOK)));
         return place;
@@ -106,15 +98,12 @@ fn heed_once<H: Clock, R: Input>(
     Place { filled, is_open }
 }
 
-/// Heeds standard input until the server is over: its line `stop` ends it, and its end where that is wanted. Until the threads of all loops
-/// have ended the desk is looked at too.
-pub fn heed<H: Wait + Clock, R: Input, E: Write>(
+/// Heeds standard input until the server is over: its line `stop` ends it, and its end where that is wanted.
+pub fn heed<H: Wait + Clock, R: Input>(
     rt: &H,
     signals: &Signals,
     stops_at_end: bool,
-    desk: &mut Desk,
     reader: &mut R,
-    errors: &mut E,
 )
     ensures { (bytes : List ℕ) × Consumes (R.remaining reader.old) (R.remaining reader.new) bytes }
 {
@@ -124,9 +113,7 @@ pub fn heed<H: Wait + Clock, R: Input, E: Write>(
         is_open: true,
     };
     for _ in rt.forever() {
-        let have_left = signals.have_left();
-        desk.look(rt, signals, errors);
-        if have_left {
+        if signals.is_over() {
             break;
         }
         place = heed_once(rt, signals, stops_at_end, reader, &mut space, place);

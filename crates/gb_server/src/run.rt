@@ -7,18 +7,19 @@ ghost use Rattle.gb_server.specs.Told.{serving_line};
 use crate::crew::hold;
 use crate::desk::Desk;
 use crate::input::Input;
-use crate::server_log::ServerLog;
+use crate::server_log::{ServerLog, begin_line};
 use crate::signals::Signals;
 use crate::sockets::Sockets;
 use crate::status::StatusServer;
 use crate::told::serving_line;
-use crate::watch::watch;
+use crate::watch::{attend, watch};
 use gb_host::host::Host;
 use gb_host::names::Tapes;
 use gb_host::seat::Seat;
 use gb_loop::options::LoopOptions;
 use gb_serve_words::plan::ServePlan;
 use gb_types::memory::OutOfMemory;
+use gb_version::VERSION;
 use std::alloc::Global;
 use std::io::Write;
 use std::net::{Net, TcpListener, TcpStream};
@@ -71,59 +72,50 @@ fn hold_given<
     held.ok()
 }
 
-// What a server tells of itself: its log, and its status at this listener, if there is one.
+// Returns what a server tells of itself: its log, and its status at this listener, if there is one.
 fn desk_of<H: Clock>(
     rt: &H,
     alloc: Global,
     serve: ServePlan,
     listener: Option<TcpListener>,
-) -> Result<Desk, OutOfMemory> {
+) -> Result<Desk, OutOfMemory>
+    requires within { IsWithin serve }
+{
     let log = ServerLog::new(alloc, serve.nodes, serve.quiet)?;
     let status = match listener {
         Some(listener) => Some(StatusServer::new(rt, alloc, listener)),
         None => None,
     };
-    Ok(Desk { log, status })
+    let address = match &status {
+        Some(status) => status.address(),
+        None => None,
+    };
+    let (nodes, base) = (u64::from(serve.nodes), u64::from(serve.base_port));
+    let first = begin_line(alloc, VERSION.as_bytes(), nodes, base, address)?;
+    Ok(Desk { log, first, status })
 }
 
-// Holds a server with what is given, and beside it writes this text once all its loops have begun, heeds standard input and serves the desk.
-fn hold_and_watch<
+// Holds a server with what is given, and serves the desk beside it.
+fn hold_with_desk<
     L: Tapes + Send + Sync,
     H: Net<Listener = TcpListener, Stream = TcpStream> + Threads + Wait + Clock + Sync,
-    R: Input,
-    W: Write,
     E: Write,
 >(
     rt: &H,
     alloc: Global,
     host: &Host<L>,
+    given: &mut Option<Given<L>>,
     options: LoopOptions,
-    given: Given<L>,
     signals: &Signals,
-    text: &[u8],
-    serve: ServePlan,
     desk: &mut Desk,
-    reader: &mut R,
-    writer: &mut W,
     errors: &mut E,
-) -> Result<Vec<Seat<L>>, RunFault>
-    requires within { IsWithin serve }
-    ensures told { OnOk result (Appends (W.contents writer.old) (W.contents writer.new) text.now) }
-    ensures read { OnOk result ((bytes : List ℕ) × Consumes (R.remaining reader.old) (R.remaining reader.new) bytes) }
-{
-    let mut given = Some(given);
-    let (held, is_told) = join_mut(
+) -> Option<Vec<Seat<L>>> {
+    let (held, _attended) = join_mut(
         rt,
-        &mut || hold_given(rt, alloc, host, &mut given, options, signals),
-        &mut || watch(rt, signals, text, serve, desk, reader, writer, errors),
+        &mut || hold_given(rt, alloc, host, given, options, signals),
+        &mut || attend(rt, signals, desk, errors),
     );
-    let Some(seats) = held else {
-        return Err(RunFault::OutOfMemory);
-    };
-    if !is_told {
-        return Err(RunFault::Write);
-    }
-    Ok(seats)
+    held
 }
 
 /// Holds a server, tells that it serves once all its loops have begun, and heeds standard input. Tells its status at this listener, if there
@@ -133,7 +125,7 @@ pub fn run<
     H: Net<Listener = TcpListener, Stream = TcpStream> + Threads + Wait + Clock + Sync,
     R: Input,
     W: Write,
-    E: Write,
+    E: Write + Send,
 >(
     rt: &H,
     alloc: Global,
@@ -153,8 +145,24 @@ pub fn run<
     let line = serving_line(alloc, serve.nodes, serve.base_port)?;
     let signals = Signals::new(alloc, serve.nodes)?;
     let mut desk = desk_of(rt, alloc, serve, listener)?;
+    let shared = &signals;
     let text = line.as_slice();
-    hold_and_watch(
-        rt, alloc, host, options, given, &signals, text, serve, &mut desk, reader, writer, errors,
-    )
+    let stops_at_end = serve.stop_at_end;
+    let mut given = Some(given);
+    let (held, is_told) = join_mut(
+        rt,
+        &mut || {
+            hold_with_desk(
+                rt, alloc, host, &mut given, options, shared, &mut desk, errors,
+            )
+        },
+        &mut || watch(rt, shared, text, stops_at_end, reader, writer),
+    );
+    let Some(seats) = held else {
+        return Err(RunFault::OutOfMemory);
+    };
+    if !is_told {
+        return Err(RunFault::Write);
+    }
+    Ok(seats)
 }

@@ -100,7 +100,7 @@ fn serve_host<
     H: Net<Listener = TcpListener, Stream = TcpStream> + Threads + Wait + Clock + Sync,
     R: Input,
     W: Write,
-    E: Write,
+    E: Write + Send,
 >(
     rt: &H,
     alloc: Global,
@@ -142,7 +142,7 @@ fn serve_plan<
     H: Net<Listener = TcpListener, Stream = TcpStream> + Threads + Wait + Clock + Sync,
     R: Input,
     W: Write,
-    E: Write,
+    E: Write + Send,
 >(
     rt: &H,
     alloc: Global,
@@ -181,7 +181,7 @@ pub fn serve<
     H: Net<Listener = TcpListener, Stream = TcpStream> + Threads + Wait + Clock + Sync,
     R: Input,
     W: Write,
-    E: Write,
+    E: Write + Send,
 >(
     rt: &H,
     alloc: Global,
@@ -224,7 +224,7 @@ pub fn serve_main<
     H: Net<Listener = TcpListener, Stream = TcpStream> + Threads + Wait + Clock + Sync,
     R: Input,
     W: Write,
-    E: Write,
+    E: Write + Send,
 >(rt: &H, alloc: Global, words: &[&str], reader: &mut R, writer: &mut W, errors: &mut E) -> u8
     ensures status { result ≤ 2 }
     ensures served { result ≡ 0 → (ended : Ended) × HasServed (map (λ word. word.now) words.now) (R.remaining reader.old) (R.remaining reader.new) (W.contents writer.old) (W.contents writer.new) (Ok ended) (end_line ended) }

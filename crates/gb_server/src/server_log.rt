@@ -2,12 +2,10 @@
 ghost use Rattle.std.specs.Prelude.{◌≡◌, ◌≤◌, ◌++◌, ◌+◌, ◌-◌, IfOk, OnOk, codes, decimal, true};
 ghost use Rattle.gb_server.specs.ServerLog.{begin_line, end_line_of, end_words, port_words, range_words, status_words};
 ghost use Rattle.std.specs.Net.Text.{socket_text};
-ghost use Rattle.gb_serve_words.specs.Words.{IsWithin};
 
 use crate::signals::{Signals, Why};
 use crate::told::tell;
 use gb_loop::node_loop::Ending;
-use gb_serve_words::plan::ServePlan;
 use gb_status::board::Board;
 use gb_status::news::{Told, put_news};
 use gb_types::memory::{OutOfMemory, put_bytes};
@@ -50,7 +48,7 @@ fn put_range(out: &mut Vec<u8>, words: &[u8], first: u64, count: u64) -> Result<
     put_number(out, first + count - 1)
 }
 
-// Appends the ports of so many nodes, from a base port on.
+// Appends the ports of this number of nodes, from a base port on.
 fn put_ports(out: &mut Vec<u8>, nodes: u64, base: u64) -> Result<(), OutOfMemory>
     requires nodes { (1 ≤ nodes) × (nodes ≤ 32) }
     requires base { base ≤ 65000 }
@@ -154,7 +152,7 @@ fn write<E: Write>(errors: &mut E, lines: Result<Vec<u8>, OutOfMemory>) {
 }
 
 impl ServerLog {
-    /// A log that has told nothing of so many nodes.
+    /// A log that has told nothing of this number of nodes.
     pub fn new(alloc: Global, nodes: u8, is_quiet: bool) -> Result<ServerLog, OutOfMemory>
         ensures { IfOk result (λ made. made.is_quiet ≡ is_quiet) }
     {
@@ -171,22 +169,14 @@ impl ServerLog {
         })
     }
 
-    /// Writes the first line.
-    pub fn begin<E: Write>(
-        &self,
-        version: &[u8],
-        plan: ServePlan,
-        status: Option<SocketAddr>,
-        errors: &mut E,
-    )
-        requires within { IsWithin plan }
+    /// Writes its first line.
+    pub fn begin<E: Write>(&self, line: &[u8], errors: &mut E)
         ensures quiet { self.now.is_quiet ≡ true → errors.new ≡ errors.old }
     {
         if self.is_quiet {
             return;
         }
-        let (nodes, base) = (u64::from(plan.nodes), u64::from(plan.base_port));
-        write(errors, begin_line(self.alloc, version, nodes, base, status));
+        let _ = tell(errors, line);
     }
 
     // Writes what is new of the nodes.

@@ -1,8 +1,7 @@
-//! What the thread of a server does that is no loop's: it tells when the server serves, heeds standard input, writes the log, and answers who
-//! asks for the status.
+//! What the threads of a server do that are no loop's: one tells when the server serves and heeds standard input, the other writes the log and
+//! answers who asks for the status.
 ghost use Rattle.std.specs.Prelude.{◌≡◌, ℕ, List, true};
 ghost use Rattle.std.specs.Io.KnownBytes.{Appends, Consumes};
-ghost use Rattle.gb_serve_words.specs.Words.{IsWithin};
 
 use crate::desk::Desk;
 use crate::gates::wait_until_begun;
@@ -10,35 +9,59 @@ use crate::input::Input;
 use crate::orders::heed;
 use crate::signals::{Signals, Why};
 use crate::told::tell;
-use gb_serve_words::plan::ServePlan;
+use gb_loop::node_loop::Ending;
 use std::io::Write;
 use std::sync::Wait;
-use std::time::Clock;
+use std::thread;
+use std::time::{Clock, Duration};
 
-/// Once all loops have begun writes the log's first line and this line, and heeds standard input until the server is over, and the desk until
-/// the threads of all loops have ended. False: a loop could not begin, or the line could not be written, which ends the server.
-pub fn watch<H: Wait + Clock, R: Input, W: Write, E: Write>(
+// How long the thread of a desk sleeps before it looks again, in milliseconds: while the server serves, and once it is over.
+const LOOK: u64 = 50;
+
+const LAST_LOOK: u64 = 10;
+
+/// Writes this line once all loops have begun, and heeds standard input until the server is over. Returns false if a loop could not begin, or
+/// the line could not be written, which ends the server.
+pub fn watch<H: Wait + Clock, R: Input, W: Write>(
     rt: &H,
     signals: &Signals,
     line: &[u8],
-    plan: ServePlan,
-    desk: &mut Desk,
+    stops_at_end: bool,
     reader: &mut R,
     writer: &mut W,
-    errors: &mut E,
 ) -> bool
-    requires within { IsWithin plan }
     ensures told { result ≡ true → Appends (W.contents writer.old) (W.contents writer.new) line.now }
     ensures read { result ≡ true → (bytes : List ℕ) × Consumes (R.remaining reader.old) (R.remaining reader.new) bytes }
 {
     if !wait_until_begun(rt, signals) {
         return false;
     }
-    desk.begin(plan, errors);
     if !tell(writer, line) {
         signals.end(Why::Unwritten);
         return false;
     }
-    heed(rt, signals, plan.stop_at_end, desk, reader, errors);
+    heed(rt, signals, stops_at_end, reader);
     true
+}
+
+/// Writes the log's first line once all loops have begun, and serves the desk until the threads of all loops have ended.
+pub fn attend<H: Wait + Clock, E: Write>(
+    rt: &H,
+    signals: &Signals,
+    desk: &mut Desk,
+    errors: &mut E,
+) {
+    if !wait_until_begun(rt, signals) {
+        return;
+    }
+    desk.begin(errors);
+    for _ in rt.forever() {
+        let have_left = signals.have_left();
+        desk.look(rt, signals, errors);
+        if have_left {
+            break;
+        }
+        let wait = if signals.is_over() { LAST_LOOK } else { LOOK };
+        thread::sleep(rt, Duration::from_millis(wait));
+    }
 }
