@@ -78,6 +78,14 @@ fn has_figures<H: Net<Stream = TcpStream> + Clock>(rt: &H, alloc: Global, port: 
     false
 }
 
+// Whether the server at a port says that it is well.
+fn is_healthy<H: Net<Stream = TcpStream> + Clock>(rt: &H, alloc: Global, port: u16) -> bool {
+    let Some(text) = told(rt, alloc, port, HEALTH) else {
+        return false;
+    };
+    text.starts_with(b"HTTP/1.1 200 ") && text.ends_with(b"\r\n\r\nok\n")
+}
+
 // Whether all that is asked while the server runs is answered as it is to be.
 fn asks<H: Net<Stream = TcpStream> + Clock>(
     rt: &H,
@@ -93,9 +101,7 @@ fn asks<H: Net<Stream = TcpStream> + Clock>(
     )?;
     let is_sent = send_garbage(rt, 24_701);
     let has_figures = has_figures(rt, alloc, 24_790);
-    let health = told(rt, alloc, 24_790, HEALTH);
-    let is_well =
-        matches!(health, Some(text) if text.starts_with(b"HTTP/1.1 200 ") && text.ends_with(b"\r\n\r\nok\n"));
+    let is_well = is_healthy(rt, alloc, 24_790);
     Ok([is_given && is_refused, is_sent, has_figures, is_well])
 }
 
@@ -118,6 +124,11 @@ fn is_log(errors: &[u8]) -> bool {
     errors == WATCHED_LOG || has(errors, b" as crashed\n")
 }
 
+// Whether a server that was watched ended in order, with its log.
+fn is_ended(run: &Run) -> bool {
+    run.status == 0 && is_log(run.errors.as_slice())
+}
+
 #[test]
 fn figures_of_known_traffic_are_told_by_http(rt: HostRuntime) {
     let alloc = rt.alloc();
@@ -127,7 +138,7 @@ fn figures_of_known_traffic_are_told_by_http(rt: HostRuntime) {
         || asks(&rt, alloc),
     );
     assert!(rt; matches!(asked, Ok([true, true, true, true])));
-    assert!(rt; run.status == 0 && is_log(&run.errors));
+    assert!(rt; is_ended(&run));
 }
 
 static TAKEN: [&str; 6] = [
@@ -333,14 +344,20 @@ fn log_of(alloc: Global, is_quiet: bool) -> Option<Vec<u8>> {
 static LOG: &[u8] =
     b"gb_serve: node 1 noticed node 0 as crashed\ngb_serve: node 1 noticed node 2 as crashed\ngb_serve: node 1 has as many connections as are allowed, and closes more\ngb_serve: node 1 lacked memory\ngb_serve: ends: an administrator asked for it\n";
 
+// Whether a log has written this.
+fn has_written(alloc: Global, is_quiet: bool, text: &[u8]) -> bool {
+    let Some(lines) = log_of(alloc, is_quiet) else {
+        return false;
+    };
+    lines.as_slice() == text
+}
+
 #[test]
 fn a_log_tells_each_event_once(rt: HostRuntime) {
-    let log = log_of(rt.alloc(), false);
-    assert!(rt; matches!(log, Some(lines) if lines.as_slice() == LOG));
+    assert!(rt; has_written(rt.alloc(), false, LOG));
 }
 
 #[test]
 fn a_quiet_log_writes_nothing(rt: HostRuntime) {
-    let log = log_of(rt.alloc(), true);
-    assert!(rt; matches!(log, Some(lines) if lines.is_empty()));
+    assert!(rt; has_written(rt.alloc(), true, b""));
 }
