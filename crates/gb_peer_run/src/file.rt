@@ -9,11 +9,10 @@ use gb_cluster_file::file::ClusterFile;
 use gb_cluster_file::read::read_cluster;
 use gb_cluster_file::words::fault_text;
 use gb_server::fault::ServeFault;
-use std::alloc::Global;
+use std::alloc::{AllocGlobal, Global};
 use std::fs;
 use std::fs::Files;
 use std::io::Write;
-use std::rt::Alloc;
 use std::str;
 
 // Says why a file is refused.
@@ -43,7 +42,7 @@ fn refuse_text<E: Write>(
 
 /// Returns what the file with this name says of a cluster. Why it is refused is written to `errors`: that it cannot be read, or which line or
 /// field of it is wrong.
-pub fn read_file<F: Files + Alloc<A = Global>, E: Write>(
+pub fn read_file<F: Files + AllocGlobal, E: Write>(
     files: &F,
     alloc: Global,
     name: &str,

@@ -36,12 +36,11 @@ use gb_types::memory::{OutOfMemory, put_bytes};
 use gb_types::node::NodeId;
 use gb_types::number::put_number;
 use gb_version::VERSION;
-use std::alloc::Global;
+use std::alloc::{AllocGlobal, Global};
 use std::fs::Files;
 use std::io::Write;
 use std::marker::Brand;
 use std::net::{Net, SocketAddr, TcpListener, TcpStream};
-use std::rt::Alloc;
 use std::sync::Wait;
 use std::thread::Threads;
 use std::time::Clock;
@@ -283,9 +282,7 @@ fn serve_file<
 
 // Serves a node by words. Its log is written to `errors`, and why it did not serve to its end.
 fn serve_words<
-    H: Net<Listener = TcpListener, Stream = TcpStream> + Threads + Wait + Clock + Sync + Files + Alloc<
-        A = Global,
-    >,
+    H: Net<Listener = TcpListener, Stream = TcpStream> + Threads + Wait + Clock + Sync + Files + AllocGlobal,
     R: Input,
     W: Write,
     E: Write + Send,
@@ -310,9 +307,7 @@ fn serve_words<
 
 // Serves a node by the words of a command line. The answer is how it ended, which is still to be told.
 fn serve<
-    H: Net<Listener = TcpListener, Stream = TcpStream> + Threads + Wait + Clock + Sync + Files + Alloc<
-        A = Global,
-    >,
+    H: Net<Listener = TcpListener, Stream = TcpStream> + Threads + Wait + Clock + Sync + Files + AllocGlobal,
     R: Input,
     W: Write,
     E: Write + Send,
@@ -336,9 +331,7 @@ fn serve<
 /// Returns the exit status: 0 when all connections were served, or the node was told to end; 2 for refused words, a refused file or a refused
 /// address; 1 for all else. When it answers, its threads have ended and its sockets are closed.
 pub fn peer_main<
-    H: Net<Listener = TcpListener, Stream = TcpStream> + Threads + Wait + Clock + Sync + Files + Alloc<
-        A = Global,
-    >,
+    H: Net<Listener = TcpListener, Stream = TcpStream> + Threads + Wait + Clock + Sync + Files + AllocGlobal,
     R: Input,
     W: Write,
     E: Write + Send,
