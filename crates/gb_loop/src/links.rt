@@ -34,8 +34,8 @@ pub struct Link {
     pub patience: u64,
     /// The frame is sent again as an acknowledgement came behind one that was late.
     pub is_prompted: bool,
-    /// A frame was late since the last round trip that was measured.
-    pub was_late: bool,
+    /// How many frames are to be acknowledged until all are that were open when one was late.
+    pub late: u64,
     /// When a frame was sent whose round trip is measured, and how many frames are to be acknowledged until it is; 0: none is measured.
     pub timed_at: u64,
     pub timed: u64,
@@ -58,7 +58,7 @@ impl Link {
             again_at: 0,
             patience: AGAIN,
             is_prompted: false,
-            was_late: false,
+            late: 0,
             timed_at: 0,
             timed: 0,
             round_trip: 0,
@@ -72,6 +72,8 @@ impl Link {
     /// A frame was packed and sent.
     pub fn packed(&mut self, now: u64) {
         if self.open == 0 {
+            self.is_prompted = false;
+            self.late = 0;
             self.again_at = now.saturating_add(self.patience);
         }
         self.open = self.open.saturating_add(1);
@@ -105,7 +107,7 @@ impl Link {
             self.variation = self.variation - self.variation / 4 + off / 4;
             self.round_trip = self.round_trip - self.round_trip / 8 + took / 8;
         }
-        self.was_late = false;
+        self.patience = self.measured();
     }
 
     // Frames are acknowledged: the one that is measured may be among them.
@@ -121,18 +123,16 @@ impl Link {
         }
     }
 
-    /// This number of frames is acknowledged newly. While no round trip could be measured the patience stays what it grew to. Behind a
-    /// frame that was late the next one is sent again at once.
+    /// This number of frames is acknowledged newly. The patience stays what it grew to until a round trip is measured. Of frames that were
+    /// open when one was late, the next is sent again at once.
     pub fn done(&mut self, count: u64, now: u64) {
         if count > 0 {
             self.open = self.open.saturating_sub(count);
             self.room = self.room.saturating_add(count).min(ROOM_MOST);
+            self.late = self.late.saturating_sub(count);
             self.time(count, now);
-            if self.round_trip > 0 {
-                self.patience = self.measured();
-            }
-            self.is_prompted = self.was_late;
-            self.again_at = if self.was_late {
+            self.is_prompted = self.late > 0;
+            self.again_at = if self.is_prompted {
                 now
             } else {
                 now.saturating_add(self.patience)
@@ -158,7 +158,7 @@ impl Link {
         if self.is_prompted {
             self.is_prompted = false;
         } else {
-            self.was_late = true;
+            self.late = self.open;
             self.lost();
             let most = AGAIN_MOST.max(self.measured());
             self.patience = self.patience.saturating_mul(2).min(most);
