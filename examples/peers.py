@@ -264,11 +264,15 @@ class Cluster:
         return f"{programs} does not begin here"
 
     def end_others(self) -> None:
-        """End all programs of a tunnel."""
-        for process in self.others:
-            process.kill()
-            process.wait()
-        self.others.clear()
+        """End all programs of a tunnel, the last one first."""
+        while self.others:
+            process = self.others.pop()
+            process.terminate()
+            try:
+                process.wait(5)
+            except subprocess.TimeoutExpired:
+                process.kill()
+                process.wait()
 
     def tell_complaints(self) -> None:
         """Print the last lines that each node wrote to standard error."""
@@ -351,11 +355,15 @@ class Book:
             last[entry.origin] = entry.number
         return found
 
+    def is_uniform(self, group: int) -> bool:
+        """Return True if a message that one member delivers has to be delivered by all that run, also where that one stops."""
+        return self.kinds[group].endswith(("allack", "majority"))
+
     def missing(self, group: int, running: Sequence[int]) -> Optional[str]:
         """Return what a log of a running member lacks. None if it lacks nothing."""
         logs = {node: self.messages(node, group) for node in running}
         owed = {message for message in self._answered[group] if message[0] in running}
-        if self.kinds[group].endswith(("allack", "majority")):  # What one member delivered, each running one has to.
+        if self.is_uniform(group):  # What one member delivered, each running one has to.
             owed |= self._delivered[group]
         owed = owed.union(*logs.values())
         for node, log in logs.items():
@@ -511,12 +519,18 @@ class Stages:
     def part_for_long(self) -> None:
         """Part node 1 from all others for longer than the silence."""
         groups = (11, 12, 13, 14)
-        self.book.note_delivered(1, groups)
         self.cluster.order("part 1")
-        for node in (0, 3):
-            self.book.say(node, groups, 20)
-        took = self.await_notices({0: 2, 3: 2, 1: 3})
-        total = self.book.settle(groups, (0, 3))
+        begun = time.monotonic()
+        before = {group: self.book.messages(1, group) for group in groups}
+        for node in (0, 1, 3):
+            self.book.say(node, groups, 5)
+        time.sleep(silence() / 6)
+        for group in groups:
+            if self.book.is_uniform(group) and self.book.messages(1, group) != before[group]:
+                raise Wrong(f"node 1, group {group}: it has delivered a message that no other member can have had")
+        self.await_notices({0: 2, 3: 2, 1: 3})
+        took = time.monotonic() - begun
+        total = self.speak(groups, (0, 3), (0, 3))
         self.tell(f"node 1 is parted and noticed after {took:.1f} seconds; 0 and 3 go on, {total} entries in their logs")
         self.cluster.order("join 1")
         self.book.say(1, groups, 5)
