@@ -25,6 +25,7 @@ NODES, KINDS = 3, ('beb', 'lazy', 'eager', 'allack', 'majority', 'fbeb', 'flazy'
 TENANT, ROUNDS, SPARE = 7, 3, 15  # the group SPARE is made and dropped
 REFUSED, BAD_PLACE = 'refused 16 OutOfMemory', 'refused 11 BadPlace'
 SECONDS = 5  # no single thing that is asked takes longer
+BEGIN = 15  # nor does the beginning: a server that lacks a thread of its own misses it after ten seconds
 PAUSE = 0.001  # before it is asked again, in seconds
 OUTAGE = 0.3  # how long all requests are refused, in seconds
 SESSIONS = 120  # connections that each node serves in all: no more than wait at a socket at once
@@ -81,7 +82,7 @@ class Server:
     def begins(self):
         """Whether it writes that it serves."""
         while b'\n' not in self.text:
-            if not self.read():
+            if not self.read(BEGIN):
                 return False
         return self.text.startswith(b'serving 3 nodes from port ')
 
