@@ -1,7 +1,4 @@
-// Tests of what a server answers by HTTP and logs. They stand outside the gate: the borrow checker of the toolchain does not cover the first of them yet.
-// To run them, copy the repository, put this file to crates/gb_server_examples/src/statuses.rt, add `#[cfg(test)] mod statuses;` to lib.rt beside it, and run
-// `rt try --test` in that crate.
-// The status of a server: figures of known traffic, read by HTTP, and how other requests are answered.
+// The status of a server and its log: figures of known traffic, read by HTTP, how other requests are answered, and which lines are logged.
 use crate::chat::{gives, joined};
 use crate::served::{KEYS, Run, is_free, run_of};
 use crate::socket_clients::{address, connect, told};
@@ -21,13 +18,14 @@ use std::rt::HostRuntime;
 use std::sync::Wait;
 use std::sync::atomic::{AtomicBool, Ordering};
 use std::thread;
+use std::thread::Threads;
 use std::time::{Clock, Duration};
 
 static METRICS: &[u8] = b"GET /metrics HTTP/1.1\r\nHost: localhost\r\n\r\n";
 
 static HEALTH: &[u8] = b"GET /healthz HTTP/1.1\r\nHost: localhost\r\n\r\n";
 
-// Whether a text has a part.
+// Returns whether a text has a part.
 fn has(text: &[u8], part: &[u8]) -> bool {
     text.windows(part.len().max(1)).any(|bytes| bytes == part)
 }
@@ -42,7 +40,10 @@ static TRAFFIC: [(Head, &str, &str); 6] = [
     (Head::Say, "7 2 hello", "refused 2 NoGroup"),
 ];
 
-// Lines of the text of figures after this traffic, and three bytes that are no packet.
+// What a member asks at node 1, which knows no tenant.
+static DENIED_OPEN: [(Head, &str, &str); 1] = [(Head::Open, "8 1", "refused 1 Denied")];
+
+// Lines of the text of figures after this traffic, and after three bytes that are no packet came to node 1.
 static FIGURES: [&[u8]; 13] = [
     b"\nfoqradesh_requests_total{node=\"0\",kind=\"tenant\"} 1\n",
     b"\nfoqradesh_requests_total{node=\"0\",kind=\"make\"} 1\n",
@@ -59,7 +60,7 @@ static FIGURES: [&[u8]; 13] = [
     b"\nfoqradesh_node_running{node=\"1\"} 1\n",
 ];
 
-// Sends three bytes to a UDP port.
+// Sends three bytes, which are no packet, to a UDP port. Returns whether they were sent.
 fn send_garbage<H: Net>(rt: &H, port: u16) -> bool {
     match UdpSocket::bind(rt, address(24_899)) {
         Ok(socket) => socket.send_to(b"hey", address(port)).is_ok(),
@@ -67,7 +68,7 @@ fn send_garbage<H: Net>(rt: &H, port: u16) -> bool {
     }
 }
 
-// Whether the figures that are told at a port have all these lines at last; ten seconds are waited for that.
+// Returns whether the figures that are told at a port come to have all these lines; ten seconds are waited for that.
 fn has_figures<H: Net<Stream = TcpStream> + Clock>(rt: &H, alloc: Global, port: u16) -> bool {
     for _ in 0..200 {
         if let Some(text) = told(rt, alloc, port, METRICS)
@@ -81,7 +82,7 @@ fn has_figures<H: Net<Stream = TcpStream> + Clock>(rt: &H, alloc: Global, port: 
     false
 }
 
-// Whether the server at a port says that it is well.
+// Returns whether the server at a port says that it is well.
 fn is_healthy<H: Net<Stream = TcpStream> + Clock>(rt: &H, alloc: Global, port: u16) -> bool {
     let Some(text) = told(rt, alloc, port, HEALTH) else {
         return false;
@@ -89,23 +90,21 @@ fn is_healthy<H: Net<Stream = TcpStream> + Clock>(rt: &H, alloc: Global, port: u
     text.starts_with(b"HTTP/1.1 200 ") && text.ends_with(b"\r\n\r\nok\n")
 }
 
-// Whether all that is asked while the server runs is answered as it is to be.
-fn asks<H: Net<Stream = TcpStream> + Clock>(
-    rt: &H,
-    alloc: Global,
-) -> Result<[bool; 4], ClientFault> {
+// Returns whether each request is answered as it is to be while the server runs, and the figures tell of it.
+fn asks<H: Net<Stream = TcpStream> + Clock>(rt: &H, alloc: Global) -> Result<bool, ClientFault> {
     let mut member = joined(rt, 24_700, NodeId::new(0))?;
     let mut other = joined(rt, 24_700, NodeId::new(1))?;
     let is_given = gives(alloc, &mut member, &TRAFFIC)?;
-    let is_refused = gives(
-        alloc,
-        &mut other,
-        &[(Head::Open, "8 1", "refused 1 Denied")],
-    )?;
+    let is_refused = gives(alloc, &mut other, &DENIED_OPEN)?;
     let is_sent = send_garbage(rt, 24_701);
     let has_figures = has_figures(rt, alloc, 24_790);
     let is_well = is_healthy(rt, alloc, 24_790);
-    Ok([is_given && is_refused, is_sent, has_figures, is_well])
+    Ok(is_given && is_refused && is_sent && has_figures && is_well)
+}
+
+// The same; false where a member was not answered.
+fn is_told_of<H: Net<Stream = TcpStream> + Clock>(rt: &H, alloc: Global) -> bool {
+    asks(rt, alloc).unwrap_or(false)
 }
 
 static WATCHED: [&str; 8] = [
@@ -119,29 +118,37 @@ static WATCHED: [&str; 8] = [
     "20",
 ];
 
-static WATCHED_LOG: &[u8] =
-    b"gb_serve 0.1.0: 2 nodes, packets at UDP 127.0.0.1:24700 to 24701, sessions at TCP 127.0.0.1:24764 to 24765, status at http://127.0.0.1:24790/metrics\ngb_serve: ends: all connections were served\n";
+static WATCHED_BEGIN: &[u8] =
+    b"gb_serve 0.1.0: 2 nodes, packets at UDP 127.0.0.1:24700 to 24701, sessions at TCP 127.0.0.1:24764 to 24765, status at http://127.0.0.1:24790/metrics\n";
 
-// The log may have a line more on a machine that has so much to do that a node is noticed.
+static WATCHED_END: &[u8] = b"gb_serve: ends: all connections were served\n";
+
+// Returns whether a log begins with its first line and tells why the server ended. It tells more on a machine that has so much to do that a
+// node is noticed.
 fn is_log(errors: &[u8]) -> bool {
-    errors == WATCHED_LOG || has(errors, b" as crashed\n")
+    let Some(rest) = errors.strip_prefix(WATCHED_BEGIN) else {
+        return false;
+    };
+    rest == WATCHED_END || has(rest, WATCHED_END) && has(rest, b" as crashed\n")
 }
 
-// Whether a server that was watched ended in order, with its log.
-fn is_ended(run: &Run) -> bool {
-    run.status == 0 && is_log(run.errors.as_slice())
+// Returns whether a server that is watched ends in order, with its log.
+fn ends_in_order<
+    H: Net<Listener = TcpListener, Stream = TcpStream> + Threads + Wait + Clock + Sync,
+>(rt: &H, alloc: Global) -> bool {
+    let run = run_of(rt, alloc, &WATCHED, KEYS);
+    run.status == 0 && is_log(&run.errors)
 }
 
 #[test]
 fn figures_of_known_traffic_are_told_by_http(rt: HostRuntime) {
     let alloc = rt.alloc();
-    let (run, asked) = thread::join(
+    let (is_ended, is_told) = thread::join(
         &rt,
-        || run_of(&rt, alloc, &WATCHED, KEYS),
-        || asks(&rt, alloc),
+        || ends_in_order(&rt, alloc),
+        || is_told_of(&rt, alloc),
     );
-    assert!(rt; matches!(asked, Ok([true, true, true, true])));
-    assert!(rt; is_ended(&run));
+    assert!(rt; is_ended && is_told);
 }
 
 static TAKEN: [&str; 6] = [
@@ -153,7 +160,7 @@ static TAKEN: [&str; 6] = [
     "127.0.0.1:24890",
 ];
 
-// Whether a server told that its address for the status could not be bound.
+// Returns whether a server told that its address for the status could not be bound.
 fn is_told(run: &Run) -> bool {
     let want = b"gb_serve: status address 127.0.0.1:24890 could not be bound\n".as_slice();
     run.status == 1
@@ -180,7 +187,7 @@ fn some_figures() -> Figures {
     figures
 }
 
-// One that tells the status by these signals at a port, and looks until this is set.
+// Tells the status by these signals at a port, and looks until this is set. Returns false where it could not listen, or this is never set.
 fn tells<H: Net<Listener = TcpListener, Stream = TcpStream> + Wait + Clock>(
     rt: &H,
     alloc: Global,
@@ -204,6 +211,8 @@ fn tells<H: Net<Listener = TcpListener, Stream = TcpStream> + Wait + Clock>(
     }
     false
 }
+
+static UNAVAILABLE: &[u8] = b"HTTP/1.1 503 Service Unavailable\r\n";
 
 // What is asked, and what the answer begins with. Half a request is answered once no more comes.
 static ANSWERS: [(&[u8], &[u8]); 8] = [
@@ -229,7 +238,7 @@ static ANSWERS: [(&[u8], &[u8]); 8] = [
     (b"", b"HTTP/1.1 400 Bad Request\r\n"),
 ];
 
-// Whether a request at a port is answered by a text that begins so.
+// Returns whether a request at a port is answered by a text that begins so.
 fn is_answered<H: Net<Stream = TcpStream> + Clock>(
     rt: &H,
     alloc: Global,
@@ -243,7 +252,7 @@ fn is_answered<H: Net<Stream = TcpStream> + Clock>(
     }
 }
 
-// Whether a request without an end is answered after so many bytes, and its connection is closed.
+// Returns whether a request of 5,005 bytes without an end is refused, and its connection is closed.
 fn is_bounded<H: Net<Stream = TcpStream> + Clock>(rt: &H, alloc: Global, port: u16) -> bool {
     let Some(mut stream) = connect(rt, port) else {
         return false;
@@ -258,7 +267,7 @@ fn is_bounded<H: Net<Stream = TcpStream> + Clock>(rt: &H, alloc: Global, port: u
     is_sent && is_read && text.starts_with(b"HTTP/1.1 400 Bad Request\r\n")
 }
 
-// Whether clients that send half a request and wait hold up nobody, and lose their connections.
+// Returns whether clients that send half a request and wait hold up nobody, and lose their connections.
 fn are_left<H: Net<Stream = TcpStream> + Clock>(rt: &H, alloc: Global, port: u16) -> bool {
     let mut silent = Vec::new(alloc);
     for _ in 0..10 {
@@ -284,27 +293,29 @@ fn are_left<H: Net<Stream = TcpStream> + Clock>(rt: &H, alloc: Global, port: u16
     is_answered && are_left
 }
 
-// Whether all is answered as it is to be, also once the server is over.
-fn asks_all<H: Net<Stream = TcpStream> + Clock>(
-    rt: &H,
-    alloc: Global,
-    signals: &Signals,
-) -> [bool; 4] {
+// Returns whether each of the requests is answered as it is to be.
+fn are_answered<H: Net<Stream = TcpStream> + Clock>(rt: &H, alloc: Global) -> bool {
     let mut are_right = true;
     for (bytes, want) in &ANSWERS {
         are_right = is_answered(rt, alloc, 24_900, bytes, want) && are_right;
     }
+    are_right
+}
+
+// Returns whether all is answered as it is to be, also once the server is over. Sets this at the end.
+fn asks_all<H: Net<Stream = TcpStream> + Clock>(
+    rt: &H,
+    alloc: Global,
+    signals: &Signals,
+    is_done: &AtomicBool,
+) -> bool {
+    let are_right = are_answered(rt, alloc);
     let is_bounded = is_bounded(rt, alloc, 24_900);
     let are_left = are_left(rt, alloc, 24_900);
     signals.end(Why::Stopped);
-    let is_over = is_answered(
-        rt,
-        alloc,
-        24_900,
-        HEALTH,
-        b"HTTP/1.1 503 Service Unavailable\r\n",
-    );
-    [are_right, is_bounded, are_left, is_over]
+    let is_over = is_answered(rt, alloc, 24_900, HEALTH, UNAVAILABLE);
+    is_done.store(true, Ordering::SeqCst);
+    are_right && is_bounded && are_left && is_over
 }
 
 #[test]
@@ -313,19 +324,17 @@ fn each_request_is_answered_and_nobody_waits(rt: HostRuntime) {
     let signals = Signals::new(alloc, 1).expect(&rt, "memory");
     signals.publish(NodeId::new(0), &some_figures(), &NodeSet::new());
     let is_done = AtomicBool::new(false);
-    let (has_told, asked) = thread::join(
+    let told_by = &signals;
+    let is_set = &is_done;
+    let (has_told, are_answered) = thread::join(
         &rt,
-        || tells(&rt, alloc, 24_900, &signals, &is_done),
-        || {
-            let asked = asks_all(&rt, alloc, &signals);
-            is_done.store(true, Ordering::SeqCst);
-            asked
-        },
+        || tells(&rt, alloc, 24_900, told_by, is_set),
+        || asks_all(&rt, alloc, told_by, is_set),
     );
-    assert!(rt; has_told && asked == [true, true, true, true]);
+    assert!(rt; has_told && are_answered);
 }
 
-// What a log writes by these signals in three looks: the second is told that node 1 noticed nodes 0 and 2, and the third why the server ends.
+// What a log writes by its signals in five looks: before the second node 1 noticed nodes 0 and 2, and before the fourth the server was told to end, twice.
 fn log_of(alloc: Global, is_quiet: bool) -> Option<Vec<u8>> {
     let signals = Signals::new(alloc, 3).ok()?;
     let mut log = ServerLog::new(alloc, 3, is_quiet).ok()?;
@@ -347,7 +356,7 @@ fn log_of(alloc: Global, is_quiet: bool) -> Option<Vec<u8>> {
 static LOG: &[u8] =
     b"gb_serve: node 1 noticed node 0 as crashed\ngb_serve: node 1 noticed node 2 as crashed\ngb_serve: node 1 has as many connections as are allowed, and closes more\ngb_serve: node 1 lacked memory\ngb_serve: ends: an administrator asked for it\n";
 
-// Whether a log has written this.
+// Returns whether a log has written this.
 fn has_written(alloc: Global, is_quiet: bool, text: &[u8]) -> bool {
     let Some(lines) = log_of(alloc, is_quiet) else {
         return false;
