@@ -1,5 +1,5 @@
 //! The server from its words to its exit status.
-ghost use Rattle.std.specs.Prelude.{◌≡◌, ◌≢◌, ◌≤◌, ◌+◌, ◌*◌, [], ℕ, List, true, Ok, Err, codes, map, vec_len};
+ghost use Rattle.std.specs.Prelude.{◌≡◌, ◌≢◌, ◌≤◌, ◌+◌, ◌*◌, [], ℕ, List, true, Ok, Err, IfOk, codes, map, vec_len};
 ghost use Rattle.std.specs.Io.KnownBytes.{Appends, Consumes};
 ghost use Rattle.gb_serve_words.specs.Words.{IsWithin};
 ghost use Rattle.gb_server.specs.Behaviour.{AreOptions, beat_of};
@@ -238,10 +238,10 @@ pub fn serve<
         Ok(keys) => keys,
         Err(why) => return Err(ServeFault::BadKeys(why)),
     };
-    let Some(run) = run else {
+    let Some(number) = run else {
         return Err(ServeFault::NoRun);
     };
-    serve_plan(rt, alloc, plan, keys, run, reader, writer, errors)
+    serve_plan(rt, alloc, plan, keys, number, reader, writer, errors)
 }
 
 // Tells why a server did not serve to its end. Why words are refused is told where they were read.
