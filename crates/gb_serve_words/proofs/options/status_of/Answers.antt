@@ -1,7 +1,7 @@
 use Rattle.std.proofs.Common.{codes}
 use Rattle.clap.specs.Words.{found_of}
 use Rattle.gb_serve_words.proofs.NumberLemmas.{no_address, reads_address}
-use Rattle.gb_serve_words.proofs.words.status_of.Goals as goal
+use Rattle.gb_serve_words.proofs.options.status_of.Goals as goal
 
 pub returns-in-Ok-clause-read : goal.returns-in-Ok-clause-read
 returns-in-Ok-clause-read c = reads_address (found_of c.args.matches.now) (codes "status") c.in-Ok.status c.in-Ok.ensures.none c.in-Ok.ensures.value
