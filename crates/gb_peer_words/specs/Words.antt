@@ -1,5 +1,5 @@
 -- The words of gb_peer's command line: the command, as `clap` reads it, and what it makes of the words.
-use Rattle.std.specs.Prelude.{◌≡◌, ◌≤◌, ℕ, true, false, List, Option, Some, is_some, unwrap_or, codes}
+use Rattle.std.specs.Prelude.{◌≡◌, ◌≤◌, true, false, List, Some, is_some, unwrap_or, codes}
 use Rattle.clap.specs.Words.{App, Row, Rule, Text, first_of, new_app, one_of, with_rule}
 use Rattle.gb_serve_words.specs.Options.{HasFlag, HasNumber, IsAddressOf, connections_rule, flag_rule, given, idle_rule, is_set, named_rule, requests_rule, sessions_rule, status_rule, text_rule}
 use Rattle.gb_serve_words.specs.declared.options.TheConstants.{CONNECTIONS, MOST_CONNECTIONS, MOST_IDLE, MOST_REQUESTS, MOST_SESSIONS}

@@ -10,7 +10,6 @@ use Rattle.clap.specs.Built.{IsAuto}
 use Rattle.clap.specs.Walk.{first_of, is_empty, is_free_arg, is_simple_arg}
 use Rattle.clap.specs.declared.builder.command.Command.TheViews.{out-Command}
 use Rattle.clap.specs.Words.{Accepts, App, IsParsedFrom, IsPlain, IsPlainArg, IsSignedIn, Rule, Text, app_of, first_value, found_of, matched_of, one_of, one_text, read_as, reading_of, rows_of, rule_of, without_minus}
-use Rattle.clap.specs.declared.builder.action.ArgAction.{ArgAction}
 use Rattle.clap.specs.declared.builder.action.ArgAction.TheVariants.{Set}
 use Rattle.clap.specs.declared.builder.arg.Arg.{Arg}
 use Rattle.clap.specs.declared.builder.command.Command.{Command}
