@@ -148,9 +148,18 @@ fn other_returns_are_characters(rt: HostRuntime) {
 
 // Runs, and their keys where the cluster's key is 32 bytes 11.
 static RUNS: [(u64, &[u8]); 3] = [
-    (1, b"c954c08e20e2252a1ad94fe76ef661e3bb548afcb86d9b3b5042bf90d407a77e"),
-    (7, b"b5c3e17d4f98ee2a8121d6d51fb26f62b638f9bacd524a11a09c79452122a5bc"),
-    (u64::MAX, b"d60b2c63efc21cc97468d9d32b9dc2fb438da70932f601d66b32c8e2ef3a3383"),
+    (
+        1,
+        b"c954c08e20e2252a1ad94fe76ef661e3bb548afcb86d9b3b5042bf90d407a77e",
+    ),
+    (
+        7,
+        b"b5c3e17d4f98ee2a8121d6d51fb26f62b638f9bacd524a11a09c79452122a5bc",
+    ),
+    (
+        u64::MAX,
+        b"d60b2c63efc21cc97468d9d32b9dc2fb438da70932f601d66b32c8e2ef3a3383",
+    ),
 ];
 
 #[test]

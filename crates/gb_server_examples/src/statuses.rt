@@ -321,7 +321,7 @@ fn asks_all<H: Net<Stream = TcpStream> + Clock>(
 #[test]
 fn each_request_is_answered_and_nobody_waits(rt: HostRuntime) {
     let alloc = rt.alloc();
-    let signals = Signals::new(alloc, 1).expect(&rt, "memory");
+    let signals = Signals::new(alloc, NodeId::new(0), 1).expect(&rt, "memory");
     signals.publish(NodeId::new(0), &some_figures(), &NodeSet::new());
     let is_done = AtomicBool::new(false);
     let told_by = &signals;
@@ -336,8 +336,8 @@ fn each_request_is_answered_and_nobody_waits(rt: HostRuntime) {
 
 // What a log writes by its signals in five looks: before the second node 1 noticed nodes 0 and 2, and before the fourth the server was told to end, twice.
 fn log_of(alloc: Global, is_quiet: bool) -> Option<Vec<u8>> {
-    let signals = Signals::new(alloc, 3).ok()?;
-    let mut log = ServerLog::new(alloc, 3, is_quiet).ok()?;
+    let signals = Signals::new(alloc, NodeId::new(0), 3).ok()?;
+    let mut log = ServerLog::new(alloc, b"gb_serve", NodeId::new(0), 3, is_quiet).ok()?;
     let mut errors = Vec::new(alloc);
     log.look(&signals, &mut errors);
     let mut noticed = NodeSet::new();
