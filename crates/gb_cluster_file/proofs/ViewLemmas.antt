@@ -1,5 +1,5 @@
 -- What the values of a file are seen as.
-use Rattle.std.proofs.Common.{codes, ◌≡◌, ℕ, ℤ, pos, IfSome, IfNone, zero, suc, ◌+◌, ◌<◌, ◌≤◌, Bool, true, false, ◌&&◌, List, [], ◌∷◌, ◌++◌, length, take, get_or, Option, Some, None, option_map, Bor, inl, inr, subst, String, Global, string_bytes, refl, sym, ap, ap₂, ◌∙◌, arith}
+use Rattle.std.proofs.Common.{codes, ◌≡◌, ℕ, ℤ, pos, IfSome, IfNone, zero, suc, ◌+◌, ◌<◌, ◌≤◌, Bool, true, false, ◌&&◌, List, [], ◌∷◌, ◌++◌, length, take, get_or, Option, Some, None, option_map, Bor, inl, inr, subst, string_bytes, refl, sym, ap, ap₂, ◌∙◌, arith}
 use Rattle.std.specs.List.{All}
 use Rattle.std.specs.Option.{is_some, IsSome}
 use Rattle.std.proofs.lemmas.List.Elements.{All-nil, All-cons}
@@ -9,7 +9,7 @@ use Rattle.std.proofs.lemmas.Option.{same_Some, none-some}
 use Rattle.toml.specs.Data.{Data, Items, Members, no_items, item, string, integer, float, boolean, datetime, array, table, get_item, get_member, as_str, as_integer, as_array, as_table}
 use Rattle.toml.specs.View.{view, items_view, members_view}
 use Rattle.toml.specs.declared.value.Value.{Value}
-use Rattle.toml.proofs.Views.{Entry, get_item_within, get_item_past}
+use Rattle.toml.proofs.Views.{Entry, get_item_within}
 use Rattle.gb_cluster_file.specs.Cluster.{all_keys, item_count, text_at, AreNodes, IsNode, IsPlaceOf, IsSame}
 use Rattle.gb_cluster_file.specs.Fields.{is_place_name}
 use Rattle.gb_cluster_file.specs.Places.{IsPlaceText}

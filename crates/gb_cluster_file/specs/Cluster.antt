@@ -1,5 +1,5 @@
 -- What the file of a cluster says.
-use Rattle.std.specs.Prelude.{◌≡◌, ◌≤◌, ◌<◌, ◌+◌, ◌-◌, ◌/◌, ◌&&◌, ℕ, ℤ, pos, List, [], ◌∷◌, Bool, true, min, max, All, Option, Some, None, length, option_and_then, codes, string_bytes}
+use Rattle.std.specs.Prelude.{◌≡◌, ◌≤◌, ◌<◌, ◌+◌, ◌-◌, ◌/◌, ◌&&◌, ℕ, pos, List, [], ◌∷◌, Bool, true, min, max, All, Option, Some, None, length, option_and_then, codes, string_bytes}
 use Rattle.toml.specs.Data.{Data, Items, Members, no_items, item, no_members, member, integer, string, array, table, get, get_item, get_member, as_str}
 use Rattle.toml.specs.Parse.{parse_document}
 use Rattle.gb_types.specs.Version.{limits_of, version_named}

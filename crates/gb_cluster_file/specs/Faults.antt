@@ -1,5 +1,5 @@
 -- What a fault says of a text.
-use Rattle.std.specs.Prelude.{◌≡◌, ◌≢◌, ◌≤◌, ◌<◌, ◌⊎◌, ℕ, List, false, Option, Some, None, IsSome, length, codes, pos}
+use Rattle.std.specs.Prelude.{◌≡◌, ◌≢◌, ◌≤◌, ◌<◌, ◌⊎◌, ℕ, List, false, Some, None, IsSome, length, codes, pos}
 use Rattle.toml.specs.Data.{Data, Items, Members, no_items, integer, array, table, get_item, get_member, as_array, as_table}
 use Rattle.toml.specs.Parse.{parse_document}
 use Rattle.gb_types.specs.Version.{limits_of, version_named}

@@ -1,6 +1,6 @@
 use Rattle.std.proofs.Common.{◌∙◌, ap, sym}
 use Rattle.toml.specs.Data.{array}
-use Rattle.toml.specs.View.{view, items_view}
+use Rattle.toml.specs.View.{items_view}
 use Rattle.gb_cluster_file.proofs.ViewLemmas.{array_is}
 use Rattle.gb_cluster_file.proofs.check.values_of.Goals as goal
 
