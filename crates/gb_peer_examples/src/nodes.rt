@@ -2,15 +2,14 @@
 use crate::folders::{file, folder};
 use crate::refusals::{KEYS, Run, run_of};
 use std::alloc::{AllocGlobal, Global};
-use std::fs;
 use std::fs::Files;
 use std::io::{Read, Write};
 use std::net::{Ipv4Addr, Net, Shutdown, SocketAddr, SocketAddrV4, TcpListener, TcpStream};
 use std::rt::HostRuntime;
 use std::sync::Wait;
-use std::thread;
 use std::thread::Threads;
 use std::time::{Clock, Duration};
+use std::{fs, thread};
 
 // Two nodes on this machine, whose sessions are at ports 31264 and 31265.
 static TWO: &[u8] =
@@ -50,14 +49,14 @@ fn is_denied<H: Net<Stream = TcpStream> + Clock>(rt: &H, alloc: Global, port: u1
 
 // How a node with this number of the file's two ends that serves one connection.
 fn serve_one<
-    H: Net<Listener = TcpListener, Stream = TcpStream> + Threads + Wait + Clock + Sync + Files + AllocGlobal,
->(
-    rt: &H,
-    alloc: Global,
-    name: &str,
-    dir: &str,
-    node: &str,
-) -> Run {
+    H: Net<Listener = TcpListener, Stream = TcpStream>
+        + Threads
+        + Wait
+        + Clock
+        + Sync
+        + Files
+        + AllocGlobal,
+>(rt: &H, alloc: Global, name: &str, dir: &str, node: &str) -> Run {
     let words = [
         "gb_peer",
         "--cluster",
@@ -74,16 +73,14 @@ fn serve_one<
 
 // Whether a node serves a client, and ends well.
 fn is_served<
-    H: Net<Listener = TcpListener, Stream = TcpStream> + Threads + Wait + Clock + Sync + Files + AllocGlobal,
->(
-    rt: &H,
-    alloc: Global,
-    name: &str,
-    dir: &str,
-    node: &str,
-    port: u16,
-    line: &[u8],
-) -> bool {
+    H: Net<Listener = TcpListener, Stream = TcpStream>
+        + Threads
+        + Wait
+        + Clock
+        + Sync
+        + Files
+        + AllocGlobal,
+>(rt: &H, alloc: Global, name: &str, dir: &str, node: &str, port: u16, line: &[u8]) -> bool {
     let (run, is_told) = thread::join(
         rt,
         || serve_one(rt, alloc, name, dir, node),
@@ -119,7 +116,8 @@ fn nodes_are_served_by_number(rt: HostRuntime) {
     // Each has begun in this run.
     let again = serve_one(&rt, alloc, &name, &dir, "1");
     assert!(rt;
-        again.status == 1 && again.lines.as_slice() == b"node 1 has begun in run 7 already\n".as_slice()
+        again.status == 1
+            && again.lines.as_slice() == b"node 1 has begun in run 7 already\n".as_slice()
     );
     let _ = fs::remove_dir_all(&rt, dir.as_str());
 }

@@ -24,13 +24,14 @@ pub struct Run {
 
 /// How a node with these words and this standard input ends.
 pub fn run_of<
-    H: Net<Listener = TcpListener, Stream = TcpStream> + Threads + Wait + Clock + Sync + Files + AllocGlobal,
->(
-    rt: &H,
-    alloc: Global,
-    words: &[&str],
-    input: &[u8],
-) -> Run {
+    H: Net<Listener = TcpListener, Stream = TcpStream>
+        + Threads
+        + Wait
+        + Clock
+        + Sync
+        + Files
+        + AllocGlobal,
+>(rt: &H, alloc: Global, words: &[&str], input: &[u8]) -> Run {
     let mut reader = input;
     let mut lines = Vec::new(alloc);
     let mut errors = Vec::new(alloc);
@@ -44,14 +45,14 @@ pub fn run_of<
 
 // How a node of a cluster whose file has this text ends, in a folder.
 fn run_in<
-    H: Net<Listener = TcpListener, Stream = TcpStream> + Threads + Wait + Clock + Sync + Files + AllocGlobal,
->(
-    rt: &H,
-    alloc: Global,
-    dir: &str,
-    text: &[u8],
-    node: &str,
-) -> Option<Run> {
+    H: Net<Listener = TcpListener, Stream = TcpStream>
+        + Threads
+        + Wait
+        + Clock
+        + Sync
+        + Files
+        + AllocGlobal,
+>(rt: &H, alloc: Global, dir: &str, text: &[u8], node: &str) -> Option<Run> {
     let name = file(rt, alloc, dir, text)?;
     let words = [
         "gb_peer",
@@ -70,8 +71,9 @@ fn run_in<
 // Whether a run ended so: with this status and this line, and with an end of what it wrote to standard error.
 fn ended(run: Option<Run>, status: u8, line: &[u8], error: &[u8]) -> bool {
     match run {
-        Some(run) =>
-            run.status == status && run.lines.as_slice() == line && run.errors.ends_with(error),
+        Some(run) => run.status == status
+            && run.lines.as_slice() == line
+            && run.errors.ends_with(error),
         None => false,
     }
 }
