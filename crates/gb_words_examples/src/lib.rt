@@ -1,5 +1,5 @@
 //! Worked words, as tests: command lines of the client, the server and gb_peer, and the requests, tokens and plans that they ask for; each
-//! spelling of a session's request; and replies, and what the client shows of them. There is nothing here but tests.
+//! spelling of a session's request; replies, and what the client shows of them; and logs that are followed. There is nothing here but tests.
 #![tactic(auto)]
 
 #[cfg(test)]
@@ -8,6 +8,8 @@ mod client_words;
 mod errands;
 #[cfg(test)]
 mod figures;
+#[cfg(test)]
+mod followed;
 #[cfg(test)]
 mod operations;
 #[cfg(test)]
