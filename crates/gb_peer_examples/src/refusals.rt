@@ -79,7 +79,7 @@ fn ended(run: Option<Run>, status: u8, line: &[u8], error: &[u8]) -> bool {
 }
 
 // A file of one node on this machine.
-static ALONE: &[u8] =
+const ALONE: &[u8] =
     b"run = 7\n[[node]]\npackets = \"127.0.0.1:31000\"\nsessions = \"127.0.0.1:31064\"\n";
 
 // Files by which no node is served: the number that is asked for, the status, the line, and the end of the line on standard error.

@@ -1,5 +1,5 @@
 -- What a node of a cluster prints, and its exit status.
-use Rattle.std.specs.Prelude.{◌≡◌, ◌<◌, ℕ, List, ◌++◌, Option, Result, Ok, Err, codes, decimal, length}
+use Rattle.std.specs.Prelude.{◌<◌, ℕ, List, ◌++◌, Option, codes, decimal, length}
 use Rattle.std.specs.Io.KnownBytes.{Appends, Consumes}
 use Rattle.clap.specs.Words.{Text, matches_of}
 use Rattle.gb_cluster_file.specs.Cluster.{IsFileOf}

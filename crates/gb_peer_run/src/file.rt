@@ -10,10 +10,9 @@ use gb_cluster_file::read::read_cluster;
 use gb_cluster_file::words::fault_text;
 use gb_server::fault::ServeFault;
 use std::alloc::{AllocGlobal, Global};
-use std::fs;
 use std::fs::Files;
 use std::io::Write;
-use std::str;
+use std::{fs, str};
 
 // Says why a file is refused.
 fn refuse<E: Write>(errors: &mut E, name: &str, why: &str) -> PeerFault

@@ -2,11 +2,10 @@
 use gb_types::memory::{OutOfMemory, put_bytes};
 use gb_types::number::put_number;
 use std::alloc::Global;
-use std::fs;
 use std::fs::{Files, OpenFile, OpenOptions};
 use std::io::{ErrorKind, Write};
 use std::os::unix::fs::OpenOptionsExt;
-use std::str;
+use std::{fs, str};
 
 /// What came of a mark.
 #[derive(Clone, Copy, Debug, PartialEq, Eq)]

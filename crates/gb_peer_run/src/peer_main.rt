@@ -280,9 +280,22 @@ fn serve_file<
     )
 }
 
+// Tells why a node did not serve to its end, if it did not.
+fn explain<E: Write>(alloc: Global, outcome: Result<(), PeerFault>, dir: &str, errors: &mut E) {
+    if let Err(fault) = outcome {
+        complain(alloc, fault, dir, errors);
+    }
+}
+
 // Serves a node by words. Its log is written to `errors`, and why it did not serve to its end.
 fn serve_words<
-    H: Net<Listener = TcpListener, Stream = TcpStream> + Threads + Wait + Clock + Sync + Files + AllocGlobal,
+    H: Net<Listener = TcpListener, Stream = TcpStream>
+        + Threads
+        + Wait
+        + Clock
+        + Sync
+        + Files
+        + AllocGlobal,
     R: Input,
     W: Write,
     E: Write + Send,
@@ -299,15 +312,19 @@ fn serve_words<
 {
     let file = read_file(rt, alloc, words.cluster, errors)?;
     let outcome = serve_file(rt, alloc, &file, words, reader, writer, errors);
-    if let Err(fault) = outcome {
-        complain(alloc, fault, words.dir, errors);
-    }
+    explain(alloc, outcome, words.dir, errors);
     outcome
 }
 
 // Serves a node by the words of a command line. The answer is how it ended, which is still to be told.
 fn serve<
-    H: Net<Listener = TcpListener, Stream = TcpStream> + Threads + Wait + Clock + Sync + Files + AllocGlobal,
+    H: Net<Listener = TcpListener, Stream = TcpStream>
+        + Threads
+        + Wait
+        + Clock
+        + Sync
+        + Files
+        + AllocGlobal,
     R: Input,
     W: Write,
     E: Write + Send,
@@ -331,18 +348,17 @@ fn serve<
 /// Returns the exit status: 0 when all connections were served, or the node was told to end; 2 for refused words, a refused file or a refused
 /// address; 1 for all else. When it answers, its threads have ended and its sockets are closed.
 pub fn peer_main<
-    H: Net<Listener = TcpListener, Stream = TcpStream> + Threads + Wait + Clock + Sync + Files + AllocGlobal,
+    H: Net<Listener = TcpListener, Stream = TcpStream>
+        + Threads
+        + Wait
+        + Clock
+        + Sync
+        + Files
+        + AllocGlobal,
     R: Input,
     W: Write,
     E: Write + Send,
->(
-    rt: &H,
-    alloc: Global,
-    words: &[&str],
-    reader: &mut R,
-    writer: &mut W,
-    errors: &mut E,
-) -> u8
+>(rt: &H, alloc: Global, words: &[&str], reader: &mut R, writer: &mut W, errors: &mut E) -> u8
     ensures status { result ≤ 2 }
     ensures served { result ≡ 0 → HasServed (map (λ word. word.now) words.now) (R.remaining reader.old) (R.remaining reader.new) (W.contents writer.old) (W.contents writer.new) closed_line }
 {

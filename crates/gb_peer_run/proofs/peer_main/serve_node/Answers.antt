@@ -1,0 +1,9 @@
+use Rattle.std.proofs.Common.{ℕ, List, subst}
+use Rattle.std.specs.Io.KnownBytes.{Appends}
+use Rattle.std.specs.Result.{OnOk}
+use Rattle.gb_peer_run.proofs.peer_main.serve_node.Goals as goal
+
+pub returns-clause-told : goal.returns-clause-told
+returns-clause-told g c =
+    subst (λ (line : List ℕ). OnOk c.serve_host.result (Appends (g.W.Write.contents c.args.writer.now) (g.W.Write.contents c.serve_host.new.writer) line))
+    c.in_ok-service.ensures c.serve_host.ensures.told
