@@ -7,7 +7,9 @@ docs/FORMATS.md what is spoken.
 
 from .aio import AsyncClient, AsyncPipeline
 from .client import Client, Pipeline, Ticket, node_address
+from .directory import directory_address
 from .errors import (
+    BadDirectory,
     BadMembers,
     BadPlace,
     BadReply,
@@ -43,6 +45,7 @@ __all__ = [
     "AsyncClient",
     "AsyncGroup",
     "AsyncPipeline",
+    "BadDirectory",
     "BadMembers",
     "BadPlace",
     "BadReply",
@@ -80,6 +83,7 @@ __all__ = [
     "Window",
     "WrongPhase",
     "admin_token",
+    "directory_address",
     "member_token",
     "node_address",
     "tenant_token",

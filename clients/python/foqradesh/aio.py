@@ -21,6 +21,7 @@ from typing import (
 )
 
 from .client import FOLLOW_WAIT, wait_until
+from .directory import Path, directory_address
 from .errors import BadReply, ConnectionFailed, TimedOut, Unanswered
 from .link import pause
 from .numbers import Address
@@ -329,6 +330,19 @@ class AsyncClient:
         self._link = _Link(self._address)
         self._idle: List[_Link] = []
         self._learning: Dict[Address, asyncio.Lock] = {}
+
+    @classmethod
+    def from_directory(
+        cls,
+        file: Path,
+        tenant: int,
+        node: int,
+        secrets: Union[Secrets, str],
+        *,
+        time_limit: float = 10.0,
+    ) -> AsyncClient:
+        """Return a client of a node of a tenant's cluster, as `Client.from_directory` does."""
+        return cls(directory_address(file, tenant, node), secrets, time_limit=time_limit)
 
     async def __aenter__(self) -> AsyncClient:
         """Return the client."""

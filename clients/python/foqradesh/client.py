@@ -6,6 +6,7 @@ import time
 from types import TracebackType
 from typing import Dict, Generic, Iterator, List, Optional, Sequence, Tuple, Type, TypeVar, Union
 
+from .directory import Path, directory_address
 from .errors import FoqradeshError
 from .link import Link, Sent
 from .operations import Answer, Operation, Operations, Place, Step
@@ -201,6 +202,22 @@ class Client:
         """
         self.operations = Operations(secrets_of(secrets), time_limit, time.monotonic)
         self._link = Link(check_address(address))
+
+    @classmethod
+    def from_directory(
+        cls,
+        file: Path,
+        tenant: int,
+        node: int,
+        secrets: Union[Secrets, str],
+        *,
+        time_limit: float = 10.0,
+    ) -> Client:
+        """Return a client of a node of a tenant's cluster, which a directory file names.
+
+        It raises what `directory_address` raises. Python 3.11 and later.
+        """
+        return cls(directory_address(file, tenant, node), secrets, time_limit=time_limit)
 
     def __enter__(self) -> Client:
         """Return the client."""

@@ -16,6 +16,13 @@ class MissingToken(FoqradeshError):
     """
 
 
+class BadDirectory(FoqradeshError):
+    """A directory file cannot be read, or does not say where a node is asked.
+
+    The message names the field. Nothing was sent.
+    """
+
+
 class Refused(FoqradeshError):
     """The service refused a request. Nothing has changed by it.
 

@@ -7,7 +7,7 @@ use Rattle.gb_types.specs.Refusal.{refusal_number, refusal_name}
 use Rattle.gb_types.specs.PayloadWord.{payload_word}
 use Rattle.gb_types.specs.ReplyText.{entry_text}
 use Rattle.gb_client.specs.declared.fault.ClientFault.{ClientFault}
-use Rattle.gb_client.specs.declared.fault.ClientFault.TheVariants.{Words, Secrets, Missing, Connection, Lost, Late, NoReply, Output, OutOfMemory}
+use Rattle.gb_client.specs.declared.fault.ClientFault.TheVariants.{Words, Secrets, Missing, NoExport, Connection, Lost, Late, NoReply, Output, OutOfMemory}
 use Rattle.gb_types.specs.declared.reply.Reply.{Reply}
 use Rattle.gb_types.specs.declared.reply.Reply.TheVariants.{Refused}
 
@@ -16,11 +16,12 @@ abbrev pub reply_status : Reply → ℕ
 reply_status (Refused why) = 1
 reply_status other = 0
 
--- the exit status for a fault: 2 for wrong words or secrets, 4 where it was asked and no reply came, else 3
+-- the exit status for a fault: 2 for wrong words or secrets or a text that is no exported log, 4 where it was asked and no reply came, else 3
 abbrev pub status_of_fault : ClientFault → ℕ
 status_of_fault Words = 2
 status_of_fault Secrets = 2
 status_of_fault Missing = 2
+status_of_fault NoExport = 2
 status_of_fault Connection = 3
 status_of_fault Lost = 4
 status_of_fault Late = 4

@@ -18,6 +18,9 @@ pub enum ClientFault {
     /// A key or token that is needed is not among the secrets.
     #[error("a key that is needed is not among the secrets")]
     Missing,
+    /// What is to be imported is not the whole text of an exported log.
+    #[error("standard input is not the whole text of an exported log, whose last line is end K for K entries; nothing was said")]
+    NoExport,
     /// There is no connection to the node, so nothing was asked.
     #[error("no connection to the node, nothing was asked")]
     Connection,
@@ -38,13 +41,14 @@ pub enum ClientFault {
     OutOfMemory,
 }
 
-/// The exit status for a fault. 2: wrong words or secrets; 3: no connection, no reply to what was asked, nothing printed, or out of
+/// The exit status for a fault. 2: wrong words or secrets, or what is to be imported is no exported log; 3: no connection, no reply to what was asked, nothing printed, or out of
 /// memory; 4: it was asked, and the outcome is unknown.
 pub fn fault_status(fault: ClientFault) -> u8
     ensures { result ≡ status_of_fault fault }
 {
     match fault {
-        ClientFault::Words | ClientFault::Secrets | ClientFault::Missing => 2,
+        ClientFault::Words | ClientFault::Secrets | ClientFault::Missing | ClientFault::NoExport =>
+            2,
         ClientFault::Connection
         | ClientFault::NoReply
         | ClientFault::Output

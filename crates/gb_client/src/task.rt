@@ -57,6 +57,15 @@ impl Server {
     }
 }
 
+/// Which entries of a log are said again.
+#[derive(Clone, Copy)]
+pub struct Choice {
+    /// Whether those of all members are, and not only those of the node's own.
+    pub is_all: bool,
+    /// How many of these were said before, and are skipped.
+    pub from: u32,
+}
+
 /// What a client is to do at a server.
 #[derive(Drop)]
 pub enum Errand<'a> {
@@ -64,6 +73,10 @@ pub enum Errand<'a> {
     Ask(NodeId, Asked<'a>),
     /// Fetch what comes into a group's log at a node, from a place on; without end, or at most this number of times.
     Follow(NodeId, Asked<'a>, u32, Option<u32>),
+    /// Print a group's log at a node as a text that can be read again.
+    Export(NodeId, Asked<'a>),
+    /// Say the entries of such a text again at a node.
+    Import(NodeId, Asked<'a>, Choice),
     /// Make a group by these words at the nodes, and then open it at them.
     Group(Vec<NodeId>, Asked<'a>),
     /// Drop a group at the nodes.

@@ -1,2 +1,4 @@
 pub mod AskedLemmas
 pub mod FollowLemmas
+pub mod ExportLemmas
+pub mod ImportLemmas

@@ -1,3 +1,5 @@
 pub mod Asked
+pub mod Exporting
 pub mod Following
 pub mod Groups
+pub mod Importing

@@ -1,10 +1,12 @@
 //! What a client does at a server: it asks nodes, by any connections, and prints what comes of it, by any writer. Read
-//! `nodes::Nodes` first, then `once::ask_once`, `following::follow` and `groups::make_group`.
+//! `nodes::Nodes` first, then `once::ask_once`, `following::follow`, `exporting::export` and `groups::make_group`.
 #![tactic(auto)]
 
 pub mod checking;
+pub mod exporting;
 pub mod following;
 pub mod groups;
+pub mod importing;
 pub mod listing;
 pub mod nodes;
 pub mod obey;

@@ -1,5 +1,6 @@
 //! What a client is told to do at a server, done.
 use crate::checking::check_group;
+use crate::exporting::export;
 use crate::groups::{drop_group, make_group};
 use crate::listing::{print_list, print_status, shut_down};
 use crate::nodes::Nodes;
@@ -41,7 +42,8 @@ fn obey_group<N: Nodes, W: Write>(
 }
 
 /// Does what is to be done at a server by messages that are answered at once, and prints what comes of it. The exit status. A log is
-/// followed by `following::follow`, which has a connection of its own; here it is a fault.
+/// followed by `following::follow`, which has a connection of its own, and imported by `importing::import`, which takes a text; here
+/// these are faults.
 pub fn obey<N: Nodes, W: Write>(
     alloc: Global,
     nodes: &mut N,
@@ -51,7 +53,8 @@ pub fn obey<N: Nodes, W: Write>(
 ) -> Result<u8, ClientFault> {
     match errand {
         Errand::Ask(node, asked) => ask_once(alloc, nodes, target, *node, asked, writer),
-        Errand::Follow(_, _, _, _) => Err(ClientFault::Words),
+        Errand::Follow(_, _, _, _) | Errand::Import(_, _, _) => Err(ClientFault::Words),
+        Errand::Export(node, asked) => export(alloc, nodes, target, *node, asked, writer),
         Errand::Group(members, make) => obey_group(
             alloc,
             nodes,

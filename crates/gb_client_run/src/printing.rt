@@ -1,8 +1,13 @@
 //! What is printed.
-ghost use Rattle.std.specs.Prelude.{◌≡◌, IfErr, OnOk};
+ghost use Rattle.std.specs.Prelude.{◌≡◌, ◌++◌, ◌∷◌, [], IfErr, OnOk};
 ghost use Rattle.std.specs.Io.KnownBytes.{Appends};
+ghost use Rattle.gb_types.specs.ReplyText.{reply_spelling};
 
 use gb_client::fault::ClientFault;
+use gb_client::show::reply_lines;
+use gb_types::refusal::Refusal;
+use gb_types::reply::Reply;
+use std::alloc::Global;
 use std::io::Write;
 
 /// Writes a text, so that it is seen at once.
@@ -14,4 +19,16 @@ pub fn print<W: Write>(writer: &mut W, text: &[u8]) -> Result<(), ClientFault>
         return Err(ClientFault::Output);
     }
     Ok(())
+}
+
+/// Prints a refusal in a line.
+pub fn print_refusal<W: Write>(
+    alloc: Global,
+    why: Refusal,
+    writer: &mut W,
+) -> Result<(), ClientFault>
+    ensures { OnOk result (Appends (W.contents writer.old) (W.contents writer.new) (reply_spelling (Reply.Refused why) ++ 10 ∷ [])) }
+{
+    let line = reply_lines(alloc, &Reply::Refused(why), false)?;
+    print(writer, &line)
 }

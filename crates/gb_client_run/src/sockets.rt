@@ -1,10 +1,12 @@
 //! Nodes that are asked over sockets of this machine.
+use crate::importing::{Pauses, TRIES};
 use crate::nodes::Nodes;
 use gb_client::exchange::{receive, send};
 use gb_client::fault::ClientFault;
 use std::alloc::Global;
 use std::net::{Ipv4Addr, Net, SocketAddr, SocketAddrV4, TcpStream};
-use std::time::Duration;
+use std::thread;
+use std::time::{Clock, Duration};
 
 /// Returns a connection to a port of this machine, on which each read waits for at most this number of seconds.
 pub fn connect<H: Net<Stream = TcpStream>>(
@@ -47,5 +49,29 @@ impl<H: Net<Stream = TcpStream>> Nodes for Sockets<'_, H> {
         let mut stream = connect(self.rt, port, self.seconds)?;
         send(&mut stream, body)?;
         receive(alloc, &mut stream)
+    }
+}
+
+// The milliseconds between two tries of a say: so long that there are `TRIES` of them in a second.
+const PAUSE: u64 = 50;
+
+const _: () = prove!(PAUSE * TRIES as u64 == 1_000);
+
+/// The time between two tries of a say, by a clock.
+#[derive(Drop)]
+pub struct Pausing<'a, H> {
+    rt: &'a H,
+}
+
+impl<'a, H> Pausing<'a, H> {
+    /// Pauses by the clock of a runtime.
+    pub fn new(rt: &'a H) -> Pausing<'a, H> {
+        Pausing { rt }
+    }
+}
+
+impl<H: Clock> Pauses for Pausing<'_, H> {
+    fn pause(&self) {
+        thread::sleep(self.rt, Duration::from_millis(PAUSE));
     }
 }

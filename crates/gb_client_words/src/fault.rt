@@ -14,6 +14,9 @@ pub enum PlanFault {
     /// A node is to be asked, and it is not said which.
     #[error("--node I is needed before the subcommand: the node's number, 0 to 31")]
     NoNode,
+    /// A log is to be read from standard input, and so are the secrets.
+    #[error("--secrets FILE is needed before import: its standard input has the log")]
+    NoSecrets,
     /// The nodes are not spelt as they are to be.
     #[error("--nodes takes numbers of nodes from 0 to 31, rising, with commas between them, as 0,1,2")]
     Nodes,

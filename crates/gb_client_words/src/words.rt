@@ -3,7 +3,7 @@ use crate::fault::PlanFault;
 use clap::builder::ValueParser;
 use clap::{Arg, ArgAction, ArgMatches, Command};
 use gb_cap::token::Need;
-use gb_client::task::{Asked, Errand, Server, Task};
+use gb_client::task::{Asked, Choice, Errand, Server, Task};
 use gb_session::head::Head;
 use gb_types::limits::NODES;
 use gb_types::members_word::read_members;
@@ -157,6 +157,18 @@ const TIMES: ArgWords = ArgWords {
     form: Form::Number("N", 0, 4_294_967_295),
 };
 
+const ALL: ArgWords = ArgWords {
+    name: "all",
+    help: "say the entries of all members at this node, and not only those of its own",
+    form: Form::Flag,
+};
+
+const SKIPPED: ArgWords = ArgWords {
+    name: "from",
+    help: "skip the first K of the entries that are to be said, which were said before; 0 if not given",
+    form: Form::Number("K", 0, 4_294_967_295),
+};
+
 const NODES_OF_GROUP: ArgWords = ArgWords {
     name: "nodes",
     help: "the nodes of the group's members, numbers from 0 to 31, rising, with commas: 0,1,2",
@@ -202,6 +214,8 @@ enum Purpose {
     Token,
     Ask(Head),
     Follow,
+    Export,
+    Import,
     Group,
     Drop,
     Check,
@@ -284,6 +298,18 @@ static SUBCOMMANDS: &[SubcommandWords] = &[
         purpose: Purpose::Follow,
         about: "Waits for what comes into a group's log, and prints its new entries",
         args: &[T, G, FIRST, TIMES, ENTRIES_AS_TEXT],
+    },
+    SubcommandWords {
+        name: "export",
+        purpose: Purpose::Export,
+        about: "Prints a group's whole log at the node, a line an entry, and how many there are",
+        args: &[T, G],
+    },
+    SubcommandWords {
+        name: "import",
+        purpose: Purpose::Import,
+        about: "Says again what an exported log on standard input has of the node's member; takes --secrets",
+        args: &[T, G, ALL, SKIPPED],
     },
     SubcommandWords {
         name: "status",
@@ -538,6 +564,18 @@ fn errand<'a>(
             let from = number(matches, "from").unwrap_or(0);
             Errand::Follow(node, asked, from, number(matches, "times"))
         }
+        Purpose::Export => Errand::Export(
+            node,
+            asked(alloc, Head::Fetch, matches, subcommand.args)?,
+        ),
+        Purpose::Import => {
+            let asked = asked(alloc, Head::Say, matches, subcommand.args)?;
+            let choice = Choice {
+                is_all: matches.get_flag("all"),
+                from: number(matches, "from").unwrap_or(0),
+            };
+            Errand::Import(node, asked, choice)
+        }
         Purpose::List => Errand::List(node),
         Purpose::Shutdown => Errand::Shutdown(node),
         _ => Errand::Status(node),
@@ -574,9 +612,10 @@ const _: () = prove!(SECONDS == 10);
 pub fn plan_of<'a>(alloc: Global, matches: &ArgMatches<'a>) -> Result<Plan<'a>, PlanFault> {
     let (name, inner) = matches.subcommand().ok_or(PlanFault::NoSubcommand)?;
     let subcommand = subcommand_named(SUBCOMMANDS, name).ok_or(PlanFault::NoSubcommand)?;
+    let secrets = matches.get_str("secrets");
+    if let (Purpose::Import, None) = (subcommand.purpose, secrets) {
+        return Err(PlanFault::NoSecrets);
+    }
     let task = task(alloc, matches, subcommand, inner)?;
-    Ok(Plan {
-        secrets: matches.get_str("secrets"),
-        task,
-    })
+    Ok(Plan { secrets, task })
 }

@@ -8,9 +8,10 @@ use gb_client::secrets::{Secrets, read_secrets};
 use gb_client::show::token_line;
 use gb_client::task::{Asked, Errand, Server, Task};
 use gb_client_run::following::{WAIT, follow};
+use gb_client_run::importing::import;
 use gb_client_run::obey::obey;
 use gb_client_run::printing::print;
-use gb_client_run::sockets::{Sockets, connect};
+use gb_client_run::sockets::{Pausing, Sockets, connect};
 use gb_client_run::target::Target;
 use gb_client_words::fault::plan_status;
 use gb_client_words::words::{Plan, command, plan_of};
@@ -25,12 +26,26 @@ const SECRETS: u64 = 65_536;
 
 const _: () = prove!(SECRETS == 65_536);
 
+// The bytes of the longest text of a log that is imported. A log has at most 32 times 1,024 entries, and 32 times 65,536 bytes in them.
+const LOG: u64 = 8_388_608;
+
+const _: () = prove!(LOG == 8_388_608);
+
 // What may be read of the secrets.
 fn read_some<R: Read + Drop>(alloc: Global, reader: R) -> Result<Vec<u8>, ClientFault> {
     let mut text = Vec::new(alloc);
     match reader.take(SECRETS).read_to_end(&mut text) {
         Ok(_) => Ok(text),
         Err(_) => Err(ClientFault::Secrets),
+    }
+}
+
+// What may be read of a log's text.
+fn read_log<R: Read + Drop>(alloc: Global, reader: R) -> Result<Vec<u8>, ClientFault> {
+    let mut text = Vec::new(alloc);
+    match reader.take(LOG).read_to_end(&mut text) {
+        Ok(_) => Ok(text),
+        Err(_) => Err(ClientFault::NoExport),
     }
 }
 
@@ -78,6 +93,21 @@ fn go(
     }
     let mut nodes = Sockets::new(rt, seconds);
     let target = Target { server, secrets };
+    if let Errand::Import(node, asked, choice) = errand {
+        let text = read_log(alloc, rt.reader())?;
+        let pauses = Pausing::new(rt);
+        return import(
+            alloc,
+            &mut nodes,
+            &pauses,
+            target,
+            *node,
+            asked,
+            *choice,
+            &text,
+            &mut writer,
+        );
+    }
     obey(alloc, &mut nodes, target, errand, &mut writer)
 }
 
@@ -100,6 +130,8 @@ fn asked_of<'a, 'b>(plan: &'a Plan<'b>) -> Option<&'a Asked<'b>> {
     match &plan.task {
         Task::At(_, Errand::Ask(_, asked)) => Some(asked),
         Task::At(_, Errand::Follow(_, asked, _, _)) => Some(asked),
+        Task::At(_, Errand::Export(_, asked)) => Some(asked),
+        Task::At(_, Errand::Import(_, asked, _)) => Some(asked),
         Task::At(_, Errand::Group(_, asked)) => Some(asked),
         Task::At(_, Errand::Drop(_, asked)) => Some(asked),
         _ => None,

@@ -45,6 +45,8 @@ fn body_of(alloc: Global, secrets: &Secrets, errand: &Errand<'_>) -> Result<Vec<
     match errand {
         Errand::Ask(node, asked) => request_of(alloc, secrets, *node, asked),
         Errand::Follow(node, asked, from, _) => fetch_of(alloc, secrets, *node, asked, *from),
+        Errand::Export(node, asked) => fetch_of(alloc, secrets, *node, asked, 0),
+        Errand::Import(_, _, _) => Ok(Vec::from_slice(alloc, b"import")?),
         Errand::Group(nodes, asked) => at_last(alloc, secrets, nodes.as_slice(), asked),
         Errand::Drop(nodes, asked) => at_last(alloc, secrets, nodes.as_slice(), asked),
         Errand::Check(_, _, _) | Errand::List(_) => {
@@ -154,6 +156,7 @@ const REQUESTS: &[(&str, &str)] = &[
     ("say 7 1 ja --text 2", "say 7 1 6a61 2"),
     ("fetch 7 1 0 16 --text", "fetch 7 1 0 16"),
     ("follow 7 1", "fetch 7 1 0 16"),
+    ("export 7 1", "fetch 7 1 0 16"),
     ("follow 7 1 --from 12 --times 3", "fetch 7 1 12 16"),
     (
         "group --nodes 0,1 7 1 fbeb 8 4096 4",
@@ -186,6 +189,8 @@ const REQUESTS: &[(&str, &str)] = &[
     ("hello 7 1", "!2"),
     ("tenant 7 4 8 4096 4", "!2"),
     ("follow 7 1 --times many", "!2"),
+    ("export 7", "!2"),
+    ("export 7 65536", "!2"),
 ];
 
 #[test]
@@ -306,6 +311,18 @@ const WITHOUT: &[(&str, bool)] = &[
     ),
     ("gb_ctl --port 42000 drop --nodes 0,1 7 1", true),
     ("gb_ctl --port 42000 drop 7 1", false),
+    ("gb_ctl --port 42000 --node 2 export 7 1", true),
+    ("gb_ctl --port 42000 --node 2 import 7 1", false),
+    ("gb_ctl --port 42000 --node 2 --secrets s import 7 1", true),
+    (
+        "gb_ctl --port 42000 --node 2 --secrets s import 7 1 --all --from 3",
+        true,
+    ),
+    (
+        "gb_ctl --port 42000 --node 2 --secrets s import 7 1 --from x",
+        false,
+    ),
+    ("gb_ctl --port 42000 --secrets s import 7 1", false),
     ("gb_ctl --port 42000 check --nodes 0,1 7 1", true),
 ];
 

@@ -2,7 +2,8 @@
 use clap::ArgMatches;
 use gb_client::fault::{ClientFault, fault_status};
 use gb_client::secrets::Secrets;
-use gb_client::task::Task;
+use gb_client::task::{Errand, Task};
+use gb_client_run::importing::{Pauses, import};
 use gb_client_run::nodes::Nodes;
 use gb_client_run::obey::obey;
 use gb_client_run::target::Target;
@@ -262,11 +263,185 @@ static REQUESTS: &[Case] = &[
     },
 ];
 
+const SIXTEEN: &str =
+    "log 16 0:1:00 1:1:01 0:2:02 0:3:03 0:4:04 0:5:05 0:6:06 0:7:07 0:8:08 0:9:09 0:10:0a 0:11:0b 0:12:0c 0:13:0d 0:14:0e 0:15:0f";
+
+const LONG_LINES: &str =
+    "0:1:00\n1:1:01\n0:2:02\n0:3:03\n0:4:04\n0:5:05\n0:6:06\n0:7:07\n0:8:08\n0:9:09\n0:10:0a\n0:11:0b\n0:12:0c\n0:13:0d\n0:14:0e\n0:15:0f\n0:16:10\nend 17\n";
+
+// A log that is exported.
+static EXPORTS: &[Case] = &[
+    Case {
+        words: "--node 2 export 7 1",
+        turns: &[(42066, "fetch ", " 7 1 0 16", "log 0")],
+        printed: "end 0\n",
+        status: 0,
+    },
+    Case {
+        words: "--node 2 export 7 1",
+        turns: &[
+            (42066, "fetch ", " 7 1 0 16", "log 2 0:1:6869 2:1:-"),
+            (42066, "fetch ", " 7 1 2 16", "log 1 0:2:6a"),
+            (42066, "fetch ", " 7 1 3 16", "log 0"),
+        ],
+        printed: "0:1:6869\n2:1:-\n0:2:6a\nend 3\n",
+        status: 0,
+    },
+    Case {
+        words: "--node 0 export 7 1",
+        turns: &[
+            (42064, "fetch ", " 7 1 0 16", "log 1 0:1:6869"),
+            (42064, "fetch ", " 7 1 1 16", "refused 3 Spent"),
+        ],
+        printed: "0:1:6869\nrefused 3 Spent\n",
+        status: 1,
+    },
+    Case {
+        words: "--node 0 export 7 1",
+        turns: &[
+            (42064, "fetch ", " 7 1 0 16", "log 1 0:1:6869"),
+            (42064, "fetch ", " 7 1 1 16", "!"),
+        ],
+        printed: "0:1:6869\n",
+        status: 4,
+    },
+    Case {
+        words: "--node 0 export 7 1",
+        turns: &[(42064, "fetch ", " 7 1 0 16", "said 1")],
+        printed: "",
+        status: 3,
+    },
+];
+
+// A log of more entries than one fetch brings.
+static LONG_EXPORT: Case = Case {
+    words: "--node 0 export 7 1",
+    turns: &[
+        (42064, "fetch ", " 7 1 0 16", SIXTEEN),
+        (42064, "fetch ", " 7 1 16 16", "log 1 0:16:10"),
+        (42064, "fetch ", " 7 1 17 16", "log 0"),
+    ],
+    printed: LONG_LINES,
+    status: 0,
+};
+
+/// The words of a line, a text on standard input, the nodes that are asked, all of them, what is printed, and the exit status.
+#[derive(Clone, Copy)]
+struct ImportCase {
+    words: &'static str,
+    text: &'static str,
+    turns: &'static [Turn],
+    printed: &'static str,
+    status: u8,
+}
+
+const EXPORTED: &str = "0:1:6869\n2:1:-\n2:2:6a\n0:2:6b\nend 4\n";
+
+// A log whose entries are said again.
+static IMPORTS: &[ImportCase] = &[
+    ImportCase {
+        words: "--node 2 --secrets s import 7 1",
+        text: EXPORTED,
+        turns: &[
+            (42066, "say ", " 7 1 -", "said 1"),
+            (42066, "say ", " 7 1 6a", "said 2"),
+        ],
+        printed: "2:1 said 1\n2:2 said 2\nsaid 2\n",
+        status: 0,
+    },
+    ImportCase {
+        words: "--node 2 --secrets s import 7 1 --all",
+        text: EXPORTED,
+        turns: &[
+            (42066, "say ", " 7 1 6869", "said 5"),
+            (42066, "say ", " 7 1 -", "said 6"),
+            (42066, "say ", " 7 1 6a", "said 7"),
+            (42066, "say ", " 7 1 6b", "said 8"),
+        ],
+        printed: "0:1 said 5\n2:1 said 6\n2:2 said 7\n0:2 said 8\nsaid 4\n",
+        status: 0,
+    },
+    ImportCase {
+        words: "--node 0 --secrets s import 7 1 --from 1",
+        text: EXPORTED,
+        turns: &[(42064, "say ", " 7 1 6b", "said 2")],
+        printed: "0:2 said 2\nsaid 2\n",
+        status: 0,
+    },
+    ImportCase {
+        words: "--node 0 --secrets s import 7 1 --from 3",
+        text: EXPORTED,
+        turns: &[],
+        printed: "said 2\n",
+        status: 0,
+    },
+    ImportCase {
+        words: "--node 1 --secrets s import 7 1",
+        text: "end 0\n",
+        turns: &[],
+        printed: "said 0\n",
+        status: 0,
+    },
+    ImportCase {
+        words: "--node 0 --secrets s import 7 1",
+        text: EXPORTED,
+        turns: &[
+            (42064, "say ", " 7 1 6869", "refused 10 Window"),
+            (42064, "say ", " 7 1 6869", "refused 16 OutOfMemory"),
+            (42064, "say ", " 7 1 6869", "said 1"),
+            (42064, "say ", " 7 1 6b", "refused 8 Budget"),
+        ],
+        printed: "0:1 said 1\nrefused 8 Budget\nsaid 1\n",
+        status: 1,
+    },
+    ImportCase {
+        words: "--node 0 --secrets s import 7 1 --from 1",
+        text: EXPORTED,
+        turns: &[(42064, "say ", " 7 1 6b", "!")],
+        printed: "said 1\n",
+        status: 4,
+    },
+    ImportCase {
+        words: "--node 0 --secrets s import 7 1",
+        text: EXPORTED,
+        turns: &[(42064, "say ", " 7 1 6869", "log 0")],
+        printed: "said 0\n",
+        status: 3,
+    },
+];
+
+// What is no exported log: of these nothing is said.
+static NO_EXPORTS: &[&str] = &[
+    "",
+    "0:1:6869\n",
+    "0:1:6869\nend 2\n",
+    "0:1:6869\n0:2:6b\nend 1\n",
+    "0:1:6869\nend 1",
+    "0:1:6869\nend 01\n",
+    "0:1:6869\nend 1\n\n",
+    "0:1:6869\nend 1\nend 1\n",
+    "0:1:6869 0:2:6b\nend 2\n",
+    "\n0:1:6869\nend 1\n",
+    "0:1:6869\nrefused 3 Spent\n",
+    "32:1:6869\nend 1\n",
+    "0:1:686\nend 1\n",
+    "0:1:6A\nend 1\n",
+];
+
+// No time passes between two tries.
+#[derive(Clone, Copy)]
+struct AtOnce;
+
+impl Pauses for AtOnce {
+    fn pause(&self) {}
+}
+
 // Does what a plan says at nodes. The exit status.
-fn obeyed(
+fn obeyed<N: Nodes>(
     alloc: Global,
     matches: &ArgMatches<'_>,
-    nodes: &mut Script,
+    text: &[u8],
+    nodes: &mut N,
     out: &mut Vec<u8>,
 ) -> Result<u8, ClientFault> {
     let Ok(plan) = plan_of(alloc, matches) else {
@@ -279,6 +454,11 @@ fn obeyed(
                 server: *server,
                 secrets: &secrets,
             };
+            if let Errand::Import(node, asked, choice) = errand {
+                return import(
+                    alloc, nodes, &AtOnce, target, *node, asked, *choice, text, out,
+                );
+            }
             obey(alloc, nodes, target, errand, out)
         }
         Task::Token(_) => Err(ClientFault::Words),
@@ -288,10 +468,11 @@ fn obeyed(
 const FIRST_WORDS: &[&str] = &["gb_ctl", "--port", "42000"];
 
 // Reads the words of a line, and does what they say at nodes. The exit status.
-fn status_of(
+fn status_of<N: Nodes>(
     alloc: Global,
     line: &str,
-    nodes: &mut Script,
+    text: &[u8],
+    nodes: &mut N,
     out: &mut Vec<u8>,
 ) -> Result<u8, ClientFault> {
     let mut words: Vec<&str> = Vec::new(alloc);
@@ -300,25 +481,40 @@ fn status_of(
         words.push(word)?;
     }
     match command(alloc)?.try_get_matches_from(&words) {
-        Ok(matches) => obeyed(alloc, &matches, nodes, out),
+        Ok(matches) => obeyed(alloc, &matches, text, nodes, out),
         Err(_) => Err(ClientFault::Words),
     }
 }
 
-// Whether a case comes out so: all its nodes are asked, this is printed, and the status is this.
-fn holds(alloc: Global, case: &Case) -> bool {
+// Whether words come out so, with a text on standard input: all nodes are asked, this is printed, and the status is this.
+fn comes_out(alloc: Global, case: &ImportCase) -> bool {
     let mut nodes = Script {
         turns: case.turns,
         at: 0,
     };
     let mut out = Vec::new(alloc);
-    let status = match status_of(alloc, case.words, &mut nodes, &mut out) {
+    let text = case.text.as_bytes();
+    let status = match status_of(alloc, case.words, text, &mut nodes, &mut out) {
         Ok(status) => status,
         Err(fault) => fault_status(fault),
     };
     status == case.status
         && nodes.at == case.turns.len()
         && out.as_slice() == case.printed.as_bytes()
+}
+
+// Whether a case comes out so.
+fn holds(alloc: Global, case: &Case) -> bool {
+    comes_out(
+        alloc,
+        &ImportCase {
+            words: case.words,
+            text: "",
+            turns: case.turns,
+            printed: case.printed,
+            status: case.status,
+        },
+    )
 }
 
 #[test]
@@ -342,5 +538,74 @@ fn requests_are_made(rt: HostRuntime) -> Result<(), Fail> {
     for case in REQUESTS {
         assert!(rt; holds(rt.alloc(), case));
     }
+    Ok(())
+}
+
+#[test]
+fn logs_are_exported(rt: HostRuntime) -> Result<(), Fail> {
+    for case in EXPORTS {
+        assert!(rt; holds(rt.alloc(), case));
+    }
+    assert!(rt; holds(rt.alloc(), &LONG_EXPORT));
+    Ok(())
+}
+
+// Whether a text is refused before anything is said.
+fn is_no_export(alloc: Global, text: &'static str) -> bool {
+    comes_out(
+        alloc,
+        &ImportCase {
+            words: "--node 0 --secrets s import 7 1",
+            text,
+            turns: &[],
+            printed: "",
+            status: 2,
+        },
+    )
+}
+
+#[test]
+fn logs_are_imported(rt: HostRuntime) -> Result<(), Fail> {
+    for case in IMPORTS {
+        assert!(rt; comes_out(rt.alloc(), case));
+    }
+    for text in NO_EXPORTS {
+        assert!(rt; is_no_export(rt.alloc(), text));
+    }
+    Ok(())
+}
+
+/// A node whose members never acknowledge.
+#[derive(Drop)]
+struct Full {
+    asked: u32,
+}
+
+impl Nodes for Full {
+    ghost use Rattle.std.specs.Prelude.{⊤};
+
+    ghost asks = { λ _ _ _ _ _. ⊤ };
+
+    fn ask(&mut self, alloc: Global, _port: u16, _body: &[u8]) -> Result<Vec<u8>, ClientFault> {
+        self.asked = self.asked.saturating_add(1);
+        Ok(Vec::from_slice(alloc, b"refused 10 Window")?)
+    }
+}
+
+// Whether a say is tried 20 times more in a second, and no longer.
+fn ends_in_time(alloc: Global) -> bool {
+    let mut nodes = Full { asked: 0 };
+    let mut out = Vec::new(alloc);
+    let words = "--node 0 --secrets s --wait 1 import 7 1";
+    let status = status_of(alloc, words, EXPORTED.as_bytes(), &mut nodes, &mut out);
+    status == Ok(1)
+        && nodes.asked == 21
+        && out.as_slice() == b"refused 10 Window\nsaid 0\n".as_slice()
+}
+
+#[test]
+fn a_full_window_is_awaited_for_the_time_of_a_reply(rt: HostRuntime) -> Result<(), Fail> {
+    let ended = ends_in_time(rt.alloc());
+    assert!(rt; ended);
     Ok(())
 }

@@ -1,0 +1,12 @@
+-- A log as a text that can be read again.
+use Rattle.std.specs.Prelude.{ℕ, List, [], ◌∷◌, ◌++◌, codes, decimal, length}
+use Rattle.gb_types.specs.declared.entry.Entry.{Entry}
+use Rattle.gb_client.specs.Answers.{lines_of}
+
+-- the last line: how many entries the text has
+abbrev pub end_line : ℕ → List ℕ
+end_line count = codes "end " ++ decimal count ++ 10 ∷ []
+
+-- the entries in lines, and the last line
+abbrev pub export_text : List Entry → List ℕ
+export_text entries = lines_of entries ++ end_line (length entries)

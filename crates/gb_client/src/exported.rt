@@ -1,0 +1,78 @@
+//! A log as a text that can be read again: a line for each entry, and one with their count behind them.
+ghost use Rattle.std.specs.Prelude.{◌≡◌, true, false, IfOk, IfSome};
+ghost use Rattle.gb_client.specs.Exports.{end_line, export_text};
+
+use crate::answer::read_reply;
+use crate::show::entry_lines;
+use gb_types::entry::{Entries, Entry};
+use gb_types::memory::OutOfMemory;
+use gb_types::number::put_number;
+use gb_types::reply::Reply;
+use std::alloc::Global;
+
+/// The last line of a log's text, `end COUNT` with its line feed.
+pub fn end_line(alloc: Global, count: u64) -> Result<Vec<u8>, OutOfMemory>
+    ensures { IfOk result (λ line. line.items ≡ end_line count) }
+{
+    let mut line = Vec::from_slice(alloc, b"end ")?;
+    put_number(&mut line, count)?;
+    line.push(b'\n')?;
+    Ok(line)
+}
+
+/// The text of a log: its entries in lines, and the last line.
+pub fn export_text(alloc: Global, entries: &[Entry]) -> Result<Vec<u8>, OutOfMemory>
+    ensures { IfOk result (λ text. text.items ≡ export_text entries.now) }
+{
+    let mut text = entry_lines(alloc, entries, false)?;
+    let line = end_line(alloc, entries.len() as u64)?;
+    text.extend_from_slice(&line)?;
+    Ok(text)
+}
+
+// Returns the text of the reply that has the entries of an export, if it is one: their count stands in the last of its lines.
+fn log_text(alloc: Global, text: &[u8]) -> Result<Option<Vec<u8>>, OutOfMemory> {
+    let lines: Vec<&[u8]> = text.split(|byte| *byte == b'\n').collect(alloc)?;
+    let [entries @ .., last, _] = lines.as_slice() else {
+        return Ok(None);
+    };
+    let Some(count) = last.strip_prefix(b"end ".as_slice()) else {
+        return Ok(None);
+    };
+    let mut log = Vec::from_slice(alloc, b"log ")?;
+    log.extend_from_slice(count)?;
+    for line in entries {
+        log.push(b' ')?;
+        log.extend_from_slice(line)?;
+    }
+    Ok(Some(log))
+}
+
+// Returns true if the text is that of these entries.
+fn is_text_of(alloc: Global, text: &[u8], entries: &[Entry]) -> Result<bool, OutOfMemory>
+    ensures { IfOk result (λ is. is ≡ true → text.now ≡ export_text entries.now) }
+{
+    let spelling = export_text(alloc, entries)?;
+    Ok(spelling.as_slice() == text)
+}
+
+/// Returns the entries whose text this is, or None if it is none's: where its last line is missing, where that names another count, and
+/// where any other line is no entry's.
+pub fn read_export(alloc: Global, text: &[u8]) -> Result<Option<Entries>, OutOfMemory>
+    ensures { IfOk result (λ found. IfSome found (λ entries. text.now ≡ export_text entries)) }
+{
+    let Some(log) = log_text(alloc, text)? else {
+        return Ok(None);
+    };
+    let Some(reply) = read_reply(alloc, &log)? else {
+        return Ok(None);
+    };
+    let Reply::Log(entries) = &reply else {
+        return Ok(None);
+    };
+    if is_text_of(alloc, text, entries.as_slice())? {
+        let kept = Entries::from_slice(alloc, entries.as_slice())?;
+        return Ok(Some(kept));
+    }
+    Ok(None)
+}

@@ -1,0 +1,9 @@
+use Rattle.std.proofs.Common.{map}
+use Rattle.gb_client_run.proofs.ExportLemmas.{Exports}
+use Rattle.gb_client_run.proofs.exporting.export.Given as goal
+
+-- logs were fetched from the beginning on, and their entries counted and printed
+abbrev pub invariant-turns : goal.invariant-turns
+invariant-turns g l =
+    Exports g.N.Nodes.asks l.target.secrets.now l.target.server.port l.node (map (λ word. word.now) l.asked.words.items)
+    l.initial.nodes l.nodes (g.W.Write.contents l.initial.writer) (g.W.Write.contents l.writer) l.count

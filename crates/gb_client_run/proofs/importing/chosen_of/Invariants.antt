@@ -1,0 +1,8 @@
+use Rattle.std.proofs.Common.{◌≡◌, take}
+use Rattle.std.specs.List.{filter}
+use Rattle.gb_client_run.specs.Importing.{is_chosen}
+use Rattle.gb_client_run.proofs.importing.chosen_of.Given as goal
+
+-- those among the first of the entries
+abbrev pub invariant-entries : goal.invariant-entries
+invariant-entries l = l.chosen ≡ filter (is_chosen l.is_all l.node) (take l.entry-index l.entries)

@@ -1,0 +1,10 @@
+use Rattle.std.proofs.Common.{map, List}
+use Rattle.gb_types.specs.declared.refusal.Refusal.{Refusal}
+use Rattle.gb_client_run.specs.Importing.{HasTried}
+use Rattle.gb_client_run.proofs.importing.say.Given as goal
+
+-- it was asked for and refused in ways that may pass
+abbrev pub invariant-tries : goal.invariant-tries
+invariant-tries g l =
+    (refusals : List Refusal) × HasTried g.N.Nodes.asks l.target.secrets.now l.target.server.port l.node (map (λ word. word.now) l.asked.words.items)
+    l.payload l.initial.nodes refusals l.nodes

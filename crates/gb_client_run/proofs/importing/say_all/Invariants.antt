@@ -1,0 +1,9 @@
+use Rattle.std.proofs.Common.{map}
+use Rattle.gb_client_run.proofs.ImportLemmas.{Says}
+use Rattle.gb_client_run.proofs.importing.say_all.Given as goal
+
+-- the first of the entries were said, and printed
+abbrev pub invariant-entries : goal.invariant-entries
+invariant-entries g l =
+    Says g.N.Nodes.asks l.target.secrets.now l.target.server.port l.node (map (λ word. word.now) l.asked.words.items)
+    l.entries l.place l.initial.nodes l.nodes (g.W.Write.contents l.initial.writer) (g.W.Write.contents l.writer)

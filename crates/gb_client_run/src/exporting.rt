@@ -1,0 +1,110 @@
+//! A group's whole log, as a text that can be read again.
+ghost use Rattle.std.specs.Prelude.{◌≡◌, ◌+◌, length, map, IfOk, OnOk};
+ghost use Rattle.std.specs.Io.KnownBytes.{Appends};
+ghost use Rattle.gb_client.specs.Answers.{lines_of};
+ghost use Rattle.gb_client.specs.Exports.{end_line};
+ghost use Rattle.gb_client_run.specs.Exporting.{HasFetched, HasExported};
+
+use crate::nodes::Nodes;
+use crate::printing::{print, print_refusal};
+use crate::target::Target;
+use gb_client::answer::read_reply;
+use gb_client::exported::end_line;
+use gb_client::fault::ClientFault;
+use gb_client::show::entry_lines;
+use gb_client::task::{Asked, fetch_of};
+use gb_types::entry::Entry;
+use gb_types::node::NodeId;
+use gb_types::reply::Reply;
+use std::alloc::Global;
+use std::io::Write;
+
+// The reply of a node to a fetch from a place on. `NoReply`: what came is no reply.
+fn fetch_from<N: Nodes>(
+    alloc: Global,
+    nodes: &mut N,
+    target: Target<'_>,
+    node: NodeId,
+    asked: &Asked<'_>,
+    place: u32,
+) -> Result<Reply, ClientFault>
+    ensures { IfOk result (HasFetched N.asks target.entry.secrets.now target.entry.server.port node (map (λ word. word.now) asked.now.words.items)
+        place nodes.old nodes.new) }
+{
+    let body = fetch_of(alloc, target.secrets, node, asked, place)?;
+    let port = target.server.sessions_port(node);
+    let text = nodes.ask(alloc, port, &body)?;
+    match read_reply(alloc, &text)? {
+        Some(reply) => Ok(reply),
+        None => Err(ClientFault::NoReply),
+    }
+}
+
+// How many entries there are with these. `NoReply`: more than a place can name.
+fn count_with(count: u32, entries: &[Entry]) -> Result<u32, ClientFault>
+    ensures { IfOk result (λ more. more ≡ count + length entries.now) }
+{
+    let Ok(added) = u32::try_from(entries.len()) else {
+        return Err(ClientFault::NoReply);
+    };
+    match count.checked_add(added) {
+        Some(more) => Ok(more),
+        None => Err(ClientFault::NoReply),
+    }
+}
+
+// Prints entries, each in a line.
+fn print_entries<W: Write>(
+    alloc: Global,
+    entries: &[Entry],
+    writer: &mut W,
+) -> Result<(), ClientFault>
+    ensures { OnOk result (Appends (W.contents writer.old) (W.contents writer.new) (lines_of entries.now)) }
+{
+    let lines = entry_lines(alloc, entries, false)?;
+    print(writer, &lines)
+}
+
+// Prints the last line of a log's text.
+fn print_end<W: Write>(alloc: Global, count: u32, writer: &mut W) -> Result<(), ClientFault>
+    ensures { OnOk result (Appends (W.contents writer.old) (W.contents writer.new) (end_line count)) }
+{
+    let line = end_line(alloc, u64::from(count))?;
+    print(writer, &line)
+}
+
+/// Prints a group's log at a node as a text that can be read again: each entry in a line `ORIGIN:SEQ:PAYLOAD`, and behind them
+/// `end COUNT`. It fetches 16 entries at a time until nothing more comes. A refusal is printed in the place of the last line. The exit
+/// status.
+pub fn export<N: Nodes, W: Write>(
+    alloc: Global,
+    nodes: &mut N,
+    target: Target<'_>,
+    node: NodeId,
+    asked: &Asked<'_>,
+    writer: &mut W,
+) -> Result<u8, ClientFault>
+    ensures { IfOk result (HasExported N.asks target.entry.secrets.now target.entry.server.port node (map (λ word. word.now) asked.now.words.items)
+        nodes.old nodes.new (W.contents writer.old) (W.contents writer.new)) }
+{
+    let mut count: u32 = 0;
+    'turns: for _ in 0..u32::MAX {
+        let reply = fetch_from(alloc, nodes, target, node, asked, count)?;
+        match &reply {
+            Reply::Log(entries) => {
+                if entries.is_empty() {
+                    print_end(alloc, count, writer)?;
+                    return Ok(0);
+                }
+                print_entries(alloc, entries.as_slice(), writer)?;
+                count = count_with(count, entries.as_slice())?;
+            }
+            Reply::Refused(why) => {
+                print_refusal(alloc, *why, writer)?;
+                return Ok(1);
+            }
+            _ => return Err(ClientFault::NoReply),
+        }
+    }
+    Err(ClientFault::NoReply)
+}

@@ -1,0 +1,271 @@
+//! A log's entries, said again at a node.
+ghost use Rattle.std.specs.Prelude.{◌≡◌, ◌≤◌, drop, filter, length, map, vec_len, IfOk};
+ghost use Rattle.gb_session.specs.declared.grammar.TheConstants.{BODY};
+ghost use Rattle.gb_client_run.specs.Importing.{SaysSo, HasTold, HasSaid, HasSaidOn, HasImported, reply_of, may_pass, said_line, count_line, is_chosen};
+
+use crate::nodes::Nodes;
+use crate::printing::{print, print_refusal};
+use crate::target::Target;
+use gb_client::answer::read_reply;
+use gb_client::exported::read_export;
+use gb_client::fault::ClientFault;
+use gb_client::secrets::Secrets;
+use gb_client::task::{Asked, Choice, ask};
+use gb_session::head::Head;
+use gb_types::entry::{Entries, Entry};
+use gb_types::memory::OutOfMemory;
+use gb_types::node::NodeId;
+use gb_types::number::put_number;
+use gb_types::payload_word::put_payload;
+use gb_types::refusal::Refusal;
+use gb_types::reply::Reply;
+use std::alloc::Global;
+use std::io::Write;
+
+/// How many times in a second a say is tried again.
+pub const TRIES: u32 = 20;
+
+const _: () = prove!(TRIES == 20);
+
+/// What waits a while between two tries.
+pub trait Pauses {
+    /// Waits for the time between two tries.
+    fn pause(&self);
+}
+
+// Returns true if a say that was refused so may be taken later: other members have yet to acknowledge, or there was no memory.
+fn may_pass(refusal: Refusal) -> bool
+    ensures { result ≡ may_pass refusal }
+{
+    matches!(refusal, Refusal::Window | Refusal::OutOfMemory)
+}
+
+/// What came of a say.
+#[derive(Clone, Copy, PartialEq, Eq)]
+pub enum Told {
+    /// It was said, with this number.
+    Said(u16),
+    Refused(Refusal),
+}
+
+// The body of a say of a payload.
+fn say_of(
+    alloc: Global,
+    secrets: &Secrets,
+    node: NodeId,
+    asked: &Asked<'_>,
+    payload: &[u8],
+) -> Result<Vec<u8>, ClientFault>
+    ensures asked { IfOk result (λ body. SaysSo secrets.now node (map (λ word. word.now) asked.now.words.items) payload.now body.items) }
+    ensures short { IfOk result (λ body. vec_len body ≤ BODY) }
+{
+    let [tenant, group] = asked.words.as_slice() else {
+        return Err(ClientFault::Words);
+    };
+    let mut word = Vec::new(alloc);
+    put_payload(&mut word, payload)?;
+    ask(
+        alloc,
+        secrets,
+        node,
+        Head::Say,
+        &[tenant.as_bytes(), group.as_bytes(), word.as_slice()],
+    )
+}
+
+// What a reply tells of a say. `NoReply`: it is none to it.
+fn told_by(reply: &Reply) -> Result<Told, ClientFault>
+    ensures { IfOk result (λ told. reply.now ≡ reply_of told) }
+{
+    match reply {
+        Reply::Said(seq) => Ok(Told::Said(*seq)),
+        Reply::Refused(why) => Ok(Told::Refused(*why)),
+        _ => Err(ClientFault::NoReply),
+    }
+}
+
+// What a node tells of a say of a payload. `NoReply`: what came is no reply to it.
+fn say_once<N: Nodes>(
+    alloc: Global,
+    nodes: &mut N,
+    target: Target<'_>,
+    node: NodeId,
+    asked: &Asked<'_>,
+    payload: &[u8],
+) -> Result<Told, ClientFault>
+    ensures { IfOk result (HasTold N.asks target.entry.secrets.now target.entry.server.port node (map (λ word. word.now) asked.now.words.items)
+        payload.now nodes.old nodes.new) }
+{
+    let body = say_of(alloc, target.secrets, node, asked, payload)?;
+    let port = target.server.sessions_port(node);
+    let text = nodes.ask(alloc, port, &body)?;
+    let Some(reply) = read_reply(alloc, &text)? else {
+        return Err(ClientFault::NoReply);
+    };
+    let told = told_by(&reply)?;
+    Ok(told)
+}
+
+// Says a payload, and again after a pause as long as the refusal may pass, at most `tries` times more.
+fn say<N: Nodes, P: Pauses>(
+    alloc: Global,
+    nodes: &mut N,
+    pauses: &P,
+    target: Target<'_>,
+    node: NodeId,
+    asked: &Asked<'_>,
+    payload: &[u8],
+    tries: u32,
+) -> Result<Told, ClientFault>
+    ensures { IfOk result (HasSaid N.asks target.entry.secrets.now target.entry.server.port node (map (λ word. word.now) asked.now.words.items)
+        payload.now nodes.old nodes.new) }
+{
+    'tries: for _ in 0..tries {
+        let told = say_once(alloc, nodes, target, node, asked, payload)?;
+        match told {
+            Told::Refused(why) if may_pass(why) => pauses.pause(),
+            _ => return Ok(told),
+        }
+    }
+    let told = say_once(alloc, nodes, target, node, asked, payload)?;
+    Ok(told)
+}
+
+// The line of an entry that was said again: the entry as it was, and its new number.
+fn said_line(alloc: Global, entry: &Entry, seq: u16) -> Result<Vec<u8>, OutOfMemory>
+    ensures { IfOk result (λ line. line.items ≡ said_line (record { entry = entry.now; seq = seq })) }
+{
+    let mut line = Vec::new(alloc);
+    put_number(&mut line, u64::from(entry.origin.number))?;
+    line.push(b':')?;
+    put_number(&mut line, u64::from(entry.seq))?;
+    line.extend_from_slice(b" said ")?;
+    put_number(&mut line, u64::from(seq))?;
+    line.push(b'\n')?;
+    Ok(line)
+}
+
+// The last line: how many are said by now.
+fn count_line(alloc: Global, count: usize) -> Result<Vec<u8>, OutOfMemory>
+    ensures { IfOk result (λ line. line.items ≡ count_line count) }
+{
+    let mut line = Vec::from_slice(alloc, b"said ")?;
+    put_number(&mut line, count as u64)?;
+    line.push(b'\n')?;
+    Ok(line)
+}
+
+/// How the saying of entries ended.
+#[derive(Clone, Copy, PartialEq, Eq)]
+pub enum End {
+    /// All were said.
+    Whole,
+    /// The next one was refused.
+    Refused(Refusal),
+    /// What came of the next one is not known, or it was not asked for.
+    Failed(ClientFault),
+}
+
+// Says entries, in order, and prints each, until one is refused or fails. Returns how many were said, and how it ended.
+fn say_all<N: Nodes, P: Pauses, W: Write>(
+    alloc: Global,
+    nodes: &mut N,
+    pauses: &P,
+    target: Target<'_>,
+    node: NodeId,
+    asked: &Asked<'_>,
+    entries: &[Entry],
+    writer: &mut W,
+) -> Result<(usize, End), ClientFault>
+    ensures said { IfOk result (λ r. HasSaidOn N.asks target.entry.secrets.now target.entry.server.port node (map (λ word. word.now) asked.now.words.items)
+        entries.now nodes.old nodes.new (W.contents writer.old) (W.contents writer.new) r.0 r.1) }
+    ensures few { IfOk result (λ r. r.0 ≤ length entries.now) }
+{
+    let tries = target.server.wait.saturating_mul(TRIES);
+    'entries: for (place, entry) in entries.iter().enumerate() {
+        let payload = entry.payload.as_slice();
+        match say(alloc, nodes, pauses, target, node, asked, payload, tries) {
+            Ok(Told::Said(seq)) => {
+                let line = said_line(alloc, entry, seq)?;
+                print(writer, &line)?;
+            }
+            Ok(Told::Refused(why)) => {
+                print_refusal(alloc, why, writer)?;
+                return Ok((place, End::Refused(why)));
+            }
+            Err(fault) => return Ok((place, End::Failed(fault))),
+        }
+    }
+    Ok((entries.len(), End::Whole))
+}
+
+// Returns true if an entry is said again at a node.
+fn is_chosen(entry: &Entry, node: NodeId, is_all: bool) -> bool
+    ensures { result ≡ is_chosen is_all node entry.now }
+{
+    is_all || entry.origin.number == node.number
+}
+
+// The entries that are said again at a node.
+fn chosen_of(
+    alloc: Global,
+    entries: &[Entry],
+    node: NodeId,
+    is_all: bool,
+) -> Result<Entries, OutOfMemory>
+    ensures { IfOk result (λ chosen. chosen ≡ filter (is_chosen is_all node) entries.now) }
+{
+    let mut chosen = Entries::new(alloc);
+    'entries: for entry in entries {
+        if is_chosen(entry, node, is_all) {
+            let copy = entry.duplicate(alloc)?;
+            chosen.push(copy)?;
+        }
+    }
+    Ok(chosen)
+}
+
+// The entries behind the first ones.
+fn behind(entries: &[Entry], from: u32) -> &[Entry]
+    ensures { result.now ≡ drop from entries.now }
+{
+    if from as usize >= entries.len() {
+        return &entries[entries.len()..];
+    }
+    &entries[from as usize..]
+}
+
+/// Says the entries of a log's text again at a node, in order: those of the node's own member, or all, but for the first ones that were
+/// said before. It prints `ORIGIN:SEQ said SEQ` for each, the number that it had and the one that it got, and `said COUNT` at the end,
+/// with those that are skipped. A say that is refused for a full window or lack of memory is tried again after a pause, for as long as a
+/// reply may take; any other refusal ends it, and is printed before the last line. The exit status. `NoExport`: the text is no log's, and
+/// nothing was said. After any other fault the last line is printed too.
+pub fn import<N: Nodes, P: Pauses, W: Write>(
+    alloc: Global,
+    nodes: &mut N,
+    pauses: &P,
+    target: Target<'_>,
+    node: NodeId,
+    asked: &Asked<'_>,
+    choice: Choice,
+    text: &[u8],
+    writer: &mut W,
+) -> Result<u8, ClientFault>
+    ensures { IfOk result (HasImported N.asks target.entry.secrets.now target.entry.server.port node (map (λ word. word.now) asked.now.words.items)
+        choice text.now nodes.old nodes.new (W.contents writer.old) (W.contents writer.new)) }
+{
+    let Some(entries) = read_export(alloc, text)? else {
+        return Err(ClientFault::NoExport);
+    };
+    let chosen = chosen_of(alloc, entries.as_slice(), node, choice.is_all)?;
+    let rest = behind(chosen.as_slice(), choice.from);
+    let skipped = chosen.len() - rest.len();
+    let (count, end) = say_all(alloc, nodes, pauses, target, node, asked, rest, writer)?;
+    let line = count_line(alloc, skipped + count)?;
+    print(writer, &line)?;
+    match end {
+        End::Whole => Ok(0),
+        End::Refused(_) => Ok(1),
+        End::Failed(fault) => Err(fault),
+    }
+}
