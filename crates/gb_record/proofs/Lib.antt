@@ -1,0 +1,2 @@
+pub mod GatherLemmas
+pub mod WriteLemmas

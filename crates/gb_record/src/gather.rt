@@ -1,0 +1,61 @@
+//! What a recorder has, as lines.
+ghost use Rattle.std.specs.Prelude.{◌≡◌, ◌++◌, ◌∷◌, [], OnOk};
+ghost use Rattle.gb_record.specs.Gathered.{IsGathered};
+ghost use Rattle.gb_record_text.specs.RecordText.{entry_line};
+
+use gb_host::names::Tapes;
+use gb_host::outlet::WAITING;
+use gb_host::recorder::{Recorder, Taken};
+use gb_node::tape::TapeEntry;
+use gb_record_text::writing::put_entry;
+use gb_types::memory::{OutOfMemory, put_bytes};
+use gb_types::node::NodeId;
+
+// Appends the line of an entry.
+fn put_line(lines: &mut Vec<u8>, node: NodeId, entry: &TapeEntry) -> Result<(), OutOfMemory>
+    ensures { OnOk result (lines.new.items ≡ lines.old.items ++ (entry_line node entry.now ++ 10 ∷ [])) }
+{
+    put_entry(lines, node, entry)?;
+    put_bytes(lines, b"\n")
+}
+
+// Takes what is next, appends its line, and keeps it. False where nothing more is there.
+#[tactic(auto, using(crate::proofs::GatherLemmas::gathered_none, crate::proofs::GatherLemmas::gathered_entry, crate::proofs::GatherLemmas::gathered_end))]
+fn take_one<L: Tapes>(
+    recorder: &mut Recorder<L>,
+    lines: &mut Vec<u8>,
+    kept: &mut Vec<TapeEntry>,
+) -> Result<bool, OutOfMemory>
+    ensures { OnOk result (IsGathered recorder.old recorder.new lines.old.items lines.new.items kept.old.items kept.new.items) }
+{
+    match recorder.take() {
+        None => Ok(false),
+        Some(Taken::End) => {
+            put_bytes(lines, b"end\n")?;
+            Ok(true)
+        }
+        Some(Taken::Entry(entry)) => {
+            put_line(lines, recorder.node(), &entry)?;
+            kept.push(entry)?;
+            Ok(true)
+        }
+    }
+}
+
+/// Takes what a recorder has, appends its lines to a text, and keeps its entries behind others. No more is taken at once than a ring
+/// holds, and the end.
+#[tactic(auto, using(crate::proofs::GatherLemmas::gathered_none, crate::proofs::GatherLemmas::gathered_both))]
+pub(crate) fn gather<L: Tapes>(
+    recorder: &mut Recorder<L>,
+    lines: &mut Vec<u8>,
+    kept: &mut Vec<TapeEntry>,
+) -> Result<(), OutOfMemory>
+    ensures { OnOk result (IsGathered recorder.old recorder.new lines.old.items lines.new.items kept.old.items kept.new.items) }
+{
+    'takes: for _ in 0..=WAITING {
+        if !take_one(recorder, lines, kept)? {
+            return Ok(());
+        }
+    }
+    Ok(())
+}

@@ -1,0 +1,70 @@
+//! A record that a port and the writer of replies have in common, within one thread.
+ghost use Rattle.std.specs.Prelude.{◌≡◌, true};
+ghost use mathlib.Core.List.{IsPrefix};
+ghost use Rattle.gb_record.specs.Recorded.{is_sent};
+
+use crate::name::RecordName;
+use crate::recording::Recording;
+use gb_host::names::Tapes;
+use gb_host::pasts::NodeSeen;
+use std::cell::RefCell;
+use std::io::Write;
+
+/// A recording in a cell. No clause sees what the cell holds; a witness of the record knows entries that were written.
+#[derive(Drop)]
+pub struct SharedRecording<R: RecordName, L: Tapes, W: Write> {
+    cell: RefCell<Recording<R, L, W>>,
+}
+
+impl<R: RecordName, L: Tapes, W: Write> SharedRecording<R, L, W> {
+    pub fn new(recording: Recording<R, L, W>) -> SharedRecording<R, L, W> {
+        SharedRecording {
+            cell: RefCell::new(recording),
+        }
+    }
+
+    /// Gives back the recording.
+    pub fn into_inner(self) -> Recording<R, L, W> {
+        let SharedRecording { cell } = self;
+        cell.into_inner()
+    }
+
+    /// Writes what the node's recorder has. Returns false after a fault.
+    pub fn settle(&self) -> bool {
+        match self.cell.try_borrow_mut() {
+            Ok(mut recording) => recording.record().is_ok(),
+            Err(_) => false,
+        }
+    }
+
+    /// Writes what the node's recorder has, and shows a witness all that was written. Returns true if an entry that was written since
+    /// a packet was last asked for sent the packet with these bytes.
+    pub(crate) fn write_packet(&self, packet: &[u8], seen: &mut NodeSeen) -> bool
+        requires { seen.old.book ≡ R.book }
+        ensures book { seen.new.book ≡ R.book }
+        ensures before { IsPrefix seen.old.log seen.new.log }
+        ensures sent { result ≡ true → is_sent packet.now seen.new.log ≡ true }
+    {
+        match self.cell.try_borrow_mut() {
+            Ok(mut recording) => write_one(&mut *recording, packet, seen),
+            Err(_) => false,
+        }
+    }
+}
+
+// The same of a recording.
+fn write_one<R: RecordName, L: Tapes, W: Write>(
+    recording: &mut Recording<R, L, W>,
+    packet: &[u8],
+    seen: &mut NodeSeen,
+) -> bool
+    requires { seen.old.book ≡ R.book }
+    ensures book { seen.new.book ≡ R.book }
+    ensures before { IsPrefix seen.old.log seen.new.log }
+    ensures sent { result ≡ true → is_sent packet.now seen.new.log ≡ true }
+{
+    let is_well = recording.record().is_ok();
+    let is_sent = recording.ask(packet);
+    recording.show(seen);
+    is_well && is_sent
+}

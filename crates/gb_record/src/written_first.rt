@@ -1,0 +1,129 @@
+//! A port whose packets leave once an entry that sent them was written.
+ghost use Rattle.std.specs.Prelude.{◌≡◌, ◌+◌, ◌-◌, ◌<◌, ◌^◌, true, false, None, IfOk, IfErr, OnOk, OnErr};
+ghost use Rattle.gb_record.specs.Handed.{IsGivenOn, ReceivesStill, SendsWritten};
+ghost use Rattle.gb_record.specs.Recorded.{is_sent};
+
+use crate::name::RecordName;
+use crate::shared::SharedRecording;
+use gb_host::names::Tapes;
+use gb_host::pasts::NodeSeen;
+use gb_port::port::{Port, PortFault};
+use gb_types::node::NodeId;
+use std::io::Write;
+
+/// A port round a node's port. Before a packet is handed on, all that was noted at the node is written; a packet that no entry sent
+/// which was written since the last send is lost, and counted as a failure of the device. So is each packet after a fault of the
+/// record.
+#[derive(Drop)]
+pub struct WrittenFirst<'a, R: RecordName, L: Tapes, W: Write, P> {
+    pub port: P,
+    /// A witness of the record, which knows what was written when a packet was last to be sent.
+    pub written: NodeSeen,
+    /// The failures of both, up to 2^64 - 1.
+    pub failures: u64,
+    record: &'a SharedRecording<R, L, W>,
+    pub ghost of_record: { written.book ≡ R.book },
+}
+
+// Counts a failure, and returns its fault; or, where no more can be counted, the other answer.
+fn failed<T: Drop>(failures: &mut u64, fault: PortFault, otherwise: T) -> Result<T, PortFault>
+    ensures fault { IfErr result (λ why. (why ≡ fault) × (failures.new ≡ failures.old + 1)) }
+    ensures well { IfOk result (λ answer. (answer ≡ otherwise) × (failures.new ≡ failures.old)) }
+{
+    if *failures == u64::MAX {
+        return Ok(otherwise);
+    }
+    *failures += 1;
+    Err(fault)
+}
+
+// Hands a packet on, an entry that sent it being known as written.
+fn hand_on<P: Port>(
+    port: &mut P,
+    failures: &mut u64,
+    to: NodeId,
+    bytes: &[u8],
+    written: &NodeSeen,
+) -> Result<bool, PortFault>
+    requires { is_sent bytes.now written.now.log ≡ true }
+    ensures given { IsGivenOn (λ inner. P.sends port.old to bytes.now inner port.new) false result }
+    ensures fault { OnErr result (failures.new ≡ failures.old + 1) }
+    ensures well { OnOk result (failures.new ≡ failures.old) }
+{
+    let _ = written;
+    match port.send(to, bytes) {
+        Ok(is_sent) => Ok(is_sent),
+        Err(fault) => failed(failures, fault, false),
+    }
+}
+
+impl<'a, R: RecordName, L: Tapes, W: Write, P: Port> WrittenFirst<'a, R, L, W, P> {
+    /// A port round another one, by a record and a witness of it.
+    pub fn new(
+        port: P,
+        record: &'a SharedRecording<R, L, W>,
+        written: NodeSeen,
+    ) -> WrittenFirst<'a, R, L, W, P>
+        requires { written.book ≡ R.book }
+        ensures port { result.port ≡ port }
+        ensures written { result.written ≡ written }
+        ensures failures { result.failures ≡ P.count port }
+    {
+        let failures = port.failures();
+        WrittenFirst {
+            port,
+            written,
+            failures,
+            record,
+        }
+    }
+
+    /// Gives back the other port.
+    pub fn into_port(self) -> P
+        ensures { result ≡ self.entry.port }
+    {
+        let WrittenFirst {
+            port,
+            written: _,
+            failures: _,
+            record: _,
+        } = self;
+        port
+    }
+}
+
+impl<R: RecordName, L: Tapes, W: Write, P: Port> Port for WrittenFirst<'_, R, L, W, P> {
+    ghost count = { λ port. port.failures };
+
+    ghost sends = { λ old to bytes result new. SendsWritten P.sends old.port new.port old.written new.written to bytes result };
+
+    ghost receives = { λ old result new. ReceivesStill P.receives old.port new.port old.written new.written result };
+
+    fn send(&mut self, to: NodeId, bytes: &[u8]) -> Result<bool, PortFault>
+        ensures is { SendsWritten P.sends self.old.port self.new.port self.old.written self.new.written to bytes.now result }
+        ensures fault { OnErr result (self.new.failures ≡ self.old.failures + 1) }
+        ensures well { OnOk result (self.new.failures ≡ self.old.failures) }
+    {
+        if !self.record.write_packet(bytes, &mut self.written) {
+            return failed(&mut self.failures, PortFault::Device, false);
+        }
+        hand_on(&mut self.port, &mut self.failures, to, bytes, &self.written)
+    }
+
+    fn recv(&mut self) -> Result<Option<Vec<u8>>, PortFault>
+        ensures is { ReceivesStill P.receives self.old.port self.new.port self.old.written self.new.written result }
+        ensures fault { OnErr result (self.new.failures ≡ self.old.failures + 1) }
+        ensures well { OnOk result (self.new.failures ≡ self.old.failures) }
+    {
+        match self.port.recv() {
+            Ok(packet) => Ok(packet),
+            Err(fault) => failed(&mut self.failures, fault, None),
+        }
+    }
+
+    fn failures(&self) -> u64
+        ensures { result ≡ self.now.failures }
+    {
+        self.failures
+    }
+}
