@@ -14,7 +14,7 @@ from load import Load
 
 KINDS = ("beb", "lazy", "eager", "allack", "majority", "fbeb", "flazy", "feager", "fallack", "fmajority")
 MANY = capacity.MANY
-SECONDS = 1.5
+SECONDS = 2
 
 
 def paced(kind, members, payload, rate, groups=16, **more):
@@ -183,4 +183,7 @@ def main(words):
 
 
 if __name__ == "__main__":
-    sys.exit(main(sys.argv[1:]))
+    try:
+        sys.exit(main(sys.argv[1:]))
+    except capacity.Missing as name:
+        sys.exit(f"bench/figures.txt has no figure {name}: bench/scale.sh figures measures it")
