@@ -6,6 +6,9 @@
 //     play publish PORT COUNT                                     microseconds from PUBLISH to a subscriber at Redis
 //     play deliver PORT SAYS AHEAD FETCHES PORT ..                messages a second until each fetch gives an entry at each port
 //     play idle PORT CONNECTIONS SECONDS                          opens connections on which nothing is sent
+//     play pace SECONDS TOGETHER PORT FILE ..                     sends each file's messages once to its port, evenly over the seconds, so many
+//                                                                 at once when their time has come; how many, how many were refused, and how
+//                                                                 many seconds it took
 //
 // A file has messages: a length, four bytes with the high byte first, and so many bytes. To a session a message is sent as it is, and
 // its reply is one too; to Redis what is behind the length is sent, and its reply is a line.
@@ -237,6 +240,45 @@ fn idle(words: &[String]) {
     thread::sleep(Duration::from_secs_f64(words[2].parse().expect("seconds")));
 }
 
+// Sends messages when their time has come, whether the ones before are answered or not. The ports take turns.
+fn pace(words: &[String]) {
+    let seconds: f64 = words[0].parse().expect("seconds");
+    let together: usize = words[1].parse().expect("a number");
+    let ports = words[2..].len() / 2;
+    let start = Arc::new(Barrier::new(ports + 1));
+    let senders: Vec<_> = words[2..]
+        .chunks(2)
+        .enumerate()
+        .map(|(port, one)| {
+            let (mut stream, all, start) = (connect(&one[0]), messages(&one[1], true), start.clone());
+            let (mut reader, count) = (Reader::new(&stream, true), all.len());
+            let replies = thread::spawn(move || (0..count).map(|_| u64::from(is_refusal(true, reader.next()))).sum::<u64>());
+            thread::spawn(move || {
+                let gap = seconds / count as f64;
+                start.wait();
+                let begun = Instant::now();
+                for (number, some) in all.chunks(together).enumerate() {
+                    let due = Duration::from_secs_f64(gap * together as f64 * (number as f64 + port as f64 / ports as f64));
+                    if let Some(left) = due.checked_sub(begun.elapsed()) {
+                        thread::sleep(left);
+                    }
+                    stream.write_all(&some.concat()).expect("a server");
+                }
+                (count, replies.join().expect("replies"))
+            })
+        })
+        .collect();
+    start.wait();
+    let begun = Instant::now();
+    let (mut sent, mut refused) = (0, 0);
+    for sender in senders {
+        let (count, bad) = sender.join().expect("a sender");
+        sent += count;
+        refused += bad;
+    }
+    println!("{sent} {refused} {:.3}", begun.elapsed().as_secs_f64());
+}
+
 fn main() {
     let words: Vec<String> = std::env::args().skip(1).collect();
     match words[0].as_str() {
@@ -245,6 +287,7 @@ fn main() {
         "publish" => publish(&words[1..]),
         "deliver" => deliver(&words[1..]),
         "idle" => idle(&words[1..]),
+        "pace" => pace(&words[1..]),
         other => panic!("no such measurement: {other}"),
     }
 }
