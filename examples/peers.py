@@ -578,23 +578,29 @@ class Stages:
         total = self.speak(groups, NODES, NODES)
         self.tell(f"groups of all four nodes; the {total} entries of the logs are all that was said")
         before = self.all_logs(NODES, groups)
-        faults = {node: self.tag_faults(node) for node in NODES}
+        faults = self.tag_faults()
         self.harm(0)
         sent = self.cluster.order(f"replay {earlier}").split()[1]
         self.harm(self.percent)
-        time.sleep(1)
-        found = {node: self.tag_faults(node) - faults[node] for node in NODES}
-        if not all(found.values()):
-            raise Wrong(f"packets of the earlier run were sent to each node; counted as tag faults: {found}")
+        found = self.tag_faults()
+        if any(found[node] <= faults[node] for node in NODES):
+            raise Wrong(f"packets of the earlier run were sent to each node; counted as tag faults: {found}, before {faults}")
         if self.all_logs(NODES, groups) != before:
             raise Wrong("packets of the earlier run have changed a log")
         total = self.speak(groups, NODES, NODES, 5)
         self.expect_notices(dict.fromkeys(NODES, 0))
-        self.tell(f"{sent} packets of run {self.run - 1} are sent again: {sum(found.values())} counted as tag faults, no log changes")
+        counted = sum(found.values()) - sum(faults.values())
+        self.tell(f"{sent} packets of run {self.run - 1} are sent again: {counted} counted as tag faults, no log changes")
 
-    def tag_faults(self, node: int) -> int:
-        """Return how many packets with a wrong tag a node has counted."""
-        return self.cluster.nodes[node].figure("foqradesh_packet_faults_total", 'fault="tag"')
+    def tag_faults(self) -> Dict[int, int]:
+        """Return how many packets with a wrong tag each node has counted, once it counts no more."""
+        last: Dict[int, int] = {}
+        while True:
+            found = {node: self.cluster.nodes[node].figure("foqradesh_packet_faults_total", 'fault="tag"') for node in NODES}
+            if found == last:
+                return found
+            last = found
+            time.sleep(0.5)
 
     def tunnel(self, name: str, begin: Callable[[Cluster], str]) -> None:
         """Speak at node 0 by way of a tunnel to its sessions, or say why there is none."""
