@@ -203,4 +203,5 @@ def main(program, play, lossy, count, rounds):
         print(f"  {what}: {text}")
 
 
-main(sys.argv[1], sys.argv[2], sys.argv[3], int(sys.argv[4]), int(sys.argv[5]))
+if __name__ == "__main__":
+    main(sys.argv[1], sys.argv[2], sys.argv[3], int(sys.argv[4]), int(sys.argv[5]))

@@ -1,8 +1,6 @@
 -- What a turn makes of a client.
 use Rattle.std.specs.Prelude.{◌≡◌, ℕ, ◌≤◌, ◌⊎◌, Bool, true, false, List, [], ◌++◌, length, take, Option}
 use Rattle.std.specs.Io.KnownBytes.{Appends, Consumes, Keeps}
-use Rattle.gb_types.specs.declared.reply.Reply.{Reply}
-use Rattle.gb_types.specs.declared.request.Request.{Request}
 use Rattle.gb_session.specs.Answering.{Answering}
 use Rattle.gb_session.specs.Wholes.{ServesMore, AsksInTurn}
 use Rattle.gb_session.specs.declared.session.Step.{Step}

@@ -50,12 +50,30 @@ impl<'a, L: Tapes, H: Wait + Clock, P: Port> NodeLoop<'a, L, H, P> {
         }
     }
 
+    // A node was heard of. Once all others were the ticks wait no more.
+    fn hear_of(&mut self, from: NodeId)
+        ensures origin { self.new.mail.origin ≡ self.old.mail.origin }
+    {
+        if self.may_tick || self.heard.contains(from) {
+            return;
+        }
+        self.heard.insert(from);
+        let mut have_all = true;
+        'nodes: for number in 0..self.nodes {
+            if let Some(other) = self.other(number) {
+                have_all = have_all && self.heard.contains(other);
+            }
+        }
+        self.may_tick = have_all;
+    }
+
     // A good packet came.
     fn heed(&mut self, good: Good, hint: Hint)
         ensures origin { self.new.mail.origin ≡ self.old.mail.origin }
     {
         let from = good.from;
         let has_frame = good.frame != Frame::Nothing;
+        self.hear_of(from);
         let mut link = self.link(from);
         link.done(u64::from(good.done), self.now);
         link.owes = link.owes || has_frame;
@@ -80,6 +98,7 @@ impl<'a, L: Tapes, H: Wait + Clock, P: Port> NodeLoop<'a, L, H, P> {
             return;
         }
         link.repaired = number;
+        link.resent();
         if self.mail.send(NodeEvent::Again(to, number), to) {
             link.sent(self.now);
         }
@@ -160,7 +179,6 @@ impl<'a, L: Tapes, H: Wait + Clock, P: Port> NodeLoop<'a, L, H, P> {
                 // No frame is open: the other node is noticed.
                 link.open = 0;
             }
-            link.lost();
             link.repeated(now);
         }
         if link.owes || link.sent_at.saturating_add(self.options.beat) <= now {

@@ -1,9 +1,15 @@
 //! What a loop owes another node.
 
-/// How long after a frame was sent it is sent again, at first and at most, in microseconds.
+/// How long after a frame was sent it is sent again, in microseconds: while no round trip was measured, and at least. Without an
+/// acknowledgement it is twice as long each time, up to the greater of `AGAIN_MOST` and what the measured round trip asks for.
 pub const AGAIN: u64 = 4_000;
 
 pub const AGAIN_MOST: u64 = 256_000;
+
+/// The least that is added to the measured round trip, in microseconds.
+pub const GRAIN: u64 = 1_000;
+
+const _: () = prove!(GRAIN == 1_000);
 
 const _: () = prove!(AGAIN_MOST == 256_000 && AGAIN == 4_000);
 
@@ -26,6 +32,16 @@ pub struct Link {
     pub again_at: u64,
     /// How long is waited for that.
     pub patience: u64,
+    /// The frame is sent again as an acknowledgement came behind one that was late.
+    pub is_prompted: bool,
+    /// How many frames are to be acknowledged until all are that were open when one was late.
+    pub late: u64,
+    /// When a frame was sent whose round trip is measured, and how many frames are to be acknowledged until it is; 0: none is measured.
+    pub timed_at: u64,
+    pub timed: u64,
+    /// The measured round trip, and how much it varies; 0: none was measured.
+    pub round_trip: u64,
+    pub variation: u64,
     /// The highest frame that was sent again because a later one came.
     pub repaired: u64,
     /// A frame of it came and was not acknowledged.
@@ -41,6 +57,12 @@ impl Link {
             room: ROOM,
             again_at: 0,
             patience: AGAIN,
+            is_prompted: false,
+            late: 0,
+            timed_at: 0,
+            timed: 0,
+            round_trip: 0,
+            variation: 0,
             repaired: 0,
             owes: false,
             sent_at: 0,
@@ -50,9 +72,15 @@ impl Link {
     /// A frame was packed and sent.
     pub fn packed(&mut self, now: u64) {
         if self.open == 0 {
+            self.is_prompted = false;
+            self.late = 0;
             self.again_at = now.saturating_add(self.patience);
         }
         self.open = self.open.saturating_add(1);
+        if self.timed == 0 {
+            self.timed = self.open;
+            self.timed_at = now;
+        }
         self.sent(now);
     }
 
@@ -62,13 +90,53 @@ impl Link {
         self.sent_at = now;
     }
 
-    /// This number of frames is acknowledged newly.
+    // How long is waited for an acknowledgement by what was measured: the round trip and four times its variation (RFC 6298).
+    fn measured(&self) -> u64 {
+        let spread = self.variation.saturating_mul(4).max(GRAIN);
+        self.round_trip.saturating_add(spread).max(AGAIN)
+    }
+
+    // Takes a round trip in (RFC 6298, section 2).
+    fn measure(&mut self, took: u64) {
+        let took = took.max(1);
+        if self.round_trip == 0 {
+            self.round_trip = took;
+            self.variation = took / 2;
+        } else {
+            let off = self.round_trip.abs_diff(took);
+            self.variation = self.variation - self.variation / 4 + off / 4;
+            self.round_trip = self.round_trip - self.round_trip / 8 + took / 8;
+        }
+        self.patience = self.measured();
+    }
+
+    // Frames are acknowledged: the one that is measured may be among them.
+    fn time(&mut self, count: u64, now: u64) {
+        if self.timed == 0 {
+            return;
+        }
+        if count >= self.timed {
+            self.timed = 0;
+            self.measure(now.saturating_sub(self.timed_at));
+        } else {
+            self.timed -= count;
+        }
+    }
+
+    /// This number of frames is acknowledged newly. The patience stays what it grew to until a round trip is measured. Of frames that were
+    /// open when one was late, the next is sent again at once.
     pub fn done(&mut self, count: u64, now: u64) {
         if count > 0 {
             self.open = self.open.saturating_sub(count);
             self.room = self.room.saturating_add(count).min(ROOM_MOST);
-            self.patience = AGAIN;
-            self.again_at = now.saturating_add(self.patience);
+            self.late = self.late.saturating_sub(count);
+            self.time(count, now);
+            self.is_prompted = self.late > 0;
+            self.again_at = if self.is_prompted {
+                now
+            } else {
+                now.saturating_add(self.patience)
+            };
         }
     }
 
@@ -77,10 +145,24 @@ impl Link {
         self.room = (self.room / 2).max(ROOM_LEAST);
     }
 
-    /// A frame was sent again as the time for it had come. All that are missing may be sent again once more.
+    /// A frame was sent again. Which of the two is acknowledged cannot be told, so no round trip is measured by it (Karn's algorithm).
+    pub fn resent(&mut self) {
+        self.timed = 0;
+    }
+
+    /// The frame that waits longest was sent again, as an acknowledgement asked for it or as the time for it had come: then it was late,
+    /// and fewer may be open. All that are missing may be sent again once more.
     pub fn repeated(&mut self, now: u64) {
         self.repaired = 0;
-        self.patience = self.patience.saturating_mul(2).min(AGAIN_MOST);
+        self.resent();
+        if self.is_prompted {
+            self.is_prompted = false;
+        } else {
+            self.late = self.open;
+            self.lost();
+            let most = AGAIN_MOST.max(self.measured());
+            self.patience = self.patience.saturating_mul(2).min(most);
+        }
         self.again_at = now.saturating_add(self.patience);
     }
 

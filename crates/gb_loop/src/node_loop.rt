@@ -95,6 +95,9 @@ pub struct NodeLoop<'a, L: Tapes, H, P: Port> {
     pub(crate) has_ticked: bool,
     // The nodes that this one noticed.
     pub(crate) noticed: NodeSet,
+    // Time passes at the node. It waits for the other nodes to be heard of, and these were.
+    pub(crate) may_tick: bool,
+    pub(crate) heard: NodeSet,
 }
 
 // A link to each node of a cluster.
@@ -158,6 +161,8 @@ impl<'a, L: Tapes, H: Wait + Clock, P: Port> NodeLoop<'a, L, H, P> {
             is_served: false,
             has_ticked: false,
             noticed: NodeSet::new(),
+            may_tick: options.wait == 0,
+            heard: NodeSet::new(),
         })
     }
 
@@ -310,6 +315,8 @@ impl<'a, L: Tapes, H: Wait + Clock, P: Port> NodeLoop<'a, L, H, P> {
             is_served: _,
             has_ticked: _,
             noticed: _,
+            may_tick: _,
+            heard: _,
         } = self;
         mail.into_parts()
     }

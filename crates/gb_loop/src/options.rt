@@ -17,4 +17,6 @@ pub struct LoopOptions {
     pub connections: u64,
     /// How many messages a connection may ask.
     pub requests: u64,
+    /// How long the node's ticks wait for a packet of each other node; 0: they do not wait.
+    pub wait: u64,
 }

@@ -436,7 +436,7 @@ impl<'a, L: Tapes, H: Wait + Clock, P: Port> NodeLoop<'a, L, H, P> {
         }
     }
 
-    // A tick: time passes at the node, clients that waited long enough are answered, and those that were idle too long leave. Where
+    // A tick: time passes at the node, unless it waits for other nodes yet, clients that waited long enough are answered, and those that were idle too long leave. Where
     // something was left undone for lack of memory all connections are looked at, and what waits is packed.
     pub(crate) fn tick(&mut self)
         ensures origin { self.new.mail.origin ≡ self.old.mail.origin }
@@ -446,7 +446,12 @@ impl<'a, L: Tapes, H: Wait + Clock, P: Port> NodeLoop<'a, L, H, P> {
         self.has_ticked = true;
         let mut is_news = self.mail.is_short;
         self.mail.is_short = false;
-        if let Some(answer) = self.mail.tick() {
+        if self.now >= self.options.wait {
+            self.may_tick = true;
+        }
+        if self.may_tick
+            && let Some(answer) = self.mail.tick()
+        {
             self.mail.count_tick(&answer);
             is_news = is_news || has_news(&answer);
             self.noticed = with_noticed(&self.noticed, &answer);

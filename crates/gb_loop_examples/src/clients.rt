@@ -20,6 +20,9 @@ use std::thread;
 use std::thread::Threads;
 use std::time::{Clock, Duration, Instant};
 
+// The number of the run of the servers here.
+const RUN: u64 = 1;
+
 /// The keys of the servers here: the cluster's, 32 bytes 11, and the administrator's, 32 bytes 22.
 static KEYS: &[u8] =
     b"1111111111111111111111111111111111111111111111111111111111111111\n2222222222222222222222222222222222222222222222222222222222222222\n";
@@ -53,7 +56,15 @@ pub fn serves<H: Net<Listener = TcpListener, Stream = TcpStream> + Threads + Wai
     let mut reader = KEYS;
     let mut found = Vec::new(alloc);
     let mut errors = Vec::new(alloc);
-    let status = serve_main(rt, alloc, words, &mut reader, &mut found, &mut errors);
+    let status = serve_main(
+        rt,
+        alloc,
+        words,
+        Some(RUN),
+        &mut reader,
+        &mut found,
+        &mut errors,
+    );
     status == 0 && found.as_slice() == lines
 }
 

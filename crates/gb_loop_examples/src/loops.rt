@@ -40,6 +40,7 @@ pub struct Alone {
     pub silence: u16,
     pub tick: u64,
     pub port: u16,
+    pub wait: u64,
 }
 
 /// How far a loop is, and when it is to end: when it is told, when this number of nodes is noticed, or after this number of rounds.
@@ -155,6 +156,7 @@ fn options_of(alone: Alone) -> LoopOptions {
         sessions: 0,
         connections: 16,
         requests: u64::MAX,
+        wait: alone.wait,
     }
 }
 
@@ -177,7 +179,7 @@ fn open_sockets<N: Net<Listener = TcpListener, Stream = TcpStream>>(
     requires nodes { (1 ≤ alone.nodes) × (alone.nodes ≤ 16) }
     requires port { (1024 ≤ alone.port) × (alone.port ≤ 32000) }
 {
-    let port = UdpPort::bind(net, alloc, ME, alone.nodes, alone.port).ok()?;
+    let port = UdpPort::bind_loopback(net, alloc, ME, alone.nodes, alone.port).ok()?;
     let listener = listen(net, alone.port + 64)?;
     let fd = port.raw_fd();
     Some((port, LoopSockets { fd, listener }))
@@ -244,6 +246,7 @@ const RESTLESS: Alone = Alone {
     silence: 2,
     tick: 1,
     port: 25_800,
+    wait: 0,
 };
 
 // Asks a loop a hundred times at its beginning, and again after thirty thousand rounds; then it is told to end. Returns how many

@@ -20,6 +20,7 @@ const OF_TWO: Alone = Alone {
     silence: 25,
     tick: 20_000,
     port: 25_500,
+    wait: 0,
 };
 
 const OF_EIGHT: Alone = Alone {
@@ -27,6 +28,7 @@ const OF_EIGHT: Alone = Alone {
     silence: 20,
     tick: 40_000,
     port: 25_600,
+    wait: 0,
 };
 
 // How a node that runs alone notices the others: whether its loop ended well, after how many ticks, and after how many microseconds.
@@ -85,6 +87,7 @@ const STEPS_OF_TWO: Alone = Alone {
     silence: 25,
     tick: 2_000,
     port: 25_700,
+    wait: 0,
 };
 
 const STEPS_OF_EIGHT: Alone = Alone {
@@ -92,6 +95,7 @@ const STEPS_OF_EIGHT: Alone = Alone {
     silence: 25,
     tick: 2_000,
     port: 26_300,
+    wait: 0,
 };
 
 // The same by the clock of steps.
@@ -119,6 +123,21 @@ fn silence_lasts_its_ticks(rt: HostRuntime) {
     let eight = notice_in_steps(&rt, alloc, STEPS_OF_EIGHT);
     assert!(rt; two.0 && two.1 == 25 && two.2 >= 52_500 && two.2 <= 54_600);
     assert!(rt; eight.0 && eight.1 == 25 && eight.2 >= 52_500 && eight.2 <= 54_600);
+}
+
+// A node of two whose ticks wait for the other one, which never comes, until the tenth would be due.
+const WAITING: Alone = Alone {
+    nodes: 2,
+    silence: 25,
+    tick: 2_000,
+    port: 26_700,
+    wait: 20_500,
+};
+
+#[test]
+fn ticks_wait_for_a_node_that_never_comes(rt: HostRuntime) {
+    let two = notice_in_steps(&rt, rt.alloc(), WAITING);
+    assert!(rt; two.0 && two.1 == 25 && two.2 >= 71_400 && two.2 <= 73_500);
 }
 
 static TWO: [&str; 5] = ["gb_serve", "--nodes=2", "--base-port=26400", "--tick", "20"];

@@ -191,7 +191,7 @@ fn wait_for(rt: &HostRuntime, port: &mut UdpPort) -> (u8, usize) {
 
 // Another socket of node 1 is refused while it has one.
 fn is_taken(rt: &HostRuntime) -> bool {
-    match UdpPort::bind(rt, rt.alloc(), NodeId::new(1), 2, BASE) {
+    match UdpPort::bind_loopback(rt, rt.alloc(), NodeId::new(1), 2, BASE) {
         Ok(_) => false,
         Err(fault) => fault == BindFault::Port,
     }
@@ -244,11 +244,11 @@ fn fail(
 
 #[test]
 fn packets_cross_sockets(rt: HostRuntime) -> Result<(), Fail> {
-    let mut a = UdpPort::bind(&rt, rt.alloc(), NodeId::new(0), 2, BASE).expect(
+    let mut a = UdpPort::bind_loopback(&rt, rt.alloc(), NodeId::new(0), 2, BASE).expect(
         &rt,
         "node 0's socket",
     );
-    let mut b = UdpPort::bind(&rt, rt.alloc(), NodeId::new(1), 2, BASE).expect(
+    let mut b = UdpPort::bind_loopback(&rt, rt.alloc(), NodeId::new(1), 2, BASE).expect(
         &rt,
         "node 1's socket",
     );

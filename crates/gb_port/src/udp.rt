@@ -1,10 +1,11 @@
-//! A port over UDP, on the loopback address.
+//! A port over UDP, which knows the address of each node.
 ghost use Rattle.std.specs.Prelude.{◌≡◌, ◌+◌, ◌<◌, ◌≤◌, ◌^◌, IfOk, IfSome, OnOk, OnErr, vec_len};
 ghost use Rattle.gb_types.specs.declared.limits.TheConstants.{NODES, PACKET};
-ghost use Rattle.gb_port.specs.UdpPorts.{IsSamePort};
+ghost use Rattle.gb_port.specs.UdpPorts.{AreLoopback, IsLoopback, IsSamePort};
 
 use crate::port::{Port, PortFault, failed};
 use gb_types::limits::{NODES, PACKET};
+use gb_types::memory::OutOfMemory;
 use gb_types::node::NodeId;
 use std::alloc::{AllocError, Global};
 use std::io;
@@ -31,6 +32,17 @@ pub enum BindFault {
     OutOfMemory,
 }
 
+impl From<OutOfMemory> for BindFault {
+    ghost use Rattle.std.specs.Prelude.{◌≡◌};
+    ghost use Rattle.gb_port.specs.declared.udp.BindFault.TheVariants.{OutOfMemory as NoMemory};
+
+    ghost from_gives = { λ _ fault. fault ≡ NoMemory };
+
+    fn from(_fault: OutOfMemory) -> BindFault {
+        BindFault::OutOfMemory
+    }
+}
+
 impl From<AllocError> for BindFault {
     ghost use Rattle.gb_port.specs.declared.udp.BindFault.TheVariants.{OutOfMemory as NoMemory};
 
@@ -41,13 +53,13 @@ impl From<AllocError> for BindFault {
     }
 }
 
-/// A node's socket. The socket of node i is on port base + i of the address 127.0.0.1.
+/// A node's socket, and where the packets of each node go.
 pub struct UdpPort {
     socket: UdpSocket,
     space: Vec<u8>,
     me: NodeId,
-    nodes: u8,
-    base: u16,
+    // The address of each node, by its number.
+    places: Vec<SocketAddr>,
     failures: u64,
 }
 
@@ -58,41 +70,77 @@ impl Drop for UdpPort {
             socket: _,
             space: _,
             me: _,
-            nodes: _,
-            base: _,
+            places: _,
             failures: _,
         } = self;
     }
 }
 
 impl Model for UdpPort {
-    ghost use Rattle.std.specs.Prelude.{◌≡◌, ◌+◌, ◌≤◌, ◌^◌, vec_len};
-    ghost use Rattle.gb_types.specs.declared.limits.TheConstants.{NODES};
+    ghost use Rattle.std.specs.Prelude.{◌≡◌, vec_len};
     ghost use Rattle.gb_port.specs.declared.udp.TheConstants.{SPACE};
     ghost use Rattle.gb_port.specs.UdpPorts.{UdpValue};
 
     ghost Value = { UdpValue };
 
-    ghost view = { λ port. record { me = port.me.number; nodes = port.nodes; base = port.base; failures = port.failures } };
+    ghost view = { λ port. record { me = port.me.number; places = port.places.items; failures = port.failures } };
 
-    ghost invariant = { λ port. (vec_len port.space ≡ SPACE) × (port.nodes ≤ NODES) × (port.base + NODES ≤ 2 ^ 16) };
+    ghost invariant = { λ port. vec_len port.space ≡ SPACE };
 }
 
 // A port of the address 127.0.0.1.
-fn address(port: u16) -> SocketAddr {
-    SocketAddr::V4(SocketAddrV4::new(Ipv4Addr::LOCALHOST, port))
+fn loopback(port: u16) -> SocketAddr
+    ensures { IsLoopback port result }
+{
+    SocketAddr::V4(SocketAddrV4::new(Ipv4Addr::new(127, 0, 0, 1), port))
 }
 
-// The socket on a port. It does not wait.
-fn bound<R: Net>(rt: &R, port: u16) -> io::Result<UdpSocket> {
-    let socket = UdpSocket::bind(rt, address(port))?;
+/// The addresses of nodes on this machine: that of node i is port base + i of the address 127.0.0.1.
+pub fn loopback_places(alloc: Global, nodes: u8, base: u16) -> Result<Vec<SocketAddr>, OutOfMemory>
+    requires nodes { nodes ≤ NODES }
+    requires ports { base + NODES ≤ 2 ^ 16 }
+    ensures { IfOk result (λ places. AreLoopback nodes base places.items) }
+{
+    let mut places = Vec::with_capacity(alloc, usize::from(nodes))?;
+    for number in 0..nodes {
+        places.push_reserved(loopback(base + u16::from(number)));
+    }
+    Ok(places)
+}
+
+// The socket at an address. It does not wait.
+fn bound<R: Net>(rt: &R, address: SocketAddr) -> io::Result<UdpSocket> {
+    let socket = UdpSocket::bind(rt, address)?;
     socket.set_nonblocking(true)?;
     Ok(socket)
 }
 
 impl UdpPort {
-    /// Binds the socket of node `me` of so many nodes.
+    /// Binds the socket of node `me` at its own address, where these are the addresses of all nodes, by number.
     pub fn bind<R: Net>(
+        rt: &R,
+        alloc: Global,
+        me: NodeId,
+        places: Vec<SocketAddr>,
+    ) -> Result<UdpPort, BindFault>
+        requires { me.number < vec_len places }
+        ensures { IfOk result (λ port. port ≡ record { me = me.number; places = places.items; failures = 0 }) }
+    {
+        let space = vec![in alloc; 0u8; SPACE]?;
+        let Ok(socket) = bound(rt, places[me.index()]) else {
+            return Err(BindFault::Port);
+        };
+        Ok(UdpPort {
+            socket,
+            space,
+            me,
+            places,
+            failures: 0,
+        })
+    }
+
+    /// Binds the socket of node `me` of this number of nodes on this machine: node i is at port base + i of the address 127.0.0.1.
+    pub fn bind_loopback<R: Net>(
         rt: &R,
         alloc: Global,
         me: NodeId,
@@ -100,21 +148,11 @@ impl UdpPort {
         base: u16,
     ) -> Result<UdpPort, BindFault>
         requires nodes { (me.number < nodes) × (nodes ≤ NODES) }
-        requires ports { (0 < base) × (base + NODES ≤ 2 ^ 16) }
-        ensures { IfOk result (λ port. port ≡ record { me = me.number; nodes = nodes; base = base; failures = 0 }) }
+        requires ports { base + NODES ≤ 2 ^ 16 }
+        ensures { IfOk result (λ port. (port.me ≡ me.number) × AreLoopback nodes base port.places × (port.failures ≡ 0)) }
     {
-        let space = vec![in alloc; 0u8; SPACE]?;
-        let Ok(socket) = bound(rt, base + u16::from(me.number)) else {
-            return Err(BindFault::Port);
-        };
-        Ok(UdpPort {
-            socket,
-            space,
-            me,
-            nodes,
-            base,
-            failures: 0,
-        })
+        let places = loopback_places(alloc, nodes, base)?;
+        UdpPort::bind(rt, alloc, me, places)
     }
 }
 
@@ -138,13 +176,10 @@ impl Port for UdpPort {
         ensures well { OnOk result (self.new.failures ≡ self.old.failures) }
         ensures is { IsSamePort self.old self.new }
     {
-        if to.number >= self.nodes {
+        let Some(place) = self.places.get(to.index()).copied() else {
             return failed(&mut self.failures, PortFault::Device, false);
-        }
-        match self
-            .socket
-            .send_to(bytes, address(self.base + u16::from(to.number)))
-        {
+        };
+        match self.socket.send_to(bytes, place) {
             Ok(count) if count == bytes.len() => Ok(true),
             Ok(_) => failed(&mut self.failures, PortFault::Device, false),
             Err(error) => match error.kind() {

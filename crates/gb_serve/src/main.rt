@@ -11,6 +11,7 @@ use std::alloc::{AllocError, Global};
 use std::io;
 use std::io::{ErrorKind, Write};
 use std::process::ExitCode;
+use std::random::RandomSource;
 
 // The words of the command line; none if they cannot be read although there is memory.
 fn words_of(rt: &HostRuntime, alloc: Global) -> Result<Vec<String>, AllocError> {
@@ -55,6 +56,13 @@ fn show(rt: &HostRuntime, text: &str) -> ExitCode {
     }
 }
 
+// Draws the number of a run. None: the system has no random number.
+fn drawn(rt: &HostRuntime) -> Option<u64> {
+    let mut bytes = [0u8; 8];
+    rt.fill_bytes(&mut bytes).ok()?;
+    Some(u64::from_be_bytes(bytes))
+}
+
 /// Status 0: all connections were served, the server was told to end, or help was asked for; 1: a fault; 2: refused words.
 fn main(rt: HostRuntime) -> ExitCode {
     let alloc = rt.alloc();
@@ -73,6 +81,7 @@ fn main(rt: HostRuntime) -> ExitCode {
         &rt,
         alloc,
         &words,
+        drawn(&rt),
         &mut StandardInput {
             reader: rt.reader(),
         },

@@ -1,18 +1,18 @@
 //! The words of the server's command line.
-ghost use Rattle.std.specs.Prelude.{◌≡◌, ◌≢◌, ◌⊎◌, IfOk, IfSome, IfNone, None, codes, map, [], true, false};
-ghost use Rattle.clap.specs.Words.{app_of, found_of, kind_of, matches_of, one_of, rows_of, rule_of, takes, fault_of};
-ghost use Rattle.gb_serve_words.specs.Words.{serve_app, number_rule, text_rule, flag_rule, HasAddress, IsAddressOf, IsGiven, IsPlanOf, IsWithin, CanServe};
+ghost use Rattle.std.specs.Prelude.{◌≡◌, ◌≢◌, ◌⊎◌, IfOk, IfSome, IfNone, None, map, [], true};
+ghost use Rattle.clap.specs.Words.{app_of, found_of, matches_of, rows_of, takes, fault_of};
+ghost use Rattle.gb_serve_words.specs.Words.{serve_app, IsGiven, IsPlanOf, IsWithin, CanServe};
 
 use crate::fault::WordFault;
+use crate::options::{
+    CONNECTIONS, HINT, connections_arg, fault_from, flag_arg, idle_arg, number_arg, quiet_arg,
+    requests_arg, sessions_arg, status_arg, status_of, status_refusal, stop_arg, text_asked,
+};
 use crate::plan::ServePlan;
-use clap::builder::ValueParser;
-use clap::error::ErrorKind;
-use clap::{Arg, ArgAction, ArgMatches, Command, Error};
+use clap::{ArgMatches, Command};
 use gb_types::limits::NODES;
 use gb_types::version::Version;
-use gb_version::VERSION as PROGRAM;
 use std::alloc::{AllocError, Global};
-use std::net::SocketAddr;
 
 /// The silence of a cluster whose words give none.
 pub const SILENCE: u16 = 50;
@@ -23,46 +23,10 @@ pub const VERSION: u8 = 1;
 /// The milliseconds between two ticks where words give none.
 pub const TICK: u16 = 64;
 
-/// How many connections a node serves at once where words give no number.
-pub const CONNECTIONS: u16 = 1_024;
-
 // Definitions cite these values.
 const _: () = prove!(SILENCE == 50 && VERSION == 1);
 
-const _: () = prove!(TICK == 64 && CONNECTIONS == 1_024);
-
-// An option with a number from `least` to `most`.
-fn number_arg<'a>(alloc: Global, name: &'static str, least: u16, most: u32) -> Arg<'a>
-    ensures rule { rule_of result ≡ number_rule name.entry.now least most false }
-    ensures local { result.global ≡ false }
-{
-    Arg::new(alloc, name)
-        .long(name)
-        .action(ArgAction::Set)
-        .value_parser(ValueParser::Signed(i64::from(least), i64::from(most)))
-}
-
-// An option with a text.
-fn text_arg<'a>(alloc: Global, name: &'static str) -> Arg<'a>
-    ensures rule { rule_of result ≡ text_rule name.entry.now }
-    ensures local { result.global ≡ false }
-{
-    Arg::new(alloc, name)
-        .long(name)
-        .action(ArgAction::Set)
-        .value_parser(ValueParser::String)
-}
-
-// An option without a value, which stands among the words or does not.
-fn flag_arg<'a>(alloc: Global, name: &'static str) -> Arg<'a>
-    ensures rule { rule_of result ≡ flag_rule name.entry.now }
-    ensures local { result.global ≡ false }
-{
-    Arg::new(alloc, name)
-        .long(name)
-        .action(ArgAction::SetTrue)
-        .value_parser(ValueParser::Bool)
-}
+const _: () = prove!(TICK == 64);
 
 // The command line.
 fn command<'a>(alloc: Global) -> Result<Command<'a>, AllocError>
@@ -94,44 +58,21 @@ fn command<'a>(alloc: Global) -> Result<Command<'a>, AllocError>
         "how many ticks without a packet make a node noticed as crashed; 50 if not given",
     );
     let with_silence = with_version.arg(silence)?;
-    let sessions = number_arg(alloc, "sessions", 0, 1_000).value_name("K").help(
-        "how many connections each node serves in all; 0, or not given: for ever",
-    );
-    let with_sessions = with_silence.arg(sessions)?;
+    let with_sessions = with_silence.arg(sessions_arg(alloc))?;
     let tick = number_arg(alloc, "tick", 1, 60_000)
         .value_name("MS")
         .help("milliseconds between two ticks; 64 if not given");
     let with_tick = with_sessions.arg(tick)?;
-    let idle = number_arg(alloc, "idle", 0, 60_000)
-        .value_name("SECONDS")
-        .help(
-            "after how long without a byte a connection is closed that asked something; 0, or not given: never",
-        );
-    let with_idle = with_tick.arg(idle)?;
-    let connections = number_arg(alloc, "connections", 1, 60_000)
-        .value_name("C")
-        .help(
-            "how many connections each node serves at once, one more is closed; 1,024 if not given",
-        );
-    let with_connections = with_idle.arg(connections)?;
-    let requests = number_arg(alloc, "session-requests", 0, 4_000_000_000)
-        .value_name("R")
-        .help("how many messages a connection may ask; 0, or not given: there is no limit");
-    let with_requests = with_connections.arg(requests)?;
+    let with_idle = with_tick.arg(idle_arg(alloc))?;
+    let with_connections = with_idle.arg(connections_arg(alloc))?;
+    let with_requests = with_connections.arg(requests_arg(alloc))?;
     let tape = flag_arg(alloc, "tape").help(
         "keep what happens at each node, and merge it at the end into one run of the cluster",
     );
     let with_tape = with_requests.arg(tape)?;
-    let stop_at_end = flag_arg(alloc, "stop-at-end").help(
-        "end in order when standard input ends, as at its line `stop`",
-    );
-    let with_stop = with_tape.arg(stop_at_end)?;
-    let status = text_arg(alloc, "status").value_name("ADDR").help(
-        "answer GET /metrics and GET /healthz by HTTP at this address, as 127.0.0.1:9100",
-    );
-    let with_status = with_stop.arg(status)?;
-    let quiet = flag_arg(alloc, "quiet").help("write no log to standard error");
-    with_status.arg(quiet)
+    let with_stop = with_tape.arg(stop_arg(alloc))?;
+    let with_status = with_stop.arg(status_arg(alloc))?;
+    with_status.arg(quiet_arg(alloc))
 }
 
 /// What the help says behind the options.
@@ -144,28 +85,6 @@ Example:\n\n\
   { key; key; cat; } | gb_serve --nodes 3 --version 2 --base-port 24000 --stop-at-end\n\n\
 Exit status: 0 when all connections were served, or the server was ended in order, and, with --tape, its tapes were merged; 1 for a fault, 2 for \
 words that are refused.";
-
-// What a parse that failed comes to.
-fn fault_from(error: &Error) -> WordFault
-    ensures refused { result ≡ WordFault.Refused → kind_of error.now ≢ ErrorKind.OutOfMemory }
-    ensures memory { result ≡ WordFault.OutOfMemory → kind_of error.now ≡ ErrorKind.OutOfMemory }
-{
-    match error.kind() {
-        ErrorKind::OutOfMemory => WordFault::OutOfMemory,
-        _ => WordFault::Refused,
-    }
-}
-
-// Returns the address that is given for the status; `None` where its text is no address.
-fn status_of(matches: &ArgMatches<'_>) -> Option<Option<SocketAddr>>
-    ensures read { IfSome result (IsAddressOf (one_of (codes "status") (rows_of (found_of matches.now)))) }
-    ensures none { IfNone result (HasAddress (one_of (codes "status") (rows_of (found_of matches.now))) → ⊥) }
-{
-    match matches.try_get_one::<SocketAddr>("status") {
-        Ok(status) => Some(status),
-        Err(_) => None,
-    }
-}
 
 // Returns the plan of words that `clap` took; `None` where their version does not exist or cannot name their number of nodes, or their
 // address for the status is none.
@@ -245,17 +164,8 @@ fn plan_refusal(alloc: Global, matches: &ArgMatches<'_>) -> Result<String, Alloc
             "error: invalid value '{nodes}' for '--nodes <N>': packets of version {byte} can name {most}{HINT}"
         );
     }
-    if status_of(matches).is_none() {
-        let text = matches.get_str("status").unwrap_or("");
-        return format!(in alloc;
-            "error: invalid value '{text}' for '--status <ADDR>': an IP address and a port are wanted, as 127.0.0.1:9100 or [::1]:9100{HINT}"
-        );
-    }
-    Ok(String::new(alloc))
+    status_refusal(alloc, matches)
 }
-
-// What a refusal ends with.
-static HINT: &str = "\n\nFor more information, try '--help'.\n";
 
 /// Why words are refused; nothing of words that are a plan.
 pub fn refusal_text(alloc: Global, words: &[&str]) -> Result<String, AllocError> {
@@ -271,18 +181,6 @@ pub fn asked_text(alloc: Global, words: &[&str]) -> Result<Option<String>, Alloc
 {
     match command(alloc)?.try_get_matches_from(words) {
         Ok(_) => Ok(None),
-        Err(error) => match error.kind() {
-            ErrorKind::OutOfMemory => Err(AllocError),
-            ErrorKind::DisplayHelp => Ok(Some(format!(in alloc; "{error}")?)),
-            _ => version_text(alloc, words),
-        },
+        Err(error) => text_asked(alloc, &error, words, "gb_serve"),
     }
-}
-
-// The version, where the word behind the program's name asks for it.
-fn version_text(alloc: Global, words: &[&str]) -> Result<Option<String>, AllocError> {
-    if words.get(1) != Some(&"-V") {
-        return Ok(None);
-    }
-    Ok(Some(format!(in alloc; "gb_serve {PROGRAM}\n")?))
 }

@@ -3,14 +3,19 @@ use Rattle.std.specs.Prelude.{◌≡◌, ℕ, ◌*◌, ◌/◌, ◌-◌, ◌^◌
 use Rattle.gb_loop.specs.declared.options.LoopOptions.{LoopOptions}
 use Rattle.gb_serve_words.specs.declared.plan.ServePlan.{ServePlan}
 
+-- after how many microseconds without anything sent to a node it is sent a sign of life, by the milliseconds of a tick and the ticks of silence
+abbrev pub beat_of : ℕ → ℕ → ℕ
+beat_of tick silence = if nat_lt silence 8 then tick * 1000 / 2 else tick * 1000 * (silence / 8)
+
 -- what the words tell of the loops, in microseconds, with a limit of connections at each node; a sign of life comes
 -- eight times in the silence that makes a node noticed, or, for a silence below 8 ticks, twice a tick; a connection may be silent for
--- ten seconds before its first message
+-- ten seconds before its first message; the ticks wait for nobody
 pub record AreOptions (plan : ServePlan) (most : ℕ) (options : LoopOptions) : Type 0 where
   pub tick : options.tick ≡ plan.tick * 1000
-  pub beat : options.beat ≡ (if nat_lt plan.silence 8 then plan.tick * 1000 / 2 else plan.tick * 1000 * (plan.silence / 8))
+  pub beat : options.beat ≡ beat_of plan.tick plan.silence
   pub idle : options.idle ≡ plan.idle * 1000000
   pub first : options.first ≡ 10000000
   pub sessions : options.sessions ≡ plan.sessions
   pub connections : options.connections ≡ most
   pub requests : options.requests ≡ (if plan.session_requests == 0 then 2 ^ 64 - 1 else plan.session_requests)
+  pub wait : options.wait ≡ 0

@@ -5,7 +5,7 @@ use Rattle.gb_merge.specs.declared.fault.AuditFault.{AuditFault}
 use Rattle.gb_merge.specs.declared.fault.AuditFault.TheVariants as audit
 use Rattle.gb_server.specs.Told.{lined}
 use Rattle.gb_server.specs.declared.fault.ServeFault.{ServeFault}
-use Rattle.gb_server.specs.declared.fault.ServeFault.TheVariants.{RefusedWords, BadKeys, NoNode, ForeignSeat, Port, Differs, OutOfMemory, Full, Audit, Write}
+use Rattle.gb_server.specs.declared.fault.ServeFault.TheVariants.{RefusedWords, BadKeys, NoNode, ForeignSeat, Port, Differs, OutOfMemory, Full, Audit, Write, NoRun}
 use Rattle.gb_server.specs.declared.sockets.PortName.TheVariants.{Udp, Tcp, Status}
 use Rattle.gb_server.specs.declared.keys.KeyFault.{KeyFault}
 use Rattle.gb_server.specs.declared.keys.KeyFault.TheVariants as keys
@@ -39,7 +39,8 @@ fault_words OutOfMemory = codes "out of memory, or no thread could be made"
 fault_words Full = codes "too many calls"
 fault_words (Audit fault) = audit_words fault
 fault_words Write = codes "a line could not be written to standard output"
+fault_words NoRun = codes "the system has no random number for the run"
 
--- the line that tells it
-abbrev pub complaint : ServeFault → List ℕ
-complaint fault = lined (codes "gb_serve: " ++ fault_words fault)
+-- the line that tells it, behind the name of the program
+abbrev pub complaint : List ℕ → ServeFault → List ℕ
+complaint name fault = lined (name ++ codes ": " ++ fault_words fault)

@@ -6,7 +6,7 @@ use Rattle.gb_server.specs.Told.{lined}
 use Rattle.gb_server.specs.declared.signals.Why.{Why}
 use Rattle.gb_server.specs.declared.signals.Why.TheVariants.{Served, Asked, Stopped, InputEnded, Failed, Unwritten}
 
--- the first and the last of so many ports
+-- the first and the last of this number of ports
 abbrev pub range_words : ℕ → ℕ → List ℕ
 range_words first count = decimal first ++ codes " to " ++ decimal (first + count - 1)
 
@@ -15,15 +15,18 @@ abbrev pub status_words : Option SocketAddr → List ℕ
 status_words (Some address) = codes ", status at http://" ++ socket_text address ++ codes "/metrics"
 status_words None = []
 
--- the ports of so many nodes, from a base port on
+-- the ports of this number of nodes, from a base port on
 abbrev pub port_words : ℕ → ℕ → List ℕ
 port_words nodes base =
     (codes " nodes, packets at UDP 127.0.0.1:" ++ range_words base nodes) ++ (codes ", sessions at TCP 127.0.0.1:" ++ range_words (base + 64) nodes)
 
--- the first line: the version, how many nodes there are, their ports, and where the status is told
-abbrev pub begin_line : List ℕ → ℕ → ℕ → Option SocketAddr → List ℕ
-begin_line version nodes port status =
-    lined ((codes "gb_serve " ++ version ++ codes ": " ++ decimal nodes) ++ port_words nodes port ++ status_words status)
+-- what the first line of `gb_serve` begins with: the version, how many nodes there are, and their ports
+abbrev pub begin_front : List ℕ → ℕ → ℕ → List ℕ
+begin_front version nodes port = (codes "gb_serve " ++ version ++ codes ": " ++ decimal nodes) ++ port_words nodes port
+
+-- the first line: what it begins with, and where the status is told
+abbrev pub first_line : List ℕ → Option SocketAddr → List ℕ
+first_line front status = lined (front ++ status_words status)
 
 -- why a server ends
 abbrev pub end_words : Why → List ℕ
@@ -34,6 +37,6 @@ end_words InputEnded = codes "standard input ended"
 end_words Failed = codes "a loop could not begin"
 end_words Unwritten = codes "a line could not be written to standard output"
 
--- the line that tells it
-abbrev pub end_line_of : Why → List ℕ
-end_line_of why = lined (codes "gb_serve: ends: " ++ end_words why)
+-- the line that tells it, behind the name of the program
+abbrev pub end_line_of : List ℕ → Why → List ℕ
+end_line_of name why = lined (name ++ codes ": ends: " ++ end_words why)

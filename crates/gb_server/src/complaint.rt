@@ -168,25 +168,28 @@ fn put_fault_words(text: &mut Vec<u8>, fault: ServeFault) -> Result<(), OutOfMem
         ServeFault::Full => put_bytes(text, b"too many calls"),
         ServeFault::Audit(fault) => put_bytes(text, audit_words(fault)),
         ServeFault::Write => put_bytes(text, b"a line could not be written to standard output"),
+        ServeFault::NoRun => put_bytes(text, b"the system has no random number for the run"),
     }
 }
 
-// The line of a fault.
-fn complaint(alloc: Global, fault: ServeFault) -> Result<Vec<u8>, OutOfMemory>
-    ensures { IfOk result (λ line. line.items ≡ complaint fault) }
+// The line of a fault, behind the name of the program.
+fn complaint(alloc: Global, name: &[u8], fault: ServeFault) -> Result<Vec<u8>, OutOfMemory>
+    ensures { IfOk result (λ line. line.items ≡ complaint name.now fault) }
 {
     let mut line = Vec::new(alloc);
-    put_bytes(&mut line, b"gb_serve: ")?;
+    put_bytes(&mut line, name)?;
+    put_bytes(&mut line, b": ")?;
     put_fault_words(&mut line, fault)?;
     put_bytes(&mut line, b"\n")?;
     Ok(line)
 }
 
-/// Writes the line that tells why a server did not serve to its end. False: it could not be written, or there was no memory for it.
-pub fn complain<W: Write>(alloc: Global, fault: ServeFault, writer: &mut W) -> bool
-    ensures { result ≡ true → Appends (W.contents writer.old) (W.contents writer.new) (complaint fault) }
+/// Writes the line that tells why a server did not serve to its end, behind the name of the program. False: it could not be written, or
+/// there was no memory for it.
+pub fn complain<W: Write>(alloc: Global, name: &[u8], fault: ServeFault, writer: &mut W) -> bool
+    ensures { result ≡ true → Appends (W.contents writer.old) (W.contents writer.new) (complaint name.now fault) }
 {
-    match complaint(alloc, fault) {
+    match complaint(alloc, name, fault) {
         Ok(line) => tell(writer, &line),
         Err(OutOfMemory) => false,
     }

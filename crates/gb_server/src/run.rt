@@ -1,25 +1,21 @@
 //! The threads of a server, and what stands beside them.
 ghost use Rattle.std.specs.Prelude.{◌≡◌, ℕ, List, OnOk};
 ghost use Rattle.std.specs.Io.KnownBytes.{Appends, Consumes};
-ghost use Rattle.gb_serve_words.specs.Words.{IsWithin};
-ghost use Rattle.gb_server.specs.Told.{serving_line};
 
 use crate::crew::hold;
 use crate::desk::Desk;
 use crate::input::Input;
-use crate::server_log::{ServerLog, begin_line};
+use crate::server_log::{ServerLog, first_line};
 use crate::signals::Signals;
 use crate::sockets::Sockets;
 use crate::status::StatusServer;
-use crate::told::serving_line;
 use crate::watch::{attend, watch};
 use gb_host::host::Host;
 use gb_host::names::Tapes;
 use gb_host::seat::Seat;
 use gb_loop::options::LoopOptions;
-use gb_serve_words::plan::ServePlan;
 use gb_types::memory::OutOfMemory;
-use gb_version::VERSION;
+use gb_types::node::NodeId;
 use std::alloc::Global;
 use std::io::Write;
 use std::net::{Net, TcpListener, TcpStream};
@@ -72,16 +68,38 @@ fn hold_given<
     held.ok()
 }
 
+/// What a server of some nodes is told, beside how its loops behave.
+#[derive(Drop)]
+pub struct Service {
+    /// The name of the program, with which each line of the log begins.
+    pub name: &'static [u8],
+    /// The number of the first node, and how many there are.
+    pub first: NodeId,
+    pub nodes: u8,
+    /// The line for standard output that tells what is served.
+    pub line: Vec<u8>,
+    /// What the first line of the log begins with.
+    pub front: Vec<u8>,
+    /// Whether the server ends in order when standard input ends.
+    pub stops_at_end: bool,
+    /// Whether no log is written.
+    pub is_quiet: bool,
+}
+
 // Returns what a server tells of itself: its log, and its status at this listener, if there is one.
 fn desk_of<H: Clock>(
     rt: &H,
     alloc: Global,
-    serve: ServePlan,
+    service: &Service,
     listener: Option<TcpListener>,
-) -> Result<Desk, OutOfMemory>
-    requires within { IsWithin serve }
-{
-    let log = ServerLog::new(alloc, serve.nodes, serve.quiet)?;
+) -> Result<Desk, OutOfMemory> {
+    let log = ServerLog::new(
+        alloc,
+        service.name,
+        service.first,
+        service.nodes,
+        service.is_quiet,
+    )?;
     let status = match listener {
         Some(listener) => Some(StatusServer::new(rt, alloc, listener)),
         None => None,
@@ -90,8 +108,7 @@ fn desk_of<H: Clock>(
         Some(status) => status.address(),
         None => None,
     };
-    let (nodes, base) = (u64::from(serve.nodes), u64::from(serve.base_port));
-    let first = begin_line(alloc, VERSION.as_bytes(), nodes, base, address)?;
+    let first = first_line(alloc, &service.front, address)?;
     Ok(Desk { log, first, status })
 }
 
@@ -130,7 +147,7 @@ pub fn run<
     rt: &H,
     alloc: Global,
     host: &Host<L>,
-    serve: ServePlan,
+    service: &Service,
     options: LoopOptions,
     given: Given<L>,
     listener: Option<TcpListener>,
@@ -138,16 +155,14 @@ pub fn run<
     writer: &mut W,
     errors: &mut E,
 ) -> Result<Vec<Seat<L>>, RunFault>
-    requires within { IsWithin serve }
-    ensures told { OnOk result (Appends (W.contents writer.old) (W.contents writer.new) (serving_line serve.nodes serve.base_port)) }
+    ensures told { OnOk result (Appends (W.contents writer.old) (W.contents writer.new) service.now.line.items) }
     ensures read { OnOk result ((bytes : List ℕ) × Consumes (R.remaining reader.old) (R.remaining reader.new) bytes) }
 {
-    let line = serving_line(alloc, serve.nodes, serve.base_port)?;
-    let signals = Signals::new(alloc, serve.nodes)?;
-    let mut desk = desk_of(rt, alloc, serve, listener)?;
+    let signals = Signals::new(alloc, service.first, service.nodes)?;
+    let mut desk = desk_of(rt, alloc, service, listener)?;
     let shared = &signals;
-    let text = line.as_slice();
-    let stops_at_end = serve.stop_at_end;
+    let text = service.line.as_slice();
+    let stops_at_end = service.stops_at_end;
     let mut given = Some(given);
     let (held, is_told) = join_mut(
         rt,

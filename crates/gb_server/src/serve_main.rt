@@ -1,8 +1,8 @@
 //! The server from its words to its exit status.
-ghost use Rattle.std.specs.Prelude.{◌≡◌, ◌≢◌, ◌≤◌, ◌+◌, ◌*◌, [], ℕ, List, true, Ok, Err, codes, map, vec_len};
+ghost use Rattle.std.specs.Prelude.{◌≡◌, ◌≢◌, ◌≤◌, ◌+◌, ◌*◌, [], ℕ, List, true, Ok, Err, IfOk, codes, map, vec_len};
 ghost use Rattle.std.specs.Io.KnownBytes.{Appends, Consumes};
 ghost use Rattle.gb_serve_words.specs.Words.{IsWithin};
-ghost use Rattle.gb_server.specs.Behaviour.{AreOptions};
+ghost use Rattle.gb_server.specs.Behaviour.{AreOptions, beat_of};
 ghost use Rattle.gb_server.specs.Told.{AreRefused, AreTaken, HasServed, end_line, host_of, lined, serving_line};
 ghost use Rattle.gb_host.specs.Pasts.{AreBlank, books_of};
 ghost use Rattle.gb_host.specs.Plans.{IsPlan};
@@ -14,10 +14,11 @@ use crate::descriptors::{connections_of, descriptor_limit};
 use crate::ending::{Ended, end};
 use crate::fault::ServeFault;
 use crate::input::Input;
-use crate::keys::{Keys, read_keys};
-use crate::run::{Given, run};
+use crate::keys::{Keys, read_keys, run_key};
+use crate::run::{Given, Service, run};
+use crate::server_log::begin_front;
 use crate::sockets::{Sockets, open_sockets, open_status};
-use crate::told::{status_of, tell_end};
+use crate::told::{serving_line, status_of, tell_end};
 use gb_host::here::all_nodes;
 use gb_host::host::Host;
 use gb_host::names::Tapes;
@@ -27,7 +28,10 @@ use gb_loop::options::LoopOptions;
 use gb_serve_words::plan::ServePlan;
 use gb_serve_words::words::read_words;
 use gb_types::limits::NODES;
+use gb_types::memory::OutOfMemory;
+use gb_types::node::NodeId;
 use gb_types::plan::Plan;
+use gb_version::VERSION;
 use std::alloc::Global;
 use std::io::Write;
 use std::marker::Brand;
@@ -42,12 +46,12 @@ pub const PLACES: u16 = 1_024;
 // Definitions cite this value.
 const _: () = prove!(PLACES == 1_024);
 
-// The host of a plan. Each node sends the version of the plan.
-fn host_plan(plan: ServePlan, keys: Keys) -> HostPlan
-    ensures is { result ≡ host_of plan keys }
+// The host of a plan in a run. Each node sends the version of the plan.
+fn host_plan(plan: ServePlan, keys: Keys, run: u64) -> HostPlan
+    ensures is { result ≡ host_of plan keys run }
     ensures limits { IsWithin plan → IsPlan result }
 {
-    let (cluster_key, admin_key) = (keys.cluster, keys.admin);
+    let (cluster_key, admin_key) = (run_key(&keys.cluster, run), keys.admin);
     let cluster = Plan {
         nodes: plan.nodes,
         versions: [plan.version; NODES],
@@ -63,22 +67,34 @@ fn host_plan(plan: ServePlan, keys: Keys) -> HostPlan
     }
 }
 
-// How long a connection may be silent that asked nothing yet, in microseconds.
-const FIRST: u64 = 10_000_000;
+// The name of the program.
+const NAME: &[u8] = b"gb_serve";
+
+/// How long a connection may be silent that asked nothing yet, in microseconds.
+pub const FIRST: u64 = 10_000_000;
 
 const _: () = prove!(FIRST == 10_000_000);
 
-// How the loops behave, with this limit of connections at each node: a sign of life eight times in the silence that makes a
-// node noticed, and at least every tick.
+/// Returns the microseconds between two ticks, and after how many without anything sent to a node it is sent a sign of life: eight times
+/// in the silence that makes a node noticed, or twice a tick where that is below 8 ticks.
+pub fn beats_of(tick: u16, silence: u16) -> (u64, u64)
+    ensures tick { result.0 ≡ tick * 1000 }
+    ensures beat { result.1 ≡ beat_of tick silence }
+{
+    let micros = u64::from(tick) * 1_000;
+    let beat = if silence < 8 {
+        micros / 2
+    } else {
+        micros * (u64::from(silence) / 8)
+    };
+    (micros, beat)
+}
+
+// How the loops behave, with this limit of connections at each node.
 fn options_of(plan: ServePlan, connections: u64) -> LoopOptions
     ensures { AreOptions plan connections result }
 {
-    let tick = u64::from(plan.tick) * 1_000;
-    let beat = if plan.silence < 8 {
-        tick / 2
-    } else {
-        tick * (u64::from(plan.silence) / 8)
-    };
+    let (tick, beat) = beats_of(plan.tick, plan.silence);
     LoopOptions {
         tick,
         beat,
@@ -91,7 +107,27 @@ fn options_of(plan: ServePlan, connections: u64) -> LoopOptions
         } else {
             u64::from(plan.session_requests)
         },
+        wait: 0,
     }
+}
+
+// What a server is told by its plan.
+fn service_of(alloc: Global, plan: ServePlan) -> Result<Service, OutOfMemory>
+    requires { IsWithin plan }
+    ensures { IfOk result (λ service. service.line.items ≡ serving_line plan.nodes plan.base_port) }
+{
+    let (nodes, base) = (u64::from(plan.nodes), u64::from(plan.base_port));
+    let line = serving_line(alloc, plan.nodes, plan.base_port)?;
+    let front = begin_front(alloc, VERSION.as_bytes(), nodes, base)?;
+    Ok(Service {
+        name: NAME,
+        first: NodeId::new(0),
+        nodes: plan.nodes,
+        line,
+        front,
+        stops_at_end: plan.stop_at_end,
+        is_quiet: plan.quiet,
+    })
 }
 
 // Serves on sockets that are bound.
@@ -131,13 +167,14 @@ fn serve_host<
     let connections = connections_of(wanted, serve.nodes, descriptor_limit());
     let options = options_of(serve, connections);
     let given = Given { seats, sockets };
+    let service = service_of(alloc, serve)?;
     let seats = run(
-        rt, alloc, &host, serve, options, given, listener, reader, writer, errors,
+        rt, alloc, &host, &service, options, given, listener, reader, writer, errors,
     )?;
     end(alloc, host, seats)
 }
 
-// Serves by a plan, with keys.
+// Serves by a plan, with keys, in a run.
 fn serve_plan<
     H: Net<Listener = TcpListener, Stream = TcpStream> + Threads + Wait + Clock + Sync,
     R: Input,
@@ -148,6 +185,7 @@ fn serve_plan<
     alloc: Global,
     plan: ServePlan,
     keys: Keys,
+    run: u64,
     reader: &mut R,
     writer: &mut W,
     errors: &mut E,
@@ -155,7 +193,7 @@ fn serve_plan<
     requires { IsWithin plan }
     ensures told { has_closed result ≡ true → Appends (W.contents writer.old) (W.contents writer.new) (serving_line plan.nodes plan.base_port) }
     ensures read { has_closed result ≡ true → (bytes : List ℕ) × Consumes (R.remaining reader.old) (R.remaining reader.new) bytes }
-    ensures ends { has_closed result ≡ true → (seats : List SeatValue) × EndsSo (host_of plan keys) seats result }
+    ensures ends { has_closed result ≡ true → (seats : List SeatValue) × EndsSo (host_of plan keys run) seats result }
     ensures taken { result ≢ Err ServeFault.RefusedWords }
 {
     let sockets = open_sockets(rt, alloc, plan.nodes, plan.base_port)?;
@@ -164,7 +202,7 @@ fn serve_plan<
     serve_host::<Brand, H, R, W, E>(
         rt,
         alloc,
-        host_plan(plan, keys),
+        host_plan(plan, keys, run),
         plan,
         sockets,
         listener,
@@ -175,8 +213,8 @@ fn serve_plan<
     )
 }
 
-/// Serves by words, with the keys that the reader gives and what it gives behind them, and writes what it serves, and its log to `errors`. The
-/// answer is how it ended, which is still to be told.
+/// Serves by words in the run with this number, with the keys that the reader gives and what it gives behind them, and writes what it serves,
+/// and its log to `errors`. The answer is how it ended, which is still to be told.
 pub fn serve<
     H: Net<Listener = TcpListener, Stream = TcpStream> + Threads + Wait + Clock + Sync,
     R: Input,
@@ -186,11 +224,12 @@ pub fn serve<
     rt: &H,
     alloc: Global,
     words: &[&str],
+    run: Option<u64>,
     reader: &mut R,
     writer: &mut W,
     errors: &mut E,
 ) -> Result<Ended, ServeFault>
-    ensures served { has_closed result ≡ true → HasServed (map (λ word. word.now) words.now) (R.remaining reader.old) (R.remaining reader.new) (W.contents writer.old) (W.contents writer.new) result [] }
+    ensures served { has_closed result ≡ true → HasServed (map (λ word. word.now) words.now) run (R.remaining reader.old) (R.remaining reader.new) (W.contents writer.old) (W.contents writer.new) result [] }
     ensures refused { result ≡ Err ServeFault.RefusedWords → AreRefused (map (λ word. word.now) words.now) × (reader.new ≡ reader.old) × (writer.new ≡ writer.old) × (errors.new ≡ errors.old) }
     ensures taken { AreTaken (map (λ word. word.now) words.now) → result ≢ Err ServeFault.RefusedWords }
 {
@@ -199,7 +238,10 @@ pub fn serve<
         Ok(keys) => keys,
         Err(why) => return Err(ServeFault::BadKeys(why)),
     };
-    serve_plan(rt, alloc, plan, keys, reader, writer, errors)
+    let Some(number) = run else {
+        return Err(ServeFault::NoRun);
+    };
+    serve_plan(rt, alloc, plan, keys, number, reader, writer, errors)
 }
 
 // Tells why a server did not serve to its end. Why words are refused is told where they were read.
@@ -210,12 +252,12 @@ fn explain<E: Write>(alloc: Global, outcome: Result<Ended, ServeFault>, errors: 
         Ok(_) => (),
         Err(ServeFault::RefusedWords) => (),
         Err(fault) => {
-            let _ = complain(alloc, fault, errors);
+            let _ = complain(alloc, NAME, fault, errors);
         }
     }
 }
 
-/// Serves by the words of a command line, of which the first is the program's name, with the keys that the reader gives, and behind
+/// Serves by the words of a command line, of which the first is the program's name, in the run with this number, where the system had one, with the keys that the reader gives, and behind
 /// them the line `stop` that ends it, and writes what it serves and how it ended, a line each. Its log is written to `errors`, and why it did not serve to its end, but for
 /// why words are refused. The answer is the exit status: 0 when all connections were served, or the server was told to
 /// end, and, with tapes, they were merged, 2 for refused
@@ -225,13 +267,21 @@ pub fn serve_main<
     R: Input,
     W: Write,
     E: Write + Send,
->(rt: &H, alloc: Global, words: &[&str], reader: &mut R, writer: &mut W, errors: &mut E) -> u8
+>(
+    rt: &H,
+    alloc: Global,
+    words: &[&str],
+    run: Option<u64>,
+    reader: &mut R,
+    writer: &mut W,
+    errors: &mut E,
+) -> u8
     ensures status { result ≤ 2 }
-    ensures served { result ≡ 0 → (ended : Ended) × HasServed (map (λ word. word.now) words.now) (R.remaining reader.old) (R.remaining reader.new) (W.contents writer.old) (W.contents writer.new) (Ok ended) (end_line ended) }
+    ensures served { result ≡ 0 → (ended : Ended) × HasServed (map (λ word. word.now) words.now) run (R.remaining reader.old) (R.remaining reader.new) (W.contents writer.old) (W.contents writer.new) (Ok ended) (end_line ended) }
     ensures refused { result ≡ 2 → AreRefused (map (λ word. word.now) words.now) × (reader.new ≡ reader.old) × (errors.new ≡ errors.old) × Appends (W.contents writer.old) (W.contents writer.new) (lined (codes "refused words")) }
     ensures taken { AreTaken (map (λ word. word.now) words.now) → result ≢ 2 }
 {
-    let outcome = serve(rt, alloc, words, reader, writer, errors);
+    let outcome = serve(rt, alloc, words, run, reader, writer, errors);
     explain(alloc, outcome, errors);
     if outcome == Err(ServeFault::Write) || !tell_end(writer, outcome) {
         return 1;

@@ -1,6 +1,6 @@
 //! The log of a server, on standard error: one line for each event that an operator must know.
 ghost use Rattle.std.specs.Prelude.{◌≡◌, ◌≤◌, ◌++◌, ◌+◌, ◌-◌, IfOk, OnOk, codes, decimal, true};
-ghost use Rattle.gb_server.specs.ServerLog.{begin_line, end_line_of, end_words, port_words, range_words, status_words};
+ghost use Rattle.gb_server.specs.ServerLog.{begin_front, end_line_of, end_words, first_line, port_words, range_words, status_words};
 ghost use Rattle.std.specs.Net.Text.{socket_text};
 
 use crate::signals::{Signals, Why};
@@ -21,6 +21,10 @@ pub struct ServerLog {
     /// Nothing is written.
     pub is_quiet: bool,
     alloc: Global,
+    // The name of the program, with which each line begins.
+    name: &'static [u8],
+    // The number of the first node, and how many there are.
+    first: u8,
     nodes: u8,
     // Of each node.
     told: Vec<Told>,
@@ -28,8 +32,8 @@ pub struct ServerLog {
     is_end_told: bool,
 }
 
-// Appends an address.
-pub(crate) fn put_address(out: &mut Vec<u8>, address: SocketAddr) -> Result<(), OutOfMemory>
+/// Appends an address: the IP address, that of IPv6 in brackets, a colon and the port.
+pub fn put_address(out: &mut Vec<u8>, address: SocketAddr) -> Result<(), OutOfMemory>
     ensures { OnOk result (out.new.items ≡ out.old.items ++ socket_text address) }
 {
     let text = address.to_string(*out.allocator())?;
@@ -82,22 +86,33 @@ fn put_version(out: &mut Vec<u8>, version: &[u8], nodes: u64) -> Result<(), OutO
     put_number(out, nodes)
 }
 
-/// Returns the first line of the log: the version of the program, the number of nodes, their ports, and the address where the status is
-/// told, if it is.
-pub fn begin_line(
+/// Returns what the first line of the log of `gb_serve` begins with: the version of the program, the number of nodes, and their ports.
+pub fn begin_front(
     alloc: Global,
     version: &[u8],
     nodes: u64,
     base: u64,
-    status: Option<SocketAddr>,
 ) -> Result<Vec<u8>, OutOfMemory>
     requires nodes { (1 ≤ nodes) × (nodes ≤ 32) }
     requires base { base ≤ 65000 }
-    ensures { IfOk result (λ line. line.items ≡ begin_line version.now nodes base status) }
+    ensures { IfOk result (λ front. front.items ≡ begin_front version.now nodes base) }
+{
+    let mut front = Vec::new(alloc);
+    put_version(&mut front, version, nodes)?;
+    put_ports(&mut front, nodes, base)?;
+    Ok(front)
+}
+
+/// Returns the first line of the log: what it begins with, and the address where the status is told, if it is.
+pub fn first_line(
+    alloc: Global,
+    front: &[u8],
+    status: Option<SocketAddr>,
+) -> Result<Vec<u8>, OutOfMemory>
+    ensures { IfOk result (λ line. line.items ≡ first_line front.now status) }
 {
     let mut line = Vec::new(alloc);
-    put_version(&mut line, version, nodes)?;
-    put_ports(&mut line, nodes, base)?;
+    put_bytes(&mut line, front)?;
     put_status(&mut line, status)?;
     put_bytes(&mut line, b"\n")?;
     Ok(line)
@@ -117,12 +132,13 @@ fn end_words(why: Why) -> &'static [u8]
     }
 }
 
-/// Returns the line that tells why a server ends.
-pub fn end_line(alloc: Global, why: Why) -> Result<Vec<u8>, OutOfMemory>
-    ensures { IfOk result (λ line. line.items ≡ end_line_of why) }
+/// Returns the line that tells why a server ends, behind the name of the program.
+pub fn end_line(alloc: Global, name: &[u8], why: Why) -> Result<Vec<u8>, OutOfMemory>
+    ensures { IfOk result (λ line. line.items ≡ end_line_of name.now why) }
 {
     let mut line = Vec::new(alloc);
-    put_bytes(&mut line, b"gb_serve: ends: ")?;
+    put_bytes(&mut line, name)?;
+    put_bytes(&mut line, b": ends: ")?;
     put_bytes(&mut line, end_words(why))?;
     put_bytes(&mut line, b"\n")?;
     Ok(line)
@@ -131,13 +147,15 @@ pub fn end_line(alloc: Global, why: Why) -> Result<Vec<u8>, OutOfMemory>
 // Returns the lines that tell what is new of a node, and notes that it was told.
 fn news(
     alloc: Global,
+    name: &[u8],
     board: &Board,
     node: NodeId,
     told: &mut Told,
 ) -> Result<Vec<u8>, OutOfMemory> {
     let (figures, noticed) = (board.figures(node), board.noticed(node));
     let mut lines = Vec::new(alloc);
-    put_news(&mut lines, u64::from(node.number), told, &figures, &noticed)?;
+    let number = u64::from(node.number);
+    put_news(&mut lines, name, number, told, &figures, &noticed)?;
     told.note(&figures, &noticed);
     Ok(lines)
 }
@@ -152,8 +170,14 @@ fn write<E: Write>(errors: &mut E, lines: Result<Vec<u8>, OutOfMemory>) {
 }
 
 impl ServerLog {
-    /// A log that has told nothing of this number of nodes.
-    pub fn new(alloc: Global, nodes: u8, is_quiet: bool) -> Result<ServerLog, OutOfMemory>
+    /// A log of the program with this name that has told nothing of this number of nodes, whose numbers follow on one another from the first.
+    pub fn new(
+        alloc: Global,
+        name: &'static [u8],
+        first: NodeId,
+        nodes: u8,
+        is_quiet: bool,
+    ) -> Result<ServerLog, OutOfMemory>
         ensures { IfOk result (λ made. made.is_quiet ≡ is_quiet) }
     {
         let mut told = Vec::new(alloc);
@@ -163,6 +187,8 @@ impl ServerLog {
         Ok(ServerLog {
             is_quiet,
             alloc,
+            name,
+            first: first.number,
             nodes,
             told,
             is_end_told: false,
@@ -183,11 +209,11 @@ impl ServerLog {
     fn tell_news<E: Write>(&mut self, board: &Board, errors: &mut E)
         ensures quiet { self.new.is_quiet ≡ self.old.is_quiet }
     {
-        for number in 0..self.nodes {
-            if let Some(node) = NodeId::from_number(number)
-                && let Some(told) = self.told.get_mut(usize::from(number))
+        for place in 0..self.nodes {
+            if let Some(node) = NodeId::from_number(self.first.saturating_add(place))
+                && let Some(told) = self.told.get_mut(usize::from(place))
             {
-                write(errors, news(self.alloc, board, node, told));
+                write(errors, news(self.alloc, self.name, board, node, told));
             }
         }
     }
@@ -200,7 +226,7 @@ impl ServerLog {
             return;
         }
         if let Some(why) = signals.why() {
-            write(errors, end_line(self.alloc, why));
+            write(errors, end_line(self.alloc, self.name, why));
             self.is_end_told = true;
         }
     }

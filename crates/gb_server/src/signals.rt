@@ -65,9 +65,9 @@ pub struct Signals {
 }
 
 impl Signals {
-    /// A server that has not begun, with this number of nodes.
-    pub fn new(alloc: Global, nodes: u8) -> Result<Signals, OutOfMemory> {
-        let board = Board::new(alloc, nodes)?;
+    /// A server that has not begun, with this number of nodes, whose numbers follow on one another from the first.
+    pub fn new(alloc: Global, first: NodeId, nodes: u8) -> Result<Signals, OutOfMemory> {
+        let board = Board::new(alloc, first, nodes)?;
         let count = u64::from(nodes);
         Ok(Signals {
             left: AtomicU64::new(count),

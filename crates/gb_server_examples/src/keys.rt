@@ -1,5 +1,6 @@
 //! Worked texts of keys, read in pieces and by readers that fail.
-use gb_server::keys::{KeyFault, Keys, read_keys};
+use gb_server::keys::{KeyFault, Keys, read_keys, run_key};
+use gb_types::token_word::read_token;
 use std::alloc::Global;
 use std::io::{ErrorKind, Read};
 use std::{cmp, io};
@@ -142,5 +143,28 @@ fn other_returns_are_characters(rt: HostRuntime) {
     for text in &RETURNS {
         let mut reader = *text;
         assert!(rt; matches!(read_keys(&mut reader), Err(KeyFault::Long { .. })));
+    }
+}
+
+// Runs, and their keys where the cluster's key is 32 bytes 11.
+static RUNS: [(u64, &[u8]); 3] = [
+    (
+        1,
+        b"c954c08e20e2252a1ad94fe76ef661e3bb548afcb86d9b3b5042bf90d407a77e",
+    ),
+    (
+        7,
+        b"b5c3e17d4f98ee2a8121d6d51fb26f62b638f9bacd524a11a09c79452122a5bc",
+    ),
+    (
+        u64::MAX,
+        b"d60b2c63efc21cc97468d9d32b9dc2fb438da70932f601d66b32c8e2ef3a3383",
+    ),
+];
+
+#[test]
+fn each_run_has_a_key(rt: HostRuntime) {
+    for (run, key) in &RUNS {
+        assert!(rt; read_token(key) == Some(run_key(&[0x11; 32], *run)));
     }
 }

@@ -17,6 +17,8 @@ mod served;
 #[cfg(test)]
 mod socket_clients;
 #[cfg(test)]
+mod statuses;
+#[cfg(test)]
 mod stops;
 #[cfg(test)]
 mod talks;

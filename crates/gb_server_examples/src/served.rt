@@ -10,6 +10,9 @@ use std::thread;
 use std::thread::Threads;
 use std::time::Clock;
 
+/// The number of the run of the servers here.
+pub const RUN: u64 = 1;
+
 /// The keys of the servers here: the cluster's, 32 bytes 11, and the administrator's, 32 bytes 22.
 pub static KEYS: &[u8] =
     b"1111111111111111111111111111111111111111111111111111111111111111\n2222222222222222222222222222222222222222222222222222222222222222\n";
@@ -32,7 +35,15 @@ pub fn run_of<H: Net<Listener = TcpListener, Stream = TcpStream> + Threads + Wai
     let mut reader = input;
     let mut lines = Vec::new(alloc);
     let mut errors = Vec::new(alloc);
-    let status = serve_main(rt, alloc, words, &mut reader, &mut lines, &mut errors);
+    let status = serve_main(
+        rt,
+        alloc,
+        words,
+        Some(RUN),
+        &mut reader,
+        &mut lines,
+        &mut errors,
+    );
     Run {
         status,
         lines,

@@ -1,6 +1,6 @@
 // Servers that standard input ends, and one that ends while standard input waits.
 use crate::messages::{DENIED, OPEN};
-use crate::served::{KEYS, Run, is_told, run_of};
+use crate::served::{KEYS, RUN, Run, is_told, run_of};
 use gb_server::input::Input;
 use gb_server::orders::{Heard, KEPT, hear};
 use gb_server::serve_main::serve_main;
@@ -52,7 +52,15 @@ fn run_later<H: Net<Listener = TcpListener, Stream = TcpStream> + Threads + Wait
     };
     let mut lines = Vec::new(alloc);
     let mut errors = Vec::new(alloc);
-    let status = serve_main(rt, alloc, words, &mut reader, &mut lines, &mut errors);
+    let status = serve_main(
+        rt,
+        alloc,
+        words,
+        Some(RUN),
+        &mut reader,
+        &mut lines,
+        &mut errors,
+    );
     Run {
         status,
         lines,

@@ -1,5 +1,5 @@
 -- What is asked for by HTTP, and how it is answered. Source: RFC 9112 (messages) and RFC 9110 (methods and status codes).
-use Rattle.std.specs.Prelude.{◌≡◌, ◌≢◌, ◌==◌, ℕ, Bool, true, false, List, [], ◌++◌, ◌∷◌, codes, decimal, length, if◌then◌else◌}
+use Rattle.std.specs.Prelude.{◌≡◌, ◌≢◌, ◌==◌, ℕ, Bool, false, List, [], ◌++◌, ◌∷◌, codes, decimal, length, if◌then◌else◌}
 use Rattle.std.specs.Str.{bytes_eq}
 use Rattle.httparse.specs.Grammar.{HasNoRequest, ReadsRequest, RequestHead}
 use Rattle.httparse.specs.Spans.{RequestOverflows}
@@ -7,7 +7,7 @@ use Rattle.std.specs.List.{list_all}
 use Rattle.gb_status.specs.Figures.{metrics_text, value_of}
 use Rattle.gb_status.specs.Names.{line_feed}
 use Rattle.gb_status.specs.declared.figure.Figure.TheVariants.{Running}
-use Rattle.gb_status.specs.declared.figures.Figures.{Figures}
+use Rattle.gb_status.specs.declared.figures.NodeFigures.{NodeFigures}
 use Rattle.gb_status.specs.declared.http.Asked.{Asked}
 use Rattle.gb_status.specs.declared.http.Asked.TheVariants.{Metrics, Health, OtherPlace, OtherMethod, More, NoRequest}
 use Rattle.gb_status.specs.declared.http.Code.{Code}
@@ -65,19 +65,19 @@ note_of More is_serving = codes "no request" ++ line_feed
 note_of NoRequest is_serving = codes "no request" ++ line_feed
 
 -- the figures, where they are asked for
-abbrev pub figures_for : Asked → List Figures → List ℕ
+abbrev pub figures_for : Asked → List NodeFigures → List ℕ
 figures_for Metrics all = metrics_text all
 figures_for other all = []
 
 -- the answer to what is asked for
-abbrev pub answer_of : Asked → List Figures → Bool → List ℕ
+abbrev pub answer_of : Asked → List NodeFigures → Bool → List ℕ
 answer_of asked all is_serving = response_text (code_of asked is_serving) (figures_for asked all ++ note_of asked is_serving)
 
 -- The text answers what these bytes ask for. A head that is not whole is answered only where no more may come.
-abbrev pub IsReply : List ℕ → Bool → List Figures → Bool → List ℕ → Type 0
+abbrev pub IsReply : List ℕ → Bool → List NodeFigures → Bool → List ℕ → Type 0
 IsReply bytes may_come all is_serving text =
     (asked : Asked) × Asks bytes asked × (asked ≡ More → may_come ≡ false) × (text ≡ answer_of asked all is_serving)
 
--- the loops of all nodes run
-abbrev pub all_run : List Figures → Bool
-all_run all = list_all (λ figures. value_of figures Running == 1) all
+-- the loops of these nodes run
+abbrev pub all_run : List NodeFigures → Bool
+all_run all = list_all (λ row. value_of row.figures Running == 1) all

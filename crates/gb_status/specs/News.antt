@@ -3,38 +3,37 @@ use Rattle.std.specs.Prelude.{ℕ, Bool, List, [], ◌++◌, ◌||◌, codes, de
 use Rattle.std.specs.FinSet as set
 use Rattle.std.specs.List.{flat_map}
 use Rattle.std.specs.Ordering.{nat_cmp}
-use Rattle.gb_types.specs.Rising.{rising}
 use Rattle.gb_status.specs.Figures.{value_of}
 use Rattle.gb_status.specs.Names.{line_feed}
 use Rattle.gb_status.specs.declared.figure.Figure.TheVariants.{Lost, RefusedOutOfMemory, TurnedAway}
 use Rattle.gb_status.specs.declared.figures.Figures.{Figures}
 use Rattle.gb_status.specs.declared.news.Told.{Told}
 
--- what a line of the log that tells of a node begins with
-abbrev pub front_of : ℕ → List ℕ
-front_of node = codes "gb_serve: node " ++ decimal node
+-- what a line of the log that tells of a node begins with: the name of the program, and the node's number
+abbrev pub front_of : List ℕ → ℕ → List ℕ
+front_of name node = name ++ codes ": node " ++ decimal node
 
 -- a line that tells of a node
-abbrev pub line_of : ℕ → List ℕ → List ℕ
-line_of node words = front_of node ++ (words ++ line_feed)
+abbrev pub line_of : List ℕ → ℕ → List ℕ → List ℕ
+line_of name node words = front_of name node ++ (words ++ line_feed)
 
 -- the node noticed another one
-abbrev pub noticed_line : ℕ → ℕ → List ℕ
-noticed_line node other = front_of node ++ (codes " noticed node " ++ decimal other) ++ (codes " as crashed" ++ line_feed)
+abbrev pub noticed_line : List ℕ → ℕ → ℕ → List ℕ
+noticed_line name node other = front_of name node ++ (codes " noticed node " ++ decimal other) ++ (codes " as crashed" ++ line_feed)
 
 -- the line of a noticed node, unless it was told before
-abbrev pub notice_of : ℕ → set.FinSet nat_cmp → ℕ → List ℕ
-notice_of node told other = if set.contains told other then [] else noticed_line node other
+abbrev pub notice_of : List ℕ → ℕ → set.FinSet nat_cmp → ℕ → List ℕ
+notice_of name node told other = if set.contains told other then [] else noticed_line name node other
 
 -- the lines of all noticed nodes, rising, but those that were told before
-abbrev pub notices_of : ℕ → set.FinSet nat_cmp → List ℕ → List ℕ
-notices_of node told noticed = flat_map (notice_of node told) noticed
+abbrev pub notices_of : List ℕ → ℕ → set.FinSet nat_cmp → List ℕ → List ℕ
+notices_of name node told noticed = flat_map (notice_of name node told) noticed
 
-abbrev pub full_line : ℕ → List ℕ
-full_line node = line_of node (codes " has as many connections as are allowed, and closes more")
+abbrev pub full_line : List ℕ → ℕ → List ℕ
+full_line name node = line_of name node (codes " has as many connections as are allowed, and closes more")
 
-abbrev pub short_line : ℕ → List ℕ
-short_line node = line_of node (codes " lacked memory")
+abbrev pub short_line : List ℕ → ℕ → List ℕ
+short_line name node = line_of name node (codes " lacked memory")
 
 -- a connection was closed since as many were open as are allowed
 abbrev pub is_full : Figures → Bool
@@ -49,6 +48,6 @@ abbrev pub once : Bool → Bool → List ℕ → List ℕ
 once is_told is_so line = if is_told then [] else (if is_so then line else [])
 
 -- what is new of a node
-abbrev pub news_of : ℕ → Told → Figures → List ℕ → List ℕ
-news_of node told figures noticed =
-    notices_of node told.noticed noticed ++ once told.is_full (is_full figures) (full_line node) ++ once told.is_short (is_short figures) (short_line node)
+abbrev pub news_of : List ℕ → ℕ → Told → Figures → List ℕ → List ℕ
+news_of name node told figures noticed =
+    notices_of name node told.noticed noticed ++ once told.is_full (is_full figures) (full_line name node) ++ once told.is_short (is_short figures) (short_line name node)

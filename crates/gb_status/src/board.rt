@@ -1,6 +1,6 @@
 //! Where the threads of nodes put their figures for others to read.
 use crate::figure::COUNT;
-use crate::figures::Figures;
+use crate::figures::{Figures, NodeFigures};
 use gb_types::limits::NODES;
 use gb_types::memory::OutOfMemory;
 use gb_types::node::{NodeId, NodeSet};
@@ -11,7 +11,9 @@ use std::sync::atomic::{AtomicU64, Ordering};
 /// those of a node may come from two puts.
 #[derive(Drop)]
 pub struct Board {
-    nodes: u8,
+    // The nodes that have a place: `count` of them from number `first` on.
+    first: u8,
+    count: u8,
     numbers: Vec<AtomicU64>,
     // The bit with a noticed node's number is 1.
     noticed: Vec<AtomicU64>,
@@ -40,43 +42,60 @@ fn set_of(bits: u64) -> NodeSet {
 }
 
 impl Board {
-    /// A board for this number of nodes, all of whose numbers are 0.
-    pub fn new(alloc: Global, nodes: u8) -> Result<Board, OutOfMemory> {
+    /// A board for this number of nodes from one on, all of whose numbers are 0.
+    pub fn new(alloc: Global, first: NodeId, count: u8) -> Result<Board, OutOfMemory> {
         let mut numbers = Vec::new(alloc);
         let mut noticed = Vec::new(alloc);
-        for _ in 0..nodes {
+        for _ in 0..count {
             noticed.push(AtomicU64::new(0))?;
             for _ in 0..COUNT {
                 numbers.push(AtomicU64::new(0))?;
             }
         }
         Ok(Board {
-            nodes,
+            first: first.number,
+            count,
             numbers,
             noticed,
         })
     }
 
-    /// Puts the figures of a node there, and the nodes that it noticed.
+    // The place of a node; None: it has none.
+    fn place(&self, node: NodeId) -> Option<u8> {
+        let place = node.number.checked_sub(self.first)?;
+        if place < self.count {
+            Some(place)
+        } else {
+            None
+        }
+    }
+
+    /// Puts the figures of a node there, and the nodes that it noticed. Those of a node that has no place are lost.
     pub fn put(&self, node: NodeId, figures: &Figures, noticed: &NodeSet) {
-        if let Some(word) = self.noticed.get(node.index()) {
+        let Some(place) = self.place(node) else {
+            return;
+        };
+        if let Some(word) = self.noticed.get(usize::from(place)) {
             word.store(bits_of(noticed), Ordering::SeqCst);
         }
-        let first = node.index() * COUNT;
-        for place in 0..COUNT {
-            if let Some(number) = self.numbers.get(first + place) {
-                number.store(figures.numbers[place], Ordering::SeqCst);
+        let row = usize::from(place) * COUNT;
+        for figure in 0..COUNT {
+            if let Some(number) = self.numbers.get(row + figure) {
+                number.store(figures.numbers[figure], Ordering::SeqCst);
             }
         }
     }
 
-    /// The figures of a node that stand there; nothing counted for a node that it has no place for.
+    /// The figures of a node that stand there; nothing counted for a node that has no place.
     pub fn figures(&self, node: NodeId) -> Figures {
-        let first = node.index() * COUNT;
         let mut figures = Figures::new();
-        for place in 0..COUNT {
-            if let Some(number) = self.numbers.get(first + place) {
-                figures.numbers[place] = number.load(Ordering::SeqCst);
+        let Some(place) = self.place(node) else {
+            return figures;
+        };
+        let row = usize::from(place) * COUNT;
+        for figure in 0..COUNT {
+            if let Some(number) = self.numbers.get(row + figure) {
+                figures.numbers[figure] = number.load(Ordering::SeqCst);
             }
         }
         figures
@@ -84,18 +103,22 @@ impl Board {
 
     /// The nodes that a node noticed, as they stand there.
     pub fn noticed(&self, node: NodeId) -> NodeSet {
-        match self.noticed.get(node.index()) {
-            Some(word) => set_of(word.load(Ordering::SeqCst)),
+        match self.place(node) {
+            Some(place) => match self.noticed.get(usize::from(place)) {
+                Some(word) => set_of(word.load(Ordering::SeqCst)),
+                None => NodeSet::new(),
+            },
             None => NodeSet::new(),
         }
     }
 
-    /// The figures of all nodes that stand there, the first of which is node 0.
-    pub fn all(&self, alloc: Global) -> Result<Vec<Figures>, OutOfMemory> {
+    /// The figures that stand there of the nodes that have a place, in the order of their numbers.
+    pub fn all(&self, alloc: Global) -> Result<Vec<NodeFigures>, OutOfMemory> {
         let mut all = Vec::new(alloc);
-        for number in 0..self.nodes {
-            if let Some(node) = NodeId::from_number(number) {
-                all.push(self.figures(node))?;
+        for place in 0..self.count {
+            if let Some(node) = NodeId::from_number(self.first.saturating_add(place)) {
+                let figures = self.figures(node);
+                all.push(NodeFigures { node, figures })?;
             }
         }
         Ok(all)

@@ -4,12 +4,20 @@ ghost use Rattle.gb_status.specs.Figures.{value_of, capped};
 ghost use Rattle.gb_status.specs.Names.{place_of};
 
 use crate::figure::{COUNT, Figure};
+use gb_types::node::NodeId;
 
 /// What a node has counted: a number for each figure, at most 2^64 - 1.
 #[derive(Clone, Copy)]
 pub struct Figures {
     /// The number of each figure, at its place.
     pub numbers: [u64; COUNT],
+}
+
+/// What the node with a number has counted.
+#[derive(Clone, Copy)]
+pub struct NodeFigures {
+    pub node: NodeId,
+    pub figures: Figures,
 }
 
 impl Figures {

@@ -3,7 +3,7 @@ ghost use Rattle.std.specs.Prelude.{◌≡◌, IfNone, IfOk, IfSome, true};
 ghost use Rattle.gb_status.specs.Http.{Asks, IsReply, all_run, answer_of, code_of, lines_of, note_of, place_asked, response_text};
 
 use crate::figure::Figure;
-use crate::figures::Figures;
+use crate::figures::NodeFigures;
 use crate::text::metrics_text;
 use gb_types::memory::{OutOfMemory, put_bytes};
 use gb_types::number::put_number;
@@ -145,11 +145,11 @@ fn note_of(asked: Asked, is_serving: bool) -> &'static [u8]
     }
 }
 
-/// The answer to what is asked for: the figures of all nodes, or whether they are served, or why there is neither.
+/// The answer to what is asked for: the figures of these nodes, or whether they are served, or why there is neither.
 pub fn answer(
     alloc: Global,
     asked: Asked,
-    all: &[Figures],
+    all: &[NodeFigures],
     is_serving: bool,
 ) -> Result<Vec<u8>, OutOfMemory>
     ensures { IfOk result (λ text. text.items ≡ answer_of asked all.now is_serving) }
@@ -167,7 +167,7 @@ pub fn reply(
     alloc: Global,
     bytes: &[u8],
     may_come: bool,
-    all: &[Figures],
+    all: &[NodeFigures],
     is_serving: bool,
 ) -> Result<Option<Vec<u8>>, OutOfMemory>
     ensures some { IfOk result (λ reply. IfSome reply (λ text. IsReply bytes.now may_come all.now is_serving text.items)) }
@@ -181,10 +181,10 @@ pub fn reply(
     Ok(Some(text))
 }
 
-/// Returns true if the loops of all nodes run.
-pub fn all_run(all: &[Figures]) -> bool
+/// Returns true if the loops of these nodes run.
+pub fn all_run(all: &[NodeFigures]) -> bool
     ensures { result ≡ all_run all.now }
 {
     all.iter()
-        .all(|figures| figures.value(Figure::Running) == 1)
+        .all(|row| row.figures.value(Figure::Running) == 1)
 }

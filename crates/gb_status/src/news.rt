@@ -77,18 +77,19 @@ fn put_last(out: &mut Vec<u8>, words: &[u8]) -> Result<(), OutOfMemory>
     put_bytes(out, b"\n")
 }
 
-// Appends the front of a line that tells of a node.
-fn put_front(out: &mut Vec<u8>, node: u64) -> Result<(), OutOfMemory>
-    ensures { OnOk result (out.new.items ≡ out.old.items ++ front_of node) }
+// Appends the front of a line that tells of a node: the name of the program, and the node's number.
+fn put_front(out: &mut Vec<u8>, name: &[u8], node: u64) -> Result<(), OutOfMemory>
+    ensures { OnOk result (out.new.items ≡ out.old.items ++ front_of name.now node) }
 {
-    put_numbered(out, b"gb_serve: node ", node)
+    put_bytes(out, name)?;
+    put_numbered(out, b": node ", node)
 }
 
 // Appends the line of a noticed node.
-fn put_noticed(out: &mut Vec<u8>, node: u64, other: u64) -> Result<(), OutOfMemory>
-    ensures { OnOk result (out.new.items ≡ out.old.items ++ noticed_line node other) }
+fn put_noticed(out: &mut Vec<u8>, name: &[u8], node: u64, other: u64) -> Result<(), OutOfMemory>
+    ensures { OnOk result (out.new.items ≡ out.old.items ++ noticed_line name.now node other) }
 {
-    put_front(out, node)?;
+    put_front(out, name, node)?;
     put_numbered(out, b" noticed node ", other)?;
     put_last(out, b" as crashed")
 }
@@ -96,29 +97,31 @@ fn put_noticed(out: &mut Vec<u8>, node: u64, other: u64) -> Result<(), OutOfMemo
 // Appends the line of a noticed node, unless it was told before.
 fn put_notice(
     out: &mut Vec<u8>,
+    name: &[u8],
     node: u64,
     told: &NodeSet,
     other: NodeId,
 ) -> Result<(), OutOfMemory>
-    ensures { OnOk result (out.new.items ≡ out.old.items ++ notice_of node told.now other.number) }
+    ensures { OnOk result (out.new.items ≡ out.old.items ++ notice_of name.now node told.now other.number) }
 {
     if told.contains(other) {
         return Ok(());
     }
-    put_noticed(out, node, u64::from(other.number))
+    put_noticed(out, name, node, u64::from(other.number))
 }
 
 // Appends the lines of the noticed nodes that were not told before.
 fn put_notices(
     out: &mut Vec<u8>,
+    name: &[u8],
     node: u64,
     told: &NodeSet,
     noticed: &NodeSet,
 ) -> Result<(), OutOfMemory>
-    ensures { OnOk result (out.new.items ≡ out.old.items ++ notices_of node told.now (rising noticed.now)) }
+    ensures { OnOk result (out.new.items ≡ out.old.items ++ notices_of name.now node told.now (rising noticed.now)) }
 {
     for other in noticed.nodes() {
-        put_notice(out, node, told, other)?;
+        put_notice(out, name, node, told, other)?;
     }
     Ok(())
 }
@@ -126,12 +129,13 @@ fn put_notices(
 // Appends a line that tells of a node, if it is so and was not told before.
 fn put_once(
     out: &mut Vec<u8>,
+    name: &[u8],
     node: u64,
     is_told: bool,
     is_so: bool,
     words: &[u8],
 ) -> Result<(), OutOfMemory>
-    ensures { OnOk result (out.new.items ≡ out.old.items ++ once is_told is_so (line_of node words.now)) }
+    ensures { OnOk result (out.new.items ≡ out.old.items ++ once is_told is_so (line_of name.now node words.now)) }
 {
     if is_told {
         return Ok(());
@@ -139,16 +143,23 @@ fn put_once(
     if !is_so {
         return Ok(());
     }
-    put_front(out, node)?;
+    put_front(out, name, node)?;
     put_last(out, words)
 }
 
 // Appends that a node has as many connections as are allowed, once.
-fn put_full(out: &mut Vec<u8>, node: u64, told: &Told, figures: &Figures) -> Result<(), OutOfMemory>
-    ensures { OnOk result (out.new.items ≡ out.old.items ++ once told.now.is_full (is_full figures.now) (full_line node)) }
+fn put_full(
+    out: &mut Vec<u8>,
+    name: &[u8],
+    node: u64,
+    told: &Told,
+    figures: &Figures,
+) -> Result<(), OutOfMemory>
+    ensures { OnOk result (out.new.items ≡ out.old.items ++ once told.now.is_full (is_full figures.now) (full_line name.now node)) }
 {
     put_once(
         out,
+        name,
         node,
         told.is_full,
         is_full(figures),
@@ -159,14 +170,16 @@ fn put_full(out: &mut Vec<u8>, node: u64, told: &Told, figures: &Figures) -> Res
 // Appends that a node lacked memory, once.
 fn put_short(
     out: &mut Vec<u8>,
+    name: &[u8],
     node: u64,
     told: &Told,
     figures: &Figures,
 ) -> Result<(), OutOfMemory>
-    ensures { OnOk result (out.new.items ≡ out.old.items ++ once told.now.is_short (is_short figures.now) (short_line node)) }
+    ensures { OnOk result (out.new.items ≡ out.old.items ++ once told.now.is_short (is_short figures.now) (short_line name.now node)) }
 {
     put_once(
         out,
+        name,
         node,
         told.is_short,
         is_short(figures),
@@ -174,17 +187,19 @@ fn put_short(
     )
 }
 
-/// Appends the lines that tell what is new of the node with this number, by its figures and the nodes that it noticed.
+/// Appends the lines that tell what is new of the node with this number, by its figures and the nodes that it noticed. Each begins with the
+/// name of the program.
 pub fn put_news(
     out: &mut Vec<u8>,
+    name: &[u8],
     node: u64,
     told: &Told,
     figures: &Figures,
     noticed: &NodeSet,
 ) -> Result<(), OutOfMemory>
-    ensures { OnOk result (out.new.items ≡ out.old.items ++ news_of node told.now figures.now (rising noticed.now)) }
+    ensures { OnOk result (out.new.items ≡ out.old.items ++ news_of name.now node told.now figures.now (rising noticed.now)) }
 {
-    put_notices(out, node, &told.noticed, noticed)?;
-    put_full(out, node, told, figures)?;
-    put_short(out, node, told, figures)
+    put_notices(out, name, node, &told.noticed, noticed)?;
+    put_full(out, name, node, told, figures)?;
+    put_short(out, name, node, told, figures)
 }

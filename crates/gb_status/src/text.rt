@@ -1,10 +1,10 @@
 //! How figures are written.
 ghost use Rattle.std.specs.Prelude.{◌≡◌, ◌++◌, IfOk, OnOk};
 ghost use Rattle.std.specs.List.{flat_map};
-ghost use Rattle.gb_status.specs.Figures.{figure_text, front_text, line_text, metrics_text, status_text, value_at, word_text, words_text};
+ghost use Rattle.gb_status.specs.Figures.{figure_text, front_text, line_text, metrics_text, status_text, word_text, words_text};
 
 use crate::figure::{FIGURES, Figure};
-use crate::figures::Figures;
+use crate::figures::{Figures, NodeFigures};
 use gb_types::memory::{OutOfMemory, put_bytes};
 use gb_types::number::put_number;
 use std::alloc::Global;
@@ -30,29 +30,24 @@ fn put_line(out: &mut Vec<u8>, figure: Figure, node: u64, number: u64) -> Result
     put_bytes(out, b"\n")
 }
 
-// The number of a node's figure, and 0 for a node that is not there.
-fn value_at(all: &[Figures], node: usize, figure: Figure) -> u64
-    ensures { result ≡ value_at all.now node figure }
-{
-    match all.get(node) {
-        Some(figures) => figures.value(figure),
-        None => 0,
-    }
-}
-
 // Appends the lines of a figure, one for each node, with those that stand above them.
-fn put_figure(out: &mut Vec<u8>, figure: Figure, all: &[Figures]) -> Result<(), OutOfMemory>
+fn put_figure(out: &mut Vec<u8>, figure: Figure, all: &[NodeFigures]) -> Result<(), OutOfMemory>
     ensures { OnOk result (out.new.items ≡ out.old.items ++ figure_text all.now figure) }
 {
     put_bytes(out, figure.head())?;
-    for node in 0..all.len() {
-        put_line(out, figure, node as u64, value_at(all, node, figure))?;
+    for row in all {
+        let (node, number) = (u64::from(row.node.number), row.figures.value(figure));
+        put_line(out, figure, node, number)?;
     }
     Ok(())
 }
 
 // Appends figures of all nodes.
-fn put_figures(out: &mut Vec<u8>, figures: &[Figure], all: &[Figures]) -> Result<(), OutOfMemory>
+fn put_figures(
+    out: &mut Vec<u8>,
+    figures: &[Figure],
+    all: &[NodeFigures],
+) -> Result<(), OutOfMemory>
     ensures { OnOk result (out.new.items ≡ out.old.items ++ flat_map (figure_text all.now) figures.now) }
 {
     for figure in figures {
@@ -61,8 +56,8 @@ fn put_figures(out: &mut Vec<u8>, figures: &[Figure], all: &[Figures]) -> Result
     Ok(())
 }
 
-/// The figures of nodes, of which the first is node 0, in the text exposition format 0.0.4 of Prometheus.
-pub fn metrics_text(alloc: Global, all: &[Figures]) -> Result<Vec<u8>, OutOfMemory>
+/// The figures of these nodes in the text exposition format 0.0.4 of Prometheus.
+pub fn metrics_text(alloc: Global, all: &[NodeFigures]) -> Result<Vec<u8>, OutOfMemory>
     ensures { IfOk result (λ text. text.items ≡ metrics_text all.now) }
 {
     let mut out = Vec::new(alloc);

@@ -1,7 +1,9 @@
 //! Worked figures of nodes, and how they are told.
+ghost use Rattle.std.specs.Prelude.{◌<◌};
+
 use gb_status::board::Board;
 use gb_status::figure::{COUNT, FIGURES, Figure};
-use gb_status::figures::Figures;
+use gb_status::figures::{Figures, NodeFigures};
 use gb_status::http::{Asked, answer, asked_for};
 use gb_status::text::{metrics_text, status_text};
 use gb_types::node::{NodeId, NodeSet};
@@ -50,9 +52,35 @@ static SAYS: &[u8] = b"foqradesh_requests_total{node=\"0\",kind=\"say\"} 0\nforg
 static FIRST: &[u8] =
     b"# HELP foqradesh_requests_total Requests answered, by kind.\n# TYPE foqradesh_requests_total counter\nforeign";
 
+// The figures of the node with this number.
+fn row(number: u8, figures: Figures) -> NodeFigures
+    requires { number < 32 }
+{
+    NodeFigures {
+        node: NodeId::new(number),
+        figures,
+    }
+}
+
+#[test]
+fn metrics_of_one_node_have_its_number(rt: HostRuntime) {
+    let Ok(text) = metrics_text(rt.alloc(), &[row(31, some_figures())]) else {
+        assert!(rt; false, "memory");
+        return;
+    };
+    assert!(rt;
+        has(
+            &text,
+            b"foqradesh_requests_total{node=\"31\",kind=\"say\"} 7\n"
+        )
+    );
+    assert!(rt; text.iter().filter(|byte| **byte == b'{').count() == COUNT);
+    assert!(rt; text.ends_with(b"foqradesh_node_running{node=\"31\"} 0\n"));
+}
+
 #[test]
 fn metrics_are_told_of_each_node(rt: HostRuntime) {
-    let all = [Figures::new(), some_figures()];
+    let all = [row(0, Figures::new()), row(1, some_figures())];
     let Ok(text) = metrics_text(rt.alloc(), &all) else {
         assert!(rt; false, "memory");
         return;
@@ -134,8 +162,32 @@ fn answers_are_whole(rt: HostRuntime) {
 }
 
 #[test]
+fn a_board_has_places_from_a_node_on(rt: HostRuntime) {
+    let alloc = rt.alloc();
+    let Ok(board) = Board::new(alloc, NodeId::new(30), 2) else {
+        assert!(rt; false, "memory");
+        return;
+    };
+    let noticed = NodeSet::new();
+    for number in [0u8, 29, 30] {
+        board.put(NodeId::new(number), &some_figures(), &noticed);
+    }
+    let Ok(all) = board.all(alloc) else {
+        assert!(rt; false, "memory");
+        return;
+    };
+    let [first, second] = all.as_slice() else {
+        assert!(rt; false, "two rows");
+        return;
+    };
+    assert!(rt; first.node.number == 30 && first.figures.value(Figure::RequestsSay) == 7);
+    assert!(rt; second.node.number == 31 && second.figures.value(Figure::RequestsSay) == 0);
+    assert!(rt; board.figures(NodeId::new(29)).value(Figure::RequestsSay) == 0);
+}
+
+#[test]
 fn a_board_shows_what_was_put_there(rt: HostRuntime) {
-    let Ok(board) = Board::new(rt.alloc(), 2) else {
+    let Ok(board) = Board::new(rt.alloc(), NodeId::new(0), 2) else {
         assert!(rt; false, "memory");
         return;
     };

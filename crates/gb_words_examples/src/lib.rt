@@ -1,4 +1,4 @@
-//! Worked words, as tests: command lines of the client and the server, and the requests, tokens and plans that they ask for; each
+//! Worked words, as tests: command lines of the client, the server and gb_peer, and the requests, tokens and plans that they ask for; each
 //! spelling of a session's request; and replies, and what the client shows of them. There is nothing here but tests.
 #![tactic(auto)]
 
@@ -10,6 +10,8 @@ mod errands;
 mod figures;
 #[cfg(test)]
 mod operations;
+#[cfg(test)]
+mod peer;
 #[cfg(test)]
 mod replies;
 #[cfg(test)]

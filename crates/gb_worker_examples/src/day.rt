@@ -169,8 +169,8 @@ fn say_crosses_rings(rt: HostRuntime) {
 fn say_crosses_sockets(rt: HostRuntime) {
     let alloc = rt.alloc();
     for (version, words) in &SAID {
-        let first = UdpPort::bind(&rt, alloc, FIRST, 2, BASE).expect(&rt, "node 0's socket");
-        let second = UdpPort::bind(&rt, alloc, SECOND, 2, BASE).expect(&rt, "node 1's socket");
+        let first = UdpPort::bind_loopback(&rt, alloc, FIRST, 2, BASE).expect(&rt, "node 0's socket");
+        let second = UdpPort::bind_loopback(&rt, alloc, SECOND, 2, BASE).expect(&rt, "node 1's socket");
         let is_found = crosses(&rt, alloc, *version, words, (first, second));
         assert!(rt; is_found);
     }

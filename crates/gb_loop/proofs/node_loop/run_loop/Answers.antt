@@ -1,4 +1,4 @@
-use Rattle.std.proofs.Common.{◌≡◌, List, ap, ◌∙◌, subst, sym}
+use Rattle.std.proofs.Common.{List, ap, ◌∙◌, subst}
 use Rattle.gb_types.specs.declared.node.NodeId.{NodeId}
 use Rattle.gb_host.specs.SeatValue.{SeatValue}
 use Rattle.gb_host.specs.declared.entry.SeatEntry.{SeatEntry}

@@ -1,4 +1,4 @@
-use Rattle.std.proofs.Common.{◌≡◌, ◌++◌, Err, List, [], ap, append-nil, refl, subst, sym, ℕ}
+use Rattle.std.proofs.Common.{Err, List, ap, append-nil, refl, subst, sym, ℕ}
 use Rattle.std.specs.Io.KnownBytes.{Appends}
 use Rattle.gb_session.proofs.RunLemmas.{Consumes-join}
 use Rattle.gb_server.specs.Told.{serving_line}
@@ -23,6 +23,8 @@ returns-clause-served g c = λ closed.
       consumed = Consumes-join (g.R.Read.remaining c.args.reader.now) (g.R.Read.remaining c.read_keys.new.reader) (g.R.Read.remaining c.serve_plan.new.reader) keys.0 read.0 keys.1 read.1;
       keys = c.in-Ok.keys;
       spelt = keys.2;
+      number = c.in-Some.number;
+      numbered = c.in-Some.is;
       seats = ends.0;
       ends = ends.1;
       told = subst (λ (w : List ℕ). Appends (g.W.Write.contents c.args.writer.now) (g.W.Write.contents c.serve_plan.new.writer) w)

@@ -5,4 +5,4 @@ use Rattle.gb_status.proofs.news.put_notices.Given as goal
 
 -- with the lines of the nodes that are still to come all is written
 abbrev pub invariant-loop-other : goal.invariant-loop-other
-invariant-loop-other l = l.out.items ++ notices_of l.node l.told l.other-iterator ≡ l.fn.out.items ++ notices_of l.node l.told (rising l.noticed)
+invariant-loop-other l = l.out.items ++ notices_of l.name l.node l.told l.other-iterator ≡ l.fn.out.items ++ notices_of l.name l.node l.told (rising l.noticed)

@@ -1,5 +1,5 @@
 use Rattle.std.proofs.Common.{◌≡◌}
 use Rattle.gb_server.proofs.server_log.ServerLog.tell_news.Given as goal
 
-abbrev pub invariant-loop-number : goal.invariant-loop-number
-invariant-loop-number g l = l.self.is_quiet ≡ l.initial.self.is_quiet
+abbrev pub invariant-loop-place : goal.invariant-loop-place
+invariant-loop-place g l = l.self.is_quiet ≡ l.initial.self.is_quiet

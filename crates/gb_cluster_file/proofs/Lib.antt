@@ -1,0 +1,3 @@
+mod PlaceLemmas
+mod ViewLemmas
+mod FaultLemmas

@@ -1,0 +1,8 @@
+use Rattle.std.proofs.Common.{◌≡◌, ℕ, ◌<◌, Some}
+use Rattle.toml.specs.Data.{Data, get_item}
+use Rattle.toml.specs.View.{view, items_view}
+use Rattle.gb_cluster_file.specs.Cluster.{IsSame}
+use Rattle.gb_cluster_file.proofs.check.first_same.Given as goal
+
+abbrev pub invariant-loop-first : goal.invariant-loop-first
+invariant-loop-first l = (k : ℕ) (one : Data) → k < l.first → get_item k (items_view l.values) ≡ Some one → IsSame l.field one (view l.last) → ⊥

@@ -1,0 +1,87 @@
+//! The fields of the file.
+ghost use Rattle.std.specs.Prelude.{◌≡◌};
+ghost use Rattle.gb_cluster_file.specs.Fields.{name_of, place_name_of, is_name, is_place_name, least_of, most_of};
+
+/// A field at the top of the file that holds a number.
+#[derive(Clone, Copy, Debug, PartialEq, Eq)]
+pub enum Field {
+    /// The number of the run.
+    Run,
+    /// The milliseconds between two ticks.
+    Tick,
+    /// The ticks without a good packet after which a node is noticed.
+    Silence,
+    /// The version of packets.
+    Version,
+}
+
+/// A field of a node.
+#[derive(Clone, Copy, Debug, PartialEq, Eq)]
+pub enum PlaceField {
+    /// Where the node takes packets.
+    Packets,
+    /// Where the node takes sessions.
+    Sessions,
+}
+
+impl Field {
+    /// Returns the field's name in the file.
+    pub fn name(self) -> &'static str
+        ensures { result.now ≡ name_of self }
+    {
+        match self {
+            Field::Run => "run",
+            Field::Tick => "tick",
+            Field::Silence => "silence",
+            Field::Version => "version",
+        }
+    }
+
+    /// Returns the least number that the field takes.
+    pub fn least(self) -> u64
+        ensures { result ≡ least_of self }
+    {
+        match self {
+            Field::Run | Field::Tick | Field::Version => 1,
+            Field::Silence => 2,
+        }
+    }
+
+    /// Returns the greatest number that the field takes; of the versions not every number up to it.
+    pub fn most(self) -> u64
+        ensures { result ≡ most_of self }
+    {
+        match self {
+            Field::Run => 9_223_372_036_854_775_807,
+            Field::Tick => 60_000,
+            Field::Silence => 1_000,
+            Field::Version => 255,
+        }
+    }
+}
+
+impl PlaceField {
+    /// Returns the field's name in the table of a node.
+    pub fn name(self) -> &'static str
+        ensures { result.now ≡ place_name_of self }
+    {
+        match self {
+            PlaceField::Packets => "packets",
+            PlaceField::Sessions => "sessions",
+        }
+    }
+}
+
+/// Whether a key at the top of the file names a field.
+pub fn is_field(key: &str) -> bool
+    ensures { result ≡ is_name key.now }
+{
+    key == "run" || key == "tick" || key == "silence" || key == "version" || key == "node"
+}
+
+/// Whether a key of a node's table names a field.
+pub fn is_place_field(key: &str) -> bool
+    ensures { result ≡ is_place_name key.now }
+{
+    key == "packets" || key == "sessions"
+}

@@ -1,0 +1,81 @@
+//! Serves one node of a cluster of several machines: reads the cluster's keys on standard input, and writes what it serves and how it ended. Why it
+//! did not serve to its end is told on standard error.
+#![tactic(auto)]
+
+use gb_peer_run::peer_main::peer_main;
+use gb_peer_words::words::{asked_text, refusal_text};
+use gb_server::fault::ServeFault;
+use gb_server::input::StandardInput;
+use gb_server::told::{status_of, tell, tell_end};
+use std::alloc::{AllocError, Global};
+use std::io;
+use std::io::{ErrorKind, Write};
+use std::process::ExitCode;
+
+// The words of the command line; none if they cannot be read although there is memory.
+fn words_of(rt: &HostRuntime, alloc: Global) -> Result<Vec<String>, AllocError> {
+    match std::env::args(rt) {
+        Ok(words) => words.collect(alloc),
+        Err(error) => match error.kind() {
+            ErrorKind::OutOfMemory => Err(AllocError),
+            _ => Ok(Vec::new(alloc)),
+        },
+    }
+}
+
+// The same, borrowed.
+fn texts_of(alloc: Global, words: &[String]) -> Result<Vec<&str>, AllocError> {
+    let mut texts: Vec<&str> = Vec::new(alloc);
+    for word in words {
+        texts.push(word.as_str())?;
+    }
+    Ok(texts)
+}
+
+// Tells that there is no memory for the words. The exit status.
+fn give_up(rt: &HostRuntime) -> ExitCode {
+    let outcome = Err(ServeFault::OutOfMemory);
+    let _ = tell_end(&mut io::writer(rt), outcome);
+    ExitCode::from(status_of(outcome))
+}
+
+// Prints what was asked for. The exit status.
+fn show(rt: &HostRuntime, text: &str) -> ExitCode {
+    if tell(&mut io::writer(rt), text.as_bytes()) {
+        ExitCode::from(0)
+    } else {
+        ExitCode::from(1)
+    }
+}
+
+/// Status 0: all connections were served, the node was told to end, or help was asked for; 1: a fault; 2: refused words or a refused file.
+fn main(rt: HostRuntime) -> ExitCode {
+    let alloc = rt.alloc();
+    let Ok(strings) = words_of(&rt, alloc) else {
+        return give_up(&rt);
+    };
+    let Ok(words) = texts_of(alloc, &strings) else {
+        return give_up(&rt);
+    };
+    match asked_text(alloc, &words) {
+        Ok(Some(text)) => return show(&rt, &text),
+        Ok(None) => (),
+        Err(AllocError) => return give_up(&rt),
+    }
+    let status = peer_main(
+        &rt,
+        alloc,
+        &words,
+        &mut StandardInput {
+            reader: rt.reader(),
+        },
+        &mut io::writer(&rt),
+        &mut rt.stderr(),
+    );
+    if status == 2
+        && let Ok(text) = refusal_text(alloc, &words)
+    {
+        let _ = write!(rt.stderr(), "{text}");
+    }
+    ExitCode::from(status)
+}

@@ -1,0 +1,12 @@
+//! Worked nodes of clusters of several machines, as tests: their files, marks and addresses, and whole nodes with their clients on sockets of this
+//! machine. There is nothing here but tests.
+#![tactic(auto)]
+
+#[cfg(test)]
+mod folders;
+#[cfg(test)]
+mod marks;
+#[cfg(test)]
+mod nodes;
+#[cfg(test)]
+mod refusals;

@@ -1,0 +1,51 @@
+// Marks of starts.
+use crate::folders::folder;
+use gb_peer_run::mark::{Marked, mark, mark_name};
+use std::fs;
+use std::os::unix::fs::PermissionsExt;
+use std::rt::HostRuntime;
+
+#[test]
+fn a_node_begins_once_in_a_run(rt: HostRuntime) {
+    let alloc = rt.alloc();
+    let name = folder(&rt, alloc).expect(&rt, "a folder");
+    // The node, another one, and the node in the next run: each begins once.
+    for (run, node) in [(7u64, 1u8), (7, 2), (8, 1), (u64::MAX, 31)] {
+        assert!(rt; mark(&rt, alloc, &name, run, node) == Ok(Marked::New));
+        assert!(rt; mark(&rt, alloc, &name, run, node) == Ok(Marked::Old));
+    }
+    let _ = fs::remove_dir_all(&rt, name.as_str());
+}
+
+#[test]
+fn a_mark_is_its_owners_alone(rt: HostRuntime) {
+    let alloc = rt.alloc();
+    let name = folder(&rt, alloc).expect(&rt, "a folder");
+    assert!(rt; mark(&rt, alloc, &name, 7, 1) == Ok(Marked::New));
+    let path = format!(in alloc; "{name}/run-7-node-1.mark").expect(&rt, "a name");
+    let found = fs::metadata(&rt, path.as_str()).expect(&rt, "a file");
+    assert!(rt; found.is_file() && found.permissions().mode() & 0o777 == 0o600);
+    let _ = fs::remove_dir_all(&rt, name.as_str());
+}
+
+#[test]
+fn a_folder_is_made_for_marks(rt: HostRuntime) {
+    let alloc = rt.alloc();
+    let name = folder(&rt, alloc).expect(&rt, "a folder");
+    let deeper = format!(in alloc; "{name}/a/b").expect(&rt, "a name");
+    assert!(rt; mark(&rt, alloc, &deeper, 7, 1) == Ok(Marked::New));
+    assert!(rt; mark(&rt, alloc, &deeper, 7, 1) == Ok(Marked::Old));
+    // A file is no folder.
+    let below = format!(in alloc; "{deeper}/run-7-node-1.mark").expect(&rt, "a name");
+    assert!(rt; mark(&rt, alloc, &below, 7, 1) == Ok(Marked::Failed));
+    let _ = fs::remove_dir_all(&rt, name.as_str());
+}
+
+#[test]
+fn a_mark_has_a_name(rt: HostRuntime) {
+    let Ok(name) = mark_name(rt.alloc(), "d", 18_446_744_073_709_551_615, 31) else {
+        assert!(rt; false, "memory");
+        return;
+    };
+    assert!(rt; name.as_slice() == b"d/run-18446744073709551615-node-31.mark".as_slice());
+}

@@ -1,0 +1,63 @@
+//! The file of the cluster, as it is read from the disk.
+ghost use Rattle.std.specs.Prelude.{◌≡◌, ℕ, List, IfOk, IfErr};
+ghost use Rattle.gb_cluster_file.specs.Cluster.{IsFileOf};
+
+use crate::complaint::NAME;
+use crate::fault::PeerFault;
+use gb_cluster_file::fault::FileFault;
+use gb_cluster_file::file::ClusterFile;
+use gb_cluster_file::read::read_cluster;
+use gb_cluster_file::words::fault_text;
+use gb_server::fault::ServeFault;
+use std::alloc::{AllocGlobal, Global};
+use std::fs;
+use std::fs::Files;
+use std::io::Write;
+use std::str;
+
+// Says why a file is refused.
+fn refuse<E: Write>(errors: &mut E, name: &str, why: &str) -> PeerFault
+    ensures { result ≡ PeerFault.RefusedFile }
+{
+    let _ = write!(errors, "{NAME}: {name}: {why}\n");
+    PeerFault::RefusedFile
+}
+
+// Says why a text is no file of a cluster.
+fn refuse_text<E: Write>(
+    alloc: Global,
+    errors: &mut E,
+    name: &str,
+    text: &str,
+    fault: FileFault,
+) -> PeerFault {
+    if fault == FileFault::OutOfMemory {
+        return PeerFault::Serve(ServeFault::OutOfMemory);
+    }
+    match fault_text(alloc, text, &fault) {
+        Ok(why) => refuse(errors, name, &why),
+        Err(_) => PeerFault::RefusedFile,
+    }
+}
+
+/// Returns what the file with this name says of a cluster. Why it is refused is written to `errors`: that it cannot be read, or which line or
+/// field of it is wrong.
+pub fn read_file<F: Files + AllocGlobal, E: Write>(
+    files: &F,
+    alloc: Global,
+    name: &str,
+    errors: &mut E,
+) -> Result<ClusterFile, PeerFault>
+    ensures { IfOk result (λ file. (text : List ℕ) × IsFileOf text file) }
+{
+    let Ok(bytes) = fs::read(files, name) else {
+        return Err(refuse(errors, name, "it cannot be read"));
+    };
+    let Ok(text) = str::from_utf8(&bytes) else {
+        return Err(refuse(errors, name, "it is no UTF-8 text"));
+    };
+    match read_cluster(alloc, text) {
+        Ok(file) => Ok(file),
+        Err(fault) => Err(refuse_text(alloc, errors, name, text, fault)),
+    }
+}

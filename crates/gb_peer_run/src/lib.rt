@@ -1,0 +1,14 @@
+//! One node of a cluster of several machines, from its words to its exit status: `cluster` is the host of the node, by the cluster's file and its
+//! keys, `places` where the nodes are reached, `mark` what a start in a run leaves on disk, and `told` what is printed. What serves is
+//! gb_server's `run::run`. Read `peer_main::peer_main` first.
+#![tactic(auto)]
+
+pub mod cluster;
+pub mod complaint;
+pub mod fault;
+pub mod file;
+pub mod mark;
+pub mod peer_main;
+pub mod places;
+pub mod sockets;
+pub mod told;

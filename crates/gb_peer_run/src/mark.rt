@@ -1,0 +1,79 @@
+//! What the start of a node in a run leaves on disk: a node number speaks once in a run.
+use gb_types::memory::{OutOfMemory, put_bytes};
+use gb_types::number::put_number;
+use std::alloc::Global;
+use std::fs;
+use std::fs::{Files, OpenFile, OpenOptions};
+use std::io::{ErrorKind, Write};
+use std::os::unix::fs::OpenOptionsExt;
+use std::str;
+
+/// What came of a mark.
+#[derive(Clone, Copy, Debug, PartialEq, Eq)]
+pub enum Marked {
+    /// It is there now, and was not before.
+    New,
+    /// It was there before: the node has begun in this run.
+    Old,
+    /// It could not be written.
+    Failed,
+}
+
+/// Returns the name of the mark of a node in a run, in a folder: `DIR/run-R-node-I.mark`.
+pub fn mark_name(alloc: Global, dir: &str, run: u64, node: u8) -> Result<Vec<u8>, OutOfMemory> {
+    let mut name = Vec::new(alloc);
+    put_bytes(&mut name, dir.as_bytes())?;
+    put_bytes(&mut name, b"/run-")?;
+    put_number(&mut name, run)?;
+    put_bytes(&mut name, b"-node-")?;
+    put_number(&mut name, u64::from(node))?;
+    put_bytes(&mut name, b".mark")?;
+    Ok(name)
+}
+
+// Makes a file that was not there, which its owner alone may read, and sees that it is on the disk.
+fn make<F: Files>(files: &F, name: &str) -> Marked {
+    let mut options = OpenOptions::new();
+    options.write(true).create_new(true).mode(0o600);
+    match options.open(files, name) {
+        Ok(file) => {
+            let mut file = file;
+            if file.write_all(b"begun\n").is_ok() && file.sync_all().is_ok() {
+                Marked::New
+            } else {
+                Marked::Failed
+            }
+        }
+        Err(error) => match error.kind() {
+            ErrorKind::AlreadyExists => Marked::Old,
+            _ => Marked::Failed,
+        },
+    }
+}
+
+// Sees that what a folder has is on the disk. A system that does not do so for folders is passed over.
+fn settle<F: Files>(files: &F, dir: &str) {
+    if let Ok(folder) = OpenOptions::new().read(true).open(files, dir) {
+        let _ = folder.sync_all();
+    }
+}
+
+/// Marks that a node begins in a run, by a file in a folder that is made if it was not there.
+pub fn mark<F: Files>(
+    files: &F,
+    alloc: Global,
+    dir: &str,
+    run: u64,
+    node: u8,
+) -> Result<Marked, OutOfMemory> {
+    let bytes = mark_name(alloc, dir, run, node)?;
+    let Ok(name) = str::from_utf8(&bytes) else {
+        return Ok(Marked::Failed);
+    };
+    let _ = fs::create_dir_all(files, dir);
+    let marked = make(files, name);
+    if marked == Marked::New {
+        settle(files, dir);
+    }
+    Ok(marked)
+}

@@ -1,0 +1,359 @@
+//! A node of a cluster, from its words to its exit status.
+ghost use Rattle.std.specs.Prelude.{◌≡◌, ◌≢◌, ◌≤◌, ◌<◌, ℕ, List, [], ◌++◌, Ok, Err, IfOk, OnOk, length, map, vec_len};
+ghost use Rattle.std.specs.Io.KnownBytes.{Appends, Consumes};
+ghost use Rattle.gb_cluster_file.specs.Cluster.{IsWithin};
+ghost use Rattle.gb_peer_words.specs.Words.{IsWithin as IsPlanWithin};
+ghost use Rattle.gb_host.specs.Pasts.{AreBlank, books_of};
+ghost use Rattle.gb_host.specs.Plans.{IsPlan};
+ghost use Rattle.gb_server.specs.Keys.{AreKeys};
+ghost use Rattle.gb_peer_run.specs.Told.{HasServed, IsServedBy, closed_line, fault_line, serving_line};
+
+use crate::cluster::{host_plan, node_count, options_of};
+use crate::complaint::{NAME, complain};
+use crate::fault::PeerFault;
+use crate::file::read_file;
+use crate::mark::{Marked, mark};
+use crate::places::{Places, places_of};
+use crate::sockets::open_sockets;
+use crate::told::{fault_status, serving_line, tell_closed, tell_fault};
+use gb_cluster_file::file::ClusterFile;
+use gb_host::here::only;
+use gb_host::host::Host;
+use gb_host::names::Tapes;
+use gb_host::pasts::{NodePast, new_pasts};
+use gb_host::plan::HostPlan;
+use gb_loop::options::LoopOptions;
+use gb_peer_words::plan::{PeerPlan, PeerWords};
+use gb_peer_words::words::read_words;
+use gb_server::descriptors::{connections_of, descriptor_limit};
+use gb_server::fault::ServeFault;
+use gb_server::input::Input;
+use gb_server::keys::{Keys, read_keys};
+use gb_server::run::{Given, Service, run};
+use gb_server::server_log::put_address;
+use gb_server::sockets::{Sockets, open_status};
+use gb_types::memory::{OutOfMemory, put_bytes};
+use gb_types::node::NodeId;
+use gb_types::number::put_number;
+use gb_version::VERSION;
+use std::alloc::{AllocGlobal, Global};
+use std::fs::Files;
+use std::io::Write;
+use std::marker::Brand;
+use std::net::{Net, SocketAddr, TcpListener, TcpStream};
+use std::sync::Wait;
+use std::thread::Threads;
+use std::time::Clock;
+
+// Returns the node that the words name. A file that does not have it is refused.
+fn node_of(file: &ClusterFile, number: u8) -> Result<NodeId, PeerFault>
+    requires { IsWithin file.now }
+    ensures is { IfOk result (λ me. me.number ≡ number) }
+    ensures there { IfOk result (λ me. me.number < length file.now.nodes.items) }
+{
+    let nodes = node_count(file);
+    if number >= nodes {
+        return Err(PeerFault::NoNode {
+            node: number,
+            nodes,
+        });
+    }
+    Ok(NodeId::new(number))
+}
+
+// Refuses sessions that other machines reach, unless the words allow them.
+fn allow(plan: PeerPlan, sessions: SocketAddr) -> Result<(), PeerFault> {
+    if plan.remote_sessions || sessions.ip().is_loopback() {
+        Ok(())
+    } else {
+        Err(PeerFault::Remote(sessions))
+    }
+}
+
+// Marks that the node begins in the run.
+fn begin<F: Files>(
+    files: &F,
+    alloc: Global,
+    dir: &str,
+    run: u64,
+    me: NodeId,
+) -> Result<(), PeerFault> {
+    match mark(files, alloc, dir, run, me.number)? {
+        Marked::New => Ok(()),
+        Marked::Old => Err(PeerFault::Begun {
+            node: me.number,
+            run,
+        }),
+        Marked::Failed => Err(PeerFault::Unmarked),
+    }
+}
+
+// Returns what the first line of the log begins with: the version of the program, the node, how many there are, the run, and the addresses.
+fn begin_front(
+    alloc: Global,
+    me: NodeId,
+    nodes: u8,
+    run: u64,
+    packets: SocketAddr,
+    sessions: SocketAddr,
+) -> Result<Vec<u8>, OutOfMemory> {
+    let mut front = Vec::new(alloc);
+    put_bytes(&mut front, b"gb_peer ")?;
+    put_bytes(&mut front, VERSION.as_bytes())?;
+    put_bytes(&mut front, b": node ")?;
+    put_number(&mut front, u64::from(me.number))?;
+    put_bytes(&mut front, b" of ")?;
+    put_number(&mut front, u64::from(nodes))?;
+    put_bytes(&mut front, b" in run ")?;
+    put_number(&mut front, run)?;
+    put_bytes(&mut front, b", packets at UDP ")?;
+    put_address(&mut front, packets)?;
+    put_bytes(&mut front, b", sessions at TCP ")?;
+    put_address(&mut front, sessions)?;
+    Ok(front)
+}
+
+// What the server of the node is told.
+fn service_of(
+    alloc: Global,
+    file: &ClusterFile,
+    plan: PeerPlan,
+    me: NodeId,
+    packets: SocketAddr,
+    sessions: SocketAddr,
+) -> Result<Service, OutOfMemory>
+    requires { IsWithin file.now }
+    ensures { IfOk result (λ service. service.line.items ≡ serving_line me.number (length file.now.nodes.items) file.now.run) }
+{
+    let nodes = node_count(file);
+    let line = serving_line(alloc, me.number, nodes, file.run)?;
+    let front = begin_front(alloc, me, nodes, file.run, packets, sessions)?;
+    Ok(Service {
+        name: NAME.as_bytes(),
+        first: me,
+        nodes: 1,
+        line,
+        front,
+        stops_at_end: plan.stop_at_end,
+        is_quiet: plan.quiet,
+    })
+}
+
+// Serves a node on sockets that are bound.
+fn serve_host<
+    L: Tapes + Send + Sync,
+    H: Net<Listener = TcpListener, Stream = TcpStream> + Threads + Wait + Clock + Sync,
+    R: Input,
+    W: Write,
+    E: Write + Send,
+>(
+    rt: &H,
+    alloc: Global,
+    plan: HostPlan,
+    me: NodeId,
+    service: &Service,
+    options: LoopOptions,
+    sockets: Sockets,
+    listener: Option<TcpListener>,
+    reader: &mut R,
+    writer: &mut W,
+    errors: &mut E,
+    pasts: Vec<NodePast>,
+) -> Result<(), PeerFault>
+    requires plan { plan ≡ L.plan }
+    requires limits { IsPlan plan }
+    requires member { me.number < plan.cluster.nodes }
+    requires pasts { (vec_len pasts ≡ plan.cluster.nodes) × AreBlank pasts.items }
+    requires books { books_of pasts.items ≡ L.books }
+    ensures told { OnOk result (Appends (W.contents writer.old) (W.contents writer.new) service.now.line.items) }
+    ensures read { OnOk result ((bytes : List ℕ) × Consumes (R.remaining reader.old) (R.remaining reader.new) bytes) }
+{
+    let (host, seats, _) = match Host::<L>::open(alloc, plan, only(me), 1, pasts) {
+        Ok(opened) => opened,
+        Err(fault) => return Err(PeerFault::Serve(ServeFault::from(fault))),
+    };
+    let mut all = Vec::new(alloc);
+    let Ok(()) = all.push(sockets) else {
+        return Err(PeerFault::from(OutOfMemory));
+    };
+    let given = Given {
+        seats,
+        sockets: all,
+    };
+    let seats = run(
+        rt, alloc, &host, service, options, given, listener, reader, writer, errors,
+    )?;
+    drop(seats);
+    drop(host);
+    Ok(())
+}
+
+// Serves a node of a cluster whose places are known, with keys.
+fn serve_node<
+    H: Net<Listener = TcpListener, Stream = TcpStream> + Threads + Wait + Clock + Sync + Files,
+    R: Input,
+    W: Write,
+    E: Write + Send,
+>(
+    rt: &H,
+    alloc: Global,
+    file: &ClusterFile,
+    words: &PeerWords<'_>,
+    me: NodeId,
+    places: Places,
+    keys: Keys,
+    reader: &mut R,
+    writer: &mut W,
+    errors: &mut E,
+) -> Result<(), PeerFault>
+    requires within { IsWithin file.now }
+    requires plan { IsPlanWithin words.now.plan }
+    requires there { me.number < length file.now.nodes.items }
+    requires places { vec_len places.packets ≡ length file.now.nodes.items }
+    ensures told { OnOk result (Appends (W.contents writer.old) (W.contents writer.new) (serving_line me.number (length file.now.nodes.items) file.now.run)) }
+    ensures read { OnOk result ((bytes : List ℕ) × Consumes (R.remaining reader.old) (R.remaining reader.new) bytes) }
+{
+    let plan = words.plan;
+    let service = service_of(
+        alloc,
+        file,
+        plan,
+        me,
+        places.packets[me.index()],
+        places.sessions,
+    )?;
+    let sockets = open_sockets(rt, alloc, me, places)?;
+    let listener = match open_status(rt, plan.status) {
+        Ok(listener) => listener,
+        Err(fault) => return Err(PeerFault::Serve(ServeFault::from(fault))),
+    };
+    begin(rt, alloc, words.dir, file.run, me)?;
+    let connections = connections_of(u64::from(plan.connections), 1, descriptor_limit());
+    let options = options_of(file, plan, connections);
+    let pasts = new_pasts(alloc, node_count(file))?;
+    serve_host::<Brand, H, R, W, E>(
+        rt,
+        alloc,
+        host_plan(file, keys),
+        me,
+        &service,
+        options,
+        sockets,
+        listener,
+        reader,
+        writer,
+        errors,
+        pasts,
+    )
+}
+
+// Serves a node of the cluster of a file, with the keys that the reader has and what it has behind them.
+fn serve_file<
+    H: Net<Listener = TcpListener, Stream = TcpStream> + Threads + Wait + Clock + Sync + Files,
+    R: Input,
+    W: Write,
+    E: Write + Send,
+>(
+    rt: &H,
+    alloc: Global,
+    file: &ClusterFile,
+    words: &PeerWords<'_>,
+    reader: &mut R,
+    writer: &mut W,
+    errors: &mut E,
+) -> Result<(), PeerFault>
+    requires within { IsWithin file.now }
+    requires plan { IsPlanWithin words.now.plan }
+    ensures there { OnOk result (words.now.plan.node < length file.now.nodes.items) }
+    ensures told { OnOk result (Appends (W.contents writer.old) (W.contents writer.new) (serving_line words.now.plan.node (length file.now.nodes.items) file.now.run)) }
+    ensures read { OnOk result ((text : List ℕ) × (behind : List ℕ) × (keys : Keys) × AreKeys text keys × Consumes (R.remaining reader.old) (R.remaining reader.new) (text ++ behind)) }
+{
+    let me = node_of(file, words.plan.node)?;
+    let places = places_of(rt, alloc, file, me)?;
+    allow(words.plan, places.sessions)?;
+    let keys = match read_keys(reader) {
+        Ok(keys) => keys,
+        Err(why) => return Err(PeerFault::Serve(ServeFault::BadKeys(why))),
+    };
+    serve_node(
+        rt, alloc, file, words, me, places, keys, reader, writer, errors,
+    )
+}
+
+// Serves a node by words. Its log is written to `errors`, and why it did not serve to its end.
+fn serve_words<
+    H: Net<Listener = TcpListener, Stream = TcpStream> + Threads + Wait + Clock + Sync + Files + AllocGlobal,
+    R: Input,
+    W: Write,
+    E: Write + Send,
+>(
+    rt: &H,
+    alloc: Global,
+    words: &PeerWords<'_>,
+    reader: &mut R,
+    writer: &mut W,
+    errors: &mut E,
+) -> Result<(), PeerFault>
+    requires { IsPlanWithin words.now.plan }
+    ensures { OnOk result ((file : ClusterFile) × IsServedBy words.now file (R.remaining reader.old) (R.remaining reader.new) (W.contents writer.old) (W.contents writer.new) []) }
+{
+    let file = read_file(rt, alloc, words.cluster, errors)?;
+    let outcome = serve_file(rt, alloc, &file, words, reader, writer, errors);
+    if let Err(fault) = outcome {
+        complain(alloc, fault, words.dir, errors);
+    }
+    outcome
+}
+
+// Serves a node by the words of a command line. The answer is how it ended, which is still to be told.
+fn serve<
+    H: Net<Listener = TcpListener, Stream = TcpStream> + Threads + Wait + Clock + Sync + Files + AllocGlobal,
+    R: Input,
+    W: Write,
+    E: Write + Send,
+>(
+    rt: &H,
+    alloc: Global,
+    words: &[&str],
+    reader: &mut R,
+    writer: &mut W,
+    errors: &mut E,
+) -> Result<(), PeerFault>
+    ensures { OnOk result (HasServed (map (λ word. word.now) words.now) (R.remaining reader.old) (R.remaining reader.new) (W.contents writer.old) (W.contents writer.new) []) }
+{
+    let read = read_words(alloc, words)?;
+    serve_words(rt, alloc, &read, reader, writer, errors)
+}
+
+/// Serves one node of a cluster by the words of a command line, of which the first is the program's name: the words name the cluster's file, the
+/// node, and a folder for the mark of its start. The reader has the keys, and behind them the line `stop` that ends the node. What is served and
+/// how it ended is written to `writer`, a line each; the log, and why the node did not serve to its end, to `errors`, but for why words are refused.
+/// Returns the exit status: 0 when all connections were served, or the node was told to end; 2 for refused words, a refused file or a refused
+/// address; 1 for all else. When it answers, its threads have ended and its sockets are closed.
+pub fn peer_main<
+    H: Net<Listener = TcpListener, Stream = TcpStream> + Threads + Wait + Clock + Sync + Files + AllocGlobal,
+    R: Input,
+    W: Write,
+    E: Write + Send,
+>(
+    rt: &H,
+    alloc: Global,
+    words: &[&str],
+    reader: &mut R,
+    writer: &mut W,
+    errors: &mut E,
+) -> u8
+    ensures status { result ≤ 2 }
+    ensures served { result ≡ 0 → HasServed (map (λ word. word.now) words.now) (R.remaining reader.old) (R.remaining reader.new) (W.contents writer.old) (W.contents writer.new) closed_line }
+{
+    match serve(rt, alloc, words, reader, writer, errors) {
+        Ok(()) => if tell_closed(writer) { 0 } else { 1 },
+        Err(fault) => {
+            if tell_fault(alloc, writer, fault) {
+                fault_status(fault)
+            } else {
+                1
+            }
+        }
+    }
+}

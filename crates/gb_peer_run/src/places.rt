@@ -1,0 +1,74 @@
+//! Where the nodes of a cluster are reached, once their names are resolved.
+ghost use Rattle.std.specs.Prelude.{◌≡◌, ◌<◌, IfOk, length, vec_len};
+
+use crate::fault::PeerFault;
+use gb_cluster_file::file::{ClusterFile, NodePlaces, Place};
+use gb_types::memory::OutOfMemory;
+use gb_types::node::NodeId;
+use std::alloc::Global;
+use std::net::{Net, SocketAddr, ToSocketAddrs};
+
+/// Where the packets of each node go, by its number, and where one of them takes sessions.
+#[derive(Drop)]
+pub struct Places {
+    pub packets: Vec<SocketAddr>,
+    pub sessions: SocketAddr,
+}
+
+// Returns the first address of a place, or the first of the same family as another address.
+fn resolve<H: Net>(rt: &H, place: &Place, like: Option<SocketAddr>) -> Option<SocketAddr> {
+    let found = (place.host.as_str(), place.port).to_socket_addrs(rt).ok()?;
+    for address in found {
+        match like {
+            Some(like) if like.is_ipv4() != address.is_ipv4() => {}
+            _ => return Some(address),
+        }
+    }
+    None
+}
+
+// Resolves where each node takes packets, in the family of an address.
+fn resolve_all<H: Net>(
+    rt: &H,
+    alloc: Global,
+    nodes: &[NodePlaces],
+    like: SocketAddr,
+) -> Result<Vec<SocketAddr>, PeerFault>
+    ensures { IfOk result (λ places. vec_len places ≡ length nodes.now) }
+{
+    let mut places = Vec::new(alloc);
+    let mut number = 0u8;
+    for node in nodes {
+        let Some(place) = resolve(rt, &node.packets, Some(like)) else {
+            return Err(PeerFault::NotFound(number));
+        };
+        let Ok(()) = places.push(place) else {
+            return Err(PeerFault::from(OutOfMemory));
+        };
+        number = number.saturating_add(1);
+    }
+    Ok(places)
+}
+
+/// Resolves the names of a cluster's file, once: where each node takes packets, and where node `me` takes sessions. All addresses for packets are
+/// of the family of the node's own, IPv4 or IPv6.
+pub fn places_of<H: Net>(
+    rt: &H,
+    alloc: Global,
+    file: &ClusterFile,
+    me: NodeId,
+) -> Result<Places, PeerFault>
+    requires { me.number < length file.now.nodes.items }
+    ensures { IfOk result (λ places. vec_len places.packets ≡ length file.now.nodes.items) }
+{
+    let own = &file.nodes[me.index()];
+    let not_found = PeerFault::NotFound(me.number);
+    let Some(like) = resolve(rt, &own.packets, None) else {
+        return Err(not_found);
+    };
+    let Some(sessions) = resolve(rt, &own.sessions, None) else {
+        return Err(not_found);
+    };
+    let packets = resolve_all(rt, alloc, &file.nodes, like)?;
+    Ok(Places { packets, sessions })
+}

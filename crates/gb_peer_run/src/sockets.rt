@@ -1,0 +1,37 @@
+//! The sockets of a node.
+ghost use Rattle.std.specs.Prelude.{◌<◌, vec_len};
+
+use crate::fault::PeerFault;
+use crate::places::Places;
+use gb_port::udp::{BindFault, UdpPort};
+use gb_server::fault::ServeFault;
+use gb_server::sockets::{Sockets, listen};
+use gb_types::node::NodeId;
+use std::alloc::Global;
+use std::net::{Net, TcpListener, TcpStream};
+
+/// Binds the sockets of a node: for packets at its own place among those of all nodes, and for sessions. Where one cannot be bound none is left.
+pub fn open_sockets<H: Net<Listener = TcpListener, Stream = TcpStream>>(
+    rt: &H,
+    alloc: Global,
+    me: NodeId,
+    places: Places,
+) -> Result<Sockets, PeerFault>
+    requires { me.number < vec_len places.packets }
+{
+    let Places { packets, sessions } = places;
+    let own = packets[me.index()];
+    let port = match UdpPort::bind(rt, alloc, me, packets) {
+        Ok(port) => port,
+        Err(BindFault::Port) => return Err(PeerFault::Packets(own)),
+        Err(BindFault::OutOfMemory) => return Err(PeerFault::Serve(ServeFault::OutOfMemory)),
+    };
+    match listen(rt, sessions) {
+        Some(listener) => Ok(Sockets {
+            node: me,
+            port,
+            listener,
+        }),
+        None => Err(PeerFault::Sessions(sessions)),
+    }
+}

@@ -1,0 +1,56 @@
+use Rattle.std.proofs.Common.{◌≡◌, ◌∙◌, ap, codes, List, refl, sym, subst, map, true, rules, inl, inr}
+use Rattle.clap.specs.Words.{App, Row, fault_of, is_simple, is_simple_and_free, matches_of, one_of, takes}
+use Rattle.clap.specs.Kinds.{HasKind, Kinds}
+use Rattle.clap.proofs.OnLiterals.{clap_on_literals}
+use Rattle.gb_serve_words.specs.Options.{HasAddress}
+use Rattle.gb_peer_words.specs.Words.{IsReadOf, peer_app}
+use Rattle.gb_serve_words.specs.declared.fault.WordFault.TheVariants.{Refused}
+use Rattle.gb_peer_words.proofs.EntryLemmas.{given_by}
+use Rattle.gb_peer_words.proofs.words.read_words.Goals as goal
+
+is_free : is_simple_and_free peer_app ≡ true
+unfolding clap_on_literals
+is_free = refl
+
+is_read : is_simple peer_app ≡ true
+unfolding clap_on_literals
+is_read = refl
+
+pub words_of-requires : goal.words_of-requires
+words_of-requires c = given_by c.in_ok-command.command c.in-Ok.matches c.in-Ok.ensures.parsed c.in_ok-command.ensures
+
+pub returns-in-Some-clause-given : goal.returns-in-Some-clause-given
+returns-in-Some-clause-given c =
+    let read = (c.in-Ok.ensures.matches (ap is_simple c.in_ok-command.ensures ∙ is_read)).0
+    ∙ ap (λ (a : App). matches_of a (map (λ word. word.now) c.args.words.now)) c.in_ok-command.ensures in
+    subst (λ (rows : List Row). IsReadOf rows c.in-Some.read) read c.in-Some.ensures.read
+
+pub returns-in-Some-clause-accepted : goal.returns-in-Some-clause-accepted
+returns-in-Some-clause-accepted c =
+    ap (λ (a : App). fault_of a (map (λ word. word.now) c.args.words.now)) (sym c.in_ok-command.ensures)
+    ∙ c.in-Ok.ensures.kinds (ap is_simple_and_free c.in_ok-command.ensures ∙ is_free)
+
+pub returns-in-Ok-clause-refused : goal.returns-in-Ok-clause-refused
+returns-in-Ok-clause-refused c = λ _.
+    let read = (c.in-Ok.ensures.matches (ap is_simple c.in_ok-command.ensures ∙ is_read)).0
+    ∙ ap (λ (a : App). matches_of a (map (λ word. word.now) c.args.words.now)) c.in_ok-command.ensures in
+    inr (subst (λ (rows : List Row). HasAddress (one_of (codes "status") rows) → ⊥) read c.in-None.ensures.none)
+
+pub returns-in-Ok-clause-taken : goal.returns-in-Ok-clause-taken
+returns-in-Ok-clause-taken c = λ _ can _.
+    let read = (c.in-Ok.ensures.matches (ap is_simple c.in_ok-command.ensures ∙ is_read)).0
+    ∙ ap (λ (a : App). matches_of a (map (λ word. word.now) c.args.words.now)) c.in_ok-command.ensures in
+    subst (λ (rows : List Row). HasAddress (one_of (codes "status") rows) → ⊥) read c.in-None.ensures.none can
+
+pub returns-clause-refused : goal.returns-clause-refused
+returns-clause-refused c = λ is. inl (λ none.
+    let refused : c.fault_from.result ≡ Refused = search rules in
+    let kinds = subst (λ (ks : Kinds). HasKind ks c.in-Err.error) (ap (λ (a : App). fault_of a (map (λ word. word.now) c.args.words.now)) c.in_ok-command.ensures ∙ none)
+    (c.in-Err.ensures.kinds (ap is_simple_and_free c.in_ok-command.ensures ∙ is_free)) in
+    elim kinds [ inl memory ↦ c.fault_from.ensures.refused refused memory | inr other ↦ other ])
+
+pub returns-clause-taken : goal.returns-clause-taken
+returns-clause-taken c = λ taken _ is.
+    let refused : c.fault_from.result ≡ Refused = search rules in
+    c.fault_from.ensures.refused refused
+    (c.in-Err.ensures.passes (ap (λ (a : App). takes a (map (λ word. word.now) c.args.words.now)) c.in_ok-command.ensures ∙ taken))

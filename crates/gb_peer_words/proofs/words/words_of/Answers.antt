@@ -1,0 +1,28 @@
+use Rattle.std.proofs.Common.{◌∙◌, Option, ap, codes, option_map, sym}
+use Rattle.std.specs.Borrow.{Bor}
+use Rattle.clap.specs.Words.{Text, first_of, found_of, rows_of}
+use Rattle.clap.proofs.CallerLemmas.{some_of_text}
+use Rattle.clap.proofs.WalkLemmas.{first_value-rows}
+use Rattle.gb_peer_words.proofs.words.words_of.Goals as goal
+
+pub unwrap-cluster-requires : goal.unwrap-cluster-requires
+unwrap-cluster-requires c =
+    let f = found_of c.args.matches.now in
+    some_of_text (λ (s : Bor Text). s.now) c.get_str.result (first_of (codes "cluster") (rows_of f)) (c.get_str.ensures ∙ first_value-rows f (codes "cluster")) c.requires.some_cluster
+
+pub unwrap-dir-requires : goal.unwrap-dir-requires
+unwrap-dir-requires c =
+    let f = found_of c.args.matches.now in
+    some_of_text (λ (s : Bor Text). s.now) c.get_str-2.result (first_of (codes "dir") (rows_of f)) (c.get_str-2.ensures ∙ first_value-rows f (codes "dir")) c.requires.some_dir
+
+pub returns-clause-read : goal.returns-clause-read
+returns-clause-read c =
+    let f = found_of c.args.matches.now in
+    record {
+      cluster = sym (c.get_str.ensures ∙ first_value-rows f (codes "cluster")) ∙ ap (λ (o : Option (Bor Text)). option_map (λ s. s.now) o) c.unwrap-cluster.ensures;
+      dir = sym (c.get_str-2.ensures ∙ first_value-rows f (codes "dir")) ∙ ap (λ (o : Option (Bor Text)). option_map (λ s. s.now) o) c.unwrap-dir.ensures;
+      plan = c.plan_of-plan.ensures.read;
+    }
+
+pub returns-in_err-status-clause-none : goal.returns-in_err-status-clause-none
+returns-in_err-status-clause-none c = rw c.from_residual.ensures c.in_err-status.ensures.none

@@ -1,0 +1,7 @@
+use Rattle.std.proofs.Common.{◌≤◌, vec_capacity}
+use Rattle.gb_port.specs.UdpPorts.{AreLoopback}
+use Rattle.gb_port.proofs.udp.loopback_places.Given as goal
+
+-- the addresses so far
+abbrev pub invariant-loop-number : goal.invariant-loop-number
+invariant-loop-number l = (l.nodes ≤ vec_capacity l.places) × AreLoopback l.number l.base l.places.items

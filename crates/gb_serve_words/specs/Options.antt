@@ -1,0 +1,85 @@
+-- The options of a command line: the rule of each, as `clap` reads it, and what is read of its entry in the matches.
+use Rattle.std.specs.Prelude.{◌≡◌, ◌||◌, ℕ, Bool, true, false, List, Option, None, Some, IfSome, option_map, codes, pos}
+use Rattle.std.specs.Option.{option_map_or}
+use Rattle.std.specs.Net.Grammar.{IsSocketText}
+use Rattle.std.specs.Str.{bytes_eq}
+use Rattle.std.specs.Str.Parse.{digits_value, without_leading_plus}
+use Rattle.std.specs.declared.net.socket_addr.SocketAddr.{SocketAddr}
+use Rattle.clap.specs.Words.{IsSignedIn, Row, Rule, Text, new_rule, one_of, without_minus}
+use Rattle.clap.specs.declared.builder.action.ArgAction.TheVariants.{Set, SetTrue}
+use Rattle.clap.specs.declared.builder.value_parser.ValueParser.TheVariants.{Signed, Bool as Flag, String as AnyText}
+use Rattle.gb_serve_words.specs.declared.options.TheConstants.{MOST_CONNECTIONS, MOST_IDLE, MOST_REQUESTS, MOST_SESSIONS}
+
+-- an option `--name` with one number from `least` to `most`
+abbrev pub number_rule : Text → ℕ → ℕ → Bool → Rule
+number_rule name least most is_required = record (new_rule name) {
+  long = Some name;
+  action = Some Set;
+  parser = Some (Signed (pos least) (pos most));
+  required = is_required;
+}
+
+-- the same with a name for its value in the help
+abbrev pub named_rule : Text → ℕ → ℕ → Bool → Rule
+named_rule name least most is_required = record (number_rule name least most is_required) { value_names = 1 }
+
+-- an option `--name` with a text
+abbrev pub text_rule : Text → Rule
+text_rule name = record (new_rule name) {
+  long = Some name;
+  action = Some Set;
+  parser = Some AnyText;
+}
+
+-- an option `--name` without a value
+abbrev pub flag_rule : Text → Rule
+flag_rule name = record (new_rule name) {
+  long = Some name;
+  action = Some SetTrue;
+  parser = Some Flag;
+}
+
+-- --sessions, --idle, --connections, --session-requests and --status, which more than one program takes
+abbrev pub sessions_rule : Rule
+sessions_rule = named_rule (codes "sessions") 0 MOST_SESSIONS false
+
+abbrev pub idle_rule : Rule
+idle_rule = named_rule (codes "idle") 0 MOST_IDLE false
+
+abbrev pub connections_rule : Rule
+connections_rule = named_rule (codes "connections") 1 MOST_CONNECTIONS false
+
+abbrev pub requests_rule : Rule
+requests_rule = named_rule (codes "session-requests") 0 MOST_REQUESTS false
+
+abbrev pub status_rule : Rule
+status_rule = record (text_rule (codes "status")) { value_names = 1 }
+
+-- the number that a text spells in decimal digits, with a plus before them or not
+abbrev pub spelt : Text → ℕ
+spelt text = digits_value 10 (without_leading_plus text)
+
+-- the number that an option was given, if it was
+abbrev pub given : List Row → Text → Option ℕ
+given rows name = option_map spelt (one_of name rows)
+
+-- whether an option without a value was given: its entry is `true` then, and `false` where it was left out
+abbrev pub is_set : List Row → Text → Bool
+is_set rows name = option_map_or (λ text. bytes_eq text (codes "true")) (one_of name rows) false
+
+-- what an address is of a text that was given for it: the one that the text writes, or none where no text was given
+abbrev pub IsAddressOf : Option Text → Option SocketAddr → Type 0
+IsAddressOf None address = address ≡ None
+IsAddressOf (Some text) address = (a : SocketAddr) × (address ≡ Some a) × IsSocketText text a
+
+-- no text was given for an address, or one that writes an address
+abbrev pub HasAddress : Option Text → Type 0
+HasAddress entry = IfSome entry (λ text. (a : SocketAddr) × IsSocketText text a)
+
+-- no text, or one that `clap` made of a number from `least` to `most`
+abbrev pub HasNumber : ℕ → ℕ → Option Text → Type 0
+HasNumber least most entry = IfSome entry (λ text. (word : Text) × (text ≡ without_minus word) × IsSignedIn (pos least) (pos most) word)
+
+-- no text, or one of the two of an option without a value
+abbrev pub HasFlag : Option Text → Type 0
+HasFlag entry = IfSome entry (λ text. (bytes_eq text (codes "true") || bytes_eq text (codes "false")) ≡ true)

@@ -1,0 +1,202 @@
+//! Options of a command line, and what its words ask for: what gb_serve has in common with other programs.
+ghost use Rattle.std.specs.Prelude.{◌≡◌, ◌≢◌, IfSome, IfNone, alloc_error, codes, false};
+ghost use Rattle.clap.specs.Words.{found_of, kind_of, one_of, rows_of, rule_of};
+ghost use Rattle.gb_serve_words.specs.Options.{number_rule, text_rule, flag_rule, sessions_rule, idle_rule, connections_rule, requests_rule, status_rule, HasAddress, IsAddressOf};
+
+use crate::fault::WordFault;
+use clap::builder::ValueParser;
+use clap::error::ErrorKind;
+use clap::{Arg, ArgAction, ArgMatches, Error};
+use gb_version::VERSION as PROGRAM;
+use std::alloc::{AllocError, Global};
+use std::net::SocketAddr;
+
+/// The most connections that a node serves in all, where they are limited.
+pub const MOST_SESSIONS: u32 = 1_000;
+
+/// The most seconds without a byte after which a connection is closed.
+pub const MOST_IDLE: u32 = 60_000;
+
+/// The most connections that a node serves at once.
+pub const MOST_CONNECTIONS: u32 = 60_000;
+
+/// The most messages that a connection may ask, where they are limited.
+pub const MOST_REQUESTS: u32 = 4_000_000_000;
+
+/// How many connections a node serves at once where words give no number.
+pub const CONNECTIONS: u16 = 1_024;
+
+// Definitions cite these values.
+const _: () = prove!(MOST_SESSIONS == 1_000 && MOST_IDLE == 60_000);
+
+const _: () = prove!(MOST_CONNECTIONS == 60_000 && MOST_REQUESTS == 4_000_000_000);
+
+const _: () = prove!(CONNECTIONS == 1_024);
+
+/// Returns an option `--name` with a number from `least` to `most`.
+pub fn number_arg<'a>(alloc: Global, name: &'static str, least: u16, most: u32) -> Arg<'a>
+    ensures rule { rule_of result ≡ number_rule name.entry.now least most false }
+    ensures local { result.global ≡ false }
+{
+    Arg::new(alloc, name)
+        .long(name)
+        .action(ArgAction::Set)
+        .value_parser(ValueParser::Signed(i64::from(least), i64::from(most)))
+}
+
+/// Returns an option `--name` with a text.
+pub fn text_arg<'a>(alloc: Global, name: &'static str) -> Arg<'a>
+    ensures rule { rule_of result ≡ text_rule name.entry.now }
+    ensures local { result.global ≡ false }
+{
+    Arg::new(alloc, name)
+        .long(name)
+        .action(ArgAction::Set)
+        .value_parser(ValueParser::String)
+}
+
+/// Returns an option `--name` without a value, which stands among the words or does not.
+pub fn flag_arg<'a>(alloc: Global, name: &'static str) -> Arg<'a>
+    ensures rule { rule_of result ≡ flag_rule name.entry.now }
+    ensures local { result.global ≡ false }
+{
+    Arg::new(alloc, name)
+        .long(name)
+        .action(ArgAction::SetTrue)
+        .value_parser(ValueParser::Bool)
+}
+
+/// Returns the option `--sessions`.
+pub fn sessions_arg<'a>(alloc: Global) -> Arg<'a>
+    ensures rule { rule_of result ≡ sessions_rule }
+    ensures local { result.global ≡ false }
+{
+    number_arg(alloc, "sessions", 0, MOST_SESSIONS)
+        .value_name("K")
+        .help("how many connections a node serves in all; 0, or not given: for ever")
+}
+
+/// Returns the option `--idle`.
+pub fn idle_arg<'a>(alloc: Global) -> Arg<'a>
+    ensures rule { rule_of result ≡ idle_rule }
+    ensures local { result.global ≡ false }
+{
+    number_arg(alloc, "idle", 0, MOST_IDLE)
+        .value_name("SECONDS")
+        .help(
+            "after how long without a byte a connection is closed that asked something; 0, or not given: never",
+        )
+}
+
+/// Returns the option `--connections`.
+pub fn connections_arg<'a>(alloc: Global) -> Arg<'a>
+    ensures rule { rule_of result ≡ connections_rule }
+    ensures local { result.global ≡ false }
+{
+    number_arg(alloc, "connections", 1, MOST_CONNECTIONS)
+        .value_name("C")
+        .help("how many connections a node serves at once, one more is closed; 1,024 if not given")
+}
+
+/// Returns the option `--session-requests`.
+pub fn requests_arg<'a>(alloc: Global) -> Arg<'a>
+    ensures rule { rule_of result ≡ requests_rule }
+    ensures local { result.global ≡ false }
+{
+    number_arg(alloc, "session-requests", 0, MOST_REQUESTS)
+        .value_name("R")
+        .help("how many messages a connection may ask; 0, or not given: there is no limit")
+}
+
+/// Returns the option `--stop-at-end`.
+pub fn stop_arg<'a>(alloc: Global) -> Arg<'a>
+    ensures rule { rule_of result ≡ flag_rule (codes "stop-at-end") }
+    ensures local { result.global ≡ false }
+{
+    flag_arg(alloc, "stop-at-end").help(
+        "end in order when standard input ends, as at its line `stop`",
+    )
+}
+
+/// Returns the option `--status`.
+pub fn status_arg<'a>(alloc: Global) -> Arg<'a>
+    ensures rule { rule_of result ≡ status_rule }
+    ensures local { result.global ≡ false }
+{
+    text_arg(alloc, "status").value_name("ADDR").help(
+        "answer GET /metrics and GET /healthz by HTTP at this address, as 127.0.0.1:9100",
+    )
+}
+
+/// Returns the option `--quiet`.
+pub fn quiet_arg<'a>(alloc: Global) -> Arg<'a>
+    ensures rule { rule_of result ≡ flag_rule (codes "quiet") }
+    ensures local { result.global ≡ false }
+{
+    flag_arg(alloc, "quiet").help("write no log to standard error")
+}
+
+/// Returns the address that is given for the status; `None` where its text is no address.
+pub fn status_of(matches: &ArgMatches<'_>) -> Option<Option<SocketAddr>>
+    ensures read { IfSome result (IsAddressOf (one_of (codes "status") (rows_of (found_of matches.now)))) }
+    ensures none { IfNone result (HasAddress (one_of (codes "status") (rows_of (found_of matches.now))) → ⊥) }
+{
+    match matches.try_get_one::<SocketAddr>("status") {
+        Ok(status) => Some(status),
+        Err(_) => None,
+    }
+}
+
+/// Returns the fault that a parse that failed comes to.
+pub fn fault_from(error: &Error) -> WordFault
+    ensures refused { result ≡ WordFault.Refused → kind_of error.now ≢ ErrorKind.OutOfMemory }
+    ensures memory { result ≡ WordFault.OutOfMemory → kind_of error.now ≡ ErrorKind.OutOfMemory }
+{
+    match error.kind() {
+        ErrorKind::OutOfMemory => WordFault::OutOfMemory,
+        _ => WordFault::Refused,
+    }
+}
+
+/// What a refusal ends with.
+pub static HINT: &str = "\n\nFor more information, try '--help'.\n";
+
+/// Returns why the text that is given for the status is no address; no text where none is given, or one that is an address.
+pub fn status_refusal(alloc: Global, matches: &ArgMatches<'_>) -> Result<String, AllocError> {
+    if status_of(matches).is_some() {
+        return Ok(String::new(alloc));
+    }
+    let text = matches.get_str("status").unwrap_or("");
+    format!(in alloc;
+        "error: invalid value '{text}' for '--status <ADDR>': an IP address and a port are wanted, as 127.0.0.1:9100 or [::1]:9100{HINT}"
+    )
+}
+
+/// Returns the text that words ask for whose parse failed so: the help, or, where the word behind the program's name is `-V`, the
+/// program's name and version. `None`: they ask for neither.
+pub fn text_asked(
+    alloc: Global,
+    error: &Error,
+    words: &[&str],
+    program: &str,
+) -> Result<Option<String>, AllocError>
+    ensures memory { kind_of error.now ≡ ErrorKind.OutOfMemory → result ≡ Err alloc_error }
+{
+    match error.kind() {
+        ErrorKind::OutOfMemory => Err(AllocError),
+        ErrorKind::DisplayHelp => Ok(Some(format!(in alloc; "{error}")?)),
+        _ => version_text(alloc, words, program),
+    }
+}
+
+// The version, where the word behind the program's name asks for it.
+fn version_text(
+    alloc: Global,
+    words: &[&str],
+    program: &str,
+) -> Result<Option<String>, AllocError> {
+    if words.get(1) != Some(&"-V") {
+        return Ok(None);
+    }
+    Ok(Some(format!(in alloc; "{program} {PROGRAM}\n")?))
+}
