@@ -43,8 +43,8 @@ Pair = Tuple[int, int]
 HELD = 0.020
 """How long at most a repetition or a reordered datagram is held back, in seconds."""
 
-PACE = 0.0005
-BYTES = 5_000_000
+PACE = 0.001
+BYTES = 2_000_000
 """The time between two datagrams of a replay, in seconds, and how many bytes go in a second: their receivers keep up with that."""
 
 
