@@ -1,7 +1,7 @@
 #!/usr/bin/env python3
 """A cluster of three nodes and a spare, as four processes on loopback: what dies, is cut off, comes back, and is sent again.
 
-    peers.sh [PORT]
+    peers.sh [PORT [SECONDS]]
 
 Every packet goes through a relay (relay.py) that can lose, repeat, reorder, part, capture and replay. Node 3 is the spare: it serves
 from the start, and is in no group until a node dies. The walk has two passes, the second with a network that loses, repeats and reorders
@@ -10,7 +10,8 @@ each stage all logs are fetched and compared: each message stands once, as it wa
 message of a running member is missing at another; and all running members have the same messages.
 
 A step prints one line. The walk ends with status 0 and `closed`, or with status 1 at the first thing that is not so, with the reason. All
-processes end with it. PORT, 24000 if not given, and 250 ports above it are used. PEER and CTL name the programs if not bin/gb_peer and
+processes end with it. PORT, 24000 if not given, and 250 ports above it are used. SECONDS, 3 if not given and 2 to 20, is the silence after
+which a node is noticed: on a machine that is so loaded that a process stands still for seconds, take more. PEER and CTL name the programs if not bin/gb_peer and
 bin/gb_ctl. It needs Python 3.9 and nothing else; a tunnel to a session is tried where stunnel, or ssh and sshd, are installed.
 """
 
@@ -38,7 +39,6 @@ from relay import Relay  # noqa: E402
 NODES = (0, 1, 2, 3)
 TENANT = 7
 TICK = 50  # milliseconds
-SILENCE = 60  # ticks
 LIMIT = 40.0
 """How long a stage may take, in seconds."""
 
@@ -51,11 +51,6 @@ Message = Tuple[int, int]
 
 class Wrong(Exception):
     """Something is not as it should be. The text says what."""
-
-
-def silence() -> float:
-    """Return after how many seconds without a packet a node is noticed."""
-    return TICK * SILENCE / 1000
 
 
 def tell(text: str) -> None:
@@ -90,7 +85,7 @@ class Node:
         self.process: Optional[subprocess.Popen[bytes]] = None
         self.starts = 0
         self.keys = Keys(number, admin=cluster.admin_key, tenants={TENANT: cluster.tenant_key})
-        self.client = Client(("127.0.0.1", cluster.session_port(number)), self.keys)
+        self.client = Client(("127.0.0.1", cluster.session_port(number)), self.keys, time_limit=30.0)
 
     def printed(self) -> List[str]:
         """Return the lines that the process of the last start has printed."""
@@ -133,7 +128,7 @@ class Node:
         wanted = f"serving node {self.number} of {len(NODES)} in run {run}"
         wait_for(f"node {self.number} serves", lambda: bool(self.printed()) or not self.is_running())
         if self.printed()[:1] != [wanted]:
-            raise Wrong(f"node {self.number} printed {self.printed()} and not `{wanted}`")
+            raise Wrong(f"node {self.number} printed {self.printed()} and not `{wanted}`; it told {self.complaints()}")
 
     def is_running(self) -> bool:
         """Return True if the process runs."""
@@ -189,9 +184,11 @@ class Node:
 class Cluster:
     """Nodes behind a relay, with the folder and the keys of all that is started."""
 
-    def __init__(self, folder: str, port: int, peer: str, ctl: str) -> None:
+    def __init__(self, folder: str, port: int, silence: int, peer: str, ctl: str) -> None:
+        """Makes the folders and starts the relay. `silence` is in seconds. OSError if the relay cannot have its ports."""
         self.folder = folder
         self.port = port
+        self.silence = silence
         self.peer = peer
         self.ctl = ctl
         self.cluster_key, self.admin_key, self.tenant_key = (os.urandom(32) for _ in range(3))
@@ -217,7 +214,7 @@ class Cluster:
 
     def file_of(self, node: int, run: int) -> str:
         """Return the cluster file of a node. The files of all nodes differ in addresses alone."""
-        lines = [f"run = {run}", f"tick = {TICK}", f"silence = {SILENCE}", "version = 2"]
+        lines = [f"run = {run}", f"tick = {TICK}", f"silence = {self.silence * 1000 // TICK}", "version = 2"]
         for other in NODES:
             packets = self.port + node if other == node else self.relay.port(node, other)
             lines += ["", "[[node]]", f'packets = "127.0.0.1:{packets}"']
@@ -478,7 +475,7 @@ class Stages:
         for node in (0, 1):
             self.book.say(node, groups, 20)
         self.await_notices({0: 1, 1: 1, 3: 1})
-        self.tell(f"nodes 0, 1 and 3 have noticed it after {time.monotonic() - begun:.1f} seconds; the silence is {silence():g}")
+        self.tell(f"nodes 0, 1 and 3 have noticed it after {time.monotonic() - begun:.1f} seconds; the silence is {self.cluster.silence}")
         total = self.book.settle(groups, (0, 1))
         self.tell(f"all-ack deliveries go on without it: the {total} entries of the logs of 0 and 1 are the same messages")
 
@@ -508,7 +505,7 @@ class Stages:
         self.cluster.order("part 1")
         for node in (0, 1, 3):
             self.book.say(node, groups, 5)
-        while time.monotonic() - begun < silence() / 3:
+        while time.monotonic() - begun < self.cluster.silence / 3:
             time.sleep(0.05)
         self.cluster.order("join 1")
         apart = time.monotonic() - begun
@@ -524,7 +521,7 @@ class Stages:
         before = {group: self.book.messages(1, group) for group in groups}
         for node in (0, 1, 3):
             self.book.say(node, groups, 5)
-        time.sleep(silence() / 6)
+        time.sleep(self.cluster.silence / 6)
         for group in groups:
             if self.book.is_uniform(group) and self.book.messages(1, group) != before[group]:
                 raise Wrong(f"node 1, group {group}: it has delivered a message that no other member can have had")
@@ -543,16 +540,13 @@ class Stages:
         groups = (11, 12, 13, 14)
         self.cluster.order("capture off")
         before = self.all_logs((0, 3), groups)
-        seen = sum(self.cluster.nodes[node].figure("foqradesh_packets_total", 'frame="seen"') for node in (0, 3))
+        seen = self.steady((0, 3), "foqradesh_packets_total", 'frame="seen"')
         sent = self.cluster.order(f"replay {self.capture}").split()[1]
-        time.sleep(0.5)
-        after = sum(self.cluster.nodes[node].figure("foqradesh_packets_total", 'frame="seen"') for node in (0, 3))
-        if after <= seen:
-            raise Wrong("no node tells that a replayed frame had come before")
+        after = self.steady((0, 3), "foqradesh_packets_total", 'frame="seen"', seen)
         if self.all_logs((0, 3), groups) != before:
             raise Wrong("a replay in the same run has changed a log")
         self.book.settle(groups, (0, 3))
-        self.tell(f"{sent} captured packets are sent again in the same run: {after - seen} frames had come before, no log changes")
+        self.tell(f"{sent} captured packets are sent again in the same run: {sum(after.values()) - sum(seen.values())} frames had come before, no log changes")
 
     def all_logs(self, nodes: Sequence[int], groups: Sequence[int]) -> Dict[Message, List[Entry]]:
         """Return the logs of groups at nodes."""
@@ -568,7 +562,7 @@ class Stages:
     def begin_anew(self, earlier: str) -> None:
         """Start all nodes in the run after, the last one late, and send the earlier run's packets to them."""
         self.start((0, 1, 2))
-        time.sleep(silence() + 1)
+        time.sleep(self.cluster.silence + 1)
         self.expect_notices({0: 0, 1: 0, 2: 0})
         self.start((3,))
         self.tell("all nodes serve, node 3 a silence later than the others: nobody was noticed, and all begin from nothing")
@@ -578,23 +572,31 @@ class Stages:
         total = self.speak(groups, NODES, NODES)
         self.tell(f"groups of all four nodes; the {total} entries of the logs are all that was said")
         before = self.all_logs(NODES, groups)
-        faults = {node: self.tag_faults(node) for node in NODES}
+        faults = self.steady(NODES, "foqradesh_packet_faults_total", 'fault="tag"')
         self.harm(0)
         sent = self.cluster.order(f"replay {earlier}").split()[1]
         self.harm(self.percent)
-        time.sleep(1)
-        found = {node: self.tag_faults(node) - faults[node] for node in NODES}
-        if not all(found.values()):
-            raise Wrong(f"packets of the earlier run were sent to each node; counted as tag faults: {found}")
+        found = self.steady(NODES, "foqradesh_packet_faults_total", 'fault="tag"', faults)
         if self.all_logs(NODES, groups) != before:
             raise Wrong("packets of the earlier run have changed a log")
         total = self.speak(groups, NODES, NODES, 5)
         self.expect_notices(dict.fromkeys(NODES, 0))
-        self.tell(f"{sent} packets of run {self.run - 1} are sent again: {sum(found.values())} counted as tag faults, no log changes")
+        counted = sum(found.values()) - sum(faults.values())
+        self.tell(f"{sent} packets of run {self.run - 1} are sent again: {counted} counted as tag faults, no log changes")
 
-    def tag_faults(self, node: int) -> int:
-        """Return how many packets with a wrong tag a node has counted."""
-        return self.cluster.nodes[node].figure("foqradesh_packet_faults_total", 'fault="tag"')
+    def steady(self, nodes: Sequence[int], name: str, label: str, above: Optional[Mapping[int, int]] = None) -> Dict[int, int]:
+        """Return a figure of each node once it counts no more, and more than in `above` at each. Wrong if it is not in time."""
+        what = f"figure {name} with {label} of each of nodes {names(nodes)} is above {dict(above or {})}"
+        found: List[Dict[int, int]] = [{}]
+
+        def is_steady() -> bool:
+            last = found[0]
+            time.sleep(0.5)
+            found[0] = {node: self.cluster.nodes[node].figure(name, label) for node in nodes}
+            return found[0] == last and all(count > (above or {}).get(node, -1) for node, count in found[0].items())
+
+        wait_for(what, is_steady)
+        return found[0]
 
     def tunnel(self, name: str, begin: Callable[[Cluster], str]) -> None:
         """Speak at node 0 by way of a tunnel to its sessions, or say why there is none."""
@@ -699,7 +701,8 @@ def end_by_signal(number: int, _: object) -> None:
 
 def main(words: Sequence[str]) -> int:
     """Return the status: 0, 1 at the first thing that is not so, or 2 for wrong words or a missing program."""
-    if len(words) > 1 or not all(word.isdecimal() and 1024 <= int(word) <= 65_000 for word in words):
+    port, silence = (*words, *("24000", "3")[len(words) :])[:2]
+    if len(words) > 2 or not (port + silence).isdecimal() or not (1024 <= int(port) <= 65_000 and 2 <= int(silence) <= 20):
         print(__doc__)
         return 2
     programs = []
@@ -713,7 +716,7 @@ def main(words: Sequence[str]) -> int:
         signal.signal(number, end_by_signal)
     with tempfile.TemporaryDirectory(prefix="peers-") as folder:
         try:
-            cluster = Cluster(folder, int(words[0]) if words else 24_000, *programs)
+            cluster = Cluster(folder, int(port), int(silence), *programs)
         except OSError as error:
             print(f"peers.sh: the relay cannot have its ports: {error}", file=sys.stderr)
             return 1

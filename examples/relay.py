@@ -43,8 +43,9 @@ Pair = Tuple[int, int]
 HELD = 0.020
 """How long at most a repetition or a reordered datagram is held back, in seconds."""
 
-PACE = 0.0005
-"""The time between two datagrams of a replay, in seconds, which lets their receivers keep up."""
+PACE = 0.001
+BYTES = 2_000_000
+"""The time between two datagrams of a replay, in seconds, and how many bytes go in a second: their receivers keep up with that."""
 
 
 class Relay:
@@ -192,7 +193,7 @@ class Relay:
         for pair, data in datagrams:
             with self._lock:
                 self._take(pair, data)
-            time.sleep(PACE)
+            time.sleep(PACE + len(data) / BYTES)
         return f"sent {len(datagrams)}"
 
     def _tell_counts(self) -> str:
