@@ -1,4 +1,4 @@
-//! Worked nodes of clusters of several machines, as tests: their files, marks and addresses, and whole nodes with their clients on sockets of this
+//! Worked nodes of clusters of several machines, as tests: their files, marks and addresses, and whole nodes on sockets of this
 //! machine. There is nothing here but tests.
 #![tactic(auto)]
 

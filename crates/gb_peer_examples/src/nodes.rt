@@ -1,54 +1,25 @@
-// Whole nodes, with a client each.
+// Whole nodes, which are told to stop as soon as they serve.
 use crate::folders::{file, folder};
-use crate::refusals::{KEYS, Run, run_of};
+use crate::refusals::{Run, run_of};
 use std::alloc::{AllocGlobal, Global};
+use std::fs;
 use std::fs::Files;
-use std::io::{Read, Write};
-use std::net::{Ipv4Addr, Net, Shutdown, SocketAddr, SocketAddrV4, TcpListener, TcpStream};
+use std::net::{Net, TcpListener, TcpStream};
 use std::rt::HostRuntime;
 use std::sync::Wait;
 use std::thread::Threads;
-use std::time::{Clock, Duration};
-use std::{fs, thread};
+use std::time::Clock;
 
-// Two nodes on this machine, whose sessions are at ports 31264 and 31265.
+// Two nodes on this machine, the second of which names the machine by a name.
 static TWO: &[u8] =
     b"run = 7\ntick = 20\nversion = 2\n[[node]]\npackets = \"127.0.0.1:31200\"\nsessions = \"127.0.0.1:31264\"\n[[node]]\npackets = \"localhost:31201\"\nsessions = \"127.0.0.1:31265\"\n";
 
-// A request of a group of a tenant that is not there, whose token no node gave out, and the reply.
-static OPEN: &[u8] =
-    b"\x00\x00\x00\x49open 0000000000000000000000000000000000000000000000000000000000000000 7 1";
+// The keys, and the line that ends a node.
+static STOP: &[u8] =
+    b"1111111111111111111111111111111111111111111111111111111111111111\n2222222222222222222222222222222222222222222222222222222222222222\nstop\n";
 
-static DENIED: &[u8] = b"\x00\x00\x00\x10refused 1 Denied";
-
-// A connection to a port of this machine, as soon as somebody listens there; ten seconds are waited for that.
-fn connect<H: Net<Stream = TcpStream> + Clock>(rt: &H, port: u16) -> Option<TcpStream> {
-    let address = SocketAddr::V4(SocketAddrV4::new(Ipv4Addr::LOCALHOST, port));
-    for _ in 0..1_000 {
-        if let Ok(stream) = TcpStream::connect(rt, address) {
-            return Some(stream);
-        }
-        thread::sleep(rt, Duration::from_millis(10));
-    }
-    None
-}
-
-// Whether a client of a port that asks for a group is denied it.
-fn is_denied<H: Net<Stream = TcpStream> + Clock>(rt: &H, alloc: Global, port: u16) -> bool {
-    let Some(mut stream) = connect(rt, port) else {
-        return false;
-    };
-    let _ = stream.set_read_timeout(Some(Duration::from_secs(10)));
-    if stream.write_all(OPEN).is_err() {
-        return false;
-    }
-    let _ = stream.shutdown(Shutdown::Write);
-    let mut text = Vec::new(alloc);
-    stream.read_to_end(&mut text).is_ok() && text.as_slice() == DENIED
-}
-
-// How a node with this number of the file's two ends that serves one connection.
-fn serve_one<
+// How a node with this number of a file ends that is told to stop.
+fn run_node<
     H: Net<Listener = TcpListener, Stream = TcpStream>
         + Threads
         + Wait
@@ -57,36 +28,16 @@ fn serve_one<
         + Files
         + AllocGlobal,
 >(rt: &H, alloc: Global, name: &str, dir: &str, node: &str) -> Run {
-    let words = [
-        "gb_peer",
-        "--cluster",
-        name,
-        "--node",
-        node,
-        "--dir",
-        dir,
-        "--sessions",
-        "1",
-    ];
-    run_of(rt, alloc, &words, KEYS)
+    let words = ["gb_peer", "--cluster", name, "--node", node, "--dir", dir];
+    run_of(rt, alloc, &words, STOP)
 }
 
-// Whether a node serves a client, and ends well.
-fn is_served<
-    H: Net<Listener = TcpListener, Stream = TcpStream>
-        + Threads
-        + Wait
-        + Clock
-        + Sync
-        + Files
-        + AllocGlobal,
->(rt: &H, alloc: Global, name: &str, dir: &str, node: &str, port: u16, line: &[u8]) -> bool {
-    let (run, is_told) = thread::join(
-        rt,
-        || serve_one(rt, alloc, name, dir, node),
-        || is_denied(rt, alloc, port),
-    );
-    is_told && run.status == 0 && run.lines.as_slice() == line
+// Whether a run ended so: with this status, this text, and a log that begins and ends so.
+fn ended(run: &Run, status: u8, lines: &[u8], first: &[u8], last: &[u8]) -> bool {
+    run.status == status
+        && run.lines.as_slice() == lines
+        && run.errors.starts_with(first)
+        && run.errors.ends_with(last)
 }
 
 #[test]
@@ -94,30 +45,36 @@ fn nodes_are_served_by_number(rt: HostRuntime) {
     let alloc = rt.alloc();
     let dir = folder(&rt, alloc).expect(&rt, "a folder");
     let name = file(&rt, alloc, &dir, TWO).expect(&rt, "a file");
-    let first = is_served(
-        &rt,
-        alloc,
-        &name,
-        &dir,
-        "0",
-        31_264,
-        b"serving node 0 of 2 in run 7\nclosed\n",
-    );
-    let second = is_served(
-        &rt,
-        alloc,
-        &name,
-        &dir,
-        "1",
-        31_265,
-        b"serving node 1 of 2 in run 7\nclosed\n",
-    );
-    assert!(rt; first && second);
-    // Each has begun in this run.
-    let again = serve_one(&rt, alloc, &name, &dir, "1");
+    let first = run_node(&rt, alloc, &name, &dir, "0");
     assert!(rt;
-        again.status == 1
-            && again.lines.as_slice() == b"node 1 has begun in run 7 already\n".as_slice()
+        ended(
+            &first,
+            0,
+            b"serving node 0 of 2 in run 7\nclosed\n",
+            b"gb_peer ",
+            b": node 0 of 2 in run 7, packets at UDP 127.0.0.1:31200, sessions at TCP 127.0.0.1:31264\ngb_peer: ends: standard input said stop\n"
+        )
+    );
+    let second = run_node(&rt, alloc, &name, &dir, "1");
+    assert!(rt;
+        ended(
+            &second,
+            0,
+            b"serving node 1 of 2 in run 7\nclosed\n",
+            b"gb_peer ",
+            b": node 1 of 2 in run 7, packets at UDP 127.0.0.1:31201, sessions at TCP 127.0.0.1:31265\ngb_peer: ends: standard input said stop\n"
+        )
+    );
+    // Each has begun in this run.
+    let again = run_node(&rt, alloc, &name, &dir, "1");
+    assert!(rt;
+        ended(
+            &again,
+            1,
+            b"node 1 has begun in run 7 already\n",
+            b"gb_peer: node 1 has begun in run 7 already: ",
+            b"or start all nodes in the next run\n"
+        )
     );
     let _ = fs::remove_dir_all(&rt, dir.as_str());
 }
