@@ -85,6 +85,7 @@ impl<L: Tapes> Hosted<L> {
             version: plan.cluster.bounds().version_of(me),
             silence: plan.cluster.silence,
             places: plan.cluster.places,
+            room: plan.cluster.room,
             cluster_key,
             admin_key,
             tape: plan.tape,

@@ -1,5 +1,5 @@
 -- What each event makes of a node, and its answer.
-use Rattle.std.specs.Prelude.{ℕ, ◌≡◌, ◌%◌, ◌⊎◌, ◌&&◌, not, Bool, true, List, [], ◌∷◌, length, filter, fold, Option, Some, None, IfSome, option_map, Result, Ok, Err, slice_index_or, slice_set, nat_eq, nat_lt, if◌then◌else◌}
+use Rattle.std.specs.Prelude.{ℕ, ◌≡◌, ◌%◌, min, ◌⊎◌, ◌&&◌, not, Bool, true, List, [], ◌∷◌, length, filter, fold, Option, Some, None, IfSome, option_map, Result, Ok, Err, slice_index_or, slice_set, nat_eq, nat_lt, if◌then◌else◌}
 use Rattle.std.specs.FinSet as set
 use Rattle.gb_types.specs.Entry.{message_of}
 use Rattle.gb_types.specs.Rising.{rising}
@@ -10,6 +10,7 @@ use Rattle.gb_types.specs.declared.reply.Reply.{Reply}
 use Rattle.gb_types.specs.declared.reply.Reply.TheVariants.{Refused}
 use Rattle.gb_types.specs.declared.request.Request.{Request}
 use Rattle.gb_types.specs.declared.request.Request.TheVariants.{AddTenant, Make, Fetch}
+use Rattle.gb_types.specs.declared.version.Version.{Version}
 use Rattle.gb_frame.specs.declared.fault.PacketFault.{PacketFault}
 use Rattle.gb_frame.specs.declared.fault.PacketFault.TheVariants.{Node}
 use Rattle.gb_frame.specs.declared.item.Item.{Item}
@@ -26,8 +27,8 @@ use Rattle.gb_detect.specs.Watch.{due, after_heard, after_tick}
 use Rattle.gb_rules.specs.Replied.{takes_memory}
 use Rattle.gb_frame.specs.Items.{address_of, entry_of, rest_is_node}
 use Rattle.gb_groups.specs.GroupsValue.{batch}
-use Rattle.gb_groups.specs.OneGroup.{NothingWaits}
-use Rattle.gb_groups.specs.Packing.{items}
+use Rattle.gb_groups.specs.OneGroup.{longest_item, NothingWaits}
+use Rattle.gb_groups.specs.Packing.{Visit, items}
 use Rattle.gb_table.specs.TableValue.{TableValue, table_came, table_done, table_noticed, table_packed}
 use Rattle.gb_table.specs.Requests.{table_reply, table_did}
 use Rattle.gb_node.specs.NodeValue.{NodeValue}
@@ -70,9 +71,22 @@ is_reached v b = is_another v b && not (set.contains v.watch.noticed b.number)
 abbrev pub content_to : NodeValue → NodeId → ℕ → List Item → Content
 content_to v b frame items = record { version = v.table.version; from = v.table.me.number; to = b.number; base = base_of (receiver_from v b.number); mask = mask_of (receiver_from v b.number); frame = frame; items = items }
 
--- what a batch for a node has now
-abbrev pub batch_to : TableValue → NodeId → List Item
-batch_to t b = items t.groups.rows (batch t.version b.number (room_of t.version) t.groups)
+-- what a batch for a node has now where it may have so many bytes
+abbrev pub batch_to : ℕ → TableValue → NodeId → List Item
+batch_to room t b = items t.groups.rows (batch t.version b.number room t.groups)
+
+-- the node's own most bytes of a batch, which are no more than a packet of its version has room for
+abbrev pub own_room : NodeValue → ℕ
+own_room v = min v.room (room_of v.table.version)
+
+-- the most bytes of a batch, or, where nothing fits into them, those of the longest item
+abbrev pub room_or_longest : Version → ℕ → List Visit → ℕ
+room_or_longest version room [] = longest_item version
+room_or_longest version room (v ∷ vs) = room
+
+-- the most bytes of the next batch for a node
+abbrev pub room_to : NodeValue → NodeId → ℕ
+room_to v b = room_or_longest v.table.version (own_room v) (batch v.table.version b.number (own_room v) v.table.groups)
 
 abbrev pub unless_empty : List Item → Option (List Item)
 unless_empty [] = None
@@ -80,7 +94,7 @@ unless_empty (i ∷ is) = Some (i ∷ is)
 
 -- the batch that is packed next for a node, if there is one
 abbrev pub next_batch : NodeValue → NodeId → Option (List Item)
-next_batch v b = if is_reached v b && has_room (window_to v b.number) then unless_empty (batch_to v.table b) else None
+next_batch v b = if is_reached v b && has_room (window_to v b.number) then unless_empty (batch_to (room_to v b) v.table b) else None
 
 abbrev pub pack_content : NodeValue → NodeId → Option Content
 pack_content v b = option_map (content_to v b (window_to v b.number).next) (next_batch v b)
@@ -88,7 +102,7 @@ pack_content v b = option_map (content_to v b (window_to v b.number).next) (next
 -- a node once this batch was packed for another, if there is one
 abbrev pub sent_batch : NodeId → Option (List Item) → NodeValue → NodeValue
 sent_batch b None v = v
-sent_batch b (Some items) v = record v { table = table_packed b.number (room_of v.table.version) v.table; windows = slice_set v.windows b.number (pushed (window_to v b.number) items) }
+sent_batch b (Some items) v = record v { table = table_packed b.number (room_to v b) v.table; windows = slice_set v.windows b.number (pushed (window_to v b.number) items) }
 
 abbrev pub node_packed : NodeId → NodeValue → NodeValue
 node_packed b v = sent_batch b (next_batch v b) v

@@ -19,6 +19,7 @@ pub record IsOfPastBesideGroups (plan : NodePlan) (past : List Happened) (v : No
   pub version : v.table.version ≡ plan.version
   pub places : v.table.places ≡ plan.places
   pub admin_key : v.table.admin_key ≡ plan.admin_key
+  pub room : v.room ≡ plan.room
   pub stopped : v.stopped ≡ is_stopped past
   pub watch : v.watch ≡ replay (start plan.me.number plan.nodes plan.silence) (watched plan.cluster_key past)
   pub tenants : v.table.tenants ≡ tenants_in past

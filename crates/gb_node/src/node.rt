@@ -11,6 +11,7 @@ ghost use Rattle.gb_frame.specs.declared.limits.TheConstants.{SHORTEST};
 ghost use Rattle.gb_frame.specs.Room.{room_of};
 ghost use Rattle.gb_link.specs.SendWindow.{new_window, has_room, frame_again};
 ghost use Rattle.gb_groups.specs.GroupsValue.{batch};
+ghost use Rattle.gb_groups.specs.OneGroup.{NothingWaits};
 ghost use Rattle.gb_groups.specs.Packing.{size};
 ghost use Rattle.gb_cap.specs.declared.token.Need.TheVariants.{Admin};
 ghost use Rattle.gb_table.specs.Admission.{is_token};
@@ -19,7 +20,7 @@ ghost use Rattle.gb_node.specs.Frames.{new_frames, items_of_frame, IsHead};
 ghost use Rattle.gb_node.specs.Listing.{Lists};
 ghost use Rattle.gb_node.specs.NodeValue.{new_node};
 ghost use Rattle.gb_node.specs.Reads.{is_read, packet_room, IsWithin};
-ghost use Rattle.gb_node.specs.NodeStep.{window_to, is_another, is_reached, content_to, batch_to, sent_batch, read_at, good_of, node_took, IsTurn, IsSpelt, IsForReason};
+ghost use Rattle.gb_node.specs.NodeStep.{window_to, is_another, is_reached, content_to, batch_to, room_to, sent_batch, read_at, good_of, node_took, IsTurn, IsSpelt, IsForReason};
 
 use crate::answer::{Good, Halted, NodeAnswer, PacketAnswer, Sent, Ticked};
 use crate::event::NodeEvent;
@@ -40,7 +41,7 @@ use gb_frame::view::PacketView;
 use gb_link::receiver::Receiver;
 use gb_table::listing::Listing;
 use gb_table::table::Table;
-use gb_types::limits::{NODES, PLACES, SILENCE_MAX, SILENCE_MIN};
+use gb_types::limits::{NODES, PAYLOAD, PLACES, SILENCE_MAX, SILENCE_MIN};
 use gb_types::memory::OutOfMemory;
 use gb_types::node::NodeId;
 use gb_types::refusal::Refusal;
@@ -61,6 +62,8 @@ pub struct Node {
     /// For each node, the receiving end of the link from it.
     receivers: [Receiver; NODES],
     detector: Detector,
+    /// The most bytes of the items of a packet, but for an item that is longer.
+    room: usize,
     stopped: bool,
 }
 
@@ -74,6 +77,7 @@ impl Drop for Node {
             windows: _,
             receivers: _,
             detector: _,
+            room: _,
             stopped: _,
         } = self;
     }
@@ -90,7 +94,7 @@ impl Model for Node {
 
     ghost coded = { Prim.hlevel (codes, set.code {R = nat_cmp} coded_ℕ) };
 
-    ghost view = { λ n. record { key = n.key; table = n.table; windows = windows_of n.windows; receivers = n.receivers; watch = n.detector; stopped = n.stopped } };
+    ghost view = { λ n. record { key = n.key; table = n.table; room = n.room; windows = windows_of n.windows; receivers = n.receivers; watch = n.detector; stopped = n.stopped } };
 
     ghost use Rattle.gb_node.specs.Frames.{KeepsVersion};
 
@@ -177,6 +181,17 @@ fn new_receivers() -> [Receiver; NODES]
     ]
 }
 
+/// A batch as it was measured.
+#[derive(Clone, Copy)]
+struct Measured {
+    /// The most bytes that it may have.
+    most: usize,
+    /// How many items it has.
+    count: u16,
+    /// How many bytes its items take.
+    bytes: usize,
+}
+
 impl Node {
     /// A node at which nothing has happened.
     pub fn start(alloc: Global, plan: &NodePlan) -> Node
@@ -201,6 +216,7 @@ impl Node {
             windows: new_windows(alloc, plan.version),
             receivers: new_receivers(),
             detector: Detector::new(plan.me, plan.nodes, plan.silence),
+            room: usize::from(plan.room),
             stopped: false,
         }
     }
@@ -278,20 +294,43 @@ impl Node {
         }
     }
 
-    /// The next batch for a node, which has so many items with so many bytes, becomes the next frame, whose number this
-    /// gives. Without memory nothing has changed.
-    fn push_batch(&mut self, to: NodeId, count: u16, bytes: usize) -> Result<u64, OutOfMemory>
+    /// Measures the next batch for a node: the most bytes that it may have, how many items it has and how many bytes these take. It has
+    /// none where nothing waits for the node.
+    fn measure(&self, to: NodeId) -> Measured
+        ensures most { result.most ≡ room_to self.now to }
+        ensures within { result.most ≤ room_of self.now.table.version }
+        ensures count { result.count ≡ length (batch self.now.table.version to.number (room_to self.now to) self.now.table.groups) }
+        ensures bytes { result.bytes ≡ sum_by (size self.now.table.version) (batch self.now.table.version to.number (room_to self.now to) self.now.table.groups) }
+        ensures fits { result.bytes ≤ result.most }
+        ensures none { result.count ≡ 0 → NothingWaits to.number self.now.table.groups.rows }
+    {
+        let version = self.table.version();
+        let most = self.room.min(room(version));
+        let (count, bytes) = self.table.measure(to, most);
+        if count > 0 {
+            return Measured { most, count, bytes };
+        }
+        let most = version.limits().item_header + PAYLOAD;
+        let (count, bytes) = self.table.measure(to, most);
+        Measured { most, count, bytes }
+    }
+
+    /// Makes the next batch for a node, as it was measured, the next frame. Returns the frame's number. Without memory nothing has
+    /// changed.
+    fn push_batch(&mut self, to: NodeId, next: &Measured) -> Result<u64, OutOfMemory>
         requires room { has_room (window_to self.old to.number) ≡ true }
-        requires some { 0 < count }
-        requires count { count ≡ length (batch self.old.table.version to.number (room_of self.old.table.version) self.old.table.groups) }
-        requires bytes { bytes ≡ sum_by (size self.old.table.version) (batch self.old.table.version to.number (room_of self.old.table.version) self.old.table.groups) }
-        ensures state { OnOk result (self.new ≡ sent_batch to (Some (batch_to self.old.table to)) self.old) }
-        ensures frame { IfOk result (λ number. (0 < number) × (number ≡ (window_to self.old to.number).next) × (frame_again (window_to self.new to.number) number ≡ Some (number, batch_to self.old.table to))) }
-        ensures texts { OnOk result (length (items_text self.old.table.version (batch_to self.old.table to)) ≡ bytes) }
+        requires some { 0 < next.count }
+        requires most { next.most ≡ room_to self.old to }
+        requires within { next.most ≤ room_of self.old.table.version }
+        requires count { next.count ≡ length (batch self.old.table.version to.number next.most self.old.table.groups) }
+        requires bytes { next.bytes ≡ sum_by (size self.old.table.version) (batch self.old.table.version to.number next.most self.old.table.groups) }
+        ensures state { OnOk result (self.new ≡ sent_batch to (Some (batch_to next.most self.old.table to)) self.old) }
+        ensures frame { IfOk result (λ number. (0 < number) × (number ≡ (window_to self.old to.number).next) × (frame_again (window_to self.new to.number) number ≡ Some (number, batch_to next.most self.old.table to))) }
+        ensures texts { OnOk result (length (items_text self.old.table.version (batch_to next.most self.old.table to)) ≡ next.bytes) }
         ensures err { OnErr result (self.new ≡ self.old) }
     {
         let window = &mut self.windows[to.index()];
-        window.pack(&mut self.table, to, count, bytes)
+        window.pack(&mut self.table, to, next.most, next.count, next.bytes)
     }
 
     /// The texts of the frame for a node with this number that was not acknowledged, and the number; for 0 the lowest
@@ -320,27 +359,24 @@ impl Node {
         frame_packet(self.head(to, number), count, texts, self.key.key(), packet)
     }
 
-    /// Sends the next batch for a node, so many items with so many bytes. Without memory nothing has changed.
-    fn send_batch(
-        &mut self,
-        to: NodeId,
-        count: u16,
-        bytes: usize,
-    ) -> Result<PacketText, OutOfMemory>
+    /// Sends the next batch for a node, as it was measured. Without memory nothing has changed.
+    fn send_batch(&mut self, to: NodeId, next: &Measured) -> Result<PacketText, OutOfMemory>
         requires another { is_another self.old to ≡ true }
         requires room { has_room (window_to self.old to.number) ≡ true }
-        requires some { 0 < count }
-        requires count { count ≡ length (batch self.old.table.version to.number (room_of self.old.table.version) self.old.table.groups) }
-        requires bytes { bytes ≡ sum_by (size self.old.table.version) (batch self.old.table.version to.number (room_of self.old.table.version) self.old.table.groups) }
-        requires most { bytes ≤ room_of self.old.table.version }
-        ensures packet { IfOk result (λ p. p ≡ packet_text self.old.key (content_to self.old to (window_to self.old to.number).next (batch_to self.old.table to))) }
-        ensures spelt { OnOk result (IsPacket (content_to self.old to (window_to self.old to.number).next (batch_to self.old.table to))) }
-        ensures state { OnOk result (self.new ≡ sent_batch to (Some (batch_to self.old.table to)) self.old) }
+        requires some { 0 < next.count }
+        requires most { next.most ≡ room_to self.old to }
+        requires within { next.most ≤ room_of self.old.table.version }
+        requires count { next.count ≡ length (batch self.old.table.version to.number next.most self.old.table.groups) }
+        requires bytes { next.bytes ≡ sum_by (size self.old.table.version) (batch self.old.table.version to.number next.most self.old.table.groups) }
+        requires fits { next.bytes ≤ next.most }
+        ensures packet { IfOk result (λ p. p ≡ packet_text self.old.key (content_to self.old to (window_to self.old to.number).next (batch_to next.most self.old.table to))) }
+        ensures spelt { OnOk result (IsPacket (content_to self.old to (window_to self.old to.number).next (batch_to next.most self.old.table to))) }
+        ensures state { OnOk result (self.new ≡ sent_batch to (Some (batch_to next.most self.old.table to)) self.old) }
         ensures err { OnErr result (self.new ≡ self.old) }
     {
-        let packet = Vec::with_capacity(self.alloc, SHORTEST + bytes)?;
-        let number = self.push_batch(to, count, bytes)?;
-        Ok(self.write_frame(to, number, count, packet))
+        let packet = Vec::with_capacity(self.alloc, SHORTEST + next.bytes)?;
+        let number = self.push_batch(to, next)?;
+        Ok(self.write_frame(to, number, next.count, packet))
     }
 
     /// Packs what waits for a node as the next frame of the link to it. Nothing, with nothing changed, where the node is
@@ -357,11 +393,11 @@ impl Node {
         if !self.is_reached(to) || !self.has_room(to) {
             return Sent::Nothing;
         }
-        let (count, bytes) = self.table.measure(to, room(self.table.version()));
-        if count == 0 {
+        let next = self.measure(to);
+        if next.count == 0 {
             return Sent::Nothing;
         }
-        match self.send_batch(to, count, bytes) {
+        match self.send_batch(to, &next) {
             Ok(packet) => Sent::Packet(packet),
             Err(_) => Sent::Refused(Refusal::OutOfMemory),
         }

@@ -11,7 +11,6 @@ ghost use Rattle.gb_table.specs.TableValue.{table_packed};
 ghost use Rattle.gb_node.specs.NodeStep.{batch_to};
 
 use gb_frame::laws::texts_tell_items;
-use gb_frame::limits::room;
 use gb_link::spaced::SpacedSender;
 use gb_table::table::Table;
 use gb_types::memory::OutOfMemory;
@@ -93,32 +92,33 @@ impl Window {
         self.sender.reuse(texts);
     }
 
-    /// Packs the next batch of a table for a node, so many items with so many bytes, where it stays, as the next frame,
-    /// and gives its number. Without memory nothing has changed.
+    /// Packs the next batch of a table for a node, which may have `most` bytes and has `count` items with `bytes` bytes, where it stays,
+    /// as the next frame. Returns its number. Without memory nothing has changed.
     pub fn pack(
         &mut self,
         table: &mut Table,
         to: NodeId,
+        most: usize,
         count: u16,
         bytes: usize,
     ) -> Result<u64, OutOfMemory>
+        requires most { most ≤ room_of table.old.version }
         requires version { self.old.version ≡ table.old.version }
         requires room { has_room self.old.window ≡ true }
         requires some { 0 < count }
-        requires count { count ≡ length (batch table.old.version to.number (room_of table.old.version) table.old.groups) }
-        requires bytes { bytes ≡ sum_by (size table.old.version) (batch table.old.version to.number (room_of table.old.version) table.old.groups) }
-        ensures frame { IfOk result (λ number. (0 < number) × (number ≡ self.old.window.next) × (frame_again self.new.window number ≡ Some (number, batch_to table.old to))) }
-        ensures texts { OnOk result (length (items_text table.old.version (batch_to table.old to)) ≡ bytes) }
-        ensures window { OnOk result (self.new ≡ record self.old { window = pushed self.old.window (batch_to table.old to) }) }
-        ensures fit { OnOk result (FitPacket table.old.version (batch_to table.old to)) }
-        ensures table { OnOk result (table.new ≡ table_packed to.number (room_of table.old.version) table.old) }
+        requires count { count ≡ length (batch table.old.version to.number most table.old.groups) }
+        requires bytes { bytes ≡ sum_by (size table.old.version) (batch table.old.version to.number most table.old.groups) }
+        ensures frame { IfOk result (λ number. (0 < number) × (number ≡ self.old.window.next) × (frame_again self.new.window number ≡ Some (number, batch_to most table.old to))) }
+        ensures texts { OnOk result (length (items_text table.old.version (batch_to most table.old to)) ≡ bytes) }
+        ensures window { OnOk result (self.new ≡ record self.old { window = pushed self.old.window (batch_to most table.old to) }) }
+        ensures fit { OnOk result (FitPacket table.old.version (batch_to most table.old to)) }
+        ensures table { OnOk result (table.new ≡ table_packed to.number most table.old) }
         ensures err { OnErr result ((self.new ≡ self.old) × (table.new ≡ table.old)) }
     {
         texts_tell_items();
         // The proof reads how frames are numbered.
         let _ = self.sender.room();
         self.sender.space(bytes)?;
-        let most = room(table.version());
         table.pack_into(to, most, count, self.sender.spare());
         Ok(self.sender.commit())
     }

@@ -36,6 +36,8 @@ pub struct ClusterStart {
     pub versions: [Version; NODES],
     /// After how many ticks without a good packet a node is noticed: 2 to 1,000.
     pub silence: u16,
+    /// The most bytes of the items of a packet: 1 to 16,345.
+    pub room: u16,
 }
 
 /// What a line of a schedule asks for.

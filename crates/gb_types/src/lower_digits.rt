@@ -88,3 +88,21 @@ pub fn read_lower(alloc: Global, word: &[u8]) -> Result<Option<Vec<u8>>, OutOfMe
     let is_found = is_spelled(bytes.as_slice(), word);
     Ok(is_found.then_some(bytes))
 }
+
+/// The 32 bytes that a word of 64 digits spells, found where it is written in lower case. None leaves it to be read digit by digit.
+pub fn read_lower_token(word: &[u8]) -> Option<[u8; 32]>
+    ensures { IfSome result (λ token. (length word.now ≡ 64) × (decode_of word.now ≡ Ok token)) }
+{
+    if word.len() != 64 {
+        return None;
+    }
+    let (pairs, _) = word.as_chunks::<2>();
+    let mut token = [0; 32];
+    // Any bytes will do here: they are looked at below.
+    guess_bytes(&mut token, pairs);
+    if is_spelled(&token, word) {
+        Some(token)
+    } else {
+        None
+    }
+}

@@ -17,6 +17,9 @@ pub struct Plan {
     pub silence: u16,
     /// How many groups the tenants of a node may make in all: 4,096 at most.
     pub places: u16,
+    /// The most bytes of the items of a packet; no more than a packet of the sender's version has room for. An item that is longer than
+    /// this is sent all the same.
+    pub room: u16,
     /// The key of the packets between the nodes.
     pub cluster_key: [u8; 32],
     /// The key of the administrator's token.
