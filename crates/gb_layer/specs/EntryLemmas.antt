@@ -106,7 +106,7 @@ unsent_at (x ∷ es) (suc i) e is s h =
 abbrev pub given_for : MsgId → Entry → Bool
 given_for m e = is_for m e && e.given
 
--- what the holders do not count for
+-- a count that does not depend on the holders
 pub count_taken_in : (p : Entry → Bool) (me : NodeId) → ((via : NodeId) (e : Entry) → p (held_entry me via e) ≡ p e) → (us : List Up) (es : List Entry) → count_by p (taken_in me us es) ≡ count_by p es
 count_taken_in p me k [] es = refl
 count_taken_in p me k (u ∷ us) es = count_taken_in p me k us (map (held me u.via u.m) es) ∙ count_by-map p (held me u.via u.m) (held_same p me u.via u.m (k u.via)) es
@@ -120,7 +120,7 @@ given_marked x es m = count_by-map (given_for m) (marked_sent x) (marked_same (g
 pub given_noted : (es : List Entry) (x m : MsgId) → count_by (given_for m) (noted es x) ≡ count_by (given_for m) es
 given_noted es x m = count_by-grown (given_for m) (list_any (is_for x) es) es (new_entry x) (and-false (same x m))
 
--- each that is handed up now was not before
+-- each entry that is handed up now was not handed up before
 pub given_handed : (due : Entry → Bool) → ((e : Entry) → due e ≡ true → e.given ≡ false) → (es : List Entry) (m : MsgId)
     → count_by (given_for m) es + count_by (is_of m) (map up_of (filter due es)) ≡ count_by (given_for m) (map (handed due) es)
 given_handed due new [] m = refl
