@@ -35,7 +35,7 @@ walk cursor qs = in_turns (from_place cursor (placed 0 qs))
 abbrev pub size : Version → Visit → ℕ
 size version v = (limits_of version).item_header + length v.item.payload
 
--- the longest front of a walk whose items have at most so many bytes
+-- the longest front of a walk whose items have at most `room` bytes in all
 unfoldable pub fit : Version → ℕ → List Visit → List Visit
 fit version room [] = []
 fit version room (v ∷ vs) = if ltb room (size version v) then [] else v ∷ fit version (room - size version v) vs

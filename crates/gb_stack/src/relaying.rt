@@ -8,7 +8,7 @@ use crate::here::Here;
 use gb_layer::rule::Rule;
 use gb_records::record::Record;
 
-/// Whether a message is sent from here, and whether it comes up.
+/// The effects of a step on a message: `sends` if it is sent from here, `rises` if it comes up.
 #[derive(Clone, Copy)]
 pub(crate) struct Moved {
     pub sends: bool,

@@ -10,7 +10,7 @@ pub enum Refusal {
     /// The group was never made here, or its number is not below the tenant's.
     #[error("no such group")]
     NoGroup,
-    /// The group was made here before, or is given up.
+    /// The group was made here before, or was dropped.
     #[error("the group's number is spent")]
     Spent,
     /// The set of members is empty, lacks this node, or names a node that is not in the cluster.
