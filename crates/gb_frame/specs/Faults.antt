@@ -30,7 +30,7 @@ pub record Stand (version : TextVersion) (n : ℕ) (bytes : List ℕ) (items : L
   pub payloads : All (λ i. length i.payload ≤ (limits_of version).payload) items
   pub parts : bytes ≡ items_text version items ++ rest
 
--- the fault holds of the bytes, whatever else does; the limits are those of the version that the version byte stands for
+-- the fault holds of the bytes, whether or not others hold; the limits are those of the version that the version byte stands for
 abbrev pub HasFault : List ℕ → List ℕ → PacketFault → Type 0
 HasFault key bytes Short = length bytes < SHORTEST
 HasFault key bytes Magic = take 2 bytes ≢ codes "GB"

@@ -65,7 +65,7 @@ fn deliver_one<R: Rule>(
     }
 }
 
-/// Hands up each message that is due. These stand at `places`.
+/// Hands up each message that is due. These are at `places`.
 fn deliver_all<R: Rule>(
     entries: &mut Vec<Entry>,
     places: Places,
@@ -89,7 +89,7 @@ fn deliver_all<R: Rule>(
     }
 }
 
-/// Hands up each message that is due. These stand at `places`.
+/// Hands up each message that is due. These are at `places`.
 fn deliver_in<R: Rule>(
     ledger: &mut Ledger,
     places: Places,

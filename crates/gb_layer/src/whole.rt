@@ -40,7 +40,7 @@ pub fn is_within(members: &NodeSet, msgs: u16, call: Call) -> bool
     }
 }
 
-/// Makes a layer that was told of no message yet reserve all its memory, then makes two calls without `ready` between them.
+/// Reserves all memory of a layer to which no message was handed in yet, then makes two calls without `ready` between them.
 /// Discards the effects of the first. Returns true if it did so. Returns false, with nothing done, if one of the calls is not
 /// within the limit.
 pub fn take_two<L: Layer>(
