@@ -1,4 +1,4 @@
-// What a token allows, and the tokens.
+// The needs, and the tokens for them.
 ghost use Rattle.std.specs.Prelude.{◌≡◌, ◌↔◌, IsTrue};
 ghost use Rattle.gb_cap.specs.Token.{token_of, TextsTellNeedsApart, SharedTokensCollide};
 

@@ -1,4 +1,4 @@
-//! What a group delivers, broadcasts and lets fall.
+//! The messages that a group delivers, broadcasts and lets fall.
 ghost use Rattle.std.specs.Prelude.{◌≡◌, [], IfOk};
 ghost use Rattle.gb_types.specs.Rising.{rising, AreNodes};
 ghost use Rattle.gb_layer.specs.Machine as machine;

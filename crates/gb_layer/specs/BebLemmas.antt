@@ -48,7 +48,7 @@ beb_ups me (Came p x ∷ past) via m h =
     refl h.0 (alike me.number p.number via x m past) (beb_ups me past via m h.1)
 beb_ups me (Notice q ∷ past) via m h = count_by-append_nil (is_up via m) (ups me past) ∙ beb_ups me past via m h
 
--- what did not come from here was not said
+-- a message that did not come from here was not said
 pub not_said : (me : ℕ) (past : List Call) (m : MsgId) → came_from me past me m ≡ false → was_said past m ≡ false
 not_said me [] m h = refl
 not_said me (Say x ∷ past) m h =

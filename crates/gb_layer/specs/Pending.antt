@@ -1,4 +1,4 @@
--- Which entries of a relay are due.
+-- The entries of a relay that are due.
 use Rattle.std.specs.Prelude.{Bool, ◌||◌}
 use Rattle.gb_types.specs.declared.node.NodeId.{NodeId}
 use Rattle.gb_layer.specs.declared.entries.Entry.{Entry}

@@ -132,7 +132,7 @@ module _ {L R : Type 0} {layer : _} {rule : _} (below_whole : L → Limit → Ty
     once = subst (λ es. IsDistinct same (keys es)) (sym e) tt;
   }
 
--- what is due is within the limit
+-- a message that is due is within the limit
 pub due_counted : {S : Type 0} (next : S → Call → S) (gives : S → Call → Gives) (me : S → NodeId) (rules : Rules) (r : State S) (l : Limit) (i : ℕ) (m : MsgId) → Some m ≡ due_message next gives me rules r (slice_get r.entries i)
     → list_all (is_counted l) (keys r.entries) ≡ true → is_counted l m ≡ true
 due_counted next gives me rules r l i m d h =

@@ -1,4 +1,4 @@
-//! What a relay remembers of each message, in the order of first mention.
+//! The entries of a relay, one for each message, in the order of first mention.
 ghost use Rattle.std.specs.Prelude.{◌≡◌, ◌≤◌, length, map, vec_len, vec_capacity};
 ghost use Rattle.gb_layer.specs.Places.{StandsAmong};
 ghost use Rattle.std.specs.List.{list_any};

@@ -26,7 +26,7 @@ use gb_types::node::{NodeId, NodeSet};
 /// other nodes. If the caller breaks them, each call still does as `gives` and `next` say, and only the two laws `up_once` and
 /// `sent_once` are lost.
 pub trait Layer {
-    /// What the layer remembers.
+    /// The state of the layer.
     ghost State: { Type 0 };
 
     ghost meaning: { Self → State };

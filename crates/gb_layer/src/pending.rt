@@ -1,4 +1,4 @@
-//! Which entries are due to be relayed or handed up, and the places where these may stand.
+//! The entries that are due to be relayed or handed up, and the places where these may stand.
 ghost use Rattle.std.specs.Prelude.{◌≡◌, ℕ, ◌<◌, true, [], ◌∷◌, length, slice_get, vec_len, vec_capacity};
 ghost use Rattle.std.specs.declared.option.Option.TheVariants.{Some};
 ghost use Rattle.gb_layer.specs.declared.entries.Entry.{Entry};

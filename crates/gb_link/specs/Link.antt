@@ -8,7 +8,7 @@ use Rattle.gb_link.specs.Ack.{covers}
 use Rattle.gb_link.specs.SendWindow.{SendWindow, IsWindow, new_window, has_room, pushed, lowest_covered, acknowledged}
 use Rattle.gb_link.specs.Received.{Received, base_of, mask_of, admission, admitted, is_first}
 
--- what can happen on a link
+-- the events of a link
 pub data LinkEvent (F : Type 0) : Type 0 where
   -- a frame is pushed, if there is room
   push : F → LinkEvent F

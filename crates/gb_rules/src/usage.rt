@@ -1,6 +1,6 @@
-//! What a group's member has used of what its spec lets it have.
+//! The usage of a group's member: how much of its budgets and its window it has used.
 
-/// What a group's member has used of what its spec lets it have.
+/// The usage of a group's member: how much of its budgets and its window it has used.
 #[derive(Clone, Copy)]
 pub struct Usage {
     /// The number of messages that it said.

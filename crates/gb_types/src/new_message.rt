@@ -1,4 +1,4 @@
-//! What a member asks to say.
+//! The message that a member asks to say.
 ghost use Rattle.std.specs.Prelude.{◌≡◌, IfOk, None};
 
 use crate::memory::OutOfMemory;

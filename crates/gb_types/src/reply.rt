@@ -1,4 +1,4 @@
-//! What a node answers.
+//! The answers of a node.
 ghost use Rattle.std.specs.Prelude.{◌≡◌, List, IfOk, OnErr};
 ghost use Rattle.gb_types.specs.declared.entry.Entry.{Entry as EntryValue};
 

@@ -1,4 +1,4 @@
-//! What a caller may ask of a node.
+//! The requests that a caller may make at a node.
 use crate::address::Addr;
 use crate::new_message::NewMessage;
 use crate::spec::{Spec, TenantRow};

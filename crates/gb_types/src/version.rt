@@ -13,7 +13,7 @@ pub enum Version {
     Three,
 }
 
-/// What a version of the packet text allows.
+/// The limits of a version of the packet text.
 #[derive(Clone, Copy)]
 pub struct VersionLimits {
     /// The version byte of a packet.

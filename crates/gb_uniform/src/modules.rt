@@ -1,4 +1,4 @@
-//! Which layers are which module of broadcast.
+//! Laws: which layers are which module of broadcast.
 ghost use Rattle.std.specs.Prelude.{◌≡◌, List, ◌∷◌};
 ghost use Rattle.std.specs.FinSet as set;
 ghost use Rattle.gb_types.specs.declared.node.NodeId.{NodeId};
