@@ -88,7 +88,7 @@ fn ring_answers(
     Ok((answer, copy))
 }
 
-// Returns the answer to an event that only reads, and a copy of it.
+// The answer to an event that only reads, and a copy of it.
 fn read_answer(
     alloc: Global,
     node: &mut Node,
