@@ -104,8 +104,8 @@ fn is_kept(token: &Token, kept: &Token) -> bool
 }
 
 impl Table {
-    /// Returns a table with no tenant and no group, at node `me` of `nodes` nodes. The node sends packets of this version. Its tenants
-    /// may make `places` groups in all. Who holds the administrator's key may add tenants.
+    /// Returns a table with no tenant and no group, at node `me` of `nodes` nodes. The node sends packets of this version. Its
+    /// tenants may make `places` groups in all. Who holds the administrator's key may add tenants.
     pub fn new(
         alloc: Global,
         me: NodeId,
