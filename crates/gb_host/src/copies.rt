@@ -1,4 +1,4 @@
-//! Copies of a call, for where it is kept.
+//! Copies of a call, for the memory or the ring in which it is kept.
 ghost use Rattle.std.specs.Prelude.{◌≡◌, ◌≢◌, ◌≤◌, [], true, false, vec_capacity, IfOk, IfErr, OnErr};
 ghost use Rattle.gb_node.specs.NodeStep.{IsTurn, IsSpelt};
 ghost use Rattle.gb_node.specs.Reads.{is_read, packet_room};

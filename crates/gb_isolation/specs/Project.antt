@@ -120,8 +120,8 @@ abbrev pub with_stop : NodeId → Bool → List GroupStep → List GroupStep
 with_stop a met [] = []
 with_stop a met (c ∷ commands) = if met then c ∷ commands else record { node = a; event = Ends } ∷ c ∷ commands
 
--- At a node that has stopped, a request gives the group its command only. At a running node, a request that makes the group also
--- gives it the notices of the members that are noticed there.
+-- At a node that has stopped, a request of the group adds only its command. At a running node, a request that makes the group
+-- also adds the notices of the members that are noticed there.
 abbrev pub asked : NodeId → Addr → (ℕ → Bool) → List Happened → Request → Reply → List GroupStep
 asked a g noticed past request reply =
     if is_stopped past then (if is_own_request a g past request then with_stop a (is_met a g past) (command_for a request) else [])
@@ -168,7 +168,7 @@ arrived plan g run a c = acknowledges plan g (past_at a run) a c ++ (if is_new_f
 
 -- The projection.
 
--- what an event at a node, with its answer, adds to the projection after this run
+-- the steps that an event at a node, with its answer, adds to the projection after this run
 abbrev pub gives : Plan → Addr → List Did → NodeId → NodeEvent → NodeAnswer → List GroupStep
 gives plan g run a (Asked request) (Replied reply) = asked a g (is_noticed_at plan a (past_at a run)) (past_at a run) request reply
 gives plan g run a (Pack b) (Sent (SentPacket text)) =

@@ -39,8 +39,8 @@ fn command(alloc: Global, a: NodeId, request: &Request) -> Result<Option<GroupSt
     })
 }
 
-/// Adds what a request of the group, with its reply, gives the group at a running node. A request that makes the group also
-/// gives it the notices of the members that are noticed there.
+/// Adds the group's steps from a request of the group, with its reply, at a running node. If the request makes the group, these
+/// include the notices of the members that are noticed there.
 fn of_own(
     alloc: Global,
     plan: &Plan,
@@ -82,7 +82,7 @@ fn tenant(addr: Addr, a: NodeId, request: &Request, reply: &Reply) -> Option<Gro
     }
 }
 
-/// Adds what a request with its reply gives the group at a running node.
+/// Adds the group's steps from a request, with its reply, at a running node.
 fn of_running(
     alloc: Global,
     plan: &Plan,
@@ -115,7 +115,7 @@ fn add_stop(a: NodeId, met: bool, steps: &mut Vec<GroupStep>) -> Result<(), OutO
     Ok(())
 }
 
-/// Adds what a request of the group gives it at a node that has stopped. The first such request also adds the stop.
+/// Adds the group's steps from a request of the group at a node that has stopped. The first such request also adds the stop.
 fn of_stopped(
     alloc: Global,
     addr: Addr,
@@ -133,7 +133,7 @@ fn of_stopped(
     Ok(())
 }
 
-/// Adds what `request` with its reply gives the group at the node `a`. `before` is what happened before.
+/// Adds the group's steps from `request`, with its reply, at the node `a`. `before` is what happened before.
 pub(crate) fn of_request(
     alloc: Global,
     plan: &Plan,

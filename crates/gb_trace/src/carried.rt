@@ -24,7 +24,8 @@ use gb_types::node::NodeId;
 use gb_types::plan::Plan;
 use std::alloc::Global;
 
-/// Returns what the packet `text`, which the node `a` packed for `b`, gives the group, or `None` if it has no item of the group.
+/// Returns the group's step from the packet `text`, which the node `a` packed for `b`, or `None` if the packet has no item of
+/// the group.
 #[tactic(auto, using(crate::proofs::CountLemmas::any_some, crate::proofs::CountLemmas::text_none, crate::proofs::CountLemmas::text_one))]
 pub(crate) fn of_packed(
     addr: Addr,
@@ -108,8 +109,8 @@ fn add_new(
     Ok(())
 }
 
-/// Adds what the packet's acknowledgement gives the group. `counts` has, for each frame for the packet's sender, how many items
-/// of the group it has. `Err` also if a place would be above 2^64 - 1.
+/// Adds the group's steps from the packet's acknowledgement. `counts` has, for each frame for the packet's sender, the number of
+/// the group's items in it. `Err` also if a place would be above 2^64 - 1.
 fn add_all_acknowledged(
     key: &HmacKey,
     before: &[Deed],
@@ -140,7 +141,7 @@ fn add_all_acknowledged(
     Ok(())
 }
 
-/// Adds what the packet's acknowledgement gives the group.
+/// Adds the group's steps from the packet's acknowledgement.
 fn of_acknowledgement(
     alloc: Global,
     plan: &Plan,
@@ -158,7 +159,7 @@ fn of_acknowledgement(
     add_all_acknowledged(key, before, a, packet, counts.as_slice(), steps)
 }
 
-/// Adds what the packet's frame gives the group: its items come, with the places after those of the items in the frames before
+/// Adds the group's steps from the packet's frame: its items come, with the places after those of the items in the frames before
 /// it.
 #[tactic(auto, using(crate::proofs::CountLemmas::offset_is))]
 fn of_frame(
@@ -188,7 +189,7 @@ fn has_new_frame(key: &HmacKey, before: &[Deed], a: NodeId, packet: &PacketView<
     head.frame != 0 && !has_come(key, a, head.from, head.frame, before)
 }
 
-/// Adds what the packet gives the group: first its acknowledgement, then its frame if it is new.
+/// Adds the group's steps from the packet: first those of its acknowledgement, then those of its frame if it is new.
 fn of_packet(
     alloc: Global,
     plan: &Plan,
@@ -209,7 +210,7 @@ fn of_packet(
     Ok(())
 }
 
-/// Adds what the bytes that the running node `a` took give the group. `before` is what happened before.
+/// Adds the group's steps from the bytes that the running node `a` took. `before` is what happened before.
 pub(crate) fn of_taken(
     alloc: Global,
     plan: &Plan,

@@ -74,7 +74,7 @@ fn add_found(
     Ok(())
 }
 
-/// Adds what a tick that noticed the nodes `found` gives the group, if the group was made at the node.
+/// Adds the group's steps from a tick that noticed the nodes `found`, if the group was made at the node.
 pub(crate) fn of_tick(
     addr: Addr,
     before: &[Deed],

@@ -21,7 +21,7 @@ use gb_types::memory::OutOfMemory;
 use gb_types::plan::Plan;
 use std::alloc::Global;
 
-/// Adds what `deed` gives the group. `before` is what happened before.
+/// Adds the group's steps from `deed`. `before` is what happened before.
 fn of_deed(
     alloc: Global,
     plan: &Plan,

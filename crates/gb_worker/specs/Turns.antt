@@ -23,7 +23,7 @@ ArePackets me (e ∷ es) = (e.node ≡ me) × ((bytes : List ℕ) × (e.event �
 abbrev pub IsFor : (NodeId → NodeEvent) → NodeId → ℕ → SeatEntry → Type 0
 IsFor event me b e = (e.node ≡ me) × ((to : NodeId) × (to.number ≡ b) × (e.event ≡ event to))
 
--- in turn r the lowest frame is sent again: the pack gave no packet, and AGAIN divides r
+-- in turn r the lowest frame is sent again: the pack had no packet, and AGAIN divides r
 abbrev pub is_again_due : ℕ → NodeAnswer → Bool
 is_again_due r answer = not (gives_packet answer) && (r % AGAIN == 0)
 

@@ -30,7 +30,7 @@ use std::sync::Wait;
 /// The number of packets that a turn receives at most.
 pub const PACKETS: usize = 16;
 
-/// Every `AGAIN`-th turn, the lowest unacknowledged frame is sent again to each node for which the turn's pack gave no packet.
+/// Every `AGAIN`-th turn, the lowest unacknowledged frame is sent again to each node for which the turn's pack had no packet.
 pub const AGAIN: u64 = 8;
 
 /// Every `ACK`-th turn, an acknowledgement is also sent to the nodes that were not heard in the turn.
@@ -189,7 +189,7 @@ fn send_due<L: Tapes, H: Wait, P: Port>(
     }
 }
 
-// Returns true if an again is due in the turn: the pack gave no packet, and `AGAIN` divides the turn's number.
+// Returns true if an again is due in the turn: the pack had no packet, and `AGAIN` divides the turn's number.
 fn is_again_due(turn: u64, is_given: bool) -> bool
     ensures { result ≡ (not is_given && (turn % AGAIN == 0)) }
 {
