@@ -37,7 +37,7 @@ abbrev pub IsOf : List Posted → Event → Did → Type 0
 IsOf packets (At a event) d = (d.node ≡ a) × (d.event ≡ event)
 IsOf packets (Arrive k) d = (p : Posted) × (packet_numbered packets k ≡ Some p) × (d.node ≡ p.to) × (d.event ≡ Came p.text)
 
--- By an event with its answer either nothing happens at any node and the cluster stays as it was, or what the event says happens, with the answer of the node that acts. Runs have the newest first.
+-- By an event with its answer either nothing happens and the cluster stays as it was, or what the event says happens, with the answer of the node that acts. Runs have the newest first.
 abbrev pub Happens : ClusterValue → Event → Answer → List Did → ClusterValue → List Did → Type 0
 Happens old event answer earlier new run =
     ((run ≡ earlier) × (new ≡ old)) ⊎ ((d : Did) × (run ≡ d ∷ earlier) × IsOf old.packets event d × (answer ≡ answer_of (length old.packets) d.answer))

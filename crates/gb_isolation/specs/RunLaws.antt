@@ -165,8 +165,8 @@ pub record HaveSameBounds (plan other : Plan) : Type 0 where
   pub nodes : plan.nodes ≡ other.nodes
   pub versions : (a : ℕ) → a < plan.nodes → version_at plan.versions a ≡ version_at other.versions a
 
--- Another run, of a cluster with the same bounds, in which the same happened to the group, shows the same of it: its replies, its logs and the items that it put out, whatever else happened and whatever
--- else the packets held. What happens to a group are its own requests, the fates of its items, and the notices of its members.
+-- Another run, of a cluster with the same bounds, in which the same happened to the group, shows the same of it: its replies, its logs and the items that it put out,
+-- whatever else happened and whatever else the packets held. What happens to a group are its own requests, the fates of its items, and the notices of its members.
 abbrev pub IsSeenAlike : Plan → List Did → ClusterValue → Addr → Type 0
 IsSeenAlike plan run v g =
     (other : Plan) (that : List Did) (w : ClusterValue) → ComesTo other that w → is_fed g that ≡ true → HaveSameBounds plan other → project plan g run ≡ project other g that
