@@ -1,4 +1,4 @@
--- No packet that is taken has a frame outside its receiver's window.
+-- The frame of each packet that is taken is inside its receiver's window.
 use Rattle.std.proofs.Common.{◌≡◌, ◌≢◌, ℕ, ◌+◌, ◌-◌, ◌<◌, ◌≤◌, inl, inr, true, false, Bool, List, [], ◌∷◌, ◌++◌, length, map, None, Result, Ok, Err, refl, sym, ap, subst, ◌∙◌, arith}
 use Rattle.std.specs.Prelude.{◌⊎◌, ◌&&◌, not, filter, nat_eq, nat_lt, nat_le, option_map, if◌then◌else◌}
 use Rattle.std.specs.FinSet as set

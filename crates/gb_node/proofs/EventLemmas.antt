@@ -1,4 +1,4 @@
--- What each event makes of a node, as its past will tell.
+-- What each event changes in a node, as its past will say.
 use Rattle.std.proofs.Common.{◌≡◌, ℕ, false, ◌||◌, List, [], ◌++◌, inl, inr, length, map, refl, sym, ap, subst, ◌∙◌, arith}
 use Rattle.std.specs.Prelude.{◌⊎◌, filter, not, Option}
 use Rattle.std.specs.FinSet as set

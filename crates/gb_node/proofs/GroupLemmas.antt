@@ -1,4 +1,4 @@
--- What each event makes of each group of a node.
+-- What each event changes in each group of a node.
 use Rattle.std.proofs.Common.{◌≡◌, ℕ, inl, inr, List, [], ◌∷◌, ◌++◌, length, map, take, Option, Some, None, Ok, refl, sym, ap, subst, ◌∙◌, ◌≤◌, arith}
 use Rattle.std.specs.Prelude.{Bool, true, false, not, cond, ◌&&◌, filter, fold, is_some, nat_eq, nat_le, nat_lt, if◌then◌else◌}
 use Rattle.std.specs.FinSet as set

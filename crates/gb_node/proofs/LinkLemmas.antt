@@ -1,4 +1,4 @@
--- What a packet that is taken, a batch that is packed and a tick make of a node, as its past will tell.
+-- What a packet that is taken, a batch that is packed and a tick change in a node, as its past will say.
 use Rattle.std.proofs.Common.{◌≡◌, ◌≢◌, ℕ, ◌+◌, ◌<◌, true, false, ◌&&◌, ◌||◌, ◌⊎◌, inl, inr, List, [], ◌∷◌, ◌++◌, length, map, Some, Ok, refl, sym, ap, ◌∙◌, arith, nat_eq, nat_lt, get_or}
 use Rattle.std.specs.Prelude.{filter, fold, not, slice_set}
 use Rattle.std.specs.FinSet as set

@@ -1,4 +1,4 @@
--- What a step adds to a past, and what it makes of the node: the induction over pasts.
+-- What a step adds to a past, and what it changes in the node: the induction over pasts.
 use Rattle.std.proofs.Common.{◌≡◌, ℕ, suc, ◌+◌, ◌<◌, ◌≤◌, Bool, true, false, ◌&&◌, ◌||◌, inl, inr, List, [], ◌∷◌, ◌++◌, length, map, refl, sym, ap, ◌∙◌, arith, nat_le, length-append}
 use Rattle.std.specs.Prelude.{filter, not}
 use Rattle.std.specs.FinSet as set
