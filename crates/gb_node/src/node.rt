@@ -67,7 +67,7 @@ pub struct Node {
     stopped: bool,
 }
 
-// Not derived: what is derived is proved anew in each crate that ends one.
+// Written by hand: a derived one is proved anew in each crate that ends a node.
 impl Drop for Node {
     fn drop(self) {
         let Node {
@@ -101,7 +101,7 @@ impl Model for Node {
     ghost invariant = { λ n. KeepsVersion n.table n.windows };
 }
 
-/// For each node, the sending end of a link on which nothing was sent. Texts will be of this version.
+/// Returns for each node the sending end of a link on which nothing was sent. Its texts are of this version.
 fn new_windows(alloc: Global, version: Version) -> [Window; NODES]
     ensures { result ≡ replicate MOST (new_frames version) }
 {
@@ -141,7 +141,7 @@ fn new_windows(alloc: Global, version: Version) -> [Window; NODES]
     ]
 }
 
-/// For each node, the receiving end of a link on which nothing came.
+/// Returns for each node the receiving end of a link on which nothing came.
 fn new_receivers() -> [Receiver; NODES]
     ensures { result ≡ replicate MOST set.empty }
 {
@@ -193,7 +193,7 @@ struct Measured {
 }
 
 impl Node {
-    /// A node at which nothing has happened.
+    /// Returns a node at which nothing has happened.
     pub fn start(alloc: Global, plan: &NodePlan) -> Node
         requires cluster { plan.now.nodes ≤ (limits_of plan.now.version).nodes }
         requires member { plan.now.me.number < plan.now.nodes }
@@ -254,28 +254,28 @@ impl Node {
         self.table.list(token, from, most)
     }
 
-    /// Whether this is another node of the cluster.
+    /// Returns true if this is another node of the cluster.
     fn is_another(&self, to: NodeId) -> bool
         ensures { result ≡ is_another self.now to }
     {
         to.number < self.table.nodes() && to != self.table.me()
     }
 
-    /// Whether frames are sent to the node: it is another one of the cluster, and was not noticed.
+    /// Returns true if frames are sent to the node: it is another one of the cluster, and was not noticed.
     fn is_reached(&self, to: NodeId) -> bool
         ensures { result ≡ is_reached self.now to }
     {
         self.is_another(to) && !self.detector.noticed().contains(to)
     }
 
-    /// Whether one more frame may be sent to the node.
+    /// Returns true if one more frame may be sent to the node.
     fn has_room(&self, to: NodeId) -> bool
         ensures { result ≡ has_room (window_to self.now to.number) }
     {
         self.windows[to.index()].room()
     }
 
-    /// The head of a packet to another node, with this frame's number: it acknowledges what came from there so far.
+    /// Returns the head of a packet to another node, with this frame's number. It acknowledges what came from there so far.
     fn head(&self, to: NodeId, frame: u64) -> Head
         requires { is_another self.now to ≡ true }
         ensures head { IsHead result }
@@ -333,16 +333,16 @@ impl Node {
         window.pack(&mut self.table, to, next.most, next.count, next.bytes)
     }
 
-    /// The texts of the frame for a node with this number that was not acknowledged, and the number; for 0 the lowest
-    /// such frame.
+    /// Returns the number and the texts of the frame for a node with this number, if it is not acknowledged; for 0, of the
+    /// lowest such frame.
     fn undone(&self, to: NodeId, number: u64) -> Option<(u64, &[u8])>
         ensures { MatchOption result (frame_again (window_to self.now to.number) number ≡ None) (λ r. (frame_again (window_to self.now to.number) number ≡ Some (r.0, batch_in self.now.table.version r.1.now)) × IsBatch self.now.table.version r.1.now × (0 < r.0) × FitPacket self.now.table.version (batch_in self.now.table.version r.1.now)) }
     {
         self.windows[to.index()].again(number)
     }
 
-    /// The packet to another node with the frame that has this number and so many items and was not acknowledged, written
-    /// into an empty vector with room for it.
+    /// Returns the packet to another node with the frame that has this number, `count` items, and is not acknowledged. It is
+    /// written into an empty vector with room for it.
     fn write_frame(&self, to: NodeId, number: u64, count: u16, packet: Vec<u8>) -> PacketText
         requires another { is_another self.now to ≡ true }
         requires number { 0 < number }
@@ -379,9 +379,9 @@ impl Node {
         Ok(self.write_frame(to, number, next.count, packet))
     }
 
-    /// Packs what waits for a node as the next frame of the link to it. Nothing, with nothing changed, where the node is
-    /// no other one of the cluster or was noticed, where the link has no room, or where nothing waits; after a refusal
-    /// nothing has changed either.
+    /// Packs what waits for a node as the next frame of the link to it. `Nothing`: the node is no other one of the cluster,
+    /// was noticed, its link has no room, or nothing waits. After `Nothing`, as after a refusal, nothing has changed. `Packet`
+    /// is the packet to send.
     pub fn pack(&mut self, to: NodeId) -> Sent
         ensures turn { IsTurn self.old (NodeEvent.Pack to) (NodeAnswer.Sent result) self.new }
         ensures spelt { IsSpelt self.old (NodeEvent.Pack to) (NodeAnswer.Sent result) }
@@ -403,7 +403,7 @@ impl Node {
         }
     }
 
-    /// The packet to another node with the frame that has these texts.
+    /// Returns the packet to another node with the frame that has these texts.
     fn frame(&self, to: NodeId, number: u64, texts: &[u8]) -> Result<PacketText, OutOfMemory>
         requires another { is_another self.now to ≡ true }
         requires number { 0 < number }
@@ -417,8 +417,8 @@ impl Node {
         Ok(frame_packet(self.head(to, number), count, texts, self.key.key(), packet))
     }
 
-    /// Sends a frame that was not acknowledged once more, by its number; 0 stands for the lowest such number. Changes
-    /// nothing.
+    /// Returns the packet that sends an unacknowledged frame again, by its number; 0 stands for the lowest such number.
+    /// Changes nothing.
     pub fn again(&self, to: NodeId, number: u64) -> Sent
         ensures turn { IsTurn self.now (NodeEvent.Again to number) (NodeAnswer.Sent result) self.now }
         ensures spelt { IsSpelt self.now (NodeEvent.Again to number) (NodeAnswer.Sent result) }
@@ -438,7 +438,7 @@ impl Node {
         }
     }
 
-    /// The packet to another node that acknowledges what came from there so far, alone.
+    /// Returns the packet to another node that only acknowledges what came from there so far.
     fn acknowledgement(&mut self, to: NodeId) -> Result<PacketText, OutOfMemory>
         requires { is_another self.old to ≡ true }
         ensures text { IfOk result (λ p. p ≡ packet_text self.old.key (content_to self.old to 0 [])) }
@@ -449,7 +449,7 @@ impl Node {
         self.key.bare_packet(self.alloc, head)
     }
 
-    /// Sends an acknowledgement alone. Changes nothing.
+    /// Returns a packet that is an acknowledgement alone. Changes nothing.
     pub fn ack(&mut self, to: NodeId) -> Sent
         ensures turn { IsTurn self.old (NodeEvent.Ack to) (NodeAnswer.Sent result) self.new }
         ensures spelt { IsSpelt self.old (NodeEvent.Ack to) (NodeAnswer.Sent result) }
@@ -488,7 +488,7 @@ impl Node {
         }
     }
 
-    /// The packet for this node that bytes are, read where they lie, or what is wrong with them.
+    /// Returns the packet for this node that bytes are, as a view of them, or what is wrong with them.
     fn read<'a>(&self, bytes: &'a [u8]) -> Result<PacketView<'a>, PacketFault>
         ensures { result ≡ read_at self.now bytes.now }
     {
@@ -503,14 +503,14 @@ impl Node {
         Ok(packet)
     }
 
-    /// Whether bytes are a packet of the cluster for this node, stopped or not.
+    /// Returns true if bytes are a packet of the cluster for this node, stopped or not.
     pub fn is_packet(&self, bytes: &[u8]) -> bool
         ensures { result ≡ is_ok (read_at self.now bytes.now) }
     {
         self.read(bytes).is_ok()
     }
 
-    /// Takes bytes that came. They are read where they lie; after a fault nothing has changed, the detector included.
+    /// Takes bytes that came, without a copy. After a fault nothing has changed, the detector included.
     /// Takes no memory.
     pub fn packet(&mut self, bytes: &[u8]) -> PacketAnswer
         ensures { IsTurn self.old (NodeEvent.Packet bytes.now) (NodeAnswer.Taken result) self.new }
@@ -524,7 +524,7 @@ impl Node {
         }
     }
 
-    /// The packet that bytes are which are known to be one for this node. Nothing is tested again.
+    /// Returns the packet that bytes are, which are known to be one for this node. Nothing is tested again.
     fn read_known<'a>(&self, bytes: &'a [u8]) -> PacketView<'a>
         requires { is_ok (read_at self.now bytes.now) ≡ true }
         ensures { read_at self.now bytes.now ≡ Ok result }
@@ -532,8 +532,8 @@ impl Node {
         decode_known(bytes, self.key.key())
     }
 
-    /// Takes bytes that are known to be a packet of the cluster for this node, as those are that its nodes sent to it. What
-    /// comes of it is what comes of `packet`, without a test, and with no tag computed. Takes no memory.
+    /// Takes bytes that are known to be a packet of the cluster for this node, since one of its nodes sent them. The effect is
+    /// that of `packet`, without a test and without a tag computed. Takes no memory.
     pub fn known_packet(&mut self, bytes: &[u8]) -> PacketAnswer
         requires { is_ok (read_at self.old bytes.now) ≡ true }
         ensures { IsTurn self.old (NodeEvent.Packet bytes.now) (NodeAnswer.Taken result) self.new }
@@ -545,7 +545,7 @@ impl Node {
         PacketAnswer::Good(self.take_packet(&packet))
     }
 
-    /// The time ticks. The nodes that are noticed now are noticed in each group, rising. Takes no memory.
+    /// Lets the time tick. The nodes that are noticed now are noticed in each group, rising. Takes no memory.
     pub fn tick(&mut self) -> Ticked
         ensures { IsTurn self.old NodeEvent.Tick (NodeAnswer.Ticked result) self.new }
     {
@@ -557,7 +557,7 @@ impl Node {
         Ticked::Noticed(found)
     }
 
-    /// Stops the node, for good: it answers Stopped to every event from then on.
+    /// Stops the node for good. It answers Stopped to every later event.
     pub fn stop(&mut self) -> Halted
         ensures { IsTurn self.old NodeEvent.Stop (NodeAnswer.Halted result) self.new }
     {
@@ -568,7 +568,7 @@ impl Node {
         Halted::Done
     }
 
-    /// One event.
+    /// Takes one event.
     #[tactic(auto, using(crate::proofs::ReadLemmas::reads))]
     pub fn take(&mut self, event: &NodeEvent) -> NodeAnswer
         ensures turn { IsTurn self.old event.now result self.new }
@@ -580,7 +580,7 @@ impl Node {
         self.happen(event)
     }
 
-    /// One event, by its kind.
+    /// Takes one event, by its kind.
     fn happen(&mut self, event: &NodeEvent) -> NodeAnswer
         ensures turn { IsTurn self.old event.now result self.new }
         ensures spelt { IsSpelt self.old event.now result }

@@ -19,8 +19,8 @@ use gb_types::version::Version;
 use std::alloc::Global;
 use std::marker::Model;
 
-/// The frames to a node that are not acknowledged, each a batch of items. Contracts see the items; kept are their texts in one
-/// version, each payload once.
+/// The frames to a node that are not acknowledged, each a batch of items. Contracts see the items; memory holds their texts in
+/// one version, each payload once.
 #[derive(Drop)]
 pub struct Window {
     /// The version of the texts.
@@ -39,7 +39,7 @@ impl Model for Window {
 }
 
 impl Window {
-    /// Nothing was sent. Texts will be of this version.
+    /// Returns the window of a link on which nothing was sent. Its texts are of this version.
     pub fn new(alloc: Global, version: Version) -> Window
         ensures { result ≡ new_frames version }
     {
@@ -49,14 +49,14 @@ impl Window {
         }
     }
 
-    /// The version of the texts.
+    /// Returns the version of the texts.
     pub fn version(&self) -> Version
         ensures { result ≡ self.now.version }
     {
         self.version
     }
 
-    /// Whether one more frame may be sent.
+    /// Returns true if one more frame may be sent.
     pub fn room(&self) -> bool
         ensures room { result ≡ has_room self.now.window }
         ensures window { IsWindow self.now.window }
@@ -64,7 +64,7 @@ impl Window {
         self.sender.room()
     }
 
-    /// The texts of the frame with this number that is not acknowledged, and the number; for 0 the lowest such frame.
+    /// Returns the number and the texts of the frame with this number, if it is not acknowledged; for 0, of the lowest such frame.
     pub fn again(&self, number: u64) -> Option<(u64, &[u8])>
         ensures { MatchOption result (frame_again self.now.window number ≡ None) (λ r. (frame_again self.now.window number ≡ Some (r.0, batch_in self.now.version r.1.now)) × IsBatch self.now.version r.1.now × (0 < r.0)) }
     {

@@ -26,7 +26,7 @@ pub struct Plan {
     pub admin_key: [u8; 32],
 }
 
-/// What bounds the groups of a cluster: how many nodes there are, and the version that each sends.
+/// What a group reads of its cluster: the number of nodes, and the version that each of them sends.
 #[derive(Clone, Copy)]
 pub struct Bounds {
     pub nodes: u8,
@@ -34,7 +34,7 @@ pub struct Bounds {
 }
 
 impl Plan {
-    /// What bounds the groups of the cluster.
+    /// Returns what a group reads of the cluster.
     pub fn bounds(&self) -> Bounds
         ensures { result ≡ bounds_of self.now }
     {
@@ -46,7 +46,7 @@ impl Plan {
 }
 
 impl Bounds {
-    /// The version that a node sends.
+    /// Returns the version that a node sends.
     pub fn version_of(&self, node: NodeId) -> Version
         ensures { result ≡ version_at self.now.versions node.number }
     {
