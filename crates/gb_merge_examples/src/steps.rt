@@ -32,7 +32,7 @@ pub enum Step {
     /// A tick is noted with a forged answer: the nodes that are noticed, or a refusal.
     ForgeTick(Result<&'static [u8], Refusal>),
     Stop,
-    /// Returns the event that bytes come.
+    /// Bytes come.
     Bytes(&'static [u8]),
     /// The packet comes that a node sent by the entry at an index of its tape; no bytes come if the entry sent none.
     Come(u8, usize),
