@@ -229,8 +229,8 @@ fn two_sessions_at_once(rt: HostRuntime) {
     }
 }
 
-// Asks three requests, with a read or a write that fails. Returns the numbers of sessions that ended as expected, of calls that were
-// made, and of replies that were written.
+// Asks three requests, with a read or a write that fails. Returns the numbers of sessions that ended as expected, of calls that
+// were made, and of replies that were written.
 fn ask_thrice<R: Threads + Wait + Clock + Sync>(
     rt: &R,
     alloc: Global,
