@@ -16,7 +16,7 @@ pub enum Step {
     Again(NodeId, NodeId, u64),
     /// Lets the first node acknowledge the frames that it received from the second.
     Ack(NodeId, NodeId),
-    /// Lets a packet arrive where it was sent to. Packets are numbered from 1 as they are sent.
+    /// Lets the packet with this number arrive at the node that it was sent to. Packets are numbered from 1 as they are sent.
     Arrive(u64),
     /// Lets time pass at a node.
     Tick(NodeId),

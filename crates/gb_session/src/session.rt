@@ -79,8 +79,8 @@ pub enum Step {
     Ended(SessionEnd),
 }
 
-/// A session: the bytes that came and are not answered yet, and how many messages may still be answered. It keeps no memory while
-/// it keeps no bytes.
+/// A session: the bytes that came and are not answered yet, and the number of messages that may still be answered. It keeps no
+/// memory while it keeps no bytes.
 #[derive(Drop)]
 pub struct Session {
     alloc: Global,

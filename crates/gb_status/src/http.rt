@@ -22,7 +22,7 @@ const _: () = prove!(FIELDS == 64);
 pub enum Asked {
     /// The figures.
     Metrics,
-    /// Whether the nodes are served.
+    /// The state of the nodes: served or not.
     Health,
     /// By GET, something else.
     OtherPlace,

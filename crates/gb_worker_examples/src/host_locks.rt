@@ -54,7 +54,7 @@ fn wait_for_two<R: Clock>(rt: &R, count: &AtomicU64) -> bool {
     false
 }
 
-// A gate inside a lock: the lock is held until both calls are inside, others call both nodes, and `HOLD` more has passed.
+// A gate inside a lock: the lock is held until both calls are inside, others call both nodes, and `HOLD` milliseconds more passed.
 #[derive(Drop)]
 struct Held<'a, R> {
     rt: &'a R,
