@@ -95,7 +95,7 @@ class Server:
     def write_cluster_file(self):
         path = os.path.join(self.folder.name, "cluster.toml")
         with open(path, "w", encoding="ascii") as file:
-            file.write("run = 1\nsilence = 50\nversion = 2\n")
+            file.write("run = 1\nsilence = 50\nversion = 2\nroom = 16345\n")
             for node in range(self.nodes):
                 file.write(f'[[node]]\npackets = "127.0.0.1:{PORT + node}"\nsessions = "127.0.0.1:{PORT + 64 + node}"\n')
         return path

@@ -1,4 +1,4 @@
--- Messages with the payloads that a history gave them.
+-- Messages with the payloads that they have in a history.
 use Rattle.std.proofs.Common.{◌≡◌, ℕ, suc, ◌≤◌, Bool, true, false, cond, ◌||◌, List, [], ◌∷◌, ◌++◌, length, Some, filter, refl, sym, ap, ◌∙◌, subst}
 use Rattle.std.specs.Prelude.{map, All, slice_get, if◌then◌else◌}
 use Rattle.std.specs.List.{AllByRecursion}

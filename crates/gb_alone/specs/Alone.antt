@@ -42,7 +42,7 @@ pub record Member : Type 0 where
   pub put : ℕ → List Entry
   -- how many of them are carried; the others wait
   pub taken : ℕ → ℕ
-  -- the places that have come from each node
+  -- the places of the items that have come from each node
   pub come : ℕ → List ℕ
   -- the places of the items put out to each node that are acknowledged
   pub done : ℕ → List ℕ
@@ -54,7 +54,7 @@ pub record Member : Type 0 where
 abbrev pub Group : Type 0
 Group = ℕ → Member
 
--- what was delivered at a node
+-- the log of a node: what was delivered there, in order; empty if there is no spec
 abbrev pub log_at : ℕ → Option Spec → List GroupCall → List Entry
 log_at me o told = option_map_or (λ spec. log_of spec me told) o []
 
@@ -70,29 +70,29 @@ is_message me k x = nat_eq x.origin.number me && nat_eq x.seq k
 abbrev pub is_marked : ℕ → List ℕ → Bool
 is_marked place marks = list_any (λ p. nat_eq p place) marks
 
--- of these items put out to a node, with the places from this one on, the message of the node me with this number stands at a place that is done
+-- the message of the node me with this number stands, among these items put out to a node, at a place that is done; the items have the places from this one on
 abbrev pub is_acknowledged : ℕ → ℕ → List ℕ → ℕ → List Entry → Bool
 is_acknowledged me k done place [] = false
 is_acknowledged me k done place (x ∷ xs) = (is_message me k x && is_marked place done) || is_acknowledged me k done (place + 1) xs
 
--- each other member is noticed, or acknowledged the message
+-- each other member is noticed or has acknowledged the message
 abbrev pub is_finished_alone : Spec → ℕ → List GroupCall → (ℕ → List Entry) → (ℕ → List ℕ) → ℕ → Bool
 is_finished_alone spec me told put done k = list_all (λ b. nat_eq b me || (was_noticed (calls_of told) b || is_acknowledged me k (done b) 1 (put b))) (rising spec.members)
 
--- how many of these numbers, from k on, do not pass the test
+-- how many of the numbers from k on do not pass the test
 unfoldable pub count_unfinished : (ℕ → Bool) → ℕ → ℕ → ℕ
 count_unfinished finished k zero = 0
 count_unfinished finished k (suc n) = (if finished k then 0 else 1) + count_unfinished finished (k + 1) n
 
--- how much of its spec the node's member has used
+-- how much of its spec's limits the node has used
 abbrev pub usage_of : Spec → ℕ → List GroupCall → (ℕ → List Entry) → (ℕ → List ℕ) → Usage
 usage_of spec me told put done = record { said = said_in told; bytes = bytes_in told me; unfinished = count_unfinished (is_finished_alone spec me told put done) 1 (said_in told) }
 
--- what the rules read of a group with this spec
+-- what the rules read of a group with this spec at a node
 abbrev pub shown_in : ℕ → Phase → List GroupCall → (ℕ → List Entry) → (ℕ → List ℕ) → Spec → Shown
 shown_in me phase told put done spec = record { spec = spec; phase = phase; usage = usage_of spec me told put done; log = log_of spec me told }
 
--- what the rules read of a member, where the group was made there
+-- what the rules read of the group at a node; None if the group was not made there
 abbrev pub shown : ℕ → Member → Option Shown
 shown me m = option_map (shown_in me m.phase m.told m.put m.done) m.spec
 
@@ -100,7 +100,7 @@ shown me m = option_map (shown_in me m.phase m.told m.put m.done) m.spec
 abbrev pub on_group : (Shown → Reply) → ℕ → Member → Reply
 on_group answer me m = by_tenant (λ _. on_made answer (shown me m)) m.reserve
 
--- the reply to a command at a running node of a cluster with these bounds, to the group with this address
+-- the reply to a command on the group with this address, at a running node of a cluster with these bounds
 abbrev pub running_reply : Bounds → Addr → ℕ → GroupEvent → Member → Reply
 running_reply bounds addr me (AskMake spec) m = by_tenant (make_answer bounds.nodes me addr (is_some m.spec) spec) m.reserve
 running_reply bounds addr me AskOpen m = on_group open_answer me m
@@ -114,7 +114,7 @@ running_reply bounds addr me event m = Done
 abbrev pub reply_to : Bounds → Addr → ℕ → GroupEvent → Member → Reply
 reply_to bounds addr me event m = if m.stopped then Refused Stopped else running_reply bounds addr me event m
 
--- what a call makes the group broadcast is put out to each other member that was not noticed
+-- what a call makes the group broadcast is put out to each other member that was not noticed, after what was put out before
 abbrev pub put_to : ℕ → Option Spec → GroupCall → List GroupCall → (ℕ → List Entry) → ℕ → List Entry
 put_to me None c told put b = put b
 put_to me (Some spec) c told put b = if is_other spec me b && not (was_noticed (calls_of (c ∷ told)) b) then put b ++ puts_of spec me c told else put b
@@ -123,7 +123,7 @@ put_to me (Some spec) c told put b = if is_other spec me b && not (was_noticed (
 abbrev pub called : ℕ → GroupCall → Member → Member
 called me c m = record m { told = c ∷ m.told; put = put_to me m.spec c m.told m.put }
 
--- what a command does besides its reply; where the group is dropped, what waits is given up
+-- what a command with its reply changes; if the group is dropped, the items that wait are discarded
 abbrev pub did : NodeId → GroupEvent → Reply → Member → Member
 did me (AskMake spec) Done m = record m { spec = Some spec }
 did me AskOpen Done m = record m { phase = Opened }
@@ -132,7 +132,7 @@ did me AskDrop Done m = record m { phase = Gone; put = λ b. take (m.taken b) (m
 did me (AskSay message) (Said seq) m = called me.number (Own (record { origin = me; seq = seq; payload = message.payload })) m
 did me event reply m = m
 
--- a command is answered
+-- a command is answered, and its reply is kept
 abbrev pub commanded : NodeId → GroupEvent → Reply → Member → Member
 commanded me event reply m = let next = did me event reply m in record next { replies = m.replies ++ reply ∷ [] }
 
@@ -140,11 +140,11 @@ abbrev pub falls : ℕ → ℕ → Entry → List GroupCall → Option Spec → 
 falls me from x told None = true
 falls me from x told (Some spec) = falls_after spec me told from x
 
--- an item is let fall, where it is too long for a node that sends this version or the group's rules say so, or the group is told of it
+-- the group is told of an item that comes, unless the item is let fall: it is too long for the version that this node sends, or the group's rules let it fall
 abbrev pub item_came : Version → ℕ → NodeId → Entry → Member → Member
 item_came version me from x m = if is_too_long version x.payload || falls me from.number x m.told (held_spec m.phase m.spec) then m else called me (Other from x) m
 
--- the item with a place comes from a node
+-- the item with this place comes from a node, if there is one
 abbrev pub taken_in : Version → ℕ → NodeId → ℕ → Option Entry → Member → Member
 taken_in version me from place None m = m
 taken_in version me from place (Some x) m =
@@ -155,11 +155,11 @@ taken_in version me from place (Some x) m =
 abbrev pub item_done : NodeId → ℕ → ℕ → Member → Member
 item_done b place count m = record m { done = λ x. if nat_eq x b.number then range_with_len place count ++ m.done x else m.done x }
 
--- what waits for a node is given up
+-- the items that wait for a node are discarded
 abbrev pub cut : NodeId → Member → Member
 cut q m = record m { put = λ b. if nat_eq b q.number then take (m.taken b) (m.put b) else m.put b }
 
--- a made group takes the notice of another member: nothing more is put out to it
+-- a group that was made and not dropped takes the notice of another member: what waits for that member is discarded, and nothing more is put out to it
 abbrev pub took_notice : ℕ → NodeId → Option Spec → Member → Member
 took_notice me q None m = m
 took_notice me q (Some spec) m = if is_other spec me q.number then called me (Crashed q) (cut q m) else m
@@ -168,7 +168,7 @@ took_notice me q (Some spec) m = if is_other spec me q.number then called me (Cr
 abbrev pub node_noticed : ℕ → NodeId → Member → Member
 node_noticed me q m = let next = took_notice me q (held_spec m.phase m.spec) m in record next { noticed = q.number ∷ m.noticed }
 
--- the group's part at a node after an event there
+-- the group at a node after an event there
 abbrev pub member_after : Bounds → Addr → NodeId → GroupEvent → Group → Member
 member_after bounds addr me (Tenant reserve) group = let m = group me.number in record m { reserve = Some reserve }
 member_after bounds addr me (Took b count) group = let m = group me.number in record m { taken = λ x. if nat_eq x b.number then m.taken x + count else m.taken x }
@@ -178,11 +178,11 @@ member_after bounds addr me (Notice q) group = node_noticed me.number q (group m
 member_after bounds addr me Stop group = let m = group me.number in record m { stopped = true }
 member_after bounds addr me event group = commanded me event (reply_to bounds addr me.number event (group me.number)) (group me.number)
 
--- the group after an event
+-- the group at all nodes after an event
 unfoldable pub after : Bounds → Addr → Group → GroupStep → Group
 after bounds addr group step x = if nat_eq x step.node.number then member_after bounds addr step.node step.event group else group x
 
--- nothing has happened
+-- the group before anything has happened
 abbrev pub nobody : Group
 nobody x = record { reserve = None; spec = None; phase = Made; told = []; replies = []; put = λ b. []; taken = λ b. 0; come = λ b. []; done = λ b. []; noticed = []; stopped = false }
 
@@ -194,8 +194,8 @@ alone bounds addr steps = fold (after bounds addr) nobody steps
 abbrev pub alone_from : Bounds → Addr → Group → List GroupStep → Group
 alone_from bounds addr group steps = fold (after bounds addr) group steps
 
--- What may happen next: what waits is taken, what is carried comes once, what came is acknowledged once, a node is noticed once at another, and none of these
--- happens at a stopped node.
+-- What may happen next: items that wait are taken, a carried item comes once, an item that came is acknowledged once, and a node is noticed once at another.
+-- None of these happens at a stopped node. Commands, tenants and stops may happen always.
 abbrev pub MayHappen : NodeId → GroupEvent → Group → Type 0
 MayHappen me (Took b count) group = ((group me.number).stopped ≡ false) × (0 < count) × ((group me.number).taken b.number + count ≤ length ((group me.number).put b.number))
 MayHappen me (Came from place) group =
@@ -210,6 +210,6 @@ abbrev pub IsLegalFrom : Bounds → Addr → Group → List GroupStep → Type 0
 IsLegalFrom bounds addr group [] = Unit {0}
 IsLegalFrom bounds addr group (step ∷ steps) = MayHappen step.node step.event group × IsLegalFrom bounds addr (after bounds addr group step) steps
 
--- each event may happen when it does
+-- each event may happen at its place in the list
 abbrev pub IsLegal : Bounds → Addr → List GroupStep → Type 0
 IsLegal bounds addr steps = IsLegalFrom bounds addr nobody steps

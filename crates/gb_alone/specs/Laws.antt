@@ -1,4 +1,4 @@
--- What holds of every group alone, and so of each group in a cluster. A law speaks of every legal list of events; each list with which a legal one begins is
+-- What holds of every group alone, and so of each group in a cluster. A law speaks of every legal list of events. Each beginning of a legal list is
 -- legal too, so what a law says of the whole list it says at every moment: a message was accepted before it stands in any log.
 use Rattle.std.specs.Prelude.{ℕ, ◌-◌, ◌≡◌, ◌≤◌, ◌<◌, List, [], ◌∷◌, ◌++◌, All, count_by, map, Option, Some, None, true, slice_get, nat_eq, if◌then◌else◌}
 use Rattle.gb_types.specs.Entry.{message_of}
@@ -17,7 +17,7 @@ use Rattle.gb_alone.specs.declared.event.GroupEvent.TheVariants.{Say as AskSay}
 use Rattle.gb_alone.specs.declared.event.GroupStep.{GroupStep}
 use Rattle.gb_types.specs.declared.address.Addr.{Addr}
 
--- a message that was accepted, with the number that its origin was told
+-- a message that was accepted, with the number that its origin answered
 pub record Accepted : Type 0 where
   pub seq : ℕ
   pub payload : List ℕ
@@ -37,8 +37,8 @@ accepted_from bounds addr group (step ∷ steps) s = accepted_at bounds addr gro
 abbrev pub accepted : Bounds → Addr → List GroupStep → ℕ → List Accepted
 accepted bounds addr steps s = accepted_from bounds addr nobody steps s
 
--- The entry is the message to whose say its origin was told its number, with its payload; and it is the seq-th that was accepted there, counted from 1. These are
--- the messages accepted at each node.
+-- The entry is a message that was accepted at its origin: the origin answered its say with this number, the payload is the same, and it is the seq-th message accepted there,
+-- counted from 1. `accepted` lists the messages accepted at each node.
 abbrev pub IsAccepted : (ℕ → List Accepted) → Entry → Type 0
 IsAccepted accepted x = (0 < x.seq) × (slice_get (accepted x.origin.number) (x.seq - 1) ≡ Some (record { seq = x.seq; payload = x.payload }))
 
@@ -54,7 +54,7 @@ pub record KeepsIntegrity (accepted : ℕ → List Accepted) (log : List Entry) 
   -- each entry was accepted at its origin
   pub no_creation : All (IsAccepted accepted) log
 
--- what the log of a node holds: nothing where the group was not made, or was dropped
+-- the log of a node: empty if the group was not made there, or was dropped
 abbrev pub log_of_member : ℕ → Member → List Entry
 log_of_member b m = log_at b (held_spec m.phase m.spec) m.told
 
@@ -68,11 +68,11 @@ IsIntegral = (bounds : Bounds) (addr : Addr) (steps : List GroupStep) → IsLega
 
 -- Order.
 
--- where the group was made with a first-in first-out kind, the messages of each origin stand in the log as 1, 2, 3, .. (Hadzilacos, Toueg 1994, FIFO Order)
+-- if the group was made with a first-in first-out kind, the messages of each origin stand in the log as 1, 2, 3, .. (Hadzilacos, Toueg 1994, FIFO Order)
 abbrev pub KeepsOrder : Option Spec → List Entry → Type 0
 KeepsOrder None log = Unit {0}
 KeepsOrder (Some spec) log = is_fifo spec.kind ≡ true → RunsFromOne (map message_of log)
 
--- in each legal list of steps the log of each node keeps the order of the kind that was chosen at the node
+-- in each legal list of steps the log of each node keeps the order of the kind with which the group was made there
 abbrev pub IsInOrder : Type 0
 IsInOrder = (bounds : Bounds) (addr : Addr) (steps : List GroupStep) → IsLegal bounds addr steps → (b : ℕ) → KeepsOrder (alone bounds addr steps b).spec (log_of_member b (alone bounds addr steps b))

@@ -1,4 +1,4 @@
--- A group alone in lists, as the plain program keeps it. Each change is that of Alone.antt.
+-- A group alone, kept in lists as the plain program keeps it. Each change does what its counterpart in Alone.antt does.
 use Rattle.std.specs.Prelude.{ℕ, ◌+◌, ◌-◌, ◌≡◌, ◌<◌, ◌&&◌, ◌||◌, not, Bool, false, true, List, [], ◌∷◌, ◌++◌, length, map, replicate, take, slice_get, slice_index_or, slice_set, Option, Some, None, if◌then◌else◌}
 use Rattle.std.specs.List.{range_with_len}
 use Rattle.gb_types.specs.declared.entry.Entry.{Entry}
@@ -25,7 +25,7 @@ use Rattle.gb_alone.specs.declared.event.GroupStep.{GroupStep}
 use Rattle.gb_rules.specs.declared.reserve.Reserve.{Reserve}
 use Rattle.gb_types.specs.declared.address.Addr.{Addr}
 
--- the group at one node: a place for each node in `put` and in `taken`
+-- the group at one node; `put`, `taken` and `done` have one entry for each node
 pub record MemberValue : Type 0 where
   pub reserve : Option Reserve
   pub spec : Option Spec
@@ -34,14 +34,14 @@ pub record MemberValue : Type 0 where
   pub replies : List Reply
   pub put : List (List Entry)
   pub taken : List ℕ
-  -- for each node the places that are done
+  -- for each node, the places of the acknowledged items
   pub done : List (List ℕ)
   pub stopped : Bool
 
 abbrev pub new_member : MemberValue
 new_member = record { reserve = None; spec = None; phase = Made; told = []; replies = []; put = []; taken = replicate NODES 0; done = replicate NODES []; stopped = false }
 
--- the member that the lists are
+-- the member that these lists hold
 abbrev pub member_of : MemberValue → Member
 member_of v = record {
   reserve = v.reserve;
@@ -57,7 +57,7 @@ member_of v = record {
   stopped = v.stopped;
 }
 
--- the items put out to a node, after these too, where the group was told these calls
+-- the items put out to a node: those of before, and these too if the node is another member that was not noticed in these calls
 abbrev pub row_with : Spec → ℕ → List GroupCall → List (List Entry) → List Entry → ℕ → List Entry
 row_with spec me told put more b = if is_other spec me b && not (was_noticed (calls_of told) b) then slice_index_or put b [] ++ more else slice_index_or put b []
 
@@ -72,7 +72,7 @@ value_called me c v = record v { told = c ∷ v.told; put = rows_with me v.spec 
 abbrev pub carried_row : List ℕ → List (List Entry) → ℕ → List Entry
 carried_row taken put b = take (slice_index_or taken b 0) (slice_index_or put b [])
 
--- what waits is given up
+-- the items that wait are discarded
 abbrev pub value_dropped : MemberValue → MemberValue
 value_dropped v = record v { phase = Gone; put = map (carried_row v.taken v.put) (numbers_below NODES) }
 
@@ -100,7 +100,7 @@ value_took b count v = record v { taken = slice_set v.taken b (slice_index_or v.
 abbrev pub value_done : ℕ → ℕ → ℕ → MemberValue → MemberValue
 value_done b place count v = record v { done = slice_set v.done b (range_with_len place count ++ slice_index_or v.done b []) }
 
--- what waits for a node is given up
+-- the items that wait for a node are discarded
 abbrev pub value_cut : NodeId → MemberValue → MemberValue
 value_cut q v = record v { put = slice_set v.put q.number (take (slice_index_or v.taken q.number 0) (slice_index_or v.put q.number [])) }
 
@@ -124,7 +124,7 @@ value_after bounds addr me event vs = value_commanded me event (reply_to bounds 
 abbrev pub values_after : Bounds → Addr → List MemberValue → GroupStep → List MemberValue
 values_after bounds addr vs step = slice_set vs step.node.number (value_after bounds addr step.node step.event vs)
 
--- the lists are the member, as far as there are nodes
+-- the lists hold this member, for each node's number below NODES
 pub record StandsForMember (v : MemberValue) (m : Member) : Type 0 where
   pub reserve : v.reserve ≡ m.reserve
   pub spec : v.spec ≡ m.spec
@@ -138,7 +138,7 @@ pub record StandsForMember (v : MemberValue) (m : Member) : Type 0 where
   pub rows : length v.done ≡ NODES
   pub stopped : v.stopped ≡ m.stopped
 
--- the lists are the group
+-- the lists hold this group
 pub record StandForMembers (vs : List MemberValue) (group : Group) : Type 0 where
   pub members : (a : ℕ) → a < NODES → StandsForMember (value_at vs a) (group a)
   pub size : length vs ≡ NODES

@@ -14,11 +14,11 @@ unfoldable pub numbers_below : ℕ → List ℕ
 numbers_below zero = []
 numbers_below (suc n) = numbers_below n ++ n ∷ []
 
--- at a node of so many
+-- what is seen at the node a, in a cluster of this number of nodes
 abbrev pub seen_at : ℕ → (ℕ → List Reply) → (ℕ → ℕ → List Entry) → ℕ → SeenAt
 seen_at nodes replies carried a = record { replies = replies a; carried = map (carried a) (numbers_below nodes) }
 
--- at each of so many nodes
+-- what is seen at each node, in a cluster of this number of nodes
 abbrev pub seen_by : ℕ → (ℕ → List Reply) → (ℕ → ℕ → List Entry) → List SeenAt
 seen_by nodes replies carried = map (seen_at nodes replies carried) (numbers_below nodes)
 

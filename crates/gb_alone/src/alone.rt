@@ -1,4 +1,4 @@
-//! A group by itself, computed plainly from its meaning: slow, for short lists of what happens to it.
+//! A group by itself, computed plainly from its meaning. It is slow, and meant for short lists of steps.
 ghost use Rattle.std.specs.Prelude.{◌≡◌, ◌≤◌, ◌-◌, [], IfOk, OnOk, length, map, take, replicate, slice_get, slice_index_or, slice_set};
 ghost use Rattle.gb_types.specs.declared.limits.TheConstants.{NODES as MOST};
 ghost use Rattle.gb_types.specs.Version.{bounds_of};
@@ -18,7 +18,7 @@ use gb_types::plan::{Bounds, Plan};
 use gb_types::version::Version;
 use std::alloc::Global;
 
-/// The group at every node before anything has happened.
+/// Returns the group at every node, before anything has happened.
 fn members(alloc: Global) -> Result<Vec<Member>, OutOfMemory>
     ensures { IfOk result (λ v. v.items ≡ replicate MOST new_member) }
 {
@@ -29,7 +29,7 @@ fn members(alloc: Global) -> Result<Vec<Member>, OutOfMemory>
     Ok(members)
 }
 
-/// A command is asked at a node and answered.
+/// Asks the group the command `event` at the node `me`, and adds the reply there.
 fn command_at(
     alloc: Global,
     bounds: &Bounds,
@@ -46,7 +46,8 @@ fn command_at(
     group[at].command(alloc, me, event, reply)
 }
 
-/// An item comes from a node, where there is one with this place, to a node that sends this version.
+/// Takes in, at the node `me`, the item with this place among those that the node `from` put out to it. Does nothing if there is
+/// no such item. `version` is the version of the packet text that `me` sends.
 fn item_at(
     alloc: Global,
     version: Version,
@@ -62,7 +63,7 @@ fn item_at(
     group[me.index()].take_in(alloc, version, me, from, item)
 }
 
-/// What happens at a node changes the group there.
+/// Changes the group by `step`, at the step's node.
 fn step_at(
     alloc: Global,
     bounds: &Bounds,
@@ -98,7 +99,7 @@ fn step_at(
     }
 }
 
-/// What is seen at a node of so many.
+/// Returns what is seen at a node of a cluster of `nodes` nodes.
 fn seen_of(alloc: Global, nodes: u8, member: &Member) -> Result<NodeSeen, OutOfMemory>
     requires { nodes ≤ MOST }
     ensures { IfOk result (λ s. (m : Prior) → StandsForMember member.now m → s ≡ record { replies = m.replies; carried = map (λ b. take (m.taken b) (m.put b)) (numbers_below nodes) }) }
@@ -111,7 +112,7 @@ fn seen_of(alloc: Global, nodes: u8, member: &Member) -> Result<NodeSeen, OutOfM
     Ok(NodeSeen::new(replies, carried))
 }
 
-/// What is seen at each of so many nodes.
+/// Returns what is seen at each node of a cluster of `nodes` nodes.
 fn all_seen(alloc: Global, nodes: u8, group: &[Member]) -> Result<Observation, OutOfMemory>
     requires few { nodes ≤ MOST }
     requires size { length group.now ≡ MOST }
@@ -124,7 +125,7 @@ fn all_seen(alloc: Global, nodes: u8, group: &[Member]) -> Result<Observation, O
     Ok(Observation::from(seen))
 }
 
-/// What is seen of the group with this address, alone, in a cluster with these bounds.
+/// Returns what is seen of the group with this address, alone, after `steps`, in a cluster with these bounds.
 fn seen_alone(
     alloc: Global,
     bounds: &Bounds,
@@ -141,8 +142,8 @@ fn seen_alone(
     all_seen(alloc, bounds.nodes, &group)
 }
 
-/// The group alone, in a cluster of this plan: what is seen of it after these steps. `Err` also where a node says
-/// more than 65,535 messages, or more than 2^64 - 1 items are carried, since no more have numbers.
+/// Returns what is seen of the group alone after these steps, in a cluster of this plan. `Err` also if a node says more than
+/// 65,535 messages or more than 2^64 - 1 items are carried, since there are no numbers for more.
 pub fn alone(
     alloc: Global,
     plan: &Plan,

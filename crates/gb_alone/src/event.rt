@@ -4,7 +4,7 @@ use gb_types::new_message::NewMessage;
 use gb_types::node::NodeId;
 use gb_types::spec::Spec;
 
-/// What happens to a group at a node. Items go by numbers, never by what is in them.
+/// What happens to a group at a node. Items are named by their places, never by their content.
 #[derive(Drop)]
 pub enum GroupEvent {
     /// The group's tenant is taken in.
@@ -19,15 +19,15 @@ pub enum GroupEvent {
     Drop,
     /// A command to say something.
     Say(NewMessage),
-    /// A command to read the log, from a place on, so many entries at most.
+    /// A command to fetch the log: the place of the first entry, and how many entries at most.
     Fetch(u32, u32),
-    /// So many more of the items put out to the node are carried.
+    /// Further items put out to the node are carried: the node, and how many items.
     Took(NodeId, u64),
-    /// The item with this place among those that the node put out to this one comes.
+    /// An item comes: the node that put it out, and the item's place among those that it put out to this node.
     Came(NodeId, u64),
-    /// Of the items put out to the node, those from this place on, so many, are acknowledged.
+    /// Items put out to the node are acknowledged: the node, the place of the first item, and how many items.
     Done(NodeId, u64, u64),
-    /// The node is noticed to have crashed.
+    /// The node is noticed.
     Notice(NodeId),
     /// This node has stopped.
     Stop,

@@ -1,4 +1,4 @@
-//! The places of items put out to a node that are acknowledged.
+//! The places of the acknowledged items among those put out to a node.
 ghost use Rattle.std.specs.Prelude.{◌≡◌, ◌+◌, ◌≤◌, ◌++◌, [], OnOk, length};
 ghost use Rattle.std.specs.List.{range_with_len};
 ghost use Rattle.gb_alone.specs.Alone.{is_message, is_marked, is_acknowledged};
@@ -9,7 +9,7 @@ use gb_types::node::NodeId;
 use std::alloc::Global;
 use std::marker::Model;
 
-/// Places from 1. Contracts see them as a list.
+/// A list of places; places count from 1. Contracts see the list.
 #[derive(Drop)]
 pub(crate) struct Marks {
     places: Vec<u64>,
@@ -23,22 +23,22 @@ impl Model for Marks {
     ghost view = { λ m. m.places.items };
 }
 
-/// Whether the item is the message of the node `me` with this number.
+/// Returns true if the item is the message of the node `me` with this number.
 fn is_own(me: NodeId, seq: u32, x: &Entry) -> bool
     ensures { result ≡ is_message me.number seq x.now }
 {
     x.origin == me && u32::from(x.seq) == seq
 }
 
-/// Whether the place is marked.
+/// Returns true if `place` is one of `marks`.
 fn is_marked(place: u64, marks: &[u64]) -> bool
     ensures { result ≡ is_marked place marks.now }
 {
     marks.iter().any(|p| *p == place)
 }
 
-/// Whether, of these items put out to a node, with the places from one on, the message of the node `me` with this
-/// number stands at one of these places.
+/// Returns true if the message of the node `me` with this number stands in `put` at one of the places `marks`. The items of
+/// `put` have the places from `place` on.
 fn is_acknowledged(me: NodeId, seq: u32, marks: &[u64], place: u64, put: &[Entry]) -> bool
     requires { place + length put.now ≤ 18446744073709551615 }
     ensures { result ≡ is_acknowledged me.number seq marks.now place put.now }
@@ -53,7 +53,7 @@ fn is_acknowledged(me: NodeId, seq: u32, marks: &[u64], place: u64, put: &[Entry
 }
 
 impl Marks {
-    /// No places.
+    /// Returns an empty list of places.
     pub(crate) fn new(alloc: Global) -> Marks
         ensures { result ≡ [] }
     {
@@ -62,7 +62,7 @@ impl Marks {
         }
     }
 
-    /// Adds the places from one on, so many. `Err` where there is no memory or no number for them.
+    /// Adds the `count` places from `place` on. `Err` also if one of them would be above 2^64 - 1.
     pub(crate) fn add(&mut self, place: u64, count: u64) -> Result<(), OutOfMemory>
         ensures { OnOk result (self.new ≡ range_with_len place count ++ self.old) }
     {
@@ -77,8 +77,8 @@ impl Marks {
         Ok(())
     }
 
-    /// Whether, of these items put out to a node, the message of the node `me` with this number stands at one of these
-    /// places.
+    /// Returns true if the message of the node `me` with this number stands at one of these places in `put`, the items put out
+    /// to a node.
     pub(crate) fn has_own(&self, me: NodeId, seq: u32, put: &[Entry]) -> bool
         ensures { result ≡ is_acknowledged me.number seq self.now 1 put.now }
     {

@@ -37,7 +37,7 @@ use gb_types::version::Version;
 use std::alloc::Global;
 use std::marker::Model;
 
-/// So many entries from a place on, at most.
+/// Returns at most `most` entries, from the place `from` on.
 fn page(entries: &[Entry], from: usize, most: usize) -> &[Entry]
     requires { from ≤ length entries.now }
     ensures { result.now ≡ take most (drop from entries.entry.now) }
@@ -47,7 +47,7 @@ fn page(entries: &[Entry], from: usize, most: usize) -> &[Entry]
     &rest[..count]
 }
 
-/// The reply to a command to read a log.
+/// Returns the reply to a command to fetch a log.
 fn log_reply(alloc: Global, log: &[Entry], from: u32, max: u32) -> Result<Reply, OutOfMemory>
     ensures { (s : Shown) → s.log ≡ log.now → IfOk result (λ r. r ≡ fetch_answer s from max) }
 {
@@ -58,7 +58,7 @@ fn log_reply(alloc: Global, log: &[Entry], from: u32, max: u32) -> Result<Reply,
     Ok(Reply::Log(Entries::from_slice(alloc, found)?))
 }
 
-/// For each node no places.
+/// Returns an empty list of places for each node.
 fn no_marks(alloc: Global) -> [Marks; NODES]
     ensures { result ≡ replicate MOST [] }
 {
@@ -74,11 +74,11 @@ pub(crate) struct Member {
     /// What the group was told, the newest first.
     told: Vec<GroupCall>,
     replies: Vec<Reply>,
-    /// For each node what was put out to it; none at all before anything was.
+    /// For each node, the items that were put out to it; empty until the first item is put out.
     put: Vec<Entries>,
-    /// For each node how many of these items are carried.
+    /// For each node, how many of these items are carried.
     taken: [u64; NODES],
-    /// For each node the places of these items that are acknowledged.
+    /// For each node, the places of those of these items that are acknowledged.
     done: [Marks; NODES],
     stopped: bool,
 }
@@ -99,7 +99,7 @@ impl Model for Member {
 impl Member {
     ghost use Rattle.gb_alone.specs.MemberLists.{MemberValue, member_of, new_member, value_called, value_dropped, value_did, value_commanded, value_came, value_taken_in, value_took, value_done, value_cut, value_noticed};
 
-    /// Nothing has happened.
+    /// Returns the group at a node where nothing has happened.
     pub(crate) fn new(alloc: Global) -> Member
         ensures { result ≡ new_member }
     {
@@ -116,14 +116,14 @@ impl Member {
         }
     }
 
-    /// The group's tenant is taken in.
+    /// Takes in the group's tenant.
     pub(crate) fn take_tenant(&mut self, reserve: Reserve)
         ensures { self.new ≡ record self.old { reserve = Some reserve } }
     {
         self.reserve = Some(reserve);
     }
 
-    /// The spec of the group, where it was made and not dropped.
+    /// Returns the spec of the group, or `None` if the group was not made or was dropped.
     fn held_spec(&self) -> Option<&Spec>
         ensures { MatchOption result (held_spec self.entry.now.phase self.entry.now.spec ≡ None) (λ spec. held_spec self.entry.now.phase self.entry.now.spec ≡ Some spec.now) }
     {
@@ -133,8 +133,8 @@ impl Member {
         self.spec.as_ref()
     }
 
-    /// The spec of the group, or why a command on it is refused: Denied where its tenant was not taken in, NoGroup
-    /// where it was not made, Spent where it was dropped.
+    /// Returns the spec of the group, or why a command on the group is refused: `Denied` if its tenant was not taken in,
+    /// `NoGroup` if the group was not made, `Spent` if it was dropped.
     fn made_spec(&self) -> Result<&Spec, Refusal>
         ensures { MatchResult result
             (λ spec. (answer : Shown → Answer) (me : ℕ) → one_group.on_group answer me (member_of self.entry.now) ≡ answer (shown_in me self.entry.now.phase self.entry.now.told (member_of self.entry.now).put (member_of self.entry.now).done spec.now))
@@ -152,7 +152,7 @@ impl Member {
         Ok(spec)
     }
 
-    /// The reply to a command to open the group.
+    /// Returns the reply to a command to open the group.
     fn open_reply(&self) -> Reply
         ensures { (bounds : Bounds) (addr : AnyAddress) (me : ℕ) → result ≡ one_group.running_reply bounds addr me GroupEvent.Open (member_of self.now) }
     {
@@ -165,7 +165,7 @@ impl Member {
         }
     }
 
-    /// The reply to a command to shut the group.
+    /// Returns the reply to a command to shut the group.
     fn shut_reply(&self) -> Reply
         ensures { (bounds : Bounds) (addr : AnyAddress) (me : ℕ) → result ≡ one_group.running_reply bounds addr me GroupEvent.Shut (member_of self.now) }
     {
@@ -178,7 +178,7 @@ impl Member {
         }
     }
 
-    /// The reply to a command to drop the group.
+    /// Returns the reply to a command to drop the group.
     fn drop_reply(&self) -> Reply
         ensures { (bounds : Bounds) (addr : AnyAddress) (me : ℕ) → result ≡ one_group.running_reply bounds addr me GroupEvent.Drop (member_of self.now) }
     {
@@ -188,7 +188,7 @@ impl Member {
         }
     }
 
-    /// Whether a node is this one, or noticed, or acknowledged the own message with a number.
+    /// Returns true if the node `b` is `me`, is noticed, or has acknowledged the message of `me` with the number `seq`.
     fn is_finished_by(&self, me: NodeId, calls: &[Call], seq: u32, b: NodeId) -> bool
         ensures { result ≡ (nat_eq b.number me.number || (was_noticed calls.now b.number || is_acknowledged me.number seq (slice_index_or self.now.done b.number []) 1 (slice_index_or self.now.put b.number []))) }
     {
@@ -197,7 +197,7 @@ impl Member {
             || self.done[b.index()].has_own(me, seq, row_of(&self.put, b.index()))
     }
 
-    /// Whether each other member is noticed, or acknowledged the own message with a number.
+    /// Returns true if each other member is noticed or has acknowledged the message of `me` with the number `seq`.
     fn is_finished(&self, spec: &Spec, me: NodeId, calls: &[Call], seq: u32) -> bool
         requires { calls.now ≡ calls_of self.now.told }
         ensures { result ≡ is_finished_alone spec.now me.number self.now.told (member_of self.now).put (member_of self.now).done seq }
@@ -210,7 +210,7 @@ impl Member {
         true
     }
 
-    /// How many own messages from a number on, so many, are unfinished.
+    /// Returns how many of the messages of `me` with the `count` numbers from `seq` on are unfinished.
     #[tactic(auto, unfolding(crate::specs::Alone::count_unfinished))]
     fn unfinished(&self, spec: &Spec, me: NodeId, calls: &[Call], seq: u32, count: u32) -> u32
         requires calls { calls.now ≡ calls_of self.now.told }
@@ -229,7 +229,7 @@ impl Member {
         }
     }
 
-    /// How much of its spec the node's member has used. `Err` where there is no number for it.
+    /// Returns how much of the spec's limits the node has used. `Err` also if it has said 65,535 messages.
     fn usage(&self, alloc: Global, spec: &Spec, me: NodeId) -> Result<Usage, OutOfMemory>
         ensures usage { IfOk result (λ u. u ≡ usage_of spec.now me.number self.now.told (member_of self.now).put (member_of self.now).done) }
         ensures few { IfOk result (λ u. u.said < 65_535) }
@@ -248,7 +248,7 @@ impl Member {
         })
     }
 
-    /// The reply to a command to say something. `Err` where there is no number for it.
+    /// Returns the reply to a command to say something. `Err` also if the node has said 65,535 messages.
     fn say_reply(
         &self,
         alloc: Global,
@@ -277,7 +277,7 @@ impl Member {
         }
     }
 
-    /// The reply to a command to read the log.
+    /// Returns the reply to a command to fetch the log.
     fn fetch_reply(
         &self,
         alloc: Global,
@@ -295,7 +295,7 @@ impl Member {
         log_reply(alloc, log.as_slice(), from, max)
     }
 
-    /// The reply to a command to make the group.
+    /// Returns the reply to a command to make the group.
     fn make_reply(&self, bounds: &Bounds, address: Addr, me: NodeId, spec: &Spec) -> Reply
         ensures { result ≡ one_group.running_reply bounds.now address me.number (GroupEvent.Make spec.now) (member_of self.now) }
     {
@@ -312,7 +312,7 @@ impl Member {
         }
     }
 
-    /// The reply to a command at a node that has not stopped.
+    /// Returns the reply to a command at a node that has not stopped.
     fn running_reply(
         &self,
         alloc: Global,
@@ -339,7 +339,7 @@ impl Member {
         }
     }
 
-    /// The reply to a command.
+    /// Returns the reply to a command.
     pub(crate) fn reply(
         &self,
         alloc: Global,
@@ -356,7 +356,7 @@ impl Member {
         self.running_reply(alloc, bounds, address, me, event)
     }
 
-    /// The group is told something here.
+    /// Tells the group of `call` at this node, and puts out what the group then broadcasts.
     fn call(&mut self, alloc: Global, me: NodeId, call: GroupCall) -> Result<(), OutOfMemory>
         ensures { OnOk result (self.new ≡ value_called me.number call self.old) }
     {
@@ -367,7 +367,7 @@ impl Member {
         Ok(())
     }
 
-    /// The group is dropped: what waits is given up.
+    /// Drops the group, and discards the items that wait.
     fn drop_group(&mut self, alloc: Global) -> Result<(), OutOfMemory>
         ensures { OnOk result (self.new ≡ value_dropped self.old) }
     {
@@ -376,7 +376,7 @@ impl Member {
         Ok(())
     }
 
-    /// The group says a message with this number and payload.
+    /// Says a message with this number and payload.
     fn say(
         &mut self,
         alloc: Global,
@@ -394,7 +394,7 @@ impl Member {
         self.call(alloc, me, GroupCall::Own(x))
     }
 
-    /// What a command does besides its reply.
+    /// Changes the group by a command that was answered with `reply`.
     fn did(
         &mut self,
         alloc: Global,
@@ -417,7 +417,7 @@ impl Member {
         Ok(())
     }
 
-    /// A command is answered.
+    /// Changes the group by a command, and keeps its reply.
     pub(crate) fn command(
         &mut self,
         alloc: Global,
@@ -432,7 +432,7 @@ impl Member {
         Ok(())
     }
 
-    /// Whether an item that comes from a node is let fall.
+    /// Returns true if the group's rules let an item from the node `from` fall.
     fn falls(&self, alloc: Global, me: NodeId, from: NodeId, x: &Entry) -> Result<bool, OutOfMemory>
         ensures { IfOk result (λ b. b ≡ one_group.falls me.number from.number x.now self.now.told (held_spec self.now.phase self.now.spec)) }
     {
@@ -442,8 +442,8 @@ impl Member {
         }
     }
 
-    /// An item comes from a node, and is let fall, also where it is too long for the version that this node sends, or
-    /// the group is told of it.
+    /// Takes in an item from the node `from`: tells the group of it, or lets it fall. An item also falls if it is too long for
+    /// `version`, the version of the packet text that this node sends.
     fn item_came(
         &mut self,
         alloc: Global,
@@ -460,7 +460,7 @@ impl Member {
         self.call(alloc, me, GroupCall::Other(from, x))
     }
 
-    /// An item comes from a node, where there is one.
+    /// Takes in the item from the node `from`, if it is not `None`.
     pub(crate) fn take_in(
         &mut self,
         alloc: Global,
@@ -477,7 +477,7 @@ impl Member {
         }
     }
 
-    /// So many more items to a node are carried. `Err` where no number is so great.
+    /// Marks `count` more items to the node `b` as carried. `Err` if the number of carried items would be above 2^64 - 1.
     pub(crate) fn took(&mut self, b: NodeId, count: u64) -> Result<(), OutOfMemory>
         ensures { OnOk result (self.new ≡ value_took b.number count self.old) }
     {
@@ -489,15 +489,15 @@ impl Member {
         Ok(())
     }
 
-    /// Of the items put out to a node, those from a place on, so many, are acknowledged. `Err` where no number is so
-    /// great.
+    /// Marks as acknowledged, of the items put out to the node `b`, the `count` items from `place` on. `Err` also if a place
+    /// would be above 2^64 - 1.
     pub(crate) fn mark_done(&mut self, b: NodeId, place: u64, count: u64) -> Result<(), OutOfMemory>
         ensures { OnOk result (self.new ≡ value_done b.number place count self.old) }
     {
         self.done[b.index()].add(place, count)
     }
 
-    /// What waits for a node is given up.
+    /// Discards the items that wait for the node `q`.
     fn cut(&mut self, alloc: Global, q: NodeId) -> Result<(), OutOfMemory>
         ensures { OnOk result (self.new ≡ value_cut q self.old) }
     {
@@ -508,7 +508,7 @@ impl Member {
         Ok(())
     }
 
-    /// A node is noticed.
+    /// Notices the node `q`.
     pub(crate) fn notice(&mut self, alloc: Global, me: NodeId, q: NodeId) -> Result<(), OutOfMemory>
         ensures { OnOk result (self.new ≡ value_noticed me.number q (held_spec self.old.phase self.old.spec) self.old) }
     {
@@ -523,14 +523,14 @@ impl Member {
         self.call(alloc, me, GroupCall::Crashed(q))
     }
 
-    /// The node stops.
+    /// Stops the node.
     pub(crate) fn stop(&mut self)
         ensures { self.new ≡ record self.old { stopped = true } }
     {
         self.stopped = true;
     }
 
-    /// The item with this place among those put out to a node.
+    /// Returns the item with this place among those put out to the node `b`, or `Ok(None)` if there is none.
     pub(crate) fn item(
         &self,
         alloc: Global,
@@ -546,7 +546,7 @@ impl Member {
         }
     }
 
-    /// The items to a node that are carried.
+    /// Returns the items put out to the node `b` that are carried.
     pub(crate) fn carried(&self, alloc: Global, b: usize) -> Result<Entries, OutOfMemory>
         requires { b < MOST }
         ensures { IfOk result (λ e. (m : Prior) → StandsForMember self.now m → e ≡ take (m.taken b) (m.put b)) }
@@ -554,7 +554,7 @@ impl Member {
         carried_row(alloc, &self.put, &self.taken, b)
     }
 
-    /// The replies to the group's commands, copied.
+    /// Returns a copy of the replies to the group's commands.
     pub(crate) fn replies(&self, alloc: Global) -> Result<Vec<Reply>, OutOfMemory>
         ensures { IfOk result (λ v. v.items ≡ self.now.replies) }
     {
@@ -562,7 +562,7 @@ impl Member {
     }
 }
 
-/// These replies, copied.
+/// Returns a copy of these replies.
 fn copied_replies(alloc: Global, replies: &[Reply]) -> Result<Vec<Reply>, OutOfMemory>
     ensures { IfOk result (λ v. v.items ≡ replies.now) }
 {

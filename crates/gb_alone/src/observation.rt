@@ -1,4 +1,4 @@
-//! What is seen of a group at its nodes, but for what only the nodes hold.
+//! What is seen of a group at its nodes, without what only the nodes hold.
 ghost use Rattle.std.specs.Prelude.{◌≡◌};
 
 use gb_types::entry::Entries;
@@ -21,21 +21,21 @@ impl Model for NodeSeen {
 }
 
 impl NodeSeen {
-    /// These replies and carried items.
+    /// Returns an observation of these replies and carried items.
     pub fn new(replies: Vec<Reply>, carried: Vec<Entries>) -> NodeSeen
         ensures { result ≡ record { replies = replies.items; carried = carried.items } }
     {
         NodeSeen { replies, carried }
     }
 
-    /// The replies to the group's commands, in order.
+    /// Returns the replies to the group's commands, in order.
     pub fn replies(&self) -> &[Reply]
         ensures { result.now ≡ self.now.replies }
     {
         self.replies.as_slice()
     }
 
-    /// For each node, the items that are carried to it, in order.
+    /// Returns, for each node, the items that are carried to it, in order.
     pub fn carried(&self) -> &[Entries]
         ensures { result.now ≡ self.now.carried }
     {
@@ -59,7 +59,7 @@ impl Model for Observation {
 }
 
 impl Observation {
-    /// What is seen at each node.
+    /// Returns what is seen at each node, node 0 first.
     pub fn nodes(&self) -> &[NodeSeen]
         ensures { result.now ≡ self.now }
     {

@@ -1,4 +1,4 @@
-//! What a group puts out to other nodes.
+//! The items that a group puts out to other nodes.
 ghost use Rattle.std.specs.Prelude.{◌≡◌, ◌<◌, ◌++◌, List, [], ◌&&◌, not, IfOk, OnOk, length, map, take, slice_index_or, if◌then◌else◌};
 ghost use Rattle.gb_types.specs.declared.limits.TheConstants.{NODES as MOST};
 ghost use Rattle.gb_layer.specs.Machine as machine;
@@ -28,7 +28,7 @@ fn add_copies(alloc: Global, row: &mut Entries, more: &[Entry]) -> Result<(), Ou
     Ok(())
 }
 
-/// The first of these, so many at most.
+/// Returns the first `count` items, or all of them if there are fewer.
 fn first_of(row: &[Entry], count: u64) -> &[Entry]
     ensures { result.now ≡ take count row.entry.now }
 {
@@ -36,7 +36,7 @@ fn first_of(row: &[Entry], count: u64) -> &[Entry]
     &row[..count]
 }
 
-/// The items put out to a node so far.
+/// Returns the items put out to the node `b` so far.
 pub(crate) fn row_of(put: &[Entries], b: usize) -> &[Entry]
     ensures { result.now ≡ slice_index_or put.entry.now b [] }
 {
@@ -46,14 +46,14 @@ pub(crate) fn row_of(put: &[Entries], b: usize) -> &[Entry]
     }
 }
 
-/// Whether items are put out to the node: it is another member, and was not noticed.
+/// Returns true if items are put out to the node `b`: it is another member and was not noticed.
 fn is_reached(spec: &Spec, me: NodeId, b: NodeId, calls: &[Call]) -> bool
     ensures { result ≡ (rules.is_other spec.now me.number b.number && not (machine.was_noticed calls.now b.number)) }
 {
     spec.members.contains(b) && b != me && !is_noticed(calls, b)
 }
 
-/// The items put out to a node, after these too, where it is reached.
+/// Returns the items put out to the node `b`, followed by `more` if items are put out to that node.
 fn row_after(
     alloc: Global,
     spec: &Spec,
@@ -73,7 +73,7 @@ fn row_after(
     Ok(next)
 }
 
-/// The items put out to each node, after these too.
+/// Returns, for each node, the items put out to it, followed by `more` if items are put out to that node.
 fn rows_after(
     alloc: Global,
     spec: &Spec,
@@ -92,7 +92,7 @@ fn rows_after(
     Ok(rows)
 }
 
-/// The items put out to each node, after what the last of these calls puts out too.
+/// Returns, for each node, the items put out to it, followed by what the newest of the calls `told` puts out.
 pub(crate) fn rows_told(
     alloc: Global,
     spec: &Spec,
@@ -106,7 +106,7 @@ pub(crate) fn rows_told(
     rows_after(alloc, spec, me, told, put, more.as_slice())
 }
 
-/// The items put out to a node that are carried.
+/// Returns the items put out to the node `b` that are carried.
 pub(crate) fn carried_row(
     alloc: Global,
     put: &[Entries],
@@ -119,7 +119,7 @@ pub(crate) fn carried_row(
     Entries::from_slice(alloc, first_of(row_of(put, b), taken[b]))
 }
 
-/// The items put out to each node that are carried.
+/// Returns, for each node, the items put out to it that are carried.
 pub(crate) fn carried_rows(
     alloc: Global,
     put: &[Entries],

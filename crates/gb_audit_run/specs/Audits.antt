@@ -21,6 +21,7 @@ pub record AreOfOne (first other : RecordHead) : Type 0 where
   pub nodes : first.nodes ≡ other.nodes
   pub silence : first.silence ≡ other.silence
   pub places : first.places ≡ other.places
+  pub room : first.room ≡ other.room
   pub apart : first.node.number ≢ other.node.number
 
 -- the text is that of the record
@@ -38,6 +39,7 @@ pub record IsOfPlan (plan : Plan) (head : RecordHead) : Type 0 where
   pub nodes : head.nodes ≡ plan.nodes
   pub silence : head.silence ≡ plan.silence
   pub places : head.places ≡ plan.places
+  pub room : head.room ≡ plan.room
   pub version : version_at plan.versions head.node.number ≡ head.version
 
 -- the record is one of the node's

@@ -45,13 +45,15 @@ fn is_plan(plan: &Plan) -> bool
         && plan.silence <= SILENCE_MAX
 }
 
-/// Returns true if two records may be of one cluster: of two nodes, with one number of nodes, one silence and one number of places.
+/// Returns true if two records may be of one cluster: of two nodes, with one number of nodes, one silence, one number of places and one room
+/// of packets.
 pub fn are_of_one(first: &RecordHead, other: &RecordHead) -> bool
     ensures { IsTrue result ↔ AreOfOne first.now other.now }
 {
     first.nodes == other.nodes
         && first.silence == other.silence
         && first.places == other.places
+        && first.room == other.room
         && first.node.number != other.node.number
 }
 
@@ -99,6 +101,7 @@ pub fn plan_of(heads: &[RecordHead], keys: ClusterKeys) -> Option<Plan>
         versions,
         silence: first.silence,
         places: first.places,
+        room: first.room,
         cluster_key,
         admin_key,
     };

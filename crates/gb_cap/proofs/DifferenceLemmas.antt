@@ -1,4 +1,4 @@
--- How many places there are where two texts differ.
+-- The number of places where two texts differ.
 use Rattle.std.proofs.Common.{◌≡◌, ℕ, ◌+◌, ◌<◌, true, false, cond, nat_eq, List, [], ◌∷◌, length, take, get_or, ◌↔◌, refl, sym, ap, ◌∙◌, arith}
 use Rattle.std.specs.Prelude.{not, zip, count_by}
 use Rattle.std.proofs.lemmas.Bool.{eqb-true, eq-eqb}

@@ -1,4 +1,4 @@
--- What a token is asked for, and the token.
+-- The needs, and the token for each.
 use Rattle.std.specs.Prelude.{◌≡◌, ◌≢◌, ℕ, ◌<◌, ◌^◌, ◌⊎◌, List, [], ◌∷◌, ◌++◌, codes}
 use Rattle.std.specs.Int.{w16, to_be_bytes}
 use Rattle.sha2.specs.Sha256.{sha256}
@@ -30,7 +30,7 @@ Collide x y = (x ≢ y) × (sha256 x ≡ sha256 y)
 abbrev pub TextsTellNeedsApart : Type 0
 TextsTellNeedsApart = (a b : Need) → Fits a → Fits b → text_of a ≡ text_of b → a ≡ b
 
--- Where two different needs have one token under a key, the hash collides at these two texts or at those.
+-- If two different needs have one token under a key, the hash collides at these two texts or at those.
 abbrev pub SharedTokensCollide : Type 0
 SharedTokensCollide = (key : List ℕ) (a b : Need) → Fits a → Fits b → a ≢ b → token_of key a ≡ token_of key b
     → Collide (inner_text key (text_of a)) (inner_text key (text_of b)) ⊎ Collide (outer_text key (text_of a)) (outer_text key (text_of b))

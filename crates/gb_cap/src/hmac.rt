@@ -39,7 +39,7 @@ fn padded_key(key: &[u8], pad: u8) -> [u8; 64]
     block
 }
 
-/// A hasher that has taken the key under a pad.
+/// Returns a hasher that has taken the key under a pad.
 fn started(key: &[u8], pad: u8) -> Sha256
     requires { length key.now ≤ 64 }
     ensures { Holds256 result (padded pad key.now) }
@@ -49,14 +49,14 @@ fn started(key: &[u8], pad: u8) -> Sha256
     hasher
 }
 
-/// The same hasher once more. No clone of it fails; `unwrap_or_default` was measured to copy less than `unwrap`.
+/// Returns a copy of the hasher. No clone of it fails; `unwrap_or_default` was measured to copy less than `unwrap`.
 fn copied(hasher: &Sha256) -> Sha256
     ensures { result ≡ hasher.now }
 {
     hasher.clone().unwrap_or_default()
 }
 
-/// The hash of the outer text and of the inner hash.
+/// Returns the hash of the outer text and of the inner hash.
 fn finished(mut inner: Sha256, mut outer: Sha256, text: &[u8]) -> Mac
     ensures { (m n : List ℕ) → Holds256 inner m → Holds256 outer n → result ≡ sha256 (n ++ sha256 (m ++ text.now)) }
 {
@@ -65,7 +65,7 @@ fn finished(mut inner: Sha256, mut outer: Sha256, text: &[u8]) -> Mac
     outer.finalize()
 }
 
-/// HMAC-SHA-256 of the text under a key of at most 64 bytes.
+/// Returns HMAC-SHA-256 of the text under a key of at most 64 bytes.
 pub fn hmac(key: &[u8], text: &[u8]) -> Mac
     requires { length key.now ≤ 64 }
     ensures { result ≡ hmac_of key.now text.now }
@@ -115,7 +115,7 @@ impl HmacKey {
         }
     }
 
-    /// HMAC-SHA-256 of the text under this key.
+    /// Returns HMAC-SHA-256 of the text under this key.
     pub fn hmac(&self, text: &[u8]) -> Mac
         ensures { result ≡ hmac_of self.now text.now }
     {

@@ -1,4 +1,4 @@
-// What a token allows, and the tokens.
+// The needs, and the tokens for them.
 ghost use Rattle.std.specs.Prelude.{◌≡◌, ◌↔◌, IsTrue};
 ghost use Rattle.gb_cap.specs.Token.{token_of, TextsTellNeedsApart, SharedTokensCollide};
 
@@ -6,10 +6,10 @@ use crate::compare::count_differences;
 use crate::hmac::{HmacKey, Key, Mac};
 use gb_types::node::NodeId;
 
-/// Who holds it may do what its need names.
+/// The holder of a token may do what its need names.
 pub type Token = Mac;
 
-/// What a token is asked for.
+/// The right that a token is for.
 #[derive(Clone, Copy)]
 pub enum Need {
     /// To admit tenants to a node. Its token is made under the node's administrator key, those of the
@@ -24,7 +24,7 @@ pub enum Need {
 impl HmacKey {
     ghost use Rattle.gb_cap.specs.Token.{token_of};
 
-    /// The token for a need.
+    /// Returns the token for a need.
     pub fn token(&self, need: Need) -> Token
         ensures { result ≡ token_of self.now need }
     {
@@ -42,7 +42,7 @@ impl HmacKey {
         }
     }
 
-    /// Whether this is the token for the need.
+    /// Returns true if this is the token for the need.
     pub fn admits(&self, need: Need, token: &Token) -> bool
         ensures { IsTrue result ↔ (token.now ≡ token_of self.now need) }
     {
@@ -50,14 +50,14 @@ impl HmacKey {
     }
 }
 
-/// The token for a need under a key.
+/// Returns the token for a need under a key.
 pub fn token(key: &Key, need: Need) -> Token
     ensures { result ≡ token_of key.now need }
 {
     HmacKey::new(key).token(need)
 }
 
-/// Whether this is the token for the need under the key.
+/// Returns true if this is the token for the need under the key.
 pub fn admits(key: &Key, need: Need, token: &Token) -> bool
     ensures { IsTrue result ↔ (token.now ≡ token_of key.now need) }
 {
@@ -69,8 +69,8 @@ pub fn texts_tell_needs_apart()
     ensures { TextsTellNeedsApart }
 {}
 
-/// A law, with nothing to run: where two needs have one token under a key, the hash collides at one of
-/// two known pairs of texts.
+/// A law, with nothing to run: if two different needs have one token under a key, the hash collides at one of two known pairs of
+/// texts.
 pub fn shared_tokens_collide()
     ensures { SharedTokensCollide }
 {}

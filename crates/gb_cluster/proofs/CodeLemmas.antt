@@ -1,4 +1,4 @@
--- What the code's parts give together.
+-- What the parts of the code yield together.
 use Rattle.std.proofs.Common.{◌≡◌, ℕ, zero, suc, ◌-◌, ◌<◌, ◌≤◌, inl, inr, true, false, Bool, List, [], ◌∷◌, length, map, get_or, Option, Some, None, refl, sym, ap, subst, ◌∙◌, arith}
 use Rattle.std.specs.Prelude.{slice_get, slice_set, Contains, IsSome, MatchBool, if◌then◌else◌}
 use Rattle.std.specs.List.{range_with_len}

@@ -1,4 +1,4 @@
--- A run leads to one value: an event with its answer makes one value of a node.
+-- A run leads to one value: an event with its answer determines the next value of a node.
 use Rattle.std.proofs.Common.{◌≡◌, List, [], ◌∷◌, ◌++◌, sym, ap, subst, ◌∙◌, inl, inr}
 use Rattle.std.specs.Prelude.{slice_set}
 use Rattle.gb_types.specs.declared.refusal.Refusal.TheVariants.{OutOfMemory}

@@ -1,4 +1,4 @@
--- Frames are taken once and whole, and only those that were packed.
+-- Frames are taken at most once and whole, and only frames that were packed are taken.
 use Rattle.std.proofs.Common.{◌≡◌, ◌≢◌, ℕ, ◌-◌, ◌<◌, ◌≤◌, inl, inr, true, false, Bool, List, [], ◌∷◌, length, Some, Result, Ok, Err, refl, sym, ap, subst, ◌∙◌, arith}
 use Rattle.std.specs.Prelude.{◌⊎◌, ◌&&◌, is_ok, nat_eq, nat_le, slice_get, if◌then◌else◌}
 use Rattle.std.specs.FinSet as set

@@ -1,4 +1,4 @@
--- No packet that is taken has a frame outside its receiver's window.
+-- The frame of each packet that is taken is inside its receiver's window.
 use Rattle.std.proofs.Common.{◌≡◌, ◌≢◌, ℕ, ◌+◌, ◌-◌, ◌<◌, ◌≤◌, inl, inr, true, false, Bool, List, [], ◌∷◌, ◌++◌, length, map, None, Result, Ok, Err, refl, sym, ap, subst, ◌∙◌, arith}
 use Rattle.std.specs.Prelude.{◌⊎◌, ◌&&◌, not, filter, nat_eq, nat_lt, nat_le, option_map, if◌then◌else◌}
 use Rattle.std.specs.FinSet as set
@@ -17,7 +17,7 @@ use Rattle.gb_link.specs.SendWindow.{SendWindow, has_room, is_in_window}
 use Rattle.gb_link.specs.declared.receiver.Admission.TheVariants.{First, Seen, Outside}
 use Rattle.gb_link.proofs.BaseLemmas.{base_of_from, base_of_below, base_of_lacks}
 use Rattle.gb_node.specs.NodeValue.{NodeValue}
-use Rattle.gb_node.specs.NodeStep.{window_to, receiver_from, is_reached, batch_to, unless_empty, content_to, pack_content, sent, fate, kind_of, IsTurn}
+use Rattle.gb_node.specs.NodeStep.{window_to, receiver_from, is_reached, batch_to, room_to, unless_empty, content_to, pack_content, sent, fate, kind_of, IsTurn}
 use Rattle.gb_node.specs.Past.{Happened, ComesTo as NodeComesTo, read, came, packed_for, frames_to, numbered, is_taken, is_acked, is_ack}
 use Rattle.gb_node.specs.PastLaw.{PastsSay}
 use Rattle.gb_node.specs.SendLaw.{SendersRun}
@@ -51,7 +51,7 @@ one_read key text = by (is_packet key text)
 room_for : (v : NodeValue) (b : NodeId) (text : List ℕ) → Sent (SentPacket text) ≡ Sent (sent v (pack_content v b)) → has_room (window_to v b.number) ≡ true
 room_for v b text e = by (is_reached v b) (has_room (window_to v b.number)) refl e
   where
-    by : (t u : Bool) → has_room (window_to v b.number) ≡ u → Sent (SentPacket text) ≡ Sent (sent v (option_map (content_to v b (window_to v b.number).next) (if t && u then unless_empty (batch_to v.table b) else None))) → has_room (window_to v b.number) ≡ true
+    by : (t u : Bool) → has_room (window_to v b.number) ≡ u → Sent (SentPacket text) ≡ Sent (sent v (option_map (content_to v b (window_to v b.number).next) (if t && u then unless_empty (batch_to (room_to v b) v.table b) else None))) → has_room (window_to v b.number) ≡ true
     by true true is e = is
     by true false is e = absurd (cc)
     by false u is e = absurd (cc)

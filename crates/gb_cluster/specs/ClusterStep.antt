@@ -1,4 +1,4 @@
--- What each event makes of a cluster.
+-- What each event changes in a cluster.
 use Rattle.std.specs.Prelude.{ℕ, zero, suc, ◌≡◌, ◌<◌, ◌+◌, Bool, true, false, List, [], ◌∷◌, ◌++◌, length, Option, Some, None, is_ok, slice_get, slice_set, MatchBool}
 use Rattle.gb_types.specs.declared.node.NodeId.{NodeId}
 use Rattle.gb_node.specs.NodeValue.{NodeValue}
@@ -18,14 +18,14 @@ use Rattle.gb_cluster.specs.declared.event.Event.{Event}
 use Rattle.gb_cluster.specs.declared.event.Event.TheVariants.{At, Arrive}
 use Rattle.gb_cluster.specs.declared.posted.Posted.{Posted}
 
--- the node to which an event sends
+-- the node to which an event sends, if it sends
 abbrev pub receiver_of : NodeEvent → Option NodeId
 receiver_of (Pack b) = Some b
 receiver_of (Again b n) = Some b
 receiver_of (Ack b) = Some b
 receiver_of event = None
 
--- what is sent to a node
+-- the packet that is sent to a node, if one is
 abbrev pub posted_to : NodeId → SentValue → List Posted
 posted_to b (SentPacket text) = record { to = b; text = text } ∷ []
 posted_to b Nothing = []
@@ -52,7 +52,7 @@ pub record NodeActs (old : ClusterValue) (a : NodeId) (event : NodeEvent) (answe
   pub reason : IsForReason (node_at old a) event answer
   pub after : new ≡ cluster old.plan (slice_set old.nodes a.number node) (old.packets ++ posted event answer)
 
--- the node's answer, with the number of a packet in place of its bytes; `count` packets were sent before
+-- the node's answer, with a packet's number in place of its bytes; `count` packets were sent before
 abbrev pub sending : ℕ → SentValue → Sending
 sending count (SentPacket text) = SendingPacket (count + 1)
 sending count Nothing = SendingNothing
@@ -65,7 +65,7 @@ answer_of count (Sent s) = AnswerSent (sending count s)
 answer_of count (Ticked ticked) = AnswerTicked ticked
 answer_of count (Halted halted) = AnswerHalted halted
 
--- a node takes an event, where these packets were sent before it and those after it
+-- a node takes an event; `before` are the packets that were sent before it, `after` those that were sent after it
 pub record IsNodeTurn (old : NodeValue) (event : NodeEvent) (before : List Posted) (answer : Answer) (new : NodeValue) (after : List Posted) : Type 0 where
   pub own : NodeAnswer
   pub turn : IsTurn old event own new
@@ -74,11 +74,11 @@ pub record IsNodeTurn (old : NodeValue) (event : NodeEvent) (before : List Poste
   pub answered : answer ≡ answer_of (length before) own
   pub sent : after ≡ before ++ posted event own
 
--- an event at a node
+-- the step of an event at a node
 abbrev pub IsAt : ClusterValue → NodeId → NodeEvent → Answer → ClusterValue → Type 0
 IsAt old a event answer new = (own : NodeAnswer) × NodeActs old a event own new × (answer ≡ answer_of (length old.packets) own)
 
--- the packet with a number, if there is one
+-- the packet with this number, if there is one
 abbrev pub packet_numbered : List Posted → ℕ → Option Posted
 packet_numbered packets zero = None
 packet_numbered packets (suc k) = slice_get packets k
@@ -87,12 +87,12 @@ abbrev pub IsArrival : ClusterValue → Option Posted → Answer → ClusterValu
 IsArrival old None answer new = (answer ≡ NoPacket) × (new ≡ old)
 IsArrival old (Some p) answer new = IsAt old p.to (Came p.text) answer new
 
--- bytes that a node would take for a packet of the cluster
+-- the event is bytes that the node would take for a packet of the cluster
 abbrev pub is_packet_for : NodeValue → NodeEvent → Bool
 is_packet_for v (Came bytes) = is_ok (read_at v bytes)
 is_packet_for v event = false
 
--- A step of the cluster: something happens at a node, or there is no such packet, or the noise is none; then nothing changes.
+-- A step of the cluster: something happens at a node. If there is no packet with the number, or the noise is a packet for the node, nothing changes.
 abbrev pub IsStep : ClusterValue → Event → Answer → ClusterValue → Type 0
 IsStep old (At a event) answer new = MatchBool (is_packet_for (node_at old a) event) ((answer ≡ NotNoise) × (new ≡ old)) (IsAt old a event answer new)
 IsStep old (Arrive k) answer new = IsArrival old (packet_numbered old.packets k) answer new
@@ -102,7 +102,7 @@ abbrev pub IsPlaced : ℕ → Event → Type 0
 IsPlaced nodes (At a event) = a.number < nodes
 IsPlaced nodes (Arrive k) = Unit {0}
 
--- each packet goes to a node with a number below this
+-- each packet goes to a node with a number below `nodes`
 abbrev pub AreForNodes : ℕ → List Posted → Type 0
 AreForNodes nodes packets = (k : ℕ) (p : Posted) → slice_get packets k ≡ Some p → p.to.number < nodes
 

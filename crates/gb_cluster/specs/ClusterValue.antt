@@ -21,7 +21,7 @@ cluster plan nodes packets = record { plan = plan; nodes = nodes; packets = pack
 
 -- what a node is started with
 abbrev pub node_plan : Plan → NodeId → NodePlan
-node_plan plan me = record { me = me; nodes = plan.nodes; version = version_at plan.versions me.number; silence = plan.silence; places = plan.places; cluster_key = plan.cluster_key; admin_key = plan.admin_key; tape = false }
+node_plan plan me = record { me = me; nodes = plan.nodes; version = version_at plan.versions me.number; silence = plan.silence; places = plan.places; room = plan.room; cluster_key = plan.cluster_key; admin_key = plan.admin_key; tape = false }
 
 -- a node of the cluster
 abbrev pub node_at : ClusterValue → NodeId → NodeValue

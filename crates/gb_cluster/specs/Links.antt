@@ -1,4 +1,4 @@
--- What holds of the links between the nodes in every run, whichever packets arrive, whenever and however often.
+-- Laws of the links between the nodes in every run, whichever packets arrive, whenever and however often.
 use Rattle.std.specs.Prelude.{ℕ, ◌≡◌, ◌≢◌, ◌<◌, ◌≤◌, ◌-◌, true, false, List, [], ◌∷◌, length, Some, slice_get, if◌then◌else◌}
 use Rattle.gb_types.specs.declared.limits.TheConstants.{NODES}
 use Rattle.gb_types.specs.declared.node.NodeId.{NodeId}
@@ -19,8 +19,8 @@ use Rattle.gb_cluster.specs.Run.{Did, ComesTo, past_at}
 use Rattle.gb_types.specs.declared.plan.Plan.{Plan}
 use Rattle.gb_cluster.specs.declared.posted.Posted.{Posted}
 
--- A packet that was sent goes from one node of the cluster to another, and says what its sender did: its frame is the one that was packed under the number, and it acknowledges
--- only frames that were taken.
+-- A packet that was sent goes from one node of the cluster to another, and says what its sender did: its frame is the one that was packed under its number, and it acknowledges only
+-- frames that were taken.
 pub record IsHonest (plan : Plan) (run : List Did) (p : Posted) : Type 0 where
   pub content : Content
   pub from : NodeId
@@ -45,8 +45,8 @@ abbrev pub first_taken : List ℕ → NodeEvent → NodeAnswer → List Content
 first_taken key (Came bytes) (Taken (TakenGood good)) = if is_first good.frame then read key bytes else []
 first_taken key event answer = []
 
--- Where a node takes a frame for the first time, the frame was not taken before, and its items are those that the sender packed
--- under its number for this node, whole and in order.
+-- A frame that a node takes for the first time was not taken before, and its items are those that the sender packed under
+-- its number for this node, whole and in order.
 abbrev pub IsWhole : Plan → List Did → Did → Type 0
 IsWhole plan run d = (c : Content) → first_taken plan.cluster_key d.event d.answer ≡ c ∷ []
     → (1 ≤ c.frame) × (is_taken plan.cluster_key c.from c.frame (past_at d.node run) ≡ false) × (slice_get (frames_to plan.cluster_key d.node.number (past_at (node_numbered c.from) run)) (c.frame - 1) ≡ Some c.items)
@@ -58,17 +58,17 @@ IsAlwaysWhole plan (d ∷ run) = IsWhole plan run d × IsAlwaysWhole plan run
 
 -- The link from one node to another, in a run.
 pub record IsLink (plan : Plan) (run : List Did) (a b : NodeId) : Type 0 where
-  -- what was taken was packed
+  -- a frame that was taken was packed
   pub taken : (n : ℕ) → is_taken plan.cluster_key a.number n (past_at b run) ≡ true → (1 ≤ n) × (n ≤ length (frames_to plan.cluster_key b.number (past_at a run)))
-  -- what was acknowledged was taken
+  -- a frame that was acknowledged was taken
   pub acknowledged : (n : ℕ) → 1 ≤ n → is_acked plan.cluster_key b.number n (past_at a run) ≡ true → is_taken plan.cluster_key a.number n (past_at b run) ≡ true
 
--- what a packet acknowledges that is taken was taken by its sender
+-- each frame that a taken packet acknowledges was taken by the packet's sender
 abbrev pub CoversTaken : Plan → List Did → Did → Type 0
 CoversTaken plan run d = (c : Content) → came plan.cluster_key d.event d.answer ≡ c ∷ [] → c.from < NODES
     → (n : ℕ) → 1 ≤ n → covers c.base c.mask n ≡ true → is_taken plan.cluster_key d.node.number n (past_at (node_numbered c.from) run) ≡ true
 
--- the links of every run: whatever arrives, frames are taken once and whole, and only those that were packed
+-- the links of every run: whatever arrives, frames are taken at most once and whole, and only frames that were packed are taken
 pub record LinksHold : Type 0 where
   pub whole : (plan : Plan) (run : List Did) (v : ClusterValue) → ComesTo plan run v → IsAlwaysWhole plan run
   pub each : (plan : Plan) (run : List Did) (v : ClusterValue) → ComesTo plan run v → (a b : NodeId) → IsLink plan run a b
@@ -78,6 +78,6 @@ pub record LinksHold : Type 0 where
 abbrev pub IsInside : Did → Type 0
 IsInside d = (bytes : List ℕ) (good : Good) → d.event ≡ Came bytes → d.answer ≡ Taken (TakenGood good) → good.frame ≢ Beyond
 
--- so it is whichever packets arrive, whenever and however often
+-- this holds in every run, whichever packets arrive, whenever and however often
 abbrev pub NothingIsOutside : Type 0
 NothingIsOutside = (plan : Plan) (run : List Did) (d : Did) (v : ClusterValue) → ComesTo plan (d ∷ run) v → IsInside d

@@ -1,9 +1,9 @@
-//! What comes of an event in a cluster.
+//! The answer to an event in a cluster.
 use gb_node::answer::{Halted, PacketAnswer, Ticked};
 use gb_types::refusal::Refusal;
 use gb_types::reply::Reply;
 
-/// What comes of an event in a cluster: what the node answers, with a packet's number in place of its bytes.
+/// The answer to an event in a cluster: the node's answer, with a packet's number in place of its bytes.
 #[derive(Drop)]
 pub enum Answer {
     Reply(Reply),
@@ -11,9 +11,9 @@ pub enum Answer {
     Sent(Sending),
     Ticked(Ticked),
     Halted(Halted),
-    /// No packet has the number.
+    /// No packet has this number.
     NoPacket,
-    /// The noise is a packet for the node, and was not handed in.
+    /// The bytes that were to be noise are a packet for the node, and were not handed in.
     NotNoise,
 }
 
@@ -23,6 +23,6 @@ pub enum Sending {
     /// The number of a packet; packets count from 1.
     Packet(u64),
     Nothing,
-    /// Stopped, or OutOfMemory: nothing has changed.
+    /// The event was refused, with Stopped or OutOfMemory: nothing has changed.
     Refused(Refusal),
 }

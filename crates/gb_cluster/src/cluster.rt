@@ -58,7 +58,7 @@ impl Model for Cluster {
     ghost invariant = { λ n. IsReached (record { plan = n.plan; nodes = n.nodes.items; packets = n.packets.items }) };
 }
 
-/// The node to which an event sends, if it sends at all.
+/// Returns the node to which an event sends, or `None` if the event sends nothing.
 fn receiver(event: &NodeEvent) -> Option<NodeId>
     ensures { result ≡ receiver_of event.now }
 {
@@ -70,7 +70,7 @@ fn receiver(event: &NodeEvent) -> Option<NodeId>
     }
 }
 
-/// Keeps the packet that an event sent, if it sent one, and gives its number.
+/// Keeps the packet that an event sent, if it sent one, and returns what was sent, with the packet's number.
 fn post(packets: &mut Vec<Posted>, event: &NodeEvent, sent: Sent) -> Sending
     requires room { vec_len packets.old < vec_capacity packets.old }
     requires sends { IsSome (receiver_of event.now) }
@@ -90,7 +90,7 @@ fn post(packets: &mut Vec<Posted>, event: &NodeEvent, sent: Sent) -> Sending
     }
 }
 
-/// Whether bytes that come as noise are a packet for the node.
+/// Returns true if the event is bytes that come as noise but are a packet for the node.
 fn is_no_noise(node: &Node, event: &NodeEvent) -> bool
     ensures { result ≡ is_packet_for node.now event.now }
 {
@@ -100,7 +100,7 @@ fn is_no_noise(node: &Node, event: &NodeEvent) -> bool
     }
 }
 
-/// An event at a node, and what comes of it. A packet that the node sends is kept.
+/// Makes an event happen at a node and returns the answer. A packet that the node sends is kept.
 fn turn(node: &mut Node, packets: &mut Vec<Posted>, event: &NodeEvent) -> Answer
     requires { vec_len packets.old < vec_capacity packets.old }
     ensures { IsNodeTurn node.old event.now packets.old.items result node.new packets.new.items }
@@ -114,7 +114,7 @@ fn turn(node: &mut Node, packets: &mut Vec<Posted>, event: &NodeEvent) -> Answer
     }
 }
 
-/// A packet that was sent, handed in at its node, which reads it.
+/// Hands in a packet that was sent at its node, which reads it, and returns the answer.
 fn hand_in(node: &mut Node, packet: &Posted) -> Answer
     requires { is_ok (read_at node.old packet.now.text) ≡ true }
     ensures { (packets : List PostedValue) → IsNodeTurn node.old (NodeEvents.Packet packet.now.text) packets result node.new packets }
@@ -122,7 +122,7 @@ fn hand_in(node: &mut Node, packet: &Posted) -> Answer
     Answer::Taken(node.known_packet(packet.text.as_slice()))
 }
 
-/// The packet with a number, handed in at the node that it was sent to.
+/// Hands in the packet with this number at the node that it was sent to, and returns the answer.
 fn arrive(nodes: &mut Vec<Node>, packets: &[Posted], number: u64) -> Answer
     requires inside { AreForNodes (length nodes.old.items) packets.now }
     requires read { AreRead nodes.old.items packets.now }
@@ -138,7 +138,7 @@ fn arrive(nodes: &mut Vec<Node>, packets: &[Posted], number: u64) -> Answer
     hand_in(node, packet)
 }
 
-/// An event at one of the nodes; noise that is a packet for the node is not handed in.
+/// Makes an event happen at one of the nodes and returns the answer. Noise that is a packet for the node is not handed in.
 fn happen(nodes: &mut Vec<Node>, packets: &mut Vec<Posted>, at: NodeId, event: &NodeEvent) -> Answer
     requires placed { at.number < length nodes.old.items }
     requires room { vec_len packets.old < vec_capacity packets.old }
@@ -152,7 +152,7 @@ fn happen(nodes: &mut Vec<Node>, packets: &mut Vec<Posted>, at: NodeId, event: &
 }
 
 impl Cluster {
-    /// A cluster in which nothing has happened.
+    /// Returns a cluster in which nothing has happened.
     pub fn start(alloc: Global, plan: &Plan) -> Result<Cluster, OutOfMemory>
         requires { IsClusterPlan plan.now }
         ensures state { IfOk result (λ n. n ≡ new_cluster plan.now) }
@@ -170,14 +170,14 @@ impl Cluster {
         })
     }
 
-    /// How many nodes it has.
+    /// Returns the number of nodes.
     pub fn nodes(&self) -> usize
         ensures { result ≡ length self.now.nodes }
     {
         self.nodes.len()
     }
 
-    /// Whether the node that acts is one of the cluster's.
+    /// Returns true if the node that acts is one of the cluster's.
     pub fn is_placed(&self, event: &Event) -> bool
         ensures { IsTrue result ↔ IsPlaced (length self.now.nodes) event.now }
     {
@@ -187,14 +187,14 @@ impl Cluster {
         }
     }
 
-    /// Every packet that was sent, in order.
+    /// Returns every packet that was sent, in order.
     pub fn packets(&self) -> &[Posted]
         ensures { result.now ≡ self.now.packets }
     {
         self.packets.as_slice()
     }
 
-    /// Every packet that was sent, in order, with no copy.
+    /// Returns every packet that was sent, in order, without copying them.
     pub fn into_packets(self) -> Vec<Posted>
         ensures { result.items ≡ self.packets }
     {
@@ -206,8 +206,9 @@ impl Cluster {
         packets
     }
 
-    /// An event at one of the nodes; noise that is a packet for the node is not handed in. `Err` says that the cluster itself had no
-    /// memory for one more packet, and nothing has changed; a node's want of memory is an answer.
+    /// Makes an event happen at one of the nodes and returns the answer. Noise that is a packet for the node is not handed in.
+    /// `Err` if the cluster itself has no memory for one more packet; then nothing has changed. A node that refuses for lack of
+    /// memory is no error: that is an answer.
     pub fn happen(&mut self, at: NodeId, event: &NodeEvent) -> Result<Answer, OutOfMemory>
         requires { at.number < length self.old.nodes }
         ensures step { IfOk result (λ a. IsStep self.old (Events.At at event.now) a self.new) }
@@ -219,7 +220,7 @@ impl Cluster {
         Ok(happen(&mut self.nodes, &mut self.packets, at, event))
     }
 
-    /// The packet with a number arrives at the node that it was sent to.
+    /// Makes the packet with this number arrive at the node that it was sent to, and returns the answer.
     pub fn arrive(&mut self, number: u64) -> Answer
         ensures step { IsStep self.old (Events.Arrive number) result self.new }
         ensures run { RunGoesOn self.old (Events.Arrive number) result self.new }
@@ -230,8 +231,8 @@ impl Cluster {
         arrive(&mut self.nodes, &self.packets, number)
     }
 
-    /// One event. `Err` says that the cluster itself had no memory for one more packet, and nothing has changed; a
-    /// node's want of memory is an answer.
+    /// Makes one event happen and returns the answer. `Err` if the cluster itself has no memory for one more packet; then
+    /// nothing has changed. A node that refuses for lack of memory is no error: that is an answer.
     pub fn step(&mut self, event: &Event) -> Result<Answer, OutOfMemory>
         requires { IsPlaced (length self.old.nodes) event.now }
         ensures step { IfOk result (λ a. IsStep self.old event.now a self.new) }

@@ -2,11 +2,11 @@
 use gb_node::event::NodeEvent;
 use gb_types::node::NodeId;
 
-/// What happens in a cluster: something at one of its nodes.
+/// An event in a cluster: something happens at one of its nodes.
 #[derive(Drop)]
 pub enum Event {
-    /// At a node. Bytes that come so are noise: they stand for anything but a packet of the cluster.
+    /// An event at a node. Bytes that come in this way are noise: anything except a packet of the cluster for the node.
     At(NodeId, NodeEvent),
-    /// A packet that was sent arrives at the node that it was sent to, by its number; packets count from 1.
+    /// The packet with this number, which was sent, arrives at the node that it was sent to; packets count from 1.
     Arrive(u64),
 }

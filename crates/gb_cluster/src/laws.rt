@@ -1,24 +1,23 @@
-//! What holds of every run of a cluster.
+//! Laws of every run of a cluster.
 ghost use Rattle.gb_cluster.specs.Links.{LinksHold, NothingIsOutside, PacketsAreHonest, PacketsAreRead};
 ghost use Rattle.gb_cluster.specs.Run.{NodesHavePasts, RunsHaveOneEnd};
 
 use gb_node::past::{packets_say, pasts_say};
 
-/// A law of every run: each node is one that was started and came by its own past to what it is, whatever happened at
-/// the others. The function does nothing when it runs; its contract is the law.
+/// A law of every run: each node was started with its plan, and came to its state by its own past, whatever happened at the
+/// others. The function does nothing when it runs; its contract is the law.
 pub fn nodes_have_pasts()
     ensures { NodesHavePasts }
 {}
 
-/// A law of every run: what it leads to is the only value, so that whoever has the plan and the record of a run knows what
-/// each node is after it. The function does nothing when it runs; its contract is the law.
+/// A law of every run: it leads to exactly one value of the cluster. So anyone who has the plan and the record of a run knows
+/// the state of each node after it. The function does nothing when it runs; its contract is the law.
 pub fn runs_have_one_end()
     ensures { RunsHaveOneEnd }
 {}
 
-/// A law of every packet that was sent in a run: it says what its sender did. Its frame is the one that was packed under
-/// the number, and it acknowledges only frames that were taken. The function does nothing when it runs; its contract is
-/// the law.
+/// A law of every packet that was sent in a run: it says what its sender did. Its frame is the one that was packed under its
+/// number, and it acknowledges only frames that were taken. The function does nothing when it runs; its contract is the law.
 pub fn packets_are_honest()
     ensures { PacketsAreHonest }
 {
@@ -26,8 +25,8 @@ pub fn packets_are_honest()
     pasts_say();
 }
 
-/// A law of every packet that was sent in a run: the node that it was sent to reads it, whenever it arrives, so that
-/// nothing has to be tested of it there. The function does nothing when it runs; its contract is the law.
+/// A law of every packet that was sent in a run: the node that it was sent to reads it, whenever it arrives. So the code need
+/// not test it there. The function does nothing when it runs; its contract is the law.
 pub fn packets_are_read()
     ensures { PacketsAreRead }
 {
@@ -35,9 +34,9 @@ pub fn packets_are_read()
     packets_are_honest();
 }
 
-/// A law of every link, whichever packets arrive, whenever and however often: a frame is taken once at most, with the
-/// items that were packed under its number, whole and in order; only a frame that was packed is taken, and only one that
-/// was taken is acknowledged. The function does nothing when it runs; its contract is the law.
+/// A law of every link, whichever packets arrive, whenever and however often. A frame is taken at most once, with the items that
+/// were packed under its number, whole and in order. Only a frame that was packed is taken, and only a frame that was taken is
+/// acknowledged. The function does nothing when it runs; its contract is the law.
 pub fn links_hold()
     ensures { LinksHold }
 {
@@ -45,9 +44,9 @@ pub fn links_hold()
     packets_are_honest();
 }
 
-/// A law of every packet that a node of a cluster takes: its frame is not outside the window in which the node awaits
-/// frames of its sender. For a sender packs a frame only where those that were not acknowledged are among the last 64, and
-/// only a frame that was taken is acknowledged. The function does nothing when it runs; its contract is the law.
+/// A law of every packet that a node of a cluster takes: its frame is within the window in which the node awaits frames of its
+/// sender. The reason is that a sender packs a frame only if the unacknowledged frames are among its last 64, and only a frame
+/// that was taken is acknowledged. The function does nothing when it runs; its contract is the law.
 pub fn nothing_is_outside()
     ensures { NothingIsOutside }
 {

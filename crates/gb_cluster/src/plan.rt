@@ -16,6 +16,7 @@ pub fn node_plan(plan: &Plan, me: NodeId) -> NodePlan
         version: plan.bounds().version_of(me),
         silence: plan.silence,
         places: plan.places,
+        room: plan.room,
         cluster_key: plan.cluster_key,
         admin_key: plan.admin_key,
         tape: false,

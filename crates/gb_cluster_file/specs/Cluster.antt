@@ -74,6 +74,7 @@ pub record IsClusterOf (document : Members) (file : ClusterFile) : Type 0 where
   pub tick : IsNumber (get_member (codes "tick") document) 64 file.tick
   pub silence : IsNumber (get_member (codes "silence") document) (usual_silence file.tick) file.silence
   pub version : IsVersion document file.version
+  pub room : IsNumber (get_member (codes "room") document) 1400 file.room
   pub items : Items
   pub node : get_member (codes "node") document ≡ Some (array items)
   pub nodes : AreNodes items file.nodes.items
@@ -84,6 +85,7 @@ pub record IsWithin (file : ClusterFile) : Type 0 where
   pub run : (1 ≤ file.run) × (file.run ≤ 9223372036854775807)
   pub tick : (1 ≤ file.tick) × (file.tick ≤ 60000)
   pub silence : (2 ≤ file.silence) × (file.silence ≤ 1000)
+  pub room : (256 ≤ file.room) × (file.room ≤ 16345)
   pub nodes : (1 ≤ length file.nodes.items) × (length file.nodes.items ≤ (limits_of file.version).nodes)
   pub ports : All (λ node. (1 ≤ node.packets.port) × (1 ≤ node.sessions.port)) file.nodes.items
 

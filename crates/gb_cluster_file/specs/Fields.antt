@@ -2,7 +2,7 @@
 use Rattle.std.specs.Prelude.{ℕ, List, Bool, ◌||◌, codes}
 use Rattle.std.specs.Str.{bytes_eq}
 use Rattle.gb_cluster_file.specs.declared.field.Field.{Field}
-use Rattle.gb_cluster_file.specs.declared.field.Field.TheVariants.{Run, Tick, Silence, Version}
+use Rattle.gb_cluster_file.specs.declared.field.Field.TheVariants.{Run, Tick, Silence, Version, Room}
 use Rattle.gb_cluster_file.specs.declared.field.PlaceField.{PlaceField}
 use Rattle.gb_cluster_file.specs.declared.field.PlaceField.TheVariants.{Packets, Sessions}
 
@@ -12,6 +12,7 @@ name_of Run = codes "run"
 name_of Tick = codes "tick"
 name_of Silence = codes "silence"
 name_of Version = codes "version"
+name_of Room = codes "room"
 
 -- the name of a field of a node
 abbrev pub place_name_of : PlaceField → List ℕ
@@ -20,7 +21,7 @@ place_name_of Sessions = codes "sessions"
 
 -- whether a key at the top of the file names a field
 abbrev pub is_name : List ℕ → Bool
-is_name key = bytes_eq key (codes "run") || bytes_eq key (codes "tick") || bytes_eq key (codes "silence") || bytes_eq key (codes "version") || bytes_eq key (codes "node")
+is_name key = bytes_eq key (codes "run") || bytes_eq key (codes "tick") || bytes_eq key (codes "silence") || bytes_eq key (codes "version") || bytes_eq key (codes "room") || bytes_eq key (codes "node")
 
 -- whether a key of a node names a field
 abbrev pub is_place_name : List ℕ → Bool
@@ -32,6 +33,7 @@ least_of Run = 1
 least_of Tick = 1
 least_of Silence = 2
 least_of Version = 1
+least_of Room = 256
 
 -- the greatest number of a field; of the versions not every number up to it
 abbrev pub most_of : Field → ℕ
@@ -39,3 +41,4 @@ most_of Run = 9223372036854775807
 most_of Tick = 60000
 most_of Silence = 1000
 most_of Version = 255
+most_of Room = 16345

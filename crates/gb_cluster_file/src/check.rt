@@ -127,6 +127,18 @@ pub fn silence_at(table: &Table, tick: u16) -> Result<u16, FileFault>
     }
 }
 
+// Returns the most bytes of the items of a packet.
+pub fn room_at(table: &Table) -> Result<u16, FileFault>
+    ensures ok { IfOk result (λ n. IsNumber (get_member (codes "room") (table_view table.now)) 1400 n × (256 ≤ n) × (n ≤ 16345)) }
+    ensures err { IfErr result (IsDocumentFault (table_view table.now)) }
+{
+    match number_at(table, Field::Room) {
+        Ok(Some(room)) => Ok(room as u16),
+        Ok(None) => Ok(1_400),
+        Err(fault) => Err(fault),
+    }
+}
+
 // Returns the version of packets.
 pub fn version_at(table: &Table) -> Result<Version, FileFault>
     ensures ok { IfOk result (λ version. IsVersion (table_view table.now) version) }

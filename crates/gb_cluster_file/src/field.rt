@@ -13,6 +13,8 @@ pub enum Field {
     Silence,
     /// The version of packets.
     Version,
+    /// The most bytes of the items of a packet.
+    Room,
 }
 
 /// A field of a node.
@@ -34,6 +36,7 @@ impl Field {
             Field::Tick => "tick",
             Field::Silence => "silence",
             Field::Version => "version",
+            Field::Room => "room",
         }
     }
 
@@ -44,6 +47,7 @@ impl Field {
         match self {
             Field::Run | Field::Tick | Field::Version => 1,
             Field::Silence => 2,
+            Field::Room => 256,
         }
     }
 
@@ -56,6 +60,7 @@ impl Field {
             Field::Tick => 60_000,
             Field::Silence => 1_000,
             Field::Version => 255,
+            Field::Room => 16_345,
         }
     }
 }
@@ -76,7 +81,12 @@ impl PlaceField {
 pub fn is_field(key: &str) -> bool
     ensures { result ≡ is_name key.now }
 {
-    key == "run" || key == "tick" || key == "silence" || key == "version" || key == "node"
+    key == "run"
+        || key == "tick"
+        || key == "silence"
+        || key == "version"
+        || key == "room"
+        || key == "node"
 }
 
 /// Whether a key of a node's table names a field.

@@ -30,6 +30,8 @@ pub struct ClusterFile {
     pub tick: u16,
     /// The version of the packet text that each node sends.
     pub version: Version,
+    /// The most bytes of the items of a packet, 256 to 16,345.
+    pub room: u16,
     /// The nodes, node 0 first: at least 1, and no more than the version can name.
     pub nodes: Vec<NodePlaces>,
 }

@@ -10,7 +10,8 @@ ghost use Rattle.gb_cluster_file.specs.Cluster.{AreNodes, IsClusterOf, IsFileOf,
 ghost use Rattle.gb_cluster_file.specs.Faults.{IsFault, IsDocumentFault, IsItemsFault};
 
 use crate::check::{
-    NodeParts, differ, has_only_fields, node_of, run_at, silence_at, tick_at, values_at, version_at,
+    NodeParts, differ, has_only_fields, node_of, room_at, run_at, silence_at, tick_at, values_at,
+    version_at,
 };
 use crate::fault::FileFault;
 use crate::field::PlaceField;
@@ -104,6 +105,7 @@ fn cluster_of(alloc: Global, table: &Table) -> Result<ClusterFile, FileFault>
     let tick = tick_at(table)?;
     let silence = silence_at(table, tick)?;
     let version = version_at(table)?;
+    let room = room_at(table)?;
     let values = values_at(table, version)?;
     differ(values, PlaceField::Packets)?;
     differ(values, PlaceField::Sessions)?;
@@ -113,6 +115,7 @@ fn cluster_of(alloc: Global, table: &Table) -> Result<ClusterFile, FileFault>
         silence,
         tick,
         version,
+        room,
         nodes,
     })
 }

@@ -51,6 +51,7 @@ static WHOLE: &str = "run = 7              # the run's number\n\
 tick = 50\n\
 silence = 600\n\
 version = 2\n\
+room = 8_192\n\
 \n\
 # the first machine\n\
 [[node]]\n\
@@ -65,7 +66,7 @@ sessions = \"db_2:65535\" # the last port\n";
 fn a_whole_file(rt: HostRuntime) -> Result<(), Fail> {
     let file = read_cluster(rt.alloc(), WHOLE)?;
     assert_eq!(rt; (file.run, file.tick, file.silence), (7, 50, 600));
-    assert!(rt; file.version == Version::Two);
+    assert!(rt; file.version == Version::Two && file.room == 8_192);
     assert_eq!(rt; file.nodes.len(), 2);
     assert!(rt; is_at(&file.nodes[0].packets, "10.0.0.1", 24_000));
     assert!(rt; is_at(&file.nodes[0].sessions, "db1.example.com", 24_064));
@@ -74,29 +75,39 @@ fn a_whole_file(rt: HostRuntime) -> Result<(), Fail> {
     Ok(())
 }
 
-// Lines at the top of a file: run, tick, silence and the version's byte that it says.
-static NUMBERS: [(&str, u64, u16, u16, u8); 10] = [
-    ("run = 1", 1, 64, 469, 1),
+// Lines at the top of a file: run, tick, silence, the version's byte and the room that it says.
+static NUMBERS: [(&str, u64, u16, u16, u8, u16); 12] = [
+    ("run = 1", 1, 64, 469, 1, 1_400),
+    ("run = 1\nroom = 256", 1, 64, 469, 1, 256),
+    ("run = 1\nroom = 16_345", 1, 64, 469, 1, 16_345),
     (
         "run = 9223372036854775807\ntick = 60_000\nsilence = 1000\nversion = 3",
         9_223_372_036_854_775_807,
         60_000,
         1_000,
         3,
+        1_400,
     ),
-    ("run = 1\ntick = 1\nsilence = 2\nversion = 1", 1, 1, 2, 1),
-    ("run = 2\ntick = 1\nversion = 2", 2, 1, 1_000, 2),
-    ("run = 2\ntick = 30", 2, 30, 1_000, 1),
-    ("run = 2\ntick = 31", 2, 31, 968, 1),
-    ("run = 2\ntick = 100", 2, 100, 300, 1),
-    ("run = 2\ntick = 14_999", 2, 14_999, 3, 1),
-    ("run = 2\ntick = 15_000", 2, 15_000, 2, 1),
-    ("run = 2\ntick = 60_000", 2, 60_000, 2, 1),
+    (
+        "run = 1\ntick = 1\nsilence = 2\nversion = 1",
+        1,
+        1,
+        2,
+        1,
+        1_400,
+    ),
+    ("run = 2\ntick = 1\nversion = 2", 2, 1, 1_000, 2, 1_400),
+    ("run = 2\ntick = 30", 2, 30, 1_000, 1, 1_400),
+    ("run = 2\ntick = 31", 2, 31, 968, 1, 1_400),
+    ("run = 2\ntick = 100", 2, 100, 300, 1, 1_400),
+    ("run = 2\ntick = 14_999", 2, 14_999, 3, 1, 1_400),
+    ("run = 2\ntick = 15_000", 2, 15_000, 2, 1, 1_400),
+    ("run = 2\ntick = 60_000", 2, 60_000, 2, 1, 1_400),
 ];
 
 #[test]
 fn numbers_and_what_is_left_out(rt: HostRuntime) -> Result<(), Fail> {
-    for (top, run, tick, silence, version) in &NUMBERS {
+    for (top, run, tick, silence, version, room) in &NUMBERS {
         let text = with_top(rt.alloc(), *top)?;
         let file = read_cluster(rt.alloc(), text.as_str())?;
         let numbers = (
@@ -104,14 +115,15 @@ fn numbers_and_what_is_left_out(rt: HostRuntime) -> Result<(), Fail> {
             file.tick,
             file.silence,
             file.version.limits().byte,
+            file.room,
         );
-        assert_eq!(rt; numbers, (*run, *tick, *silence, *version));
+        assert_eq!(rt; numbers, (*run, *tick, *silence, *version, *room));
     }
     Ok(())
 }
 
 // Lines at the top of a file, and why they are refused.
-static TOPS: [(&str, &str); 16] = [
+static TOPS: [(&str, &str); 18] = [
     (
         "run = 0",
         "run: a number from 1 to 9223372036854775807 is wanted",
@@ -144,6 +156,14 @@ static TOPS: [(&str, &str); 16] = [
     (
         "run = 1\nsilence = 1001",
         "silence: a number from 2 to 1000 is wanted",
+    ),
+    (
+        "run = 1\nroom = 255",
+        "room: a number from 256 to 16345 is wanted",
+    ),
+    (
+        "run = 1\nroom = 16346",
+        "room: a number from 256 to 16345 is wanted",
     ),
     ("run = 1\nversion = 0", "version: 1, 2 or 3 is wanted"),
     ("run = 1\nversion = 4", "version: 1, 2 or 3 is wanted"),

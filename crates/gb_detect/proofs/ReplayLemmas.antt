@@ -1,4 +1,4 @@
--- What a detector is after any calls.
+-- The state of a detector after any calls.
 use Rattle.std.proofs.Common.{◌≡◌, ℕ, ◌+◌, ◌<◌, ◌≤◌, Bool, true, false, not, ◌&&◌, ◌||◌, nat_eq, nat_lt, nat_le, min, length, get_or, set, List, [], ◌∷◌, refl, ap, sym, ◌∙◌, subst, arith, get_or-set_same, get_or-set_other, ◌≢◌}
 use Rattle.std.proofs.lemmas.Bool.Decides.{nat_tests}
 use Rattle.std.proofs.lemmas.List.{length-map, length-set, get_or-map, get_or-replicate, length-replicate}

@@ -1,4 +1,4 @@
--- A node is noticed just where it has a silent stretch.
+-- A node is noticed if and only if it has a silent stretch.
 use Rattle.std.proofs.Common.{◌≡◌, ◌↔◌, ℕ, ◌≤◌, true, false, ◌||◌, nat_eq, List, [], ◌∷◌, ◌++◌, count_by, refl, ap, ◌∙◌, arith, zero, suc, IsTrue}
 use Rattle.std.specs.List.{list_any}
 use Rattle.std.proofs.lemmas.Bool.Decides.{nat_tests}

@@ -1,4 +1,4 @@
--- How many ticks came since a node was heard.
+-- The number of ticks since a node was heard.
 use Rattle.std.proofs.Common.{◌≡◌, ℕ, ◌+◌, ◌<◌, true, false, cond, not, ◌||◌, nat_eq, nat_le, List, [], ◌∷◌, count_by, refl, ap, sym, ◌∙◌, arith}
 use Rattle.std.proofs.lemmas.Bool.Decides.{nat_tests}
 use Rattle.std.proofs.lemmas.List.Sums.{sum_by-cons, take_while-cons}

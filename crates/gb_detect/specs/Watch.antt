@@ -1,4 +1,4 @@
--- What a detector knows, and what each call makes of it.
+-- The state of a detector, and the state after each call.
 use Rattle.std.specs.Prelude.{◌≡◌, ℕ, ◌+◌, ◌≤◌, Bool, not, ◌&&◌, nat_eq, nat_lt, nat_le, min, List, [], ◌∷◌, map, replicate, slice_index, slice_set, refl}
 use Rattle.std.specs.Coded.{Coded, code_by, coded×, coded_ℕ, coded_list}
 use Rattle.std.specs.Ordering.{nat_cmp}
@@ -7,8 +7,8 @@ use Rattle.gb_types.specs.Places.{below}
 use Rattle.gb_types.specs.declared.limits.TheConstants.{NODES, SILENCE_MIN}
 use Rattle.gb_detect.specs.Silence.{Call, Heard, Tick, is_noticed}
 
--- a detector at the node `me` of so many nodes: for how many ticks each node has been silent, up to the
--- limit `silence`, and which nodes are noticed
+-- a detector at the node `me` of `nodes` nodes: for each node the number of ticks that it has been silent, up to the
+-- limit `silence`, and the noticed nodes
 pub record Watch : Type 0 where
   pub me : ℕ
   pub nodes : ℕ
@@ -24,7 +24,7 @@ watch_code =
     (λ p. record { me = p.0; nodes = p.1.0; silence = p.1.1.0; silences = p.1.1.1.0; noticed = p.1.1.1.1 })
     (λ _. refl)
 
--- the nodes below n that pass
+-- the nodes below n that pass the test
 unfoldable pub nodes_where : ℕ → (ℕ → Bool) → set.FinSet nat_cmp
 nodes_where n p = set.retain (set.from_list (below n)) p
 
@@ -32,7 +32,7 @@ nodes_where n p = set.retain (set.from_list (below n)) p
 abbrev pub start : ℕ → ℕ → ℕ → Watch
 start me nodes silence = record { me = me; nodes = nodes; silence = silence; silences = replicate NODES 0; noticed = set.empty }
 
--- whether one more tick makes the node's silence too long
+-- true if one more tick makes the node's silence too long
 abbrev pub is_due : Watch → ℕ → Bool
 is_due d b = not (nat_eq b d.me) && (not (set.contains d.noticed b) && nat_le d.silence (slice_index d.silences b + 1))
 
@@ -40,38 +40,38 @@ is_due d b = not (nat_eq b d.me) && (not (set.contains d.noticed b) && nat_le d.
 abbrev pub due : Watch → set.FinSet nat_cmp
 due d = nodes_where d.nodes (is_due d)
 
--- a packet of the node was heard
+-- the detector after a packet of the node was heard
 abbrev pub after_heard : Watch → ℕ → Watch
 after_heard d b = record d { silences = slice_set d.silences b 0 }
 
--- the time ticked
+-- the detector after a tick
 abbrev pub after_tick : Watch → Watch
 after_tick d = record d { silences = map (λ ticks. min (ticks + 1) d.silence) d.silences; noticed = set.union d.noticed (due d) }
 
--- what one call makes of a detector
+-- the detector after a call
 abbrev pub after : Watch → Call → Watch
 after d (Heard b) = after_heard d b
 after d Tick = after_tick d
 
--- what calls, newest first, make of a detector
+-- the detector after these calls, newest first
 abbrev pub replay : Watch → List Call → Watch
 replay d [] = d
 replay d (call ∷ calls) = after (replay d calls) call
 
--- the value stands for the calls, newest first: they made it of a detector that had heard nothing
+-- the value stands for the calls, newest first: it is the detector that had heard nothing, after these calls
 pub record StandsFor (calls : List Call) (d : Watch) : Type 0 where
   pub cluster : d.nodes ≤ NODES
   pub limit : SILENCE_MIN ≤ d.silence
   pub made : d ≡ replay (start d.me d.nodes d.silence) calls
 
--- whether the node is another node of the cluster
+-- true if the node is another node of the cluster
 abbrev pub is_other : Watch → ℕ → Bool
 is_other d b = nat_lt b d.nodes && not (nat_eq b d.me)
 
--- the set has just the other nodes that are noticed over the calls
+-- the set has exactly the other nodes that are noticed over the calls
 abbrev pub AreNoticed : Watch → List Call → set.FinSet nat_cmp → Type 0
 AreNoticed d calls found = (b : ℕ) → set.contains found b ≡ (is_other d b && is_noticed d.silence b calls)
 
--- the set has just the other nodes that one more tick makes noticed
+-- the set has exactly the other nodes that one more tick makes noticed
 abbrev pub AreNew : Watch → List Call → set.FinSet nat_cmp → Type 0
 AreNew d calls found = (b : ℕ) → set.contains found b ≡ (is_other d b && (is_noticed d.silence b (Tick ∷ calls) && not (is_noticed d.silence b calls)))

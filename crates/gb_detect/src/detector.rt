@@ -8,7 +8,7 @@ use gb_types::limits::{NODES, SILENCE_MAX, SILENCE_MIN};
 use gb_types::node::{NodeId, NodeSet};
 use std::marker::Model;
 
-/// Which nodes of a cluster one of them holds for crashed: those that it has not heard for `silence` ticks.
+/// The nodes of a cluster that this node has noticed: those that it has not heard for `silence` ticks.
 #[derive(Drop)]
 pub struct Detector {
     me: NodeId,
@@ -40,7 +40,7 @@ impl Model for Detector {
     ghost invariant = { λ a. (a.nodes ≤ NODES) × (nodes_where a.nodes (set.contains a.noticed) ≡ a.noticed) };
 }
 
-/// Puts the nodes below `nodes` of one set into another.
+/// Inserts the nodes of `more` with numbers below `nodes` into `all`.
 fn insert_each(all: &mut NodeSet, more: &NodeSet, nodes: u8)
     requires { nodes ≤ NODES }
     ensures { all.new ≡ set.union all.old (nodes_where nodes (set.contains more.now)) }
@@ -53,7 +53,7 @@ fn insert_each(all: &mut NodeSet, more: &NodeSet, nodes: u8)
     }
 }
 
-/// One more tick for each node, up to the limit.
+/// Adds one tick for each node, up to the limit `silence`.
 fn count_tick(silences: &mut [u16; NODES], silence: u16)
     ensures { silences.new ≡ map (λ ticks. min (ticks + 1) silence) silences.old }
 {
@@ -63,8 +63,8 @@ fn count_tick(silences: &mut [u16; NODES], silence: u16)
 }
 
 impl Detector {
-    /// A detector at node `me` of a cluster of the nodes below `nodes`. It has heard nothing yet, and will
-    /// notice a node that is silent for `silence` ticks.
+    /// Returns a detector at node `me` of a cluster of the nodes below `nodes`. It has heard nothing yet, and will notice a node
+    /// that is silent for `silence` ticks.
     pub fn new(me: NodeId, nodes: u8, silence: u16) -> Detector
         requires cluster { nodes ≤ NODES }
         requires member { me.number < nodes }
@@ -82,8 +82,8 @@ impl Detector {
         }
     }
 
-    /// A packet of this node was heard, so its silence begins again. A notice stays, and this node itself and
-    /// nodes outside the cluster may be named.
+    /// Records that a packet of this node was heard, so its silence begins again. A noticed node stays noticed. `node` may be this
+    /// node itself, or a node outside the cluster.
     pub fn heard(&mut self, node: NodeId)
         ensures value { self.new ≡ after_heard self.old node.number }
         ensures stands { (calls : List Call) → StandsFor calls self.old → StandsFor (Heard node.number ∷ calls) self.new }
@@ -91,7 +91,7 @@ impl Detector {
         self.silences[node.number as usize] = 0;
     }
 
-    /// Whether a tick would notice this node of the cluster.
+    /// Returns true if a tick would notice this node of the cluster.
     fn is_due(&self, node: NodeId) -> bool
         requires { node.number < self.now.nodes }
         ensures { result ≡ is_due self.now node.number }
@@ -101,7 +101,7 @@ impl Detector {
             && self.silences[node.number as usize].saturating_add(1) >= self.silence
     }
 
-    /// The nodes that a tick would notice now: those whose silence is one tick short.
+    /// Returns the nodes that a tick would notice now: those whose silence is one tick short.
     pub fn due(&self) -> NodeSet
         ensures value { result ≡ due self.now }
         ensures definition { (calls : List Call) → StandsFor calls self.now → AreNew self.now calls result }
@@ -116,7 +116,7 @@ impl Detector {
         found
     }
 
-    /// The time ticks. Answers the nodes that this tick notices, none of them noticed before.
+    /// Records a tick of the time. Returns the nodes that this tick notices; none of them was noticed before.
     pub fn tick(&mut self) -> NodeSet
         ensures value { self.new ≡ after_tick self.old }
         ensures stands { (calls : List Call) → StandsFor calls self.old → StandsFor (Tick ∷ calls) self.new }
@@ -129,7 +129,7 @@ impl Detector {
         found
     }
 
-    /// All nodes that are noticed so far.
+    /// Returns all nodes that are noticed so far.
     pub fn noticed(&self) -> NodeSet
         ensures value { result ≡ self.now.noticed }
         ensures definition { (calls : List Call) → StandsFor calls self.now → AreNoticed self.now calls result }

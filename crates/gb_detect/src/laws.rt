@@ -6,7 +6,7 @@ pub fn noticed_by_calls()
     ensures { NoticedByCalls }
 {}
 
-/// A node is noticed just where, somewhere among the calls, it was not heard for a stretch of `silence` ticks.
+/// A node is noticed if and only if, somewhere among the calls, it was not heard for a stretch of `silence` ticks.
 pub fn noticed_by_stretch()
     ensures { NoticedByStretch }
 {}

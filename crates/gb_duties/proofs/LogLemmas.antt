@@ -1,4 +1,4 @@
--- Which messages stand in a log, by what is delivered.
+-- Which messages stand in a log, given what is delivered.
 use Rattle.std.proofs.Common.{◌≡◌, ℕ, Bool, true, false, cond, ◌||◌, List, [], ◌∷◌, Option, Some, refl, ap, ◌∙◌}
 use Rattle.std.specs.Prelude.{filter, if◌then◌else◌}
 use Rattle.std.specs.FinSet as set

@@ -1,4 +1,4 @@
--- Which messages stand in the order of each origin: those from 1 to its top.
+-- Which messages an order has: those of each origin from number 1 to the origin's top.
 use Rattle.std.proofs.Common.{◌≡◌, ℕ, zero, suc, ◌+◌, ◌<◌, ◌≤◌, Bool, true, false, cond, ◌&&◌, ◌||◌, ◌⊎◌, inl, inr, nat_eq, List, [], ◌∷◌, refl, sym, ap, ◌∙◌, arith}
 use Rattle.std.specs.Prelude.{if◌then◌else◌, map, filter}
 use Rattle.std.specs.FinSet as set

@@ -1,4 +1,4 @@
--- What a make or a say that is accepted shows, and an item that is not let fall.
+-- What follows from a make or a say that is accepted, and from an item that is not let fall.
 use Rattle.std.proofs.Common.{◌≡◌, ℕ, ◌+◌, ◌<◌, ◌≤◌, Bool, true, false, not, ◌&&◌, ◌||◌, nat_eq, List, length, Option, Some, None, refl, arith}
 use Rattle.std.specs.Prelude.{nat_lt, nat_le, is_some, if◌then◌else◌}
 use Rattle.std.proofs.lemmas.Bool.{eqb-true}

@@ -1,4 +1,4 @@
--- Duties and agreement in other words for what the nodes hold.
+-- Duties and agreement stated with other names for what the nodes hold.
 use Rattle.std.proofs.Common.{◌≡◌, ℕ, Bool, true, false, ◌&&◌, ◌⊎◌, inl, inr, nat_eq, List, Some, refl, sym, ap, ◌∙◌, subst}
 use Rattle.std.specs.Prelude.{All}
 use Rattle.std.proofs.lemmas.Bool.{eqb-true, not_from_false}

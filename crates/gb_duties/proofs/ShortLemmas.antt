@@ -1,4 +1,4 @@
--- What a node was told or puts out is no longer than the version that it sends allows.
+-- Each message that a node was told of or puts out is no longer than the version that the node sends allows.
 use Rattle.std.proofs.Common.{◌≡◌, ℕ, Bool, true, false, nat_eq, List, [], ◌∷◌, refl, sym, ◌∙◌, subst}
 use Rattle.std.specs.Prelude.{if◌then◌else◌}
 use Rattle.std.proofs.lemmas.Bool.{eqb-true}

@@ -1,4 +1,4 @@
--- Duties: what a node that delivered a message has done for each other member. By them Algorithms 3.1 to 3.5 of Cachin, Guerraoui, Rodrigues, Introduction to
+-- Duties: what a node that delivered a message has done for each other member. By these duties Algorithms 3.1 to 3.5 of Cachin, Guerraoui, Rodrigues, Introduction to
 -- Reliable and Secure Distributed Programming, 2011, bring about Validity (Module 3.1), Agreement (Module 3.2) and Uniform Agreement (Module 3.3). They are safety:
 -- each holds after every event, and none says that something will happen.
 use Rattle.std.specs.Prelude.{ℕ, ◌≡◌, ◌⊎◌, Bool, true, false, List, Some}
@@ -26,10 +26,10 @@ use Rattle.gb_types.specs.declared.address.Addr.{Addr}
 abbrev pub IsPutOut : (ℕ → Bool) → (ℕ → List Entry) → ℕ → MsgId → Type 0
 IsPutOut noticed put c m = (noticed c ≡ true) ⊎ (has (put c) m ≡ true)
 
--- What the node b, which delivered the message, has done for the member c. These nodes are noticed at b, these items are put out to each node, and this says which
--- nodes have had which message. Where c is not noticed,
---   best effort (Algorithm 3.1) has put out what is its own, lazy (3.2) also what is of a noticed origin, eager (3.3) and majority-ack (3.5) all; and before
---   all-ack (3.4) delivers, c has had the message.
+-- What the node b, which delivered the message, has done for the member c. `noticed` are the nodes noticed at b, `put` the items put out to each node, and `had` says
+-- which nodes have had which message. If c is not noticed,
+--   best effort (Algorithm 3.1) has put out its own messages, lazy (3.2) also those of a noticed origin, eager (3.3) and majority-ack (3.5) all; and before
+--   all-ack (3.4) delivers a message, c has had it.
 abbrev pub Duty : BroadcastModule → (ℕ → Bool) → (ℕ → List Entry) → (ℕ → MsgId → Type 0) → ℕ → ℕ → MsgId → Type 0
 Duty BestEffort noticed put had b c m = m.origin.number ≡ b → IsPutOut noticed put c m
 Duty Lazy noticed put had b c m = ((m.origin.number ≡ b) ⊎ (noticed m.origin.number ≡ true)) → IsPutOut noticed put c m
@@ -43,7 +43,7 @@ pub record IsHadByMajority (spec : Spec) (had : ℕ → MsgId → Type 0) (m : M
   pub most : has_majority (is_member spec) holders ≡ true
   pub each : (c : ℕ) → is_member spec c ≡ true → holders c ≡ true → had c m
 
--- a node has done its duty for each other member and each of these messages; and before majority-ack (3.5) delivers, more than half of the members have had the message
+-- a node has done its duty for each other member and each of these messages; and before majority-ack (3.5) delivers a message, more than half of the members have had it
 pub record KeepsDuties (spec : Spec) (b : ℕ) (noticed : ℕ → Bool) (put : ℕ → List Entry) (had : ℕ → MsgId → Type 0) (messages : MsgId → Bool) : Type 0 where
   pub others : (c : ℕ) → is_other spec b c ≡ true → (m : MsgId) → messages m ≡ true → Duty (module_of spec.kind) noticed put had b c m
   pub majority : module_of spec.kind ≡ MajorityAck → (m : MsgId) → messages m ≡ true → IsHadByMajority spec had m
@@ -52,19 +52,19 @@ pub record KeepsDuties (spec : Spec) (b : ℕ) (noticed : ℕ → Bool) (put : �
 abbrev pub noticed_at : Member → ℕ → Bool
 noticed_at member = was_noticed (calls_of member.told)
 
--- the messages that the module under the kind delivered there; a first-in first-out kind may still hold some back
+-- the messages that the module under the kind delivered at the node; a first-in first-out kind may still hold some back
 abbrev pub delivered_at : Spec → ℕ → Member → MsgId → Bool
 delivered_at spec b member = is_in (log (module_of spec.kind) b (set.items spec.members) (calls_of member.told))
 
--- the messages that stand in a node's log
+-- the messages in a node's log
 abbrev pub logged_at : ℕ → Member → MsgId → Bool
 logged_at b member = has (log_of_member b member)
 
--- the node c has said the message or taken it in; that it dropped the group since does not undo it
+-- the node c has said the message or taken it in, even if it dropped the group since
 abbrev pub HasHad : Group → ℕ → MsgId → Type 0
 HasHad group c m = mentions (calls_of (group c).told) m ≡ true
 
--- each node where the group was made, and not dropped, has done its duties for each message that it delivered, and so for each that stands in its log
+-- each node that made the group, and did not drop it, has done its duties for each message that it delivered, and so for each message in its log
 pub record Duties (group : Group) : Type 0 where
   pub delivered : (b : ℕ) (spec : Spec) → held_spec (group b).phase (group b).spec ≡ Some spec → KeepsDuties spec b (noticed_at (group b)) (group b).put (HasHad group) (delivered_at spec b (group b))
   pub logged : (b : ℕ) (spec : Spec) → held_spec (group b).phase (group b).spec ≡ Some spec → KeepsDuties spec b (noticed_at (group b)) (group b).put (HasHad group) (logged_at b (group b))
@@ -75,11 +75,11 @@ IsDutiful = (bounds : Bounds) (addr : Addr) (steps : List GroupStep) → IsLegal
 
 -- What stands in a log.
 
--- what is delivered at a node that made the group is of a member
+-- each message that is delivered at a node that made the group is of a member
 abbrev pub DeliveredAreOfMembers : Type 0
 DeliveredAreOfMembers = (bounds : Bounds) (addr : Addr) (steps : List GroupStep) (b : ℕ) (spec : Spec) → (alone bounds addr steps b).spec ≡ Some spec → (m : MsgId) → delivered_at spec b (alone bounds addr steps b) m ≡ true → is_member spec m.origin.number ≡ true
 
--- what stands in a log is delivered there, and the group was not dropped
+-- each message in a node's log is delivered there, and the group was not dropped
 abbrev pub LoggedAreDelivered : Type 0
 LoggedAreDelivered = (bounds : Bounds) (addr : Addr) (steps : List GroupStep) (b : ℕ) (spec : Spec) → (alone bounds addr steps b).spec ≡ Some spec → (m : MsgId) → logged_at b (alone bounds addr steps b) m ≡ true
     → (is_gone (alone bounds addr steps b).phase ≡ false) × (delivered_at spec b (alone bounds addr steps b) m ≡ true)

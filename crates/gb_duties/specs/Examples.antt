@@ -1,4 +1,4 @@
--- The group of the worked examples: the members 0, 1 and 2, all the nodes of a cluster, of which node 0 says one message.
+-- The group of the worked examples: its members 0, 1 and 2 are all the nodes of a cluster, and node 0 says one message.
 use Rattle.std.specs.Prelude.{ℕ, Bool, not, nat_eq, List, [], ◌∷◌, ◌++◌, None}
 use Rattle.std.specs.Ordering.{nat_cmp}
 use Rattle.std.specs.FinSet as set
@@ -51,47 +51,47 @@ at a event = record { node = a; event = event }
 abbrev pub opened_at : Kind → NodeId → List GroupStep
 opened_at kind a = at a (Tenant (record { groups = 4; msgs = 8; bytes = 64; window = 4 })) ∷ at a (Make (spec_of kind)) ∷ at a Open ∷ []
 
--- all nodes do
+-- all three nodes open the group
 abbrev pub opened : Kind → List GroupStep
 opened kind = opened_at kind first ++ (opened_at kind second ++ opened_at kind third)
 
--- the message: one byte, under whatever number is next
+-- the message that node 0 says: one byte, under the next number
 abbrev pub one_byte : NewMessage
 one_byte = record { payload = 97 ∷ []; seq = None }
 
--- node 0 says the message, and it comes to node 1 alone
+-- node 0 says the message, and it comes only to node 1
 abbrev pub to_one : List GroupStep
 to_one = at first (Say one_byte) ∷ at first (Took second 1) ∷ at second (Came first 1) ∷ []
 
--- it comes to node 2 too, and from there to node 1 once more
+-- the message comes to node 2 too, and from there to node 1 once more
 abbrev pub to_all : List GroupStep
 to_all = to_one ++ (at first (Took third 1) ∷ at third (Came first 1) ∷ at third (Took second 1) ∷ at second (Came third 1) ∷ [])
 
--- it comes to node 2, which relays it and drops the group; what it relayed still comes to node 1
+-- the message comes to node 2, which relays it and drops the group; what it relayed still comes to node 1
 abbrev pub third_drops : List GroupStep
 third_drops = to_one ++ (at first (Took third 1) ∷ at third (Came first 1) ∷ at third (Took second 1) ∷ at third Drop ∷ at second (Came third 1) ∷ [])
 
--- node 0 stops before the message goes to node 2, and the other nodes notice that
+-- node 0 stops before the message goes to node 2, and the other nodes notice node 0
 abbrev pub loss : List GroupStep
 loss = to_one ++ (at first Stop ∷ at second (Notice first) ∷ at third (Notice first) ∷ [])
 
--- node 0 stops before the message goes to node 2, the others notice that, and what they relay comes
+-- node 0 stops before the message goes to node 2, the others notice node 0, and what they relay comes
 abbrev pub crash : List GroupStep
 crash = loss ++ (at second (Took third 1) ∷ at third (Came second 1) ∷ at third (Took second 1) ∷ at second (Came third 1) ∷ [])
 
--- node 0 says the message, the others stop before it goes to them, and node 0 notices that
+-- node 0 says the message, the others stop before it goes to them, and node 0 notices them
 abbrev pub left_alone : List GroupStep
 left_alone = at first (Say one_byte) ∷ at second Stop ∷ at third Stop ∷ at first (Notice second) ∷ at first (Notice third) ∷ []
 
--- the node that runs then
+-- the only node that runs after the other two stopped
 abbrev pub only_first : ℕ → Bool
 only_first a = nat_eq a 0
 
--- the nodes that run after a crash
+-- the nodes that run after node 0 crashed
 abbrev pub runs : ℕ → Bool
 runs a = not (nat_eq a 0)
 
--- of a group of the kind after these steps: what stands in the log of a node, and what it has put out to another
+-- for a group of this kind after these steps: the log of a node, and what the node has put out to another
 abbrev pub log_in : Kind → List GroupStep → ℕ → List Entry
 log_in kind steps b = log_of_member b (alone bounds address (opened kind ++ steps) b)
 

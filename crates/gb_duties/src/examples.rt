@@ -1,5 +1,5 @@
-//! Worked examples of duties and of agreement, in a group of the members 0, 1 and 2 where node 0 says one message:
-//! laws that compute, with no code.
+//! Worked examples of duties and of agreement. The group has the members 0, 1 and 2, and node 0 says one message. Each example
+//! is a law that the prover computes; there is no code.
 ghost use Rattle.std.specs.Prelude.{◌≡◌, false, ◌++◌, [], ◌∷◌};
 ghost use Rattle.gb_types.specs.Entry.{message_of};
 ghost use Rattle.gb_types.specs.Places.{has_majority};
@@ -11,14 +11,14 @@ ghost use Rattle.gb_duties.specs.Agreement.{AreEnough, IsSettled};
 ghost use Rattle.gb_duties.specs.Duties.{HasHad, noticed_at};
 ghost use Rattle.gb_duties.specs.Examples.{address, bounds, first, second, third, spec_of, message, at, opened, to_one, to_all, third_drops, loss, crash, runs, left_alone, only_first, log_in, put_in};
 
-/// A best-effort node has put out what it said, and does not relay what it delivered, whoever is noticed.
+/// A best-effort node has put out what it said. It does not relay what it delivered, whoever is noticed.
 pub fn a_best_effort_node_puts_out_its_own()
     ensures own { put_in kind.Beb to_one 0 2 ≡ message ∷ [] }
     ensures delivered { log_in kind.Beb to_one 1 ≡ message ∷ [] }
     ensures not_relayed { put_in kind.Beb (to_one ++ at second (Notice first) ∷ []) 1 2 ≡ [] }
 {}
 
-/// A lazy node owes nothing of another's message before it notices the origin, and has relayed it from then on.
+/// A lazy node owes nothing for another node's message until it notices the origin. From then on it has relayed the message.
 pub fn a_lazy_node_relays_from_the_notice_on()
     ensures own { put_in kind.Lazy to_one 0 2 ≡ message ∷ [] }
     ensures delivered { log_in kind.Lazy to_one 1 ≡ message ∷ [] }
@@ -41,8 +41,8 @@ pub fn an_all_ack_node_waits_for_each_member()
     ensures noticed { log_in kind.AllAck (to_one ++ at second (Notice third) ∷ []) 1 ≡ message ∷ [] }
 {}
 
-/// A member that had the message drops the group, which empties its log: what it relayed still comes, and the all-ack
-/// node delivers by it, with nobody noticed.
+/// A member that had the message drops the group, which empties its log. What it relayed still comes, and makes the all-ack node
+/// deliver, with nobody noticed.
 pub fn a_member_that_dropped_the_group_had_the_message()
     ensures gone { log_in kind.AllAck third_drops 2 ≡ [] }
     ensures delivered { log_in kind.AllAck third_drops 1 ≡ message ∷ [] }
@@ -50,8 +50,8 @@ pub fn a_member_that_dropped_the_group_had_the_message()
     ensures had { HasHad (alone bounds address (opened kind.AllAck ++ third_drops)) 2 (message_of message) }
 {}
 
-/// A group settles after a crash: node 0 stopped before its message went to node 2, and both nodes that run have it in
-/// their logs, since each relayed it.
+/// A group settles after a crash. Node 0 stopped before its message went to node 2. Both running nodes have the message in their
+/// logs, since each relayed it.
 pub fn a_group_settles_after_a_crash()
     ensures legal { IsLegal bounds address (opened kind.FifoLazy ++ crash) }
     ensures settled { IsSettled bounds address (opened kind.FifoLazy ++ crash) runs (spec_of kind.FifoLazy) }
@@ -59,8 +59,8 @@ pub fn a_group_settles_after_a_crash()
     ensures two { log_in kind.FifoLazy crash 2 ≡ message ∷ [] }
 {}
 
-/// A majority-ack node delivers a message once two of the three members have had it: node 0, which said it, does not yet
-/// know so, and node 1, which it came to, does.
+/// A majority-ack node delivers a message once it knows that two of the three members have had it. Node 0, which said it, does
+/// not know that yet; node 1, to which it came, does.
 pub fn a_majority_ack_node_waits_for_more_than_half()
     ensures not_yet { log_in kind.Majority to_one 0 ≡ [] }
     ensures delivered { log_in kind.Majority to_one 1 ≡ message ∷ [] }
@@ -68,8 +68,8 @@ pub fn a_majority_ack_node_waits_for_more_than_half()
     ensures had_second { HasHad (alone bounds address (opened kind.Majority ++ to_one)) 1 (message_of message) }
 {}
 
-/// A majority-ack group settles after the same crash. Two of the three members run, and both logs have the message of
-/// the node that stopped.
+/// A majority-ack group settles after the same crash. Two of the three members run, and both their logs have the message of the
+/// node that stopped.
 pub fn a_majority_ack_group_settles_after_a_crash()
     ensures legal { IsLegal bounds address (opened kind.FifoMajority ++ crash) }
     ensures settled { IsSettled bounds address (opened kind.FifoMajority ++ crash) runs (spec_of kind.FifoMajority) }
@@ -78,8 +78,8 @@ pub fn a_majority_ack_group_settles_after_a_crash()
     ensures two { log_in kind.FifoMajority crash 2 ≡ message ∷ [] }
 {}
 
-/// Where two of the three members stopped, a majority-ack group settles too, and nothing is promised: the message that was
-/// accepted at the member that runs is in no log, though the others are noticed.
+/// If two of the three members stopped, a majority-ack group settles too, but nothing is promised. The message that was accepted
+/// at the running member is in no log, although the others are noticed.
 pub fn majority_ack_promises_nothing_without_a_majority()
     ensures legal { IsLegal bounds address (opened kind.Majority ++ left_alone) }
     ensures settled { IsSettled bounds address (opened kind.Majority ++ left_alone) only_first (spec_of kind.Majority) }
@@ -87,7 +87,8 @@ pub fn majority_ack_promises_nothing_without_a_majority()
     ensures undelivered { log_in kind.Majority left_alone 0 ≡ [] }
 {}
 
-/// With best effort a group settles after the same crash, and the message of the node that stopped is in one log alone.
+/// With best effort a group settles after the same crash, and the message of the node that stopped is in only one of the two
+/// logs.
 pub fn best_effort_does_not_agree()
     ensures legal { IsLegal bounds address (opened kind.Beb ++ loss) }
     ensures settled { IsSettled bounds address (opened kind.Beb ++ loss) runs (spec_of kind.Beb) }

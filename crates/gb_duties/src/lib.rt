@@ -1,7 +1,7 @@
-//! Duties and agreement: what each node of a group alone has done for the other members, and which messages the logs
-//! of a group share once it is settled. Laws, with no code, over every legal list of events and for every kind.
+//! Duties and agreement: what each node of a group alone has done for the other members, and which messages the logs of a
+//! settled group have in common. These are laws, with no code, over every legal list of events and for every kind.
 //!
-//! Nothing here says that something will happen: a settled group is one where it has. Read specs/Duties.antt first,
+//! Nothing here says that something will happen: a settled group is one in which it has happened. Read specs/Duties.antt first,
 //! then specs/Agreement.antt.
 #![tactic(auto)]
 

@@ -1,4 +1,4 @@
--- What stands in a list from a place on is taken one by one, while more comes behind it.
+-- The elements of a list from an index on are taken one by one, while more are put behind them.
 use Rattle.std.proofs.Common.{◌≡◌, ℕ, ◌+◌, ◌<◌, ◌≤◌, List, [], ◌∷◌, ◌++◌, length, take, drop, get_or, ap, sym, ◌∙◌, append_assoc}
 use Rattle.std.proofs.Math.Seq.{drop-append_seam}
 use Rattle.std.proofs.lemmas.List.{append-nil, drop_more, get_or-take, take-append-le}

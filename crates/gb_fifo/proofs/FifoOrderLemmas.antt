@@ -1,4 +1,4 @@
--- What a fifo hands up is, in order, what the layer below brings up.
+-- A fifo hands up, in order, the messages that the layer below brings up.
 use Rattle.std.proofs.Common.{◌≡◌, ℕ, ◌+◌, ◌<◌, ◌≤◌, Bool, true, false, cond, not, ◌&&◌, ◌||◌, nat_eq, nat_lt, List, [], ◌∷◌, ◌++◌, length, map, filter, count_by, drop, refl, ap, ◌∙◌, sym, arith, subst, zero, suc, append_assoc}
 use Rattle.std.specs.List.{list_any, AllByRecursion}
 use Rattle.std.proofs.Math.Bool.{or-true, and-false}

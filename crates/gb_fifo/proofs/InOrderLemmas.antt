@@ -1,4 +1,4 @@
--- The order of any list of messages: each origin's messages from 1 to its top, no other, and none twice.
+-- The order of any list of messages: exactly the messages of each origin from 1 to its top, each once.
 use Rattle.std.proofs.Common.{◌≡◌, ℕ, ◌+◌, ◌-◌, ◌<◌, ◌≤◌, Bool, true, false, cond, ◌&&◌, ◌||◌, nat_eq, List, [], ◌∷◌, ◌++◌, length, map, filter, drop, refl, ap, ◌∙◌, sym, arith, zero, suc, inl, inr, append_assoc, subst}
 use Rattle.std.specs.List.{range_with_len, AllByRecursion}
 use Rattle.std.proofs.lemmas.Bool.{eqb-true, cases_lt}

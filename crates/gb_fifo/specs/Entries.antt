@@ -1,4 +1,4 @@
--- What a fifo remembers of the messages that were handed in, and what it does with that.
+-- The entries of a fifo, one for each message that was handed in, and the steps on them.
 use Rattle.std.specs.Prelude.{◌≡◌, ℕ, ◌+◌, ◌<◌, Bool, true, false, cond, not, ◌&&◌, nat_eq, List, [], ◌∷◌, ◌++◌, length, map, count_by, slice_get, take}
 use Rattle.std.specs.declared.option.Option.{Option}
 use Rattle.std.specs.declared.option.Option.TheVariants.{None, Some}
@@ -19,11 +19,11 @@ is_for m e = same e.m m
 abbrev pub blank : MsgId → Entry
 blank m = record { m = m; here = false; given = false }
 
--- the entries with one of m
+-- the entries, with one of m at the end if there was none
 abbrev pub noted : List Entry → MsgId → List Entry
 noted es m = cond (list_any (is_for m) es) es (es ++ blank m ∷ [])
 
--- the entries with one of what the call hands in
+-- the entries, with one of the call's message at the end if there was none
 abbrev pub noted_by : Call → List Entry → List Entry
 noted_by (Say m) es = noted es m
 noted_by (Came p m) es = noted es m
@@ -53,11 +53,11 @@ up_of e = record { via = e.m.origin; m = e.m }
 abbrev pub is_given_of : ℕ → Entry → Bool
 is_given_of s e = nat_eq e.m.origin.number s && e.given
 
--- how many messages of an origin were handed up
+-- the number of messages of an origin that were handed up
 abbrev pub given_of : ℕ → List Entry → ℕ
 given_of s es = count_by (is_given_of s) es
 
--- the entry's message came up and was not handed up, and is the one of the origin after the first k
+-- the entry's message came up, was not handed up, and is number k + 1 of the origin
 abbrev pub is_next : ℕ → ℕ → Entry → Bool
 is_next s k e = (e.here && not e.given) && (nat_eq e.m.origin.number s && nat_eq e.m.seq (k + 1))
 
@@ -65,40 +65,40 @@ is_next s k e = (e.here && not e.given) && (nat_eq e.m.origin.number s && nat_eq
 abbrev pub next_of : ℕ → List Entry → Entry → Bool
 next_of s es = is_next s (given_of s es)
 
--- of the entries, the first that passes a test is handed up: what comes up
+-- the pair of the first entry that passes a test, which is handed up
 abbrev pub pick : (Entry → Bool) → List Entry → List Up
 pick p [] = []
 pick p (e ∷ es) = cond (p e) (up_of e ∷ []) (pick p es)
 
--- the entries once the first of them that passes a test was handed up
+-- the entries after the first that passes a test was handed up
 abbrev pub give : (Entry → Bool) → List Entry → List Entry
 give p [] = []
 give p (e ∷ es) = cond (p e) (given_entry e ∷ es) (e ∷ give p es)
 
--- the entries once the next message of an origin was handed up, if it is here, so many times
+-- the entries after n times the next message of an origin, if it came up, was handed up
 abbrev pub released : ℕ → ℕ → List Entry → List Entry
 released s zero es = es
 released s (suc n) es = released s n (give (next_of s es) es)
 
--- what comes up when the next message of an origin is handed up, if it is here, so many times
+-- the pairs that come up when n times the next message of an origin, if it came up, is handed up
 abbrev pub released_ups : ℕ → ℕ → List Entry → List Up
 released_ups s zero es = []
 released_ups s (suc n) es = pick (next_of s es) es ++ released_ups s n (give (next_of s es) es)
 
--- the entries once m came up from below, and what this sets free was handed up
+-- the entries after m came up from below, and the messages that this releases were handed up
 abbrev pub taken_one : MsgId → List Entry → List Entry
 taken_one m es = released m.origin.number (length es) (map (brought m) es)
 
--- what comes up once m came up from below
+-- the pairs that come up after m came up from below
 abbrev pub taken_one_ups : MsgId → List Entry → List Up
 taken_one_ups m es = released_ups m.origin.number (length es) (map (brought m) es)
 
--- the entries once these pairs came up from below, one by one
+-- the entries after these pairs came up from below, one by one
 abbrev pub taken : List Up → List Entry → List Entry
 taken [] es = es
 taken (u ∷ us) es = taken us (taken_one u.m es)
 
--- what comes up once these pairs came up from below, one by one
+-- the pairs that come up after these pairs came up from below, one by one
 abbrev pub taken_ups : List Up → List Entry → List Up
 taken_ups [] es = []
 taken_ups (u ∷ us) es = taken_one_ups u.m es ++ taken_ups us (taken_one u.m es)

@@ -1,4 +1,4 @@
--- Which messages have entries, and how many of them were handed up.
+-- The messages that have entries, and the number of those that were handed up.
 use Rattle.std.proofs.Common.{◌≡◌, ℕ, ◌+◌, Bool, true, false, cond, not, ◌&&◌, List, [], ◌∷◌, length, map, count_by, refl, ap, ◌∙◌, arith, zero, suc}
 use Rattle.std.specs.List.{list_any, AllByRecursion}
 use Rattle.std.proofs.Math.Bool.{and-true, and-false}
@@ -52,13 +52,13 @@ keys_noted_by (Notice q) past es k = k
 abbrev pub given_for : MsgId → Entry → Bool
 given_for m e = is_for m e && e.given
 
--- a test that a new entry fails
+-- the count of a test that fails for a new entry stays
 pub count_noted_by : (p : Entry → Bool) → ((m : MsgId) → p (blank m) ≡ false) → (c : Call) (es : List Entry) → count_by p (noted_by c es) ≡ count_by p es
 count_noted_by p f (Say m) es = count_by-grown p (list_any (is_for m) es) es (blank m) (f m)
 count_noted_by p f (Came q m) es = count_by-grown p (list_any (is_for m) es) es (blank m) (f m)
 count_noted_by p f (Notice q) es = refl
 
--- each that is handed up now was not before
+-- each entry that is handed up now was not handed up before
 given_give : (p : Entry → Bool) → ((e : Entry) → p e ≡ true → e.given ≡ false) → (es : List Entry) (m : MsgId) → count_by (given_for m) es + count_by (is_of m) (pick p es) ≡ count_by (given_for m) (give p es)
 given_give p new [] m = refl
 given_give p new (e ∷ es) m =
@@ -95,7 +95,7 @@ given_taken_one x es m =
     let a = given_released x.origin.number (length es) (map (brought x) es) m in
     let b = count_by-map (given_for m) (brought x) (brought_same (given_for m) x (λ e. refl)) es in omega (arith, a, b)
 
--- how often m comes up is how often it is newly marked as handed up
+-- the number of times that m comes up is the number of times that it is newly marked as handed up
 pub given_taken : (us : List Up) (es : List Entry) (m : MsgId) → count_by (given_for m) es + count_by (is_of m) (taken_ups us es) ≡ count_by (given_for m) (taken us es)
 given_taken [] es m = omega arith
 given_taken (u ∷ us) es m =
@@ -103,7 +103,7 @@ given_taken (u ∷ us) es m =
     let b = given_taken us (taken_one u.m es) m in
     let c = count_by-append (is_of m) (taken_one_ups u.m es) (taken_ups us (taken_one u.m es)) in omega (arith, a, b, c)
 
--- whatever comes up came from its origin
+-- each pair that comes up came from the message's origin
 abbrev IsOwn : Up → Type 0
 IsOwn u = u.via.number ≡ u.m.origin.number
 

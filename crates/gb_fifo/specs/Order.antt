@@ -13,24 +13,24 @@ upto n = range_with_len 1 n
 abbrev pub numbered : NodeId → ℕ → MsgId
 numbered origin seq = record { origin = origin; seq = seq }
 
--- m stands in a list of messages
+-- m is in a list of messages
 abbrev pub is_in : List MsgId → MsgId → Bool
 is_in delivered m = list_any (λ x. same x m) delivered
 
--- the greatest number in a list of messages, 0 where there are none
+-- the greatest number in a list of messages, 0 if it is empty
 abbrev pub greatest : List MsgId → ℕ
 greatest [] = 0
 greatest (m ∷ ms) = max m.seq (greatest ms)
 
--- the greatest k such that the messages 1 to k of an origin all stand in a list
+-- the greatest k such that the messages 1 to k of an origin are all in a list
 abbrev pub top : NodeId → List MsgId → ℕ
 top origin delivered = prefix_len (λ seq. is_in delivered (numbered origin seq)) (upto (greatest delivered))
 
--- what is given up where m is delivered after others: of m's origin the messages that are newly without a gap, from the old top to the new one
+-- what is handed up when m is delivered after others: of m's origin the messages that are newly without a gap, from the old top to the new one
 abbrev pub given_at : List MsgId → MsgId → List MsgId
 given_at earlier m = map (numbered m.origin) (drop (top m.origin earlier) (upto (top m.origin (earlier ++ m ∷ []))))
 
--- what is given up where messages are delivered one by one after others
+-- what is handed up when messages are delivered one by one after others
 abbrev pub ordered_after : List MsgId → List MsgId → List MsgId
 ordered_after earlier [] = []
 ordered_after earlier (m ∷ ms) = given_at earlier m ++ ordered_after (earlier ++ m ∷ []) ms
@@ -43,6 +43,6 @@ in_order delivered = ordered_after [] delivered
 abbrev pub numbers_of : ℕ → List MsgId → List ℕ
 numbers_of origin messages = map (λ m. m.seq) (filter (λ m. nat_eq m.origin.number origin) messages)
 
--- each origin's messages stand in a list as 1, 2, 3, .., without a gap and none twice
+-- each origin's messages are in a list as 1, 2, 3, .., without a gap and each once
 abbrev pub RunsFromOne : List MsgId → Type 0
 RunsFromOne messages = (origin : ℕ) → numbers_of origin messages ≡ upto (length (numbers_of origin messages))

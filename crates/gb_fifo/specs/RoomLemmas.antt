@@ -1,4 +1,4 @@
--- More free places are room for as many calls, or fewer.
+-- More free places are room for as many calls or fewer.
 use Rattle.std.proofs.Common.{ℕ, ◌≤◌, arith}
 use Rattle.gb_fifo.specs.declared.fifo.Fifo.{Fifo}
 use Rattle.gb_fifo.specs.FifoRoom.{HasRoom}

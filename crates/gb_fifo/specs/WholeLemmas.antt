@@ -1,4 +1,4 @@
--- A fifo that has its memory, and what keeps it so.
+-- A fifo that has its memory keeps it.
 use Rattle.std.proofs.Common.{◌≡◌, ℕ, ◌+◌, ◌≤◌, true, List, [], length, vec_capacity, ap, sym, ◌∙◌, subst, arith}
 use Rattle.std.specs.List.{list_all, IsDistinct}
 use Rattle.std.proofs.lemmas.List.{length-map}
@@ -45,7 +45,7 @@ module _ {L : Type 0} (below : L → ℕ → ℕ → ℕ → Type 0) (below_whol
       }
 
 module _ {L : Type 0} (below_whole : L → Limit → Type 0) where
-  -- a call within the limit keeps a fifo so
+  -- a call within the limit keeps a fifo's memory
   pub whole_kept : (f f' : Fifo L) (l : Limit) (c : Call) → (below_whole f.lower l → below_whole f'.lower l) → vec_capacity f.entries.list ≤ vec_capacity f'.entries.list
       → keys f'.entries.list.items ≡ keys (noted_by c f.entries.list.items) → is_within l c ≡ true → IsWhole below_whole f l → IsWhole below_whole f' l
   whole_kept f f' l c g e k h w =
@@ -57,7 +57,7 @@ module _ {L : Type 0} (below_whole : L → Limit → Type 0) where
         once = subst (IsDistinct same) (sym k) (once_noted c f.entries.list.items w.once);
       }
 
-  -- a fifo that was told nothing, with its memory
+  -- a fifo at its start, with its memory
   pub whole_at_start : (f : Fifo L) (l : Limit) → below_whole f.lower l → message_count l + l.calls ≤ vec_capacity f.entries.list → f.entries.list.items ≡ [] → IsWhole below_whole f l
   unfolding IsDistinct
   whole_at_start f l w c empty = record {

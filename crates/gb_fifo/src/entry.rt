@@ -1,4 +1,4 @@
-//! What a fifo remembers of a message.
+//! The entries of a fifo, one for each message.
 use gb_types::message::MsgId;
 
 /// A message, whether the layer below brought it up, and whether it was handed up from here.

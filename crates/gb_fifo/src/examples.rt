@@ -4,19 +4,19 @@ ghost use Rattle.std.specs.Prelude.{◌≡◌, [], ◌∷◌};
 ghost use Rattle.gb_layer.specs.Examples.{origin, other, first, second};
 ghost use Rattle.gb_fifo.specs.Order.{in_order, numbered};
 
-/// A message waits for those before it of its origin, and is given up with the last of them.
+/// A message waits for those before it of its origin, and is handed up with the last of them.
 pub fn a_message_waits_for_those_before_it()
     ensures waits { in_order (second ∷ []) ≡ [] }
     ensures comes { in_order (second ∷ first ∷ []) ≡ first ∷ second ∷ [] }
     ensures some_come { in_order (second ∷ numbered origin 4 ∷ first ∷ []) ≡ first ∷ second ∷ [] }
 {}
 
-/// A message waits for no other origin's.
+/// A message does not wait for messages of other origins.
 pub fn origins_do_not_wait_for_each_other()
     ensures { in_order (second ∷ numbered other 1 ∷ first ∷ []) ≡ numbered other 1 ∷ first ∷ second ∷ [] }
 {}
 
-/// A message is given up once, however often it is delivered.
+/// A message is handed up once, however often it is delivered.
 pub fn a_message_is_given_up_once()
     ensures { in_order (first ∷ second ∷ first ∷ second ∷ []) ≡ first ∷ second ∷ [] }
 {}

@@ -17,9 +17,9 @@ use gb_types::message::MsgId;
 use gb_types::node::{NodeId, NodeSet};
 use std::alloc::Global;
 
-/// Gives up each origin's messages in the order 1, 2, 3, .. (Hadzilacos, Toueg 1994; Cachin, Guerraoui, Rodrigues
-/// 2011, Broadcast with Sequence Number): what the layer below brings up waits until the messages before it have
-/// come up. All else is the lower layer's, which takes the same calls.
+/// Hands up each origin's messages in the order 1, 2, 3, .. (Hadzilacos, Toueg 1994; Cachin, Guerraoui, Rodrigues 2011, Broadcast
+/// with Sequence Number). A message that the layer below brings up waits until the messages before it have come up. Everything else
+/// is done by the layer below, which takes the same calls.
 #[derive(Drop)]
 pub struct Fifo<L> {
     lower: L,
@@ -28,7 +28,7 @@ pub struct Fifo<L> {
 }
 
 impl<L: Broadcast> Fifo<L> {
-    /// A fifo over a layer to which nothing was handed in yet.
+    /// Returns a fifo over a layer to which no call was made yet.
     pub fn new(alloc: Global, lower: L) -> Self
         requires { L.is_fresh (L.meaning lower) }
         ensures lower { (⟦<Fifo<L> as Layer>⟧.meaning result).lower ≡ L.meaning lower }
@@ -40,7 +40,7 @@ impl<L: Broadcast> Fifo<L> {
         }
     }
 
-    /// Notes what the call hands in.
+    /// Adds an entry for the message of the call, if there is none.
     fn note_call(&mut self, call: Call)
         requires { vec_len self.old.entries.list + 1 ≤ vec_capacity self.old.entries.list }
         ensures items { self.new.entries.list.items ≡ noted_by call self.old.entries.list.items }

@@ -18,25 +18,25 @@ use gb_types::message::MsgId;
 use gb_types::node::{NodeId, NodeSet};
 use std::alloc::Global;
 
-/// The entries in the order of first mention, with a table that leads to them.
+/// The entries in the order of first mention, with a table that finds them.
 #[derive(Drop)]
 pub struct Ledger {
     pub list: Vec<Entry>,
     pub table: Table,
-    /// How many messages of each origin were handed up, which is the number of the last.
+    /// For each origin, the number of messages that were handed up, which is the number of the last one.
     pub given: [u16; NODES],
     ghost leads: { leads table.width table.told.items 0 (keys list.items) ≡ true },
     ghost counted: { (origin : ℕ) → origin < NODES → slice_index given origin ≡ given_of origin list.items },
 }
 
-/// Whether the entry is of m.
+/// Returns true if the entry is of `m`.
 fn is_of(e: &Entry, m: MsgId) -> bool
     ensures { result ≡ is_for m e.now }
 {
     e.m == m
 }
 
-/// Whether there is an entry of m, which stands at these places.
+/// Returns true if there is an entry of `m`. It can only be at one of these places.
 fn is_noted(entries: &[Entry], places: Places, m: MsgId) -> bool
     requires places { StandsAmong (is_for m) places.from places.to entries.now }
     requires within { places.to ≤ length entries.now }
@@ -50,7 +50,7 @@ fn is_noted(entries: &[Entry], places: Places, m: MsgId) -> bool
     false
 }
 
-/// Marks the entry, if it is of m: m came up.
+/// Records in an entry, if it is of `m`, that `m` came up.
 fn bring_one(e: &mut Entry, m: MsgId)
     ensures { e.new ≡ brought m e.old }
 {
@@ -59,7 +59,7 @@ fn bring_one(e: &mut Entry, m: MsgId)
     }
 }
 
-/// Marks the entry of m, which stands at these places: m came up.
+/// Records that `m` came up. Its entry, if there is one, is at one of these places.
 fn bring_all(entries: &mut Vec<Entry>, places: Places, m: MsgId)
     requires places { StandsAmong (is_for m) places.from places.to entries.old.items }
     requires within { places.to ≤ length entries.old.items }
@@ -72,7 +72,7 @@ fn bring_all(entries: &mut Vec<Entry>, places: Places, m: MsgId)
     }
 }
 
-/// Whether a message came up and was not handed up, and is the one of the origin after the first k.
+/// Returns true if the message came up, was not handed up, and is number `k + 1` of the origin.
 fn is_after(e: &Entry, origin: NodeId, k: usize) -> bool
     ensures { result ≡ is_next origin.number k e.now }
 {
@@ -80,8 +80,7 @@ fn is_after(e: &Entry, origin: NodeId, k: usize) -> bool
     (e.here && !e.given) && (e.m.origin == origin && (seq != 0 && usize::from(seq - 1) == k))
 }
 
-/// The place of the message of an origin after the first k, which stands at these places, if it came up and was not
-/// handed up.
+/// Returns the place of message `k + 1` of an origin, if it came up and was not handed up. It can only be at one of these places.
 fn find_after(entries: &[Entry], places: Places, origin: NodeId, k: usize) -> Option<usize>
     requires places { StandsAmong (is_next origin.number k) places.from places.to entries.now }
     requires within { places.to ≤ length entries.now }
@@ -96,7 +95,7 @@ fn find_after(entries: &[Entry], places: Places, origin: NodeId, k: usize) -> Op
 }
 
 impl Ledger {
-    /// No entries.
+    /// Returns a ledger without entries.
     pub fn new(alloc: Global) -> Ledger
         ensures { result.list.items ≡ [] }
     {
@@ -107,7 +106,7 @@ impl Ledger {
         }
     }
 
-    /// Has the table cover the members' messages numbered from 1 to this width, where there are no entries yet.
+    /// Makes the table cover the members' messages numbered from 1 to `width`. There are no entries yet.
     pub fn cover(&mut self, members: &NodeSet, width: u16) -> Result<(), OutOfMemory>
         requires { self.old.list.items ≡ [] }
         ensures { self.new.list ≡ self.old.list }
@@ -115,7 +114,7 @@ impl Ledger {
         self.table.cover(members, width)
     }
 
-    /// Where an entry of m may stand.
+    /// Returns the places where an entry of `m` may stand.
     fn places(&self, m: MsgId) -> Places
         ensures places { StandsAmong (is_for m) result.from result.to self.now.list.items }
         ensures within { result.to ≤ length self.now.list.items }
@@ -123,7 +122,7 @@ impl Ledger {
         self.table.places(m, self.list.len())
     }
 
-    /// Where the message of an origin after the first k may stand.
+    /// Returns the places where message `k + 1` of an origin may stand.
     fn places_after(&self, origin: NodeId, k: usize) -> Places
         ensures places { StandsAmong (is_next origin.number k) result.from result.to self.now.list.items }
         ensures within { result.to ≤ length self.now.list.items }
@@ -139,7 +138,7 @@ impl Ledger {
         }
     }
 
-    /// Adds an entry of m, where there is none.
+    /// Adds an entry of `m` if there is none.
     pub fn note(&mut self, m: MsgId)
         requires { vec_len self.old.list + 1 ≤ vec_capacity self.old.list }
         ensures items { self.new.list.items ≡ noted self.old.list.items m }
@@ -158,7 +157,7 @@ impl Ledger {
         }
     }
 
-    /// Marks the entry of m: m came up.
+    /// Records in the entry of `m` that `m` came up.
     fn bring(&mut self, m: MsgId)
         ensures items { self.new.list.items ≡ map (brought m) self.old.list.items }
         ensures len { vec_len self.new.list ≡ vec_len self.old.list }
@@ -168,7 +167,7 @@ impl Ledger {
         bring_all(&mut self.list, places, m);
     }
 
-    /// The place of the next message of an origin, if it came up.
+    /// Returns the place of the next message of an origin, if it came up.
     fn find_next(&self, origin: NodeId) -> Option<usize>
         ensures { IsPlace (next_of origin.number self.now.list.items) self.now.list.items result }
     {
@@ -178,7 +177,7 @@ impl Ledger {
     }
 }
 
-/// Hands up one message, and says its number.
+/// Hands up one message. Returns its number.
 fn give_one(e: &mut Entry, ups: &mut Vec<Up>) -> u16
     requires { 1 ≤ free ups.old }
     ensures number { result ≡ e.old.m.seq }
@@ -195,7 +194,7 @@ fn give_one(e: &mut Entry, ups: &mut Vec<Up>) -> u16
     e.m.seq
 }
 
-/// Hands up the next message of an origin, if it came up, and says whether it did.
+/// Hands up the next message of an origin, if it came up. Returns true if it did.
 fn give_next(ledger: &mut Ledger, origin: NodeId, ups: &mut Vec<Up>) -> bool
     requires { count_by is_ungiven ledger.old.list.items ≤ free ups.old }
     ensures found { result ≡ list_any (next_of origin.number ledger.old.list.items) ledger.old.list.items }
@@ -233,7 +232,7 @@ fn release(ledger: &mut Ledger, origin: NodeId, ups: &mut Vec<Up>)
     }
 }
 
-/// Takes a message that the layer below brought up.
+/// Receives a message that the layer below brought up.
 fn take_one(ledger: &mut Ledger, m: MsgId, ups: &mut Vec<Up>)
     requires { count_by is_ungiven ledger.old.list.items ≤ free ups.old }
     ensures items { ledger.new.list.items ≡ taken_one m ledger.old.list.items }
@@ -247,7 +246,7 @@ fn take_one(ledger: &mut Ledger, m: MsgId, ups: &mut Vec<Up>)
     release(ledger, m.origin, ups);
 }
 
-/// Takes the pairs between two places out of the list.
+/// Removes the pairs from index `first` up to `end - 1` from the list.
 fn take_out(ups: &mut Vec<Up>, first: usize, end: usize)
     requires order { first ≤ end }
     requires within { end ≤ vec_len ups.old }
@@ -259,8 +258,8 @@ fn take_out(ups: &mut Vec<Up>, first: usize, end: usize)
     ups.truncate(first + (count - end));
 }
 
-/// Takes what the layer below brought up, which stands in the list from a place on, one by one. What is handed up stands
-/// there instead.
+/// Receives, one by one, the messages that the layer below brought up: the pairs from index `first` on. Replaces these pairs by
+/// those that are handed up.
 pub fn take_all(ledger: &mut Ledger, ups: &mut Vec<Up>, first: usize)
     requires first { first ≤ vec_len ups.old }
     requires room { count_by is_ungiven ledger.old.list.items ≤ free ups.old }

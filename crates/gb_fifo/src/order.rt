@@ -1,4 +1,4 @@
-//! The order of what a fifo gives up, over every layer below: laws, with no code.
+//! Laws of the order in which a fifo hands messages up, over every layer below. They have no code.
 ghost use Rattle.std.specs.Prelude.{◌≡◌, ℕ, ◌+◌, ◌≤◌, true, false, List, ◌++◌};
 ghost use Rattle.gb_types.specs.declared.node.NodeId.{NodeId};
 ghost use Rattle.gb_types.specs.declared.message.MsgId.{MsgId};
@@ -11,7 +11,7 @@ ghost use Rattle.gb_fifo.specs.OrderLaws.{AllIn, NoneTwice};
 use crate::fifo::Fifo;
 use gb_layer::layer::{Broadcast, Layer};
 
-/// The top is what its name says: up to it each message of the origin stands in the list, and the next does not.
+/// The top is the greatest number up to which each message of the origin is in the list; the next message is not.
 pub fn top_is_the_greatest()
     ensures stand { (origin : NodeId) (delivered : List MsgId) (seq : ℕ) → 1 ≤ seq → seq ≤ top origin delivered → is_in delivered (numbered origin seq) ≡ true }
     ensures ends { (origin : NodeId) (delivered : List MsgId) → is_in delivered (numbered origin (top origin delivered + 1)) ≡ false }
@@ -23,9 +23,8 @@ pub fn one_two_three<L: Broadcast>()
         → RunsFromOne (messages (all_ups ⟦<Fifo<L> as Layer>⟧.next ⟦<Fifo<L> as Layer>⟧.gives s past)) }
 {}
 
-/// Over each history, what comes up is, in the order of each origin, what the layer below brings up: a call gives
-/// up what its own messages from below set free, in view of all that came up below before. It sends what the
-/// layer below sends.
+/// Over each history, the messages that come up are those that the layer below brings up, in the order of each origin. A call hands
+/// up what its own messages from below release, given all that came up below before. It sends what the layer below sends.
 pub fn in_origin_order<L: Broadcast>()
     ensures up { (s : FifoState L.State) (past : List Call) (c : Call) → ⟦<Fifo<L> as Layer>⟧.is_fresh s
         → messages (⟦<Fifo<L> as Layer>⟧.gives (after ⟦<Fifo<L> as Layer>⟧.next s past) c).ups
@@ -36,13 +35,13 @@ pub fn in_origin_order<L: Broadcast>()
         → messages (all_ups ⟦<Fifo<L> as Layer>⟧.next ⟦<Fifo<L> as Layer>⟧.gives s past) ≡ in_order (messages (all_ups L.next L.gives s.lower past)) }
 {}
 
-/// The order grows at its end: messages that are delivered later change nothing of what was given up before.
+/// The order grows at its end: messages that are delivered later change nothing of what was handed up before.
 pub fn grows_at_its_end()
     ensures { (earlier later : List MsgId) → in_order (earlier ++ later) ≡ in_order earlier ++ ordered_after earlier later }
 {}
 
-/// Of any list of messages the order gives up each origin's messages from 1 to its top, in this order, no message
-/// that does not stand in the list, and none twice, however often it stands there.
+/// From any list of messages the order hands up each origin's messages from 1 to its top, in this order. Each is in the list and is
+/// handed up once, however often it is in the list.
 pub fn gives_up_whole_runs()
     ensures numbers { (origin : NodeId) (delivered : List MsgId) → numbers_of origin.number (in_order delivered) ≡ upto (top origin delivered) }
     ensures runs { (delivered : List MsgId) → RunsFromOne (in_order delivered) }

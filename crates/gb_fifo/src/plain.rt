@@ -1,5 +1,4 @@
-//! The order of each origin's messages, computed plainly from its meaning: slow, for short lists, to compare
-//! layers with.
+//! The order of each origin's messages, computed straight from its definition: slow, for short lists, to compare layers with.
 ghost use Rattle.std.specs.Prelude.{◌≡◌, ◌++◌, drop, map, IfOk, OnOk};
 ghost use Rattle.gb_fifo.specs.Order as order;
 ghost use Rattle.gb_fifo.specs.Order.{numbered, upto};
@@ -9,14 +8,14 @@ use gb_types::message::MsgId;
 use gb_types::node::NodeId;
 use std::alloc::Global;
 
-/// Whether m stands in the list.
+/// Returns true if `m` is in the list.
 fn is_in(delivered: &[MsgId], m: MsgId) -> bool
     ensures { result ≡ order.is_in delivered.now m }
 {
     delivered.iter().any(|x| *x == m)
 }
 
-/// The greatest number in the list, 0 where there are none.
+/// Returns the greatest number in the list, or 0 if the list is empty.
 fn greatest(delivered: &[MsgId]) -> u16
     ensures { result ≡ order.greatest delivered.now }
 {
@@ -26,7 +25,7 @@ fn greatest(delivered: &[MsgId]) -> u16
     }
 }
 
-/// The greatest k such that the messages 1 to k of the origin all stand in the list.
+/// Returns the greatest k such that the messages 1 to k of the origin are all in the list.
 fn top(origin: NodeId, delivered: &[MsgId]) -> u16
     ensures { result ≡ order.top origin delivered.now }
 {
@@ -53,7 +52,7 @@ fn add_numbered(
     Ok(())
 }
 
-/// The delivered messages in the order of each origin, each held back until those before it were delivered.
+/// Returns the delivered messages in the order of each origin. Each is held back until those before it were delivered.
 pub fn in_order(alloc: Global, delivered: &[MsgId]) -> Result<Vec<MsgId>, OutOfMemory>
     ensures { IfOk result (λ given. given.items ≡ order.in_order delivered.now) }
 {

@@ -1,4 +1,4 @@
--- The first test that says so is the first fault of the table.
+-- The first test that holds is the first fault of the table.
 use Rattle.std.proofs.Common.{◌≡◌, ◌≢◌, ℕ, zero, suc, ◌+◌, ◌<◌, ◌≤◌, Bool, true, false, cond, List, [], ◌∷◌, length, take, codes, eqb, Option, Some, None, refl, sym, ap, subst, ◌∙◌, arith, inl, inr}
 use Rattle.std.specs.Prelude.{find, not, ◌&&◌, ◌==◌, ◌%◌, ◌↔◌, nat_lt, if◌then◌else◌, is_none, unwrap_or}
 use Rattle.std.proofs.lemmas.Bool.{eqb-true, ltb-false}

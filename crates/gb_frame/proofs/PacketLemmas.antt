@@ -1,4 +1,4 @@
--- Bytes are a packet exactly where no fault is found in them.
+-- Bytes are a packet if and only if they have no fault.
 use Rattle.std.proofs.Common.{◌≡◌, ℕ, Bool, true, false, List, length, Option, Some, None, refl, ap, ◌∙◌, arith}
 use Rattle.std.specs.Prelude.{not, ◌&&◌, nat_eq, nat_le, nat_lt, is_none, is_some, if◌then◌else◌}
 use Rattle.std.proofs.lemmas.Bool.Decides.{nat_tests}

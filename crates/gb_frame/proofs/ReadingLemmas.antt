@@ -1,4 +1,4 @@
--- Reading finds a packet exactly in its text, and otherwise the first fault of the table.
+-- Reading returns a packet if and only if the bytes are its text, and otherwise the first fault of the table.
 use Rattle.std.proofs.Common.{◌≡◌, ◌≢◌, ℕ, ◌-◌, ◌^◌, ◌≤◌, Bool, true, false, cond, List, [], ◌∷◌, ◌++◌, length, take, drop, codes, Option, Some, None, Ok, refl, sym, ap, subst, ◌∙◌, arith, inl, inr, ◌⊎◌}
 use Rattle.std.specs.Prelude.{find, is_ok, not, ◌&&◌, ◌==◌, ◌%◌, nat_lt, is_none, if◌then◌else◌}
 use Rattle.std.specs.Cmp.Lexicographic.{same_text, other_text}

@@ -1,4 +1,4 @@
--- How many bytes items take.
+-- The number of bytes that items take.
 use Rattle.std.proofs.Common.{◌≡◌, ℕ, ◌+◌, ◌-◌, ◌*◌, ◌<◌, ◌≤◌, List, [], ◌∷◌, ◌++◌, length, take, get_or, All, sym, ap, ◌∙◌, arith}
 use Rattle.std.proofs.lemmas.List.{length-append, take_more, flat_map_more}
 use Rattle.std.proofs.lemmas.List.Folds.{length-flat_map-take}

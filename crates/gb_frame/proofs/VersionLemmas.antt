@@ -1,4 +1,4 @@
--- What a version's packets have room for.
+-- The room in a packet of a version.
 use Rattle.std.proofs.Common.{◌≤◌, arith}
 use Rattle.gb_types.specs.declared.version.Version.{Version}
 use Rattle.gb_types.specs.declared.version.Version.TheVariants.{One, Two, Three}

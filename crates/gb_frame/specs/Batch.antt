@@ -1,4 +1,4 @@
--- Texts of items by themselves, with no packet round them: what a frame is made of.
+-- The texts of items without a packet round them: the content of a frame.
 use Rattle.std.specs.Prelude.{◌≡◌, ℕ, zero, suc, ◌<◌, ◌≤◌, List, [], ◌∷◌, length, All, Option, Some, None}
 use Rattle.gb_types.specs.declared.limits.TheConstants.{PAYLOAD}
 use Rattle.gb_types.specs.declared.version.Version.{Version}
@@ -13,7 +13,7 @@ abbrev pub first_and : (List ℕ → List Item) → Option (Item × List ℕ) �
 first_and others None = []
 first_and others (Some x) = x.0 ∷ others x.1
 
--- at most n items, read one after another from the front of the bytes; reading ends where no item with a payload of at most PAYLOAD bytes stands
+-- up to n items, read one after another from the front of the bytes; reading ends before bytes that do not begin with an item whose payload has at most PAYLOAD bytes
 unfoldable pub items_from : Version → ℕ → List ℕ → List Item
 items_from version zero bytes = []
 items_from version (suc n) bytes = first_and (items_from version n) (item_at version PAYLOAD bytes)
@@ -22,7 +22,7 @@ items_from version (suc n) bytes = first_and (items_from version n) (item_at ver
 abbrev pub batch_in : Version → List ℕ → List Item
 batch_in version bytes = items_from version (length bytes) bytes
 
--- these bytes are texts of items of the version, some, and no more than a packet of any version has room for
+-- these bytes are the texts of one or more items of the version, and at most as many as a packet of any version has room for
 pub record IsBatch (version : Version) (bytes : List ℕ) : Type 0 where
   pub texts : AreTexts version bytes (batch_in version bytes)
   pub some : 0 < length bytes
@@ -33,6 +33,6 @@ pub record FitPacket (version : Version) (items : List Item) : Type 0 where
   pub payloads : All (λ i. length i.payload ≤ (limits_of version).payload) items
   pub room : length (items_text version items) ≤ room_of version
 
--- texts tell which items they are of
+-- texts determine their items
 abbrev pub TextsTellItems : Type 0
 TextsTellItems = (version : Version) (bytes : List ℕ) (items : List Item) → AreTexts version bytes items → batch_in version bytes ≡ items

@@ -1,4 +1,4 @@
--- The table of faults: where each holds of bytes, and which is the first.
+-- The table of faults: when each holds of bytes, and which is the first.
 use Rattle.std.specs.Prelude.{◌≡◌, ◌≢◌, ℕ, ◌<◌, ◌≤◌, ◌%◌, ◌⊎◌, List, [], ◌++◌, length, take, codes, All, None}
 use Rattle.gb_types.specs.Version.{limits_of, version_named}
 use Rattle.gb_types.specs.declared.version.Version.{Version as TextVersion}
@@ -10,7 +10,7 @@ use Rattle.gb_frame.specs.Spelling.{items_text, IsItem, tag_of}
 use Rattle.gb_frame.specs.Fields.{version_in, from_in, to_in, base_in, mask_in, frame_in, count_in, items_in, tagged_in, tag_in}
 use Rattle.gb_frame.specs.Reading.{version_read}
 
--- the place of a fault in the table
+-- the number of a fault in the table
 abbrev pub fault_number : PacketFault → ℕ
 fault_number Short = 1
 fault_number Magic = 2
@@ -30,7 +30,7 @@ pub record Stand (version : TextVersion) (n : ℕ) (bytes : List ℕ) (items : L
   pub payloads : All (λ i. length i.payload ≤ (limits_of version).payload) items
   pub parts : bytes ≡ items_text version items ++ rest
 
--- where a fault holds, whatever else does; the limits are those of the version that the version byte stands for
+-- the fault holds of the bytes, whether or not others hold; the limits are those of the version that the version byte stands for
 abbrev pub HasFault : List ℕ → List ℕ → PacketFault → Type 0
 HasFault key bytes Short = length bytes < SHORTEST
 HasFault key bytes Magic = take 2 bytes ≢ codes "GB"
@@ -43,7 +43,7 @@ HasFault key bytes Trailing = (items : List Item) × (rest : List ℕ) × (rest 
 HasFault key bytes TooLong = (limits_of (version_read bytes)).packet < length bytes
 HasFault key bytes Tag = tag_in bytes ≢ tag_of key (tagged_in bytes)
 
--- the fault holds, and none before it in the table
+-- the fault holds, and each one before it in the table does not
 pub record IsFirstFault (key bytes : List ℕ) (fault : PacketFault) : Type 0 where
   pub holds : HasFault key bytes fault
   pub first : (earlier : PacketFault) → fault_number earlier < fault_number fault → ¬ HasFault key bytes earlier

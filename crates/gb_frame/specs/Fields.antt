@@ -1,9 +1,9 @@
--- The fields of a packet, read off its bytes at their places.
+-- The fields of a packet, read from its bytes.
 use Rattle.std.specs.Prelude.{ℕ, ◌-◌, List, length, take, drop, slice_index}
 use Rattle.std.specs.Int.{Width, w16, w64, byte_len, from_be_bytes}
 use Rattle.gb_frame.specs.declared.limits.TheConstants.{HEADER, TAG}
 
--- the number at a place, high byte first
+-- the number at an index, high byte first
 unfoldable pub number_at : Width → ℕ → List ℕ → ℕ
 number_at w at bytes = from_be_bytes w (take (byte_len w) (drop at bytes))
 
@@ -29,7 +29,7 @@ frame_in bytes = number_at w64 21 bytes
 abbrev pub count_in : List ℕ → ℕ
 count_in bytes = number_at w16 29 bytes
 
--- what the tag is made of, the tag, and the texts of the items
+-- the bytes that the tag is computed from, the tag, and the texts of the items
 abbrev pub tagged_in : List ℕ → List ℕ
 tagged_in bytes = take (length bytes - TAG) bytes
 

@@ -1,4 +1,4 @@
--- What an item says: the group that it names, and its message.
+-- The parts of an item: the group that it names, and its message.
 use Rattle.std.proofs.Common.{arith}
 use Rattle.std.specs.Prelude.{ℕ, ◌<◌, ◌%◌, ◌&&◌, Bool, List, filter, nat_eq}
 use Rattle.gb_types.specs.declared.address.Addr.{Addr}
@@ -9,7 +9,7 @@ use Rattle.gb_frame.specs.declared.item.Item.{Item}
 pub rest_is_node : (n : ℕ) → n % NODES < NODES
 rest_is_node n = omega arith
 
--- the address of an item, and what it says; its origin's number is below the number of nodes that there may be
+-- the address and the entry of an item; the number of its origin is reduced modulo NODES
 abbrev pub address_of : Item → Addr
 address_of i = record { tenant = i.tenant; group = i.group; generation = i.generation }
 

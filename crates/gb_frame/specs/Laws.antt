@@ -4,7 +4,7 @@ use Rattle.gb_frame.specs.Packet.{Content}
 use Rattle.gb_frame.specs.Spelling.{packet_text, IsPacket, IsText}
 use Rattle.gb_frame.specs.Reading.{reading}
 
--- bytes are the text of one packet at most
+-- bytes are the text of at most one packet
 abbrev pub OneTextHasOnePacket : Type 0
 OneTextHasOnePacket = (key bytes : List ℕ) (c d : Content) → IsText key bytes c → IsText key bytes d → c ≡ d
 

@@ -1,4 +1,4 @@
--- What a packet says.
+-- The content of a packet.
 use Rattle.std.specs.Prelude.{ℕ, List}
 use Rattle.gb_types.specs.declared.version.Version.{Version}
 use Rattle.gb_frame.specs.declared.item.Item.{Item}
@@ -6,7 +6,7 @@ use Rattle.gb_frame.specs.declared.item.ItemView.{ItemView}
 use Rattle.gb_frame.specs.declared.packet.Head.{Head}
 use Rattle.gb_frame.specs.declared.packet.Packet.{Packet}
 
--- what a packet says, without where it lies in memory
+-- the content of a packet, without its place in memory
 pub record Content : Type 0 where
   pub version : Version
   pub from : ℕ
@@ -19,10 +19,10 @@ pub record Content : Type 0 where
 abbrev pub content : Packet → Content
 content p = record { version = p.version; from = p.from.number; to = p.to.number; base = p.base; mask = p.mask; frame = p.frame; items = p.items.items }
 
--- an item whose payload lies elsewhere, as an item
+-- an item whose payload is elsewhere, as an item
 abbrev pub item_of : ItemView → Item
 item_of v = record { tenant = v.tenant; group = v.group; generation = v.generation; origin = v.origin; seq = v.seq; payload = v.payload.now }
 
--- what the packet with this head and these items says
+-- the content of the packet with this head and these items
 abbrev pub packet_of : Head → List Item → Content
 packet_of h items = record { version = h.version; from = h.from.number; to = h.to.number; base = h.base; mask = h.mask; frame = h.frame; items = items }

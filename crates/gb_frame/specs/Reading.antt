@@ -13,13 +13,13 @@ use Rattle.gb_frame.specs.Fields.{number_at, version_in, from_in, to_in, base_in
 use Rattle.gb_frame.specs.Packet.{Content}
 use Rattle.gb_frame.specs.Spelling.{tag_of}
 
--- the generation of the item at the front, the first where the items of the version name none
+-- the generation of the item at the front, 0 if the items of the version name none
 abbrev pub generation_at : TextVersion → List ℕ → ℕ
 generation_at One bytes = 0
 generation_at Two bytes = 0
 generation_at Three bytes = number_at w32 4 bytes
 
--- The item at the front, and the bytes after it; the limit is the longest payload's. The last fields of the header are the origin, the sequence
+-- The item at the front, and the bytes after it; its payload has at most `limit` bytes. The last fields of the header are the origin, the sequence
 -- number and the payload's length.
 unfoldable pub item_at : TextVersion → ℕ → List ℕ → Option (Item × List ℕ)
 item_at version limit bytes =
@@ -29,23 +29,23 @@ item_at version limit bytes =
     if nat_lt (length bytes) header || (nat_lt limit len || nat_lt (length rest) len) then None
     else Some (record { tenant = number_at w16 0 bytes; group = number_at w16 2 bytes; generation = generation_at version bytes; origin = slice_index bytes (header - 5); seq = number_at w16 (header - 4) bytes; payload = take len rest }, drop len rest)
 
--- so many items at the front, and the bytes after them
+-- the first n items, and the bytes after them
 unfoldable pub items_at : TextVersion → ℕ → ℕ → List ℕ → Option (List Item × List ℕ)
 items_at version limit zero bytes = Some ([], bytes)
 items_at version limit (suc n) bytes = option_and_then (λ first. option_and_then (λ others. Some (first.0 ∷ others.0, others.1)) (items_at version limit n first.1)) (item_at version limit bytes)
 
--- the items, and what is left behind them
+-- the items, and the bytes behind them
 abbrev pub left_over : Option (List Item × List ℕ) → List ℕ
 left_over o = (unwrap_or o ([], [])).1
 
 abbrev pub items_of : Option (List Item × List ℕ) → List Item
 items_of o = (unwrap_or o ([], [])).0
 
--- the version that the version byte stands for, where it stands for one
+-- the version that the version byte stands for, version 1 if it stands for none
 abbrev pub version_read : List ℕ → TextVersion
 version_read bytes = unwrap_or (version_named (version_in bytes)) One
 
--- the items and what is left, where all items that are counted are there
+-- the items and the bytes behind them, if all counted items are there
 abbrev pub parsed : List ℕ → Option (List Item × List ℕ)
 parsed bytes = items_at (version_read bytes) (limits_of (version_read bytes)).payload (count_in bytes) (items_in bytes)
 
@@ -62,7 +62,7 @@ is_acknowledgement bytes = nat_lt 0 (base_in bytes) && mask_in bytes % 2 == 0
 abbrev pub is_counted : List ℕ → Bool
 is_counted bytes = if frame_in bytes == 0 then count_in bytes == 0 else nat_lt 0 (count_in bytes)
 
--- whether the tag is the one under the key
+-- true if the tag is the one under the key
 abbrev pub is_tagged : List ℕ → List ℕ → Bool
 is_tagged key bytes = pointwise nat_eq (tag_in bytes) (tag_of key (tagged_in bytes))
 
@@ -97,15 +97,15 @@ test key bytes Tag = not (is_tagged key bytes)
 abbrev pub faults : List PacketFault
 faults = Short ∷ Magic ∷ Version ∷ Node ∷ Mask ∷ Count ∷ Length ∷ Trailing ∷ TooLong ∷ Tag ∷ []
 
--- the first fault whose test says so
+-- the first fault whose test holds
 unfoldable pub fault_in : List ℕ → List ℕ → Option PacketFault
 fault_in key bytes = find (test key bytes) faults
 
--- what bytes without a fault say
+-- the packet that bytes without a fault are
 abbrev pub content_in : List ℕ → Content
 content_in bytes = record { version = version_read bytes; from = from_in bytes; to = to_in bytes; base = base_in bytes; mask = mask_in bytes; frame = frame_in bytes; items = items_of (parsed bytes) }
 
--- a fault, or what the bytes say
+-- the fault if there is one, else the packet
 abbrev pub unless : Option PacketFault → Content → Result Content PacketFault
 unless (Some fault) c = Err fault
 unless None c = Ok c

@@ -1,9 +1,9 @@
--- How many bytes a packet has for its items.
+-- The bytes that a packet has for its items.
 use Rattle.std.specs.Prelude.{ℕ, ◌-◌}
 use Rattle.gb_types.specs.declared.version.Version.{Version}
 use Rattle.gb_types.specs.Version.{limits_of}
 use Rattle.gb_frame.specs.declared.limits.TheConstants.{SHORTEST}
 
--- the bytes that the items of a packet of a version have at most
+-- the greatest number of bytes of the items of a packet of a version
 abbrev pub room_of : Version → ℕ
 room_of version = (limits_of version).packet - SHORTEST

@@ -12,7 +12,7 @@ use Rattle.gb_frame.specs.declared.item.Item.{Item}
 use Rattle.gb_frame.specs.Packet.{Content}
 use Rattle.gb_frame.specs.Room.{room_of}
 
--- a generation, where the items of the version name theirs
+-- the text of a generation, empty if the items of the version name none
 abbrev pub generation_text : Version → ℕ → List ℕ
 generation_text One generation = []
 generation_text Two generation = []
@@ -33,7 +33,7 @@ items_text version items = flat_map (item_text version) items
 unfoldable pub header_text : Content → List ℕ
 header_text c = codes "GB" ++ (limits_of c.version).byte ∷ c.from ∷ c.to ∷ [] ++ to_be_bytes w64 c.base ++ to_be_bytes w64 c.mask ++ to_be_bytes w64 c.frame ++ to_be_bytes w16 (length c.items)
 
--- what the tag is made of
+-- the bytes that the tag is computed from
 abbrev pub tagged_text : Content → List ℕ
 tagged_text c = header_text c ++ items_text c.version c.items
 
@@ -48,7 +48,7 @@ packet_text key c = tagged_text c ++ tag_of key (tagged_text c)
 abbrev pub IsBytes : List ℕ → Type 0
 IsBytes bytes = (i : ℕ) → slice_index_or bytes i 0 < 2 ^ 8
 
--- the generation of an item can be told: it is the first where the items of the version name none
+-- the version can express the item's generation: it is 0 if the items of the version name none
 abbrev pub HasGeneration : Version → Item → Type 0
 HasGeneration One i = i.generation ≡ 0
 HasGeneration Two i = i.generation ≡ 0
@@ -69,7 +69,7 @@ pub record AreTexts (version : Version) (bytes : List ℕ) (items : List Item) :
   pub parts : bytes ≡ items_text version items
   pub fit : All (IsItem version) items
 
--- the limits that a packet's sender keeps to, which are those of the packet's version
+-- the limits that a packet's sender keeps to: those of the packet's version
 pub record IsWithinLimits (c : Content) : Type 0 where
   pub from : c.from < (limits_of c.version).nodes
   pub to : c.to < (limits_of c.version).nodes

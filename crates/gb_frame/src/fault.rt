@@ -1,4 +1,4 @@
-//! What is wrong with bytes that are no packet.
+//! The faults of bytes that are not a packet.
 ghost use Rattle.std.specs.Prelude.{◌≡◌};
 
 use thiserror::Error;
@@ -15,14 +15,13 @@ pub enum PacketFault {
     /// The version byte stands for no version.
     #[error("version")]
     Version,
-    /// The sender or the destination is beyond the greatest node number of the version, or they are one
-    /// node.
+    /// The sender or the destination is beyond the greatest node number of the version, or they are the same node.
     #[error("node")]
     Node,
     /// The acknowledgement's base is 0, or its mask has bit 0 set.
     #[error("mask")]
     Mask,
-    /// Frame number 0 with items, or another frame number with none.
+    /// The frame number is 0 but there are items, or it is not 0 but there are none.
     #[error("count")]
     Count,
     /// An item's length is above the longest payload of the version, or an item runs into the tag.
@@ -34,7 +33,7 @@ pub enum PacketFault {
     /// More bytes than the longest packet of the version has.
     #[error("too long")]
     TooLong,
-    /// The last 8 bytes are not the tag of what stands before them.
+    /// The last 8 bytes are not the tag of the bytes before them.
     #[error("tag")]
     Tag,
 }
@@ -42,7 +41,7 @@ pub enum PacketFault {
 impl PacketFault {
     ghost use Rattle.gb_frame.specs.Faults.{fault_number};
 
-    /// The fault's number in the table of faults, from 1.
+    /// Returns the fault's number in the table of faults, from 1.
     pub fn number(self) -> u8
         ensures { result ≡ fault_number self }
     {

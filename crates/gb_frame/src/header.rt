@@ -8,7 +8,7 @@ use crate::limits::{HEADER, TAG};
 use crate::number::{u16_at, u64_at};
 use gb_types::version::Version;
 
-/// The version that the version byte stands for; version 1 where it stands for none.
+/// Returns the version that the version byte stands for. Returns version 1 if it stands for none.
 pub fn version_of(bytes: &[u8]) -> Version
     requires { HEADER ≤ length bytes.now }
     ensures { result ≡ version_read bytes.now }
@@ -51,7 +51,7 @@ pub fn has_magic(bytes: &[u8]) -> bool
     bytes[0] == b'G' && bytes[1] == b'B'
 }
 
-/// Returns whether sender and destination of a header are two different nodes below `nodes`.
+/// Returns true if sender and destination of a header are two different nodes below `nodes`.
 pub fn has_nodes(nodes: u8, bytes: &[u8]) -> bool
     requires { HEADER ≤ length bytes.now }
     ensures { result ≡ is_between_nodes nodes bytes.now }
@@ -59,7 +59,7 @@ pub fn has_nodes(nodes: u8, bytes: &[u8]) -> bool
     bytes[3] < nodes && bytes[4] < nodes && bytes[3] != bytes[4]
 }
 
-/// Whether the acknowledgement has a base, and its mask speaks of frames above the base alone.
+/// Returns true if the acknowledgement's base is not 0 and bit 0 of its mask is clear.
 pub fn has_acknowledgement(bytes: &[u8]) -> bool
     requires { HEADER ≤ length bytes.now }
     ensures { result ≡ is_acknowledgement bytes.now }
@@ -67,7 +67,7 @@ pub fn has_acknowledgement(bytes: &[u8]) -> bool
     base_of(bytes) > 0 && mask_of(bytes) % 2 == 0
 }
 
-/// Whether there are items exactly where there is a frame number.
+/// Returns true if there are items if and only if the frame number is not 0.
 pub fn has_counted_frame(bytes: &[u8]) -> bool
     requires { HEADER ≤ length bytes.now }
     ensures { result ≡ is_counted bytes.now }
@@ -79,7 +79,7 @@ pub fn has_counted_frame(bytes: &[u8]) -> bool
     }
 }
 
-/// What stands between the header and the tag.
+/// Returns the bytes between the header and the tag.
 pub fn texts_of(bytes: &[u8]) -> &[u8]
     requires { SHORTEST ≤ length bytes.now }
     ensures { result.now ≡ items_in bytes.now }

@@ -1,4 +1,4 @@
-//! Items: one message of one group each, and their texts.
+//! Items, each a message of a group, and their texts.
 ghost use Rattle.std.specs.Prelude.{◌≡◌, ◌+◌, ◌≤◌, ◌++◌, List, length, MatchOption, IsSome, All, None, Some, vec_len, vec_capacity};
 ghost use Rattle.gb_types.specs.declared.limits.TheConstants.{PAYLOAD};
 ghost use Rattle.gb_types.specs.Version.{limits_of};
@@ -9,7 +9,7 @@ use gb_types::limits::PAYLOAD;
 use gb_types::payload::Payload;
 use gb_types::version::Version;
 
-/// A message of a group on its way. Nothing but the payload's length is judged here.
+/// A message of a group on its way. Only the length of the payload is checked here.
 #[derive(Drop)]
 pub struct Item {
     pub tenant: u16,
@@ -22,7 +22,7 @@ pub struct Item {
     pub payload: Payload,
 }
 
-/// An item whose payload lies elsewhere, as in a packet's bytes.
+/// An item whose payload is elsewhere, as in a packet's bytes.
 #[derive(Clone, Copy)]
 pub struct ItemView<'a> {
     pub tenant: u16,
@@ -43,7 +43,7 @@ ghost use Rattle.gb_frame.specs.declared.item.Item.{Item};
 impl Item {
     ghost use Rattle.gb_frame.specs.Packet.{item_of};
 
-    /// The item, with its payload where it is.
+    /// Returns the item as a view, with its payload where it is.
     pub fn view(&self) -> ItemView<'_>
         ensures { item_of result ≡ self.now }
     {
@@ -58,7 +58,7 @@ impl Item {
     }
 }
 
-/// What the type of a payload says, for the clauses that name it. There is nothing to run.
+/// Each number of a payload is a byte, for the clauses that name it. There is nothing to run.
 fn are_bytes(payload: &[u8])
     ensures { IsBytes payload.now }
 {}
@@ -99,8 +99,8 @@ fn put_head(version: Version, item: ItemView<'_>, text: &mut Vec<u8>)
     }
 }
 
-/// Appends an item's text in this version. Texts of versions 1 and 2 name no generation: their items are of generation 0. Takes no
-/// memory.
+/// Appends the text of an item in this version. Texts of versions 1 and 2 name no generation: their items are of generation 0.
+/// Takes no memory.
 pub fn put_item(version: Version, item: ItemView<'_>, text: &mut Vec<u8>)
     requires generation { HasGeneration version (item_of item) }
     requires payload { length item.payload.now ≤ PAYLOAD }
@@ -131,7 +131,7 @@ pub fn put_items(version: Version, items: &[Item], text: &mut Vec<u8>)
     }
 }
 
-/// The generation that the item at the front is of: the first where the items of the version name none.
+/// Returns the generation of the item at the front. It is 0 if the items of the version name none.
 fn generation_of(version: Version, texts: &[u8]) -> u32
     requires { (limits_of version).item_header ≤ length texts.now }
     ensures { result ≡ generation_at version texts.now }
@@ -142,8 +142,8 @@ fn generation_of(version: Version, texts: &[u8]) -> u32
     }
 }
 
-/// The item at the front of these texts and the texts behind it; `None` where no whole item stands
-/// there, or its payload is longer than the limit. Takes no memory.
+/// Returns the item at the front of these texts, and the texts behind it. `None` if there is no whole item, or if its payload is
+/// longer than the limit. Takes no memory.
 #[tactic(auto, unfolding(crate::specs::Reading::item_at))]
 pub fn first_item(version: Version, limit: usize, texts: &[u8]) -> Option<(ItemView<'_>, &[u8])>
     ensures { MatchOption result (item_at version limit texts.now ≡ None) (λ x. item_at version limit texts.now ≡ Some (item_of x.0, x.1.now)) }
@@ -168,8 +168,8 @@ pub fn first_item(version: Version, limit: usize, texts: &[u8]) -> Option<(ItemV
     Some((item, &rest[len..]))
 }
 
-/// Returns the bytes behind the first `count` items of this version, whose payloads have at most `limit` bytes each. Returns
-/// `None` where the bytes do not begin with `count` such items. Takes no memory.
+/// Returns the bytes behind the first `count` items of this version, whose payloads have at most `limit` bytes each. `None` if the
+/// bytes do not begin with `count` such items. Takes no memory.
 pub(crate) fn skip_items(version: Version, limit: usize, count: u16, texts: &[u8]) -> Option<&[u8]>
     ensures { MatchOption result (items_at version limit count texts.now ≡ None) (λ rest. IsSome (items_at version limit count texts.now) × (left_over (items_at version limit count texts.now) ≡ rest.now)) }
 {
@@ -183,7 +183,7 @@ pub(crate) fn skip_items(version: Version, limit: usize, count: u16, texts: &[u8
     Some(rest)
 }
 
-/// How many items have these texts in this version. Takes no memory.
+/// Returns the number of items that have these texts in this version. Takes no memory.
 pub fn count_items(version: Version, texts: &[u8]) -> u16
     requires { length texts.now ≤ ROOM }
     ensures { (items : List Item) → AreTexts version texts.now items → result ≡ length items }

@@ -2,7 +2,7 @@
 ghost use Rattle.gb_frame.specs.Batch.{TextsTellItems};
 ghost use Rattle.gb_frame.specs.Laws.{OneTextHasOnePacket, OnePacketHasOneText, WhatIsWrittenIsRead};
 
-/// Bytes are the text of one packet at most, under a key.
+/// Bytes are the text of at most one packet, under a key.
 pub fn one_text_has_one_packet()
     ensures { OneTextHasOnePacket }
 {}
@@ -17,7 +17,7 @@ pub fn what_is_written_is_read()
     ensures { WhatIsWrittenIsRead }
 {}
 
-/// Texts of items tell which items they are of, in each version.
+/// Texts of items determine the items, in each version.
 pub fn texts_tell_items()
     ensures { TextsTellItems }
 {}

@@ -1,8 +1,7 @@
-//! Packets: what one node sends another at once, written as bytes and read back exactly. A packet
-//! carries an acknowledgement, and perhaps a numbered frame of items; a keyed tag ends it. There is no
-//! link and no network here, and no judgement of what an item says: tenants, groups, origins and
-//! sequence numbers are carried as they are. Read `packet::Packet` first, then `reading::decode`, whose
-//! answer reads the payloads where they lie, and `writing::wrap`, which sends a frame from where it stays.
+//! Packets: what one node sends another at once, written as bytes and read back exactly. A packet carries an acknowledgement, and
+//! may carry a numbered frame of items. A keyed tag ends it. There is no link and no network here. The content of an item is not
+//! checked: tenants, groups, origins and sequence numbers are carried as they are. Read `packet::Packet` first; then
+//! `reading::decode`, which leaves the payloads where they are, and `writing::wrap`, which sends a frame from where it is.
 #![tactic(auto)]
 
 pub mod fault;

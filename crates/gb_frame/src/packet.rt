@@ -41,8 +41,8 @@ pub struct Packet {
 ghost use Rattle.gb_frame.specs.Packet.{content, packet_of};
 ghost use Rattle.gb_frame.specs.Spelling.{items_text, IsWithinLimits};
 
-/// How many of the bytes that a packet of this version has for items these leave, where they fit and each
-/// payload is within the version's limit.
+/// Returns the number of bytes that a packet of this version has left beside these items. `None` if the items do not fit, or if a
+/// payload is longer than the version allows.
 pub fn room_beside(version: Version, items: &[Item]) -> Option<usize>
     ensures fits { IsSome result ↔ (All (λ i. length i.payload ≤ (limits_of version).payload) items.now × (length (items_text version items.now) ≤ room_of version)) }
     ensures left { IfSome result (λ room. length (items_text version items.now) + room ≡ room_of version) }
@@ -64,7 +64,7 @@ pub fn room_beside(version: Version, items: &[Item]) -> Option<usize>
 }
 
 impl Packet {
-    /// The packet without its items.
+    /// Returns the packet without its items.
     pub fn head(&self) -> Head
         ensures { packet_of result self.now.items.items ≡ content self.now }
     {
@@ -78,7 +78,7 @@ impl Packet {
         }
     }
 
-    /// Whether this packet can be written.
+    /// Returns true if this packet can be written.
     pub fn is_within_limits(&self) -> bool
         ensures { IsTrue result ↔ IsWithinLimits (content self.now) }
     {

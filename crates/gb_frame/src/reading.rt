@@ -16,7 +16,7 @@ use crate::view::PacketView;
 use gb_cap::hmac::HmacKey;
 use gb_types::version::Version;
 
-/// The first test that says so.
+/// Returns the first fault of the bytes, if there is one.
 #[tactic(auto, unfolding(crate::specs::Reading::fault_in))]
 fn first_fault(bytes: &[u8], key: &HmacKey) -> Option<PacketFault>
     ensures { result ≡ fault_in key.now bytes.now }
@@ -55,15 +55,14 @@ fn first_fault(bytes: &[u8], key: &HmacKey) -> Option<PacketFault>
     None
 }
 
-/// The packet that these bytes are under a key, or the first fault. The answer reads the payloads where
-/// they lie, so it lives no longer than the bytes; and it takes no memory, so its type has no word for the
-/// want of it.
+/// Returns the packet that these bytes are under a key, or the first fault. The payloads stay where they are in the bytes, so the
+/// result lives no longer than the bytes. The call takes no memory, so its error has no case for that.
 pub fn decode<'a>(bytes: &'a [u8], key: &HmacKey) -> Result<PacketView<'a>, PacketFault>
-    // What is read is spelled so.
+    // The bytes are the text of the packet that is returned.
     ensures read { IfOk result (IsText key.now bytes.now) }
-    // What is spelled so is read, always.
+    // A packet whose text the bytes are is always returned.
     ensures only { (c : Content) → IsText key.now bytes.now c → result ≡ Ok c }
-    // Which fault it is: the first of the table that holds.
+    // The fault is the first of the table that holds.
     ensures fault { IfErr result (IsFirstFault key.now bytes.now) }
     ensures exact { result ≡ reading key.now bytes.now }
 {
@@ -73,8 +72,8 @@ pub fn decode<'a>(bytes: &'a [u8], key: &HmacKey) -> Result<PacketView<'a>, Pack
     }
 }
 
-/// The packet that bytes are under a key, where it is known that they are one, as of a packet that a node wrote: nothing is
-/// tested again and no tag is computed.
+/// Returns the packet that bytes are under a key, if it is known that they are one, as of a packet that a node wrote. Nothing is
+/// tested again, and no tag is computed.
 pub fn decode_known<'a>(bytes: &'a [u8], key: &HmacKey) -> PacketView<'a>
     requires { is_ok (reading key.now bytes.now) ≡ true }
     ensures { reading key.now bytes.now ≡ Ok result }

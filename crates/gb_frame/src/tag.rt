@@ -8,7 +8,7 @@ use crate::limits::TAG;
 use gb_cap::compare::count_differences;
 use gb_cap::hmac::HmacKey;
 
-/// The tag of a text under a key.
+/// Returns the tag of a text under a key.
 #[tactic(auto, unfolding(crate::specs::Spelling::tag_of))]
 pub fn tag(text: &[u8], key: &HmacKey) -> [u8; TAG]
     ensures { result ≡ tag_of key.now text.now }
@@ -19,7 +19,7 @@ pub fn tag(text: &[u8], key: &HmacKey) -> [u8; TAG]
     ]
 }
 
-/// Whether the last bytes are the tag of what stands before them.
+/// Returns true if the last bytes are the tag of the bytes before them.
 pub fn has_tag(bytes: &[u8], key: &HmacKey) -> bool
     requires { TAG ≤ length bytes.now }
     ensures { result ≡ is_tagged key.now bytes.now }

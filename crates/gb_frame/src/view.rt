@@ -1,4 +1,4 @@
-//! Packets read where they lie.
+//! Packets whose payloads stay where they were read.
 ghost use Rattle.std.specs.Prelude.{◌≡◌, ◌≤◌, ◌<◌, List, [], length, Some};
 ghost use Rattle.std.specs.Iterator.{YieldsFirstBy, item_count};
 ghost use Rattle.gb_types.specs.declared.limits.TheConstants.{NODES};
@@ -16,11 +16,11 @@ use gb_types::node::NodeId;
 use gb_types::version::Version;
 use std::marker::Model;
 
-/// A packet whose payloads lie in the bytes that it was read from. Contracts see what it says.
+/// A packet whose payloads are in the bytes that it was read from. Contracts see its content.
 #[derive(Drop)]
 pub struct PacketView<'a> {
     head: Head,
-    /// How many items there are, and their texts.
+    /// The number of items, and their texts.
     count: u16,
     texts: &'a [u8],
 }
@@ -38,7 +38,7 @@ impl<'a> Model for PacketView<'a> {
 }
 
 impl<'a> PacketView<'a> {
-    /// What bytes without a fault say.
+    /// Returns the packet that bytes without a fault are.
     pub(crate) fn of(bytes: &'a [u8]) -> PacketView<'a>
         requires long { SHORTEST ≤ length bytes.now }
         requires from { from_in bytes.now < NODES }
@@ -60,21 +60,21 @@ impl<'a> PacketView<'a> {
         }
     }
 
-    /// The packet without its items.
+    /// Returns the packet without its items.
     pub fn head(&self) -> Head
         ensures { packet_of result self.now.items ≡ self.now }
     {
         self.head
     }
 
-    /// How many items it has.
+    /// Returns the number of items.
     pub fn len(&self) -> u16
         ensures { result ≡ length self.now.items }
     {
         self.count
     }
 
-    /// The items in turn. Takes no memory, nor does the walk.
+    /// Returns the items in turn. Neither the call nor the iteration takes memory.
     pub fn items(&self) -> ItemViews<'a>
         ensures { result ≡ self.now.items }
     {
@@ -85,7 +85,7 @@ impl<'a> PacketView<'a> {
     }
 }
 
-/// The items of a packet or a batch that are still to come, in turn. Contracts see their list.
+/// The remaining items of a packet or a batch, in turn. Contracts see their list.
 #[derive(Drop)]
 pub struct ItemViews<'a> {
     version: Version,
@@ -103,7 +103,8 @@ impl<'a> Model for ItemViews<'a> {
 }
 
 impl<'a> ItemViews<'a> {
-    /// The items whose texts in this version stand at the front, with no packet round them, in turn. Takes no memory.
+    /// Returns in turn the items whose texts in this version are at the front of `texts`, with no packet round them. Takes no
+    /// memory.
     pub fn of_texts(version: Version, texts: &'a [u8]) -> ItemViews<'a>
         ensures { result ≡ batch_in version texts.now }
     {

@@ -12,7 +12,7 @@ use gb_cap::hmac::HmacKey;
 use gb_types::memory::OutOfMemory;
 use std::alloc::Global;
 
-/// Appends the header of a packet with so many items. Takes no memory.
+/// Appends the header of a packet with `count` items. Takes no memory.
 #[tactic(auto, unfolding(crate::specs::Spelling::header_text), using(std::proofs::lemmas::List::append_assoc))]
 fn put_header(head: Head, count: u16, text: &mut Vec<u8>)
     requires room { vec_len text.old + HEADER ≤ vec_capacity text.old }
@@ -36,7 +36,7 @@ fn put_header(head: Head, count: u16, text: &mut Vec<u8>)
     );
 }
 
-/// Appends the tag of what stands from this place on. Takes no memory.
+/// Appends the tag of the bytes from index `start` on. Takes no memory.
 fn put_tag(start: usize, key: &HmacKey, text: &mut Vec<u8>)
     requires start { start ≤ vec_len text.old }
     requires room { vec_len text.old + TAG ≤ vec_capacity text.old }
@@ -62,8 +62,8 @@ pub fn encode(alloc: Global, packet: &Packet, key: &HmacKey) -> Result<Vec<u8>, 
     Ok(text)
 }
 
-/// Appends the text of the packet with this head and so many items, whose texts in its version `put_item` wrote: what
-/// `encode` gives. Takes no memory.
+/// Appends the text of the packet with this head and `count` items, as `encode` returns it. `texts` are the texts of the items in
+/// the head's version, which `put_item` wrote. Takes no memory.
 pub fn wrap(head: Head, count: u16, texts: &[u8], key: &HmacKey, packet: &mut Vec<u8>)
     requires packet { (items : List Item) × AreTexts head.version texts.now items × (length items ≡ count) × IsWithinLimits (packet_of head items) }
     requires room { vec_len packet.old + SHORTEST + length texts.now ≤ vec_capacity packet.old }

@@ -1,4 +1,4 @@
--- Which words the sets of the nodes have.
+-- The words that the sets of the nodes have.
 use Rattle.std.proofs.Common.{◌≡◌, ℕ, ◌<◌, ◌≤◌, ◌+◌, ◌*◌, List, [], length, get_or, refl, ap, sym, ◌∙◌, arith, inl, inr, true, false}
 use Rattle.std.specs.Prelude.{Bool, Option, Some, None, if◌then◌else◌}
 use Rattle.std.specs.FinSet as nodes

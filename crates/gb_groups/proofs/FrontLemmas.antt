@@ -1,4 +1,4 @@
--- The items of one place in a walk are what waits there.
+-- The items of one place in a walk are the items that wait there.
 use Rattle.std.proofs.Common.{◌≡◌, ℕ, suc, zero, ◌+◌, ◌≤◌, ◌<◌, List, [], ◌∷◌, ◌++◌, length, map, take, drop, get_or, refl, ap, sym, ◌∙◌, arith, zero-add, inl, inr, eq-eqb}
 use Rattle.std.specs.Prelude.{Bool, true, false, cond, ltb, ◌==◌, ◌⊎◌, filter, count_by}
 use Rattle.std.proofs.lemmas.List.{take-append-drop, take_at, take-map, append-nil, take_all, get_or_default}

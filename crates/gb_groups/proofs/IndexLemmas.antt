@@ -1,4 +1,4 @@
--- The index of what waits, over all nodes.
+-- The index of the groups where something waits, over all nodes.
 use Rattle.std.proofs.Common.{zero, suc, ◌∷◌, ◌++◌, refl, length-append, ◌≡◌, ◌≢◌, ℕ, ◌<◌, min, List, [], length, get_or, ap, sym, subst, ◌∙◌, arith, inl, inr}
 use Rattle.std.proofs.Math.ListN.{set}
 use Rattle.std.proofs.lemmas.Bool.{cases_eq}

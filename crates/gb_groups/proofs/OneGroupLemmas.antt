@@ -1,4 +1,4 @@
--- What each call makes of each group by itself.
+-- The effect of each call on each group by itself.
 use Rattle.std.proofs.Common.{◌≡◌, ℕ, suc, zero, ◌+◌, ◌<◌, inl, inr, List, [], ◌∷◌, ◌++◌, length, map, take, get_or, refl, sym, ap, ◌∙◌, arith, zero-add}
 use Rattle.std.specs.Prelude.{Bool, true, false, not, cond, ltb, ◌&&◌, nat_lt, fold, is_some, Option, Some, None, option_map, slice_set, if◌then◌else◌}
 use Rattle.std.specs.List.{position_or_len}

@@ -1,4 +1,4 @@
--- Where there is room for the longest message, a batch without items says that nothing waits. And the items of a batch are no longer than the messages
+-- If there is room for the longest message, a batch without items means that nothing waits. The items of a batch are no longer than the messages
 -- of the groups.
 use Rattle.std.proofs.Common.{◌≡◌, ℕ, zero, suc, ◌<◌, ◌≤◌, List, [], ◌∷◌, length, map, Option, Some, None, refl, sym, ap, ◌∙◌, arith}
 use Rattle.std.specs.Prelude.{Bool, true, false, ◌-◌, ◌&&◌, not, cond, ltb, nat_le, drop, filter, option_map, slice_get, if◌then◌else◌}

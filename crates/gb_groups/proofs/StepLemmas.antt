@@ -1,4 +1,4 @@
--- What steps leave of the counters of a slot, and of the payloads that it knows.
+-- Steps keep the counters of a slot and the limit on its payloads.
 use Rattle.std.proofs.Common.{◌≡◌, ℕ, zero, suc, ◌≤◌, map, drop, subst, List, [], ◌∷◌, ◌++◌, length, get_or, true, false, refl, ap, sym, ◌∙◌, arith}
 use Rattle.std.proofs.lemmas.Option.{get_or_from_slice_get}
 use Rattle.std.specs.FinSet as nodes

@@ -1,4 +1,4 @@
--- Steps that change nothing that waits.
+-- Steps that change none of the waiting items.
 use Rattle.std.proofs.Common.{◌≡◌, ℕ, List, refl, ap, [], map, drop, true, false, arith}
 use Rattle.std.proofs.lemmas.List.{drop_all}
 use Rattle.std.specs.FinSet as nodes

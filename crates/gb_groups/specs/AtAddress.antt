@@ -23,16 +23,16 @@ place_of addr rows = position (λ row. is_addr addr row.addr) rows
 abbrev pub row_for : Addr → List Row → Option Row
 row_for addr rows = option_map (row_at rows) (place_of addr rows)
 
--- after a step of the slot at a place, if there is one
+-- the groups after a step of the slot at a place, if there is one
 abbrev pub step_at : (SlotState → SlotState) → List Row → Option ℕ → List Row
 step_at step rows None = rows
 step_at step rows (Some p) = slice_set rows p (on_slot step (row_at rows p))
 
--- after a step of the slot of the group with an address; nothing changes where it was never made or was dropped
+-- the groups after a step of the slot of the group with an address; nothing changes if it was never made or was dropped
 abbrev pub on_address : Addr → (SlotState → SlotState) → List Row → List Row
 on_address addr step rows = step_at step rows (place_of addr rows)
 
--- after the group with an address was dropped
+-- the groups after the group with an address was dropped
 abbrev pub gone_at : List Row → Option ℕ → List Row
 gone_at rows None = rows
 gone_at rows (Some p) = slice_set rows p (gone (row_at rows p))
@@ -44,7 +44,7 @@ drop_at addr rows = gone_at rows (place_of addr rows)
 pub record OthersKept (addr : Addr) (old new : List Row) : Type 0 where
   pub others : (g : Addr) → is_addr g addr ≡ false → row_for g new ≡ row_for g old
 
--- after an item came from a node to one that sends this version; one whose origin is no node, or that is longer than a message may be there, is let fall
+-- the groups after an item came from a node to one that sends this version; the item is let fall if its origin is no node, or if it is longer than a message may be there
 abbrev pub item_came : Version → NodeId → Item → List Row → List Row
 item_came version from i rows = if nat_lt i.origin NODES && not (is_too_long version i.payload) then on_address (address_of i) (slot_came from (entry_of i)) rows else rows
 

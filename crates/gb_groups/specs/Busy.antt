@@ -11,17 +11,17 @@ use Rattle.gb_groups.specs.PlaceSet.{has}
 use Rattle.gb_groups.specs.SlotsValue.{Row}
 use Rattle.gb_groups.specs.Packing.{queues}
 
--- a place is in the set exactly where something waits for the node
+-- a place is in the set if and only if something waits there for the node
 pub record IsBusy (dest : ℕ) (words : List ℕ) (rows : List Row) : Type 0 where
   pub few : length rows ≤ PLACES
   pub each : (p : ℕ) → has words p ≡ min 1 (length (slice_index_or (queues dest rows) p []))
 
--- the members of a group; none of one that was dropped
+-- the members of a group; the empty set for a group that was dropped
 abbrev pub members_of : Option SlotState → set.FinSet nat_cmp
 members_of None = set.empty
 members_of (Some s) = s.spec.members
 
--- the group's items are put out to the node; those of a dropped one to none
+-- the group's items are put out to the node; those of a dropped group to no node
 abbrev pub is_reached : ℕ → Option SlotState → Bool
 is_reached dest None = false
 is_reached dest (Some s) = reaches s dest
@@ -31,7 +31,7 @@ abbrev pub IsPutOut : Option SlotState → Type 0
 IsPutOut None = Unit {0}
 IsPutOut (Some s) = WaitsForEach s
 
--- Of the sets before a bound, those of the nodes that a test picks have a place as a value says, 1 where it is in. Nothing else changed.
+-- In each set before a bound, if a test picks its node, the bit of a place is a given value, 1 if it is in. Nothing else changed.
 pub record IsWritten (bound place : ℕ) (picks : ℕ → Bool) (value : ℕ → ℕ) (old new : List (List ℕ)) : Type 0 where
   pub size : length new ≡ length old
   pub here : (d : ℕ) → d < bound → picks d ≡ true → has (slice_index_or new d []) place ≡ value d
@@ -39,10 +39,10 @@ pub record IsWritten (bound place : ℕ) (picks : ℕ → Bool) (value : ℕ →
   pub others : (d p : ℕ) → p ≢ place → has (slice_index_or new d []) p ≡ has (slice_index_or old d []) p
   pub words : (d : ℕ) → length (slice_index_or new d []) ≡ length (slice_index_or old d [])
 
--- those of a group's members have the group's place where something waits there for the node
+-- the set of each member has the group's place if something waits there for the member, and lacks it otherwise
 abbrev pub IsNoted : ℕ → ℕ → SlotState → List (List ℕ) → List (List ℕ) → Type 0
 IsNoted bound place s old new = IsWritten bound place (set.contains s.spec.members) (λ d. min 1 (length (waiting s d))) old new
 
--- those of the nodes to which a group's items are put out have the group's place
+-- the set of each node to which the group's items are put out has the group's place
 abbrev pub IsPlaced : ℕ → ℕ → SlotState → List (List ℕ) → List (List ℕ) → Type 0
 IsPlaced bound place s old new = IsWritten bound place (reaches s) (λ _. 1) old new

@@ -1,15 +1,15 @@
--- Which words the sets of the nodes have.
+-- The words that the sets of the nodes have.
 use Rattle.std.specs.Prelude.{ℕ, ◌≡◌, ◌≤◌, ◌<◌, ◌*◌, true, List, [], length, slice_index_or}
 use Rattle.std.specs.FinSet as set
 use Rattle.std.specs.Ordering.{nat_cmp}
 use Rattle.gb_types.specs.declared.limits.TheConstants.{NODES}
 use Rattle.gb_groups.specs.PlaceSet.{has}
 
--- of the sets before a bound, those of these nodes have a word for a place
+-- before a bound, the set of each of these nodes has a word for a place
 pub record HaveWord (bound place : ℕ) (members : set.FinSet nat_cmp) (sets : List (List ℕ)) : Type 0 where
   pub each : (who : ℕ) → who < bound → set.contains members who ≡ true → place < 64 * length (slice_index_or sets who [])
 
--- each set has the places that it had, and no fewer words
+-- each set has the same places as before, and at least as many words
 pub record HaveGrown (old new : List (List ℕ)) : Type 0 where
   pub size : length new ≡ length old
   pub same : (who p : ℕ) → has (slice_index_or new who []) p ≡ has (slice_index_or old who []) p

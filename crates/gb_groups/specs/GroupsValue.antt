@@ -1,4 +1,4 @@
--- All groups of a node, with where packing goes on, as contracts see them.
+-- All groups of a node, with the places where packing continues, as contracts see them.
 use Rattle.std.specs.Prelude.{ℕ, ◌≡◌, ◌≢◌, ◌≤◌, ◌<◌, min, List, [], length, replicate, slice_index_or, slice_set}
 use Rattle.gb_types.specs.declared.limits.TheConstants.{NODES, PLACES}
 use Rattle.gb_types.specs.declared.version.Version.{Version}
@@ -7,7 +7,7 @@ use Rattle.gb_groups.specs.Packing.{Visit, queues, walk, fit, gave, new_cursor}
 use Rattle.gb_groups.specs.PlaceSet.{has}
 use Rattle.gb_groups.specs.Busy.{IsBusy}
 
--- the groups in the order in which they were made, and for each node the place where packing goes on
+-- the groups in the order in which they were made, and for each node the place where packing continues
 pub record GroupsValue : Type 0 where
   pub rows : List Row
   pub cursors : List ℕ
@@ -16,7 +16,7 @@ pub record GroupsValue : Type 0 where
 abbrev pub no_groups : GroupsValue
 no_groups = record { rows = []; cursors = replicate NODES 0 }
 
--- where packing for a node goes on
+-- the place where packing for a node continues
 abbrev pub cursor_for : ℕ → GroupsValue → ℕ
 cursor_for dest t = slice_index_or t.cursors dest 0
 
@@ -24,11 +24,11 @@ cursor_for dest t = slice_index_or t.cursors dest 0
 abbrev pub walk_to : ℕ → GroupsValue → List Visit
 walk_to dest t = walk (cursor_for dest t) (queues dest t.rows)
 
--- what a packing for a node takes, with items of the version that have at most so many bytes
+-- the items that a packing for a node takes: items of the version, of at most `room` bytes in all
 abbrev pub batch : Version → ℕ → ℕ → GroupsValue → List Visit
 batch version dest room t = fit version room (walk_to dest t)
 
--- after a packing
+-- the groups after a packing
 abbrev pub packed : Version → ℕ → ℕ → GroupsValue → GroupsValue
 packed version dest room t =
     let vs = batch version dest room t in
@@ -47,7 +47,7 @@ pub record IsIndex (rows : List Row) (busy : List (List ℕ)) : Type 0 where
   pub size : length busy ≡ NODES
   pub each : (d : ℕ) → d < NODES → IsBusy d (slice_index_or busy d []) rows
 
--- the same but for one place
+-- the same, except for one place
 pub record IsIndexBut (p : ℕ) (rows : List Row) (busy : List (List ℕ)) : Type 0 where
   pub size : length busy ≡ NODES
   pub few : length rows ≤ PLACES

@@ -1,4 +1,4 @@
--- What a list shows of a node's groups.
+-- The rows in which a list shows a node's groups.
 use Rattle.std.specs.Prelude.{ℕ, List, map, take, drop, length, Option, None, Some, option_map}
 use Rattle.gb_rules.specs.declared.phase.Phase.{Phase}
 use Rattle.gb_rules.specs.declared.phase.Phase.TheVariants.{Gone}
@@ -6,12 +6,12 @@ use Rattle.gb_slot.specs.SlotState.{SlotState}
 use Rattle.gb_groups.specs.SlotsValue.{Row}
 use Rattle.gb_groups.specs.declared.listing.GroupRow.{GroupRow}
 
--- the phase of a group whose slot is there unless the group was dropped
+-- the phase of a group that has a slot unless it was dropped
 abbrev pub phase_of : Option SlotState → Phase
 phase_of None = Gone
 phase_of (Some s) = s.phase
 
--- how many messages it has delivered
+-- the number of messages that it has delivered
 abbrev pub delivered : Option SlotState → ℕ
 delivered None = 0
 delivered (Some s) = length s.log

@@ -8,7 +8,7 @@ use Rattle.gb_slot.specs.SlotState.{SlotState}
 use Rattle.gb_groups.specs.PlaceSet.{has}
 use Rattle.gb_groups.specs.SlotsValue.{Row, row_at}
 
--- 1 where the group was not dropped and has the node among its members, else 0
+-- 1 if the group was not dropped and has the node among its members, else 0
 abbrev pub has_member : ℕ → Option SlotState → ℕ
 has_member who None = 0
 has_member who (Some s) = if is_member s.spec who then 1 else 0
@@ -18,14 +18,14 @@ pub record AreMemberships (rows : List Row) (sets : List (List ℕ)) : Type 0 wh
   pub size : length sets ≡ NODES
   pub each : (who p : ℕ) → who < NODES → has (slice_index_or sets who []) p ≡ has_member who (row_at rows p).slot
 
--- of the sets before a bound, a place is in those of these nodes alone; other places are in the sets where they were
+-- before a bound, a place is in exactly the sets of these nodes; each other place is in the sets where it was
 pub record IsEnrolled (bound place : ℕ) (members : set.FinSet nat_cmp) (old new : List (List ℕ)) : Type 0 where
   pub size : length new ≡ length old
   pub here : (who : ℕ) → who < bound → has (slice_index_or new who []) place ≡ (if set.contains members who then 1 else 0)
   pub others : (who p : ℕ) → p ≢ place → has (slice_index_or new who []) p ≡ has (slice_index_or old who []) p
   pub words : (who : ℕ) → length (slice_index_or new who []) ≡ length (slice_index_or old who [])
 
--- the first place from one on of a group that has the node among its members
+-- the first place, from a given one on, of a group that has the node among its members
 pub record IsNextMember (who from : ℕ) (rows : List Row) (q : ℕ) : Type 0 where
   pub after : from ≤ q
   pub within : q < length rows

@@ -1,4 +1,4 @@
--- What becomes of one group among the groups of a node.
+-- The effect of each call on one group among the groups of a node.
 use Rattle.std.specs.Prelude.{ℕ, ◌≡◌, ◌+◌, ◌&&◌, List, ◌++◌, ◌∷◌, [], length, map, take, fold, Option, Some, None, option_map, not, nat_lt, if◌then◌else◌}
 use Rattle.gb_types.specs.declared.address.Addr.{Addr}
 use Rattle.gb_types.specs.declared.entry.Entry.{Entry}
@@ -19,11 +19,11 @@ use Rattle.gb_groups.specs.GroupsValue.{GroupsValue, batch, packed}
 use Rattle.gb_groups.specs.Packing.{items, queue_of}
 use Rattle.gb_groups.specs.AtAddress.{place_of, row_for, on_address, drop_at, item_came}
 
--- the group with an address: None where it was never made, no slot where it was dropped
+-- the group with an address: None if it was never made, without a slot if it was dropped
 abbrev pub group_in : Addr → List Row → Option (Option SlotState)
 group_in g rows = option_map (λ row. row.slot) (row_for g rows)
 
--- after an item came for it from a node to one that sends this version; one whose origin is no node, or that is longer than a message may be there, is let fall
+-- the group after an item came for it from a node to one that sends this version; the item is let fall if its origin is no node, or if it is longer than a message may be there
 abbrev pub came_for : Version → NodeId → Option (Option SlotState) → Item → Option (Option SlotState)
 came_for version from o i = where_so (nat_lt i.origin NODES && not (is_too_long version i.payload)) (stepped (slot_came from (entry_of i))) o
 
@@ -40,7 +40,7 @@ longest_item version = (limits_of version).item_header + PAYLOAD
 abbrev pub NothingWaits : ℕ → List Row → Type 0
 NothingWaits dest rows = (g : Addr) → waiting_in (group_in g rows) dest ≡ []
 
--- What each call makes of each group by itself.
+-- The effect of each call on each group by itself.
 pub record EachGroup : Type 0 where
   -- a step at an address is a step of the group with that address, and of no other
   pub addressed : (g addr : Addr) (step : SlotState → SlotState) (rows : List Row) → group_in g (on_address addr step rows) ≡ where_so (is_addr g addr) (stepped step) (group_in g rows)
@@ -49,7 +49,7 @@ pub record EachGroup : Type 0 where
   pub appended : (g : Addr) (rows : List Row) (row : Row) → group_in g (rows ++ row ∷ []) ≡ or_added (group_in g rows) (if is_addr g row.addr then Some row.slot else None)
   -- a step of all slots is a step of each
   pub every : (g : Addr) (step : SlotState → SlotState) (rows : List Row) → group_in g (map (on_slot step) rows) ≡ stepped step (group_in g rows)
-  -- of the items of a frame each group takes those that name it, in order
+  -- of the items of a frame each group receives those that name it, in order
   pub arrived : (version : Version) (g : Addr) (from : NodeId) (items : List Item) (rows : List Row) → group_in g (fold (λ rows i. item_came version from i rows) rows items) ≡ fold (came_for version from) (group_in g rows) (items_for g items)
   -- a batch has of each group a front of what waits there, in order, and takes that
   pub front : (g : Addr) (version : Version) (dest room : ℕ) (t : GroupsValue) → AreApart t.rows

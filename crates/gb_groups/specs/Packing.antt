@@ -1,4 +1,4 @@
--- What one packing takes: the walk round the groups, the batch, and where the next walk begins.
+-- The items that one packing takes: the walk round the groups, the batch, and where the next walk begins.
 use Rattle.std.specs.Prelude.{ℕ, suc, ◌+◌, ◌-◌, ◌==◌, Bool, if◌then◌else◌, List, [], ◌∷◌, ◌++◌, length, take, drop, map, Option, Some, None, option_map, slice_get, slice_index_or, count_by, ltb}
 use Rattle.gb_types.specs.Version.{limits_of}
 use Rattle.gb_types.specs.declared.entry.Entry.{Entry}
@@ -10,7 +10,7 @@ use Rattle.gb_slot.specs.SlotState.{SlotState}
 use Rattle.gb_groups.specs.SlotsValue.{Row, row_at, no_entry}
 use Rattle.gb_groups.specs.Turns.{in_turns}
 
--- an item that a group at a place gives
+-- an item of the group at a place
 pub record Visit : Type 0 where
   pub place : ℕ
   pub item : Entry
@@ -23,7 +23,7 @@ unfoldable pub placed : ℕ → List (List Entry) → List (List Visit)
 placed p [] = []
 placed p (q ∷ qs) = map (visit p) q ∷ placed (suc p) qs
 
--- a list from a place on, and from its beginning up to there
+-- a list from an index on, followed by its elements before that index
 abbrev pub from_place : {A : Type 0} → ℕ → List A → List A
 from_place c xs = drop c xs ++ take c xs
 
@@ -35,16 +35,16 @@ walk cursor qs = in_turns (from_place cursor (placed 0 qs))
 abbrev pub size : Version → Visit → ℕ
 size version v = (limits_of version).item_header + length v.item.payload
 
--- the longest front of a walk whose items have at most so many bytes
+-- the longest front of a walk whose items have at most `room` bytes in all
 unfoldable pub fit : Version → ℕ → List Visit → List Visit
 fit version room [] = []
 fit version room (v ∷ vs) = if ltb room (size version v) then [] else v ∷ fit version (room - size version v) vs
 
--- the place after one, of so many; place 0 comes after the last
+-- the place after a given one, of `count` places; place 0 comes after the last
 abbrev pub place_after : ℕ → ℕ → ℕ
 place_after places p = if p + 1 == places then 0 else p + 1
 
--- the place of the next item of the walk, after so many; where there is none, the place after the last that gave
+-- the place of the next item of the walk after the first n; if there is no such item, the place after that of the last item taken
 abbrev pub after_last : ℕ → ℕ → Option Visit → ℕ
 after_last places cursor None = cursor
 after_last places cursor (Some v) = place_after places v.place
@@ -59,11 +59,11 @@ new_cursor places cursor taken vs = next_place places cursor vs (slice_get vs ta
 abbrev pub is_at : ℕ → Visit → Bool
 is_at p v = v.place == p
 
--- how many of the items are of the group at a place
+-- the number of the items that are of the group at a place
 abbrev pub share : ℕ → List Visit → ℕ
 share p vs = count_by (is_at p) vs
 
--- what waits for a node in a group; nothing where it was dropped
+-- the items that wait for a node in a group; none if it was dropped
 abbrev pub queue_of : ℕ → Option SlotState → List Entry
 queue_of dest None = []
 queue_of dest (Some s) = waiting s dest
@@ -75,15 +75,15 @@ queue dest row = queue_of dest row.slot
 abbrev pub first_entry : ℕ → Row → Entry
 first_entry dest row = slice_index_or (queue dest row) 0 no_entry
 
--- what waits for a node, group by group
+-- the items that wait for a node, group by group
 abbrev pub queues : ℕ → List Row → List (List Entry)
 queues dest rows = map (queue dest) rows
 
--- the group after it gave its first k items to a node
+-- the group after its first k items were taken for a node
 abbrev pub took : ℕ → ℕ → Row → Row
 took dest k row = record row { slot = option_map (slot_took dest k) row.slot }
 
--- each group, from a place on, after it gave its share
+-- each group, from a place on, after its share was taken
 unfoldable pub gave : ℕ → ℕ → List Visit → List Row → List Row
 gave dest p vs [] = []
 gave dest p vs (row ∷ rows) = took dest (share p vs) row ∷ gave dest (suc p) vs rows

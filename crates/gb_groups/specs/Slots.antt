@@ -1,4 +1,4 @@
--- How the groups of a node are kept: a map from addresses to keys, in order, and slots under keys.
+-- The representation of the groups of a node: a map from addresses to keys, in order, and slots under keys.
 use Rattle.std.specs.Prelude.{ℕ, ◌≡◌, List, map, Option, None, Some, IsSome, slice_index_or}
 use Rattle.slab.specs.Slab.{Slab, get}
 use Rattle.gb_types.specs.declared.address.Addr.{Addr}
@@ -10,7 +10,7 @@ use Rattle.gb_groups.specs.declared.slots.Place.{Place}
 use Rattle.gb_groups.specs.declared.slots.Place.TheVariants.{Key, Gone}
 use Rattle.gb_groups.specs.SlotsValue.{Row, SlotsValue, HaveCounters, AreShort, AreApart, AreFirst}
 
--- the slot where a group's place leads
+-- the slot that a group's place names
 abbrev pub slot_under : Slab SlotState → Place → Option SlotState
 slot_under slots (Key key) = get slots key
 slot_under slots Gone = None
@@ -21,11 +21,11 @@ row_of slots e = record { addr = e.0; slot = slot_under slots e.1 }
 abbrev pub slots_of : List (Addr × Place) → Slab SlotState → SlotsValue
 slots_of entries slots = record { rows = map (row_of slots) entries }
 
--- where the group at a place leads
+-- what the place of a group names
 abbrev pub place_at : List (Addr × Place) → ℕ → Place
 place_at entries p = (slice_index_or entries p (record { 0 = record { tenant = 0; group = 0; generation = 0 }; 1 = Gone })).1
 
--- each key has a slot, no two places have one key, and each slot stands at some place; what slots know is within the limits
+-- each key has a slot, no two places have one key, and each slot is named by some place; the messages of the slots are within the limits
 pub record AreKept (entries : List (Addr × Place)) (slots : Slab SlotState) : Type 0 where
   pub there : (p k : ℕ) → place_at entries p ≡ Key k → IsSome (get slots k)
   pub alone : (p q k : ℕ) → place_at entries p ≡ Key k → place_at entries q ≡ Key k → p ≡ q
@@ -35,7 +35,7 @@ pub record AreKept (entries : List (Addr × Place)) (slots : Slab SlotState) : T
   pub apart : AreApart (map (row_of slots) entries)
   pub first : AreFirst (map (row_of slots) entries)
 
--- the lists that are lent are empty, and ready for each slot
+-- the lists that are lent are empty, and have the memory that each slot needs
 pub record AreLent (slots : Slab SlotState) (out : Effects) : Type 0 where
   pub empty : IsEmpty out
   pub ready : (k : ℕ) (s : SlotState) → get slots k ≡ Some s → AreReady s.spec out

@@ -25,7 +25,7 @@ pub record SlotsValue : Type 0 where
 pub zero_is_node : 0 < NODES
 zero_is_node = omega arith
 
--- what stands past the end of a list of entries, or of groups
+-- the value past the end of a list of entries, or of groups
 abbrev pub no_entry : Entry
 no_entry = record { origin = record { number = 0; below = zero_is_node }; seq = 0; payload = [] }
 
@@ -36,7 +36,7 @@ no_row = record { addr = record { tenant = 0; group = 0; generation = 0 }; slot 
 abbrev pub row_at : List Row → ℕ → Row
 row_at rows p = slice_index_or rows p no_row
 
--- the group after a step of its slot; a dropped one takes none
+-- the group after a step of its slot; a dropped one stays as it is
 abbrev pub on_slot : (SlotState → SlotState) → Row → Row
 on_slot step row = record row { slot = option_map step row.slot }
 
@@ -44,7 +44,7 @@ on_slot step row = record row { slot = option_map step row.slot }
 abbrev pub gone : Row → Row
 gone row = record row { slot = None }
 
--- how many nodes a slot counts taken items for
+-- the number of nodes for which a slot counts taken items
 abbrev pub counters_of : Option SlotState → ℕ
 counters_of None = NODES
 counters_of (Some s) = length s.taken
@@ -52,7 +52,7 @@ counters_of (Some s) = length s.taken
 abbrev pub counters : Row → ℕ
 counters row = counters_of row.slot
 
--- each slot counts the items that were taken for each node
+-- each slot has a count of taken items for each node
 pub record HaveCounters (rows : List Row) : Type 0 where
   pub each : (p : ℕ) → counters (row_at rows p) ≡ NODES
 
@@ -72,7 +72,7 @@ pub record AreApart (rows : List Row) : Type 0 where
 pub record AreFirst (rows : List Row) : Type 0 where
   pub each : (p : ℕ) → (row_at rows p).addr.generation ≡ 0
 
--- a command on a group that may have been dropped
+-- the answer to a command on a group that may have been dropped
 abbrev pub unless_gone : (Shown → Reply) → Option SlotState → Reply
 unless_gone answer None = Refused Spent
 unless_gone answer (Some s) = answer (shown s)

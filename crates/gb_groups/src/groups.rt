@@ -1,4 +1,4 @@
-//! All groups of a node, with an index of what waits in them.
+//! All groups of a node, with an index of the groups where something waits.
 ghost use Rattle.std.specs.Prelude.{min, false, ◌≢◌, ◌≡◌, ◌==◌, ◌≤◌, ◌<◌, ◌+◌, ◌*◌, ◌++◌, ◌∷◌, [], true, map, slice_index_or, slice_set, ℕ, Some, None, length, sum_by, All, OnOk, OnErr, IfOk, MatchOption, vec_len, vec_capacity};
 ghost use Rattle.gb_groups.specs.Fair.{IsFront, IsLongest};
 ghost use Rattle.gb_frame.specs.Packet.{item_of as view_item};
@@ -44,12 +44,12 @@ use std::marker::Model;
 pub struct Groups {
     alloc: Global,
     slots: Slots,
-    /// For each node, the places of the groups where something waits for it. Its set has words for the places of all groups
-    /// that have the node among their members, so that only `make` takes memory for it.
+    /// For each node, the places of the groups where something waits for it. The set has words for the places of all groups that
+    /// have the node among their members. So only `make` takes memory for it.
     busy: [PlaceSet; NODES],
-    /// For each node, the place where packing for it goes on.
+    /// For each node, the place where packing for it continues.
     cursors: [usize; NODES],
-    /// For each node, the places of the groups that have it among their members. `make` alone takes memory for it.
+    /// For each node, the places of the groups that have it among their members. Only `make` takes memory for it.
     memberships: [PlaceSet; NODES],
 }
 
@@ -84,7 +84,7 @@ impl Model for Groups {
     ghost invariant = { λ h. ArePlaces h.slots.rows h.cursors × IsIndex h.slots.rows h.busy × AreMemberships h.slots.rows h.memberships × AreCovered h.memberships h.busy };
 }
 
-/// Has a set have a place where so many items wait there, and not where none does.
+/// Inserts `place` into `set` if `waiting > 0`, otherwise removes it.
 fn note_at(set: &mut PlaceSet, place: usize, waiting: usize)
     requires { place < 64 * length set.old }
     ensures here { has set.new place ≡ min 1 waiting }
@@ -98,7 +98,8 @@ fn note_at(set: &mut PlaceSet, place: usize, waiting: usize)
     }
 }
 
-/// Notes in the sets of a group's members what waits for them in the group, which is at a place.
+/// For each member of the group at `place`, inserts the place into the member's set if something waits there for the member,
+/// otherwise removes it.
 fn note_members(busy: &mut [PlaceSet], slot: &Slot, place: usize)
     requires size { length busy.old ≡ NODES }
     requires words { HaveWord NODES place slot.now.spec.members busy.old }
@@ -111,7 +112,7 @@ fn note_members(busy: &mut [PlaceSet], slot: &Slot, place: usize)
     }
 }
 
-/// Notes in the index what waits in the group at a place. Nothing waits for nodes that are no members.
+/// Updates the index for the group at `place`. Nothing waits there for nodes that are not members.
 fn refresh(busy: &mut [PlaceSet], slots: &Slots, place: usize)
     requires place { place < length slots.now.rows }
     requires others { IsIndexBut place slots.now.rows busy.old }
@@ -125,7 +126,7 @@ fn refresh(busy: &mut [PlaceSet], slots: &Slots, place: usize)
     }
 }
 
-/// Puts a place into the sets of the nodes to which the items of a group are put out: of its members but for those that it
+/// Inserts `place` into the sets of the nodes to which the group's items are put out: its members, except those that the group
 /// passes over.
 fn note_reached(busy: &mut [PlaceSet], slot: &Slot, place: usize)
     requires size { length busy.old ≡ NODES }
@@ -143,8 +144,8 @@ fn note_reached(busy: &mut [PlaceSet], slot: &Slot, place: usize)
     }
 }
 
-/// Notes in the index what was put out in the group at a place: something waits there for each node that the group
-/// reaches, and nothing for others.
+/// Updates the index after an item was put out in the group at `place`: something waits there for each node that the group reaches,
+/// and nothing for others.
 // Called, not inlined: most items put nothing out.
 #[inline(never)]
 fn note_put_out(busy: &mut [PlaceSet], slots: &Slots, place: usize)
@@ -161,7 +162,7 @@ fn note_put_out(busy: &mut [PlaceSet], slots: &Slots, place: usize)
     }
 }
 
-/// Puts a place into the sets of these nodes, and takes it out of the others' sets.
+/// Inserts `place` into the sets of these nodes, and removes it from the sets of the others.
 fn enrol(memberships: &mut [PlaceSet], place: usize, members: &NodeSet)
     requires size { length memberships.old ≡ NODES }
     requires words { HaveWord NODES place members.now memberships.old }
@@ -176,7 +177,7 @@ fn enrol(memberships: &mut [PlaceSet], place: usize, members: &NodeSet)
     }
 }
 
-/// Has the sets of these nodes have words for a place. Without memory some of them may have some.
+/// Makes the sets of these nodes have a word for `place`. If memory is refused, some of the sets may have it.
 fn cover(sets: &mut [PlaceSet], place: usize, members: &NodeSet) -> Result<(), OutOfMemory>
     requires place { place < PLACES }
     requires size { length sets.old ≡ NODES }
@@ -191,7 +192,7 @@ fn cover(sets: &mut [PlaceSet], place: usize, members: &NodeSet) -> Result<(), O
     Ok(())
 }
 
-/// For each node, no place.
+/// Returns an empty set for each node.
 fn no_places(alloc: Global) -> [PlaceSet; NODES]
     ensures { (d p : ℕ) → d < NODES → has (slice_index_or result d []) p ≡ 0 }
 {
@@ -199,7 +200,7 @@ fn no_places(alloc: Global) -> [PlaceSet; NODES]
 }
 
 impl Groups {
-    /// No group.
+    /// Returns the groups of a new node: none.
     pub fn new(alloc: Global) -> Groups
         ensures { result ≡ no_groups }
     {
@@ -212,21 +213,21 @@ impl Groups {
         }
     }
 
-    /// How many groups were made, dropped ones among them.
+    /// Returns the number of groups that were made, dropped ones included.
     pub fn len(&self) -> usize
         ensures { result ≡ length self.now.rows }
     {
         self.slots.len()
     }
 
-    /// Whether no group was made.
+    /// Returns true if no group was made.
     pub fn is_empty(&self) -> bool
         ensures { result ≡ (length self.now.rows == 0) }
     {
         self.slots.len() == 0
     }
 
-    /// The place of the group with this address, where one was ever made.
+    /// Returns the place of the group with this address. `None` if it was never made.
     pub fn find(&self, addr: Addr) -> Option<usize>
         ensures place { result ≡ place_of addr self.now.rows }
         ensures apart { AreApart self.now.rows }
@@ -234,8 +235,8 @@ impl Groups {
         self.slots.find(addr)
     }
 
-    /// Takes an item in that came from a node, at a node that sends this version of the packet text. It is let fall where
-    /// it is longer than a message may be here, where its group is not here, or by the group's rules.
+    /// Receives an item from a node, at a node that sends this version of the packet text. The item is let fall if it is longer
+    /// than a message may be here, if its group is not here, or by the group's rules.
     pub fn item(&mut self, version: Version, from: NodeId, item: ItemView<'_>)
         ensures rows { self.new.rows ≡ item_came version from (view_item item.entry) self.old.rows }
         ensures cursors { self.new.cursors ≡ self.old.cursors }
@@ -259,7 +260,7 @@ impl Groups {
         }
     }
 
-    /// Takes an acknowledgement of a message of a group from a node.
+    /// Records that a node acknowledged a message of a group.
     pub fn done(&mut self, dest: NodeId, addr: Addr, m: MsgId)
         ensures rows { self.new.rows ≡ on_address addr (slot_done dest m) self.old.rows }
         ensures cursors { self.new.cursors ≡ self.old.cursors }
@@ -270,9 +271,9 @@ impl Groups {
         }
     }
 
-    /// Makes a group, last in the order, at the node `me`, which has noticed these nodes. Beside what the group takes, it
-    /// takes memory for two sets of each member: 8 bytes in each for each 64 groups that were made here, in a `Vec`, which
-    /// doubles its room as it grows. No other call takes memory for the sets.
+    /// Makes a group, last in the order, at the node `me`, which has noticed these nodes. Besides the group's own memory it takes
+    /// memory for two sets of each member: in each 8 bytes for every 64 groups that were made here, in a `Vec`, which doubles its
+    /// capacity as it grows. No other call takes memory for the sets.
     pub fn make(
         &mut self,
         addr: Addr,
@@ -323,7 +324,7 @@ impl Groups {
         }
     }
 
-    /// Drops the group with this address: what waits in it is given up, and it keeps its place.
+    /// Drops the group with this address. What waits in it is discarded, and it keeps its place.
     pub fn drop_group(&mut self, addr: Addr) -> Reply
         ensures reply { result ≡ group_reply drop_answer addr self.old.rows }
         ensures rows { self.new.rows ≡ drop_at addr self.old.rows }
@@ -341,8 +342,8 @@ impl Groups {
         }
     }
 
-    /// Says something in the group with this address, at the place that `find` returned, at a node that sends this version
-    /// of the packet text, under the number `seq` if the caller names one.
+    /// Says a payload in the group with this address, at the place that `find` returned, at a node that sends this version of the
+    /// packet text. The message gets the number `seq` if the caller names one.
     pub fn say(
         &mut self,
         version: Version,
@@ -369,7 +370,7 @@ impl Groups {
         }
     }
 
-    /// Reads the log of the group at the place that `find` gave, if it gave one.
+    /// Reads the log of the group at the place that `find` returned, if it returned one.
     pub fn fetch(&self, place: Option<usize>, from: u32, most: u32) -> Reply
         ensures { IsReply (reply_at (λ s. fetch_answer s from most) self.now.rows place) result }
     {
@@ -379,14 +380,14 @@ impl Groups {
         }
     }
 
-    /// Lists the groups from a place on, at most `most` of them, in the order in which they were made.
+    /// Returns up to `most` groups from a place on, in the order in which they were made.
     pub fn list(&self, from: usize, most: usize) -> Result<Vec<GroupRow>, OutOfMemory>
         ensures { IfOk result (λ rows. rows.items ≡ listed_from self.now.rows from most) }
     {
         self.slots.list(self.alloc, from, most)
     }
 
-    /// Notices a node in the group at a place.
+    /// Records in the group at a place that a node is noticed.
     fn notice_at(&mut self, place: usize, who: NodeId)
         requires { place < length self.old.rows }
         ensures rows { self.new.rows ≡ slice_set self.old.rows place (on_slot (slot_noticed who) (row_at self.old.rows place)) }
@@ -396,14 +397,14 @@ impl Groups {
         refresh(&mut self.busy, &self.slots, place);
     }
 
-    /// The first place from one on of a group that has a node among its members.
+    /// Returns the first place, from `from` on, of a group that has `who` among its members.
     fn next_with(&self, who: NodeId, from: usize) -> Option<usize>
         ensures { MatchOption result ((p : ℕ) → from ≤ p → has_member who.number (row_at self.now.rows p).slot ≡ 0) (λ q. IsNextMember who.number from self.now.rows q) }
     {
         self.memberships[who.index()].next(from)
     }
 
-    /// Notices a node in each group. Groups that do not have it among their members cost nothing.
+    /// Records in each group that a node is noticed. Groups that do not have it among their members take no time.
     pub fn notice(&mut self, who: NodeId)
         ensures rows { self.new.rows ≡ map (on_slot (slot_noticed who)) self.old.rows }
         ensures cursors { self.new.cursors ≡ self.old.cursors }
@@ -415,8 +416,8 @@ impl Groups {
         }
     }
 
-    /// How many items of this version the next batch for a node has where it may have so many bytes, 65,535 at most, and how many
-    /// bytes they take. Where there is room for the longest message, a batch without items says that nothing waits.
+    /// Returns the number of items of this version in the next batch for `dest` of at most `room` bytes, and the number of their
+    /// bytes. `room` is at most 65,535. If `room` holds the longest message, a batch without items means that nothing waits.
     pub fn measure(&self, version: Version, dest: NodeId, room: usize) -> (u16, usize)
         requires { room ≤ 65535 }
         ensures count { result.0 ≡ length (batch version dest.number room self.now) }
@@ -437,8 +438,9 @@ impl Groups {
         )
     }
 
-    /// Appends the texts in this version of the items of the next batch for a node, the longest front of the walk that has so many
-    /// bytes, 65,535 at most; `count` and the capacity of `out` are what `measure` says of it. Takes no memory.
+    /// Appends the items of the next batch for `dest`, as text of this version. The batch is the longest front of the walk that
+    /// fits into the room, at most 65,535 bytes. `count` and the capacity of `out` are those that `measure` returned. Takes no
+    /// memory.
     pub fn pack_into(
         &mut self,
         version: Version,

@@ -1,6 +1,6 @@
-//! All groups at one node: groups under their addresses, in the order in which they were made, and packing what waits
-//! in them into batches. There is no token, no tenant's row and no link here. Read `groups::Groups` first; `packing` has
-//! the walk, and `slots` how slots are kept.
+//! All groups at one node: groups under their addresses, in the order in which they were made, and the packing of waiting items
+//! into batches. There are no tokens, tenants or links here. Read `groups::Groups` first. `packing` has the walk, and `slots` keeps
+//! the slots.
 #![tactic(auto)]
 
 pub mod each;

@@ -1,4 +1,4 @@
-//! The walk round the groups, with no work for groups where nothing waits.
+//! The walk round the groups. It takes no time for groups where nothing waits.
 ghost use Rattle.std.specs.Prelude.{◌≡◌, ◌<◌, ◌≤◌, ◌+◌, ◌*◌, ◌++◌, [], length, take, sum_by, slice_index_or, All, IfSome, MatchOption, vec_len, vec_capacity};
 ghost use Rattle.gb_frame.specs.Spelling.{items_text, IsItem};
 ghost use Rattle.gb_groups.specs.Ahead.{ahead, IsActive, IsTurn};
@@ -12,7 +12,7 @@ use crate::slots::Slots;
 use gb_types::node::NodeId;
 use gb_types::version::Version;
 
-/// The first place from one on, going round, where something waits for a node.
+/// Returns the first place from `from` on, going round, where something waits for `dest`.
 pub fn next_place(slots: &Slots, busy: &PlaceSet, dest: NodeId, from: usize) -> Option<usize>
     requires from { from ≤ length slots.now.rows }
     requires index { IsBusy dest.number busy.now slots.now.rows }
@@ -33,8 +33,8 @@ pub fn next_place(slots: &Slots, busy: &PlaceSet, dest: NodeId, from: usize) -> 
     }
 }
 
-/// Lets the groups give so many items to a node, appends the items' texts in this version, and gives the new cursor. Takes no
-/// memory.
+/// Appends the next `count` items of the walk for `dest`, as text of this version, and marks them as sent. Returns the new cursor.
+/// Takes no memory.
 pub fn advance(
     slots: &mut Slots,
     busy: &mut PlaceSet,
@@ -77,7 +77,7 @@ pub fn advance(
     }
 }
 
-/// The next visit of the walk, where `lap` rounds were made and it stands at a place: its round and place.
+/// Returns the round and the place of the next visit, if there is one. The walk is at place `at` after `lap` rounds.
 fn next_turn(
     slots: &Slots,
     active: &[u64],
@@ -106,8 +106,9 @@ fn next_turn(
     }
 }
 
-/// How many items of this version fit of the walk to a node, and how many bytes they take. `active` are the words of the node's set of busy
-/// places, and `summary` says which have a place; a place is taken out once all that waits there is counted.
+/// Returns the number of items of the walk to a node that fit, as text of this version, and the number of their bytes. `active` are
+/// the words of the node's set of busy places, and `summary` says which words have a place. A place is removed once all that waits
+/// there is counted.
 fn measure_busy<const N: usize>(
     slots: &Slots,
     mut active: [u64; N],
@@ -148,8 +149,9 @@ fn measure_busy<const N: usize>(
     (count, room - left)
 }
 
-/// How many items of this version fit of the walk to a node, and how many bytes they take. `busy` is the node's set of busy places. It is copied
-/// where it is not empty: one word at a node of up to 64 groups, 8 with up to 512, else all.
+/// Returns the number of items of the walk to a node that fit, as text of this version, and the number of their bytes. `busy` is
+/// the node's set of busy places. If it is not empty, it is copied: one word at a node of up to 64 groups, 8 words up to 512, else
+/// all.
 pub fn measure(
     slots: &Slots,
     busy: &PlaceSet,

@@ -10,9 +10,9 @@ use std::marker::Model;
 /// A set of places below `PLACES`. Contracts see its words.
 #[derive(Drop)]
 pub struct PlaceSet {
-    /// A word for each 64 places, as many as were needed so far. Behind the last there is no place.
+    /// A word for each 64 places, as many as were needed so far. The set has no place beyond the last word.
     words: Vec<u64>,
-    /// A bit for each word: whether there is a place in it. So the next place is found in two words, not by a walk over all.
+    /// Bit `n` is 1 if word `n` has a place. So the next place is found in two words, without a walk over all.
     summary: u64,
 }
 
@@ -28,7 +28,7 @@ impl Model for PlaceSet {
 }
 
 impl PlaceSet {
-    /// No place. It has no words, and takes no memory.
+    /// Returns the empty set. It has no words, and takes no memory.
     pub fn new(alloc: Global) -> PlaceSet
         ensures { (p : ℕ) → has result p ≡ 0 }
     {
@@ -38,7 +38,8 @@ impl PlaceSet {
         }
     }
 
-    /// Has the set have words for the places up to one, 8 bytes for each 64 places. Without memory nothing has changed.
+    /// Makes the set have words for the places up to `place`, 8 bytes for each 64 places. If memory is refused, the set stays as it
+    /// was.
     pub fn cover(&mut self, place: usize) -> Result<(), OutOfMemory>
         requires { place < PLACES }
         ensures same { (p : ℕ) → has self.new p ≡ has self.old p }
@@ -53,7 +54,7 @@ impl PlaceSet {
         Ok(())
     }
 
-    /// The words of the first 64 * N places, where the set has no more.
+    /// Returns the words of the first 64 * N places. `None` if the set has more words.
     pub fn first_words<const N: usize>(&self) -> Option<[u64; N]>
         requires { N ≤ 64 }
         ensures same { IfSome result (λ words. (p : ℕ) → has words p ≡ has self.now p) }
@@ -65,7 +66,7 @@ impl PlaceSet {
         Some(padded(&self.words))
     }
 
-    /// The words of all places.
+    /// Returns the words of all places.
     pub fn words(&self) -> [u64; 64]
         ensures same { (p : ℕ) → has result p ≡ has self.now p }
         ensures summary { (summary : ℕ) → IsSummary self.now summary → IsSummary result summary }
@@ -73,21 +74,21 @@ impl PlaceSet {
         padded(&self.words)
     }
 
-    /// A bit for each word: whether there is a place in it.
+    /// Returns the summary: bit `n` is 1 if word `n` has a place.
     pub fn summary(&self) -> u64
         ensures { IsSummary self.now result }
     {
         self.summary
     }
 
-    /// The least place of the set at or after one.
+    /// Returns the least place of the set that is `from` or greater.
     pub fn next(&self, from: usize) -> Option<usize>
         ensures { MatchOption result ((p : ℕ) → from ≤ p → has self.now p ≡ 0) (λ q. IsNext self.now from q) }
     {
         next_of(&self.words, self.summary, from)
     }
 
-    /// Takes a place out of the set.
+    /// Removes a place from the set.
     pub fn remove(&mut self, place: usize)
         ensures here { has self.new place ≡ 0 }
         ensures others { (p : ℕ) → p ≢ place → has self.new p ≡ has self.old p }
@@ -98,7 +99,7 @@ impl PlaceSet {
         }
     }
 
-    /// Puts a place into the set, which has a word for it.
+    /// Inserts a place into the set, which has a word for it.
     pub fn insert(&mut self, place: usize)
         requires { place < 64 * length self.old }
         ensures here { has self.new place ≡ 1 }
@@ -110,7 +111,7 @@ impl PlaceSet {
     }
 }
 
-/// So many words: those of a set, and zeros behind them.
+/// Returns the words of a set, followed by zeros up to N words.
 fn padded<const N: usize>(words: &[u64]) -> [u64; N]
     requires { length words.now ≤ N }
     ensures same { (p : ℕ) → has result p ≡ has words.now p }
@@ -121,7 +122,7 @@ fn padded<const N: usize>(words: &[u64]) -> [u64; N]
     padded
 }
 
-/// The least place of a set at or after one, by its words and their summary.
+/// Returns the least place of a set that is `from` or greater, by its words and their summary.
 pub fn next_of(words: &[u64], summary: u64, from: usize) -> Option<usize>
     requires few { length words.now ≤ 64 }
     requires summary { IsSummary words.now summary }
@@ -144,7 +145,7 @@ pub fn next_of(words: &[u64], summary: u64, from: usize) -> Option<usize>
     Some(index * 64 + words[index].trailing_zeros() as usize)
 }
 
-/// Takes a place out of a set, by its words and their summary.
+/// Removes a place from a set, by its words and their summary.
 pub fn remove_of(words: &mut [u64], summary: &mut u64, place: usize)
     requires few { length words.old ≤ 64 }
     requires place { place < 64 * length words.old }

@@ -33,7 +33,7 @@ use slab::Slab;
 use std::alloc::Global;
 use std::marker::Model;
 
-/// Where a group's slot stands: under a key, or nowhere after the group was dropped.
+/// Where a group's slot is: under a key, or nowhere after the group was dropped.
 #[derive(Clone, Copy, Drop)]
 enum Place {
     Key(usize),
@@ -45,10 +45,10 @@ enum Place {
 pub struct Slots {
     places: IndexMap<Addr, Place>,
     slots: Slab<Slot>,
-    /// The place of the group that was last said something in, or that an item or an acknowledgement was taken into. It is
-    /// for speed alone: what stands there is tested.
+    /// The place of the last group that was said something in, or that received an item or an acknowledgement. It only saves a
+    /// search: the address at the place is compared.
     recent: usize,
-    /// What one call of a group's broadcast gives. It is lent to the group, and emptied by the call.
+    /// The effects of one call of a group's broadcast. They are lent to the group, and emptied by the call.
     effects: Effects,
 }
 
@@ -69,7 +69,7 @@ impl Model for Slots {
     ghost invariant = { λ g. AreKept g.places.entries g.slots × AreLent g.slots g.effects };
 }
 
-/// The key of the slot of the group at a place, unless it was dropped.
+/// Returns the key of the slot of the group at a place. `None` if the group was dropped.
 fn key_at(places: &IndexMap<Addr, Place>, place: usize) -> Option<usize>
     ensures { MatchOption result (place_at places.now.entries place ≡ Place.Gone) (λ k. place_at places.now.entries place ≡ Place.Key k) }
 {
@@ -79,7 +79,7 @@ fn key_at(places: &IndexMap<Addr, Place>, place: usize) -> Option<usize>
     }
 }
 
-/// Whether a group stands at a place and has this address.
+/// Returns true if there is a group with this address at the place.
 fn is_at(places: &IndexMap<Addr, Place>, place: usize, addr: Addr) -> bool
     ensures { MatchOption (slice_get places.now.entries place) (result ≡ false) (λ e. result ≡ is_addr addr e.0) }
 {
@@ -90,7 +90,7 @@ fn is_at(places: &IndexMap<Addr, Place>, place: usize, addr: Addr) -> bool
 }
 
 impl Slots {
-    /// No groups.
+    /// Returns the slots of a new node: none.
     pub fn new(alloc: Global) -> Slots
         ensures { result.rows ≡ [] }
     {
@@ -102,7 +102,7 @@ impl Slots {
         }
     }
 
-    /// How many groups there are, dropped ones among them.
+    /// Returns the number of groups, dropped ones included.
     pub fn len(&self) -> usize
         ensures len { result ≡ length self.now.rows }
         ensures counters { HaveCounters self.now.rows }
@@ -112,8 +112,8 @@ impl Slots {
         self.places.len()
     }
 
-    /// The place of the group with this address. The one that was last used and the one made next after it are looked at
-    /// first: items of a frame stand mostly in that order.
+    /// Returns the place of the group with this address. The place that was last used and the one made next after it are compared
+    /// first, since the items of a frame are mostly in that order.
     pub fn find(&self, addr: Addr) -> Option<usize>
         ensures place { result ≡ position (λ row. is_addr addr row.addr) self.now.rows }
         ensures apart { AreApart self.now.rows }
@@ -129,7 +129,7 @@ impl Slots {
         self.places.get_index_of(&addr)
     }
 
-    /// The slot of the group at a place, unless it was dropped.
+    /// Returns the slot of the group at a place. `None` if the group was dropped.
     pub fn slot(&self, place: usize) -> Option<&Slot>
         ensures slot { MatchOption result ((row_at self.now.rows place).slot ≡ None) (λ s. (row_at self.now.rows place).slot ≡ Some s.now) }
         ensures short { IfSome result (λ s. IsShort PAYLOAD (Some s.now)) }
@@ -140,7 +140,7 @@ impl Slots {
         self.slots.get(key)
     }
 
-    /// The address of the group at a place.
+    /// Returns the address of the group at a place.
     pub fn addr(&self, place: usize) -> Addr
         requires { place < length self.now.rows }
         ensures { result ≡ (row_at self.now.rows place).addr }
@@ -149,8 +149,8 @@ impl Slots {
         *addr
     }
 
-    /// The bytes of the payload of one of the items that wait for a node in the group at a place, which count from 0, and
-    /// how many wait. Inlined: packing calls it once an item.
+    /// Returns the payload length, in bytes, of item `nth` (from 0) of those that wait for `dest` in the group at a place, and the
+    /// number of items that wait. Inlined: packing calls it once an item.
     #[inline(always)]
     pub fn measure_at(&self, place: usize, dest: NodeId, nth: usize) -> (usize, usize)
         requires { nth < length (queue dest.number (row_at self.now.rows place)) }
@@ -165,9 +165,8 @@ impl Slots {
         (payload.len(), slot.waiting_for(dest))
     }
 
-    /// Appends the text in this version of the first item that waits for a node in the group at a place, and takes the item to be
-    /// sent.
-    /// Says how many wait then. Takes no memory.
+    /// Appends the first item that waits for `dest` in the group at a place, as text of this version, and marks it as sent. Returns
+    /// the number of items that wait afterwards. Takes no memory.
     pub fn give(&mut self, version: Version, place: usize, dest: NodeId, out: &mut Vec<u8>) -> usize
         requires place { place < length self.old.rows }
         requires item { 0 < length (queue dest.number (row_at self.old.rows place)) }
@@ -191,9 +190,8 @@ impl Slots {
         slot.waiting_for(dest)
     }
 
-    /// Takes an item that came from a node into the group at a place. Says whether something was put out: where it was,
-    /// something waits for each node that the group reaches, and where it was not, as many items wait for each node as
-    /// before.
+    /// Receives an item from a node into the group at a place. Returns true if something was put out. If so, something waits for
+    /// each node that the group reaches; if not, as many items wait for each node as before.
     pub fn came(
         &mut self,
         place: usize,
@@ -216,7 +214,7 @@ impl Slots {
         false
     }
 
-    /// Takes an acknowledgement of a message of the group at a place from a node.
+    /// Records that a node acknowledged a message of the group at a place.
     pub fn done(&mut self, place: usize, dest: NodeId, m: MsgId)
         ensures { self.new.rows ≡ slice_set self.old.rows place (on_slot (slot_done dest m) (row_at self.old.rows place)) }
     {
@@ -228,7 +226,7 @@ impl Slots {
         }
     }
 
-    /// Notices a node in the group at a place.
+    /// Records in the group at a place that a node is noticed.
     pub fn notice(&mut self, place: usize, who: NodeId)
         ensures { self.new.rows ≡ slice_set self.old.rows place (on_slot (slot_noticed who) (row_at self.old.rows place)) }
     {
@@ -239,7 +237,7 @@ impl Slots {
         }
     }
 
-    /// Opens the group at a place. Spent where it was dropped.
+    /// Opens the group at a place. Spent if it was dropped.
     pub fn open_group(&mut self, place: usize) -> Reply
         ensures reply { result ≡ unless_gone open_answer (row_at self.old.rows place).slot }
         ensures rows { self.new.rows ≡ slice_set self.old.rows place (on_slot (slot_moved Phase.Opened result) (row_at self.old.rows place)) }
@@ -252,7 +250,7 @@ impl Slots {
         Reply::Refused(Refusal::Spent)
     }
 
-    /// Shuts the group at a place. Spent where it was dropped.
+    /// Shuts the group at a place. Spent if it was dropped.
     pub fn shut_group(&mut self, place: usize) -> Reply
         ensures reply { result ≡ unless_gone shut_answer (row_at self.old.rows place).slot }
         ensures rows { self.new.rows ≡ slice_set self.old.rows place (on_slot (slot_moved Phase.Shut result) (row_at self.old.rows place)) }
@@ -265,9 +263,9 @@ impl Slots {
         Reply::Refused(Refusal::Spent)
     }
 
-    /// Says something in the group at a place, at a node that sends this version of the packet text, under the number `seq` if
-    /// the caller names one. Spent where it was dropped. What gets a number is put out: something waits then for each node
-    /// that the group reaches.
+    /// Says a payload in the group at a place, at a node that sends this version of the packet text. The message gets the number
+    /// `seq` if the caller names one. Spent if the group was dropped. A message that gets a number is put out: then something waits
+    /// for each node that the group reaches.
     pub fn say(&mut self, version: Version, place: usize, seq: Option<u32>, payload: &[u8]) -> Reply
         ensures reply { result ≡ unless_gone (λ s. say_answer version s (record { payload = payload.now; seq = seq })) (row_at self.old.rows place).slot }
         ensures rows { self.new.rows ≡ slice_set self.old.rows place (on_slot (slot_said payload.now result) (row_at self.old.rows place)) }
@@ -282,7 +280,7 @@ impl Slots {
         Reply::Refused(Refusal::Spent)
     }
 
-    /// Reads the log of the group at a place. Spent where it was dropped.
+    /// Reads the log of the group at a place. Spent if it was dropped.
     pub fn fetch(&self, place: usize, from: u32, most: u32) -> Reply
         ensures { IsReply (unless_gone (λ s. fetch_answer s from most) (row_at self.now.rows place).slot) result }
     {
@@ -317,7 +315,7 @@ impl Slots {
         }
     }
 
-    /// Lists the groups from a place on, at most `most` of them, in the order in which they were made.
+    /// Returns up to `most` groups from a place on, in the order in which they were made.
     #[tactic(auto, using(crate::proofs::ListingLemmas::next_listed, crate::proofs::ListingLemmas::all_listed))]
     pub fn list(
         &self,
@@ -335,7 +333,7 @@ impl Slots {
         Ok(rows)
     }
 
-    /// Gives up the group at a place, which it keeps. Spent where it was dropped before.
+    /// Drops the group at a place; the group keeps its place. Spent if it was dropped before.
     pub fn remove(&mut self, place: usize) -> Reply
         ensures reply { result ≡ unless_gone drop_answer (row_at self.old.rows place).slot }
         ensures rows { self.new.rows ≡ slice_set self.old.rows place (gone (row_at self.old.rows place)) }
@@ -350,7 +348,7 @@ impl Slots {
         Reply::Done
     }
 
-    /// Makes a group behind the others, at the node `me`, which has noticed these nodes.
+    /// Adds a group behind the others, at the node `me`, which has noticed these nodes.
     pub fn add(
         &mut self,
         alloc: Global,
@@ -377,7 +375,7 @@ impl Slots {
     }
 }
 
-/// Appends the text in this version of the first item that waits for a node in a group. Takes no memory.
+/// Appends the first item that waits for `dest` in a group, as text of this version. Takes no memory.
 fn put_first(version: Version, addr: Addr, slot: &Slot, dest: NodeId, out: &mut Vec<u8>)
     requires first { addr.generation ≡ 0 }
     requires short { IsShort PAYLOAD (Some slot.now) }
@@ -403,10 +401,10 @@ fn put_first(version: Version, addr: Addr, slot: &Slot, dest: NodeId, out: &mut 
     );
 }
 
-/// Drops a slot.
+/// Ends a slot.
 fn give_up(_slot: Option<Slot>) {}
 
-/// The reply that a call's result is.
+/// Returns the reply for the result of a call.
 fn replied(done: Result<(), Refusal>) -> Reply
     ensures { result ≡ done_reply done }
 {
@@ -416,7 +414,7 @@ fn replied(done: Result<(), Refusal>) -> Reply
     }
 }
 
-/// The reply that the result of a say is.
+/// Returns the reply for the result of a say.
 fn said(seq: Result<u16, Refusal>) -> Reply
     ensures { result ≡ said_reply seq }
 {

@@ -1,4 +1,4 @@
--- Which messages a list has, with how many bytes, and which a history makes known.
+-- The messages of a list, the number of their bytes, and the messages that a history makes known.
 use Rattle.std.proofs.Common.{◌≡◌, ℕ, ◌+◌, ◌||◌, nat_eq, true, false, List, [], ◌∷◌, ◌++◌, length, refl, sym, ◌∙◌, ap, arith}
 use Rattle.std.specs.Prelude.{if◌then◌else◌}
 use Rattle.gb_types.specs.Entry.{message_of}

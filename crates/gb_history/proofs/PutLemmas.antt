@@ -1,4 +1,4 @@
--- What a history broadcasts.
+-- The messages that a history broadcasts.
 use Rattle.std.proofs.Common.{◌≡◌, ℕ, List, [], ◌∷◌, not, ◌&&◌, Bool, refl, ap}
 use Rattle.std.specs.Prelude.{map, filter}
 use Rattle.gb_types.specs.declared.message.MsgId.{MsgId}

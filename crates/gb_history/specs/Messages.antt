@@ -10,7 +10,7 @@ use Rattle.gb_types.specs.Message.{same}
 abbrev pub has : List Entry → MsgId → Bool
 has xs m = list_any (λ (x : Entry). same (message_of x) m) xs
 
--- the payload of the message, as the list has it first
+-- the payload of the message in its first entry, empty if there is none
 abbrev pub payload_in : List Entry → MsgId → List ℕ
 payload_in [] m = []
 payload_in (x ∷ xs) m = if same (message_of x) m then x.payload else payload_in xs m
@@ -19,11 +19,11 @@ payload_in (x ∷ xs) m = if same (message_of x) m then x.payload else payload_i
 abbrev pub entry_in : List Entry → MsgId → Entry
 entry_in xs m = record { origin = m.origin; seq = m.seq; payload = payload_in xs m }
 
--- the list, with the message at its end where it was not there
+-- the list, with the message at its end if it was not in it
 abbrev pub with_new : List Entry → Entry → List Entry
 with_new xs x = if has xs (message_of x) then xs else xs ++ x ∷ []
 
--- the payload bytes of an origin's messages
+-- the number of payload bytes of an origin's messages
 abbrev pub bytes_of : ℕ → List Entry → ℕ
 bytes_of origin [] = 0
 bytes_of origin (x ∷ xs) = (if nat_eq x.origin.number origin then length x.payload else 0) + bytes_of origin xs

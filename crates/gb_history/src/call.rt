@@ -1,4 +1,4 @@
-//! What a group is told at a node.
+//! The calls of a group at a node.
 ghost use Rattle.std.specs.Prelude.{◌≡◌, ◌≤◌, IfOk, length};
 ghost use Rattle.gb_history.specs.History as history;
 
@@ -8,7 +8,7 @@ use gb_types::memory::OutOfMemory;
 use gb_types::node::NodeId;
 use std::alloc::Global;
 
-/// What a group is told at a node, with what the message says.
+/// A call of a group at a node, with the payload of its message.
 #[derive(Drop)]
 pub enum GroupCall {
     /// The member says a message of its own.
@@ -19,7 +19,7 @@ pub enum GroupCall {
     Crashed(NodeId),
 }
 
-/// What the broadcast is called for.
+/// Returns the call of the broadcast.
 fn call_of(call: &GroupCall) -> Call
     ensures { result ≡ history.call_of call.now }
 {
@@ -30,7 +30,7 @@ fn call_of(call: &GroupCall) -> Call
     }
 }
 
-/// What the broadcast was called for, the newest first.
+/// Returns the calls of the broadcast, the newest first.
 #[tactic(auto, unfolding(crate::specs::History::calls_of))]
 pub fn calls_of(alloc: Global, told: &[GroupCall]) -> Result<Vec<Call>, OutOfMemory>
     ensures { IfOk result (λ v. v.items ≡ history.calls_of told.now) }
@@ -45,7 +45,7 @@ pub fn calls_of(alloc: Global, told: &[GroupCall]) -> Result<Vec<Call>, OutOfMem
     }
 }
 
-/// How many messages were said here.
+/// Returns the number of messages that were said here.
 #[tactic(auto, unfolding(crate::specs::History::said_in))]
 pub fn said_in(told: &[GroupCall]) -> usize
     ensures count { result ≡ history.said_in told.now }

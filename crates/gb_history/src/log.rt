@@ -1,4 +1,4 @@
-//! What a group delivers and broadcasts, and what is let fall.
+//! The messages that a group delivers, broadcasts and lets fall.
 ghost use Rattle.std.specs.Prelude.{◌≡◌, [], IfOk};
 ghost use Rattle.gb_types.specs.Rising.{rising, AreNodes};
 ghost use Rattle.gb_layer.specs.Machine as machine;
@@ -15,7 +15,7 @@ use gb_types::node::NodeId;
 use gb_types::spec::Spec;
 use std::alloc::Global;
 
-/// The members, rising.
+/// Returns the members, rising.
 fn members_of(alloc: Global, spec: &Spec) -> Result<Vec<NodeId>, OutOfMemory>
     ensures rising { IfOk result (λ v. machine.numbers v.items ≡ rising spec.now.members) }
     ensures nodes { IfOk result (λ _. AreNodes spec.now.members) }
@@ -27,7 +27,7 @@ fn members_of(alloc: Global, spec: &Spec) -> Result<Vec<NodeId>, OutOfMemory>
     Ok(members)
 }
 
-/// What the group delivered.
+/// Returns the log: what the group delivered, in order.
 #[tactic(auto, using(crate::proofs::LogLemmas::log_is))]
 pub fn log_of(
     alloc: Global,
@@ -44,7 +44,7 @@ pub fn log_of(
     entries_in(alloc, known.as_slice(), &delivered)
 }
 
-/// What the newest call made the group broadcast.
+/// Returns what the newest call made the group broadcast, in order.
 #[tactic(auto, unfolding(crate::specs::History::calls_of))]
 pub fn puts_of(
     alloc: Global,
@@ -65,7 +65,7 @@ pub fn puts_of(
     }
 }
 
-/// How many payload bytes the known messages of an origin have. `Err` where no number is so great.
+/// Returns the number of payload bytes of an origin's known messages. `Err` if it exceeds 32 bits, or if memory is refused.
 pub fn bytes_in(alloc: Global, told: &[GroupCall], origin: NodeId) -> Result<u32, OutOfMemory>
     ensures { IfOk result (λ n. n ≡ history.bytes_in told.now origin.number) }
 {
@@ -73,7 +73,7 @@ pub fn bytes_in(alloc: Global, told: &[GroupCall], origin: NodeId) -> Result<u32
     bytes_of(known.as_slice(), origin)
 }
 
-/// Whether an item that comes from a node is let fall, after all that the group was told.
+/// Returns true if an item that comes from a node is let fall after these calls.
 pub fn falls_after(
     alloc: Global,
     spec: &Spec,

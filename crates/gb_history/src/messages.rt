@@ -1,4 +1,4 @@
-//! Messages with what they say, as a history has them.
+//! Messages with their payloads, as a history has them.
 ghost use Rattle.std.specs.Prelude.{◌≡◌, ◌+◌, ◌++◌, ◌∷◌, map, length, IfOk, OnOk};
 ghost use Rattle.gb_history.specs.History as history;
 ghost use Rattle.gb_history.specs.Messages as words;
@@ -11,7 +11,7 @@ use gb_types::node::NodeId;
 use gb_types::payload::Payload;
 use std::alloc::Global;
 
-/// Whether the message is among the entries.
+/// Returns true if the message is among the entries.
 fn has(entries: &[Entry], m: MsgId) -> bool
     ensures { result ≡ words.has entries.now m }
 {
@@ -21,7 +21,7 @@ fn has(entries: &[Entry], m: MsgId) -> bool
     }
 }
 
-/// The payload of the message, as the entries have it first.
+/// Returns the payload of the first entry of the message. It is empty if there is none.
 fn payload_in(entries: &[Entry], m: MsgId) -> &[u8]
     ensures { result.now ≡ words.payload_in entries.entry.now m }
 {
@@ -37,7 +37,7 @@ fn payload_in(entries: &[Entry], m: MsgId) -> &[u8]
     }
 }
 
-/// So many bytes, and those of a payload. `Err` where no number is so great.
+/// Returns `count` plus the length of a payload. `Err` if the sum exceeds 32 bits.
 fn add_bytes(count: u32, payload: &[u8]) -> Result<u32, OutOfMemory>
     ensures { IfOk result (λ n. n ≡ length payload.now + count) }
 {
@@ -50,7 +50,7 @@ fn add_bytes(count: u32, payload: &[u8]) -> Result<u32, OutOfMemory>
     }
 }
 
-/// How many payload bytes an origin's messages have. `Err` where no number is so great.
+/// Returns the number of payload bytes of an origin's messages. `Err` if it exceeds 32 bits.
 pub(crate) fn bytes_of(entries: &[Entry], origin: NodeId) -> Result<u32, OutOfMemory>
     ensures { IfOk result (λ n. n ≡ words.bytes_of origin.number entries.now) }
 {
@@ -67,7 +67,7 @@ pub(crate) fn bytes_of(entries: &[Entry], origin: NodeId) -> Result<u32, OutOfMe
     }
 }
 
-/// The messages with their payloads.
+/// Returns the messages with their payloads.
 pub(crate) fn entries_in(
     alloc: Global,
     known: &[Entry],
@@ -87,7 +87,7 @@ pub(crate) fn entries_in(
     Ok(entries)
 }
 
-/// Adds a copy of the entry at the end, where its message was not there.
+/// Appends a copy of the entry, if there is no entry of its message.
 fn add_new(alloc: Global, entries: &mut Entries, x: &Entry) -> Result<(), OutOfMemory>
     ensures { OnOk result (entries.new ≡ words.with_new entries.old x.now) }
 {
@@ -97,7 +97,7 @@ fn add_new(alloc: Global, entries: &mut Entries, x: &Entry) -> Result<(), OutOfM
     Ok(())
 }
 
-/// The messages that the group was told of, with the payloads that they had then.
+/// Returns the messages of the group's calls, with the payloads that they had when they were first named.
 #[tactic(auto, unfolding(crate::specs::History::known))]
 pub fn known(alloc: Global, told: &[GroupCall]) -> Result<Entries, OutOfMemory>
     ensures { IfOk result (λ e. e ≡ history.known told.now) }

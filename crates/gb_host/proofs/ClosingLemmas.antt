@@ -1,4 +1,4 @@
--- What follows where each list is its entries in the tapes.
+-- What follows if each list is its entries in the tapes.
 use Rattle.std.proofs.Common.{◌≡◌, ◌≢◌, ℕ, zero, suc, ◌+◌, ◌<◌, ◌≤◌, ◌==◌, Bool, true, false, List, [], ◌∷◌, ◌++◌, length, refl, sym, ap, ap₂, ◌∙◌, arith, cond, eqb, get_or, append_assoc, sum_by, inl, inr, ◌⊎◌, subst, add_assoc, add_comm, zero-add, Option, Some, None, Result, Ok, Err, vec_len, vec_capacity}
 use Rattle.std.specs.Prelude.{OnOk}
 use Rattle.std.specs.FinSet as set

@@ -1,4 +1,4 @@
--- One more that goes through a ring.
+-- One more value goes through a ring.
 use Rattle.std.proofs.Common.{◌≡◌, ◌<◌, ◌∙◌, ◌++◌, List, [], ◌∷◌, Option, Some, None, ap, refl, sym, subst}
 use Rattle.gb_past.specs.Story.{Known}
 use Rattle.gb_types.specs.declared.node.NodeId.{NodeId}

@@ -1,4 +1,4 @@
--- What stands after a host was closed.
+-- What is left after a host was closed.
 use Rattle.std.specs.Prelude.{ℕ, ◌≡◌, ◌≢◌, ◌⊎◌, ◌<◌, ◌≤◌, ◌==◌, Bool, true, false, List, [], ◌∷◌, ◌++◌, length, slice_index_or, cond, sum_by, Option, Some, None}
 use Rattle.std.specs.FinSet as set
 use Rattle.std.specs.Ordering.{nat_cmp}
@@ -14,33 +14,33 @@ use Rattle.gb_host.specs.SeatValue.{SeatValue}
 use Rattle.gb_host.specs.declared.entry.SeatEntry.{SeatEntry}
 use Rattle.gb_host.specs.declared.plan.HostPlan.{HostPlan}
 
--- the tape of a node, empty where there is no such node
+-- the tape of a node, empty if there is no such node
 abbrev pub tape_at : List (List TapeEntry) → ℕ → List TapeEntry
 tape_at tapes k = slice_index_or tapes k []
 
--- the list with a number, or an empty one past the end
+-- the list with this number, empty if there is none
 abbrev pub list_at : List (List SeatEntry) → ℕ → List SeatEntry
 list_at lists s = slice_index_or lists s []
 
--- the calls that the seat with a number kept, none where there is no such seat
+-- the calls that the seat with this number kept, empty if there is no such seat
 abbrev pub list_of : List SeatValue → ℕ → List SeatEntry
 list_of [] s = []
 list_of (x ∷ xs) s = cond (x.number == s) x.list (list_of xs s)
 
--- a node that was here is the replay of its tape; of any other there is no node, and its tape is empty
+-- a node that was here is the replay of its tape; for any other there is no node, and its tape is empty
 abbrev pub IsClosed : HostPlan → Bool → NodeId → Option NodeValue → List TapeEntry → Type 0
 IsClosed p is_here b (Some node) tape = (is_here ≡ true) × IsReplay p b node tape
 IsClosed p is_here b None tape = (is_here ≡ false) × (tape ≡ [])
 
--- so it is of all nodes with numbers below this, of which those in the set were here
+-- each node with a number below n is closed in this way; those in the set were here
 abbrev pub AreReplays : HostPlan → set.FinSet nat_cmp → ℕ → List (Option NodeValue) → List (List TapeEntry) → Type 0
 AreReplays p here n nodes tapes = (b : NodeId) (d : Option NodeValue) → b.number < n → IsClosed p (set.contains here b.number) b (slice_index_or nodes b.number d) (tape_at tapes b.number)
 
--- this node and this tape are what is left of the node with a number
+-- this node and this tape are what is left of the node with the number k
 abbrev pub IsLeftOf : ℕ → NodeValue → List TapeEntry → List (Option NodeValue) → List (List TapeEntry) → Type 0
 IsLeftOf k node tape nodes tapes = (slice_index_or nodes k None ≡ Some node) × (k < length tapes) × (tape_at tapes k ≡ tape)
 
--- no node with the number is left, or no tape of it
+-- nothing is left of the node with the number k: no node, or no tape
 abbrev pub IsNotLeft : ℕ → List (Option NodeValue) → List (List TapeEntry) → Type 0
 IsNotLeft k nodes tapes = (slice_index_or nodes k None ≡ None) ⊎ (length tapes ≤ k)
 
@@ -56,8 +56,8 @@ AreSame tapes lists = (s : ℕ) → IsSame tapes s (lists s)
 abbrev pub IsOther : List (List TapeEntry) → ℕ → List SeatEntry → Type 0
 IsOther tapes s list = (k : ℕ) × (calls_of s (tape_at tapes k) ≢ numbered 0 (calls_at k list))
 
--- A call x of a seat, made after the calls xs, as the tape of its node has it: the state from which its answer came is the
--- replay of the entries before it, and these hold all earlier calls of the seat at the node.
+-- A call x of a seat, made after the calls xs, stands in the tape of its node. The state in which the node answered it is the replay
+-- of the entries before it, and these have all earlier calls of the seat at the node.
 pub record IsFresh (p : HostPlan) (s : ℕ) (tape : List TapeEntry) (xs : List SeatEntry) (x : SeatEntry) : Type 0 where
   pub before : List TapeEntry
   pub entry : TapeEntry
@@ -76,14 +76,14 @@ pub record IsFresh (p : HostPlan) (s : ℕ) (tape : List TapeEntry) (xs : List S
 abbrev pub AreFresh : HostPlan → List (List TapeEntry) → (ℕ → List SeatEntry) → Type 0
 AreFresh p tapes lists = (s : ℕ) (xs ys : List SeatEntry) (x : SeatEntry) → lists s ≡ xs ++ x ∷ ys → x.node.number < p.cluster.nodes → IsFresh p s (tape_at tapes x.node.number) xs x
 
--- how many entries all tapes have, and how many calls all seats
+-- the number of entries in all tapes, and the number of calls of all seats
 abbrev pub tape_entries : List (List TapeEntry) → ℕ
 tape_entries tapes = sum_by length tapes
 
 abbrev pub seat_entries : List SeatValue → ℕ
 seat_entries seats = sum_by (λ x. length x.list) seats
 
--- the seats in front of those that were looked at, and what was kept of these
+-- the seats that are still to be looked at, and what was kept of the others
 pub record Gathered (all rest : List SeatValue) (lists : List (List SeatEntry)) (given : List Bool) : Type 0 where
   pub late : List SeatValue
   pub split : all ≡ rest ++ late

@@ -17,13 +17,13 @@ AreCopies InMemory event answer (ForMemory c) = (c.event ≡ event) × (c.answer
 AreCopies InRing event answer (ForRing copy) = copy ≡ answer
 AreCopies way event answer copies = ⊥
 
--- the entry that a tape or a ring gets
+-- the entry that goes to a tape or a ring
 abbrev pub tape_copy : ℕ → ℕ → NodeEvent → Copies → List TapeEntry
 tape_copy seat count event No = []
 tape_copy seat count event (ForMemory c) = record { seat = seat; count = count; event = event; answer = c.for_tape } ∷ []
 tape_copy seat count event (ForRing copy) = record { seat = seat; count = count; event = event; answer = copy } ∷ []
 
--- the call that a seat's list gets
+-- the call that goes to a seat's list
 abbrev pub list_copy : NodeId → Copies → List SeatEntry
 list_copy node No = []
 list_copy node (ForMemory c) = record { node = node; event = c.event; answer = c.answer } ∷ []

@@ -14,8 +14,8 @@ use Rattle.gb_host.specs.Replay.{past_of}
 use Rattle.gb_host.specs.SeatValue.{SeatValue}
 use Rattle.gb_host.specs.declared.plan.HostPlan.{HostPlan}
 
--- The answer to an event is the one that the node gives after its past. That is what the seat had seen of it, with what others
--- did since, and it goes on with this event; of the other nodes' pasts the seat has seen what it had.
+-- The answer to an event is the one that the node gives after its past. This past is what the seat had seen of it, then what others did since, and it goes on with
+-- this event. Of the other nodes' pasts the seat has seen what it had seen before.
 pub record GoesOn (p : HostPlan) (me : NodeId) (old new : SeatValue) (asked : NodeEvent) (told : NodeAnswer) : Type 0 where
   pub others : List TapeEntry
   pub entry : TapeEntry
@@ -36,12 +36,12 @@ AreAmong [] es = Unit {0}
 AreAmong (c ∷ cs) [] = ⊥
 AreAmong (c ∷ cs) (e ∷ es) = ((c ≡ (e.event, e.answer)) × AreAmong cs es) ⊎ AreAmong (c ∷ cs) es
 
--- a node came to some state by the past that a seat has seen of it, and there the seat's calls at the node stand
+-- a node came to some state by the past that a seat has seen of it, and in this past the seat's calls at the node stand
 pub record HasHappened (p : HostPlan) (s : SeatValue) (b : NodeId) : Type 0 where
   pub state : NodeValue
   pub comes : ComesTo (plan_of p b) (past_of (past_at s.seen b.number)) state
   pub among : AreAmong (calls_at b.number s.calls) (past_at s.seen b.number)
 
--- so it is at each node
+-- each call of the seat has happened, at each node
 abbrev pub HaveHappened : HostPlan → SeatValue → Type 0
 HaveHappened p s = (b : NodeId) → b.number < p.cluster.nodes → HasHappened p s b

@@ -22,13 +22,13 @@ use Rattle.gb_host.specs.declared.kept.Kept.TheVariants.{Nothing, Memory, Ring}
 use Rattle.gb_host.specs.declared.plan.HostPlan.{HostPlan}
 
 module _ {L : Type 0} where
-  -- what was kept
+  -- the entries that were kept
   abbrev pub kept_entries : Kept L → List TapeEntry
   kept_entries Nothing = []
   kept_entries (Memory tape) = tape.items
   kept_entries (Ring out) = out.entries
 
-  -- what memory holds of it
+  -- the entries that memory holds
   abbrev pub tape_in : Kept L → List TapeEntry
   tape_in Nothing = []
   tape_in (Memory tape) = tape.items
@@ -45,14 +45,14 @@ module _ {L : Type 0} where
   IsKeptAt p b (Memory tape) = p.tape ≡ true
   IsKeptAt p b (Ring out) = (p.tape ≡ false) × (p.ring ≡ true) × (out.node ≡ b)
 
-  -- one is kept in the way of the other
+  -- both are kept in the same way
   abbrev pub IsSameWay : Kept L → Kept L → Type 0
   IsSameWay Nothing Nothing = Unit {0}
   IsSameWay (Memory old) (Memory new) = Unit {0}
   IsSameWay (Ring old) (Ring new) = new.node ≡ old.node
   IsSameWay old new = ⊥
 
-  -- there is room for an entry more, in memory in a seat's list too
+  -- there is room for one more entry; if memory holds the tape, also in the seat's list
   abbrev pub HasRoom : Kept L → Vec SeatEntry Global → Type 0
   HasRoom Nothing list = Unit {0}
   HasRoom (Memory tape) list = (vec_len tape < vec_capacity tape) × (vec_len list < vec_capacity list)

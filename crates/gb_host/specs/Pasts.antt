@@ -11,14 +11,14 @@ BookName = Book × ℕ
 abbrev pub no_book : BookName
 no_book = (record { number = 0; log_name = 0; cells_name = 0 }, 0)
 
--- what was seen of the past of the node with a number; nothing where there is no such node
+-- what was seen of the past of the node with this number; nothing if there is no such node
 abbrev pub seen_at : List (Known TapeEntry) → ℕ → Known TapeEntry
 seen_at seen k = slice_index_or seen k (record { book = no_book; log = [] })
 
 abbrev pub past_at : List (Known TapeEntry) → ℕ → List TapeEntry
 past_at seen k = (seen_at seen k).log
 
--- nothing was seen yet
+-- nothing was seen of any past yet
 abbrev pub AreUnseen : List (Known TapeEntry) → Type 0
 AreUnseen seen = (k : ℕ) → past_at seen k ≡ []
 
@@ -26,15 +26,15 @@ AreUnseen seen = (k : ℕ) → past_at seen k ≡ []
 abbrev pub book_at : List BookName → ℕ → BookName
 book_at books k = slice_index_or books k no_book
 
--- each was seen in the book of its node
+-- what was seen of each node's past is of that node's book
 abbrev pub AreOfBooks : List BookName → List (Known TapeEntry) → Type 0
 AreOfBooks books seen = (k : ℕ) → k < length seen → (seen_at seen k).book ≡ book_at books k
 
--- nothing has happened
+-- nothing has happened in any of these pasts
 abbrev pub AreBlank : List (Known TapeEntry) → Type 0
 AreBlank pasts = (k : ℕ) (d : Known TapeEntry) → k < length pasts → (slice_index_or pasts k d).log ≡ []
 
--- the books of pasts
+-- the books of these pasts
 abbrev pub books_of : List (Known TapeEntry) → List BookName
 books_of [] = []
 books_of (past ∷ pasts) = past.book ∷ books_of pasts

@@ -1,4 +1,4 @@
--- What was put in its place at the end of a host.
+-- What was put at the places of nodes at the end of a host.
 use Rattle.std.specs.Prelude.{◌≡◌, ◌≤◌, Bool, List, [], ◌∷◌, ◌++◌, Option, vec_len, vec_capacity}
 use Rattle.std.specs.FinSet as set
 use Rattle.std.specs.Ordering.{nat_cmp}
@@ -9,7 +9,7 @@ use Rattle.gb_host.specs.Closing.{AreReplays, IsClosed}
 use Rattle.gb_host.specs.declared.closed.Closed.{Closed}
 use Rattle.gb_host.specs.declared.plan.HostPlan.{HostPlan}
 
--- a node and its tape more
+-- one more node and its tape were added
 abbrev pub HasAdded : HostPlan → Bool → NodeId → Closed → Closed → Type 0
 HasAdded p is_here me old new =
     (node : Option NodeValue) × (tape : List TapeEntry) × (new.nodes.items ≡ old.nodes.items ++ node ∷ []) × (new.tapes.items ≡ old.tapes.items ++ tape ∷ []) × IsClosed p is_here me node tape

@@ -9,17 +9,17 @@ pub record OutletValue : Type 0 where
   pub node : NodeId
   -- all that went in, the oldest first
   pub entries : List TapeEntry
-  -- for how many more there is room, at least
+  -- at least this number of further values have room
   pub free : ℕ
 
 pub record RecorderValue : Type 0 where
   pub node : NodeId
   -- all that was taken, the oldest first
   pub entries : List TapeEntry
-  -- nothing more comes
+  -- nothing more comes after the entries
   pub is_whole : Bool
 
--- what a recorder has, once it took this
+-- what a recorder has after it took this
 abbrev pub IsTaken : Taken → RecorderValue → RecorderValue → Type 0
 IsTaken (Entry e) old new = (old.is_whole ≡ false) × (new.is_whole ≡ false) × (new.entries ≡ old.entries ++ e ∷ [])
 IsTaken End old new = (old.is_whole ≡ false) × (new.is_whole ≡ true) × (new.entries ≡ old.entries)

@@ -1,4 +1,4 @@
--- What goes through the ring from a node to its recorder: that it begins, what happened, in order, and that it ended.
+-- What goes through the ring from a node to its recorder: a beginning, then what happened, in order, then an end.
 use Rattle.std.specs.Prelude.{ℕ, ◌≡◌, ◌<◌, Bool, true, false, List, [], ◌∷◌, ◌++◌, Option, Some, None}
 use Rattle.gb_past.specs.Story.{Known}
 use Rattle.gb_types.specs.declared.node.NodeId.{NodeId}
@@ -27,14 +27,14 @@ entries_of (Begin b ∷ xs) = entries_of xs
 entries_of (Entry e seen ∷ xs) = e ∷ entries_of xs
 entries_of (End past ∷ xs) = entries_of xs
 
--- nothing else was noted
+-- only entries were noted
 abbrev pub AreEntries : List Noted → Type 0
 AreEntries [] = Unit {0}
 AreEntries (Begin b ∷ xs) = ⊥
 AreEntries (Entry e seen ∷ xs) = AreEntries xs
 AreEntries (End past ∷ xs) = ⊥
 
--- what may be noted of a node after these entries: what happened next, or that this was all
+-- what may be noted of a node after these entries: what happened next, or the end
 abbrev pub IsNext : HostPlan → List BookName → NodeId → List TapeEntry → Noted → Type 0
 IsNext p books b entries (Begin c) = ⊥
 IsNext p books b entries (Entry e seen) = IsPast p books b (entries ++ e ∷ []) seen
@@ -45,14 +45,14 @@ IsBegin (Begin b) = Unit {0}
 IsBegin (Entry e seen) = ⊥
 IsBegin (End past) = ⊥
 
--- what may be noted after the rest
+-- what may be noted after these values
 abbrev pub Follows : HostPlan → List BookName → List Noted → Noted → Type 0
 Follows p books [] x = IsBegin x
 Follows p books (Begin b ∷ before) x = AreEntries before × IsNext p books b (entries_of before) x
 Follows p books (Entry e seen ∷ before) x = ⊥
 Follows p books (End past ∷ before) x = ⊥
 
--- the ring of a node, through which entries went alone
+-- the ring of a node, through which only entries went after its beginning
 abbrev pub HasBegun : NodeId → List Noted → Type 0
 HasBegun b noted = (more : List Noted) × (noted ≡ Begin b ∷ more) × AreEntries more
 
@@ -61,7 +61,7 @@ abbrev pub is_handed : Option (Known TapeEntry) → Bool
 is_handed None = false
 is_handed (Some past) = true
 
--- what is known of the entries that were taken, until their past was handed over, and then
+-- only entries were taken until the past was handed over; then these entries are all that is known of it
 abbrev pub IsToldBy : HostPlan → List BookName → NodeId → List Noted → Option (Known TapeEntry) → Type 0
 IsToldBy p books b more None = AreEntries more
 IsToldBy p books b more (Some past) = IsPast p books b (entries_of more) past

@@ -21,7 +21,8 @@ use gb_types::node::{NodeId, NodeSet};
 use std::alloc::Global;
 use std::sync::Mutex;
 
-// The seats' lists by number. Each number below the count stands once, else a seat is foreign.
+// Returns the seats' lists, ordered by the seats' numbers. `Err` with `ForeignSeat` unless each number below `count` stands
+// once.
 fn by_number<L: Tapes>(
     alloc: Global,
     count: u32,
@@ -45,7 +46,7 @@ fn by_number<L: Tapes>(
     Ok(lists)
 }
 
-// This number of empty lists. None of them was given.
+// Returns `count` empty lists, and `count` marks that say that no list was given yet.
 fn blanks(alloc: Global, count: u32) -> Result<(Vec<CallList>, Vec<bool>), HostFault>
     ensures len { IfOk result (λ r. (vec_len r.0 ≡ count) × (vec_len r.1 ≡ count)) }
     ensures blank { IfOk result (λ r. (s : ℕ) → list_at r.0.items s ≡ []) }
@@ -61,7 +62,7 @@ fn blanks(alloc: Global, count: u32) -> Result<(Vec<CallList>, Vec<bool>), HostF
     Ok((lists, given))
 }
 
-// Puts a seat's calls under its number. False where that is too high, or was given.
+// Puts a seat's calls under its number. Returns false if the number is not below the number of lists, or was given before.
 fn put_list<L: Tapes>(seat: Seat<L>, lists: &mut [CallList], given: &mut [bool]) -> bool
     requires { length given.old ≡ length lists.old }
     ensures free { result ≡ true → (seat.number < length lists.old) × (slice_index_or given.old seat.number true ≡ false) }
@@ -78,7 +79,7 @@ fn put_list<L: Tapes>(seat: Seat<L>, lists: &mut [CallList], given: &mut [bool])
     true
 }
 
-// The node of the next place, where there is one more.
+// Returns the node whose place is next, if the cluster has one more.
 fn next_of(closed: &Closed, nodes: u8) -> Option<NodeId>
     requires { nodes ≤ NODES }
     ensures { IfSome result (λ b. (b.number ≡ vec_len closed.now.nodes) × (b.number < nodes)) }
@@ -89,7 +90,7 @@ fn next_of(closed: &Closed, nodes: u8) -> Option<NodeId>
     Some(NodeId::new(closed.nodes.len() as u8))
 }
 
-// What stands under a lock, where this is the node.
+// Returns the node under a lock and its tape, or `None` if the node is not `me`.
 fn taken_of<L: Tapes>(lock: Mutex<Hosted<L>>, me: NodeId) -> Option<(Node, Tape)>
     ensures { IfSome result (λ r. IsReplay L.plan me r.0 r.1) }
 {
@@ -101,7 +102,7 @@ fn taken_of<L: Tapes>(lock: Mutex<Hosted<L>>, me: NodeId) -> Option<(Node, Tape)
     Some(hosted.into_parts())
 }
 
-// Adds what stands under the lock of a node that is here.
+// Adds the node under the lock, and its tape. `Err` with `NoNode` if another node stands there.
 fn add_node<L: Tapes>(
     closed: &mut Closed,
     me: NodeId,
@@ -130,7 +131,7 @@ fn add_none(alloc: Global, plan: &HostPlan, closed: &mut Closed, me: NodeId)
     closed.tapes.push_reserved(Tape::from(Vec::new(alloc)));
 }
 
-// Adds what stands at the place of a node.
+// Adds what stands at the place of the node `me`: its node and tape if the node is here, otherwise none and an empty tape.
 fn add_place<L: Tapes>(
     alloc: Global,
     plan: &HostPlan,
@@ -163,7 +164,7 @@ fn add_place<L: Tapes>(
     }
 }
 
-// Adds what stands at the next place.
+// Adds what stands at the place of the next node.
 fn add_next<L: Tapes>(
     alloc: Global,
     closed: &mut Closed,
@@ -184,7 +185,7 @@ fn add_next<L: Tapes>(
     add_place(alloc, &plan, closed, me, here.contains(me), place)
 }
 
-// The nodes and tapes of all places.
+// Returns the nodes and tapes of all places.
 fn take_apart<L: Tapes>(
     alloc: Global,
     plan: HostPlan,
@@ -214,7 +215,7 @@ fn take_apart<L: Tapes>(
     Ok(closed)
 }
 
-// The list with a number.
+// Returns the list with this number, or an empty list if there is none.
 fn list_with(alloc: Global, lists: Vec<CallList>, seat: u32) -> CallList
     ensures { result ≡ list_at lists.items seat }
 {
@@ -226,8 +227,8 @@ fn list_with(alloc: Global, lists: Vec<CallList>, seat: u32) -> CallList
     }
 }
 
-/// Closes a host: each node that was here is the replay of its tape, the tape of any other is empty, and each seat's calls are its
-/// entries in the tapes. Host and seats are given up in every case.
+/// Closes a host: each node that was here is the replay of its tape, the tape of any other node is empty, and each seat's calls
+/// are its entries in the tapes. Host and seats are given up, also with `Err`.
 pub fn close<L: Tapes>(host: Host<L>, seats: Vec<Seat<L>>) -> Result<Closed, HostFault>
     ensures len { IfOk result (λ c. (vec_len c.nodes ≡ host.plan.cluster.nodes) × (vec_len c.tapes ≡ host.plan.cluster.nodes)) }
     ensures replays { IfOk result (λ c. AreReplays host.plan host.here host.plan.cluster.nodes c.nodes.items c.tapes.items) }

@@ -7,25 +7,26 @@ use gb_node::node::Node;
 use gb_node::tape::Tape;
 use gb_types::node::NodeId;
 
-/// The nodes that were here and their tapes, each at the place of its number. A place of another node has none, and an empty tape.
+/// The nodes that were here and their tapes, each at the index of the node's number. For any other node there is no node, and an
+/// empty tape.
 #[derive(Drop)]
 pub struct Closed {
     pub nodes: Vec<Option<Node>>,
     pub tapes: Vec<Tape>,
 }
 
-/// What is left of a node that was here, by its name.
+/// What is left of a node that was here.
 #[derive(Clone, Copy)]
 pub struct LeftNode<'a> {
-    /// Which node it is.
+    /// The node's number.
     pub id: NodeId,
     pub node: &'a Node,
-    /// What happened there; empty where memory held no tapes.
+    /// What happened at the node; empty if memory held no tapes.
     pub tape: &'a Tape,
 }
 
 impl Closed {
-    /// What is left of a node. None where it was not here.
+    /// Returns what is left of a node, or `None` if the node was not here.
     pub fn left_of(&self, id: NodeId) -> Option<LeftNode<'_>>
         ensures some { IfSome result (λ left. (left.id ≡ id) × IsLeftOf id.number left.node.now left.tape.now self.now.nodes.items self.now.tapes.items) }
         ensures none { IfNone result (IsNotLeft id.number self.now.nodes.items self.now.tapes.items) }
@@ -37,12 +38,12 @@ impl Closed {
     }
 }
 
-/// A seat's calls that are not its entries in the tapes.
+/// A seat whose calls are not its entries in the tapes.
 pub struct Difference {
     pub closed: Closed,
     /// The seat's number.
     pub seat: u32,
-    /// Its calls; none where no seat has the number.
+    /// Its calls; empty if no seat has the number.
     pub list: CallList,
 }
 

@@ -1,4 +1,4 @@
-//! Seats' calls against their entries in the tapes. Each tape is walked once, whatever the number of seats.
+//! Compares the seats' calls with their entries in the tapes. Each tape is walked once, whatever the number of seats.
 ghost use Rattle.std.specs.Prelude.{◌≡◌, ◌≢◌, ◌↔◌, ◌<◌, ◌≤◌, ◌^◌, ◌∷◌, ◌++◌, ℕ, List, true, false, [], drop, length, IsTrue, IfOk, IfSome, IfNone, vec_len};
 ghost use Rattle.std.specs.Bool.{MatchBool};
 ghost use Rattle.gb_types.specs.declared.limits.TheConstants.{NODES};
@@ -12,21 +12,21 @@ use gb_node::tape::{Tape, TapeEntry};
 use gb_types::memory::OutOfMemory;
 use std::alloc::Global;
 
-/// How far a list was walked for a node: the place where it goes on, and how many of its calls are behind.
+/// How far a list was walked for a node: the place where the walk goes on, and the number of the node's calls before it.
 #[derive(Clone, Copy)]
 pub struct Cursor {
     pub place: usize,
     pub count: u64,
 }
 
-// Whether both have one event and one answer.
+// Returns true if the tape's entry and the seat's call have the same event and the same answer.
 fn is_call(noted: &TapeEntry, made: &SeatEntry) -> bool
     ensures { IsTrue result ↔ ((noted.now.event ≡ made.now.event) × (noted.now.answer ≡ made.now.answer)) }
 {
     noted.event.is(&made.event) && noted.answer.is(&made.answer)
 }
 
-// The first call at the node from a place on, and the place after it.
+// Returns the first call at the node from `place` on, with the place after it, or `None` if there is no such call.
 fn next_at(list: &[SeatEntry], node: u8, place: usize) -> Option<(&SeatEntry, usize)>
     ensures some { IfSome result (λ r. calls_at node (drop place list.now) ≡ (r.0.now.event, r.0.now.answer) ∷ calls_at node (drop r.1 list.now)) }
     ensures within { IfSome result (λ r. (place < r.1) × (r.1 ≤ length list.now)) }
@@ -40,7 +40,7 @@ fn next_at(list: &[SeatEntry], node: u8, place: usize) -> Option<(&SeatEntry, us
     None
 }
 
-// Whether an entry is its seat's next call at the node; then the seat's cursor goes on.
+// Returns true if the entry is its seat's next call at the node, and then moves the seat's cursor past that call.
 fn take_call(noted: &TapeEntry, lists: &[CallList], node: u8, cursors: &mut [Cursor]) -> bool
     requires as_many { length cursors.old ≡ length lists.now }
     requires bounded { AreBounded cursors.old lists.now }
@@ -67,7 +67,7 @@ fn take_call(noted: &TapeEntry, lists: &[CallList], node: u8, cursors: &mut [Cur
     true
 }
 
-// A seat that has calls at the node which no entry was.
+// Returns the number of a seat with a call at the node that was no entry of the tape, if there is one.
 fn left_over(lists: &[CallList], node: u8, cursors: &[Cursor]) -> Option<u32>
     requires as_many { length cursors.now ≡ length lists.now }
     requires few { length lists.now < 2 ^ 32 }
@@ -82,7 +82,7 @@ fn left_over(lists: &[CallList], node: u8, cursors: &[Cursor]) -> Option<u32>
     None
 }
 
-// Returns a cursor at the beginning of each of this number of lists.
+// Returns a cursor at the beginning of each list.
 fn beginnings(alloc: Global, lists: &[CallList]) -> Result<Vec<Cursor>, OutOfMemory>
     ensures as_many { IfOk result (λ c. vec_len c ≡ length lists.now) }
     ensures bounded { IfOk result (λ c. AreBounded c.items lists.now) }
@@ -95,7 +95,7 @@ fn beginnings(alloc: Global, lists: &[CallList]) -> Result<Vec<Cursor>, OutOfMem
     Ok(cursors)
 }
 
-// The number of a seat whose entries in a tape are not its calls at the tape's node.
+// Returns the number of a seat whose entries in the tape are not its calls at the tape's node, or `Ok(None)` if there is none.
 fn differing_in(
     alloc: Global,
     tape: &[TapeEntry],
@@ -115,7 +115,7 @@ fn differing_in(
     Ok(left_over(lists, node, cursors.as_slice()))
 }
 
-// Returns true if the number of a call's node is not below this number of nodes.
+// Returns true if a call in the list is at a node whose number is not below `nodes`.
 fn is_misplaced(list: &[SeatEntry], nodes: usize) -> bool
     ensures { MatchBool result ((k : ℕ) × (nodes ≤ k) × (calls_at k list.now ≢ [])) ((k : ℕ) → nodes ≤ k → calls_at k list.now ≡ []) }
 {
@@ -127,7 +127,7 @@ fn is_misplaced(list: &[SeatEntry], nodes: usize) -> bool
     false
 }
 
-// Returns the number of a list with a call at a node whose number is not below this number of nodes.
+// Returns the number of a list with a call at a node whose number is not below `nodes`, if there is one.
 fn misplaced(lists: &[CallList], nodes: usize) -> Option<u32>
     requires few { length lists.now < 2 ^ 32 }
     ensures some { IfSome result (λ s. (k : ℕ) × (nodes ≤ k) × (calls_at k (list_at lists.now s) ≢ [])) }
@@ -141,7 +141,7 @@ fn misplaced(lists: &[CallList], nodes: usize) -> Option<u32>
     None
 }
 
-/// The number of a seat whose calls are not its entries in the tapes, if there is one.
+/// Returns the number of a seat whose calls are not its entries in the tapes, or `Ok(None)` if there is none.
 pub fn differing(
     alloc: Global,
     tapes: &[Tape],

@@ -1,4 +1,4 @@
-//! Copies of a call, where it is kept.
+//! Copies of a call, for the memory or the ring in which it is kept.
 ghost use Rattle.std.specs.Prelude.{◌≡◌, ◌≢◌, ◌≤◌, [], true, false, vec_capacity, IfOk, IfErr, OnErr};
 ghost use Rattle.gb_node.specs.NodeStep.{IsTurn, IsSpelt};
 ghost use Rattle.gb_node.specs.Reads.{is_read, packet_room};
@@ -37,7 +37,7 @@ pub enum Copies {
     ForRing(NodeAnswer),
 }
 
-// An event at a node, its answer, and copies of both where they are kept.
+// Makes the event happen at the node, and returns the answer with the copies of both that are kept.
 pub(crate) fn answers(
     alloc: Global,
     way: Way,
@@ -65,7 +65,7 @@ pub(crate) fn answers(
     }
 }
 
-// An event at a node that sends this version, its answer, and a copy of that.
+// Makes the event happen at the node, which sends this version, and returns the answer with one copy of it.
 fn ring_answers(
     alloc: Global,
     version: Version,
@@ -109,7 +109,7 @@ fn read_answer(
     Ok((answer, copy))
 }
 
-// An event at a node that sends this version, its answer, and copies for memory.
+// Makes the event happen at the node, which sends this version, and returns the answer with the copies for memory.
 fn memory_answers(
     alloc: Global,
     version: Version,
@@ -145,7 +145,7 @@ fn memory_answers(
     }
 }
 
-// The answer to an event that only reads, and two copies of it.
+// Returns the answer to an event that only reads, and two copies of it.
 fn read_answers(
     alloc: Global,
     node: &mut Node,
@@ -169,7 +169,7 @@ fn read_answers(
     Ok((answer, for_tape, for_list))
 }
 
-// The answer to an event that may change a node that sends this version, and two copies of it.
+// Makes an event happen that may change the node, which sends this version, and returns the answer and two copies of it.
 fn changed_answers(
     alloc: Global,
     version: Version,
@@ -192,7 +192,7 @@ fn changed_answers(
     Ok((answer, for_tape, for_list))
 }
 
-// Two copies of an answer.
+// Returns two copies of an answer.
 fn two_copies(alloc: Global, answer: &NodeAnswer) -> Result<(NodeAnswer, NodeAnswer), HostFault>
     ensures copies { IfOk result (λ r. (r.0 ≡ answer.now) × (r.1 ≡ answer.now)) }
     ensures fault { IfErr result (λ why. why ≡ HostFault.OutOfMemory) }
@@ -205,7 +205,7 @@ fn two_copies(alloc: Global, answer: &NodeAnswer) -> Result<(NodeAnswer, NodeAns
     Ok((for_tape, for_list))
 }
 
-// Room for a copy of the answer to an event that may change a node that sends this version.
+// Returns a buffer with room for a copy of the answer to an event that may change a node that sends this version.
 fn room(alloc: Global, version: Version, event: &NodeEvent) -> Result<Vec<u8>, HostFault>
     ensures empty { IfOk result (λ room. room.items ≡ []) }
     ensures room { IfOk result (λ room. packet_room version event.now ≤ vec_capacity room) }

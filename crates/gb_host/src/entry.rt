@@ -7,7 +7,7 @@ use gb_types::node::NodeId;
 use std::alloc::Global;
 use std::marker::Model;
 
-/// A call of a seat: the event, at which node, and the answer.
+/// A call of a seat: the node, the event and the answer.
 #[derive(Drop)]
 pub struct SeatEntry {
     pub node: NodeId,
@@ -36,7 +36,7 @@ impl Model for CallList {
 }
 
 impl CallList {
-    /// No calls.
+    /// Returns an empty list.
     pub fn new(alloc: Global) -> CallList
         ensures { result ≡ [] }
     {

@@ -5,20 +5,20 @@ use crate::closed::Difference;
 use gb_types::memory::OutOfMemory;
 use std::alloc::AllocError;
 
-/// Why a host refused. Nothing has changed then, but that `close` has given up host and seats.
+/// Why a host refused. Nothing has changed then, except that `close` has given up host and seats.
 #[derive(Drop)]
 pub enum HostFault {
-    /// The node is not here. At the end: another node stands under a lock than the one with its number.
+    /// The node is not here. From `close`: under a lock stands another node than the one with its number.
     NoNode,
-    /// At the end, the seats are not those of the host: a number stands twice, or not at all.
+    /// From `close`: the seats are not those of the host. A number stands twice, or not at all.
     ForeignSeat,
-    /// At the end, a seat's calls are not its entries in the tapes.
+    /// From `close`: a seat's calls are not its entries in the tapes.
     Differs(Difference),
     /// A request for memory was refused.
     OutOfMemory,
     /// The seat has called the node 2^64 - 1 times.
     Full,
-    /// The node's recorder is behind: as many entries wait for it as its ring holds.
+    /// The node's recorder is behind: its ring is full of entries that wait for it.
     Behind,
 }
 

@@ -1,11 +1,11 @@
-//! Which nodes are here.
+//! Sets of the nodes that are here.
 ghost use Rattle.std.specs.Prelude.{ℕ, ◌≡◌, ◌<◌, ◌≤◌, true};
 ghost use Rattle.std.specs.FinSet as set;
 ghost use Rattle.gb_types.specs.declared.limits.TheConstants.{NODES};
 
 use gb_types::node::{NodeId, NodeSet};
 
-/// All nodes of a cluster that has this number of them.
+/// Returns all nodes of a cluster of `nodes` nodes.
 pub fn all_nodes(nodes: u8) -> NodeSet
     requires { nodes ≤ NODES }
     ensures whole { (k : ℕ) → k < nodes → set.contains result k ≡ true }
@@ -18,7 +18,7 @@ pub fn all_nodes(nodes: u8) -> NodeSet
     here
 }
 
-/// One node alone.
+/// Returns the set of one node.
 pub fn only(node: NodeId) -> NodeSet
     ensures has { set.contains result node.number ≡ true }
     ensures others { (k : ℕ) → set.contains result k ≡ true → k ≡ node.number }

@@ -27,8 +27,8 @@ use std::alloc::Global;
 use std::marker::Model;
 use std::sync::{Mutex, Wait};
 
-/// Some nodes of a cluster, each under a lock of its own at the place of its number. Contracts see the plan, which nodes are here
-/// and the number of seats.
+/// Some nodes of a cluster, each under a lock of its own, at the index of its number. Contracts see the plan, which nodes are
+/// here and the number of seats.
 #[derive(Drop)]
 pub struct Host<L: Tapes> {
     alloc: Global,
@@ -56,9 +56,9 @@ impl<L: Tapes> Model for Host<L> {
 }
 
 impl<L: Tapes> Host<L> {
-    /// A host of these nodes of the plan, this number of seats, numbered from 0, and, where what happens goes through rings, a
-    /// recorder for each node that is here, at the place of its number. The pasts are those of all nodes of the plan, by number, in
-    /// which nothing has happened.
+    /// Opens a host of the nodes `here` of the plan. Returns it with `seats` seats, numbered from 0, and, at the index of its
+    /// number, a recorder for each node that is here if what happens goes through rings, otherwise none. `pasts` are the pasts
+    /// of all nodes of the plan, by number, in which nothing has happened.
     pub fn open(
         alloc: Global,
         plan: HostPlan,
@@ -94,7 +94,7 @@ impl<L: Tapes> Host<L> {
         Ok((host, given, recorders))
     }
 
-    /// The plan.
+    /// Returns the plan.
     pub fn plan(&self) -> HostPlan
         ensures is { (result ≡ self.now.plan) × (result ≡ L.plan) }
         ensures limits { IsPlan result }
@@ -102,7 +102,7 @@ impl<L: Tapes> Host<L> {
         self.plan
     }
 
-    /// The nodes that are here.
+    /// Returns the nodes that are here.
     pub fn here(&self) -> &NodeSet
         ensures is { result.now ≡ self.now.here }
         ensures within { AreHere self.now.plan result.now }
@@ -110,7 +110,7 @@ impl<L: Tapes> Host<L> {
         &self.here
     }
 
-    /// One event at a node.
+    /// Makes one event happen at a node, and returns its answer.
     pub fn call<R: Wait>(
         &self,
         rt: &R,
@@ -128,7 +128,8 @@ impl<L: Tapes> Host<L> {
         self.call_at(rt, seat, node, event, &mut Open)
     }
 
-    /// One event at a node, the gate being passed while the node's lock is held, whatever it answers.
+    /// Makes one event happen at a node, and returns its answer. The gate is passed while the node's lock is held; its result is
+    /// ignored.
     pub fn call_at<R: Wait, G: Gate>(
         &self,
         rt: &R,
@@ -156,9 +157,9 @@ impl<L: Tapes> Host<L> {
         hosted.step(seat, event)
     }
 
-    /// Lists a node's groups from a place on, at most `most` of them, in the order in which they were made, for who has the
-    /// administrator's token; refused as by `Node::list`. It is no event: nothing changes, and no past and no tape has it.
-    /// None: the node is not here.
+    /// Lists at most `most` of a node's groups from the place `from` on, in the order in which they were made. The token has to
+    /// be the administrator's. It is refused as by `Node::list`. A list is no event: nothing changes, and it stands in no past
+    /// and no tape. Returns `None` if the node is not here.
     pub fn list<R: Wait>(
         &self,
         rt: &R,
@@ -182,7 +183,7 @@ impl<L: Tapes> Host<L> {
         Some(hosted.list(token, from, most))
     }
 
-    // The lock at the place of a node that is here.
+    // Returns the lock at the place of a node that is here.
     fn lock_of<R: Wait>(&self, rt: &R, node: NodeId) -> &Mutex<Hosted<L>> {
         if let Some(Some(lock)) = self.nodes.get(node.index()) {
             return lock;
@@ -190,8 +191,8 @@ impl<L: Tapes> Host<L> {
         never(rt)
     }
 
-    /// Gives up the host and its nodes. Where what happens goes through rings each recorder is told that it has all, which is
-    /// waited for where its ring is full; a recorder that is gone is not waited for.
+    /// Gives up the host and its nodes. If there are rings, each recorder is told that it has all entries. This waits while a
+    /// ring is full, unless its recorder is gone.
     pub fn finish<R: Wait>(self, rt: &R) {
         let Host {
             alloc: _,
@@ -208,7 +209,7 @@ impl<L: Tapes> Host<L> {
         }
     }
 
-    /// Gives up the host for its parts.
+    /// Gives up the host and returns its parts.
     pub(crate) fn into_parts(
         self,
     ) -> (
@@ -234,14 +235,14 @@ impl<L: Tapes> Host<L> {
     }
 }
 
-// Waits for ever. `open` puts each node that is here under the lock at its place, which no clause can say of a lock; so a call
-// does not go on where another node stood there.
+// Waits for ever. `open` puts each node that is here under the lock at its place, but no clause can say that of a lock. So a
+// call that found another node there does not go on.
 fn never<R: Wait>(rt: &R) -> ! {
     for _ in rt.forever() {}
     unreachable!()
 }
 
-// A node with its past, if it is here, and its recorder.
+// Returns a node with its past under its lock, and its recorder, if the node is here.
 #[tactic(auto, using(crate::proofs::OpenLemmas::opened_here, crate::proofs::OpenLemmas::opened_away))]
 fn open_node<L: Tapes>(
     alloc: Global,
@@ -275,7 +276,7 @@ fn open_node<L: Tapes>(
 /// The nodes of a plan under their locks, and their recorders, each at the place of its number.
 type Opened<L> = (Vec<Option<Mutex<Hosted<L>>>>, Vec<Option<Recorder<L>>>);
 
-// The nodes of a plan that are here, each with its past, and their recorders.
+// Returns the nodes of a plan that are here, each with its past, and their recorders.
 fn open_nodes<L: Tapes>(
     alloc: Global,
     plan: HostPlan,
@@ -305,7 +306,7 @@ fn open_nodes<L: Tapes>(
     Ok((nodes, recorders))
 }
 
-// What is seen of pasts in which nothing has happened.
+// Returns what is seen of pasts in which nothing has happened: nothing yet.
 fn seen_of(alloc: Global, pasts: &[NodePast]) -> Result<Vec<NodeSeen>, HostFault>
     requires { AreBlank pasts.now }
     ensures len { IfOk result (λ seen. vec_len seen ≡ length pasts.now) }
@@ -320,7 +321,7 @@ fn seen_of(alloc: Global, pasts: &[NodePast]) -> Result<Vec<NodeSeen>, HostFault
     Ok(seen)
 }
 
-// This number of seats, which have seen nothing of these pasts.
+// Returns `seats` seats that have seen nothing of these pasts.
 fn open_seats<L: Tapes>(
     alloc: Global,
     seats: u32,

@@ -31,7 +31,7 @@ use std::alloc::Global;
 use std::marker::Model;
 use std::sync::Wait;
 
-/// A node that its past leads to. Contracts see the whole past; it is kept as the plan says.
+/// A node and its past. Contracts see the whole past; memory keeps of it what the plan says.
 #[derive(Drop)]
 pub struct Hosted<L: Tapes> {
     alloc: Global,
@@ -62,7 +62,7 @@ impl<L: Tapes> Model for Hosted<L> {
 }
 
 impl<L: Tapes> Hosted<L> {
-    /// A node at which nothing has happened.
+    /// Returns a node at which nothing has happened.
     pub fn new(
         alloc: Global,
         plan: HostPlan,
@@ -85,6 +85,7 @@ impl<L: Tapes> Hosted<L> {
             version: plan.cluster.bounds().version_of(me),
             silence: plan.cluster.silence,
             places: plan.cluster.places,
+            room: plan.cluster.room,
             cluster_key,
             admin_key,
             tape: plan.tape,
@@ -146,7 +147,7 @@ impl<L: Tapes> Hosted<L> {
         self.node.list(token, from, most)
     }
 
-    /// Which node it is.
+    /// Returns which node it is.
     pub fn me(&self) -> NodeId
         ensures { result ≡ self.now.me }
     {

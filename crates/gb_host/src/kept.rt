@@ -18,18 +18,18 @@ use gb_node::tape::TapeEntry;
 use gb_types::node::NodeId;
 use std::alloc::Global;
 
-/// What is kept of a node's past, besides what contracts see.
+/// How a node's past is kept, besides what contracts see of it.
 #[derive(Drop)]
 pub enum Kept<L: Tapes> {
     Nothing,
-    /// Memory holds all of it.
+    /// Memory holds all of the past.
     Memory(Vec<TapeEntry>),
-    /// It goes through a ring to a recorder.
+    /// The past goes through a ring to a recorder.
     Ring(Outlet<L>),
 }
 
 impl<L: Tapes> Kept<L> {
-    /// Which way it is kept.
+    /// Returns where the past is kept.
     pub fn way(&self) -> Way
         ensures { result ≡ way_of self.now }
     {
@@ -41,7 +41,7 @@ impl<L: Tapes> Kept<L> {
     }
 }
 
-// What memory holds.
+// Returns the entries that memory holds.
 pub(crate) fn into_tape<L: Tapes>(alloc: Global, kept: Kept<L>) -> Vec<TapeEntry>
     ensures { result.items ≡ tape_in kept }
 {
@@ -55,7 +55,7 @@ pub(crate) fn into_tape<L: Tapes>(alloc: Global, kept: Kept<L>) -> Vec<TapeEntry
     }
 }
 
-/// How the past of a node at which nothing has happened is kept, and its recorder where it goes through a ring.
+/// Returns how the past is kept of a node at which nothing has happened, with the node's recorder if it goes through a ring.
 #[tactic(auto, using(crate::proofs::OpenLemmas::ringed_taped, crate::proofs::OpenLemmas::ringed_off, crate::proofs::OpenLemmas::ringed_on, crate::proofs::OpenLemmas::kept_off))]
 pub fn kept_at<L: Tapes>(
     alloc: Global,
@@ -81,7 +81,7 @@ pub fn kept_at<L: Tapes>(
     }
 }
 
-// Room for an entry more, in memory in the seat's list too.
+// Makes room for one more entry; if memory holds the tape, also in the seat's list.
 pub(crate) fn make_room<L: Tapes>(
     kept: &mut Kept<L>,
     list: &mut Vec<SeatEntry>,
@@ -108,7 +108,7 @@ pub(crate) fn make_room<L: Tapes>(
     }
 }
 
-// Keeps a call that the node's past has, in memory also in the seat's list.
+// Keeps a call that the node's past has; if memory holds the tape, also in the seat's list.
 pub(crate) fn keep<L: Tapes>(
     kept: &mut Kept<L>,
     list: &mut Vec<SeatEntry>,

@@ -9,15 +9,15 @@ use std::marker::PhantomData;
 /// What goes through the ring from a node to its recorder.
 #[derive(Drop)]
 pub enum Noted {
-    /// The ring is that of this node. It goes first.
+    /// The first value of the ring: which node it is of.
     Begin(NodeId),
-    /// What happened next at the node, and a witness of its past with this entry.
+    /// What happened next at the node, and a witness of the node's past with this entry.
     Entry(TapeEntry, NodeSeen),
-    /// Nothing more happens at the node: its past, which no entry is added to any more.
+    /// Nothing more happens at the node. The value hands over its past, to which no entry is added any more.
     End(NodePast),
 }
 
-/// The order in which a node's entries go to its recorder: each is what happened next at one node.
+/// The order in which a node's entries go to its recorder: each entry is what happened next at the ring's node.
 #[derive(Clone, Copy)]
 pub struct InOrder<L: Tapes> {
     marker: PhantomData<L>,

@@ -1,4 +1,4 @@
-//! The end of a ring by which a node notes what happens.
+//! The end of a ring into which a node's entries go.
 ghost use Rattle.std.specs.Prelude.{◌≡◌, ◌<◌, ◌++◌, ◌∷◌, [], true, false, IfOk, IfErr};
 ghost use Rattle.gb_host.specs.Rings.{IsPast};
 
@@ -15,12 +15,13 @@ use std::marker::Model;
 use std::sync::Wait;
 use std::thread;
 
-/// How many entries wait for a recorder at most.
+/// The number of entries that wait for a recorder at most.
 pub const WAITING: usize = 16_384;
 
 const _: () = prove!(WAITING == 16_384);
 
-/// Notes what happens at a node for its recorder. Contracts see the node and all that was noted, which no memory holds.
+/// Sends what happens at a node to its recorder. Contracts see the node and all entries that were sent; memory does not hold
+/// them.
 #[derive(Drop)]
 pub struct Outlet<L: Tapes> {
     node: NodeId,
@@ -46,7 +47,7 @@ impl<L: Tapes> Model for Outlet<L> {
 }
 
 impl<L: Tapes> Outlet<L> {
-    /// Whether there is room for an entry more.
+    /// Returns true if there is room for one more entry.
     pub fn has_room(&mut self) -> bool
         ensures same { (self.new.node ≡ self.old.node) × (self.new.entries ≡ self.old.entries) }
         ensures room { result ≡ true → 0 < self.new.free }
@@ -54,7 +55,7 @@ impl<L: Tapes> Outlet<L> {
         !self.out.is_full()
     }
 
-    /// Notes what happened next at the node, once its past has it.
+    /// Sends what happened next at the node, once the node's past has it.
     #[tactic(auto, using(crate::proofs::RingLemmas::follows_entry, crate::proofs::RingLemmas::begun_more, crate::proofs::RingLemmas::entries_more))]
     pub fn push(&mut self, entry: TapeEntry, past: &NodePast)
         requires room { 0 < self.old.free }
@@ -66,14 +67,14 @@ impl<L: Tapes> Outlet<L> {
         self.out.push_reserved(Noted::Entry(entry, seen));
     }
 
-    // Whether the recorder is gone.
+    // Returns true if the recorder is gone.
     fn is_gone(&mut self) -> bool
         ensures { (self.new.node ≡ self.old.node) × (self.new.entries ≡ self.old.entries) }
     {
         self.out.is_abandoned()
     }
 
-    // Waits for room. False where the recorder is gone.
+    // Waits until there is room. Returns false if the recorder is gone.
     fn wait_for_room<R: Wait>(&mut self, rt: &R) -> bool
         ensures same { (self.new.node ≡ self.old.node) × (self.new.entries ≡ self.old.entries) }
         ensures room { result ≡ true → 0 < self.new.free }
@@ -90,7 +91,7 @@ impl<L: Tapes> Outlet<L> {
         unreachable!()
     }
 
-    /// Hands the node's past to the recorder, once there is room for it. Nothing is handed where the recorder is gone.
+    /// Hands the node's past to the recorder, once there is room for it. Hands over nothing if the recorder is gone.
     #[tactic(auto, using(crate::proofs::RingLemmas::follows_end))]
     pub fn end<R: Wait>(self, rt: &R, past: NodePast)
         requires { IsPast L.plan L.books self.node self.entries past }
@@ -103,7 +104,7 @@ impl<L: Tapes> Outlet<L> {
     }
 }
 
-/// The two ends of a ring from a node, whose past is this and at which nothing has happened, to its recorder.
+/// Returns the two ends of a ring from a node to its recorder. `past` is the node's past, in which nothing has happened.
 #[tactic(auto, using(crate::proofs::RingLemmas::begun_new))]
 pub fn ring_of<L: Tapes>(
     alloc: Global,

@@ -1,4 +1,4 @@
-//! Pasts of nodes and of seats: lists that contracts see and no memory holds.
+//! Pasts of nodes and of seats: lists that contracts see and memory does not hold.
 ghost use Rattle.std.specs.Prelude.{◌≡◌, ◌≤◌, ◌++◌, ◌∷◌, [], IfOk, List, vec_len, vec_capacity};
 ghost use Rattle.gb_node.specs.declared.tape.TapeEntry.{TapeEntry as Noted};
 ghost use Rattle.gb_host.specs.Pasts.{AreBlank};
@@ -13,7 +13,7 @@ use gb_types::memory::OutOfMemory;
 use gb_types::node::NodeId;
 use std::alloc::Global;
 
-/// A story that may be anything.
+/// A story in which any entry may come next.
 pub struct Anything;
 
 impl<E> Story<E> for Anything {
@@ -29,7 +29,7 @@ pub type NodeSeen = Seen<TapeEntry, Anything>;
 /// The calls of a seat, the oldest first.
 pub type SeatPast = Past<SeatEntry, Anything>;
 
-/// A call that happens: at which node, the seat's number, how often the seat called the node before, the event and its answer.
+/// A call: the node, the seat's number, how often the seat called the node before, the event and its answer.
 #[derive(Clone, Copy)]
 pub struct Made<'a> {
     pub node: NodeId,
@@ -39,21 +39,21 @@ pub struct Made<'a> {
     pub answer: &'a NodeAnswer,
 }
 
-/// What a node's past is told of a call.
+/// What a node's past records of a call.
 pub struct AtNode;
 
 impl<'a> Told<Made<'a>, TapeEntry> for AtNode {
     ghost entry = { λ m. record { seat = m.seat; count = m.count; event = m.event.now; answer = m.answer.now } };
 }
 
-/// What a seat's past is told of a call.
+/// What a seat's past records of a call.
 pub struct AtSeat;
 
 impl<'a> Told<Made<'a>, SeatEntry> for AtSeat {
     ghost entry = { λ m. record { node = m.node; event = m.event.now; answer = m.answer.now } };
 }
 
-/// The pasts of this number of nodes at which nothing has happened.
+/// Returns the pasts of `nodes` nodes at which nothing has happened.
 pub fn new_pasts(alloc: Global, nodes: u8) -> Result<Vec<NodePast>, OutOfMemory>
     ensures { IfOk result (λ pasts. (vec_len pasts ≡ nodes) × AreBlank pasts.items) }
 {
@@ -64,7 +64,7 @@ pub fn new_pasts(alloc: Global, nodes: u8) -> Result<Vec<NodePast>, OutOfMemory>
     Ok(pasts)
 }
 
-// Notes a call in its node's past and among its seat's calls, and shows the past to the seat.
+// Adds a call to its node's past and to its seat's calls, and shows the past to the seat.
 pub(crate) fn note(past: &mut NodePast, seen: &mut NodeSeen, calls: &mut SeatPast, call: &Made<'_>)
     requires { seen.old.book ≡ past.old.book }
     ensures past { past.new.log ≡ past.old.log ++ record { seat = call.now.seat; count = call.now.count; event = call.now.event.now; answer = call.now.answer.now } ∷ [] }

@@ -1,4 +1,4 @@
-//! The end of a node's ring by which its recorder takes what happened.
+//! The end of a node's ring from which its recorder takes what happened.
 ghost use Rattle.std.specs.Prelude.{◌≡◌, [], ◌∷◌, false, true, IfSome, IsSome, None};
 ghost use Rattle.rtrb.specs.Ring.{received};
 ghost use Rattle.gb_host.specs.Rings.{IsPast};
@@ -19,12 +19,13 @@ use std::marker::Model;
 pub enum Taken {
     /// What happened next at the node.
     Entry(TapeEntry),
-    /// The node was given up: what was taken is all that happened there.
+    /// The node was given up: the entries that were taken are all that happened there.
     End,
 }
 
-/// Takes what happened at a node, in order. Contracts see the node and all that was taken, which is the beginning of the node's past
-/// at any moment, and the whole of it after the end. Dropped, it takes no more, and once the ring is full the node refuses each call.
+/// Takes what happened at a node, in order. Contracts see the node and all entries that were taken: at any moment a beginning of
+/// the node's past, and after the end the whole of it. A recorder that is dropped takes no more; once its ring is full, the node
+/// refuses each call.
 #[derive(Drop)]
 pub struct Recorder<L: Tapes> {
     node: NodeId,
@@ -52,7 +53,7 @@ impl<L: Tapes> Model for Recorder<L> {
 }
 
 impl<L: Tapes> Recorder<L> {
-    // Nothing was taken yet of a node whose past is seen.
+    // Returns a recorder that has taken nothing yet. `seen` is what is seen of the node's past, in which nothing has happened.
     #[tactic(auto, using(crate::proofs::RingLemmas::taken_new))]
     pub(crate) fn new(
         node: NodeId,
@@ -71,14 +72,14 @@ impl<L: Tapes> Recorder<L> {
         }
     }
 
-    /// Which node it is.
+    /// Returns the node.
     pub fn node(&self) -> NodeId
         ensures { result ≡ self.now.node }
     {
         self.node
     }
 
-    /// Takes what happened next; None where nothing more is there yet, and after the end.
+    /// Takes what happened next. `None` if nothing more is there yet, and after the end.
     #[tactic(auto, using(crate::proofs::RingLemmas::taken_entry, crate::proofs::RingLemmas::taken_end, crate::proofs::RingLemmas::no_begin, crate::proofs::RingLemmas::entries_more, crate::proofs::RingLemmas::entries_ended))]
     pub fn take(&mut self) -> Option<Taken>
         ensures node { self.new.node ≡ self.old.node }
@@ -102,14 +103,16 @@ impl<L: Tapes> Recorder<L> {
         }
     }
 
-    /// A witness of the node's past that knows what was taken and no more. So what was taken is the beginning of the node's past.
+    /// Returns a witness of the node's past that knows exactly the entries that were taken. So these are a beginning of the
+    /// node's past.
     pub fn seen(&self) -> NodeSeen
         ensures { IsPast L.plan L.books self.now.node self.now.entries result }
     {
         self.seen.again()
     }
 
-    /// Gives up the recorder for the node's past, where this ended: what was taken is the whole of it. Nobody else can add to it.
+    /// Gives up the recorder and returns the node's past if it has ended, otherwise `None`. The entries that were taken are then
+    /// the whole past, and nobody else can add to it.
     pub fn into_past(self) -> Option<NodePast>
         ensures whole { IfSome result (IsPast L.plan L.books self.node self.entries) }
         ensures some { self.is_whole ≡ true → IsSome result }

@@ -12,8 +12,8 @@ use gb_types::limits::NODES;
 use std::alloc::Global;
 use std::marker::{Model, PhantomData};
 
-/// A caller: its number, how often it called each node, its calls, and what it has seen of each node's past. No memory holds the
-/// calls but where tapes are kept.
+/// A caller: its number, how often it called each node, its calls, and what it has seen of each node's past. Memory holds the
+/// calls only if tapes are kept.
 #[derive(Drop)]
 pub struct Seat<L: Tapes> {
     pub(crate) number: u32,
@@ -42,7 +42,7 @@ impl<L: Tapes> Model for Seat<L> {
 }
 
 impl<L: Tapes> Seat<L> {
-    // A seat that made no call and has seen nothing of any node's past.
+    // Returns a seat that made no call and has seen nothing of any node's past.
     pub(crate) fn new(alloc: Global, number: u32, seen: Vec<NodeSeen>) -> Seat<L>
         requires limits { IsPlan L.plan }
         requires seen { (vec_len seen ≡ L.plan.cluster.nodes) × AreUnseen seen.items × AreOfBooks L.books seen.items }
@@ -58,15 +58,16 @@ impl<L: Tapes> Seat<L> {
         }
     }
 
-    /// The seat's calls, the oldest first; none where no tapes are kept.
+    /// Returns the seat's calls, the oldest first; empty if no tapes are kept.
     pub fn mine(&self) -> &[SeatEntry]
         ensures { result.now ≡ self.now.list }
     {
         self.list.as_slice()
     }
 
-    /// Each call of the seat has happened at its node: the seat has seen the node's past, to which the node comes, and there its
-    /// calls at the node stand in their order. The function does nothing when it runs; its contract is the law.
+    /// Each call of the seat has happened at its node: the seat has seen a past of the node by which the node comes to a state,
+    /// and in this past the seat's calls at the node stand in their order. The function does nothing when it runs; its contract
+    /// is the law.
     pub fn have_happened(&self)
         ensures { HaveHappened L.plan self.now }
     {
@@ -74,7 +75,7 @@ impl<L: Tapes> Seat<L> {
         let _ = &self.number;
     }
 
-    /// Gives up the seat for its number and its calls.
+    /// Gives up the seat and returns its number and its calls.
     pub fn into_list(self) -> (u32, CallList)
         ensures { (result.0 ≡ self.number) × (result.1 ≡ self.list) }
     {

@@ -1,4 +1,4 @@
--- Which of a list of items are acknowledged at their places.
+-- Which items of a list are acknowledged, by their places.
 use Rattle.std.proofs.Common.{◌≡◌, ℕ, suc, ◌+◌, ◌≤◌, List, [], ◌∷◌, ◌++◌, length, Bool, true, false, ◌&&◌, ◌||◌, refl, sym, ◌∙◌, ap, arith}
 use Rattle.std.proofs.Math.Bool.{or_assoc}
 use Rattle.gb_types.specs.declared.entry.Entry.{Entry}

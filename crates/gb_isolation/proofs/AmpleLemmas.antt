@@ -1,4 +1,4 @@
--- Where no memory was refused in a run, no group's request was.
+-- If no answer of a run refuses for lack of memory, no group's request was refused for it.
 use Rattle.std.proofs.Common.{◌≡◌, List, [], ◌∷◌, true, not, ◌&&◌, refl, ap, ◌∙◌}
 use Rattle.std.proofs.lemmas.Bool.{and_parts}
 use Rattle.gb_types.specs.declared.address.Addr.{Addr}

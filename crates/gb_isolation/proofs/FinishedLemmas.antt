@@ -1,4 +1,4 @@
--- Which own messages of a group are finished: what the past tells of acknowledgements is what the group alone reads from its places.
+-- Which of a node's own messages of a group are finished: the past's acknowledgements say the same as the acknowledged places of the group alone.
 use Rattle.std.proofs.Common.{◌≡◌, ℕ, zero, suc, ◌+◌, ◌<◌, ◌≤◌, List, [], ◌∷◌, length, Bool, true, false, not, ◌&&◌, ◌||◌, cond, nat_eq, refl, sym, ◌∙◌, ap, subst, arith}
 use Rattle.std.specs.Prelude.{filter, if◌then◌else◌}
 use Rattle.std.specs.List.{list_any, range_with_len}

@@ -1,4 +1,4 @@
--- What an event of a run gives a group: where it happens, its commands, and its notices.
+-- What an event of a run adds to the projection on a group: the node, its commands, and its notices.
 use Rattle.std.proofs.Common.{◌≡◌, ◌≢◌, ℕ, zero, suc, ◌+◌, ◌-◌, Bool, true, false, ◌&&◌, nat_eq, List, [], ◌∷◌, ◌++◌, length, Option, Some, None, refl, sym, ap, ◌∙◌, subst, map}
 use Rattle.std.specs.Option.{option_or}
 use Rattle.std.specs.Prelude.{is_some, filter, if◌then◌else◌}

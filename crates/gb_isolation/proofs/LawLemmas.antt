@@ -1,4 +1,4 @@
--- The laws of nodes and links, of which all laws of groups follow.
+-- The laws of nodes and links from which all laws of groups follow.
 use Rattle.std.proofs.Common.{refl}
 use Rattle.gb_node.specs.PastLaw.{PastsSay}
 use Rattle.gb_node.specs.StepLaw.{AnswersSay}

@@ -1,4 +1,4 @@
--- What making a group at a running node does to it: the group learns of the nodes that were noticed before.
+-- What making a group at a running node does to it: the group learns which members were noticed before.
 use Rattle.gb_isolation.specs.Project.{notices, ticked}
 use Rattle.std.proofs.Common.{◌≡◌, ℕ, ◌<◌, List, [], ◌∷◌, ◌++◌, length, Option, Some, None, Bool, true, false, ◌&&◌, ◌||◌, refl, sym, ◌∙◌, ap, subst, arith}
 use Rattle.std.specs.Option.{option_or}

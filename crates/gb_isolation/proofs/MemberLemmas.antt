@@ -1,4 +1,4 @@
--- What the past tells of a group stands for the group alone at its node through each call.
+-- What the past says of a group stands for the group alone at its node, through each call.
 use Rattle.std.proofs.Common.{◌≡◌, ℕ, List, [], ◌∷◌, ◌++◌, length, Option, Some, None, Bool, true, false, not, ◌&&◌, ◌||◌, refl, sym, ◌∙◌, ap, subst, arith, take}
 use Rattle.std.specs.Prelude.{if◌then◌else◌, is_some, nat_eq}
 use Rattle.std.proofs.Math.Seq.{take-length}

@@ -1,4 +1,4 @@
--- What a packet that is packed takes of a group.
+-- What packing a packet does to a group.
 use Rattle.std.proofs.Common.{◌≡◌, ◌≢◌, ℕ, zero, suc, ◌+◌, ◌<◌, ◌≤◌, List, [], ◌∷◌, ◌++◌, length, take, drop, Option, Some, None, Bool, true, false, ◌||◌, ◌⊎◌, inl, inr, refl, sym, ◌∙◌, ap, subst, arith, length-append}
 use Rattle.std.specs.Prelude.{nat_eq, nat_le, map, fold, option_map, if◌then◌else◌}
 use Rattle.std.specs.FinSet as set

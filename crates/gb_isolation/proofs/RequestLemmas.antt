@@ -1,4 +1,4 @@
--- A request at a node goes on for each group as it does for the group alone.
+-- A request at a node does to each group what it does to the group alone.
 use Rattle.std.proofs.Common.{◌≡◌, ◌≢◌, ℕ, ◌+◌, ◌<◌, ◌≤◌, List, [], ◌∷◌, ◌++◌, Option, Some, None, Bool, true, false, ◌&&◌, ◌||◌, ◌⊎◌, inl, inr, refl, sym, ◌∙◌, ap, subst, arith}
 use Rattle.std.specs.Prelude.{if◌then◌else◌, is_some, nat_eq, nat_lt, option_map}
 use Rattle.std.specs.FinSet as set

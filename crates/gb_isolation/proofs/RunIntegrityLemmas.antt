@@ -1,4 +1,4 @@
--- Integrity and order of a group in a run: what was accepted in the run is what is accepted of the group alone.
+-- Integrity and order of a group in a run: what was accepted in the run is what the group alone accepted.
 use Rattle.std.proofs.Common.{◌≡◌, ℕ, ◌-◌, ◌≤◌, ◌<◌, Bool, true, false, List, [], Option, Some, None, refl, sym, ap, ◌∙◌, subst, arith}
 use Rattle.std.specs.Prelude.{All, slice_get, nat_lt}
 use Rattle.std.proofs.lemmas.Bool.Decides.{nat_tests}

@@ -1,4 +1,4 @@
--- A group behaves in every run as it would alone.
+-- A group behaves in every run as it does alone.
 use Rattle.std.proofs.Common.{◌≡◌, ◌≢◌, ℕ, ◌+◌, ◌-◌, ◌<◌, ◌≤◌, List, [], ◌∷◌, ◌++◌, length, Some, None, Bool, true, false, not, ◌⊎◌, inl, inr, refl, sym, ◌∙◌, ap, subst, arith}
 use Rattle.std.specs.Prelude.{map, nat_eq, slice_get, if◌then◌else◌}
 use Rattle.std.specs.List.{list_any}

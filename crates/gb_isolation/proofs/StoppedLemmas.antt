@@ -1,4 +1,4 @@
--- What a request at a node that has stopped does to each group there: the first command of a group meets the stop.
+-- What a request at a node that has stopped does to each group there: the group's first command meets the stop.
 use Rattle.std.proofs.Common.{◌≡◌, ℕ, List, [], ◌∷◌, ◌++◌, Bool, true, false, ◌&&◌, ◌||◌, ◌⊎◌, inl, inr, refl, sym, ◌∙◌, ap, subst}
 use Rattle.std.specs.Option.{option_or}
 use Rattle.std.specs.Prelude.{if◌then◌else◌}

@@ -1,4 +1,4 @@
--- A group that behaves as alone is seen as alone.
+-- A group that behaves as it does alone is seen as it is alone.
 use Rattle.std.proofs.Common.{◌≡◌, ℕ, Bool, true, false, nat_eq, ◌++◌, List, [], ◌∷◌, length, map, take, Option, Some, None, sym, subst, ◌∙◌, ap}
 use Rattle.std.specs.Prelude.{if◌then◌else◌}
 use Rattle.std.specs.List.{AllByRecursion}

@@ -1,4 +1,4 @@
--- What a tick that notices nodes makes of a group.
+-- What a tick that notices nodes does to a group.
 use Rattle.std.proofs.Common.{◌≡◌, ℕ, zero, suc, ◌+◌, ◌<◌, ◌≤◌, List, [], ◌∷◌, ◌++◌, length, Option, Some, None, Bool, true, false, cond, ◌&&◌, ◌||◌, refl, sym, ◌∙◌, ap, subst, arith}
 use Rattle.std.specs.Prelude.{nat_le, fold, filter, option_map, if◌then◌else◌}
 use Rattle.std.specs.FinSet as set

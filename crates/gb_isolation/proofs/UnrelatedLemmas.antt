@@ -1,4 +1,4 @@
--- Events that make nothing of a group.
+-- Events that add nothing to the projection on a group.
 use Rattle.std.proofs.Common.{◌≡◌, ℕ, List, [], ◌∷◌, ◌++◌, length, None, false, ◌&&◌, ◌||◌, refl, sym, ◌∙◌, ap, subst}
 use Rattle.std.specs.Option.{option_or}
 use Rattle.std.specs.Prelude.{nat_le, map, option_map}

@@ -1,4 +1,4 @@
--- What a group has at a node, read from the node's past, and how it stands for the group alone.
+-- What a group has at a node, read from the node's past, and how this agrees with the group alone.
 use Rattle.std.specs.Prelude.{ℕ, ◌+◌, ◌≡◌, ◌≢◌, ◌≤◌, ◌<◌, ◌&&◌, not, nat_eq, nat_lt, Bool, true, false, List, [], ◌++◌, length, Option, Some, None, is_some, option_map, if◌then◌else◌}
 use Rattle.std.specs.FinSet as set
 use Rattle.gb_types.specs.declared.address.Addr.{Addr}

@@ -1,4 +1,4 @@
--- That a group in a run is what it is alone.
+-- The law that each group in a run behaves as it does alone.
 use Rattle.std.specs.Prelude.{ℕ, ◌≡◌, ◌<◌, ◌++◌, ◌&&◌, not, Bool, true, false, All, List, [], ◌∷◌, length, map, take, Option, Some, None}
 use Rattle.std.specs.List.{flat_map}
 use Rattle.gb_types.specs.declared.address.Addr.{Addr}
@@ -26,7 +26,7 @@ use Rattle.gb_cluster.specs.Run.{Did, ComesTo, past_at}
 use Rattle.gb_types.specs.declared.plan.Plan.{Plan}
 use Rattle.gb_isolation.specs.Project.{project, group_items, group_items_of, replies_in, is_fed}
 
--- the group alone, of what concerns it in the run
+-- the group alone, given the projection of the run
 abbrev pub alone_in : Plan → Addr → List Did → Group
 alone_in plan g run = alone (bounds_of plan) g (project plan g run)
 
@@ -36,15 +36,15 @@ carried_alone plan g run a b = let m = alone_in plan g run a in take (m.taken b)
 
 -- What a run shows of a group, in events, answers and packets, is what the group has alone. Nothing is read from a node.
 pub record IsSeenAlone (plan : Plan) (run : List Did) (g : Addr) : Type 0 where
-  -- what concerns it is a legal list of events of the group by itself
+  -- the projection of the run is a legal list of events of the group by itself
   pub legal : IsLegal (bounds_of plan) g (project plan g run)
-  -- the replies to its commands at each node
+  -- the replies to the group's commands at each node
   pub replies : (a : NodeId) → a.number < plan.nodes → replies_in a g (past_at a run) ≡ (alone_in plan g run a.number).replies
-  -- its items in the packets from each node to each, just as they stand there
+  -- the group's items in the packets from each node to each other, exactly as they stand there
   pub items : (a b : NodeId) → a.number < plan.nodes → b.number < plan.nodes
       → flat_map (items_for g) (frames_to plan.cluster_key b.number (past_at a run)) ≡ map (item_for g) (carried_alone plan g run a.number b.number)
 
--- what was delivered in a group; nothing where it was not made, or was dropped
+-- the log of a group at a node: empty if the group was not made there, or was dropped
 abbrev pub log_in : Option (Option Shown) → List Entry
 log_in None = []
 log_in (Some None) = []
@@ -54,12 +54,12 @@ log_in (Some (Some x)) = x.log
 pub record Seen : Type 0 where
   -- the replies to its commands
   pub replies : List Reply
-  -- what was delivered
+  -- the log
   pub log : List Entry
   -- the items put out to the other node: those that are carried, then those that wait
   pub put : List Entry
 
--- what is seen in a run: replies and carried items stand in what happened, log and waiting items in the nodes
+-- what is seen in a run: replies and carried items are read from what happened, log and waiting items from the nodes
 abbrev pub seen_in : Plan → List Did → ClusterValue → Addr → NodeId → NodeId → Seen
 seen_in plan run v g a b = record {
   replies = replies_in a g (past_at a run);
@@ -71,20 +71,20 @@ seen_in plan run v g a b = record {
 abbrev pub seen_alone : Group → ℕ → ℕ → Seen
 seen_alone group a b = record { replies = (group a).replies; log = log_of_member a (group a); put = (group a).put b }
 
--- the group's items of a frame are what is shown of them: each with its origin as it stands there
+-- each of the group's items in the frame is exactly what is shown of it: its origin stands there as a node's number
 abbrev pub AreSpelt : Addr → List Item → Type 0
 AreSpelt g frame = items_for g frame ≡ map (item_for g) (group_items g frame)
 
--- the projection of the run is legal, and what is seen of the group is what the projection makes of it alone
+-- the projection of the run is legal, and what is seen of the group in the run is what is seen of it alone, given the projection
 pub record IsIsolated (plan : Plan) (run : List Did) (v : ClusterValue) (g : Addr) : Type 0 where
   pub legal : IsLegal (bounds_of plan) g (project plan g run)
   pub same : (a b : NodeId) → a.number < plan.nodes → b.number < plan.nodes → seen_in plan run v g a b ≡ seen_alone (alone_in plan g run) a.number b.number
-  -- what is seen of an item that is carried is all that its frame says of it
+  -- what is seen of a carried item is all that its frame says of it
   pub spelt : (a b : NodeId) → a.number < plan.nodes → b.number < plan.nodes → All (AreSpelt g) (frames_to plan.cluster_key b.number (past_at a run))
-  -- and as many items are carried
+  -- the number of items that are carried is the same, too
   pub carried : (a b : NodeId) → a.number < plan.nodes → b.number < plan.nodes → (alone_in plan g run a.number).taken b.number ≡ length (group_items_of g (frames_to plan.cluster_key b.number (past_at a run)))
 
--- each group of every run is isolated that had no request refused for lack of memory
+-- each group that had no request refused for lack of memory is isolated, in every run
 abbrev pub GroupsAreIsolated : Type 0
 GroupsAreIsolated = (plan : Plan) (run : List Did) (v : ClusterValue) → ComesTo plan run v → (g : Addr) → is_fed g run ≡ true → IsIsolated plan run v g
 
@@ -97,11 +97,11 @@ wants_memory (Ticked (TickRefused OutOfMemory)) = true
 wants_memory (Halted (HaltRefused OutOfMemory)) = true
 wants_memory answer = false
 
--- no answer of the run is
+-- no answer of the run refuses for lack of memory
 unfoldable pub is_ample : List Did → Bool
 is_ample [] = true
 is_ample (d ∷ run) = not (wants_memory d.answer) && is_ample run
 
--- where no memory was refused in a run, no group's request was
+-- if no answer of a run refuses for lack of memory, no group had a request refused for lack of memory
 abbrev pub AmpleRunsFeedAll : Type 0
 AmpleRunsFeedAll = (plan : Plan) (run : List Did) → is_ample run ≡ true → (g : Addr) → is_fed g run ≡ true

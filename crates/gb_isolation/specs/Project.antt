@@ -1,4 +1,4 @@
--- What of a run concerns one group: from events and answers, never from what the nodes keep. Runs and pasts have the newest first.
+-- What concerns one group in a run, read from events and answers, never from what the nodes keep. Runs and pasts have the newest first.
 use Rattle.std.specs.Prelude.{ℕ, zero, suc, ◌+◌, ◌-◌, ◌&&◌, ◌||◌, not, Bool, true, false, List, [], ◌∷◌, ◌++◌, length, take, map, filter, Option, Some, None, nat_eq, nat_lt, if◌then◌else◌}
 use Rattle.std.specs.FinSet as set
 use Rattle.std.specs.List.{range_with_len, list_any, flat_map}
@@ -39,14 +39,14 @@ use Rattle.gb_types.specs.declared.plan.Plan.{Plan}
 
 -- Items.
 
--- the group's items of a frame, and of many, in order
+-- the group's items in a frame, and in a list of frames, in order
 abbrev pub group_items : Addr → List Item → List Entry
 group_items g frame = map entry_of (items_for g frame)
 
 unfoldable pub group_items_of : Addr → List (List Item) → List Entry
 group_items_of g frames = flat_map (group_items g) frames
 
--- how many items of the group there are in the first n of these frames
+-- the number of the group's items in the first n of these frames
 abbrev pub offset : Addr → List (List Item) → ℕ → ℕ
 offset g fs n = length (group_items_of g (take n fs))
 
@@ -58,7 +58,7 @@ has_come key b n past = list_any (λ (h : Happened). list_any (is_frame b n) (ca
 
 -- Requests.
 
--- the group that a request names, and its command there
+-- the group that a request names, with its command for it
 abbrev pub command_in : Request → Option (Addr × GroupEvent)
 command_in (AddTenant token row) = None
 command_in (Make token addr spec) = Some (addr, AskMake spec)
@@ -72,15 +72,15 @@ command_in (Fetch token addr from most) = Some (addr, AskFetch from most)
 abbrev pub is_named : Addr → Request → Bool
 is_named g request = option_map_or (λ (c : Addr × GroupEvent). is_addr g c.0) (command_in request) false
 
--- a request of the group at the node a: it names the group, and comes with the token that it needs by the tenants that were added there
+-- the request is one of the group at the node a: it names the group and has the token that it needs, under the tenants that were added there
 abbrev pub is_own_request : NodeId → Addr → List Happened → Request → Bool
 is_own_request a g past request = is_named g request && has_group_token a (tenants_in past) request
 
--- the command that a request is at the node a, whatever group it names
+-- the command that the request makes at the node a, whichever group it names
 abbrev pub command_for : NodeId → Request → List GroupStep
 command_for a request = option_map_or (λ (c : Addr × GroupEvent). record { node = a; event = c.1 } ∷ []) (command_in request) []
 
--- what the group was made with, if it was
+-- the spec with which the group is made, if this event with its answer makes it
 abbrev pub made_by : Addr → NodeEvent → NodeAnswer → Option Spec
 made_by g (Asked (Make token addr spec)) (Replied Done) = if is_addr g addr then Some spec else None
 made_by g event answer = None
@@ -89,15 +89,15 @@ unfoldable pub made_with : Addr → List Happened → Option Spec
 made_with g [] = None
 made_with g (h ∷ past) = option_or (made_by g h.event h.answer) (made_with g past)
 
--- a node is noticed at the node a after this past: it is another one of the cluster, and was silent there for too long at some moment so far
+-- a node is noticed at the node a after this past: it is another node of the cluster, and at some moment so far it was silent there for too long
 abbrev pub is_noticed_at : Plan → NodeId → List Happened → ℕ → Bool
 is_noticed_at plan a past b = (nat_lt b plan.nodes && not (nat_eq b a.number)) && is_noticed plan.silence b (watched plan.cluster_key past)
 
--- the group's notices of other members for which the test holds, rising
+-- the group's notices of other members that pass the test, in rising order of their numbers
 abbrev pub notices : NodeId → Spec → (ℕ → Bool) → List GroupStep
 notices a spec new = map (λ b. record { node = a; event = Notice (node_numbered b) }) (filter (λ b. is_other spec a.number b && new b) (range_with_len 0 NODES))
 
--- a made group learns of these nodes that they are noticed, if they are other members
+-- a group that was made learns of each other member among these nodes that it is noticed
 abbrev pub ticked : NodeId → (ℕ → Bool) → Option Spec → List GroupStep
 ticked a found made = option_map_or (λ spec. notices a spec found) made []
 
@@ -105,23 +105,23 @@ abbrev pub tenant_given : Addr → NodeId → Request → Reply → List GroupSt
 tenant_given g a (AddTenant token row) Done = if nat_eq row.tenant g.tenant then record { node = a; event = Tenant (reserve_of row) } ∷ [] else []
 tenant_given g a request reply = []
 
--- a request of the group is asked at a node that has stopped
+-- the event is a request of the group at a node that has stopped
 abbrev pub is_met_by : NodeId → Addr → List Happened → NodeEvent → NodeAnswer → Bool
 is_met_by a g past (Asked request) (Replied reply) = is_stopped past && is_own_request a g past request
 is_met_by a g past event answer = false
 
--- one met the node's stop
+-- a request of the group met the node's stop
 unfoldable pub is_met : NodeId → Addr → List Happened → Bool
 is_met a g [] = false
 is_met a g (h ∷ past) = is_met_by a g past h.event h.answer || is_met a g past
 
--- the first command that meets the stop shows it
+-- the stop comes before the first command that meets it
 abbrev pub with_stop : NodeId → Bool → List GroupStep → List GroupStep
 with_stop a met [] = []
 with_stop a met (c ∷ commands) = if met then c ∷ commands else record { node = a; event = Ends } ∷ c ∷ commands
 
--- A node that has stopped gives the group its commands alone. At a running node a request that makes the group gives it
--- the notices of the members that are noticed there, too.
+-- At a node that has stopped, a request of the group adds only its command. At a running node, a request that makes the group
+-- also adds the notices of the members that are noticed there.
 abbrev pub asked : NodeId → Addr → (ℕ → Bool) → List Happened → Request → Reply → List GroupStep
 asked a g noticed past request reply =
     if is_stopped past then (if is_own_request a g past request then with_stop a (is_met a g past) (command_for a request) else [])
@@ -130,18 +130,18 @@ asked a g noticed past request reply =
 
 -- Links.
 
--- the event at the node, if it is of some items
+-- the event at the node, unless it is one of 0 items
 abbrev pub if_any : NodeId → ℕ → GroupEvent → List GroupStep
 if_any a zero event = []
 if_any a (suc k) event = record { node = a; event = event } ∷ []
 
--- this number of items comes, with the places after this one
+-- this number of items comes, with the places after `place`
 abbrev pub comes : NodeId → NodeId → ℕ → ℕ → List GroupStep
 comes from to place zero = []
 comes from to place (suc k) = record { node = to; event = Came from (place + 1) } ∷ comes from to (place + 1) k
 
--- The items of these frames from a to b are acknowledged whose frame's number passes the test. The frames are numbered from n on, and `before` items of the
--- group stand in the frames before them.
+-- The acknowledged items of these frames from a to b: those in the frames whose number passes the test. The frames are numbered from n on, and
+-- `before` is the number of the group's items in the frames before them.
 abbrev pub all_acknowledged : Addr → NodeId → NodeId → (ℕ → Bool) → ℕ → ℕ → List (List Item) → List GroupStep
 all_acknowledged g a b new n before [] = []
 all_acknowledged g a b new n before (f ∷ fs) =
@@ -152,11 +152,11 @@ all_acknowledged g a b new n before (f ∷ fs) =
 abbrev pub is_new_ack : List ℕ → List Happened → Content → ℕ → Bool
 is_new_ack key past c n = covers c.base c.mask n && not (is_acked key c.from n past)
 
--- the packet has a frame, and none with its number came from its sender before
+-- the packet has a frame, and no frame with its number came from its sender before
 abbrev pub is_new_frame : List ℕ → List Happened → Content → Bool
 is_new_frame key past c = not (nat_eq c.frame 0) && not (has_come key c.from c.frame past)
 
--- A packet's acknowledgement counts first; then a frame's items come, where it did not come before: their places are those after the items of the frames before it.
+-- A packet's acknowledgement counts first. Then, if its frame is new, the frame's items come: their places follow those of the items in the frames before it.
 abbrev pub acknowledges : Plan → Addr → List Happened → NodeId → Content → List GroupStep
 acknowledges plan g past a c = all_acknowledged g a (node_numbered c.from) (is_new_ack plan.cluster_key past c) 1 0 (frames_to plan.cluster_key c.from past)
 
@@ -168,7 +168,7 @@ arrived plan g run a c = acknowledges plan g (past_at a run) a c ++ (if is_new_f
 
 -- The projection.
 
--- what an event at a node with its answer gives the group, after this run
+-- the steps that an event at a node, with its answer, adds to the projection after this run
 abbrev pub gives : Plan → Addr → List Did → NodeId → NodeEvent → NodeAnswer → List GroupStep
 gives plan g run a (Asked request) (Replied reply) = asked a g (is_noticed_at plan a (past_at a run)) (past_at a run) request reply
 gives plan g run a (Pack b) (Sent (SentPacket text)) =
@@ -198,7 +198,7 @@ abbrev pub is_starved_by : NodeId → Addr → List Happened → NodeEvent → N
 is_starved_by a g past (Asked request) (Replied (Refused OutOfMemory)) = is_own_request a g past request
 is_starved_by a g past event answer = false
 
--- none was in the run
+-- no request of the group was refused for lack of memory in the run
 unfoldable pub is_fed : Addr → List Did → Bool
 is_fed g [] = true
 is_fed g (d ∷ run) = not (is_starved_by d.node g (past_at d.node run) d.event d.answer) && is_fed g run

@@ -1,4 +1,4 @@
--- Integrity, order, duties and agreement of each group in every run, and what two runs of a group share.
+-- Integrity, order, duties and agreement of each group in every run, and what two runs show of a group.
 use Rattle.std.specs.Prelude.{ℕ, ◌+◌, ◌≡◌, ◌≢◌, ◌<◌, ◌||◌, ◌&&◌, not, Bool, true, false, All, List, [], ◌∷◌, ◌++◌, Option, Some, slice_get, if◌then◌else◌}
 use Rattle.std.specs.FinSet as set
 use Rattle.std.specs.Ordering.{nat_cmp}
@@ -40,7 +40,7 @@ use Rattle.gb_isolation.specs.Project.{project, group_items, is_noticed_at, is_o
 
 -- What was accepted.
 
--- the message that a request with its reply is
+-- the message that a request with its reply says, if it says one
 abbrev pub said_by : Request → Reply → List Accepted
 said_by (Say token addr message) (Said seq) = record { seq = seq; payload = message.payload } ∷ []
 said_by request reply = []
@@ -58,11 +58,11 @@ accepted_in_past plan g (h ∷ past) = accepted_in_past plan g past ++ accepted_
 abbrev pub accepted_there : Plan → Addr → List Did → ℕ → List Accepted
 accepted_there plan g run s = accepted_in_past (node_plan plan (node_numbered s)) g (past_at (node_numbered s) run)
 
--- what a law of groups says of each group that had no request refused for lack of memory, in every run of every cluster
+-- a law of groups: in every run of every cluster, each group that had no request refused for lack of memory has the property
 abbrev pub OfGroupsInRuns : (Plan → List Did → ClusterValue → Addr → Type 0) → Type 0
 OfGroupsInRuns Property = (plan : Plan) (run : List Did) (v : ClusterValue) → ComesTo plan run v → (g : Addr) → is_fed g run ≡ true → Property plan run v g
 
--- Integrity: the log seen at each node keeps it, and each item seen between two nodes was accepted at its origin.
+-- Integrity: the log seen at each node keeps integrity, and each item seen between two nodes was accepted at its origin.
 pub record RunIntegrity (plan : Plan) (run : List Did) (v : ClusterValue) (g : Addr) : Type 0 where
   pub logs : (a b : NodeId) → a.number < plan.nodes → b.number < plan.nodes → KeepsIntegrity (accepted_there plan g run) (seen_in plan run v g a b).log
   pub items : (a b : NodeId) → a.number < plan.nodes → b.number < plan.nodes → All (IsAccepted (accepted_there plan g run)) (seen_in plan run v g a b).put
@@ -79,7 +79,7 @@ GroupsKeepOrder = OfGroupsInRuns RunOrder
 
 -- Duties.
 
--- the group was dropped at the node
+-- the event with its answer drops the group at the node
 abbrev pub is_dropped_by : Addr → NodeEvent → NodeAnswer → Bool
 is_dropped_by g (Asked (DropGroup token addr)) (Replied Done) = is_addr g addr
 is_dropped_by g event answer = false
@@ -92,11 +92,11 @@ is_dropped g (h ∷ past) = is_dropped_by g h.event h.answer || is_dropped g pas
 abbrev pub is_noticed_in : Plan → List Did → NodeId → ℕ → Bool
 is_noticed_in plan run a = is_noticed_at plan a (past_at a run)
 
--- the duties of the node b in the run, for each of these messages: what is noticed and put out is read there, what another node has had in the projection
+-- the duties of the node b in the run, for these messages: notices and items put out are read from the run, what another node has had is read from the projection
 abbrev pub KeepsRunDuties : Plan → List Did → ClusterValue → Addr → NodeId → Spec → (MsgId → Bool) → Type 0
 KeepsRunDuties plan run v g b spec messages = KeepsDuties spec b.number (is_noticed_in plan run b) (λ c. (seen_in plan run v g b (node_numbered c)).put) (HasHad (alone_in plan g run)) messages
 
--- each node where the group was made, and not dropped, has done its duties for each message that its module delivered, and so for each that stands in the log seen there
+-- each node that made the group, and did not drop it, has done its duties for each message that its module delivered, and so for each message in the log seen there
 pub record RunDuties (plan : Plan) (run : List Did) (v : ClusterValue) (g : Addr) : Type 0 where
   pub delivered : (b : NodeId) (spec : Spec) → b.number < plan.nodes → made_with g (past_at b run) ≡ Some spec → is_dropped g (past_at b run) ≡ false
       → KeepsRunDuties plan run v g b spec (delivered_at spec b.number (alone_in plan g run b.number))
@@ -111,13 +111,13 @@ GroupsDoTheirDuties = OfGroupsInRuns RunDuties
 abbrev pub log_seen : Plan → List Did → ClusterValue → Addr → ℕ → List Entry
 log_seen plan run v g b = (seen_in plan run v g (node_numbered b) (node_numbered b)).log
 
--- what the group was made with at the node with this number
+-- the spec with which the group was made at the node with this number, if it was
 abbrev pub made_there : Addr → List Did → ℕ → Option Spec
 made_there g run a = made_with g (past_at (node_numbered a) run)
 
--- The group is settled in the run, with this spec, where these nodes run and the others have stopped.
+-- The group is settled in the run, with this spec: the nodes that pass `runs` run, and the others have stopped.
 pub record IsSettledIn (plan : Plan) (run : List Did) (v : ClusterValue) (g : Addr) (runs : ℕ → Bool) (spec : Spec) : Type 0 where
-  -- at some moment all members had made it with this spec, and no message had been accepted anywhere
+  -- at some moment all members had made the group with this spec, and no message had been accepted anywhere
   pub earlier : List Did
   pub later : List Did
   pub moment : run ≡ later ++ earlier
@@ -126,17 +126,17 @@ pub record IsSettledIn (plan : Plan) (run : List Did) (v : ClusterValue) (g : Ad
   -- all members send one version of the packet text
   pub version : Version
   pub versions : (a : ℕ) → is_member spec a ≡ true → version_at plan.versions a ≡ version
-  -- no running member has dropped it
+  -- no running member has dropped the group
   pub kept : (a : ℕ) → IsRunning runs spec a → is_dropped g (past_at (node_numbered a) run) ≡ false
-  -- from one running member to another nothing waits, and each frame with an item of the group was taken
+  -- nothing waits from one running member to another, and each frame with an item of the group was taken
   pub carried : (a b : ℕ) → IsRunning runs spec a → IsRunning runs spec b → a ≢ b → waiting_at (node_at v (node_numbered a)) g b ≡ []
   pub came : (a b : ℕ) → IsRunning runs spec a → IsRunning runs spec b → a ≢ b → (n : ℕ) (frame : List Item) → slice_get (frames_to plan.cluster_key b (past_at (node_numbered a) run)) n ≡ Some frame → group_items g frame ≢ []
       → is_taken plan.cluster_key a (n + 1) (past_at (node_numbered b) run) ≡ true
-  -- each stopped member is noticed at each running one, and no running one at any member
+  -- each running member has noticed each stopped member, and no member has noticed a running one
   pub noticed : (a b : ℕ) → IsRunning runs spec a → is_member spec b ≡ true → runs b ≡ false → is_noticed_in plan run (node_numbered a) b ≡ true
   pub unnoticed : (a b : ℕ) → is_member spec a ≡ true → IsRunning runs spec b → is_noticed_in plan run (node_numbered a) b ≡ false
 
--- where the group is settled the logs seen at its members agree, whichever nodes are taken as those that run, where these are enough
+-- if the group is settled, the logs seen at its members agree, whichever nodes are taken as those that run, provided that enough of them run
 abbrev pub RunAgreement : Plan → List Did → ClusterValue → Addr → Type 0
 RunAgreement plan run v g = (runs : ℕ → Bool) (spec : Spec) → IsSettledIn plan run v g runs spec → AreEnough runs spec → KeepsAgreement (accepted_there plan g run) (log_seen plan run v g) runs spec
 
@@ -149,7 +149,7 @@ SettledGroupsAgree = OfGroupsInRuns RunAgreement
 abbrev pub fetched_alone : Plan → List Did → Addr → NodeId → ℕ → ℕ → Reply
 fetched_alone plan run g a from most = running_reply (bounds_of plan) g a.number (AskFetch from most) (alone_in plan g run a.number)
 
--- The run may go on by a request to fetch the group's log, at any running node, with the token that it needs: the answer is that of the group alone, and the cluster stays as it is.
+-- The run may go on by a request to fetch the group's log, at any running node, with the token that it needs. The answer is that of the group alone, and the cluster stays as it is.
 abbrev pub MayBeFetched : Plan → List Did → ClusterValue → Addr → Type 0
 MayBeFetched plan run v g =
     (a : NodeId) (token : List ℕ) (from most : ℕ) → a.number < plan.nodes → is_stopped (past_at a run) ≡ false → is_own_request a g (past_at a run) (Fetch token g from most) ≡ true
@@ -160,13 +160,13 @@ LogsMayBeFetched = OfGroupsInRuns MayBeFetched
 
 -- Two runs.
 
--- two clusters are of one size, and their nodes send the same versions of the packet text
+-- two clusters have the same number of nodes, and their nodes send the same versions of the packet text
 pub record HaveSameBounds (plan other : Plan) : Type 0 where
   pub nodes : plan.nodes ≡ other.nodes
   pub versions : (a : ℕ) → a < plan.nodes → version_at plan.versions a ≡ version_at other.versions a
 
--- Another run, of such a cluster, in which the same happened to the group shows the same of it, whatever else happened and whatever else the packets held: its replies, its logs
--- and the items that it put out. What happened to it are its own requests, the fates of its items, and the notices of its members.
+-- Another run, of a cluster with the same bounds, in which the same happened to the group, shows the same of it: its replies, its logs and the items that it put out,
+-- whatever else happened and whatever else the packets held. What happens to a group are its own requests, the fates of its items, and the notices of its members.
 abbrev pub IsSeenAlike : Plan → List Did → ClusterValue → Addr → Type 0
 IsSeenAlike plan run v g =
     (other : Plan) (that : List Did) (w : ClusterValue) → ComesTo other that w → is_fed g that ≡ true → HaveSameBounds plan other → project plan g run ≡ project other g that
@@ -177,11 +177,11 @@ RunsAgree = OfGroupsInRuns IsSeenAlike
 
 -- Moments.
 
--- at each moment of a run this holds of what happened then, after what had happened before
+-- at each moment of a run the property holds of what happened then, after what had happened before
 abbrev pub AtEachMoment : (List Did → Did → Type 0) → List Did → Type 0
 AtEachMoment Holds run = (later earlier : List Did) (d : Did) → run ≡ later ++ d ∷ earlier → Holds earlier d
 
--- At a running node a tick answers the nodes that are noticed there then and were not before.
+-- At a running node, a tick answers the nodes that are noticed there after it and were not before.
 abbrev pub AnswersNewNotices : Plan → List Did → Did → Type 0
 AnswersNewNotices plan earlier d = d.event ≡ Tick → is_stopped (past_at d.node earlier) ≡ false
     → (found : set.FinSet nat_cmp) × (d.answer ≡ Ticked (Noticed found)) × ((b : ℕ) → set.contains found b ≡ (is_noticed_in plan (d ∷ earlier) d.node b && not (is_noticed_in plan earlier d.node b)))
@@ -189,7 +189,7 @@ AnswersNewNotices plan earlier d = d.event ≡ Tick → is_stopped (past_at d.no
 abbrev pub TicksAnswerNewNotices : Type 0
 TicksAnswerNewNotices = (plan : Plan) (earlier : List Did) (d : Did) (v : ClusterValue) → ComesTo plan (d ∷ earlier) v → AnswersNewNotices plan earlier d
 
--- A request that is refused, for whatever reason, changes nothing at any node, and sends nothing.
+-- A request that is refused, for whatever reason, changes nothing at any node and sends nothing.
 abbrev pub ChangesNothing : Plan → List Did → Did → Type 0
 ChangesNothing plan earlier d = (request : Request) (why : Refusal) → d.event ≡ Asked request → d.answer ≡ Replied (Refused why) → (v w : ClusterValue) → ComesTo plan earlier v → ComesTo plan (d ∷ earlier) w → w ≡ v
 

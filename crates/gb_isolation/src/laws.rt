@@ -7,10 +7,10 @@ use gb_cluster::laws::{links_hold, nothing_is_outside};
 use gb_duties::laws::{agreement, duties};
 use gb_node::past::{answers_say, pasts_say};
 
-/// The main law: for every plan, every run of a cluster and every group that had no request refused for want of
-/// memory, what concerns the group in the run is a legal list of events of the group by itself, and its replies, its logs,
-/// and the items that it puts out are those that it has alone, whatever other tenants do and whatever batches hold. The
-/// function does nothing when it runs; its contract is the law.
+/// The main law. It holds for every plan, every run of a cluster and every group that had no request refused for lack of memory.
+/// The projection of the run on the group is a legal list of events of the group by itself. The group's replies, its logs and
+/// the items that it puts out are those that it has alone, whatever other tenants do and whatever batches hold. The function
+/// does nothing when it runs; its contract is the law.
 pub fn groups_are_isolated()
     ensures { GroupsAreIsolated }
 {
@@ -20,15 +20,15 @@ pub fn groups_are_isolated()
     nothing_is_outside();
 }
 
-/// A law of every run in which no memory was refused: no request of any group was refused for want of it, so that every
-/// group in it is what it is alone. The function does nothing when it runs; its contract is the law.
+/// A law of every run in which no answer refuses for lack of memory: no group had a request refused for lack of memory, so every
+/// group is what it is alone. The function does nothing when it runs; its contract is the law.
 pub fn ample_runs_feed_all()
     ensures { AmpleRunsFeedAll }
 {}
 
-/// Logs in every run: it may go on by a request to fetch a group's log, at any node that has not stopped, with the token that
-/// it needs. The answer is what the group alone answers, and no node changes. So what a log is at a moment is what a fetch
-/// shows then. The function does nothing when it runs; its contract is the law.
+/// Logs in every run: the run may go on by a request to fetch a group's log, at any node that has not stopped, with the token
+/// that the request needs. The answer is what the group alone answers, and no node changes. So such a fetch shows the log of the
+/// group at that moment. The function does nothing when it runs; its contract is the law.
 pub fn logs_may_be_fetched()
     ensures { LogsMayBeFetched }
 {
@@ -38,18 +38,19 @@ pub fn logs_may_be_fetched()
     nothing_is_outside();
 }
 
-/// Two runs: in clusters of one size whose nodes send the same versions of the packet text, where the same happened to a
-/// group in both, its replies, its logs and the items that it put out are the same, whatever else happened in either and however its items were packed among others. The function
-/// does nothing when it runs; its contract is the law.
+/// Two runs, in clusters that have the same number of nodes and whose nodes send the same versions of the packet text. If the
+/// same happened to a group in both runs, its replies, its logs and the items that it put out are the same in both. This holds
+/// whatever else happened in either run, and however the group's items were packed among others. The function does nothing when
+/// it runs; its contract is the law.
 pub fn runs_agree()
     ensures { RunsAgree }
 {
     groups_are_isolated();
 }
 
-/// Integrity in every run: each entry of a group's log at a node, and each item of it between two nodes, is the message
-/// that its origin was told is accepted under that number, with that payload, and no message stands twice in a log. The
-/// function does nothing when it runs; its contract is the law.
+/// Integrity in every run: each entry of a group's log at a node, and each item of the group between two nodes, is a message
+/// that was accepted at its origin, under that number and with that payload. No message stands twice in a log. The function does
+/// nothing when it runs; its contract is the law.
 pub fn groups_keep_integrity()
     ensures { GroupsKeepIntegrity }
 {
@@ -57,8 +58,8 @@ pub fn groups_keep_integrity()
     integrity();
 }
 
-/// Order in every run: where a node made a group first-in first-out, its log there has each origin's messages as
-/// 1, 2, 3, .. without a gap. The function does nothing when it runs; its contract is the law.
+/// Order in every run: if a group was made first-in first-out at a node, its log there has each origin's messages as 1, 2, 3, ..
+/// without a gap. The function does nothing when it runs; its contract is the law.
 pub fn groups_keep_order()
     ensures { GroupsKeepOrder }
 {
@@ -70,9 +71,9 @@ pub fn groups_keep_order()
     order();
 }
 
-/// Duties in every run: at each node that made a group and did not drop it, for each message that was delivered there and
-/// each other member. An eager node, and a majority-ack node, has noticed the member or put the message out to it; a lazy
-/// one so where the message is its own or of an origin that it noticed; a best-effort one where it is its own. At an
+/// Duties in every run, at each node that made a group and did not drop it, for each message that was delivered there and each
+/// other member. An eager node, and a majority-ack node, has noticed the member or put the message out to it. A lazy node has
+/// done so if the message is its own or of an origin that it noticed, and a best-effort node if the message is its own. At an
 /// all-ack node the member is noticed, or has said the message or taken it in. At a majority-ack node more than half of the
 /// members have said the message or taken it in. The function does nothing when it runs; its contract is the law.
 pub fn groups_do_their_duties()
@@ -86,10 +87,10 @@ pub fn groups_do_their_duties()
     duties();
 }
 
-/// Agreement in every run: where a group is settled, whichever nodes are taken as those that run, the logs of the running
-/// members hold each message that was accepted at a running member and, but for best effort, the same messages; with
-/// all-ack and majority-ack also each message in the log of a member that stopped. With majority-ack all this holds where
-/// more than half of the members run. The function does nothing when it runs; its contract is the law.
+/// Agreement in every run, if a group is settled, whichever nodes are taken as those that run. The logs of the running members
+/// hold each message that was accepted at a running member and, except with best effort, the same messages. With all-ack and
+/// majority-ack they also hold each message in the log of a member that stopped. With majority-ack all this needs more than half
+/// of the members to run. The function does nothing when it runs; its contract is the law.
 pub fn settled_groups_agree()
     ensures { SettledGroupsAgree }
 {
@@ -101,8 +102,8 @@ pub fn settled_groups_agree()
     agreement();
 }
 
-/// Ticks in every run: at a node that has not stopped a tick answers just the nodes that were silent there for too long then
-/// and not before, so that each is told of once. The function does nothing when it runs; its contract is the law.
+/// Ticks in every run: at a node that has not stopped, a tick answers exactly the nodes that are noticed there after the tick
+/// and were not before. So each node is reported once. The function does nothing when it runs; its contract is the law.
 pub fn ticks_answer_new_notices()
     ensures { TicksAnswerNewNotices }
 {
@@ -110,8 +111,8 @@ pub fn ticks_answer_new_notices()
     answers_say();
 }
 
-/// Refusals in every run: a request that is refused, as one without the token that it needs is Denied, leaves every node as it
-/// was, and nothing is sent. The function does nothing when it runs; its contract is the law.
+/// Refusals in every run: a request that is refused leaves every node as it was, and nothing is sent. One such refusal is
+/// `Denied`, for a request without the token that it needs. The function does nothing when it runs; its contract is the law.
 pub fn refusals_change_nothing()
     ensures { RefusalsChangeNothing }
 {}

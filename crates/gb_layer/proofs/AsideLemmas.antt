@@ -1,4 +1,4 @@
--- What is put aside behind a list, and taken off it again.
+-- Elements that are put behind a list, and removed again.
 use Rattle.std.proofs.Common.{◌≡◌, ℕ, ◌-◌, ◌≤◌, List, ◌++◌, length, take, drop, ap, ◌∙◌, vec_len, vec_capacity, arith}
 use Rattle.std.proofs.lemmas.List.{take_rest}
 use Rattle.std.specs.Global.{Vec}

@@ -1,4 +1,4 @@
--- How many entries are unsent, or not handed up, after they are changed in place.
+-- The numbers of entries that are unsent, or not handed up, after they are changed in place.
 use Rattle.std.proofs.Common.{◌≡◌, ℕ, ◌+◌, ◌<◌, ◌≤◌, Bool, true, false, cond, not, List, [], ◌∷◌, map, filter, length, count_by, slice_get, get_or, refl, ap, sym, ◌∙◌, arith}
 use Rattle.std.specs.declared.option.Option.TheVariants.{None, Some}
 use Rattle.gb_types.specs.declared.node.NodeId.{NodeId}

@@ -1,4 +1,4 @@
--- Which numbers a list has, and which of these pass a test.
+-- The numbers that a list has, and those that pass a test.
 use Rattle.std.proofs.Common.{◌≡◌, ℕ, ◌*◌, Bool, true, false, cond, ◌&&◌, ◌||◌, nat_eq, nat_lt, List, [], ◌∷◌, refl, sym, ap, ◌∙◌, count_by}
 use Rattle.std.specs.Prelude.{filter}
 use Rattle.std.specs.List.{list_any}

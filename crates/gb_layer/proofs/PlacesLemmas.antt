@@ -1,4 +1,4 @@
--- Where the elements of a list stand that pass a test, and what each change leaves of that.
+-- The places of the elements of a list that pass a test, after each change.
 use Rattle.std.proofs.Common.{◌≡◌, ℕ, ◌<◌, Bool, true, false, List, [], ◌∷◌, ◌++◌, length, map, slice_get, get_or, refl, ap, ◌∙◌, sym, arith, zero, suc}
 use Rattle.std.specs.declared.option.Option.TheVariants.{Some}
 use Rattle.std.proofs.lemmas.Option.{slice_get-get_or}

@@ -1,4 +1,4 @@
--- A relay over `Beb` is what its rule says, over every lawful history.
+-- A relay over `Beb` does what its rule says, over every lawful history.
 use Rattle.std.proofs.Common.{◌≡◌, ℕ, Bool, true, false, cond, not, ◌&&◌, ◌||◌, List, [], ◌∷◌, ◌++◌, map, filter, refl, ap, ◌∙◌, sym, subst}
 use Rattle.std.specs.List.{list_any}
 use Rattle.std.specs.Ordering.{nat_cmp}

@@ -1,4 +1,4 @@
--- One pass over the entries sends on what is due, each by itself, where best-effort broadcast is below.
+-- One pass over the entries relays each entry that is due, by itself, if best-effort broadcast is below.
 use Rattle.std.proofs.Common.{◌≡◌, ℕ, ◌+◌, Bool, true, false, cond, not, ◌&&◌, List, [], ◌∷◌, ◌++◌, length, map, filter, slice_get, refl, ap, ◌∙◌, sym, append_assoc, length-append}
 use Rattle.std.specs.declared.option.Option.{Option}
 use Rattle.std.specs.declared.option.Option.TheVariants.{None, Some}

@@ -1,4 +1,4 @@
--- Who was noticed in a history, and who holds a message, by the tests of the modules.
+-- The nodes that were noticed in a history, and the holders of a message, by the tests of the modules.
 use Rattle.std.proofs.Common.{◌≡◌, ℕ, Bool, true, false, cond, ◌&&◌, ◌||◌, nat_eq, List, [], ◌∷◌, refl, ap, ◌∙◌, sym}
 use Rattle.std.specs.Ordering.{nat_cmp}
 use Rattle.std.specs.FinSet as set

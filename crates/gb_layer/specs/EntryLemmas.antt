@@ -21,7 +21,7 @@ use Rattle.gb_layer.specs.Relay.{is_for, new_entry, noted, held_entry, sent_entr
 abbrev pub keys : List Entry → List MsgId
 keys = map (λ e. e.m)
 
--- what a change in place leaves as it was
+-- a fact that a change in place leaves as it was
 pub held_same : {A : Type 0} (p : Entry → A) (me via : NodeId) (x : MsgId) → ((e : Entry) → p (held_entry me via e) ≡ p e) → (e : Entry) → p (held me via x e) ≡ p e
 held_same p me via x k e = elim (is_for x e) as (λ b. p (cond b (held_entry me via e) e) ≡ p e) [ true ↦ k e | false ↦ refl ]
 
@@ -46,7 +46,7 @@ keys_handed due es = map_same (λ e. e.m) (handed due) (λ e. e.m) (handed_same 
 pub keys_noted : (past : List Call) (es : List Entry) (m : MsgId) → keys es ≡ first_mentions past → keys (noted es m) ≡ cond (mentions past m) (first_mentions past) (first_mentions past ++ m ∷ [])
 keys_noted past es m k = lists.keys_noted (λ e. e.m) past es (new_entry m) k
 
--- what was sent
+-- the entry is of m, and was sent
 abbrev sent_for : MsgId → Entry → Bool
 sent_for m e = is_for m e && e.sent
 
@@ -102,11 +102,11 @@ unsent_at (x ∷ es) (suc i) e is s h =
       | false ↦ λ k. unsent_at es i e is s k
     ] h
 
--- what was handed up
+-- the entry is of m, and was handed up
 abbrev pub given_for : MsgId → Entry → Bool
 given_for m e = is_for m e && e.given
 
--- what the holders do not count for
+-- a count that does not depend on the holders
 pub count_taken_in : (p : Entry → Bool) (me : NodeId) → ((via : NodeId) (e : Entry) → p (held_entry me via e) ≡ p e) → (us : List Up) (es : List Entry) → count_by p (taken_in me us es) ≡ count_by p es
 count_taken_in p me k [] es = refl
 count_taken_in p me k (u ∷ us) es = count_taken_in p me k us (map (held me u.via u.m) es) ∙ count_by-map p (held me u.via u.m) (held_same p me u.via u.m (k u.via)) es
@@ -120,7 +120,7 @@ given_marked x es m = count_by-map (given_for m) (marked_sent x) (marked_same (g
 pub given_noted : (es : List Entry) (x m : MsgId) → count_by (given_for m) (noted es x) ≡ count_by (given_for m) es
 given_noted es x m = count_by-grown (given_for m) (list_any (is_for x) es) es (new_entry x) (and-false (same x m))
 
--- each that is handed up now was not before
+-- each entry that is handed up now was not handed up before
 pub given_handed : (due : Entry → Bool) → ((e : Entry) → due e ≡ true → e.given ≡ false) → (es : List Entry) (m : MsgId)
     → count_by (given_for m) es + count_by (is_of m) (map up_of (filter due es)) ≡ count_by (given_for m) (map (handed due) es)
 given_handed due new [] m = refl

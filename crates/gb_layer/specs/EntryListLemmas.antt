@@ -18,11 +18,11 @@ module _ {E : Type 0} (message : E → MsgId) where
   abbrev pub is_for : MsgId → E → Bool
   is_for m e = same (message e) m
 
-  -- there is an entry of m where m is among the messages
+  -- there is an entry of m if and only if m is among the messages
   pub any_keys : (m : MsgId) (es : List E) → list_any (is_for m) es ≡ list_any (λ y. same y m) (map message es)
   any_keys m es = sym (any_map (λ y. same y m) message (is_for m) (λ e. refl) es)
 
-  -- there is an entry of what was mentioned, and of nothing else
+  -- there is an entry of each message that was mentioned, and of no other
   pub has_mentioned : (past : List Call) (es : List E) (m : MsgId) → map message es ≡ first_mentions past → list_any (is_for m) es ≡ mentions past m
   has_mentioned past es m k = any_keys m es ∙ (ap (list_any (λ y. same y m)) k ∙ first_mentions-any past m)
 
@@ -30,7 +30,7 @@ module _ {E : Type 0} (message : E → MsgId) where
   keys_grown true es e = refl
   keys_grown false es e = map-append message es (e ∷ [])
 
-  -- one more entry, where there was none of its message
+  -- one more entry, if there is none of its message
   pub keys_noted : (past : List Call) (es : List E) (e : E) → map message es ≡ first_mentions past
       → map message (cond (list_any (is_for (message e)) es) es (es ++ e ∷ [])) ≡ cond (mentions past (message e)) (first_mentions past) (first_mentions past ++ message e ∷ [])
   keys_noted past es e k = keys_grown _ es e ∙ (λ i. cond (has_mentioned past es (message e) k i) (k i) (k i ++ message e ∷ []))
@@ -40,7 +40,7 @@ module _ {E : Type 0} (message : E → MsgId) where
     abbrev pub is_marked : MsgId → E → Bool
     is_marked m e = is_for m e && mark e
 
-    -- a message is marked at most once, and only where it was mentioned
+    -- a message is marked at most once, and only if it was mentioned
     pub mark_count : (past : List Call) (es : List E) (m : MsgId) → map message es ≡ first_mentions past → count_by (is_marked m) es ≤ cond (mentions past m) 1 0
     mark_count past es m k =
         subst (λ (n : ℕ). count_by (is_marked m) es ≤ n)
@@ -72,7 +72,7 @@ module _ {E : Type 0} (message : E → MsgId) where
             | false ↦ λ _. refl
           ] refl
 
-      -- the entry of x is changed: x is then marked, beside what was
+      -- the entry of x is changed: then x is marked, and the messages that were marked before
       pub any_marked : (es : List E) (x m : MsgId) → list_any (is_for x) es ≡ true → list_any (is_marked m) (map (changed x) es) ≡ (same x m || list_any (is_marked m) es)
       any_marked es x m h =
           elim (same x m) as (λ b. same x m ≡ b → list_any (is_marked m) (map (changed x) es) ≡ (b || list_any (is_marked m) es)) [

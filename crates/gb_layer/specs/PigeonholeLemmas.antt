@@ -1,4 +1,4 @@
--- There are no more different messages within a limit than it counts.
+-- The number of different messages within a limit is at most the limit's count.
 use Rattle.std.proofs.Common.{◌≡◌, ℕ, ◌+◌, ◌*◌, ◌≤◌, Bool, true, false, cond, ◌&&◌, ◌||◌, nat_eq, nat_le, List, [], ◌∷◌, ◌++◌, length, map, count_by, refl, ap, ◌∙◌, sym, arith, zero, suc}
 use Rattle.std.proofs.lemmas.List.{length-map}
 use Rattle.std.specs.List.{list_any, list_all, IsDistinct, AllByRecursion}
@@ -116,7 +116,7 @@ have_codes l (m ∷ ms) h q k =
       | false ↦ λ _ r. have_codes l ms (and_right _ _ h) q r
     ] refl k
 
--- different messages within a limit are no more than it counts
+-- the number of different messages within a limit is at most the limit's count
 pub no_more_messages : (l : Limit) (ms : List MsgId) → list_all (is_counted l) ms ≡ true → IsDistinct same ms → length ms ≤ message_count l
 no_more_messages l ms h d =
     let a = length-le_from_is_member pair_laws (map code ms) (cells l.members (below NODES) l.msgs) (distinct_codes ms d) (have_codes l ms h) in

@@ -1,4 +1,4 @@
--- How often a relay sends a message, and hands it up.
+-- The number of times that a relay sends a message, and hands it up.
 use Rattle.std.proofs.Common.{◌≡◌, ℕ, ◌+◌, ◌≤◌, true, false, cond, List, [], ◌∷◌, ◌++◌, length, map, slice_get, count_by, refl, ap, ◌∙◌, sym, arith, subst, zero, suc}
 use Rattle.std.specs.declared.option.Option.{Option}
 use Rattle.std.specs.declared.option.Option.TheVariants.{None, Some}

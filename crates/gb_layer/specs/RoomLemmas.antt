@@ -1,4 +1,4 @@
--- More free places are room for as many calls, or fewer.
+-- More free places are room for as many calls or fewer.
 use Rattle.std.proofs.Common.{◌≡◌, ℕ, ◌+◌, ◌-◌, ◌≤◌, List, ◌++◌, length, ap, ◌∙◌, length-append, vec_capacity, refl, sym, subst, arith}
 use Rattle.std.specs.Prelude.{IfOk, OnOk}
 use Rattle.std.specs.Global.{Vec}
@@ -30,7 +30,7 @@ stays_then a b =
     let n = b.memory in
     record { items = b.items ∙ a.items; len = b.len ∙ a.len; memory = omega (arith, m, n) }
 
--- as many places are left as were free before so many more came
+-- after `more` items came, the free places are at least those of before less the number of these items
 pub free_left : {A : Type 0} (xs ys : Vec A) (more : List A) → ys.items ≡ xs.items ++ more → vec_capacity xs ≤ vec_capacity ys → free xs - length more ≤ free ys
 free_left xs ys more is memory =
     let len : length ys.items ≡ length xs.items + length more = ap length is ∙ length-append xs.items more in

@@ -1,4 +1,4 @@
--- A run of a relay, told by the run of the layer below.
+-- The run of a relay, described by the run of the layer below.
 use Rattle.std.proofs.Common.{◌≡◌, ◌≢◌, ℕ, ◌+◌, Bool, true, false, cond, ◌&&◌, ◌||◌, nat_eq, List, [], ◌∷◌, ◌++◌, length, map, filter, slice_get, refl, ap, ◌∙◌, sym, subst, zero, suc, append_assoc}
 use Rattle.std.specs.declared.option.Option.{Option}
 use Rattle.std.specs.declared.option.Option.TheVariants.{None, Some}
@@ -20,7 +20,7 @@ use Rattle.gb_layer.specs.Rule.{Rules}
 use Rattle.gb_layer.specs.Relay.{State, noted, marked_sent, is_sent, noting, is_repeat, relay, relay_sends, begun, begun_sends, wants_relay, wants_delivery, due_message, relay_any, relay_any_sends, relay_from, relay_from_sends, given, given_ups, relayed, relayed_sends, relay_next, relay_gives}
 use Rattle.gb_layer.specs.EntryLemmas.{keys, keys_taken_in, keys_marked, keys_handed, keys_noted, sent_taken_in, sent_handed, sent_noted, sent_marked, unsent_at, any_at, sent_has}
 
--- after the history past of a relay that began over s0, its state is r and xs was sent
+-- after the history past of a relay that began over s0, its state is r and it sent xs
 pub record Trace {S : Type 0} (next : S → Call → S) (gives : S → Call → Gives) (node : ℕ) (s0 : S) (past : List Call) (r : State S) (xs : List MsgId) : Type 0 where
   -- the history of the layer below
   pub calls : List Call
@@ -46,7 +46,7 @@ module _ {S : Type 0} (next : S → Call → S) (gives : S → Call → Gives) (
         | false ↦ λ _ l. f l
       ] refl k
 
-  -- m is sent on, which was mentioned and was not sent
+  -- m, which was mentioned and not sent, is relayed
   trace_relay : (past : List Call) (r : State S) (xs : List MsgId) (m : MsgId) → mentions past m ≡ true → is_sent r.entries m ≡ false → T past r xs → T past (relay next gives me r m) (xs ++ relay_sends next gives me r m)
   trace_relay past r xs m here fresh t =
       let us = (gives r.lower (Say m)).ups in

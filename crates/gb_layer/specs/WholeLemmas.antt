@@ -1,4 +1,4 @@
--- A relay that has its memory, and what keeps it so.
+-- A relay that has its memory keeps it.
 use Rattle.std.proofs.Common.{◌≡◌, ℕ, ◌+◌, ◌≤◌, Bool, true, false, cond, ◌&&◌, List, [], ◌∷◌, ◌++◌, length, map, slice_get, vec_capacity, refl, ap, sym, ◌∙◌, subst, arith, zero, suc}
 use Rattle.std.specs.declared.option.Option.TheVariants.{None, Some}
 use Rattle.std.specs.List.{list_any, list_all, IsDistinct, AllByRecursion}
@@ -22,7 +22,7 @@ use Rattle.gb_layer.specs.EntryListLemmas as lists
 use Rattle.gb_layer.specs.RelayState.{HasRoom, IsWhole, limit_below, relay_need, unsent}
 use Rattle.gb_layer.specs.PigeonholeLemmas.{no_more_messages}
 
--- the number of calls does not matter
+-- being within the limit does not depend on the number of calls
 pub within_more : (l : Limit) (n : ℕ) (c : Call) → is_within l c ≡ true → is_within (in_calls l n) c ≡ true
 within_more l n (Say m) h = h
 within_more l n (Came p m) h = h
@@ -57,7 +57,7 @@ module _ {E : Type 0} (message : E → MsgId) where
         | false ↦ ap (list_all (is_counted l)) (map-append message es (e ∷ [])) ∙ all_pushed (is_counted l) (map message es) (message e) h k
       ]
 
-  -- which stands there once
+  -- the messages stay distinct
   pub once_grown : (es : List E) (e : E) → IsDistinct same (map message es) → IsDistinct same (map message (cond (list_any (λ x. same (message x) (message e)) es) es (es ++ e ∷ [])))
   once_grown es e d =
       elim (list_any (λ x. same (message x) (message e)) es) as (λ b. list_any (λ x. same (message x) (message e)) es ≡ b → IsDistinct same (map message (cond b es (es ++ e ∷ [])))) [
@@ -98,7 +98,7 @@ module _ {L R : Type 0} {layer : _} {rule : _} (below : L → ℕ → ℕ → �
       }
 
 module _ {L R : Type 0} {layer : _} {rule : _} (below_whole : L → Limit → Type 0) where
-  -- what keeps the messages and the memory keeps a relay so
+  -- a step that keeps the messages and the memory keeps the relay whole
   pub whole_kept : (r r' : Relay L R layer rule) (l : Limit) → (below_whole r.lower (limit_below l) → below_whole r'.lower (limit_below l)) → vec_capacity r.entries.list ≤ vec_capacity r'.entries.list
       → keys r'.entries.list.items ≡ keys r.entries.list.items → IsWhole below_whole r l → IsWhole below_whole r' l
   whole_kept r r' l f c k w =
@@ -122,7 +122,7 @@ module _ {L R : Type 0} {layer : _} {rule : _} (below_whole : L → Limit → Ty
         once = subst (IsDistinct same) (sym k) (once_noted r.entries.list.items m w.once);
       }
 
-  -- a relay that was told nothing, with its memory
+  -- a relay at its start, with its memory
   pub whole_at_start : (r : Relay L R layer rule) (l : Limit) → below_whole r.lower (limit_below l) → message_count l + l.calls ≤ vec_capacity r.entries.list → r.entries.list.items ≡ [] → IsWhole below_whole r l
   unfolding IsDistinct
   whole_at_start r l f c e = record {
@@ -132,7 +132,7 @@ module _ {L R : Type 0} {layer : _} {rule : _} (below_whole : L → Limit → Ty
     once = subst (λ es. IsDistinct same (keys es)) (sym e) tt;
   }
 
--- what is due is within the limit
+-- a message that is due is within the limit
 pub due_counted : {S : Type 0} (next : S → Call → S) (gives : S → Call → Gives) (me : S → NodeId) (rules : Rules) (r : State S) (l : Limit) (i : ℕ) (m : MsgId) → Some m ≡ due_message next gives me rules r (slice_get r.entries i)
     → list_all (is_counted l) (keys r.entries) ≡ true → is_counted l m ≡ true
 due_counted next gives me rules r l i m d h =

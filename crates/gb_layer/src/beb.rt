@@ -13,7 +13,7 @@ use gb_types::memory::OutOfMemory;
 use gb_types::message::MsgId;
 use gb_types::node::{NodeId, NodeSet};
 
-/// Sends what is said, and hands up what is said and whatever comes, from whichever node (Cachin, Guerraoui,
+/// Sends each message that is said. Hands up each message that is said and each that comes, from any node (Cachin, Guerraoui,
 /// Rodrigues 2011, Algorithm 3.1, Basic Broadcast).
 #[derive(Drop)]
 pub struct Beb {
@@ -21,7 +21,7 @@ pub struct Beb {
 }
 
 impl Beb {
-    /// A layer at the node me.
+    /// Returns a layer at the node `me`.
     pub fn new(me: NodeId) -> Beb
         ensures meaning { ⟦<Beb as Layer>⟧.meaning result ≡ me }
         ensures fresh { ⟦<Beb as Layer>⟧.is_fresh (⟦<Beb as Layer>⟧.meaning result) }
@@ -30,7 +30,7 @@ impl Beb {
     }
 }
 
-/// One send and one pair for each call.
+/// Returns room for `calls` sends and `calls` pairs.
 fn one_for_each_call(calls: usize) -> Room
     ensures { result ≡ record { sends = calls; ups = calls } }
 {

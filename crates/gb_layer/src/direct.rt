@@ -1,4 +1,4 @@
-//! A layer that lets through what came from where it was made.
+//! A layer that hands up only what came from its origin.
 ghost use Rattle.std.specs.Prelude.{◌≡◌, ◌≤◌, ◌++◌, take, drop, filter, vec_len, vec_capacity};
 ghost use Rattle.gb_layer.specs.Machine.{is_own, own_gives};
 ghost use Rattle.gb_layer.specs.DirectLemmas.{direct_sends_handed_in, direct_ups_handed_in, direct_up_once, direct_sent_once, direct_noticed_once, own_pairs};
@@ -10,7 +10,7 @@ use gb_types::memory::OutOfMemory;
 use gb_types::message::MsgId;
 use gb_types::node::{NodeId, NodeSet};
 
-/// Keeps, of the pairs from a place on, those that came from where the message was made.
+/// Removes the pairs from index `from` on that did not come from the message's origin.
 fn keep_own(ups: &mut Vec<Up>, from: usize)
     requires { from ≤ vec_len ups.old }
     ensures items { ups.new.items ≡ take from ups.old.items ++ filter is_own (drop from ups.old.items) }
@@ -28,15 +28,15 @@ fn keep_own(ups: &mut Vec<Up>, from: usize)
     }
 }
 
-/// Hands up only what came from where it was made; a copy that another node relayed stays below. All else is
-/// the lower layer's. `Direct<Beb>` is best-effort broadcast (Cachin, Guerraoui, Rodrigues 2011, Module 3.1).
+/// Hands up only what came from its origin. A copy that another node relayed is not handed up. Everything else is done by the lower
+/// layer. `Direct<Beb>` is best-effort broadcast (Cachin, Guerraoui, Rodrigues 2011, Module 3.1).
 #[derive(Drop)]
 pub struct Direct<L> {
     pub lower: L,
 }
 
 impl<L: Layer> Direct<L> {
-    /// A layer over another, in which it is all that is remembered.
+    /// Returns a layer over `lower`. It remembers nothing besides what `lower` remembers.
     pub fn new(lower: L) -> Direct<L>
         ensures meaning { ⟦<Direct<L> as Layer>⟧.meaning result ≡ L.meaning lower }
         ensures fresh { L.is_fresh (L.meaning lower) → ⟦<Direct<L> as Layer>⟧.is_fresh (⟦<Direct<L> as Layer>⟧.meaning result) }

@@ -1,4 +1,4 @@
-//! What a relay remembers of each message, in the order of first mention.
+//! The entries of a relay, one for each message, in the order of first mention.
 ghost use Rattle.std.specs.Prelude.{◌≡◌, ◌≤◌, length, map, vec_len, vec_capacity};
 ghost use Rattle.gb_layer.specs.Places.{StandsAmong};
 ghost use Rattle.std.specs.List.{list_any};
@@ -8,7 +8,7 @@ use crate::places::Places;
 use gb_types::message::MsgId;
 use gb_types::node::{NodeId, NodeSet};
 
-/// A message, which nodes hold it as far as this node knows, and whether it was sent and handed up from here.
+/// A message, the nodes that hold it as far as this node knows, and whether it was sent and handed up from here.
 #[derive(Drop)]
 pub struct Entry {
     pub m: MsgId,
@@ -17,21 +17,21 @@ pub struct Entry {
     pub given: bool,
 }
 
-/// Whether there is an entry of m.
+/// Returns true if there is an entry of `m`.
 pub(crate) fn has_entry(entries: &[Entry], m: MsgId) -> bool
     ensures { result ≡ list_any (is_for m) entries.now }
 {
     entries.iter().any(|e| e.m == m)
 }
 
-/// Whether m was sent from here.
+/// Returns true if `m` was sent from here.
 pub(crate) fn was_sent(entries: &[Entry], m: MsgId) -> bool
     ensures { result ≡ is_sent entries.now m }
 {
     entries.iter().any(|e| e.m == m && e.sent)
 }
 
-/// Writes down in an entry, if it is of m, that this node and via hold m.
+/// Records in an entry, if it is of `m`, that this node and `via` hold `m`.
 pub(crate) fn hold_one(e: &mut Entry, me: NodeId, via: NodeId, m: MsgId)
     ensures { e.new ≡ held me via m e.old }
 {
@@ -41,7 +41,7 @@ pub(crate) fn hold_one(e: &mut Entry, me: NodeId, via: NodeId, m: MsgId)
     }
 }
 
-/// Writes down that this node and via hold m, which stands at these places.
+/// Records that this node and `via` hold `m`, whose entry, if there is one, is at one of these places.
 pub(crate) fn hold_in(entries: &mut Vec<Entry>, places: Places, me: NodeId, via: NodeId, m: MsgId)
     requires places { StandsAmong (is_for m) places.from places.to entries.old.items }
     requires within { places.to ≤ length entries.old.items }
@@ -54,7 +54,7 @@ pub(crate) fn hold_in(entries: &mut Vec<Entry>, places: Places, me: NodeId, via:
     }
 }
 
-/// Marks an entry, if it is of m, as sent from here.
+/// Marks an entry, if it is of `m`, as sent from here.
 pub(crate) fn mark_one(e: &mut Entry, m: MsgId)
     ensures { e.new ≡ marked_sent m e.old }
 {
@@ -63,7 +63,7 @@ pub(crate) fn mark_one(e: &mut Entry, m: MsgId)
     }
 }
 
-/// Marks m as sent from here.
+/// Marks `m` as sent from here.
 pub(crate) fn mark_all(entries: &mut [Entry], m: MsgId)
     ensures { entries.new ≡ map (marked_sent m) entries.old }
 {
@@ -72,7 +72,7 @@ pub(crate) fn mark_all(entries: &mut [Entry], m: MsgId)
     }
 }
 
-/// Marks m as sent from here.
+/// Marks `m` as sent from here.
 pub(crate) fn mark_sent(entries: &mut Vec<Entry>, m: MsgId)
     ensures items { entries.new.items ≡ map (marked_sent m) entries.old.items }
     ensures len { vec_len entries.new ≡ vec_len entries.old }

@@ -1,4 +1,4 @@
-//! What a layer is.
+//! The trait of a layer.
 ghost use Rattle.std.specs.Prelude.{◌≡◌, ℕ, ◌+◌, ◌-◌, ◌≤◌, ◌++◌, IfOk, OnOk, length, true, vec_capacity};
 ghost use Rattle.gb_types.specs.declared.node.NodeId.{NodeId};
 ghost use Rattle.gb_layer.specs.declared.call.Call.{Call};
@@ -17,16 +17,16 @@ use gb_types::node::{NodeId, NodeSet};
 
 /// A layer of a broadcast at one node.
 ///
-/// What a call gives, and what the layer then remembers, is a function of what it remembered and of the call:
-/// `gives` and `next`. What it gives is appended to two lists, messages to send to each other member and pairs that
-/// came up, whose earlier items stay. No call but `ready` and `whole` takes memory: `ready` makes room for the next
-/// calls, and `whole`, asked once, for all calls that are about messages within a limit.
+/// The effects of a call, and the state after it, are functions of the state before it and of the call: `gives` and `next`. The
+/// effects are appended to two lists: messages to send to each other member, and pairs that came up. Earlier items of the lists
+/// stay. Only `ready` and `whole` take memory. `ready` reserves it for the next calls. `whole` reserves it, once, for all calls
+/// about messages within a limit.
 ///
-/// The caller owes: each message is said at most once; no pair of a sender and a message comes twice; `from`
-/// and `who` are other nodes. Where it does not keep these, each call still does as `gives` and `next` say,
-/// and only the two laws `up_once` and `sent_once` are lost.
+/// The caller's conditions: each message is said at most once; no pair of a sender and a message comes twice; `from` and `who` are
+/// other nodes. If the caller breaks them, each call still does as `gives` and `next` say, and only the two laws `up_once` and
+/// `sent_once` are lost.
 pub trait Layer {
-    /// What the layer remembers.
+    /// The state of the layer.
     ghost State: { Type 0 };
 
     ghost meaning: { Self → State };
@@ -34,41 +34,41 @@ pub trait Layer {
     /// The node where the layer is.
     ghost me: { State → NodeId };
 
-    /// Nothing was handed in yet.
+    /// No call was made yet.
     ghost is_fresh: { State → Type 0 };
 
-    /// No message was handed in yet: nothing, or notices alone.
+    /// No message was handed in yet. Notices may have been.
     ghost is_empty: { State → Type 0 };
 
     /// The state after a call.
     ghost next: { State → Call → State };
 
-    /// What a call gives.
+    /// The effects of a call.
     ghost gives: { State → Call → Gives };
 
-    /// Where so many more sends and so many more pairs fit into the two lists, the next calls, so many, take no memory,
-    /// also if nobody empties the lists between them.
+    /// `has_room x a b n`: if the two lists have space for `a` more sends and `b` more pairs, the next `n` calls take no memory,
+    /// even if the lists are not emptied between them.
     ghost has_room: { Self → ℕ → ℕ → ℕ → Type 0 };
 
-    /// It has the memory for all calls within the limit.
+    /// The layer has the memory for all calls within the limit.
     ghost is_whole: { Self → Limit → Type 0 };
 
-    /// The most that so many calls within the limit give.
+    /// The greatest number of sends and pairs that the calls within the limit have as effects.
     ghost need: { Limit → Room };
 
-    /// The node where the layer is.
+    /// Returns the node where the layer is.
     fn me(&self) -> NodeId
         ensures { result ≡ me (meaning self.now) };
 
-    /// Takes the layer's own memory for the next `calls` calls. Gives how much room these need in the two lists. A
-    /// refusal changes nothing that is remembered.
+    /// Reserves the layer's own memory for the next `calls` calls. Returns the room that they need in the two lists. If memory is
+    /// refused, the state stays as it was.
     fn prepare(&mut self, calls: usize) -> Result<Room, OutOfMemory>
         ensures meaning { meaning self.new ≡ meaning self.old }
         ensures room { IfOk result (λ most. has_room self.new most.sends most.ups calls) };
 
-    /// Takes, once, all of the layer's own memory that calls ever need that are about messages of these members,
-    /// numbered from 1 to `msgs`, where the two lists are emptied after each `calls` calls. Gives how much room they need
-    /// in the two lists. A refusal changes nothing that is remembered.
+    /// Reserves, once, all of the layer's own memory for calls about messages of these members, numbered from 1 to `msgs`. The two
+    /// lists are to be emptied after each `calls` calls. Returns the room that the calls need in the two lists. If memory is
+    /// refused, the state stays as it was.
     fn prepare_whole(
         &mut self,
         members: &NodeSet,
@@ -80,8 +80,8 @@ pub trait Layer {
         ensures whole { OnOk result (is_whole self.new (record { members = members.now; msgs = msgs; calls = calls })) }
         ensures need { IfOk result (λ most. most ≡ need (record { members = members.now; msgs = msgs; calls = calls })) };
 
-    /// Makes room for the next `calls` calls, in the layer and in the two lists. A refusal changes nothing that is
-    /// remembered or was given.
+    /// Reserves memory for the next `calls` calls, in the layer and in the two lists. If memory is refused, the state and the
+    /// lists' items stay as they were.
     final fn ready(
         &mut self,
         calls: usize,
@@ -99,9 +99,9 @@ pub trait Layer {
         Ok(())
     }
 
-    /// Takes, once, all the memory that calls ever need that are about messages of these members, numbered from 1
-    /// to `msgs`, where the two lists are emptied after each `calls` calls and keep their memory. A refusal changes
-    /// nothing that is remembered or was given.
+    /// Reserves, once, all the memory for calls about messages of these members, numbered from 1 to `msgs`. The two lists are to be
+    /// emptied after each `calls` calls and keep their memory. If memory is refused, the state and the lists' items stay as they
+    /// were.
     final fn whole(
         &mut self,
         members: &NodeSet,
@@ -126,8 +126,8 @@ pub trait Layer {
         Ok(())
     }
 
-    /// Takes a call: a layer's own work. `say`, `came` and `notice` are this, one for each call. It brings no more pairs
-    /// than it has room for, and may put more aside behind those that are there while it runs.
+    /// Executes a call: the layer's own work. `say`, `came` and `notice` each make one such call. It adds no more pairs than it has
+    /// room for. While it runs it may put further pairs behind the list's items.
     fn take(&mut self, call: Call, sends: &mut Vec<MsgId>, ups: &mut Vec<Up>)
         requires { has_room self.old (free sends.old) (free ups.old) 1 }
         ensures meaning { meaning self.new ≡ next (meaning self.old) call }
@@ -139,7 +139,7 @@ pub trait Layer {
         ensures sends_memory { vec_capacity sends.old ≤ vec_capacity sends.new }
         ensures ups_memory { vec_capacity ups.old ≤ vec_capacity ups.new };
 
-    /// Broadcasts m, a message of this node.
+    /// Broadcasts `m`, a message of this node.
     final fn say(&mut self, m: MsgId, sends: &mut Vec<MsgId>, ups: &mut Vec<Up>)
         requires { has_room self.old (free sends.old) (free ups.old) 1 }
         ensures meaning { meaning self.new ≡ next (meaning self.old) (Say m) }
@@ -154,7 +154,7 @@ pub trait Layer {
         self.take(Call::Say(m), sends, ups);
     }
 
-    /// Takes m, which came from another node: its origin, or a node that relayed it.
+    /// Receives `m` from another node: its origin, or a node that relayed it.
     final fn came(&mut self, from: NodeId, m: MsgId, sends: &mut Vec<MsgId>, ups: &mut Vec<Up>)
         requires { has_room self.old (free sends.old) (free ups.old) 1 }
         ensures meaning { meaning self.new ≡ next (meaning self.old) (Came from m) }
@@ -169,7 +169,7 @@ pub trait Layer {
         self.take(Call::Came(from, m), sends, ups);
     }
 
-    /// Takes note that another node is noticed to have crashed.
+    /// Records that another node is noticed to have crashed.
     final fn notice(&mut self, who: NodeId, sends: &mut Vec<MsgId>, ups: &mut Vec<Up>)
         requires { has_room self.old (free sends.old) (free ups.old) 1 }
         ensures meaning { meaning self.new ≡ next (meaning self.old) (Notice who) }
@@ -184,34 +184,34 @@ pub trait Layer {
         self.take(Call::Notice(who), sends, ups);
     }
 
-    /// More free places are room for as many calls, or fewer.
+    /// More space in the lists is room for as many calls or fewer.
     ghost roomier: { (x : Self) (a b n a' b' n' : ℕ) → a ≤ a' → b ≤ b' → n' ≤ n → has_room x a b n → has_room x a' b' n' };
 
     /// A layer stays at its node.
     ghost me_stays: { StaysAtItsNode next me };
 
-    /// Only what was handed in is sent.
+    /// Each message that is sent was handed in.
     ghost sends_handed_in: { SendsWhatWasHandedIn next gives is_fresh };
 
-    /// Only what was handed in comes up.
+    /// Each message that comes up was handed in.
     ghost ups_handed_in: { HandsUpWhatWasHandedIn next gives is_fresh };
 
-    /// No pair comes up twice, where the caller keeps its conditions.
+    /// No pair comes up twice, if the caller keeps its conditions.
     ghost up_once: { HandsUpOnce next gives is_fresh me };
 
-    /// No message is sent twice, where the caller keeps its conditions.
+    /// No message is sent twice, if the caller keeps its conditions.
     ghost sent_once: { SendsOnce next gives is_fresh me };
 
     /// A second notice of a node has no effect.
     ghost noticed_once: { NoticesOnce next gives is_fresh };
 
-    /// A layer that has its memory has room, where what the calls give at most fits into the two lists.
+    /// A layer that has its memory has room if the two lists have space for the greatest effects of the calls.
     ghost whole_room: { (x : Self) (l : Limit) (a b : ℕ) → is_whole x l → (need l).sends ≤ a → (need l).ups ≤ b → has_room x a b l.calls };
 }
 
-/// A layer that hands up each message as if it came from where it was made: so no message comes up twice,
-/// where the caller keeps its conditions.
+/// A layer that hands up each message as received from its origin. So no message comes up twice, if the caller keeps its
+/// conditions.
 pub trait Broadcast: Layer {
-    /// Whatever comes up came from where it was made.
+    /// Each message that comes up is handed up as received from its origin.
     ghost own_via: { ComesFromItsOrigin Self.gives };
 }

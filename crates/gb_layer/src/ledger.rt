@@ -1,4 +1,4 @@
-//! What a relay remembers of each message, with a table that leads to it.
+//! The entries of a relay, with a table that finds them.
 ghost use Rattle.std.specs.Prelude.{◌≡◌, ◌+◌, ◌≤◌, ◌&&◌, true, [], count_by, OnOk, map, length, MatchOption, vec_len, vec_capacity};
 ghost use Rattle.std.specs.List.{list_any};
 ghost use Rattle.gb_layer.specs.EntryLemmas.{keys};
@@ -14,7 +14,7 @@ use gb_types::message::MsgId;
 use gb_types::node::{NodeId, NodeSet};
 use std::alloc::Global;
 
-/// The entries in the order of first mention, and where each is, by origin and number.
+/// The entries in the order of first mention, and the place of each, by origin and number.
 #[derive(Drop)]
 pub struct Ledger {
     pub list: Vec<Entry>,
@@ -23,7 +23,7 @@ pub struct Ledger {
 }
 
 impl Ledger {
-    /// No entries.
+    /// Returns a ledger without entries.
     pub fn new(alloc: Global) -> Ledger
         ensures { result.list.items ≡ [] }
     {
@@ -33,7 +33,7 @@ impl Ledger {
         }
     }
 
-    /// Has the table cover the members' messages numbered from 1 to this width, where there are no entries yet.
+    /// Makes the table cover the members' messages numbered from 1 to `width`. There are no entries yet.
     pub fn cover(&mut self, members: &NodeSet, width: u16) -> Result<(), OutOfMemory>
         requires { self.old.list.items ≡ [] }
         ensures list { self.new.list ≡ self.old.list }
@@ -42,14 +42,14 @@ impl Ledger {
         self.table.cover(members, width)
     }
 
-    /// The place that the table means by v, if there is one.
+    /// Returns the place that the table means by `v`, if there is one.
     fn place(&self, v: usize) -> Option<usize>
         ensures { MatchOption result (IsNowhere (length self.now.list.items) v) (IsThere (length self.now.list.items) v) }
     {
         place(self.list.len(), v)
     }
 
-    /// Where an entry of m may stand.
+    /// Returns the places where an entry of `m` may stand.
     pub fn places(&self, m: MsgId) -> Places
         ensures places { StandsAmong (is_for m) result.from result.to self.now.list.items }
         ensures within { result.to ≤ length self.now.list.items }
@@ -57,7 +57,7 @@ impl Ledger {
         self.table.places(m, self.list.len())
     }
 
-    /// Whether there is an entry of m.
+    /// Returns true if there is an entry of `m`.
     pub fn has(&self, m: MsgId) -> bool
         ensures { result ≡ list_any (is_for m) self.now.list.items }
     {
@@ -70,7 +70,7 @@ impl Ledger {
         }
     }
 
-    /// Whether m was sent from here.
+    /// Returns true if `m` was sent from here.
     pub fn was_sent(&self, m: MsgId) -> bool
         ensures { result ≡ is_sent self.now.list.items m }
     {
@@ -83,7 +83,7 @@ impl Ledger {
         }
     }
 
-    /// Adds an entry of m, where there is none.
+    /// Adds an entry of `m` if there is none.
     pub fn note(&mut self, m: MsgId)
         requires { vec_len self.old.list + 1 ≤ vec_capacity self.old.list }
         ensures items { self.new.list.items ≡ noted self.old.list.items m }
@@ -98,7 +98,7 @@ impl Ledger {
         }
     }
 
-    /// Adds an entry of m, where there is none, and marks m as sent from here.
+    /// Adds an entry of `m` if there is none, and marks `m` as sent from here.
     pub fn note_sent(&mut self, m: MsgId)
         requires { vec_len self.old.list + 1 ≤ vec_capacity self.old.list }
         ensures items { self.new.list.items ≡ map (marked_sent m) (noted self.old.list.items m) }
@@ -115,7 +115,7 @@ impl Ledger {
         }
     }
 
-    /// Writes down that this node and via hold m, which stands at these places.
+    /// Records that this node and `via` hold `m`, whose entry, if there is one, is at one of these places.
     pub fn hold(&mut self, places: Places, me: NodeId, via: NodeId, m: MsgId)
         requires places { StandsAmong (is_for m) places.from places.to self.old.list.items }
         requires within { places.to ≤ length self.old.list.items }
@@ -126,7 +126,7 @@ impl Ledger {
         hold_in(&mut self.list, places, me, via, m);
     }
 
-    /// Marks m as sent from here.
+    /// Marks `m` as sent from here.
     pub fn mark_sent(&mut self, m: MsgId)
         ensures items { self.new.list.items ≡ map (marked_sent m) self.old.list.items }
         ensures len { vec_len self.new.list ≡ vec_len self.old.list }
@@ -142,7 +142,7 @@ impl Ledger {
     }
 }
 
-/// An entry of m, which was sent from here and has nothing else yet.
+/// Returns an entry of `m` that is marked as sent from here, with no holders, and not handed up.
 fn sent_entry(m: MsgId) -> Entry
     ensures { result ≡ sent_entry (new_entry m) }
 {
@@ -154,7 +154,7 @@ fn sent_entry(m: MsgId) -> Entry
     }
 }
 
-/// An entry of m that has nothing yet.
+/// Returns an entry of `m` with no holders, not sent and not handed up.
 fn new_entry(m: MsgId) -> Entry
     ensures { result ≡ new_entry m }
 {
@@ -166,14 +166,14 @@ fn new_entry(m: MsgId) -> Entry
     }
 }
 
-/// Whether the entry is of m.
+/// Returns true if the entry is of `m`.
 fn is_of(e: &Entry, m: MsgId) -> bool
     ensures { result ≡ is_for m e.now }
 {
     e.m == m
 }
 
-/// Whether the entry is of m, which was sent from here.
+/// Returns true if the entry is of `m` and `m` was sent from here.
 fn is_sent_of(e: &Entry, m: MsgId) -> bool
     ensures { result ≡ (is_for m e.now && e.now.sent) }
 {

@@ -1,15 +1,13 @@
-//! A broadcast at one node, in layers: what is said here, and what comes from other nodes, goes through a
-//! layer, which answers what to send to the other members and what comes up.
+//! A broadcast at one node, in layers. What is said here, and what comes from other nodes, goes through a layer. The layer returns
+//! what to send to the other members and what comes up.
 //!
-//! A layer neither sends nor keeps a payload, knows no clock and takes no memory in a call for which it was
-//! made ready, or for which it took its memory once (`layer::Layer::whole`; `whole` has its caller). It is given
-//! calls, and gives messages by their names.
+//! A layer neither sends nor keeps a payload, and has no clock. It takes no memory in a call for which memory was reserved
+//! (`layer::Layer::ready`, and once for all calls `layer::Layer::whole`). It takes calls, and names messages by origin and number.
 //!
-//! Read `layer::Layer` first: a layer's contract, and the laws that each layer owes. `beb::Beb` is the lowest
-//! layer, and `direct::Direct<Beb>` the broadcast by best effort. `relay::Relay` relays, by a `rule::Rule`: the
-//! reliable broadcasts are rules, and `relays` says what each is. What the modules of broadcast mean, whatever
-//! computes them, stands in specs/Modules.antt, as tests on all that ever came; `modules` says which layers
-//! are which module, and `plain` computes the modules slowly, straight from their meaning.
+//! Read `layer::Layer` first: the contract of a layer, and the laws that each layer obeys. `beb::Beb` is the lowest layer.
+//! `direct::Direct<Beb>` is best-effort broadcast. `relay::Relay` relays, by a `rule::Rule`: the reliable broadcasts are rules, and
+//! `relays` says what each rule does. specs/Modules.antt defines the modules of broadcast, as tests on all calls so far. `modules`
+//! says which layers are which module. `plain` computes the modules slowly, straight from their definition.
 #![tactic(auto)]
 
 pub mod beb;

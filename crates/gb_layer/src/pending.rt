@@ -1,4 +1,4 @@
-//! Which entries are due to be relayed or handed up, and where those that may be stand.
+//! The entries that are due to be relayed or handed up, and the places where these may stand.
 ghost use Rattle.std.specs.Prelude.{◌≡◌, ℕ, ◌<◌, true, [], ◌∷◌, length, slice_get, vec_len, vec_capacity};
 ghost use Rattle.std.specs.declared.option.Option.TheVariants.{Some};
 ghost use Rattle.gb_layer.specs.declared.entries.Entry.{Entry};
@@ -13,14 +13,14 @@ use crate::places::Places;
 use crate::rule::Rule;
 use gb_types::node::{NodeId, NodeSet};
 
-/// Whether a message is here and is to be relayed.
+/// Returns true if the entry's message is here and is to be relayed.
 pub(crate) fn is_due<R: Rule>(entry: &Entry, rule: &R, me: NodeId, noticed: &NodeSet) -> bool
     ensures { result ≡ due_to_relay R.rules me noticed.now entry.now }
 {
     !entry.sent && (entry.holders.contains(me) && rule.broadcasts(me, noticed, entry.m))
 }
 
-/// Whether a message is here and is to be handed up.
+/// Returns true if the entry's message is here and is to be handed up.
 pub(crate) fn is_ready<R: Rule>(
     entry: &Entry,
     rule: &R,
@@ -33,7 +33,7 @@ pub(crate) fn is_ready<R: Rule>(
     !entry.given && (entry.holders.contains(me) && rule.delivers(members, noticed, &entry.holders))
 }
 
-/// Whether a message is to be relayed or to be handed up.
+/// Returns true if the entry's message is to be relayed or to be handed up.
 fn is_pending<R: Rule>(
     entry: &Entry,
     rule: &R,
@@ -46,7 +46,7 @@ fn is_pending<R: Rule>(
     is_due(entry, rule, me, noticed) || is_ready(entry, rule, me, members, noticed)
 }
 
-/// Adds the place k, if the message there is to be relayed or to be handed up.
+/// Adds the place `k` if the message there is to be relayed or to be handed up.
 fn add_one<R: Rule>(
     entry: &Entry,
     k: usize,
@@ -65,7 +65,7 @@ fn add_one<R: Rule>(
     }
 }
 
-/// Adds, of these places, those where a message is to be relayed or to be handed up.
+/// Adds those of these places where a message is to be relayed or to be handed up.
 pub(crate) fn add_pending<R: Rule>(
     entries: &[Entry],
     places: Places,
@@ -85,7 +85,7 @@ pub(crate) fn add_pending<R: Rule>(
     }
 }
 
-/// Writes down that this node and via hold what came up below.
+/// Records that this node and `via` hold the message that came up below.
 fn hold<R: Rule>(
     ledger: &mut Ledger,
     rule: &R,
@@ -106,7 +106,7 @@ fn hold<R: Rule>(
     add_pending(&ledger.list, places, rule, me, members, noticed, pending);
 }
 
-/// Writes down who holds what came up below.
+/// Records the holders of each message that came up below.
 pub(crate) fn take_in<R: Rule>(
     ledger: &mut Ledger,
     rule: &R,

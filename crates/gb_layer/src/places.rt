@@ -2,7 +2,7 @@
 ghost use Rattle.std.specs.Prelude.{ℕ, ◌<◌};
 ghost use Rattle.gb_layer.specs.Places.{IsAmong};
 
-/// The places from one on and before another.
+/// The places `from` to `to - 1`.
 #[derive(Clone, Copy)]
 pub struct Places {
     pub from: usize,
@@ -10,7 +10,7 @@ pub struct Places {
 }
 
 impl Places {
-    /// One place more, and what lies between it and the others.
+    /// Adds place `k`, and each place between it and the others.
     pub fn widen(&mut self, k: usize)
         requires { k < usize.MAX }
         ensures stay { (i : ℕ) → IsAmong self.old.from self.old.to i → IsAmong self.new.from self.new.to i }

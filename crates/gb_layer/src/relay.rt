@@ -1,4 +1,4 @@
-//! A layer that relays, by a rule.
+//! A layer that relays by a rule.
 ghost use Rattle.std.specs.Prelude.{◌≡◌, ℕ, ◌+◌, ◌≤◌, ◌<◌, [], ◌∷◌, ◌++◌, slice_get, vec_len, vec_capacity, IfSome, length, count_by, map, filter, true};
 ghost use Rattle.gb_layer.specs.declared.call.Call.TheVariants.{Say, Came};
 ghost use Rattle.gb_layer.specs.Room.{free, Stays};
@@ -23,11 +23,11 @@ use gb_types::message::MsgId;
 use gb_types::node::{NodeId, NodeSet};
 use std::alloc::Global;
 
-/// Says below, once, each message that the rule broadcasts, and hands up, once, each message that the rule
-/// delivers, as from its origin. A message is here once the layer below has brought it up, and is then held by
-/// this node too. What one call sets free goes in the order of first mention.
+/// Says below, once, each message that the rule broadcasts. Hands up, once, each message that the rule delivers, as received from
+/// its origin. A message is here once the layer below has brought it up; then this node holds it too. What one call releases is in
+/// the order of first mention.
 ///
-/// Over `Beb` this is the module of broadcast whose tests the rule has: see `relays::relays`.
+/// Over `Beb` this is the module of broadcast whose tests the rule equals: see `relays::relays`.
 #[derive(Drop)]
 pub struct Relay<L: Layer, R: Rule> {
     lower: L,
@@ -36,12 +36,12 @@ pub struct Relay<L: Layer, R: Rule> {
     noticed: NodeSet,
     /// The messages that were handed in, in the order of first mention.
     entries: Ledger,
-    /// Where those of the entries stand that are due, if any are: each call but a notice looks at these alone.
+    /// The places of the entries that are due, if there are any. Each call but a notice looks at these alone.
     pending: Places,
     ghost pending_stands: { StandsAmong (is_pending R.rules (L.me (L.meaning lower)) members noticed) pending.from pending.to entries.list.items },
 }
 
-/// Hands up one message, where it is to be.
+/// Hands up one message if it is due.
 fn deliver_one<R: Rule>(
     entry: &mut Entry,
     rule: &R,
@@ -65,7 +65,7 @@ fn deliver_one<R: Rule>(
     }
 }
 
-/// Hands up everything that is to be, which stands at these places.
+/// Hands up each message that is due. These are at `places`.
 fn deliver_all<R: Rule>(
     entries: &mut Vec<Entry>,
     places: Places,
@@ -89,7 +89,7 @@ fn deliver_all<R: Rule>(
     }
 }
 
-/// Hands up everything that is to be, which stands at these places.
+/// Hands up each message that is due. These are at `places`.
 fn deliver_in<R: Rule>(
     ledger: &mut Ledger,
     places: Places,
@@ -114,7 +114,7 @@ fn deliver_in<R: Rule>(
 impl<L: Layer, R: Rule> Relay<L, R> {
     ghost use Rattle.gb_layer.specs.RelayState.{state_of, IsWhole, unsent, ungiven};
 
-    /// A relay over a layer, by a rule, in a group with these members, that was told nothing yet.
+    /// Returns a relay over the layer `lower`, by a rule, in a group with these members. It has no entries and has noticed nobody.
     pub fn new(alloc: Global, lower: L, rule: R, members: NodeSet) -> Relay<L, R>
         ensures meaning { ⟦<Relay<L, R> as Layer>⟧.meaning result ≡ at_start (L.meaning lower) members }
         ensures fresh { L.is_fresh (L.meaning lower) → ⟦<Relay<L, R> as Layer>⟧.is_fresh (⟦<Relay<L, R> as Layer>⟧.meaning result) }
@@ -129,7 +129,8 @@ impl<L: Layer, R: Rule> Relay<L, R> {
         }
     }
 
-    /// Makes a call of the layer below, and writes down who holds what came up. Inlined, so that no call has to be written to
+    /// Makes a call of the layer below, and records who holds what came up. Inlined, so that no call is written to memory and read
+    /// again.
     /// memory and read again.
     #[inline(always)]
     fn call_lower(&mut self, call: Call, sends: &mut Vec<MsgId>, ups: &mut Vec<Up>)
@@ -160,7 +161,7 @@ impl<L: Layer, R: Rule> Relay<L, R> {
         ups.truncate(first);
     }
 
-    /// The message of the entry at i, where it is to be relayed.
+    /// Returns the message of the entry at `i` if it is due to be relayed.
     fn due(&self, i: usize) -> Option<MsgId>
         requires { i < vec_len self.now.entries.list }
         ensures message { result ≡ due_message L.next L.gives L.me R.rules (state_of L.meaning self.now) (slice_get self.now.entries.list.items i) }
@@ -175,7 +176,7 @@ impl<L: Layer, R: Rule> Relay<L, R> {
         }
     }
 
-    /// Relays the message of the entry at i, where it is to be.
+    /// Relays the message of the entry at `i` if it is due.
     fn relay_at(&mut self, i: usize, sends: &mut Vec<MsgId>, ups: &mut Vec<Up>)
         requires within { i < vec_len self.old.entries.list }
         requires room { L.has_room self.old.lower (free sends.old) (free ups.old) (unsent self.old) }
@@ -195,7 +196,7 @@ impl<L: Layer, R: Rule> Relay<L, R> {
         }
     }
 
-    /// Relays everything that is to be.
+    /// Relays each message that is due.
     fn relay_all(&mut self, sends: &mut Vec<MsgId>, ups: &mut Vec<Up>)
         requires { L.has_room self.old.lower (free sends.old) (free ups.old) (unsent self.old) }
         ensures state { state_of L.meaning self.new ≡ relayed L.next L.gives L.me R.rules (state_of L.meaning self.old) }
@@ -217,7 +218,7 @@ impl<L: Layer, R: Rule> Relay<L, R> {
         }
     }
 
-    /// Says m below, unless it was sent from here.
+    /// Says `m` below, unless it was sent from here.
     fn begin_say(&mut self, m: MsgId, sends: &mut Vec<MsgId>, ups: &mut Vec<Up>)
         requires below { L.has_room self.old.lower (free sends.old) (free ups.old) (2 + unsent self.old) }
         requires entries { vec_len self.old.entries.list + 1 ≤ vec_capacity self.old.entries.list }
@@ -237,7 +238,7 @@ impl<L: Layer, R: Rule> Relay<L, R> {
         }
     }
 
-    /// Takes m below.
+    /// Hands `m` to the layer below.
     fn begin_came(&mut self, from: NodeId, m: MsgId, sends: &mut Vec<MsgId>, ups: &mut Vec<Up>)
         requires below { L.has_room self.old.lower (free sends.old) (free ups.old) (2 + unsent self.old) }
         requires entries { vec_len self.old.entries.list + 1 ≤ vec_capacity self.old.entries.list }
@@ -255,7 +256,7 @@ impl<L: Layer, R: Rule> Relay<L, R> {
         self.call_lower(Call::Came(from, m), sends, ups);
     }
 
-    /// Does the call itself, before anything is relayed.
+    /// Makes the call itself, before anything is relayed.
     fn begin(&mut self, call: Call, sends: &mut Vec<MsgId>, ups: &mut Vec<Up>)
         requires below { L.has_room self.old.lower (free sends.old) (free ups.old) (2 + unsent self.old) }
         requires entries { vec_len self.old.entries.list + 1 ≤ vec_capacity self.old.entries.list }
@@ -283,7 +284,7 @@ impl<L: Layer, R: Rule> Relay<L, R> {
         }
     }
 
-    /// Relays and hands up everything that is to be.
+    /// Relays and hands up each message that is due.
     fn finish(&mut self, sends: &mut Vec<MsgId>, ups: &mut Vec<Up>)
         requires below { L.has_room self.old.lower (free sends.old) (free ups.old) (unsent self.old) }
         requires ups { ungiven self.old ≤ free ups.old }
@@ -322,7 +323,7 @@ impl<L: Layer, R: Rule> Relay<L, R> {
         );
     }
 
-    /// Whether the call is the notice of a node that was noticed.
+    /// Returns true if the call is the notice of a node that was noticed before.
     fn repeats(&self, call: Call) -> bool
         ensures { result ≡ is_repeat (state_of L.meaning self.now) call }
     {

@@ -1,4 +1,4 @@
-//! A table that leads from a message to its place in a list.
+//! A table from a message to its place in a list.
 ghost use Rattle.std.specs.Prelude.{◌≡◌, ◌+◌, ◌≤◌, ◌<◌, ◌++◌, ◌∷◌, [], true, false, List, length, OnOk, MatchOption};
 ghost use Rattle.std.specs.List.{list_any};
 ghost use Rattle.std.specs.declared.option.Option.TheVariants.{None};
@@ -15,16 +15,16 @@ use gb_types::message::MsgId;
 use gb_types::node::{NodeId, NodeSet};
 use std::alloc::Global;
 
-/// Where each message of a list stands, by origin and number: of the members' messages numbered from 1 to a width.
+/// The place of each message of a list, by origin and number. It covers the members' messages numbered from 1 to `width`.
 #[derive(Drop)]
 pub struct Table {
     /// 0, or one more than the place.
     pub told: Vec<u16>,
-    /// 0 once a message came after more than a `u16` counts: then the table speaks of none.
+    /// 0 once a message came after more messages than a `u16` counts. Then the table covers no message.
     pub width: u16,
 }
 
-/// The place among so many that a table means by v, if there is one.
+/// Returns the place, below `count`, that a table means by `v`: `v - 1`. `None` if there is no such place.
 pub fn place(count: usize, v: usize) -> Option<usize>
     ensures { MatchOption result (IsNowhere count v) (IsThere count v) }
 {
@@ -37,7 +37,7 @@ pub fn place(count: usize, v: usize) -> Option<usize>
     Some(v - 1)
 }
 
-/// One more than the greatest number of the nodes, 0 where there are none.
+/// Returns one more than the greatest number of the nodes, or 0 if there are no nodes.
 fn span(nodes: &NodeSet) -> usize
     ensures { result ≤ NODES }
 {
@@ -51,7 +51,7 @@ fn span(nodes: &NodeSet) -> usize
 }
 
 impl Table {
-    /// A table that covers no message.
+    /// Returns a table that covers no message.
     pub fn new(alloc: Global) -> Table
         ensures told { result.told.items ≡ [] }
         ensures width { result.width ≡ 0 }
@@ -62,8 +62,8 @@ impl Table {
         }
     }
 
-    /// Has the table cover the members' messages numbered from 1 to this width, where there are none yet. It takes two
-    /// bytes for each number of each node up to the last member.
+    /// Makes the table cover the members' messages numbered from 1 to `width`. It is empty before. It takes two bytes for each
+    /// number of each node up to the last member.
     pub fn cover(&mut self, members: &NodeSet, width: u16) -> Result<(), OutOfMemory>
         ensures { OnOk result (self.new.width ≡ width) }
     {
@@ -73,7 +73,7 @@ impl Table {
         Ok(())
     }
 
-    /// What the table says of m: 0, or one more than its place; nothing where it does not cover m.
+    /// Returns what the table says of `m`: 0, or one more than its place. `None` if the table does not cover `m`.
     pub fn told(&self, m: MsgId) -> Option<usize>
         ensures { result ≡ told self.now.width self.now.told.items m }
     {
@@ -83,7 +83,7 @@ impl Table {
         }
     }
 
-    /// Where the table speaks of m, if it does.
+    /// Returns the index at which the table speaks of `m`, if it covers `m`.
     fn spot(&self, m: MsgId) -> Option<usize>
         ensures { MatchOption result (told self.now.width self.now.told.items m ≡ None)
             (λ at. (covers self.now.width m ≡ true) × (at ≡ spot self.now.width m) × (at < length self.now.told.items)) }
@@ -95,7 +95,7 @@ impl Table {
         if at < self.told.len() { Some(at) } else { None }
     }
 
-    /// Takes m down, which comes after so many messages, none of which is m.
+    /// Records `m`, which follows `count` other messages.
     pub fn note(&mut self, m: MsgId, count: usize)
         ensures { (ms : List MsgId) → length ms ≡ count → list_any (λ x. same x m) ms ≡ false
             → leads self.old.width self.old.told.items 0 ms ≡ true → leads self.new.width self.new.told.items 0 (ms ++ m ∷ []) ≡ true }
@@ -112,7 +112,7 @@ impl Table {
         }
     }
 
-    /// Where m may stand among so many messages.
+    /// Returns the places where `m` may stand among `count` messages.
     pub fn places(&self, m: MsgId, count: usize) -> Places
         ensures stands { (ms : List MsgId) → length ms ≡ count → leads self.now.width self.now.told.items 0 ms ≡ true
             → StandsAmong (λ x. same x m) result.from result.to ms }

@@ -1,4 +1,4 @@
-//! A layer that took its memory once takes no more.
+//! A layer that reserved its memory once takes no more.
 ghost use Rattle.std.specs.Prelude.{◌≡◌, ◌↔◌, ◌+◌, ◌≤◌, true, IsSome, IfOk, IfSome};
 ghost use Rattle.gb_layer.specs.Limit as limit;
 
@@ -9,8 +9,8 @@ use gb_types::memory::OutOfMemory;
 use gb_types::message::MsgId;
 use gb_types::node::NodeSet;
 
-/// One for each message of these members, numbered from 1 to `msgs`, and one for each of so many calls. None where
-/// there is no such number.
+/// Returns the number of messages of these members, numbered from 1 to `msgs`, plus `calls`. `None` if the sum exceeds
+/// `usize::MAX`.
 pub fn message_and_call_count(members: &NodeSet, msgs: u16, calls: usize) -> Option<usize>
     ensures fits { IsSome result ↔ (limit.message_count (record { members = members.now; msgs = msgs; calls = calls }) + calls ≤ usize.MAX) }
     ensures value { IfSome result (λ count. count ≡ limit.message_count (record { members = members.now; msgs = msgs; calls = calls }) + calls) }
@@ -21,14 +21,14 @@ pub fn message_and_call_count(members: &NodeSet, msgs: u16, calls: usize) -> Opt
     }
 }
 
-/// Whether m is of one of these members, with a number from 1 to `msgs`.
+/// Returns true if `m` is of one of these members, with a number from 1 to `msgs`.
 fn is_counted(members: &NodeSet, msgs: u16, m: MsgId) -> bool
     ensures { result ≡ limit.is_counted (record { members = members.now; msgs = msgs; calls = 1 }) m }
 {
     members.contains(m.origin) && (1 <= m.seq && m.seq <= msgs)
 }
 
-/// Whether a layer that asked for the memory of these members, and of as many messages each, has the memory for a
+/// Returns true if a layer that reserved memory for messages of these members, numbered from 1 to `msgs`, has the memory for the
 /// call.
 pub fn is_within(members: &NodeSet, msgs: u16, call: Call) -> bool
     ensures { result ≡ limit.is_within (record { members = members.now; msgs = msgs; calls = 1 }) call }
@@ -40,9 +40,9 @@ pub fn is_within(members: &NodeSet, msgs: u16, call: Call) -> bool
     }
 }
 
-/// Has a layer that was told of no message yet take all its memory, and then two calls, with nothing made ready
-/// between them; lets go of what the first gives. Answers whether both calls were within the limit: where one was
-/// not, the layer takes neither.
+/// Reserves all memory of a layer to which no message was handed in yet, then makes two calls without `ready` between them.
+/// Discards the effects of the first. Returns true if it did so. Returns false, with nothing done, if one of the calls is not
+/// within the limit.
 pub fn take_two<L: Layer>(
     layer: &mut L,
     members: &NodeSet,

@@ -1,4 +1,4 @@
--- A mask of 64 bits covers nothing from base + 64 on.
+-- A mask of 64 bits covers no number from base + 64 on.
 use Rattle.std.proofs.Common.{◌≡◌, ℕ, ◌-◌, ◌<◌, ◌≤◌, ◌^◌, false, arith}
 use Rattle.std.specs.Int.{bit_at}
 use Rattle.std.proofs.lemmas.Nat.Bits.{bit_at_above}

@@ -1,4 +1,4 @@
--- The least number that a set lacks.
+-- The least number that is not in a set.
 use Rattle.std.proofs.Common.{◌≡◌, ℕ, ◌+◌, ◌*◌, ◌/◌, ◌%◌, ◌^◌, ◌<◌, ◌≤◌, Bool, true, false, ◌||◌, cond, nat_eq, nat_lt, nat_le, List, [], ◌∷◌, length, count_by, refl, ap, sym, ◌∙◌, arith, zero, suc}
 use Rattle.std.specs.Int.{bit_at}
 use Rattle.std.specs.Ordering.{nat_cmp, eq_by_cmp}

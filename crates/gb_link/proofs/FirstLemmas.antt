@@ -1,4 +1,4 @@
--- The first element that passes a test: where it stands, and the list without it.
+-- The first element that passes a test: its place, and the list without it.
 use Rattle.std.proofs.Common.{◌≡◌, ℕ, ◌+◌, ◌<◌, ◌≤◌, nat_lt, not, true, false, cond, Bool, List, [], ◌∷◌, length, refl, ap, sym, ◌∙◌, arith, position, suc, Option, Some, None, OnSome, slice_index_or, subst, inl, inr}
 use Rattle.std.proofs.lemmas.Option.{slice_get_cases}
 use Rattle.std.specs.List.{find, position_or_len, remove, slice_get}

@@ -1,4 +1,4 @@
--- What every event on a link keeps.
+-- The invariant of a link, through every event.
 use Rattle.std.proofs.Common.{◌≡◌, ℕ, ◌+◌, ◌-◌, ◌<◌, ◌≤◌, Bool, true, false, not, ◌&&◌, ◌||◌, cond, nat_eq, nat_lt, nat_le, List, [], ◌∷◌, ◌++◌, count_by, refl, ap, ap₂, sym, ◌∙◌, arith, Option, Some, None, subst}
 use Rattle.std.specs.Int.{bit_at}
 use Rattle.std.specs.List.{list_any, find}

@@ -1,4 +1,4 @@
--- The set that a base and a mask stand for.
+-- The set that a base and a mask represent.
 use Rattle.std.proofs.Common.{◌≡◌, ◌≢◌, ℕ, ◌+◌, ◌-◌, ◌*◌, ◌/◌, ◌%◌, ◌^◌, ◌<◌, ◌≤◌, Bool, true, false, not, ◌&&◌, ◌||◌, cond, nat_eq, nat_lt, nat_le, refl, ap, sym, ◌∙◌, arith, zero, suc, bit_or, w64, ◌⊎◌, inl, inr}
 use Rattle.std.proofs.lemmas.Nat.{or_lt}
 use Rattle.std.specs.Int.{bit_at}

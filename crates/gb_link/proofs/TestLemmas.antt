@@ -1,4 +1,4 @@
--- What tests on numbers say, and when they hold.
+-- The meaning of tests on numbers.
 use Rattle.std.proofs.Common.{◌≡◌, ℕ, ◌<◌, ◌≤◌, true, false, nat_eq, nat_lt, arith}
 use Rattle.std.proofs.lemmas.Bool.Decides.{nat_tests}
 

@@ -1,4 +1,4 @@
--- What a sender keeps, through each of its calls.
+-- The invariant of a sender, through each of its calls.
 use Rattle.std.proofs.Common.{◌≡◌, ℕ, zero, suc, ◌+◌, ◌-◌, ◌<◌, ◌≤◌, nat_eq, length, get_or, sym, ◌∙◌, true, false, cond, IsTrue, ◌&&◌, List, [], ◌∷◌, ◌++◌, arith, Bool, Option, None, Some, ap, refl}
 use Rattle.std.specs.Prelude.{MatchOption, OnSome, IfNone}
 use Rattle.std.specs.List.{find, filter}

@@ -8,15 +8,15 @@ use Rattle.gb_link.specs.Ack.{covers}
 use Rattle.gb_link.specs.SendWindow.{SendWindow, IsWindow, new_window, has_room, pushed, lowest_covered, acknowledged}
 use Rattle.gb_link.specs.Received.{Received, base_of, mask_of, admission, admitted, is_first}
 
--- what can happen on a link
+-- the events of a link
 pub data LinkEvent (F : Type 0) : Type 0 where
-  -- a frame is pushed, where there is room
+  -- a frame is pushed, if there is room
   push : F → LinkEvent F
-  -- a frame of this number arrives, where one was pushed: never, once or many times, soon or late
+  -- a frame of this number arrives, if one was pushed: never, once or many times, soon or late
   arrive : ℕ → LinkEvent F
   -- the receiver makes an acknowledgement
   make_ack : LinkEvent F
-  -- the sender takes this acknowledgement, where the receiver made it before, and is given a frame at most
+  -- the sender takes this acknowledgement, if the receiver made it before; at most one frame is handed out
   take_ack : ℕ → ℕ → LinkEvent F
 
 -- both ends; the acknowledgements made, the arrivals with their answers and the numbers handed out as done, the last first
@@ -54,19 +54,19 @@ module _ {F : Type 0} where
   abbrev pub is_undone : List (ℕ × F) → ℕ → Bool
   is_undone us n = list_any (λ u. nat_eq u.0 n) us
 
-  -- the numbers done, with the one of the frame handed out
+  -- the numbers done, with the number of the frame handed out
   abbrev pub with_done : Option (ℕ × F) → List ℕ → List ℕ
   with_done None done = done
   with_done (Some u) done = u.0 ∷ done
 
-  -- what an event makes of a link: each part by the function that the call's contract names
+  -- the link after an event: each part by the function that the call's contract names
   abbrev pub step : Link F → LinkEvent F → Link F
   step l (push frame) = if has_room l.sender then record l { sender = pushed l.sender frame } else l
   step l (arrive n) = if was_pushed l n then record l { receiver = admitted l.receiver n; arrivals = (n, admission l.receiver n) ∷ l.arrivals } else l
   step l make_ack = record l { acks = (base_of l.receiver, mask_of l.receiver) ∷ l.acks }
   step l (take_ack base mask) = if was_made l.acks base mask then record l { sender = acknowledged l.sender base mask; done = with_done (lowest_covered l.sender base mask) l.done } else l
 
-  -- the link after these events more, the first first
+  -- the link after these further events, the earliest first
   abbrev pub run_from : Link F → List (LinkEvent F) → Link F
   run_from l [] = l
   run_from l (e ∷ events) = run_from (step l e) events
@@ -75,21 +75,21 @@ module _ {F : Type 0} where
   abbrev pub run : List (LinkEvent F) → Link F
   run events = run_from new_link events
 
-  -- what holds of a link, whatever happens on it (no creation and no duplication are those of the perfect links of Cachin, Guerraoui and Rodrigues)
+  -- the laws of a link, whatever happens on it (no creation and no duplication are those of the perfect links of Cachin, Guerraoui and Rodrigues)
   pub record IsSound (l : Link F) : Type 0 where
     pub window : IsWindow l.sender
-    -- no frame that was pushed arrived outside the receiver's window
+    -- each frame that was pushed arrived within the receiver's window
     pub none_outside : list_any (λ a. is_outside a.1) l.arrivals ≡ false
-    -- no creation: a number is received where a frame of it was pushed and arrived
+    -- no creation: each received number was pushed and arrived
     pub received_pushed : (n : ℕ) → set.contains l.receiver n ≡ true → was_pushed l n ≡ true
     pub received_arrived : (n : ℕ) → set.contains l.receiver n ≡ list_any (λ a. nat_eq a.0 n) l.arrivals
-    -- no duplication: of these arrivals one was the first
+    -- no duplication: exactly one of the arrivals of a received number was the first
     pub first_once : (n : ℕ) → count_by (λ a. nat_eq a.0 n && is_first a.1) l.arrivals ≡ (if set.contains l.receiver n then 1 else 0)
-    -- each number pushed is undone or done, and not both
+    -- each pushed number is either undone or done
     pub accounted : (n : ℕ) → was_pushed l n ≡ true → is_undone l.sender.undone n ≡ not (is_number n l.done)
     -- a number that is done was pushed and received, and was handed out once
     pub done_pushed : (n : ℕ) → is_number n l.done ≡ true → was_pushed l n ≡ true
     pub done_received : (n : ℕ) → is_number n l.done ≡ true → set.contains l.receiver n ≡ true
     pub done_once : (n : ℕ) → count_by (λ d. nat_eq d n) l.done ≡ (if is_number n l.done then 1 else 0)
-    -- an acknowledgement covers received numbers alone
+    -- each number that an acknowledgement covers was received
     pub acks_received : (base mask n : ℕ) → was_made l.acks base mask ≡ true → 1 ≤ n → covers base mask n ≡ true → set.contains l.receiver n ≡ true

@@ -1,4 +1,4 @@
--- What a contract sees of a receiver: the numbers that it took, and its acknowledgement of them.
+-- What a contract sees of a receiver: the numbers that it received, and its acknowledgement of them.
 use Rattle.std.specs.Prelude.{ℕ, ◌+◌, ◌*◌, Bool, true, false, ◌&&◌, if◌then◌else◌, nat_eq, nat_lt, nat_le, List, [], ◌∷◌, length}
 use Rattle.std.specs.Ordering.{nat_cmp}
 use Rattle.std.specs.FinSet as set
@@ -11,21 +11,21 @@ use Prim.Native.Nat.{zero, suc}
 abbrev pub Received : Type 0
 Received = set.FinSet nat_cmp
 
--- the first number from n on that is not in the set, or n + k where the k numbers from n on are
+-- the first number from n on that is not in the set; n + k if the k numbers from n on are in the set
 abbrev pub first_missing : Received → ℕ → ℕ → ℕ
 first_missing s n zero = n
 first_missing s n (suc k) = if set.contains s n then first_missing s (n + 1) k else n
 
--- the least number not received: k received numbers leave one of 1 to k + 1
+-- the least number not received: if k numbers were received, one of 1 to k + 1 was not
 unfoldable pub base_of : Received → ℕ
 base_of s = first_missing s 1 (length (set.items s))
 
--- the word whose bit i, for i below k, says whether n + i was received
+-- the word whose bit i, for i below k, is 1 if n + i was received
 abbrev pub word_of : Received → ℕ → ℕ → ℕ
 word_of s n zero = 0
 word_of s n (suc k) = (if set.contains s n then 1 else 0) + 2 * word_of s (n + 1) k
 
--- bit i, for i below 64, stands for base + i
+-- the mask: bit i, for i below 64, is 1 if base + i was received
 unfoldable pub mask_of : Received → ℕ
 mask_of s = word_of s (base_of s) 64
 
@@ -33,7 +33,7 @@ mask_of s = word_of s (base_of s) 64
 abbrev pub is_awaited : Received → ℕ → Bool
 is_awaited s n = nat_le (base_of s) n && nat_lt n (base_of s + 64) && nat_le n LAST_FRAME
 
--- what becomes of an arriving frame
+-- the result of an arriving frame
 abbrev pub admission : Received → ℕ → Admission
 admission s n = if set.contains s n then Seen else if is_awaited s n then First else Outside
 
@@ -53,7 +53,7 @@ is_first First = true
 is_first Seen = false
 is_first Outside = false
 
--- how often a frame of number n is First, where frames of these numbers arrive one after another
+-- the number of times that a frame of number n is First, when frames of these numbers arrive one after another
 abbrev pub firsts : Received → ℕ → List ℕ → ℕ
 firsts s n [] = 0
 firsts s n (m ∷ ms) = (if nat_eq m n && is_first (admission s m) then 1 else 0) + firsts (admitted s m) n ms

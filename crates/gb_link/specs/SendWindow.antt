@@ -65,7 +65,7 @@ module _ {F : Type 0} where
   AreRecent next [] = Unit {0}
   AreRecent next (u ∷ us) = (u.0 < next) × (next ≤ u.0 + 64) × AreRecent next us
 
-  -- what each sender keeps
+  -- the invariant of each sender
   pub record IsWindow (w : SendWindow F) : Type 0 where
     pub started : 1 ≤ w.next
     pub last : w.next ≤ LAST_FRAME + 1

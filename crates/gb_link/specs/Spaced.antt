@@ -3,8 +3,8 @@ use Rattle.std.specs.Prelude.{Bool, refl}
 use Rattle.std.specs.Coded.{Coded, code_by, coded×, coded_bool}
 use Rattle.gb_link.specs.SendWindow.{SendWindow, send_window_code}
 
--- the window, which is all that a sender is to the link; and beside it the spare and whether room was made
--- for it to be the next frame
+-- the window, which is all that the link sees of the sender; the spare; and true if memory was reserved
+-- for the spare to be the next frame
 pub record Spaced (F : Type 0) : Type 0 where
   pub window : SendWindow F
   pub spare : F

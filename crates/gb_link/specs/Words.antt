@@ -1,4 +1,4 @@
--- The set of numbers that the two words of a receiver stand for.
+-- The set of numbers that the two words of a receiver represent.
 use Rattle.std.specs.Prelude.{◌≡◌, ℕ, ◌+◌, ◌%◌, ◌^◌, ◌<◌, ◌≤◌, true, not, ◌&&◌, nat_eq}
 use Rattle.std.specs.FinSet as set
 use Rattle.gb_types.specs.declared.limits.TheConstants.{LAST_FRAME}
@@ -10,7 +10,7 @@ use Rattle.gb_link.specs.Received.{Received}
 unfoldable pub covered : ℕ → ℕ → Received
 covered base mask = set.retain (set.from_list (below (base + 64))) (λ n. not (nat_eq n 0) && covers base mask n)
 
--- what each receiver keeps: base and mask are the acknowledgement of what they cover
+-- the invariant of each receiver: base and mask are the acknowledgement of the numbers that they cover
 pub record IsReceiver (base mask : ℕ) : Type 0 where
   pub started : 1 ≤ base
   pub word : mask < 2 ^ 64

@@ -4,8 +4,8 @@ ghost use Rattle.gb_link.specs.Ack.{covers};
 
 use gb_types::limits::LINK_WINDOW;
 
-/// Whether the acknowledgement covers frame `number`: each below the base is covered, and `base + i` where
-/// bit `i` of the mask is set.
+/// Returns true if the acknowledgement covers frame `number`: if it is below the base, or is `base + i` and bit `i` of the mask is
+/// set.
 pub fn covers(base: u64, mask: u64, number: u64) -> bool
     ensures { result ≡ covers base mask number }
 {

@@ -1,10 +1,10 @@
-// What holds of a sender and a receiver together.
+// Laws of a sender and a receiver together.
 ghost use Rattle.std.specs.Prelude.{List};
 ghost use Rattle.gb_link.specs.Link.{LinkEvent, run, IsSound};
 
-/// A law of every link whose network may lose, delay, repeat and reorder frames and acknowledgements: no frame
-/// that was pushed arrives outside the receiver's window, each number is received for the first time once, and
-/// what is done was received. The function does nothing when it runs; its contract is the law.
+/// A law of every link whose network may lose, delay, repeat and reorder frames and acknowledgements. Each frame that arrives and
+/// was pushed is within the receiver's window. Each number is received for the first time once. Each frame that is done was
+/// received. The function does nothing when it runs; its contract is the law.
 pub fn soundness<F>()
     ensures { (events : List (LinkEvent F)) → IsSound (run events) }
 {}
@@ -16,7 +16,7 @@ mod tests {
     use crate::sender::Sender;
     use std::test::Fail;
 
-    // Whether the lowest undone frame has this number, which stands in it too.
+    // Returns true if the lowest undone frame has this number, and the number is its content.
     fn is_lowest(sender: &Sender<u64>, number: u64) -> bool {
         match sender.again(0) {
             Some((lowest, frame)) => lowest == number && *frame == number,

@@ -10,7 +10,7 @@ use crate::ack::covers;
 use gb_types::limits::{LAST_FRAME, LINK_WINDOW};
 use std::marker::Model;
 
-/// What becomes of an arriving frame.
+/// The result of an arriving frame.
 #[derive(Clone, Copy, PartialEq, Eq)]
 pub enum Admission {
     /// Its number came for the first time, and is received.
@@ -21,8 +21,8 @@ pub enum Admission {
     Outside,
 }
 
-/// The set of the frame numbers received, in two words: every number below the base is received, and `base + i`
-/// where bit `i` of the mask is set. The base itself is not received.
+/// The set of the received frame numbers, in two words. Each number below the base is received, and `base + i` if bit `i` of the
+/// mask is set. The base itself is not received.
 #[derive(Drop)]
 pub struct Receiver {
     base: u64,
@@ -45,15 +45,15 @@ impl Model for Receiver {
 }
 
 impl Receiver {
-    /// A receiver that received nothing.
+    /// Returns a receiver that has received nothing.
     pub fn new() -> Receiver
         ensures { result ≡ set.empty }
     {
         Receiver { base: 1, mask: 0 }
     }
 
-    /// Receives the number of an arriving frame, unless it was received before or is outside the window: the 64
-    /// numbers from the least one not received on, as far as `LAST_FRAME`.
+    /// Receives the number of an arriving frame, unless it was received before or is outside the window. The window has the 64
+    /// numbers from the least one that is not received, up to `LAST_FRAME`.
     pub fn admit(&mut self, number: u64) -> Admission
         requires { 1 ≤ number }
         ensures answer { result ≡ admission self.old number }
@@ -72,13 +72,13 @@ impl Receiver {
         Admission::First
     }
 
-    /// The acknowledgement of now, base and mask: the least number not received, and in bit `i` whether
+    /// Returns the current acknowledgement: the base, which is the least number not received, and the mask, whose bit `i` is 1 if
     /// `base + i` was received.
     pub fn ack(&self) -> (u64, u64)
         ensures base { result.0 ≡ base_of self.now }
         ensures mask { result.1 ≡ mask_of self.now }
 
-        // So the base is at least 1, its own bit is 0, and what is covered is what was received.
+        // So the base is at least 1, its own bit is 0, and the covered numbers are the received ones.
         ensures started { 1 ≤ result.0 }
         ensures even { result.1 % 2 ≡ 0 }
         ensures exact { (n : ℕ) → 1 ≤ n → covers result.0 result.1 n ≡ set.contains self.now n }
@@ -87,14 +87,14 @@ impl Receiver {
     }
 }
 
-/// A law of every receiver, whatever it received before and whatever numbers arrive: each number is `First` once
-/// at most. The function does nothing when it runs; its contract is the law.
+/// A law of every receiver, whatever it received before and whatever numbers arrive: each number is `First` at most once. The
+/// function does nothing when it runs; its contract is the law.
 pub fn first_once()
     ensures { (received : Received) (n : ℕ) (numbers : List ℕ) → firsts received n numbers ≤ 1 }
 {}
 
-/// The words of the same set whose mask has its lowest bit clear: the base moves up to the least number that is
-/// not in the set.
+/// Returns the base and the mask of the same set with the lowest bit of the mask clear: the base moves up to the least number that
+/// is not in the set.
 fn slid(mut base: u64, mut mask: u64) -> (u64, u64)
     requires started { 1 ≤ base }
     requires last { (n : ℕ) → set.contains (covered base mask) n ≡ true → n ≤ LAST_FRAME }

@@ -15,9 +15,8 @@ use std::marker::Model;
 // The values that the definitions of a window cite.
 const _: () = prove!(LINK_WINDOW == 64 && LAST_FRAME == 18_446_744_073_709_551_614);
 
-/// Frames that were pushed and not acknowledged yet, each under its number. Numbers rise from 1 to
-/// `LAST_FRAME` and are never used again. At most `LINK_WINDOW` frames are undone, so a search among them
-/// takes a bounded time however many frames went before.
+/// Frames that were pushed and not acknowledged yet, each under its number. Numbers rise from 1 to `LAST_FRAME` and are never used
+/// again. At most `LINK_WINDOW` frames are undone, so a search among them takes bounded time, however many frames were pushed.
 #[derive(Drop)]
 pub struct Sender<F> {
     next: u64,
@@ -37,7 +36,7 @@ impl<F> Model for Sender<F> {
 }
 
 impl<F: Drop> Sender<F> {
-    /// A sender that pushed nothing.
+    /// Returns a sender to which no frame was pushed.
     pub fn new(alloc: Global) -> Sender<F>
         ensures { result ≡ new_window }
     {
@@ -47,8 +46,8 @@ impl<F: Drop> Sender<F> {
         }
     }
 
-    /// Whether one more frame may be pushed: its number is at most `LAST_FRAME`, and at most 63 above the
-    /// lowest undone one.
+    /// Returns true if one more frame may be pushed: its number is at most `LAST_FRAME`, and at most 63 above the lowest undone
+    /// one.
     pub fn room(&self) -> bool
         ensures room { result ≡ has_room self.now }
         ensures window { IsWindow self.now }
@@ -56,7 +55,7 @@ impl<F: Drop> Sender<F> {
         is_open(self.next, &self.undone)
     }
 
-    /// Pushes a frame, and gives its number.
+    /// Pushes a frame. Returns its number.
     pub fn push(&mut self, frame: F) -> Result<u64, OutOfMemory>
         requires { IsTrue (has_room self.old) }
         ensures number { IfOk result (λ number. number ≡ self.old.next) }
@@ -70,7 +69,7 @@ impl<F: Drop> Sender<F> {
         Ok(number)
     }
 
-    /// The undone frame of this number, and the number; for 0 the lowest undone frame.
+    /// Returns the undone frame of this number, with the number. For 0, returns the lowest undone frame.
     pub fn again(&self, number: u64) -> Option<(u64, &F)>
         ensures { option_map (λ found. (found.0, found.1.now)) result ≡ frame_again self.now number }
     {
@@ -80,13 +79,13 @@ impl<F: Drop> Sender<F> {
         parts(held_under(&self.undone, number))
     }
 
-    /// Hands out the lowest undone frame that the acknowledgement covers, with its number; it is done then. To
-    /// take an acknowledgement whole, call until there is none.
+    /// Removes the lowest undone frame that the acknowledgement covers, and returns it with its number; it is done then. To take a
+    /// whole acknowledgement, call until the result is `None`.
     pub fn acked(&mut self, base: u64, mask: u64) -> Option<(u64, F)>
         ensures handed_out { result ≡ lowest_covered self.old base mask }
         ensures done { self.new ≡ acknowledged self.old base mask }
 
-        // All that the acknowledgement frees is one list, by rising number, and a call takes its first.
+        // The frames that an acknowledgement frees are one list, by rising number; each call takes the first.
         ensures first { MatchOption result (freed self.old base mask ≡ []) (λ u. freed self.old base mask ≡ u ∷ freed self.new base mask) }
         ensures rising { AreAscending 1 (freed self.old base mask) }
     {
@@ -94,7 +93,7 @@ impl<F: Drop> Sender<F> {
     }
 }
 
-/// Whether one more frame may have this number.
+/// Returns true if one more frame may have the number `next`.
 pub(crate) fn is_open<F>(next: u64, undone: &VecDeque<(u64, F)>) -> bool
     requires { IsWindow (record { next = next; undone = undone.now.items }) }
     ensures { result ≡ has_room (record { next = next; undone = undone.now.items }) }
@@ -122,14 +121,14 @@ pub(crate) fn take_covered<F>(
     }
 }
 
-/// The place of the lowest frame that the acknowledgement covers.
+/// Returns the place of the lowest frame that the acknowledgement covers.
 fn first_covered<F>(undone: &VecDeque<(u64, F)>, base: u64, mask: u64) -> Option<usize>
     ensures { result ≡ position (λ held. covers base mask held.0) undone.now.items }
 {
     undone.iter().position(|held| covers(base, mask, held.0))
 }
 
-/// The frame that was pushed last, where it has this number and is undone.
+/// Returns the frame that was pushed last, if it has this number and is undone.
 fn newest_under<F>(undone: &VecDeque<(u64, F)>, number: u64) -> Option<&(u64, F)>
     requires { AreAscending 1 undone.now.items }
     ensures { IfSome (option_copied result) (λ held. find (λ h. nat_eq h.0 number) undone.now.items ≡ Some held) }
@@ -140,7 +139,7 @@ fn newest_under<F>(undone: &VecDeque<(u64, F)>, number: u64) -> Option<&(u64, F)
     }
 }
 
-/// The undone frame of this number. One that was just pushed is found at once.
+/// Returns the undone frame of this number. The frame that was pushed last is found at once.
 pub(crate) fn held_under<F>(undone: &VecDeque<(u64, F)>, number: u64) -> Option<&(u64, F)>
     requires { AreAscending 1 undone.now.items }
     ensures { option_copied result ≡ find (λ held. nat_eq held.0 number) undone.now.items }

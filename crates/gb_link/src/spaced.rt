@@ -11,9 +11,9 @@ use std::collections::VecDeque;
 use std::marker::Model;
 use std::mem;
 
-/// A `Sender` of frames that are written in its spare, and stay there: `space` makes room, the caller
-/// writes in `spare`, and `commit` makes it the next frame, without a copy and without memory. The spare,
-/// and whether there is room for it, are no part of the window.
+/// A `Sender` whose frames are written in its spare buffer, and stay there. `space` reserves memory, the caller writes in `spare`,
+/// and `commit` makes the spare the next frame, without a copy and without memory. The spare, and whether memory is reserved for
+/// it, are not part of the window.
 #[derive(Drop)]
 pub struct SpacedSender<F> {
     next: u64,
@@ -41,7 +41,7 @@ impl<F> Model for SpacedSender<F> {
 impl<F: Drop> SpacedSender<F> {
     ghost use Rattle.gb_link.specs.contracts.spaced.SpacedSender.{the_row};
 
-    /// Whether one more frame may be pushed or committed, as `Sender::room` says.
+    /// Returns true if one more frame may be pushed or committed, as `Sender::room` does.
     pub fn room(&self) -> bool
         ensures room { result ≡ has_room self.now.window }
         ensures window { IsWindow self.now.window }
@@ -49,7 +49,7 @@ impl<F: Drop> SpacedSender<F> {
         is_open(self.next, &self.undone)
     }
 
-    /// Pushes a frame, and gives its number. The room that `space` made is used up.
+    /// Pushes a frame. Returns its number. What `space` reserved is used up.
     pub fn push(&mut self, frame: F) -> Result<u64, OutOfMemory>
         requires { IsTrue (has_room self.old.window) }
         ensures number { IfOk result (λ number. number ≡ self.old.window.next) }
@@ -64,7 +64,7 @@ impl<F: Drop> SpacedSender<F> {
         Ok(number)
     }
 
-    /// The undone frame of this number, and the number; for 0 the lowest undone frame.
+    /// Returns the undone frame of this number, with the number. For 0, returns the lowest undone frame.
     pub fn again(&self, number: u64) -> Option<(u64, &F)>
         ensures { option_map (λ found. (found.0, found.1.now)) result ≡ frame_again self.now.window number }
     {
@@ -74,7 +74,7 @@ impl<F: Drop> SpacedSender<F> {
         parts(held_under(&self.undone, number))
     }
 
-    /// Hands out the lowest undone frame that the acknowledgement covers, as `Sender::acked` does.
+    /// Removes the lowest undone frame that the acknowledgement covers and returns it, as `Sender::acked` does.
     pub fn acked(&mut self, base: u64, mask: u64) -> Option<(u64, F)>
         ensures handed_out { result ≡ lowest_covered self.old.window base mask }
         ensures done { self.new ≡ record self.old { window = acknowledged self.old.window base mask } }
@@ -84,7 +84,7 @@ impl<F: Drop> SpacedSender<F> {
         take_covered(&mut self.undone, base, mask)
     }
 
-    /// The spare, for the caller to write in.
+    /// Returns the spare, for the caller to write in.
     pub fn spare(&mut self) -> &mut F
         ensures* writes_back { sem 𝓛 (Lends (the_row F.row) F.row self.entry result (λ w. record self.old { spare = w })) }
         ensures value { result.now ≡ self.old.spare }
@@ -94,7 +94,7 @@ impl<F: Drop> SpacedSender<F> {
 }
 
 impl SpacedSender<Vec<u8>> {
-    /// A sender that pushed nothing, with an empty spare.
+    /// Returns a sender to which no frame was pushed, with an empty spare.
     pub fn new(alloc: Global) -> SpacedSender<Vec<u8>>
         ensures window { result.window ≡ new_window }
         ensures spaced { result.spaced ≡ false }
@@ -109,8 +109,8 @@ impl SpacedSender<Vec<u8>> {
         }
     }
 
-    /// Makes room for the spare to be the next frame, and empties it, with room for so many bytes. The
-    /// sender is spaced then until its next `push` or `commit`.
+    /// Reserves memory for the spare to become the next frame, and empties it, with capacity for `len` bytes. The sender is spaced
+    /// then until its next `push` or `commit`. If memory is refused, the spare's bytes stay.
     pub fn space(&mut self, len: usize) -> Result<(), OutOfMemory>
         requires { IsTrue (has_room self.old.window) }
         ensures window { self.new.window ≡ self.old.window }
@@ -126,7 +126,7 @@ impl SpacedSender<Vec<u8>> {
         Ok(())
     }
 
-    /// Gives back the memory of a frame that is done, for the spare to be written in.
+    /// Makes the memory of a frame that is done the spare, empty.
     pub fn reuse(&mut self, mut frame: Vec<u8>)
         ensures window { self.new.window ≡ self.old.window }
         ensures spaced { self.new.spaced ≡ self.old.spaced }
@@ -137,7 +137,7 @@ impl SpacedSender<Vec<u8>> {
         self.spare = frame;
     }
 
-    /// Makes the spare the next frame, and gives its number. Takes no memory.
+    /// Makes the spare the next frame. Returns its number. Takes no memory.
     pub fn commit(&mut self) -> u64
         requires room { IsTrue (has_room self.old.window) }
         requires spaced { IsTrue self.old.spaced }

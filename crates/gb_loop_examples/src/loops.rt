@@ -138,6 +138,7 @@ fn plan_of(alone: Alone) -> HostPlan
             versions: [Version::One; NODES],
             silence: alone.silence,
             places: 1_024,
+            room: 16_345,
             cluster_key: [0x11; 32],
             admin_key: [0x22; 32],
         },

@@ -1,4 +1,4 @@
--- What the code's parts give together.
+-- What the parts of the code yield together.
 use Rattle.std.proofs.Common.{◌≡◌, ℕ, ◌+◌, ◌⊎◌, ◌<◌, ◌≤◌, List, [], ◌∷◌, length, Bool, true, false, Option, Some, None, inl, inr, refl, sym, ◌∙◌, ap, subst, arith, get_or}
 use Rattle.std.specs.Prelude.{slice_get, nat_eq, nat_lt, ◌&&◌, if◌then◌else◌, is_ok, is_some, not, Result, Ok, Err}
 use Rattle.std.proofs.lemmas.Bool.{cases_lt}

@@ -1,4 +1,4 @@
--- Where no answer in the tapes refuses for lack of memory, none does in the run.
+-- If no answer in the tapes refuses for lack of memory, none does in the run.
 use Rattle.std.proofs.Common.{◌≡◌, List, [], ◌∷◌, ◌++◌, map, true, false, not, ◌&&◌, refl, sym, ap, ap₂, subst}
 use Rattle.std.proofs.lemmas.Bool.{and_parts}
 use Rattle.std.proofs.lemmas.List.{reverse-append}

@@ -1,5 +1,5 @@
--- A run of an interleaving: as long as its answers are the tapes', each node is the replay of what was taken there. So the first answer that is another one is no
--- replay's.
+-- A run of an interleaving: as long as its answers are the tapes', each node is the replay of what was taken there. So the first entry whose answer the run does not
+-- give has an answer that is not its replay's.
 use Rattle.std.proofs.Common.{◌≡◌, ℕ, zero, suc, ◌+◌, ◌⊎◌, ◌<◌, List, [], ◌∷◌, ◌++◌, length, map, take, drop, Bool, false, Some, inl, inr, refl, sym, ◌∙◌, ap, subst, arith, append_assoc, get_or}
 use Rattle.std.specs.Prelude.{slice_get, reverse, if◌then◌else◌}
 use Rattle.std.proofs.lemmas.Bool.{cases_eq}

@@ -1,4 +1,4 @@
--- Where no node can go and entries are left, no interleaving exists: what can go is never held up by what goes before it.
+-- If no node can go and entries are left, no interleaving exists: an entry that can go is never held up by what goes before it.
 use Rattle.std.proofs.Common.{◌≡◌, ℕ, zero, suc, ◌⊎◌, List, [], ◌∷◌, ◌++◌, Some, inl, inr, refl, sym, ◌∙◌, subst}
 use Rattle.std.proofs.lemmas.Bool.{cases_eq}
 use Rattle.gb_types.specs.declared.node.NodeId.{NodeId}

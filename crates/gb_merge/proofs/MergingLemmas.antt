@@ -1,4 +1,4 @@
--- What merging comes to.
+-- What merging results in.
 use Rattle.std.proofs.Common.{◌≡◌, ℕ, suc, ◌⊎◌, ◌<◌, ◌≤◌, List, [], ◌∷◌, ◌++◌, length, map, take, Bool, true, false, Some, inl, inr, refl, sym, ◌∙◌, ap, subst, arith, append_assoc}
 use Rattle.std.specs.Prelude.{slice_get, if◌then◌else◌, nat_eq, ◌≢◌}
 use Rattle.std.proofs.lemmas.Bool.{cases_lt}

@@ -7,8 +7,8 @@ use Rattle.gb_merge.specs.Interleaving.{Pick, entries_at, tape_of, IsEventOf}
 use Rattle.gb_merge.specs.Merged.{IsMerged}
 use Rattle.gb_merge.specs.Woven.{sent_with}
 
--- The entry at this place of a node's tape was taken: as many entries of the tape were taken before it as stand before it there, and
--- where it was taken stands its event.
+-- The entry at this place of a node's tape was taken. The number of entries of this tape that were taken before it is its place in the tape, and
+-- its event stands in the list where it was taken.
 pub record IsTaken (plan : Plan) (picks : List Pick) (events : List Event) (a place : ℕ) (x : TapeEntry) : Type 0 where
   pub at : ℕ
   pub pick : Pick
@@ -20,11 +20,11 @@ pub record IsTaken (plan : Plan) (picks : List Pick) (events : List Event) (a pl
   pub stands : slice_get events at ≡ Some event
   pub is : IsEventOf plan pick.node (sent_with (take at picks)) x.event event
 
--- each entry of each tape was taken, and nothing else: there are as many events as entries
+-- each entry of each tape was taken, and nothing else: the number of events is the number of entries
 pub record HasEachEntry (plan : Plan) (tapes : List (List TapeEntry)) (events : List Event) (m : IsMerged plan tapes events) : Type 0 where
   pub each : (a place : ℕ) (x : TapeEntry) → slice_get (tape_of tapes a) place ≡ Some x → IsTaken plan m.picks events a place x
   pub count : length events ≡ sum_by length tapes
 
--- whatever was merged has each entry of each tape, and nothing else
+-- every merged list of events has each entry of each tape, and nothing else
 abbrev pub MergedHasEachEntry : Type 0
 MergedHasEachEntry = (plan : Plan) (tapes : List (List TapeEntry)) (events : List Event) (m : IsMerged plan tapes events) → HasEachEntry plan tapes events m

@@ -20,17 +20,17 @@ unfoldable pub sent_of : List TapeEntry → List (List ℕ)
 sent_of [] = []
 sent_of (x ∷ entries) = sent_by x.answer ++ sent_of entries
 
--- those of all tapes
+-- the packets that all tapes' answers send
 unfoldable pub all_sent : List (List TapeEntry) → List (List ℕ)
 all_sent [] = []
 all_sent (t ∷ tapes) = sent_of t ++ all_sent tapes
 
--- what came to the node is a packet for it that is none of these
+-- the event is a packet for the node, and is none of these packets
 abbrev pub IsBlocked : Plan → NodeId → List (List ℕ) → NodeEvent → Type 0
 IsBlocked plan a sent (Came bytes) = (is_good plan a bytes ≡ true) × ((k : ℕ) → slice_get sent k ≡ Some bytes → ⊥)
 IsBlocked plan a sent event = ⊥
 
--- a packet came to a node for which it is, and no tape sent it
+-- a packet for a node came to it, and no tape sent that packet
 pub record IsStranger (plan : Plan) (tapes : List (List TapeEntry)) : Type 0 where
   pub node : NodeId
   pub place : ℕ
@@ -42,7 +42,7 @@ pub record IsStranger (plan : Plan) (tapes : List (List TapeEntry)) : Type 0 whe
 abbrev pub IsStuck : Plan → List (List TapeEntry) → Type 0
 IsStuck plan tapes = (events : List Event) → IsInterleaving plan tapes events → ⊥
 
--- what a node answers, and is then, where it has memory
+-- what a node that has memory answers, and what it is then
 unfoldable pub node_answer : NodeValue → NodeEvent → NodeAnswer
 node_answer v event = (turn v event).answer
 
@@ -65,7 +65,7 @@ pub record IsDifferent (plan : Plan) (tapes : List (List TapeEntry)) : Type 0 wh
   pub there : slice_get (tape_of tapes node.number) place ≡ Some entry
   pub differs : (wants_memory entry.answer ≡ true) ⊎ (entry.answer ≢ node_answer (replay plan node (take place (tape_of tapes node.number))) entry.event)
 
--- the fault is so; a stranger is told before the others
+-- what each fault means; a stranger is reported before other faults
 abbrev pub IsFault : Plan → List (List TapeEntry) → AuditFault → Type 0
 IsFault plan tapes Stranger = IsStranger plan tapes
 IsFault plan tapes Stuck = IsStuck plan tapes × (IsStranger plan tapes → ⊥)

@@ -1,4 +1,4 @@
--- Tapes without the entries that were refused for lack of memory, and what merging them gives.
+-- Tapes without the entries that were refused for lack of memory, and what merging them yields.
 use Rattle.std.specs.Prelude.{◌≡◌, ◌<◌, ◌&&◌, not, Bool, true, false, List, [], ◌∷◌, map, filter}
 use Rattle.gb_types.specs.declared.address.Addr.{Addr}
 use Rattle.gb_types.specs.declared.node.NodeId.{NodeId}
@@ -26,11 +26,11 @@ fed_of entries = filter (λ x. not (wants_memory x.answer)) entries
 abbrev pub fed_tapes : List (List TapeEntry) → List (List TapeEntry)
 fed_tapes tapes = map fed_of tapes
 
--- The events are those of the entries that were not refused for lack of memory: an interleaving of these, whose run gives their answers.
+-- The events are those of the entries that were not refused for lack of memory: an interleaving of these entries, whose run gives their answers.
 abbrev pub IsMergedFed : Plan → List (List TapeEntry) → List Event → Type 0
 IsMergedFed plan tapes events = IsMerged plan (fed_tapes tapes) events
 
--- why there are none: the entries that were not refused for lack of memory have the fault
+-- why no events are returned: the tapes without the entries that were refused for lack of memory have the fault
 abbrev pub IsFedFault : Plan → List (List TapeEntry) → AuditFault → Type 0
 IsFedFault plan tapes fault = IsFault plan (fed_tapes tapes) fault
 
@@ -39,31 +39,31 @@ unfoldable pub is_fed_at : NodeId → Addr → List Happened → Bool
 is_fed_at a g [] = true
 is_fed_at a g (h ∷ past) = not (is_starved_by a g past h.event h.answer) && is_fed_at a g past
 
--- What is merged so is a run of a cluster, and each group in it is what it is alone.
+-- The merged events are a run of a cluster, and each group in it is what it is alone.
 pub record IsOneRunOfFed (plan : Plan) (tapes : List (List TapeEntry)) (events : List Event) (m : IsMergedFed plan tapes events) : Type 0 where
   -- at each node happened what its tape says without the refused entries
   pub pasts : (a : NodeId) → past_at a (run_of m.picks) ≡ past_of (fed_of (tape_of tapes a.number))
   pub isolated : (g : Addr) → IsIsolated plan (run_of m.picks) m.last g
-  -- the refused entries changed nothing: each node ends as the replay of its whole tape, which leaves it as it was at each of them
+  -- the refused entries changed nothing: each node ends as the replay of its whole tape, in which a refused entry leaves the node as it was
   pub nodes : (a : NodeId) → a.number < plan.nodes → node_at m.last a ≡ replay plan a (tape_of tapes a.number)
-  -- a group that had no request so refused at a node got there the replies that it gets in the run
+  -- a group that had no request refused for lack of memory at a node got there the replies of the run
   pub replies : (g : Addr) (a : NodeId) → is_fed_at a g (past_of (tape_of tapes a.number)) ≡ true → replies_in a g (past_at a (run_of m.picks)) ≡ replies_in a g (past_of (tape_of tapes a.number))
 
 abbrev pub FedIsOneRun : Type 0
 FedIsOneRun = (plan : Plan) (tapes : List (List TapeEntry)) (events : List Event) (m : IsMergedFed plan tapes events) → IsOneRunOfFed plan tapes events m
 
--- a node that refuses for lack of memory is as it was, whatever was asked
+-- a node that refuses for lack of memory is as it was, whatever the event was
 abbrev pub RefusalsLeaveNodes : Type 0
 RefusalsLeaveNodes = (old new : NodeValue) (event : NodeEvent) (answer : NodeAnswer) → IsTurn old event answer new → wants_memory answer ≡ true → new ≡ old
 
 -- Reading them.
 
--- the entries that are read: all, or without those that were refused for lack of memory
+-- the entries that are read: all of them, or those that were not refused for lack of memory
 abbrev pub kept : Bool → List TapeEntry → List TapeEntry
 kept true entries = fed_of entries
 kept false entries = entries
 
--- the first of them, if there is one, was not refused so
+-- the first entry, if there is one, was not refused for lack of memory
 abbrev pub StartsFed : List TapeEntry → Type 0
 StartsFed [] = Unit {0}
 StartsFed (x ∷ entries) = wants_memory x.answer ≡ false

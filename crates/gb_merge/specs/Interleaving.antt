@@ -1,4 +1,4 @@
--- Interleavings of tapes: one list of events of the cluster in which each node's are the entries of its tape.
+-- Interleavings of tapes: one list of events of the cluster in which each node's events are the entries of its tape.
 use Rattle.std.specs.Prelude.{ℕ, zero, suc, ◌≡◌, ◌⊎◌, Bool, true, false, List, [], ◌∷◌, ◌++◌, slice_get, slice_index_or, Option, Some, None, is_ok, nat_eq, if◌then◌else◌}
 use Rattle.gb_types.specs.declared.node.NodeId.{NodeId}
 use Rattle.gb_node.specs.NodeStep.{read_at}
@@ -14,7 +14,7 @@ use Rattle.gb_cluster.specs.declared.event.Event.{Event}
 use Rattle.gb_cluster.specs.declared.event.Event.TheVariants.{At, Arrive}
 use Rattle.gb_types.specs.declared.plan.Plan.{Plan}
 
--- the next entry of a node's tape is taken
+-- a step of the interleaving: the next entry of the node's tape is taken
 pub record Pick : Type 0 where
   pub node : NodeId
   pub entry : TapeEntry
@@ -33,7 +33,7 @@ abbrev pub sent_by : NodeAnswer → List (List ℕ)
 sent_by (Sent (SentPacket text)) = text ∷ []
 sent_by answer = []
 
--- the packet with a number, if there is one; packets count from 1
+-- the packet with this number, if there is one; packets count from 1
 abbrev pub text_numbered : List (List ℕ) → ℕ → Option (List ℕ)
 text_numbered sent zero = None
 text_numbered sent (suc k) = slice_get sent k
@@ -42,13 +42,13 @@ text_numbered sent (suc k) = slice_get sent k
 unfoldable pub is_good : Plan → NodeId → List ℕ → Bool
 is_good plan a bytes = is_ok (read_at (new_node (node_plan plan a)) bytes)
 
--- An entry's event at a node is this event of the cluster, where these packets were sent before: bytes that are a packet for the node are the arrival of an equal one
+-- An entry's event at a node is this event of the cluster, after these packets were sent. Bytes that are a packet for the node are the arrival of an equal packet
 -- that was sent, other bytes are noise, and each other event is itself.
 abbrev pub IsEventOf : Plan → NodeId → List (List ℕ) → NodeEvent → Event → Type 0
 IsEventOf plan a sent (Came bytes) e = ((k : ℕ) × (e ≡ Arrive k) × (text_numbered sent k ≡ Some bytes) × (is_good plan a bytes ≡ true)) ⊎ ((e ≡ At a (Came bytes)) × (is_good plan a bytes ≡ false))
 IsEventOf plan a sent event e = e ≡ At a event
 
--- the events are those of the entries, in order, where these packets were sent before; what is sent is what the tapes' answers say
+-- the events are those of the entries, in order, after these packets were sent; the entries' answers say what is sent further
 unfoldable pub AreEvents : Plan → List (List ℕ) → List Pick → List Event → Type 0
 AreEvents plan sent [] [] = Unit {0}
 AreEvents plan sent (p ∷ picks) (e ∷ events) = IsEventOf plan p.node sent p.entry.event e × AreEvents plan (sent ++ sent_by p.entry.answer) picks events

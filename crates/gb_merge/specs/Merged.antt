@@ -19,7 +19,7 @@ use Rattle.gb_cluster.specs.declared.posted.Posted.{Posted}
 use Rattle.gb_isolation.specs.Isolation.{IsIsolated, wants_memory}
 use Rattle.gb_merge.specs.Interleaving.{Pick, entries_at, AreEvents, tape_of}
 
--- an answer of the cluster as the node's, with a packet's bytes in place of its number
+-- an answer of the cluster as a node's answer, with a packet's bytes in place of its number
 abbrev pub told : List Posted → Answer → Option NodeAnswer
 told packets (AnswerReply reply) = Some (Replied reply)
 told packets (AnswerTaken taken) = Some (Taken taken)
@@ -31,7 +31,7 @@ told packets (AnswerHalted halted) = Some (Halted halted)
 told packets NoPacket = None
 told packets NotNoise = None
 
--- the events happen one after the other, and each is answered as its entry says, packets compared by their bytes
+-- the events happen one after the other, and each is answered as its entry says; packets are compared by their bytes
 unfoldable pub Replays : ClusterValue → List Event → List Pick → ClusterValue → Type 0
 Replays old [] [] new = new ≡ old
 Replays old (e ∷ events) (p ∷ picks) new = (next : ClusterValue) × (answer : Answer) × IsStep old e answer next × (told next.packets answer ≡ Some p.entry.answer) × Replays next events picks new
@@ -43,7 +43,7 @@ unfoldable pub AreFed : List Pick → Type 0
 AreFed [] = Unit {0}
 AreFed (p ∷ picks) = (wants_memory p.entry.answer ≡ false) × AreFed picks
 
--- what was taken as a run of the cluster, the newest first
+-- an entry that was taken, as a step of the cluster's run
 abbrev pub did : Pick → Did
 did p = record { node = p.node; event = p.entry.event; answer = p.entry.answer }
 
@@ -57,7 +57,7 @@ happened x = record { event = x.event; answer = x.answer }
 abbrev pub past_of : List TapeEntry → List Happened
 past_of entries = reverse (map happened entries)
 
--- The events are an interleaving of the tapes. From a cluster in which nothing has happened they give each tape's answers, and none refuses for lack of memory.
+-- The events are an interleaving of the tapes. From a cluster in which nothing has happened they give each tape's answers, and no answer refuses for lack of memory.
 pub record IsMerged (plan : Plan) (tapes : List (List TapeEntry)) (events : List Event) : Type 0 where
   pub picks : List Pick
   pub are_events : AreEvents plan [] picks events
@@ -68,11 +68,11 @@ pub record IsMerged (plan : Plan) (tapes : List (List TapeEntry)) (events : List
   -- so all that holds of every run of a cluster holds of what the tapes say
   pub comes : ComesTo plan (run_of picks) last
 
--- What is merged is a run of a cluster: at each node happened what its tape says, and each group in it is what it is alone.
+-- The merged events are a run of a cluster: at each node happened what its tape says, and each group in the run is what it is alone.
 pub record IsOneRun (plan : Plan) (tapes : List (List TapeEntry)) (events : List Event) (m : IsMerged plan tapes events) : Type 0 where
   pub pasts : (a : NodeId) → past_at a (run_of m.picks) ≡ past_of (tape_of tapes a.number)
   pub isolated : (g : Addr) → IsIsolated plan (run_of m.picks) m.last g
 
--- what is merged is one run, whatever the plan and the tapes are
+-- merged events are one run, for every plan and all tapes
 abbrev pub MergedIsOneRun : Type 0
 MergedIsOneRun = (plan : Plan) (tapes : List (List TapeEntry)) (events : List Event) (m : IsMerged plan tapes events) → IsOneRun plan tapes events m

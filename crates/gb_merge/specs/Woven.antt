@@ -23,28 +23,28 @@ use Rattle.gb_merge.specs.Faults.{IsBlocked, IsStuck, node_answer, replay}
 use Rattle.gb_merge.specs.declared.fault.AuditFault.{AuditFault}
 use Rattle.gb_merge.specs.declared.fault.AuditFault.TheVariants.{Stuck, Differs, OutOfMemory}
 
--- the packets that are sent by what was taken
+-- the packets that the taken entries sent
 unfoldable pub sent_with : List Pick → List (List ℕ)
 sent_with [] = []
 sent_with (p ∷ picks) = sent_by p.entry.answer ++ sent_with picks
 
--- these entries were taken, as these events, and these are left
+-- these entries were taken, as these events, and the entries in `rest` are left
 pub record IsWoven (plan : Plan) (tapes rest : List (List TapeEntry)) (picks : List Pick) (events : List Event) : Type 0 where
   pub are_events : AreEvents plan [] picks events
   pub parts : (a : ℕ) → entries_at a picks ++ tape_of rest a ≡ tape_of tapes a
   pub count : length rest ≡ length tapes
 
--- the tapes are used up
+-- all entries of the tapes were taken, as these events
 pub record IsWhole (plan : Plan) (tapes : List (List TapeEntry)) (picks : List Pick) (events : List Event) : Type 0 where
   pub are_events : AreEvents plan [] picks events
   pub whole : (a : ℕ) → entries_at a picks ≡ tape_of tapes a
 
--- it is no packet for the node
+-- the event is no packet for the node
 abbrev pub IsOther : Plan → NodeId → NodeEvent → Type 0
 IsOther plan a (Came bytes) = is_good plan a bytes ≡ false
 IsOther plan a event = Unit {0}
 
--- nothing is left, or the next entry can not go
+-- nothing is left, or the next entry cannot go
 abbrev pub IsHeld : Plan → ℕ → List (List ℕ) → List TapeEntry → Type 0
 IsHeld plan a sent [] = Unit {0}
 IsHeld plan a sent (x ∷ entries) = IsBlocked plan (node_numbered a) sent x.event
@@ -53,27 +53,27 @@ IsHeld plan a sent (x ∷ entries) = IsBlocked plan (node_numbered a) sent x.eve
 abbrev pub AreHeld : Plan → List (List ℕ) → List (List TapeEntry) → Type 0
 AreHeld plan sent rest = (a : ℕ) → IsHeld plan a sent (tape_of rest a)
 
--- the nodes that are marked can not go
+-- the nodes that are marked cannot go
 abbrev pub AreMarked : Plan → List Bool → List (List ℕ) → List (List TapeEntry) → Type 0
 AreMarked plan marks sent rest = (a : ℕ) → slice_index_or marks a false ≡ true → IsHeld plan a sent (tape_of rest a)
 
--- what comes next to a node is not these bytes
+-- the next entry of a node is not a packet with these bytes
 abbrev pub AwaitsOther : List ℕ → List TapeEntry → Type 0
 AwaitsOther bytes [] = Unit {0}
 AwaitsOther bytes (x ∷ entries) = x.event ≢ Came bytes
 
--- no mark is new, and there is none where the packet that was sent comes next
+-- no mark is new, and no node is marked whose next entry is the packet that was sent
 abbrev pub AreWoken : List Bool → List (List TapeEntry) → NodeAnswer → List Bool → Type 0
 AreWoken old rest answer new = (a : ℕ) → slice_index_or new a false ≡ true → (slice_index_or old a false ≡ true) × ((bytes : List ℕ) → sent_by answer ≡ bytes ∷ [] → AwaitsOther bytes (tape_of rest a))
 
--- the next of these entries of a node can go, as this event
+-- the node has a next entry, and it can go, as this event
 pub record IsNext (plan : Plan) (a : NodeId) (sent : List (List ℕ)) (left : List TapeEntry) (e : Event) : Type 0 where
   pub entry : TapeEntry
   pub more : List TapeEntry
   pub next : left ≡ entry ∷ more
   pub is : IsEventOf plan a sent entry.event e
 
--- the next entry of a node can go, as this event
+-- the node's tape has a next entry, and it can go, as this event
 pub record CanGo (plan : Plan) (rest : List (List TapeEntry)) (sent : List (List ℕ)) (a : NodeId) (e : Event) : Type 0 where
   pub within : a.number < length rest
   pub entry : TapeEntry
@@ -81,18 +81,18 @@ pub record CanGo (plan : Plan) (rest : List (List TapeEntry)) (sent : List (List
   pub next : tape_of rest a.number ≡ entry ∷ more
   pub is : IsEventOf plan a sent entry.event e
 
--- how many entries are left
+-- the number of entries that are left
 unfoldable pub count_of : List (List TapeEntry) → ℕ
 count_of [] = 0
 count_of (t ∷ rest) = length t + count_of rest
 
--- where the entries were not yet run
+-- the faults of taking the entries, before they are run
 abbrev pub IsWeaveFault : Plan → List (List TapeEntry) → AuditFault → Type 0
 IsWeaveFault plan tapes Stuck = IsStuck plan tapes
 IsWeaveFault plan tapes OutOfMemory = Unit {0}
 IsWeaveFault plan tapes fault = ⊥
 
--- a packet came to this node for which it is, and it is none of these
+-- one of these entries is a packet for the node, and is none of the packets `sent`
 pub record HasStranger (plan : Plan) (a : NodeId) (sent : List (List ℕ)) (entries : List TapeEntry) : Type 0 where
   pub place : ℕ
   pub entry : TapeEntry
@@ -101,7 +101,7 @@ pub record HasStranger (plan : Plan) (a : NodeId) (sent : List (List ℕ)) (entr
 
 -- Running.
 
--- each entry was taken at a node with a number below this
+-- each entry was taken at a node with a number below `nodes`
 unfoldable pub ArePlaced : ℕ → List Pick → Type 0
 ArePlaced nodes [] = Unit {0}
 ArePlaced nodes (p ∷ picks) = (p.node.number < nodes) × ArePlaced nodes picks
@@ -122,7 +122,7 @@ pub record IsTold (old : ClusterValue) (e : Event) (given : NodeAnswer) (new : C
   pub told_is : told new.packets answer ≡ Some given
   pub fed : is_refused answer ≡ false
 
--- it is answered otherwise, and that is no refusal for lack of memory
+-- the event is answered otherwise, and not refused for lack of memory
 pub record IsUntold (old : ClusterValue) (e : Event) (given : NodeAnswer) : Type 0 where
   pub answer : Answer
   pub new : ClusterValue
@@ -135,7 +135,7 @@ IsStepFault old e given Differs = IsUntold old e given
 IsStepFault old e given OutOfMemory = Unit {0}
 IsStepFault old e given fault = ⊥
 
--- the run gave what was taken
+-- the run has given the answers of the entries that were taken
 pub record IsFollowed (plan : Plan) (events : List Event) (picks : List Pick) (v : ClusterValue) : Type 0 where
   pub replays : Replays (new_cluster plan) events picks v
   pub fed : AreFed picks

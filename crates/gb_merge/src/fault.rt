@@ -6,7 +6,7 @@ use thiserror::Error;
 /// Why tapes are not merged.
 #[derive(Clone, Copy, Debug, PartialEq, Eq, Error)]
 pub enum AuditFault {
-    /// A packet came to a node for which it is, and no tape sent it.
+    /// A packet for a node came to it, and no tape sent that packet.
     #[error("a packet came that no tape sent")]
     Stranger,
     /// The tapes have no interleaving: nodes wait for one another's packets.
@@ -24,7 +24,7 @@ impl AuditFault {
     ghost use Rattle.std.specs.Prelude.{◌≡◌};
     ghost use Rattle.gb_merge.specs.FaultNumber.{fault_number};
 
-    /// Its number, 1 to 4.
+    /// Returns the fault's number, 1 to 4.
     pub fn number(self) -> u8
         ensures { result ≡ fault_number self }
     {

@@ -1,4 +1,4 @@
-//! Merging tapes in which memory was lacking.
+//! Merging tapes in which some entries were refused for lack of memory.
 ghost use Rattle.std.specs.Prelude.{◌≡◌, length, IfOk, IfErr};
 ghost use Rattle.gb_cluster.specs.ClusterValue.{IsClusterPlan};
 ghost use Rattle.gb_merge.specs.Fed.{IsMergedFed, IsFedFault, FedIsOneRun, RefusalsLeaveNodes};
@@ -13,8 +13,8 @@ use gb_node::tape::Tape;
 use gb_types::plan::Plan;
 use std::alloc::Global;
 
-/// Merges the entries of tapes that were not refused for lack of memory, as `merge` merges all: a refused one changed
-/// nothing at its node. Each fault is one of those entries.
+/// Merges those entries of the tapes that were not refused for lack of memory, as `merge` merges all entries. A refused entry
+/// changed nothing at its node. A fault speaks of the tapes without the refused entries.
 pub fn merge_fed(alloc: Global, plan: &Plan, tapes: &[Tape]) -> Result<Vec<Event>, AuditFault>
     requires plan { IsClusterPlan plan.now }
     requires one_each { length tapes.now ≡ plan.now.nodes }
@@ -25,9 +25,9 @@ pub fn merge_fed(alloc: Global, plan: &Plan, tapes: &[Tape]) -> Result<Vec<Event
     merge_entries(alloc, plan, tapes)
 }
 
-/// What is merged so is one run of a cluster, in which each group is what it is alone. Each node ends in it as the replay of
-/// its whole tape, and a group that had no request refused for lack of memory at a node got there the replies of the
-/// run. The function does nothing when it runs; its contract is the law.
+/// The events that `merge_fed` returns are one run of a cluster, in which each group is what it is alone. Each node ends in this
+/// run as the replay of its whole tape. A group that had no request refused for lack of memory at a node got there the replies
+/// of the run. The function does nothing when it runs; its contract is the law.
 pub fn fed_is_one_run()
     ensures { FedIsOneRun }
 {
@@ -36,7 +36,7 @@ pub fn fed_is_one_run()
     packets_say();
 }
 
-/// A node that refuses for lack of memory stays as it was, whatever was asked. The function does nothing when it runs; its
+/// A node that refuses for lack of memory stays as it was, whatever the request was. The function does nothing when it runs; its
 /// contract is the law.
 pub fn refusals_leave_nodes()
     ensures { RefusalsLeaveNodes }

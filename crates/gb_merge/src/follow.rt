@@ -20,7 +20,7 @@ use gb_node::past::{packets_say, pasts_say};
 use gb_types::refusal::Refusal;
 use gb_types::reply::Reply;
 
-/// Whether the answer refuses for lack of memory.
+/// Returns true if the answer refuses for lack of memory.
 fn is_refused(answer: &Answer) -> bool
     ensures { result ≡ is_refused answer.now }
 {
@@ -34,14 +34,14 @@ fn is_refused(answer: &Answer) -> bool
     }
 }
 
-/// Whether the packet has these bytes.
+/// Returns true if the packet has these bytes.
 fn has_bytes(packet: &Posted, bytes: &[u8]) -> bool
     ensures { IsTrue result ↔ (packet.now.text ≡ bytes.now) }
 {
     packet.text.as_slice() == bytes
 }
 
-/// Whether the packet with the number has these bytes.
+/// Returns true if there is a packet with this number and it has these bytes.
 fn is_numbered(packets: &[Posted], number: u64, bytes: &[u8]) -> bool
     ensures { IsTrue result ↔ (option_map (λ (p : PostedValue). p.text) (packet_numbered packets.now number) ≡ Some bytes.now) }
 {
@@ -54,7 +54,7 @@ fn is_numbered(packets: &[Posted], number: u64, bytes: &[u8]) -> bool
     }
 }
 
-/// Whether what the cluster sent is what the node sent, packets compared by their bytes.
+/// Returns true if what the cluster sent is what the node sent. Packets are compared by their bytes.
 fn is_sent(packets: &[Posted], sending: &Sending, sent: &Sent) -> bool
     ensures { IsTrue result ↔ (told packets.now (Answer.Sent sending.now) ≡ Some (NodeAnswer.Sent sent.now)) }
 {
@@ -70,14 +70,14 @@ fn is_sent(packets: &[Posted], sending: &Sending, sent: &Sent) -> bool
     }
 }
 
-/// Whether the answer is the node's, after which it is done with.
+/// Returns true if `answer` is `given`, and drops `answer`.
 fn is_given(answer: NodeAnswer, given: &NodeAnswer) -> bool
     ensures { IsTrue result ↔ (answer ≡ given.now) }
 {
     answer.is(given)
 }
 
-/// Whether the cluster's answer is the node's, packets compared by their bytes.
+/// Returns true if the cluster's answer is the node's. Packets are compared by their bytes.
 fn is_told(packets: &[Posted], answer: Answer, given: &NodeAnswer) -> bool
     ensures { IsTrue result ↔ (told packets.now answer ≡ Some given.now) }
 {
@@ -94,7 +94,8 @@ fn is_told(packets: &[Posted], answer: Answer, given: &NodeAnswer) -> bool
     }
 }
 
-/// One event, which is to be answered so.
+/// Makes one event happen in the cluster. `Err` with `Differs` if its answer is not `given`, and with `OutOfMemory` if it
+/// refuses for lack of memory or the cluster cannot be kept.
 fn happen(cluster: &mut Cluster, event: &Event, given: &NodeAnswer) -> Result<(), AuditFault>
     requires { IsPlaced (length cluster.old.nodes) event.now }
     ensures ok { OnOk result (IsTold cluster.old event.now given.now cluster.new) }
@@ -111,7 +112,8 @@ fn happen(cluster: &mut Cluster, event: &Event, given: &NodeAnswer) -> Result<()
     Ok(())
 }
 
-/// Runs the events in a cluster in which nothing has happened, up to the first that is not answered as its entry says.
+/// Runs the events in a cluster in which nothing has happened. `Err` at the first that is not answered as its entry says, or for
+/// which there is no memory.
 pub(crate) fn follow(
     cluster: &mut Cluster,
     events: &[Event],

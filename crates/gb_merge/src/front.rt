@@ -1,4 +1,4 @@
-//! Merging as much of tapes as is one run: tapes that were cut short.
+//! Merging the part of tapes that is one run, for tapes that were cut short.
 ghost use Rattle.std.specs.Prelude.{◌≡◌, length, IfOk, IfErr};
 ghost use Rattle.gb_cluster.specs.ClusterValue.{IsClusterPlan};
 ghost use Rattle.gb_merge.specs.Front.{IsMergedFront, FrontIsOneRun, IsFrontFault};
@@ -14,9 +14,9 @@ use gb_node::tape::Tape;
 use gb_types::plan::Plan;
 use std::alloc::Global;
 
-/// Merges the first entries of tapes, as many as can be: an entry is left out just where it, or one before it in its tape, is a
-/// packet for the node that no entry which was merged has sent. A tape that is missing is given as an empty one. Differs: an answer
-/// among these entries is not its replay's, or refuses for lack of memory.
+/// Merges the first entries of each tape, as many as possible. An entry is left out exactly if it, or one before it in its tape,
+/// is a packet for the node that no merged entry has sent. For a missing tape the caller passes an empty one. `Err` with
+/// `Differs` if an answer among these entries is not its replay's, or refuses for lack of memory.
 pub fn merge_front(alloc: Global, plan: &Plan, tapes: &[Tape]) -> Result<Vec<Event>, AuditFault>
     requires plan { IsClusterPlan plan.now }
     requires one_each { length tapes.now ≡ plan.now.nodes }
@@ -34,7 +34,8 @@ pub fn merge_front(alloc: Global, plan: &Plan, tapes: &[Tape]) -> Result<Vec<Eve
     Ok(woven.events)
 }
 
-/// What is merged so is one run of a cluster. The function does nothing when it runs; its contract is the law.
+/// The events that `merge_front` returns are one run of a cluster. The function does nothing when it runs; its contract is the
+/// law.
 pub fn front_is_one_run()
     ensures { FrontIsOneRun }
 {

@@ -13,7 +13,7 @@ use std::marker::Model;
 #[derive(Drop)]
 pub(crate) struct Mail<'a> {
     packets: Vec<&'a [u8]>,
-    /// Of each, the place of the first equal one.
+    /// For the bytes of each packet, the place of the first packet that has them.
     firsts: IndexMap<&'a [u8], usize>,
 }
 
@@ -29,7 +29,7 @@ impl<'a> Model for Mail<'a> {
     ghost invariant = { λ m. (q : List ℕ) → get_by (λ k. bytes_eq q k.now) m.firsts ≡ position (bytes_eq q) (map (λ p. p.now) m.packets.items) };
 }
 
-/// Notes the place of a packet, where no equal one is known.
+/// Notes the place of a packet, unless an equal packet is known.
 fn note<'a>(
     firsts: &mut IndexMap<&'a [u8], usize>,
     bytes: &'a [u8],
@@ -48,7 +48,7 @@ fn note<'a>(
 }
 
 impl<'a> Mail<'a> {
-    /// None.
+    /// Returns an empty list of packets.
     pub(crate) fn new(alloc: Global) -> Mail<'a>
         ensures { result ≡ [] }
     {
@@ -58,7 +58,7 @@ impl<'a> Mail<'a> {
         }
     }
 
-    /// The number of the first packet with these bytes: 1 for the first of all.
+    /// Returns the number, from 1, of the first packet with these bytes, or `None` if there is none.
     pub(crate) fn number(&self, bytes: &[u8]) -> Option<u64>
         ensures { result ≡ option_map (λ i. i + 1) (position (bytes_eq bytes.now) self.now) }
     {
@@ -68,7 +68,7 @@ impl<'a> Mail<'a> {
         }
     }
 
-    /// One more packet.
+    /// Adds a packet at the end.
     pub(crate) fn add(&mut self, bytes: &'a [u8]) -> Result<(), OutOfMemory>
         ensures ok { OnOk result (self.new ≡ self.old ++ bytes.now ∷ []) }
         ensures err { OnErr result (self.new ≡ self.old) }

@@ -16,11 +16,11 @@ use gb_node::tape::Tape;
 use gb_types::plan::Plan;
 use std::alloc::Global;
 
-/// Merges the tapes of a cluster's nodes, one for each, by their numbers: events of the cluster in which each node's are
-/// the entries of its tape, in order, and whose run from the start gives the tapes' answers. Taken is, again and again,
-/// the next entry of the lowest-numbered node that can go: a packet for the node can go once an equal one was sent, and
-/// becomes the arrival of the first equal one; each other entry can go at once, and bytes that are no packet for the node
-/// are noise. Nothing of the tapes is copied but into the events.
+/// Merges the tapes of a cluster's nodes: one tape for each node, in the order of their numbers. Returns events of the cluster
+/// in which each node's events are the entries of its tape, in order, and whose run from the start gives the tapes' answers. It
+/// takes, again and again, the next entry of the lowest-numbered node whose next entry can go. A packet for the node can go once
+/// an equal one was sent, and becomes the arrival of the first equal one. Each other entry can go at once; bytes that are no
+/// packet for the node are noise. The tapes are copied only into the events.
 pub fn merge(alloc: Global, plan: &Plan, tapes: &[Tape]) -> Result<Vec<Event>, AuditFault>
     requires plan { IsClusterPlan plan.now }
     requires one_each { length tapes.now ≡ plan.now.nodes }
@@ -31,7 +31,7 @@ pub fn merge(alloc: Global, plan: &Plan, tapes: &[Tape]) -> Result<Vec<Event>, A
     merge_entries(alloc, plan, tapes)
 }
 
-/// The same of the entries of tapes that are read.
+/// Merges what is left of tapes, as `merge` merges whole tapes.
 pub(crate) fn merge_entries(
     alloc: Global,
     plan: &Plan,

@@ -39,7 +39,7 @@ impl Reader {
         }
     }
 
-    /// Whether the bytes are a packet of the cluster for the node.
+    /// Returns true if the bytes are a packet of the cluster for the node.
     pub(crate) fn is_good(&self, a: NodeId, bytes: &[u8]) -> bool
         ensures { result ≡ is_good self.now a bytes.now }
     {
@@ -50,7 +50,7 @@ impl Reader {
         head.to.number == a.number && head.from.number < self.plan.nodes
     }
 
-    /// The bytes that came to the node, where they are a packet of the cluster for it.
+    /// Returns the bytes that came to the node if they are a packet of the cluster for it, otherwise `None`.
     pub(crate) fn packet<'e>(&self, a: NodeId, event: &'e NodeEvent) -> Option<&'e [u8]>
         ensures { MatchOption result (IsOther self.now a event.now) (λ b. (event.now ≡ NodeEvents.Packet b.now) × (is_good self.now a b.now ≡ true)) }
     {

@@ -14,7 +14,7 @@ use gb_types::refusal::Refusal;
 use gb_types::reply::Reply;
 use std::marker::Model;
 
-/// Whether the answer refuses for lack of memory.
+/// Returns true if the answer refuses for lack of memory.
 pub(crate) fn wants_memory(answer: &NodeAnswer) -> bool
     ensures { result ≡ wants_memory answer.now }
 {
@@ -28,7 +28,7 @@ pub(crate) fn wants_memory(answer: &NodeAnswer) -> bool
     }
 }
 
-/// The entries from the first on that was not refused for lack of memory.
+/// Returns the entries from the first one on that was not refused for lack of memory.
 fn after_refused(entries: &[TapeEntry]) -> &[TapeEntry]
     ensures same { fed_of result.now ≡ fed_of entries.now }
     ensures first { StartsFed result.now }
@@ -43,7 +43,7 @@ fn after_refused(entries: &[TapeEntry]) -> &[TapeEntry]
     left
 }
 
-/// The same where entries are skipped that were refused so; else all entries.
+/// If `skips` is true, returns the entries from the first one on that was not refused for lack of memory; otherwise all entries.
 fn after_skipped(skips: bool, entries: &[TapeEntry]) -> &[TapeEntry]
     ensures same { kept skips result.now ≡ kept skips entries.now }
     ensures ready { IsReady skips result.now }
@@ -80,7 +80,7 @@ impl<'a> Model for Rest<'a> {
 }
 
 impl<'a> Rest<'a> {
-    /// All entries.
+    /// Returns a rest that has all entries.
     pub(crate) fn new(entries: &'a [TapeEntry]) -> Rest<'a>
         ensures { result ≡ entries.now }
     {
@@ -90,7 +90,7 @@ impl<'a> Rest<'a> {
         }
     }
 
-    /// Those that were not refused for lack of memory.
+    /// Returns a rest that has the entries that were not refused for lack of memory.
     pub(crate) fn fed(entries: &'a [TapeEntry]) -> Rest<'a>
         ensures { result ≡ fed_of entries.now }
     {
@@ -100,7 +100,7 @@ impl<'a> Rest<'a> {
         }
     }
 
-    /// A copy.
+    /// Returns a copy.
     pub(crate) fn again(&self) -> Rest<'a>
         ensures { result ≡ self.now }
     {
@@ -110,14 +110,14 @@ impl<'a> Rest<'a> {
         }
     }
 
-    /// The next entry.
+    /// Returns the next entry, or `None` if none is left.
     pub(crate) fn first(&self) -> Option<&'a TapeEntry>
         ensures { MatchOption result (self.now ≡ []) (λ x. (more : List Entry) × (self.now ≡ x.now ∷ more)) }
     {
         self.entries.first()
     }
 
-    /// Takes the next entry.
+    /// Takes the next entry and returns it, or returns `None` if none is left.
     pub(crate) fn take(&mut self) -> Option<&'a TapeEntry>
         ensures { MatchOption result (self.old ≡ []) (λ x. self.old ≡ x.now ∷ self.new) }
     {
@@ -154,7 +154,7 @@ impl<'a> Model for Taking<'a> {
 }
 
 impl<'a> Taking<'a> {
-    /// What the node answered.
+    /// Returns the node's answer.
     pub(crate) fn answer(&self) -> &'a NodeAnswer
         ensures { result.now ≡ self.now.entry.answer }
     {
@@ -162,7 +162,7 @@ impl<'a> Taking<'a> {
     }
 }
 
-/// The packet that an answer sent.
+/// Returns the packet that the answer sends, or `None` if it sends none.
 pub(crate) fn packet_of(answer: &NodeAnswer) -> Option<&[u8]>
     ensures { MatchOption result (sent_by answer.now ≡ []) (λ b. sent_by answer.now ≡ b.now ∷ []) }
 {
@@ -172,7 +172,7 @@ pub(crate) fn packet_of(answer: &NodeAnswer) -> Option<&[u8]>
     }
 }
 
-/// Notes what an answer sent.
+/// Adds the packet that the answer sends to `sent`, if it sends one.
 pub(crate) fn post<'a>(sent: &mut Mail<'a>, answer: &'a NodeAnswer) -> Result<(), OutOfMemory>
     ensures { OnOk result (sent.new ≡ sent.old ++ sent_by answer.now) }
 {

@@ -14,7 +14,7 @@ use gb_types::memory::OutOfMemory;
 use gb_types::node::NodeId;
 use std::alloc::Global;
 
-/// Notes what the answers sent.
+/// Adds the packets that the answers in `left` send to `sent`.
 fn post_all<'a>(sent: &mut Mail<'a>, mut left: Rest<'a>) -> Result<(), OutOfMemory>
     ensures { OnOk result (sent.new ≡ sent.old ++ sent_of left.entry) }
 {
@@ -24,7 +24,7 @@ fn post_all<'a>(sent: &mut Mail<'a>, mut left: Rest<'a>) -> Result<(), OutOfMemo
     Ok(())
 }
 
-/// All that the tapes sent.
+/// Returns all packets that the tapes sent.
 fn all_sent<'a>(alloc: Global, tapes: &[Rest<'a>]) -> Result<Mail<'a>, OutOfMemory>
     ensures { IfOk result (λ m. m ≡ all_sent tapes.now) }
 {
@@ -41,7 +41,7 @@ fn all_sent<'a>(alloc: Global, tapes: &[Rest<'a>]) -> Result<Mail<'a>, OutOfMemo
     Ok(sent)
 }
 
-/// Whether the event is a packet for the node that was not sent.
+/// Returns true if the event is a packet for the node and is not among `sent`.
 fn is_strange(reader: &Reader, a: NodeId, event: &NodeEvent, sent: &Mail) -> bool
     ensures strange { IsTrue result → IsBlocked reader.now a sent.now event.now }
     ensures known { result ≡ false → IsBlocked reader.now a sent.now event.now → ⊥ }
@@ -52,7 +52,7 @@ fn is_strange(reader: &Reader, a: NodeId, event: &NodeEvent, sent: &Mail) -> boo
     }
 }
 
-/// Whether a packet for the node came to it that was not sent.
+/// Returns true if one of the entries in `left` is a packet for the node that is not among `sent`.
 fn has_stranger(reader: &Reader, a: NodeId, mut left: Rest, sent: &Mail) -> bool
     ensures some { IsTrue result → HasStranger reader.now a sent.now left.entry }
     ensures none { result ≡ false → HasStranger reader.now a sent.now left.entry → ⊥ }
@@ -65,7 +65,7 @@ fn has_stranger(reader: &Reader, a: NodeId, mut left: Rest, sent: &Mail) -> bool
     false
 }
 
-/// Whether a packet for a node came to it that was not sent.
+/// Returns true if to some node a packet for it came that is not among `sent`.
 fn any_stranger(reader: &Reader, tapes: &[Rest], sent: &Mail) -> bool
     requires { length tapes.now ≤ NODES }
     ensures some { IsTrue result → (a : ℕ) × HasStranger reader.now (node_numbered a) sent.now (tape_of tapes.now a) }
@@ -80,7 +80,7 @@ fn any_stranger(reader: &Reader, tapes: &[Rest], sent: &Mail) -> bool
     false
 }
 
-/// Whether a packet for a node came to it that no tape sent.
+/// Returns true if to some node a packet for it came that no tape sent.
 pub(crate) fn have_stranger(
     alloc: Global,
     reader: &Reader,

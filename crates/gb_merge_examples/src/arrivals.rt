@@ -26,6 +26,7 @@ const PLAN: Plan = Plan {
     versions: [Version::One; NODES],
     silence: 3,
     places: 4,
+    room: 16_345,
     cluster_key: [3; 32],
     admin_key: [1; 32],
 };

@@ -28,6 +28,7 @@ fn alone() -> Plan
         versions: [Version::One; NODES],
         silence: 3,
         places: 4,
+        room: 16_345,
         cluster_key: [3; 32],
         admin_key: ADMIN_KEY,
     }

@@ -40,6 +40,7 @@ pub fn plan(nodes: u8) -> Plan
         versions,
         silence: 3,
         places: 4,
+        room: 16_345,
         cluster_key: [3; 32],
         admin_key: ADMIN_KEY,
     }

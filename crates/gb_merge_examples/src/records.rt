@@ -115,6 +115,7 @@ fn records(alloc: Global) -> Result<Vec<Vec<u8>>, OutOfMemory> {
             silence: plan.silence,
             places: plan.places,
             version: plan.bounds().version_of(node),
+            room: plan.room,
         };
         let mut text = Vec::new(alloc);
         if write_record(alloc, &mut text, &head, tapes[number].as_slice()).is_err() {

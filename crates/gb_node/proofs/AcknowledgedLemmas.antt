@@ -1,4 +1,4 @@
--- Which nodes have each own message for good: what a slot keeps of acknowledgements is what the past tells.
+-- Which nodes have acknowledged each own message for good: the slot keeps what the past says of acknowledgements.
 use Rattle.std.proofs.Common.{◌≡◌, ◌≢◌, ℕ, ◌+◌, ◌-◌, ◌<◌, ◌≤◌, List, [], ◌∷◌, ◌++◌, length, get_or, Bool, true, false, ◌&&◌, ◌||◌, ◌⊎◌, inl, inr, refl, sym, ◌∙◌, ap, arith, nat_eq, nat_le, slice_set, slice_index_or, length-append}
 use Rattle.std.specs.Prelude.{if◌then◌else◌}
 use Rattle.std.specs.Ordering.{nat_cmp}

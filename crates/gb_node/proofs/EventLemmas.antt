@@ -1,4 +1,4 @@
--- What each event makes of a node, as its past will tell.
+-- What each event changes in a node, as its past will say.
 use Rattle.std.proofs.Common.{◌≡◌, ℕ, false, ◌||◌, List, [], ◌++◌, inl, inr, length, map, refl, sym, ap, subst, ◌∙◌, arith}
 use Rattle.std.specs.Prelude.{◌⊎◌, filter, not, Option}
 use Rattle.std.specs.FinSet as set
@@ -49,16 +49,17 @@ pub record IsNoOp (key : List ℕ) (e : NodeEvent) (a : NodeAnswer) : Type 0 whe
   pub no_stop : stops e a ≡ false
 
 -- then the links stay
-pub still_moved : (key : List ℕ) (e : NodeEvent) (a : NodeAnswer) (v w : NodeValue) → IsStill key e a → w.key ≡ v.key → w.table.me ≡ v.table.me → w.table.nodes ≡ v.table.nodes → w.table.version ≡ v.table.version → w.table.places ≡ v.table.places → w.table.admin_key ≡ v.table.admin_key
+pub still_moved : (key : List ℕ) (e : NodeEvent) (a : NodeAnswer) (v w : NodeValue) → IsStill key e a → w.key ≡ v.key → w.table.me ≡ v.table.me → w.table.nodes ≡ v.table.nodes → w.table.version ≡ v.table.version → w.table.places ≡ v.table.places → w.table.admin_key ≡ v.table.admin_key → w.room ≡ v.room
     → w.stopped ≡ (stops e a || v.stopped) → w.watch ≡ replay v.watch (ticks e a) → w.table.tenants ≡ v.table.tenants ++ added e a → w.windows ≡ v.windows → w.receivers ≡ v.receivers → Moved key e a v w
 unfolding numbered
-still_moved key e a v w still key_is me nodes version places admin_key stopped watch tenants windows receivers = record {
+still_moved key e a v w still key_is me nodes version places admin_key room stopped watch tenants windows receivers = record {
   key_is = key_is;
   me = me;
   nodes = nodes;
   version = version;
   places = places;
   admin_key = admin_key;
+  room = room;
   stopped = stopped;
   watch = watch ∙ ap (replay v.watch) (sym (append-nil (ticks e a)) ∙ ap (λ cs. ticks e a ++ map (λ (c : Content). Heard c.from) cs) (sym still.none_came));
   tenants = tenants;
@@ -72,7 +73,7 @@ still_moved key e a v w still key_is me nodes version places admin_key stopped w
 
 pub no_op_moved : (key : List ℕ) (e : NodeEvent) (a : NodeAnswer) (v : NodeValue) → IsNoOp key e a → Moved key e a v v
 no_op_moved key e a v no_op =
-    still_moved key e a v v no_op.still refl refl refl refl refl refl (ap (λ t. t || v.stopped) (sym no_op.no_stop)) (ap (replay v.watch) (sym no_op.no_tick)) (sym (append-nil v.table.tenants) ∙ ap (λ rows. v.table.tenants ++ rows) (sym no_op.none_added)) refl refl
+    still_moved key e a v v no_op.still refl refl refl refl refl refl refl (ap (λ t. t || v.stopped) (sym no_op.no_stop)) (ap (replay v.watch) (sym no_op.no_tick)) (sym (append-nil v.table.tenants) ∙ ap (λ rows. v.table.tenants ++ rows) (sym no_op.none_added)) refl refl
 
 -- a refused request adds no tenant
 pub added_refused : (r : Request) (why : Refusal) → added (Asked r) (Replied (Refused why)) ≡ []
@@ -251,7 +252,7 @@ did_same noticed (Fetch token addr from most) (Refused why) t = record { me = re
 pub asked_moved : (key : List ℕ) (r : Request) (reply : Reply) (v : NodeValue) → Moved key (Asked r) (Replied reply) v (node_did r reply v)
 asked_moved key r reply v =
     let kept = did_same v.watch.noticed r reply v.table in
-    still_moved key (Asked r) (Replied reply) v (node_did r reply v) (record { none_came = refl; none_packed = λ b. refl; none_taken = λ b n. refl }) refl kept.me kept.nodes kept.version kept.places kept.admin_key refl refl (did_tenants v.watch.noticed r reply v.table) refl refl
+    still_moved key (Asked r) (Replied reply) v (node_did r reply v) (record { none_came = refl; none_packed = λ b. refl; none_taken = λ b n. refl }) refl kept.me kept.nodes kept.version kept.places kept.admin_key refl refl refl (did_tenants v.watch.noticed r reply v.table) refl refl
 
 -- Groups.
 

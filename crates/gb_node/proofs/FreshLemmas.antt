@@ -1,4 +1,4 @@
--- A group that was just made: its slot stands for the notices of the other members that are noticed.
+-- A group that was just made: its slot stands for the notices of the other members that are noticed already.
 use Rattle.std.proofs.Common.{◌≡◌, ℕ, zero, suc, ◌+◌, ◌<◌, ◌≤◌, inl, inr, List, [], ◌∷◌, map, refl, sym, ap, subst, ◌∙◌, arith}
 use Rattle.std.specs.Prelude.{◌%◌, Bool, true, false, ◌&&◌, ◌||◌, ◌⊎◌, filter, nat_eq}
 use Rattle.std.specs.FinSet as set

@@ -1,4 +1,4 @@
--- What each event makes of each group of a node.
+-- What each event changes in each group of a node.
 use Rattle.std.proofs.Common.{◌≡◌, ℕ, inl, inr, List, [], ◌∷◌, ◌++◌, length, map, take, Option, Some, None, Ok, refl, sym, ap, subst, ◌∙◌, ◌≤◌, arith}
 use Rattle.std.specs.Prelude.{Bool, true, false, not, cond, ◌&&◌, filter, fold, is_some, nat_eq, nat_le, nat_lt, if◌then◌else◌}
 use Rattle.std.specs.FinSet as set
@@ -22,7 +22,6 @@ use Rattle.gb_types.specs.declared.request.Request.TheVariants.{AddTenant, Make,
 use Rattle.gb_types.specs.declared.spec.Spec.{Spec}
 use Rattle.gb_rules.specs.declared.phase.Phase.TheVariants.{Opened, Shut}
 use Rattle.gb_frame.specs.declared.item.Item.{Item}
-use Rattle.gb_frame.specs.Room.{room_of}
 use Rattle.gb_frame.specs.Packet.{Content}
 use Rattle.gb_frame.specs.Reading.{reading}
 use Rattle.gb_frame.specs.Spelling.{packet_text, IsPacket}
@@ -45,7 +44,7 @@ use Rattle.gb_rules.specs.declared.reserve.Reserve.{Reserve}
 use Rattle.gb_table.specs.TableValue.{TableValue, reserve_for, table_noticed, table_packed}
 use Rattle.gb_table.specs.Requests.{is_admitted, table_did, table_reply}
 use Rattle.gb_node.specs.NodeValue.{NodeValue}
-use Rattle.gb_node.specs.NodeStep.{node_numbered, window_to, receiver_from, is_reached, content_to, batch_to, unless_empty, next_batch, sent_batch, newly_done, took_ack, heard, good_of, node_took, node_ticked, node_did, item_done, frame_done, item_comes, items_come, fate, kind_of, frame_comes, notice_each}
+use Rattle.gb_node.specs.NodeStep.{node_numbered, window_to, receiver_from, is_reached, content_to, batch_to, room_to, unless_empty, next_batch, sent_batch, newly_done, took_ack, heard, good_of, node_took, node_ticked, node_did, item_done, frame_done, item_comes, items_come, fate, kind_of, frame_comes, notice_each}
 use Rattle.gb_node.proofs.PacketLemmas.{read_one}
 use Rattle.gb_node.specs.Past.{Happened, read, packed_for, frames_to, numbered, is_acked, is_first}
 use Rattle.gb_node.specs.PastGroups.{freed_by, items_freed}
@@ -204,10 +203,10 @@ notices_in law g t (b ∷ found) =
 
 -- Batches.
 
-pub packed_in : EachGroup → (g : Addr) (b : NodeId) (items : List Item) (t : TableValue) → AreApart t.groups.rows → items ≡ batch_to t b
-    → group_in g (table_packed b.number (room_of t.version) t).groups.rows ≡ stepped (slot_took b.number (length (items_for g items))) (group_in g t.groups.rows)
-packed_in law g b items t apart is =
-    law.taken g t.version b.number (room_of t.version) t.groups apart ∙ ap (λ xs. stepped (slot_took b.number (length (items_for g xs))) (group_in g t.groups.rows)) (sym is)
+pub packed_in : EachGroup → (g : Addr) (b : NodeId) (room : ℕ) (items : List Item) (t : TableValue) → AreApart t.groups.rows → items ≡ batch_to room t b
+    → group_in g (table_packed b.number room t).groups.rows ≡ stepped (slot_took b.number (length (items_for g items))) (group_in g t.groups.rows)
+packed_in law g b room items t apart is =
+    law.taken g t.version b.number room t.groups apart ∙ ap (λ xs. stepped (slot_took b.number (length (items_for g xs))) (group_in g t.groups.rows)) (sym is)
 
 -- No two groups have one address.
 
@@ -303,12 +302,12 @@ module _ (each : EachGroup) (plan : NodePlan) (past : List Happened) (v : NodeVa
       ∙ (ap (λ x. if first then fold (came_for plan.version from) x (items_for g c.items) else x) (frames_done_in each g from v.table (newly_done c v) ∙ ap (λ us. fold (done_for from) o (items_for g (items_freed us))) frees)
       ∙ sym (ap (λ cs. fold (taken_for plan.version key g past (fate c.frame (receiver_from v c.from))) o cs) one)))
 
-  pub packed_groups : (b : NodeId) (items : List Item) (law : WhatIsWrittenIsRead) → IsPacket (content_to v b (window_to v b.number).next items) → length v.windows ≡ NODES → AreApart v.table.groups.rows → items ≡ batch_to v.table b
+  pub packed_groups : (b : NodeId) (items : List Item) (law : WhatIsWrittenIsRead) → IsPacket (content_to v b (window_to v b.number).next items) → length v.windows ≡ NODES → AreApart v.table.groups.rows → items ≡ batch_to (room_to v b) v.table b
       → group_in g (sent_batch b (Some items) v).table.groups.rows ≡ group_after plan g past (Pack b) (Sent (SentPacket (packet_text v.key (content_to v b (window_to v b.number).next items)))) (group_in g v.table.groups.rows)
   packed_groups b items law fit size apart is =
       let c = content_to v b (window_to v b.number).next items in
       let one : read plan.cluster_key (packet_text v.key c) ≡ c ∷ [] = ap (λ k. read k (packet_text v.key c)) (sym was.beside.key) ∙ told v b items law fit size in
-      packed_in each g b items v.table apart is
+      packed_in each g b (room_to v b) items v.table apart is
       ∙ sym (ap (λ cs. fold (packed_from g b) (group_in g v.table.groups.rows) cs) one)
 
   pub ticked_groups : group_in g (node_ticked v).table.groups.rows ≡ group_after plan g past Tick (Ticked (Noticed (due v.watch))) (group_in g v.table.groups.rows)
@@ -323,21 +322,21 @@ sent_items (x ∷ xs) items e = sym (ap (unwrap_list) e)
     unwrap_list None = x ∷ xs
     unwrap_list (Some ys) = ys
 
-pub next_items : (v : NodeValue) (b : NodeId) (items : List Item) → next_batch v b ≡ Some items → items ≡ batch_to v.table b
+pub next_items : (v : NodeValue) (b : NodeId) (items : List Item) → next_batch v b ≡ Some items → items ≡ batch_to (room_to v b) v.table b
 next_items v b items e = by (is_reached v b && has_room (window_to v b.number)) e
   where
-    by : (t : Bool) → (if t then unless_empty (batch_to v.table b) else None) ≡ Some items → items ≡ batch_to v.table b
-    by true e = sent_items (batch_to v.table b) items e
+    by : (t : Bool) → (if t then unless_empty (batch_to (room_to v b) v.table b) else None) ≡ Some items → items ≡ batch_to (room_to v b) v.table b
+    by true e = sent_items (batch_to (room_to v b) v.table b) items e
     by false e = absurd (cc)
 
 -- a batch has of each group a front of what waits there
-pub front_taken : EachGroup → (v : NodeValue) (b : NodeId) (g : Addr) (items : List Item) → AreApart v.table.groups.rows → items ≡ batch_to v.table b
+pub front_taken : EachGroup → (v : NodeValue) (b : NodeId) (g : Addr) (items : List Item) → AreApart v.table.groups.rows → items ≡ batch_to (room_to v b) v.table b
     → items_for g items ≡ map (item_for g) (take (length (items_for g items)) (waiting_in (group_in g v.table.groups.rows) b.number))
 front_taken law v b g items apart is =
-    subst (λ xs. items_for g xs ≡ map (item_for g) (take (length (items_for g xs)) (waiting_in (group_in g v.table.groups.rows) b.number))) (sym is) (law.front g v.table.version b.number (room_of v.table.version) v.table.groups apart)
+    subst (λ xs. items_for g xs ≡ map (item_for g) (take (length (items_for g xs)) (waiting_in (group_in g v.table.groups.rows) b.number))) (sym is) (law.front g v.table.version b.number (room_to v b) v.table.groups apart)
 
 -- a batch takes no more of a group than waits there
-pub waiting_enough : EachGroup → (v : NodeValue) (b : NodeId) (g : Addr) (items : List Item) → AreApart v.table.groups.rows → items ≡ batch_to v.table b → length (items_for g items) ≤ length (waiting_in (group_in g v.table.groups.rows) b.number)
+pub waiting_enough : EachGroup → (v : NodeValue) (b : NodeId) (g : Addr) (items : List Item) → AreApart v.table.groups.rows → items ≡ batch_to (room_to v b) v.table b → length (items_for g items) ≤ length (waiting_in (group_in g v.table.groups.rows) b.number)
 waiting_enough law v b g items apart is =
     let n = length (items_for g items) in
     let there = waiting_in (group_in g v.table.groups.rows) b.number in

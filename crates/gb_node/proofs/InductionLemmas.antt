@@ -13,7 +13,6 @@ use Rattle.gb_types.specs.declared.node.NodeId.{NodeId}
 use Rattle.gb_frame.specs.declared.fault.PacketFault.{PacketFault}
 use Rattle.gb_frame.specs.declared.fault.PacketFault.TheVariants.{Node}
 use Rattle.gb_frame.specs.declared.item.Item.{Item}
-use Rattle.gb_frame.specs.Room.{room_of}
 use Rattle.gb_frame.specs.Packet.{Content}
 use Rattle.gb_frame.specs.Reading.{reading}
 use Rattle.gb_frame.specs.Spelling.{packet_text, IsPacket}
@@ -28,7 +27,7 @@ use Rattle.gb_table.specs.Requests.{table_reply}
 use Rattle.gb_detect.specs.Silence.{is_noticed}
 use Rattle.gb_detect.specs.Laws.{NoticedByCalls}
 use Rattle.gb_node.specs.NodeValue.{NodeValue, new_node, IsNodePlan}
-use Rattle.gb_node.specs.NodeStep.{fate, Turn, turn, running_turn, stopped_answer, IsTurn, IsSpelt, is_here, if_here, taken_answer, node_read, next_batch, sent, sent_batch, content_to, window_to, receiver_from, node_numbered, newly_done, heard, took_ack, without_done, receives, again_content, ack_content}
+use Rattle.gb_node.specs.NodeStep.{fate, Turn, turn, running_turn, stopped_answer, IsTurn, IsSpelt, is_here, if_here, taken_answer, node_read, next_batch, room_to, sent, sent_batch, content_to, window_to, receiver_from, node_numbered, newly_done, heard, took_ack, without_done, receives, again_content, ack_content}
 use Rattle.gb_node.proofs.PacketLemmas.{read_one}
 use Rattle.gb_node.specs.Past.{Happened, ComesTo, read, frames_to, numbered, is_acked, is_taken, watched, tenants_in, is_stopped}
 use Rattle.gb_node.specs.PastGroups.{noticed_after, taken_told, packed_told, told_after, told_of}
@@ -113,7 +112,7 @@ module _ (law : WhatIsWrittenIsRead) (each : EachGroup) (stay : StayApart) (slot
         moved = packed_moved v b items law fit has.windows;
         tables = record { windows = length-set v.windows b.number (pushed (window_to v b.number) items) ∙ has.windows; receivers = has.receivers };
         groups = λ g. packed_groups each plan past v was g b items law fit has.windows ok (next_items v b items is);
-        apart = stay.taken v.table.version b.number (room_of v.table.version) v.table.groups ok;
+        apart = stay.taken v.table.version b.number (room_to v b) v.table.groups ok;
         told = λ g.
             let c = content_to v b (window_to v b.number).next items in
             let one : read plan.cluster_key (packet_text v.key c) ≡ c ∷ [] = ap (λ k. read k (packet_text v.key c)) (sym was.beside.key) ∙ packet_told v b items law fit has.windows in
@@ -174,6 +173,7 @@ new_says plan = record {
     version = refl;
     places = refl;
     admin_key = refl;
+    room = refl;
     stopped = refl;
     watch = refl;
     tenants = refl;

@@ -1,4 +1,4 @@
--- What a packet that is taken, a batch that is packed and a tick make of a node, as its past will tell.
+-- What a packet that is taken, a batch that is packed and a tick change in a node, as its past will say.
 use Rattle.std.proofs.Common.{◌≡◌, ◌≢◌, ℕ, ◌+◌, ◌<◌, true, false, ◌&&◌, ◌||◌, ◌⊎◌, inl, inr, List, [], ◌∷◌, ◌++◌, length, map, Some, Ok, refl, sym, ap, ◌∙◌, arith, nat_eq, nat_lt, get_or}
 use Rattle.std.specs.Prelude.{filter, fold, not, slice_set}
 use Rattle.std.specs.FinSet as set
@@ -87,10 +87,10 @@ keeps_notices t found = keeps_all (λ t b. table_noticed (node_numbered b) t) (�
 pub ticked_moved : (key : List ℕ) (v : NodeValue) → Moved key Tick (Ticked (Noticed (due v.watch))) v (node_ticked v)
 ticked_moved key v =
     let kept = keeps_notices v.table (rising (due v.watch)) in
-    still_moved key Tick (Ticked (Noticed (due v.watch))) v (node_ticked v) (record { none_came = refl; none_packed = λ b. refl; none_taken = λ b n. refl }) refl kept.me kept.nodes kept.version kept.places kept.admin_key refl refl (kept.tenants ∙ sym (append-nil v.table.tenants)) refl refl
+    still_moved key Tick (Ticked (Noticed (due v.watch))) v (node_ticked v) (record { none_came = refl; none_packed = λ b. refl; none_taken = λ b n. refl }) refl kept.me kept.nodes kept.version kept.places kept.admin_key refl refl refl (kept.tenants ∙ sym (append-nil v.table.tenants)) refl refl
 
 pub halted_moved : (key : List ℕ) (v : NodeValue) → Moved key Stop (Halted HaltDone) v (record v { stopped = true })
-halted_moved key v = still_moved key Stop (Halted HaltDone) v (record v { stopped = true }) (record { none_came = refl; none_packed = λ b. refl; none_taken = λ b n. refl }) refl refl refl refl refl refl refl refl (sym (append-nil v.table.tenants)) refl refl
+halted_moved key v = still_moved key Stop (Halted HaltDone) v (record v { stopped = true }) (record { none_came = refl; none_packed = λ b. refl; none_taken = λ b n. refl }) refl refl refl refl refl refl refl refl refl (sym (append-nil v.table.tenants)) refl refl
 
 -- Packets.
 
@@ -169,6 +169,7 @@ module _ (v : NodeValue) (bytes : List ℕ) (c : Content) (is : reading v.key by
     version = kept.version;
     places = kept.places;
     admin_key = kept.admin_key;
+    room = refl;
     stopped = refl;
     watch = ap (λ cs. replay v.watch ([] ++ map (λ (c : Content). Heard c.from) cs)) (sym one);
     tenants = kept.tenants ∙ sym (append-nil v.table.tenants);
@@ -228,6 +229,7 @@ module _ (v : NodeValue) (b : NodeId) (items : List Item) (law : WhatIsWrittenIs
     version = refl;
     places = refl;
     admin_key = refl;
+    room = refl;
     stopped = refl;
     watch = refl;
     tenants = sym (append-nil v.table.tenants);

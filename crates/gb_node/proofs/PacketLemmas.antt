@@ -1,4 +1,4 @@
--- The packet that bytes are under a key, and what decoding makes of them.
+-- The packet that bytes are under a key, and what decoding reads from them.
 use Rattle.std.proofs.Common.{◌≡◌, ℕ, List, [], ◌∷◌, Option, Some, None, Ok, Err, refl, ap, ◌∙◌}
 use Rattle.std.specs.Prelude.{Result, is_none, if◌then◌else◌}
 use Rattle.gb_frame.specs.declared.fault.PacketFault.{PacketFault}

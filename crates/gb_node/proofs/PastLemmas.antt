@@ -1,4 +1,4 @@
--- What a step adds to a past, and what it makes of the node: the induction over pasts.
+-- What a step adds to a past, and what it changes in the node: the induction over pasts.
 use Rattle.std.proofs.Common.{◌≡◌, ℕ, suc, ◌+◌, ◌<◌, ◌≤◌, Bool, true, false, ◌&&◌, ◌||◌, inl, inr, List, [], ◌∷◌, ◌++◌, length, map, refl, sym, ap, ◌∙◌, arith, nat_le, length-append}
 use Rattle.std.specs.Prelude.{filter, not}
 use Rattle.std.specs.FinSet as set
@@ -103,6 +103,7 @@ pub record Moved (key : List ℕ) (e : NodeEvent) (a : NodeAnswer) (v w : NodeVa
   pub version : w.table.version ≡ v.table.version
   pub places : w.table.places ≡ v.table.places
   pub admin_key : w.table.admin_key ≡ v.table.admin_key
+  pub room : w.room ≡ v.room
   pub stopped : w.stopped ≡ (stops e a || v.stopped)
   pub watch : w.watch ≡ replay v.watch (ticks e a ++ map (λ (c : Content). Heard c.from) (came key e a))
   pub tenants : w.table.tenants ≡ v.table.tenants ++ added e a
@@ -127,6 +128,7 @@ moved_says plan past e a v w was step groups told =
         version = step.version ∙ beside.version;
         places = step.places ∙ beside.places;
         admin_key = step.admin_key ∙ beside.admin_key;
+        room = step.room ∙ beside.room;
         stopped = step.stopped ∙ ap (λ t. stops e a || t) beside.stopped;
         watch = step.watch ∙ (ap (λ d. replay d (ticks e a ++ map (λ (c : Content). Heard c.from) (came key e a))) beside.watch
             ∙ sym (replay-append (start plan.me.number plan.nodes plan.silence) (ticks e a ++ map (λ (c : Content). Heard c.from) (came key e a)) (watched key past)));

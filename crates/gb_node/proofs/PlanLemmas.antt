@@ -1,4 +1,4 @@
--- A node is started in a cluster of no more nodes than any version can name.
+-- A node is started in a cluster of at most NODES nodes.
 use Rattle.std.proofs.Common.{◌≤◌, arith}
 use Rattle.gb_types.specs.Version.{limits_are_within}
 use Rattle.gb_types.specs.declared.limits.TheConstants.{NODES}

@@ -1,4 +1,4 @@
--- Events that only read, and what the answers to the others hold.
+-- Events that only read, and how much memory the answers to other events hold.
 use Rattle.std.proofs.Common.{◌≡◌, ℕ, ◌≤◌, ◌⊎◌, inl, inr, Bool, true, false, List, length, Option, Some, None, refl, sym, ap, subst, ◌∙◌, arith}
 use Rattle.std.specs.Prelude.{◌+◌, nat_lt, nat_le, option_map, if◌then◌else◌, IfSome, ◌||◌}
 use Rattle.std.specs.FinSet as set

@@ -13,7 +13,7 @@ use Rattle.gb_frame.specs.Spelling.{IsPacket, packet_text}
 use Rattle.gb_frame.specs.Laws.{WhatIsWrittenIsRead}
 use Rattle.gb_link.specs.SendWindow.{has_room}
 use Rattle.gb_node.specs.NodeValue.{NodeValue}
-use Rattle.gb_node.specs.NodeStep.{turn, running_turn, stopped_answer, window_to, is_reached, is_another, batch_to, unless_empty, pack_content, again_content, ack_content, sent, IsTurn}
+use Rattle.gb_node.specs.NodeStep.{turn, running_turn, stopped_answer, window_to, is_reached, is_another, batch_to, room_to, unless_empty, pack_content, again_content, ack_content, sent, IsTurn}
 use Rattle.gb_node.specs.SendLaw.{Acts, Says, SendersRun, PacketsSay, ReachedAreOthers, BatchesAreForOthers, OthersAreInside, PacketsAreReadBack}
 use Rattle.gb_node.specs.Past.{read}
 use Rattle.gb_node.proofs.PacketLemmas.{read_one}
@@ -79,7 +79,7 @@ reached_another v b e = and_left (is_another v b) (not (set.contains v.watch.not
 pub batch_another : BatchesAreForOthers
 batch_another v b items e = by (is_reached v b) (has_room (window_to v b.number)) refl e
   where
-    by : (t u : Bool) → is_reached v b ≡ t → (if t && u then unless_empty (batch_to v.table b) else None) ≡ Some items → is_another v b ≡ true
+    by : (t u : Bool) → is_reached v b ≡ t → (if t && u then unless_empty (batch_to (room_to v b) v.table b) else None) ≡ Some items → is_another v b ≡ true
     by true u is e = reached_another v b is
     by false u is e = absurd (cc)
 

@@ -1,4 +1,4 @@
--- Sets that are within each other.
+-- Sets that contain each other.
 use Rattle.std.proofs.Common.{◌≡◌, true, sym, ap, ◌∙◌}
 use Rattle.std.specs.Ordering.{nat_cmp}
 use Rattle.std.specs.FinSet as set

@@ -1,4 +1,4 @@
--- What the rules read of a slot is what they read of its group, as the past tells it.
+-- What the rules read of a slot is what they read of its group, as the past has it.
 use Rattle.std.proofs.Common.{◌≡◌, ℕ, suc, ◌+◌, ◌<◌, List, [], ◌∷◌, length, get_or, Bool, true, false, not, ◌&&◌, ◌||◌, nat_eq, cond, Option, Some, None, refl, sym, ◌∙◌, ap, arith}
 use Rattle.std.specs.Prelude.{filter, if◌then◌else◌, option_map}
 use Rattle.std.specs.List.{list_all, list_any, range_with_len}

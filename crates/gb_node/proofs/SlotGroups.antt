@@ -1,4 +1,4 @@
--- Each group of a node as its slot, which stands for what the past tells of the group.
+-- Each group of a node as its slot, which stands for what the past says of the group.
 use Rattle.std.specs.Prelude.{ℕ, ◌≡◌, ◌+◌, ◌<◌, ◌||◌, false, Bool, List, [], ◌∷◌, length, fold, get_or, Option, Some, None, nat_eq, nat_lt, if◌then◌else◌}
 use Rattle.std.specs.FinSet as set
 use Rattle.std.specs.Ordering.{nat_cmp}

@@ -1,4 +1,4 @@
--- Each slot stands for what the past tells its group.
+-- Each slot stands for what the past told its group.
 use Rattle.std.proofs.Common.{◌≡◌, ℕ, ◌+◌, ◌≤◌, inl, inr, List, [], ◌∷◌, ◌++◌, length, drop, Option, Some, None, refl, sym, ap, subst, ◌∙◌, arith, not}
 use Rattle.std.specs.Prelude.{Bool, true, false, ◌&&◌, ◌⊎◌, fold, option_map, nat_eq, nat_lt, if◌then◌else◌}
 use Rattle.std.specs.FinSet as set

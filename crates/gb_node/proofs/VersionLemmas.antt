@@ -1,4 +1,4 @@
--- A node's version can name all nodes, and each frame that is not acknowledged fits a packet of it, whatever happens.
+-- A node's version can name all nodes, and each unacknowledged frame fits a packet of it, whatever happens.
 use Rattle.std.proofs.Common.{◌≡◌, ℕ, zero, suc, ◌≤◌, ◌<◌, Bool, true, false, cond, List, [], ◌∷◌, ◌++◌, Some, None, nat_eq, get_or, Bor, refl, sym, ap, subst, ◌∙◌, arith}
 use Rattle.std.specs.Prelude.{Option, MatchOption, filter, find, fold, replicate, slice_get, slice_index_or}
 use Rattle.std.specs.FinSet as set

@@ -1,4 +1,4 @@
--- What waits in a slot is what waits in its group, as the past tells it, through each call.
+-- What waits in a slot is what waits in its group, as the past has it, after each call.
 use Rattle.std.proofs.Common.{◌≡◌, ℕ, List, [], ◌∷◌, ◌++◌, Bool, true, false, not, ◌&&◌, refl, sym, ap, ◌∙◌, arith}
 use Rattle.std.specs.Prelude.{nat_eq, if◌then◌else◌}
 use Rattle.std.specs.FinSet as set

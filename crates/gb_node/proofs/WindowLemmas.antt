@@ -1,4 +1,4 @@
--- The windows of a node by their frames' items.
+-- The windows of a node, with their frames' items in place of the texts.
 use Rattle.std.proofs.Common.{◌≡◌, ℕ, ◌<◌, List, length, get_or, Result, Ok, Err, Some, sym, ap, subst, ◌∙◌, arith}
 use Rattle.std.specs.Prelude.{IfOk, OnOk}
 use Rattle.std.proofs.Math.ListN.{set}

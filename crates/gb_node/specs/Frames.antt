@@ -11,11 +11,11 @@ use Rattle.gb_frame.specs.declared.packet.Head.{Head}
 use Rattle.gb_link.specs.SendWindow.{SendWindow, new_window}
 use Rattle.gb_table.specs.TableValue.{TableValue}
 
--- a frame by its items, whose texts are of the version
+-- a frame with its items in place of their texts, which are of the version
 abbrev pub frame_of : Version → ℕ × Vec ℕ Global → ℕ × List Item
 frame_of version u = (u.0, batch_in version u.1.items)
 
--- a window by its frames' items
+-- a window with its frames' items in place of their texts
 abbrev pub window_of : Version → SendWindow (Vec ℕ Global) → SendWindow (List Item)
 window_of version w = record { next = w.next; undone = map (frame_of version) w.undone }
 
@@ -23,16 +23,16 @@ window_of version w = record { next = w.next; undone = map (frame_of version) w.
 abbrev pub AreBatches : Version → List (ℕ × Vec ℕ Global) → Type 0
 AreBatches version undone = AllByRecursion (λ u. IsBatch version u.1.items) undone
 
--- the sending end of a link whose frames' texts are of a version
+-- the sending end of a link, whose frames' texts are of this version
 pub record FrameWindow : Type 0 where
   pub version : Version
   pub window : SendWindow (List Item)
 
--- nothing was sent
+-- a sending end at which nothing was sent
 abbrev pub new_frames : Version → FrameWindow
 new_frames version = record { version = version; window = new_window }
 
--- the windows by their frames' items
+-- the windows, with their frames' items in place of the texts
 abbrev pub windows_of : List FrameWindow → List (SendWindow (List Item))
 windows_of ws = map (λ w. w.window) ws
 
@@ -53,14 +53,14 @@ pub record IsOfVersion (version : Version) (w : FrameWindow) : Type 0 where
   pub same : w.version ≡ version
   pub fitting : AreFitting version w.window.undone
 
--- What holds of a node after any events. It is a node of its cluster. Its version can name all nodes of the cluster. The texts of the frames
--- that are not acknowledged are of that version, and each frame fits a packet of it.
+-- An invariant of a node. It is a node of its cluster. Its version can name all nodes of the cluster. The texts of the unacknowledged
+-- frames are of that version, and each frame fits a packet of it.
 pub record KeepsVersion (t : TableValue) (windows : List FrameWindow) : Type 0 where
   pub nodes : t.nodes ≤ (limits_of t.version).nodes
   pub me : t.me.number < t.nodes
   pub frames : (b : ℕ) → IsOfVersion t.version (slice_index_or windows b (new_frames t.version))
 
--- the items of a frame that may be there
+-- the items of a frame, if there is one
 abbrev pub items_of_frame : Option (ℕ × List Item) → List Item
 items_of_frame None = []
 items_of_frame (Some u) = u.1

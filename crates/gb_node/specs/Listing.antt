@@ -1,4 +1,4 @@
--- What a node tells its administrator of its groups.
+-- What a node tells its administrator about its groups.
 use Rattle.std.specs.Prelude.{◌≡◌, ℕ, ◌⊎◌, true, false, List, length, is_ok, Result, Ok, Err}
 use Rattle.gb_types.specs.declared.refusal.Refusal.{Refusal}
 use Rattle.gb_types.specs.declared.refusal.Refusal.TheVariants.{Stopped, OutOfMemory}
@@ -6,8 +6,8 @@ use Rattle.gb_table.specs.Listing.{list_answer}
 use Rattle.gb_table.specs.declared.listing.Listing.{Listing}
 use Rattle.gb_node.specs.NodeValue.{NodeValue}
 
--- The groups from a place on, at most `most`, and how many there are. A node that has stopped lists none; out of memory is told only where there
--- was a list to tell.
+-- The groups from a place on, at most `most`, and the number of all groups. A node that has stopped lists none. The answer is OutOfMemory only if there
+-- was a list to return.
 abbrev pub Lists : NodeValue → List ℕ → ℕ → ℕ → Result Listing Refusal → Type 0
 Lists n token from most (Ok listing) =
     (n.stopped ≡ false) × (list_answer token from most n.table ≡ Ok listing.groups.items) × (listing.total ≡ length n.table.groups.rows)

@@ -1,5 +1,5 @@
--- What each event makes of a node, and its answer.
-use Rattle.std.specs.Prelude.{ℕ, ◌≡◌, ◌%◌, ◌⊎◌, ◌&&◌, not, Bool, true, List, [], ◌∷◌, length, filter, fold, Option, Some, None, IfSome, option_map, Result, Ok, Err, slice_index_or, slice_set, nat_eq, nat_lt, if◌then◌else◌}
+-- The state of a node after each event, and its answer.
+use Rattle.std.specs.Prelude.{ℕ, ◌≡◌, ◌%◌, min, ◌⊎◌, ◌&&◌, not, Bool, true, List, [], ◌∷◌, length, filter, fold, Option, Some, None, IfSome, option_map, Result, Ok, Err, slice_index_or, slice_set, nat_eq, nat_lt, if◌then◌else◌}
 use Rattle.std.specs.FinSet as set
 use Rattle.gb_types.specs.Entry.{message_of}
 use Rattle.gb_types.specs.Rising.{rising}
@@ -10,6 +10,7 @@ use Rattle.gb_types.specs.declared.reply.Reply.{Reply}
 use Rattle.gb_types.specs.declared.reply.Reply.TheVariants.{Refused}
 use Rattle.gb_types.specs.declared.request.Request.{Request}
 use Rattle.gb_types.specs.declared.request.Request.TheVariants.{AddTenant, Make, Fetch}
+use Rattle.gb_types.specs.declared.version.Version.{Version}
 use Rattle.gb_frame.specs.declared.fault.PacketFault.{PacketFault}
 use Rattle.gb_frame.specs.declared.fault.PacketFault.TheVariants.{Node}
 use Rattle.gb_frame.specs.declared.item.Item.{Item}
@@ -26,8 +27,8 @@ use Rattle.gb_detect.specs.Watch.{due, after_heard, after_tick}
 use Rattle.gb_rules.specs.Replied.{takes_memory}
 use Rattle.gb_frame.specs.Items.{address_of, entry_of, rest_is_node}
 use Rattle.gb_groups.specs.GroupsValue.{batch}
-use Rattle.gb_groups.specs.OneGroup.{NothingWaits}
-use Rattle.gb_groups.specs.Packing.{items}
+use Rattle.gb_groups.specs.OneGroup.{longest_item, NothingWaits}
+use Rattle.gb_groups.specs.Packing.{Visit, items}
 use Rattle.gb_table.specs.TableValue.{TableValue, table_came, table_done, table_noticed, table_packed}
 use Rattle.gb_table.specs.Requests.{table_reply, table_did}
 use Rattle.gb_node.specs.NodeValue.{NodeValue}
@@ -45,7 +46,7 @@ use Rattle.gb_node.specs.declared.answer.Halted.TheVariants.{Done as HaltDone, R
 use Rattle.gb_node.specs.declared.event.NodeEvent.{NodeEvent}
 use Rattle.gb_node.specs.declared.event.NodeEvent.TheVariants.{Request as Asked, Packet as Came, Pack, Again, Ack, Tick, Stop}
 
--- the node with this number, which is below the number of nodes that there may be
+-- the node with this number, reduced modulo the greatest number of nodes
 abbrev pub node_numbered : ℕ → NodeId
 node_numbered n = record { number = n % NODES; below = rest_is_node n }
 
@@ -66,13 +67,26 @@ is_reached v b = is_another v b && not (set.contains v.watch.noticed b.number)
 
 -- Sending.
 
--- what a packet to a node says that has this frame: it acknowledges what came from the node so far
+-- the content of a packet to a node with this frame: it acknowledges what came from the node so far
 abbrev pub content_to : NodeValue → NodeId → ℕ → List Item → Content
 content_to v b frame items = record { version = v.table.version; from = v.table.me.number; to = b.number; base = base_of (receiver_from v b.number); mask = mask_of (receiver_from v b.number); frame = frame; items = items }
 
--- what a batch for a node has now
-abbrev pub batch_to : TableValue → NodeId → List Item
-batch_to t b = items t.groups.rows (batch t.version b.number (room_of t.version) t.groups)
+-- the items of a batch for a node that may have `room` bytes
+abbrev pub batch_to : ℕ → TableValue → NodeId → List Item
+batch_to room t b = items t.groups.rows (batch t.version b.number room t.groups)
+
+-- the most bytes of a batch by the node's plan, and no more than a packet of its version has room for
+abbrev pub own_room : NodeValue → ℕ
+own_room v = min v.room (room_of v.table.version)
+
+-- the most bytes of a batch, or, where nothing fits into them, those of the longest item
+abbrev pub room_or_longest : Version → ℕ → List Visit → ℕ
+room_or_longest version room [] = longest_item version
+room_or_longest version room (v ∷ vs) = room
+
+-- the most bytes of the next batch for a node
+abbrev pub room_to : NodeValue → NodeId → ℕ
+room_to v b = room_or_longest v.table.version (own_room v) (batch v.table.version b.number (own_room v) v.table.groups)
 
 abbrev pub unless_empty : List Item → Option (List Item)
 unless_empty [] = None
@@ -80,15 +94,15 @@ unless_empty (i ∷ is) = Some (i ∷ is)
 
 -- the batch that is packed next for a node, if there is one
 abbrev pub next_batch : NodeValue → NodeId → Option (List Item)
-next_batch v b = if is_reached v b && has_room (window_to v b.number) then unless_empty (batch_to v.table b) else None
+next_batch v b = if is_reached v b && has_room (window_to v b.number) then unless_empty (batch_to (room_to v b) v.table b) else None
 
 abbrev pub pack_content : NodeValue → NodeId → Option Content
 pack_content v b = option_map (content_to v b (window_to v b.number).next) (next_batch v b)
 
--- a node once this batch was packed for another, if there is one
+-- a node after this batch, if any, was packed for another
 abbrev pub sent_batch : NodeId → Option (List Item) → NodeValue → NodeValue
 sent_batch b None v = v
-sent_batch b (Some items) v = record v { table = table_packed b.number (room_of v.table.version) v.table; windows = slice_set v.windows b.number (pushed (window_to v b.number) items) }
+sent_batch b (Some items) v = record v { table = table_packed b.number (room_to v b) v.table; windows = slice_set v.windows b.number (pushed (window_to v b.number) items) }
 
 abbrev pub node_packed : NodeId → NodeValue → NodeValue
 node_packed b v = sent_batch b (next_batch v b) v
@@ -101,7 +115,7 @@ again_content v b n = if is_reached v b then option_map (λ u. content_to v b u.
 abbrev pub ack_content : NodeValue → NodeId → Option Content
 ack_content v b = if is_another v b then Some (content_to v b 0 []) else None
 
--- its bytes are sent, where there is one
+-- what is sent: the packet with this content, if any
 abbrev pub sent : NodeValue → Option Content → SentValue
 sent v None = Nothing
 sent v (Some c) = SentPacket (packet_text v.key c)
@@ -116,7 +130,7 @@ abbrev pub if_here : NodeValue → Result Content PacketFault → Result Content
 if_here v (Err fault) = Err fault
 if_here v (Ok c) = if is_here v c then Ok c else Err Node
 
--- the packet for this node that bytes are, or what is wrong with them
+-- the packet for this node that bytes are, or the fault in them
 abbrev pub read_at : NodeValue → List ℕ → Result Content PacketFault
 read_at v bytes = if_here v (reading v.key bytes)
 
@@ -158,7 +172,7 @@ abbrev pub items_come : NodeId → List Item → Admission → TableValue → Ta
 items_come from items First t = fold (item_comes from) t items
 items_come from items other t = t
 
--- What becomes of a packet's frame at a link that received these, of its items, and what is received then; number 0 is no frame.
+-- The fate of a packet's frame at a link that received these, the number of items taken, and what is received then; number 0 is no frame.
 abbrev pub fate : ℕ → Received → Frame
 fate n received = if nat_eq n 0 then NoFrame else kind_of (admission received n)
 
@@ -185,7 +199,7 @@ heard c v = record v { watch = after_heard v.watch c.from }
 abbrev pub node_took : Content → NodeValue → NodeValue
 node_took c v = took_frame c (took_ack c (heard c v))
 
--- what is told of it
+-- the answer to it
 abbrev pub good_of : Content → NodeValue → Good
 good_of c v = record {
   from = node_numbered c.from;
@@ -211,7 +225,7 @@ notice_each t found = fold (λ t b. table_noticed (node_numbered b) t) t found
 abbrev pub node_ticked : NodeValue → NodeValue
 node_ticked v = record v { table = notice_each v.table (rising (due v.watch)); watch = after_tick v.watch }
 
--- What an event makes of a node, and the answer.
+-- The state of a node after an event, and the answer.
 pub record Turn : Type 0 where
   pub value : NodeValue
   pub answer : NodeAnswer
@@ -220,7 +234,7 @@ pub record Turn : Type 0 where
 abbrev pub node_did : Request → Reply → NodeValue → NodeValue
 node_did request reply v = record v { table = table_did v.watch.noticed request reply v.table }
 
--- what a running node does
+-- a running node
 abbrev pub running_turn : NodeValue → NodeEvent → Turn
 running_turn v (Asked request) = let reply = table_reply request v.table in record { value = node_did request reply v; answer = Replied reply }
 running_turn v (Came bytes) = let read = read_at v bytes in record { value = node_read read v; answer = Taken (taken_answer v read) }
@@ -243,7 +257,7 @@ stopped_answer Stop = Halted (HaltRefused Stopped)
 abbrev pub turn : NodeValue → NodeEvent → Turn
 turn v event = if v.stopped then record { value = v; answer = stopped_answer event } else running_turn v event
 
--- Want of memory.
+-- Lack of memory.
 
 -- a request takes memory where it adds a tenant, makes a group or reads entries
 abbrev pub RequestTakesMemory : Request → Reply → Type 0
@@ -252,17 +266,17 @@ RequestTakesMemory (Make token addr spec) reply = takes_memory reply ≡ true
 RequestTakesMemory (Fetch token addr from most) reply = takes_memory reply ≡ true
 RequestTakesMemory request reply = ⊥
 
--- the answer is want of memory, where the event takes memory: a packet is built, a tenant added, a group made, entries read
+-- the answer is lack of memory, and the event takes memory: a packet is built, a tenant added, a group made, entries read
 abbrev pub IsStarved : NodeEvent → NodeAnswer → NodeAnswer → Type 0
 IsStarved (Asked request) (Replied should) answer = (answer ≡ Replied (Refused OutOfMemory)) × RequestTakesMemory request should
 IsStarved event (Sent (SentPacket text)) answer = answer ≡ Sent (SentRefused OutOfMemory)
 IsStarved event should answer = ⊥
 
--- an event with its answer makes this of a node: what it should, or the node lacked memory and nothing has changed
+-- the node after an event with its answer: as it should be, or the node lacked memory and nothing has changed
 abbrev pub IsTurn : NodeValue → NodeEvent → NodeAnswer → NodeValue → Type 0
 IsTurn old event answer new = (IsStarved event (turn old event).answer answer × (new ≡ old)) ⊎ ((answer ≡ (turn old event).answer) × (new ≡ (turn old event).value))
 
--- What a packet says that an event sends.
+-- The content of the packet that an event sends.
 abbrev pub sent_content : NodeValue → NodeEvent → Option Content
 sent_content v (Pack b) = pack_content v b
 sent_content v (Again b n) = again_content v b n
@@ -274,7 +288,7 @@ abbrev pub IsSpelt : NodeValue → NodeEvent → NodeAnswer → Type 0
 IsSpelt v event (Sent (SentPacket text)) = IfSome (sent_content v event) IsPacket
 IsSpelt v event answer = Unit {0}
 
--- A pack gives nothing only for a reason: the node is not reached, the link has no room, or nothing waits.
+-- A pack answers Nothing only if the node is not reached, the link has no room, or nothing waits.
 abbrev pub IsForReason : NodeValue → NodeEvent → NodeAnswer → Type 0
 IsForReason v (Pack b) (Sent Nothing) = (is_reached v b && has_room (window_to v b.number)) ≡ true → NothingWaits b.number v.table.groups.rows
 IsForReason v event answer = Unit {0}

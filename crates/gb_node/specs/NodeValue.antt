@@ -15,6 +15,8 @@ pub record NodeValue : Type 0 where
   pub key : List ℕ
   -- tenants and groups
   pub table : TableValue
+  -- the most bytes of the items of a packet, but for an item that is longer
+  pub room : ℕ
   -- for each node, the frames for it that are not acknowledged, each a batch of items
   pub windows : List (SendWindow (List Item))
   -- for each node, the numbers of its frames that were received
@@ -28,6 +30,7 @@ abbrev pub new_node : NodePlan → NodeValue
 new_node p = record {
   key = p.cluster_key;
   table = new_table p.me p.nodes p.version p.places p.admin_key;
+  room = p.room;
   windows = replicate NODES new_window;
   receivers = replicate NODES set.empty;
   watch = start p.me.number p.nodes p.silence;

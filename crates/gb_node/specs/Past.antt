@@ -1,4 +1,4 @@
--- What happened at a node and what came of it: all that follows from that alone. A past has the newest first.
+-- A node's past: its events with their answers, and all that follows from these alone. A past has the newest first.
 use Rattle.std.specs.Prelude.{ℕ, ◌≡◌, ◌+◌, ◌&&◌, ◌||◌, Bool, true, false, List, [], ◌∷◌, ◌++◌, length, map, nat_eq, nat_le, if◌then◌else◌}
 use Rattle.std.specs.List.{list_any}
 use Rattle.gb_types.specs.declared.reply.Reply.TheVariants.{Done}
@@ -28,23 +28,23 @@ pub record Happened : Type 0 where
   pub event : NodeEvent
   pub answer : NodeAnswer
 
--- a node that was started with the plan comes by this past to this
+-- a node that was started with the plan comes to this state by this past
 unfoldable pub ComesTo : NodePlan → List Happened → NodeValue → Type 0
 ComesTo plan [] v = IsNodePlan plan × (v ≡ new_node plan)
 ComesTo plan (h ∷ past) v = (before : NodeValue) × ComesTo plan past before × IsTurn before h.event h.answer v × IsSpelt before h.event h.answer
 
 -- Packets under the cluster's key.
 
--- the packet that bytes are, if they are one
+-- the packet that these bytes are, if they are one
 abbrev pub read : List ℕ → List ℕ → List Content
 read key bytes = if is_packet key bytes then content_in bytes ∷ [] else []
 
--- the packet that was taken
+-- the packet that was taken, if one was
 abbrev pub came : List ℕ → NodeEvent → NodeAnswer → List Content
 came key (Came bytes) (Taken (TakenGood good)) = read key bytes
 came key event answer = []
 
--- the batch that was packed for a node
+-- the batch that was packed for a node, if one was
 abbrev pub packed_for : List ℕ → ℕ → NodeEvent → NodeAnswer → List (List Item)
 packed_for key b (Pack x) (Sent (SentPacket text)) = if nat_eq x.number b then map (λ (c : Content). c.items) (read key text) else []
 packed_for key b event answer = []
@@ -54,7 +54,7 @@ unfoldable pub frames_to : List ℕ → ℕ → List Happened → List (List Ite
 frames_to key b [] = []
 frames_to key b (h ∷ past) = frames_to key b past ++ packed_for key b h.event h.answer
 
--- frames under their numbers, from a number on
+-- the frames, each with its number, counted from n on
 unfoldable pub numbered : ℕ → List (List Item) → List (ℕ × List Item)
 numbered n [] = []
 numbered n (f ∷ fs) = (n, f) ∷ numbered (n + 1) fs
@@ -62,7 +62,7 @@ numbered n (f ∷ fs) = (n, f) ∷ numbered (n + 1) fs
 abbrev pub is_ack : ℕ → ℕ → Content → Bool
 is_ack b n c = nat_eq c.from b && covers c.base c.mask n
 
--- an acknowledgement of the frame for a node with this number came after the frame was packed
+-- an acknowledgement of the n-th frame for a node came after that frame was packed
 unfoldable pub is_acked : List ℕ → ℕ → ℕ → List Happened → Bool
 is_acked key b n [] = false
 is_acked key b n (h ∷ past) = is_acked key b n past || (nat_le n (length (frames_to key b past)) && list_any (is_ack b n) (came key h.event h.answer))
@@ -80,7 +80,7 @@ abbrev pub is_taken_by : List ℕ → ℕ → ℕ → NodeEvent → NodeAnswer �
 is_taken_by key b n (Came bytes) (Taken (TakenGood good)) = is_first good.frame && list_any (is_frame b n) (read key bytes)
 is_taken_by key b n event answer = false
 
--- the frame from a node with this number came for the first time
+-- the frame with this number came from a node for the first time
 unfoldable pub is_taken : List ℕ → ℕ → ℕ → List Happened → Bool
 is_taken key b n [] = false
 is_taken key b n (h ∷ past) = is_taken_by key b n h.event h.answer || is_taken key b n past
@@ -91,7 +91,7 @@ abbrev pub ticks : NodeEvent → NodeAnswer → List Call
 ticks Tick (Ticked (Noticed found)) = Ticks ∷ []
 ticks event answer = []
 
--- what the detector was called for, the newest first
+-- the calls of the detector, the newest first
 unfoldable pub watched : List ℕ → List Happened → List Call
 watched key [] = []
 watched key (h ∷ past) = ticks h.event h.answer ++ map (λ (c : Content). Heard c.from) (came key h.event h.answer) ++ watched key past

@@ -1,4 +1,4 @@
--- What the past of a node says of each group. What happened to other groups makes nothing of it.
+-- What the past of a node says of each group. What happened to other groups changes nothing in it.
 use Rattle.std.specs.Prelude.{ℕ, ◌&&◌, ◌||◌, not, List, [], ◌∷◌, ◌++◌, length, drop, filter, flat_map, fold, Option, Some, None, Bool, false, nat_eq, nat_le, nat_lt, option_map, if◌then◌else◌}
 use Rattle.std.specs.FinSet as set
 use Rattle.std.specs.List.{list_all, range_with_len}
@@ -46,14 +46,14 @@ use Rattle.gb_node.specs.Past.{Happened, read, frames_to, numbered, is_acked, is
 abbrev pub noticed_after : NodePlan → List Happened → set.FinSet nat_cmp
 noticed_after plan past = (replay (start plan.me.number plan.nodes plan.silence) (watched plan.cluster_key past)).noticed
 
--- the frames for a packet's sender that its acknowledgement covers first, and their items in order
+-- the frames for a packet's sender that its acknowledgement newly covers, each with its number, in order
 abbrev pub freed_by : List ℕ → List Happened → Content → List (ℕ × List Item)
 freed_by key past c = filter (λ u. covers c.base c.mask u.0) (filter (λ u. not (is_acked key c.from u.0 past)) (numbered 1 (frames_to key c.from past)))
 
 abbrev pub items_freed : List (ℕ × List Item) → List Item
 items_freed us = flat_map (λ u. u.1) us
 
--- A group that was made and not dropped, as its node's past tells it.
+-- A group that was made and not dropped, as its node's past has it.
 pub record Told : Type 0 where
   pub spec : Spec
   pub phase : Phase
@@ -61,7 +61,7 @@ pub record Told : Type 0 where
   pub calls : List GroupCall
   -- the items that wait for each node, in order
   pub waiting : ℕ → List Entry
-  -- which of the messages said here, by number, which node acknowledged
+  -- which node acknowledged which of the messages said here, by number
   pub acknowledged : ℕ → ℕ → Bool
 
 -- the items that wait in a group for a node
@@ -70,13 +70,13 @@ waiting_of None b = []
 waiting_of (Some None) b = []
 waiting_of (Some (Some t)) b = t.waiting b
 
--- What the rules read of it.
+-- What the rules read of a group.
 
--- each other member is noticed, or acknowledged the message that was said here with this number
+-- each other member is noticed, or has acknowledged the message that was said here with this number
 abbrev pub is_finished_told : ℕ → Told → ℕ → Bool
 is_finished_told me t seq = list_all (λ b. nat_eq b me || (has_noticed t.calls b || t.acknowledged seq b)) (set.items t.spec.members)
 
--- how many of the messages said here are not
+-- the number of messages said here that are not finished
 abbrev pub unfinished_in : ℕ → Told → ℕ
 unfinished_in me t = length (filter (λ seq. not (is_finished_told me t seq)) (range_with_len 1 (said_in t.calls)))
 
@@ -86,21 +86,21 @@ used_by me t = record { said = said_in t.calls; bytes = bytes_in t.calls me; unf
 abbrev pub shown_of : ℕ → Told → Shown
 shown_of me t = record { spec = t.spec; phase = t.phase; usage = used_by me t; log = log_of t.spec me t.calls }
 
--- where the group was made, and not dropped
+-- what the rules read of a group that may have been made, and dropped since
 abbrev pub shown_in : ℕ → Option (Option Told) → Option (Option Shown)
 shown_in me o = option_map (option_map (shown_of me)) o
 
--- What becomes of it.
+-- How a group changes.
 
--- what a call makes the group broadcast waits for each other member that was not noticed
+-- what a call makes the group broadcast waits for each other member that was not noticed, after what waited before
 abbrev pub waits_with : ℕ → GroupCall → Told → ℕ → List Entry
 waits_with me c t b = if is_other t.spec me b && not (has_noticed (c ∷ t.calls) b) then t.waiting b ++ puts_of t.spec me c t.calls else t.waiting b
 
--- it is told something
+-- the group is told of a call
 abbrev pub with_call : NodeId → GroupCall → Told → Told
 with_call me c t = record t { calls = c ∷ t.calls; waiting = waits_with me.number c t }
 
--- it is opened or shut
+-- the group is opened or shut
 abbrev pub moved_to : Phase → Told → Told
 moved_to phase t = record t { phase = phase }
 
@@ -108,15 +108,15 @@ moved_to phase t = record t { phase = phase }
 abbrev pub cut_off : ℕ → Told → Told
 cut_off q t = record t { waiting = λ b. if nat_eq b q then [] else t.waiting b }
 
--- so many of the items that wait for a node are packed
+-- the first `count` items that wait for a node are packed
 abbrev pub took_from : ℕ → ℕ → Told → Told
 took_from b count t = record t { waiting = λ x. if nat_eq x b then drop count (t.waiting x) else t.waiting x }
 
--- a message is the one that was said at this node with this number
+-- the message is the one that was said at this node with this number
 abbrev pub is_own_message : ℕ → ℕ → MsgId → Bool
 is_own_message me seq m = nat_eq m.origin.number me && nat_eq m.seq seq
 
--- a node acknowledged a message; one that was not said here counts for nothing
+-- a node acknowledged a message; if it was not said here, nothing changes
 abbrev pub acknowledged_with : ℕ → NodeId → MsgId → Told → ℕ → ℕ → Bool
 acknowledged_with me from m t seq b = t.acknowledged seq b || (nat_le seq (said_in t.calls) && (nat_eq b from.number && is_own_message me seq m))
 
@@ -125,19 +125,19 @@ finished_by me from m t = record t { acknowledged = acknowledged_with me.number 
 
 -- The events.
 
--- the other members among the nodes that are noticed, rising
+-- the other members among the noticed nodes, in rising order
 abbrev pub noticed_members : Spec → ℕ → (ℕ → Bool) → List ℕ
 noticed_members spec me noticed = filter (λ b. is_other spec me b && noticed b) (range_with_len 0 NODES)
 
--- it is told of each, the last one last
+-- the group is told of each of these nodes in turn
 abbrev pub crashed_onto : List GroupCall → List ℕ → List GroupCall
 crashed_onto calls bs = fold (λ cs b. Crashed (node_numbered b) ∷ cs) calls bs
 
--- a group that was just made, at a node that has noticed these
+-- a group that was just made, at a node that has noticed these nodes
 abbrev pub told_first : Spec → NodeId → set.FinSet nat_cmp → Told
 told_first spec me noticed = record { spec = spec; phase = Made; calls = crashed_onto [] (noticed_members spec me.number (set.contains noticed)); waiting = λ b. []; acknowledged = λ seq b. false }
 
--- after a request of the group, where it is answered so
+-- the group after a request with this reply
 abbrev pub asked_told : Addr → NodeId → set.FinSet nat_cmp → Request → Reply → Option (Option Told) → Option (Option Told)
 asked_told g me noticed (Make token addr spec) Done o = or_added o (if is_addr g addr then Some (Some (told_first spec me noticed)) else None)
 asked_told g me noticed (OpenGroup token addr) Done o = where_so (is_addr g addr) (stepped (moved_to Opened)) o
@@ -146,36 +146,36 @@ asked_told g me noticed (DropGroup token addr) Done o = where_so (is_addr g addr
 asked_told g me noticed (Say token addr message) (Said seq) o = where_so (is_addr g addr) (stepped (with_call me (Own (record { origin = me; seq = seq; payload = message.payload })))) o
 asked_told g me noticed request reply o = o
 
--- an item of the group is acknowledged by a node; one whose origin is no node is nobody's
+-- an item of the group is acknowledged by a node; an item whose origin is no node changes nothing
 abbrev pub done_told : NodeId → NodeId → Option (Option Told) → Item → Option (Option Told)
 done_told me from o i = where_so (nat_lt i.origin NODES) (stepped (finished_by me from (message_of (entry_of i)))) o
 
--- after an item came from a node: it is let fall, or the group is told of it
+-- after an item came from a node: the item is let fall, or the group is told of it
 abbrev pub unless_falls : NodeId → NodeId → Entry → Told → Told
 unless_falls me from x t = if falls_after t.spec me.number t.calls from.number x then t else with_call me (Other from x) t
 
--- one whose origin is no node, or that is longer than a message may be at a node that sends this version, is let fall
+-- after an item came: it is also let fall if its origin is no node, or if it is longer than a message may be at a node that sends this version
 abbrev pub came_told : Version → NodeId → NodeId → Option (Option Told) → Item → Option (Option Told)
 came_told version me from o i = where_so (nat_lt i.origin NODES && not (is_too_long version i.payload)) (stepped (unless_falls me from (entry_of i))) o
 
--- a packet is taken: of the frames that it frees and then of its own frame, if it came first, each group takes its items, in order
+-- a packet is taken: each group takes in order its items in the frames that the packet frees, then its items in the packet's own frame if that came first
 abbrev pub taken_told : Version → NodeId → List ℕ → Addr → List Happened → Frame → Option (Option Told) → Content → Option (Option Told)
 taken_told version me key g past frame o c =
     let acknowledged = fold (done_told me (node_numbered c.from)) o (items_for g (items_freed (freed_by key past c))) in
     if is_first frame then fold (came_told version me (node_numbered c.from)) acknowledged (items_for g c.items) else acknowledged
 
--- a batch takes the items that it has of the group
+-- a batch takes the group's items that it has
 abbrev pub packed_told : Addr → NodeId → Option (Option Told) → Content → Option (Option Told)
 packed_told g b o c = stepped (took_from b.number (length (items_for g c.items))) o
 
--- after a node is noticed: the group is told where it is another member
+-- after a node is noticed: the group is told of it if it is another member
 abbrev pub if_other : NodeId → NodeId → Told → Told
 if_other me q t = if is_other t.spec me.number q.number then with_call me (Crashed q) (cut_off q.number t) else t
 
 abbrev pub noticed_told : NodeId → Option (Option Told) → ℕ → Option (Option Told)
 noticed_told me o b = stepped (if_other me (node_numbered b)) o
 
--- what an event with its answer makes of a group
+-- what an event with its answer changes in a group
 abbrev pub told_after : NodePlan → Addr → List Happened → NodeEvent → NodeAnswer → Option (Option Told) → Option (Option Told)
 told_after plan g past (Asked request) (Replied reply) o = asked_told g plan.me (noticed_after plan past) request reply o
 told_after plan g past (Came bytes) (Taken (TakenGood good)) o = fold (taken_told plan.version plan.me plan.cluster_key g past good.frame) o (read plan.cluster_key bytes)
@@ -183,7 +183,7 @@ told_after plan g past (Pack b) (Sent (SentPacket text)) o = fold (packed_told g
 told_after plan g past Tick (Ticked (Noticed found)) o = fold (noticed_told plan.me) o (rising found)
 told_after plan g past event answer o = o
 
--- the group at the node: None where it was never made, Some None where it was dropped
+-- the group at the node: None if it was never made, Some None if it was dropped
 unfoldable pub told_of : NodePlan → Addr → List Happened → Option (Option Told)
 told_of plan g [] = None
 told_of plan g (h ∷ past) = told_after plan g past h.event h.answer (told_of plan g past)

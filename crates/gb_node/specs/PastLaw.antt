@@ -1,4 +1,4 @@
--- A node is what its past says.
+-- The state of a node is determined by its past.
 use Rattle.std.specs.Prelude.{ℕ, ◌≡◌, ◌+◌, not, List, length, filter}
 use Rattle.std.specs.FinSet as set
 use Rattle.gb_types.specs.declared.address.Addr.{Addr}
@@ -11,7 +11,7 @@ use Rattle.gb_node.specs.Past.{Happened, ComesTo, frames_to, numbered, is_acked,
 use Rattle.gb_node.specs.NodeGroups.{shown_at, waiting_at}
 use Rattle.gb_node.specs.PastGroups.{shown_in, waiting_of, told_of}
 
--- What a node is beside its groups, its past says.
+-- The state of a node beside its groups is determined by its past.
 pub record IsOfPastBesideGroups (plan : NodePlan) (past : List Happened) (v : NodeValue) : Type 0 where
   pub key : v.key ≡ plan.cluster_key
   pub me : v.table.me ≡ plan.me
@@ -19,6 +19,7 @@ pub record IsOfPastBesideGroups (plan : NodePlan) (past : List Happened) (v : No
   pub version : v.table.version ≡ plan.version
   pub places : v.table.places ≡ plan.places
   pub admin_key : v.table.admin_key ≡ plan.admin_key
+  pub room : v.room ≡ plan.room
   pub stopped : v.stopped ≡ is_stopped past
   pub watch : v.watch ≡ replay (start plan.me.number plan.nodes plan.silence) (watched plan.cluster_key past)
   pub tenants : v.table.tenants ≡ tenants_in past
@@ -28,7 +29,7 @@ pub record IsOfPastBesideGroups (plan : NodePlan) (past : List Happened) (v : No
   -- the link from each node: the numbers received
   pub received : (b : NodeId) (n : ℕ) → set.contains (receiver_from v b.number) n ≡ is_taken plan.cluster_key b.number n past
 
--- What a node is its past says.
+-- The state of a node is determined by its past.
 pub record IsOfPast (plan : NodePlan) (past : List Happened) (v : NodeValue) : Type 0 where
   pub beside : IsOfPastBesideGroups plan past v
   -- each group: what the rules read of it, and what waits in it

@@ -1,4 +1,4 @@
--- Which events leave a node as it is, and how much memory the answers to the others hold.
+-- Which events leave a node unchanged, and how much memory the answers to other events hold.
 use Rattle.std.specs.Prelude.{ℕ, ◌≤◌, Bool, true, false, length}
 use Rattle.gb_types.specs.Version.{limits_of}
 use Rattle.gb_types.specs.declared.version.Version.{Version}
@@ -12,29 +12,29 @@ use Rattle.gb_node.specs.declared.answer.Sent.TheVariants.{Packet as SentPacket}
 use Rattle.gb_node.specs.declared.event.NodeEvent.{NodeEvent}
 use Rattle.gb_node.specs.declared.event.NodeEvent.TheVariants.{Request as Asked, Pack, Again, Ack}
 
--- the event only reads: whatever is answered, the node stays as it was
+-- the event only reads: whatever the answer is, the node stays as it was
 abbrev pub is_read : NodeEvent → Bool
 is_read (Asked (Fetch token addr from most)) = true
 is_read (Again b n) = true
 is_read (Ack b) = true
 is_read event = false
 
--- the bytes that a packet may have in the answer of a node that sends this version to an event
+-- the maximum number of bytes of a packet in the answer of a node that sends this version
 abbrev pub packet_room : Version → NodeEvent → ℕ
 packet_room version (Pack b) = (limits_of version).packet
 packet_room version event = 0
 
--- a reply is no log, which alone holds memory
+-- the reply is no log, the only reply that holds memory
 abbrev pub IsReplyWithin : Reply → Type 0
 IsReplyWithin (Log entries) = ⊥
 IsReplyWithin reply = Unit {0}
 
--- a packet has at most so many bytes
+-- a packet in the answer has at most `room` bytes
 abbrev pub IsSentWithin : ℕ → SentValue → Type 0
 IsSentWithin room (SentPacket text) = length text ≤ room
 IsSentWithin room sent = Unit {0}
 
--- an answer holds no memory but for a packet of at most so many bytes
+-- the answer holds no memory except a packet of at most `room` bytes
 abbrev pub IsWithin : ℕ → NodeAnswer → Type 0
 IsWithin room (Replied reply) = IsReplyWithin reply
 IsWithin room (Sent sent) = IsSentWithin room sent

@@ -1,4 +1,4 @@
--- What a node that sends a packet is, what the packet says, and what want of memory is.
+-- Which node sends a packet, what the packet says, and which answers are for lack of memory.
 use Rattle.std.specs.Prelude.{ℕ, ◌≡◌, ◌≢◌, ◌<◌, ◌⊎◌, true, false, List, [], ◌∷◌, Option, Some}
 use Rattle.gb_types.specs.declared.node.NodeId.{NodeId}
 use Rattle.gb_types.specs.declared.refusal.Refusal.TheVariants.{OutOfMemory}
@@ -18,19 +18,19 @@ use Rattle.gb_node.specs.declared.answer.Sent.TheVariants.{Packet as SentPacket,
 use Rattle.gb_node.specs.declared.event.NodeEvent.{NodeEvent}
 use Rattle.gb_node.specs.declared.event.NodeEvent.TheVariants.{Request as Asked}
 
--- the answer is a running node's, as it should be
+-- the node runs, and the answer is the right one
 pub record Acts (v : NodeValue) (e : NodeEvent) (a : NodeAnswer) : Type 0 where
   pub running : v.stopped ≡ false
   pub is : a ≡ (running_turn v e).answer
 
--- a packet says this, if anything is said
+-- there is something to say, and the packet says it
 pub record Says (v : NodeValue) (o : Option Content) (text : List ℕ) : Type 0 where
   pub content : Content
   pub is : o ≡ Some content
   pub text_is : text ≡ packet_text v.key content
   pub fit : IsPacket content
 
--- a node that sends a packet runs, and its answer is as it should be
+-- a node that sends a packet runs, and its answer is the right one
 abbrev pub SendersRun : Type 0
 SendersRun = (v : NodeValue) (e : NodeEvent) (text : List ℕ) (w : NodeValue) → IsTurn v e (Sent (SentPacket text)) w → Acts v e (Sent (SentPacket text))
 
@@ -52,6 +52,6 @@ OthersAreInside = (plan : NodePlan) (past : List Happened) (v : NodeValue) → I
 abbrev pub PacketsAreReadBack : Type 0
 PacketsAreReadBack = (plan : NodePlan) (past : List Happened) (v : NodeValue) → IsOfPast plan past v → (text : List ℕ) (c : Content) → text ≡ packet_text v.key c → IsPacket c → read plan.cluster_key text ≡ c ∷ []
 
--- want of memory is the answer to a sending or to a request
+-- only a sending or a request is refused for lack of memory
 abbrev pub StarvedSays : Type 0
 StarvedSays = (e : NodeEvent) (should answer : NodeAnswer) → IsStarved e should answer → (answer ≡ Sent (SentRefused OutOfMemory)) ⊎ ((r : Request) × (e ≡ Asked r) × (answer ≡ Replied (Refused OutOfMemory)))

@@ -1,4 +1,4 @@
--- What each answer of a node says, by its past alone.
+-- What each answer of a node is, given only its past.
 use Rattle.std.specs.Prelude.{ℕ, ◌≡◌, ◌≢◌, ◌<◌, ◌≤◌, ◌⊎◌, ◌||◌, Bool, true, false, List, [], ◌∷◌, length, map, take, Option, Some, None, is_some, option_map, if◌then◌else◌}
 use Rattle.std.specs.FinSet as set
 use Rattle.std.specs.Ordering.{nat_cmp}
@@ -58,11 +58,11 @@ past_answer plan past request = if is_stopped past then Refused Stopped else (if
 
 -- The answers.
 
--- a request is answered by the past, or memory was wanting in its place
+-- the reply to a request is the one that the past says, or OutOfMemory if that reply takes memory
 abbrev pub IsAsked : NodePlan → List Happened → Request → Reply → Type 0
 IsAsked plan past request reply = ((reply ≡ Refused OutOfMemory) × RequestTakesMemory request (past_answer plan past request)) ⊎ (reply ≡ past_answer plan past request)
 
--- a packet is packed by a running node for another one, and has of each group a front of what waits there
+-- a packet is packed by a running node for another one, and has the first of the items that wait there in each group
 pub record IsPacked (plan : NodePlan) (past : List Happened) (b : NodeId) (text : List ℕ) : Type 0 where
   pub running : is_stopped past ≡ false
   pub content : Content
@@ -72,7 +72,7 @@ pub record IsPacked (plan : NodePlan) (past : List Happened) (b : NodeId) (text 
   pub enough : (g : Addr) → length (items_for g content.items) ≤ length (waiting_of (told_of plan g past) b.number)
   pub front : (g : Addr) → items_for g content.items ≡ map (item_for g) (take (length (items_for g content.items)) (waiting_of (told_of plan g past) b.number))
 
--- a packet is taken by a running node: it is one for this node from another one, and its frame is taken once
+-- a packet is taken by a running node: it is one for this node from another node, and its frame comes for the first time only if it was not taken before
 pub record IsTakenIn (plan : NodePlan) (past : List Happened) (bytes : List ℕ) (good : Good) : Type 0 where
   pub running : is_stopped past ≡ false
   pub content : Content
@@ -82,7 +82,7 @@ pub record IsTakenIn (plan : NodePlan) (past : List Happened) (bytes : List ℕ)
   pub apart : content.from ≢ plan.me.number
   pub first : is_first good.frame ≡ true → (0 < content.frame) × (is_taken plan.cluster_key content.from content.frame past ≡ false)
 
--- a tick at a running node notices other nodes of the cluster that were not noticed
+-- a tick at a running node notices other nodes of the cluster that were not noticed before
 pub record IsTicked (plan : NodePlan) (past : List Happened) (found : set.FinSet nat_cmp) : Type 0 where
   pub running : is_stopped past ≡ false
   pub inside : (b : ℕ) → set.contains found b ≡ true → (b < plan.nodes) × (b ≢ plan.me.number)
@@ -99,6 +99,6 @@ IsAnswered plan past event answer = Unit {0}
 -- every answer of every node is what its past says, and only other nodes of the cluster are noticed
 pub record AnswersSay : Type 0 where
   pub each : (plan : NodePlan) (past : List Happened) (event : NodeEvent) (answer : NodeAnswer) (v : NodeValue) → ComesTo plan (record { event = event; answer = answer } ∷ past) v → IsAnswered plan past event answer
-  -- where it has the memory that it takes, a node answers a request as its past says
+  -- a node that has the memory for it answers a request as its past says
   pub due : (plan : NodePlan) (past : List Happened) (v : NodeValue) (request : Request) → ComesTo plan past v → (turn v (Asked request)).answer ≡ Replied (past_answer plan past request)
   pub noticed : (plan : NodePlan) (past : List Happened) (v : NodeValue) (b : ℕ) → ComesTo plan past v → set.contains (noticed_after plan past) b ≡ true → (b < plan.nodes) × (b ≢ plan.me.number)

@@ -1,4 +1,4 @@
-//! What comes of an event at a node.
+//! The answer to an event at a node.
 ghost use Rattle.std.specs.Prelude.{◌≡◌, ◌↔◌, [], IfOk, IsTrue, vec_capacity};
 ghost use Rattle.gb_node.specs.Reads.{IsWithin};
 
@@ -12,50 +12,50 @@ use gb_types::refusal::Refusal;
 use gb_types::reply::Reply;
 use std::alloc::Global;
 
-/// What comes of an event at a node, one variant for each kind of event; the three kinds of sending have one.
+/// The answer to an event at a node. There is one variant for each kind of event; the three kinds of sending share one.
 #[derive(Drop)]
 pub enum NodeAnswer {
     Reply(Reply),
-    /// What became of bytes that came.
+    /// The answer to bytes that came.
     Taken(PacketAnswer),
     Sent(Sent),
     Ticked(Ticked),
     Halted(Halted),
 }
 
-/// What became of bytes that came.
+/// The answer to bytes that came.
 #[derive(Clone, Copy, PartialEq, Eq)]
 pub enum PacketAnswer {
     /// They are a packet for this node.
     Good(Good),
-    /// They are no packet, or none for this node: nothing has changed.
+    /// They are no packet, or not a packet for this node: nothing has changed.
     Fault(PacketFault),
     /// Stopped: nothing has changed.
     Refused(Refusal),
 }
 
-/// What a node made of a packet.
+/// What a node read in a packet that it took.
 #[derive(Clone, Copy, PartialEq, Eq)]
 pub struct Good {
     /// The node that sent it.
     pub from: NodeId,
     pub frame: Frame,
-    /// The items of a frame at its first arrival, also those that are let fall; else 0.
+    /// The number of items in a frame at its first arrival, including those that are let fall; otherwise 0.
     pub items: u32,
-    /// The frames that the packet's acknowledgement newly covers, at most 64.
+    /// The number of frames that the packet's acknowledgement newly covers, at most 64.
     pub done: u32,
 }
 
-/// What a node made of a packet's frame.
+/// What a node did with a packet's frame.
 #[derive(Clone, Copy, PartialEq, Eq)]
 pub enum Frame {
-    /// The packet has none.
+    /// The packet has no frame.
     Nothing,
-    /// It came for the first time.
+    /// The frame came for the first time.
     First,
-    /// It had come before.
+    /// The frame had come before.
     Seen,
-    /// Its number is outside the window of the link.
+    /// The frame's number is outside the window of the link.
     Outside,
 }
 
@@ -69,16 +69,16 @@ pub enum Sent {
     Refused(Refusal),
 }
 
-/// What a tick brought to light.
+/// The answer to a tick.
 #[derive(Drop)]
 pub enum Ticked {
-    /// The nodes that are noticed from now on.
+    /// The nodes that the tick newly notices.
     Noticed(NodeSet),
     /// Stopped: nothing has changed.
     Refused(Refusal),
 }
 
-/// Whether a node stopped.
+/// The answer to a stop.
 #[derive(Clone, Copy, PartialEq, Eq)]
 pub enum Halted {
     Done,
@@ -87,7 +87,7 @@ pub enum Halted {
 }
 
 impl NodeAnswer {
-    /// The same answer, copied.
+    /// Returns a copy of the answer.
     pub fn duplicate(&self, alloc: Global) -> Result<NodeAnswer, OutOfMemory>
         ensures { IfOk result (λ a. a ≡ self.now) }
     {
@@ -100,7 +100,8 @@ impl NodeAnswer {
         })
     }
 
-    /// The same answer, which is no log; its packet, if it has one, is copied into an empty vector with room for it.
+    /// Returns a copy of the answer, which is no log. Its packet, if it has one, is copied into `room`, an empty vector with
+    /// room for it.
     pub fn in_room(&self, room: Vec<u8>) -> NodeAnswer
         requires empty { room.items ≡ [] }
         requires room { IsWithin (vec_capacity room) self.now }
@@ -115,7 +116,7 @@ impl NodeAnswer {
         }
     }
 
-    /// Whether it is the other answer.
+    /// Returns true if the answers are the same.
     pub fn is(&self, other: &NodeAnswer) -> bool
         ensures { IsTrue result ↔ (self.now ≡ other.now) }
     {

@@ -1,4 +1,5 @@
-//! Copies of what events and answers are made of: some can lack memory, others are made in room that is there.
+//! Copies of the values that events and answers are made of. Some copies need memory and can fail; others use room that is
+//! there.
 ghost use Rattle.std.specs.Prelude.{◌≡◌, ◌≤◌, List, [], length, IfOk, vec_capacity};
 ghost use Rattle.gb_types.specs.declared.entry.Entry.{Entry as EntryValue};
 ghost use Rattle.gb_node.specs.Reads.{IsReplyWithin, IsSentWithin};
@@ -10,7 +11,7 @@ use gb_types::reply::Reply;
 use gb_types::request::Request;
 use std::alloc::Global;
 
-/// The same request, copied. Only what is said takes memory.
+/// Returns a copy of the request. Only the message of a say takes memory.
 pub(crate) fn copy_request(alloc: Global, request: &Request) -> Result<Request, OutOfMemory>
     ensures { IfOk result (λ r. r ≡ request.now) }
 {
@@ -27,7 +28,7 @@ pub(crate) fn copy_request(alloc: Global, request: &Request) -> Result<Request, 
     })
 }
 
-/// The same bytes, copied.
+/// Returns a copy of the bytes.
 pub(crate) fn copy_text(alloc: Global, text: &PacketText) -> Result<PacketText, OutOfMemory>
     ensures { IfOk result (λ t. t ≡ text.now) }
 {
@@ -35,7 +36,7 @@ pub(crate) fn copy_text(alloc: Global, text: &PacketText) -> Result<PacketText, 
     Ok(PacketText::from(bytes))
 }
 
-/// The same bytes, copied into an empty vector with room for them.
+/// Returns a copy of the bytes in `room`, an empty vector with room for them.
 fn text_in_room(text: &PacketText, room: Vec<u8>) -> PacketText
     requires empty { room.items ≡ [] }
     requires room { length text.now ≤ vec_capacity room }
@@ -46,7 +47,7 @@ fn text_in_room(text: &PacketText, room: Vec<u8>) -> PacketText
     PacketText::from(room)
 }
 
-/// What was sent, copied.
+/// Returns a copy of what was sent.
 pub(crate) fn copy_sent(alloc: Global, sent: &Sent) -> Result<Sent, OutOfMemory>
     ensures { IfOk result (λ s. s ≡ sent.now) }
 {
@@ -57,7 +58,7 @@ pub(crate) fn copy_sent(alloc: Global, sent: &Sent) -> Result<Sent, OutOfMemory>
     })
 }
 
-/// What was sent, its packet copied into an empty vector with room for it.
+/// Returns a copy of what was sent. Its packet is copied into `room`, an empty vector with room for it.
 pub(crate) fn sent_in_room(sent: &Sent, room: Vec<u8>) -> Sent
     requires empty { room.items ≡ [] }
     requires room { IsSentWithin (vec_capacity room) sent.now }
@@ -70,7 +71,7 @@ pub(crate) fn sent_in_room(sent: &Sent, room: Vec<u8>) -> Sent
     }
 }
 
-/// The same reply, which is no log.
+/// Returns a copy of the reply, which is no log.
 pub(crate) fn reply_copied(reply: &Reply) -> Reply
     requires { IsReplyWithin reply.now }
     ensures { result ≡ reply.now }
@@ -83,7 +84,7 @@ pub(crate) fn reply_copied(reply: &Reply) -> Reply
     }
 }
 
-/// What a tick brought to light, copied.
+/// Returns a copy of the answer to a tick.
 pub(crate) fn copy_ticked(ticked: &Ticked) -> Ticked
     ensures { result ≡ ticked.now }
 {

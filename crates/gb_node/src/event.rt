@@ -14,14 +14,14 @@ use std::alloc::Global;
 pub enum NodeEvent {
     /// A request is asked.
     Request(Request),
-    /// These bytes came, which may be a packet.
+    /// Bytes came, which may be a packet.
     Packet(PacketText),
-    /// What waits for another node is packed as the next frame of the link to it.
+    /// The first of the items that wait for another node are packed as the next frame of the link to it.
     Pack(NodeId),
-    /// A frame for another node that was not acknowledged yet is sent again, by its number; 0 stands for the lowest
-    /// such number.
+    /// An unacknowledged frame for another node is sent again: the node, and the frame's number. 0 stands for the lowest number
+    /// of an unacknowledged frame.
     Again(NodeId, u64),
-    /// An acknowledgement alone is sent to another node.
+    /// An acknowledgement without a frame is sent to another node.
     Ack(NodeId),
     /// The time ticks.
     Tick,
@@ -45,7 +45,7 @@ impl Drop for NodeEvent {
 }
 
 impl NodeEvent {
-    /// The same event, copied.
+    /// Returns a copy of the event.
     pub fn duplicate(&self, alloc: Global) -> Result<NodeEvent, OutOfMemory>
         ensures { IfOk result (λ e. e ≡ self.now) }
     {
@@ -60,7 +60,7 @@ impl NodeEvent {
         })
     }
 
-    /// Whether it only reads: whatever the answer is, the node stays as it was.
+    /// Returns true if the event only reads: whatever the answer is, the node stays as it was.
     pub fn only_reads(&self) -> bool
         ensures { result ≡ is_read self.now }
     {
@@ -72,7 +72,7 @@ impl NodeEvent {
         }
     }
 
-    /// Whether it is the other event.
+    /// Returns true if the events are the same.
     pub fn is(&self, other: &NodeEvent) -> bool
         ensures { IsTrue result ↔ (self.now ≡ other.now) }
     {

@@ -11,6 +11,7 @@ ghost use Rattle.gb_frame.specs.declared.limits.TheConstants.{SHORTEST};
 ghost use Rattle.gb_frame.specs.Room.{room_of};
 ghost use Rattle.gb_link.specs.SendWindow.{new_window, has_room, frame_again};
 ghost use Rattle.gb_groups.specs.GroupsValue.{batch};
+ghost use Rattle.gb_groups.specs.OneGroup.{NothingWaits};
 ghost use Rattle.gb_groups.specs.Packing.{size};
 ghost use Rattle.gb_cap.specs.declared.token.Need.TheVariants.{Admin};
 ghost use Rattle.gb_table.specs.Admission.{is_token};
@@ -19,7 +20,7 @@ ghost use Rattle.gb_node.specs.Frames.{new_frames, items_of_frame, IsHead};
 ghost use Rattle.gb_node.specs.Listing.{Lists};
 ghost use Rattle.gb_node.specs.NodeValue.{new_node};
 ghost use Rattle.gb_node.specs.Reads.{is_read, packet_room, IsWithin};
-ghost use Rattle.gb_node.specs.NodeStep.{window_to, is_another, is_reached, content_to, batch_to, sent_batch, read_at, good_of, node_took, IsTurn, IsSpelt, IsForReason};
+ghost use Rattle.gb_node.specs.NodeStep.{window_to, is_another, is_reached, content_to, batch_to, room_to, sent_batch, read_at, good_of, node_took, IsTurn, IsSpelt, IsForReason};
 
 use crate::answer::{Good, Halted, NodeAnswer, PacketAnswer, Sent, Ticked};
 use crate::event::NodeEvent;
@@ -40,7 +41,7 @@ use gb_frame::view::PacketView;
 use gb_link::receiver::Receiver;
 use gb_table::listing::Listing;
 use gb_table::table::Table;
-use gb_types::limits::{NODES, PLACES, SILENCE_MAX, SILENCE_MIN};
+use gb_types::limits::{NODES, PAYLOAD, PLACES, SILENCE_MAX, SILENCE_MIN};
 use gb_types::memory::OutOfMemory;
 use gb_types::node::NodeId;
 use gb_types::refusal::Refusal;
@@ -61,10 +62,12 @@ pub struct Node {
     /// For each node, the receiving end of the link from it.
     receivers: [Receiver; NODES],
     detector: Detector,
+    /// The most bytes of the items of a packet, but for an item that is longer.
+    room: usize,
     stopped: bool,
 }
 
-// Not derived: what is derived is proved anew in each crate that ends one.
+// Written by hand: a derived one is proved anew in each crate that ends a node.
 impl Drop for Node {
     fn drop(self) {
         let Node {
@@ -74,6 +77,7 @@ impl Drop for Node {
             windows: _,
             receivers: _,
             detector: _,
+            room: _,
             stopped: _,
         } = self;
     }
@@ -90,14 +94,14 @@ impl Model for Node {
 
     ghost coded = { Prim.hlevel (codes, set.code {R = nat_cmp} coded_ℕ) };
 
-    ghost view = { λ n. record { key = n.key; table = n.table; windows = windows_of n.windows; receivers = n.receivers; watch = n.detector; stopped = n.stopped } };
+    ghost view = { λ n. record { key = n.key; table = n.table; room = n.room; windows = windows_of n.windows; receivers = n.receivers; watch = n.detector; stopped = n.stopped } };
 
     ghost use Rattle.gb_node.specs.Frames.{KeepsVersion};
 
     ghost invariant = { λ n. KeepsVersion n.table n.windows };
 }
 
-/// For each node, the sending end of a link on which nothing was sent. Texts will be of this version.
+/// Returns for each node the sending end of a link on which nothing was sent. Its texts are of this version.
 fn new_windows(alloc: Global, version: Version) -> [Window; NODES]
     ensures { result ≡ replicate MOST (new_frames version) }
 {
@@ -137,7 +141,7 @@ fn new_windows(alloc: Global, version: Version) -> [Window; NODES]
     ]
 }
 
-/// For each node, the receiving end of a link on which nothing came.
+/// Returns for each node the receiving end of a link on which nothing came.
 fn new_receivers() -> [Receiver; NODES]
     ensures { result ≡ replicate MOST set.empty }
 {
@@ -177,8 +181,19 @@ fn new_receivers() -> [Receiver; NODES]
     ]
 }
 
+/// A batch as it was measured.
+#[derive(Clone, Copy)]
+struct Measured {
+    /// The most bytes that it may have.
+    most: usize,
+    /// How many items it has.
+    count: u16,
+    /// How many bytes its items take.
+    bytes: usize,
+}
+
 impl Node {
-    /// A node at which nothing has happened.
+    /// Returns a node at which nothing has happened.
     pub fn start(alloc: Global, plan: &NodePlan) -> Node
         requires cluster { plan.now.nodes ≤ (limits_of plan.now.version).nodes }
         requires member { plan.now.me.number < plan.now.nodes }
@@ -201,6 +216,7 @@ impl Node {
             windows: new_windows(alloc, plan.version),
             receivers: new_receivers(),
             detector: Detector::new(plan.me, plan.nodes, plan.silence),
+            room: usize::from(plan.room),
             stopped: false,
         }
     }
@@ -238,28 +254,28 @@ impl Node {
         self.table.list(token, from, most)
     }
 
-    /// Whether this is another node of the cluster.
+    /// Returns true if this is another node of the cluster.
     fn is_another(&self, to: NodeId) -> bool
         ensures { result ≡ is_another self.now to }
     {
         to.number < self.table.nodes() && to != self.table.me()
     }
 
-    /// Whether frames are sent to the node: it is another one of the cluster, and was not noticed.
+    /// Returns true if frames are sent to the node: it is another one of the cluster, and was not noticed.
     fn is_reached(&self, to: NodeId) -> bool
         ensures { result ≡ is_reached self.now to }
     {
         self.is_another(to) && !self.detector.noticed().contains(to)
     }
 
-    /// Whether one more frame may be sent to the node.
+    /// Returns true if one more frame may be sent to the node.
     fn has_room(&self, to: NodeId) -> bool
         ensures { result ≡ has_room (window_to self.now to.number) }
     {
         self.windows[to.index()].room()
     }
 
-    /// The head of a packet to another node, with this frame's number: it acknowledges what came from there so far.
+    /// Returns the head of a packet to another node, with this frame's number. It acknowledges what came from there so far.
     fn head(&self, to: NodeId, frame: u64) -> Head
         requires { is_another self.now to ≡ true }
         ensures head { IsHead result }
@@ -278,32 +294,55 @@ impl Node {
         }
     }
 
-    /// The next batch for a node, which has so many items with so many bytes, becomes the next frame, whose number this
-    /// gives. Without memory nothing has changed.
-    fn push_batch(&mut self, to: NodeId, count: u16, bytes: usize) -> Result<u64, OutOfMemory>
+    /// Measures the next batch for a node: the most bytes that it may have, how many items it has and how many bytes these take. It has
+    /// none where nothing waits for the node.
+    fn measure(&self, to: NodeId) -> Measured
+        ensures most { result.most ≡ room_to self.now to }
+        ensures within { result.most ≤ room_of self.now.table.version }
+        ensures count { result.count ≡ length (batch self.now.table.version to.number (room_to self.now to) self.now.table.groups) }
+        ensures bytes { result.bytes ≡ sum_by (size self.now.table.version) (batch self.now.table.version to.number (room_to self.now to) self.now.table.groups) }
+        ensures fits { result.bytes ≤ result.most }
+        ensures none { result.count ≡ 0 → NothingWaits to.number self.now.table.groups.rows }
+    {
+        let version = self.table.version();
+        let most = self.room.min(room(version));
+        let (count, bytes) = self.table.measure(to, most);
+        if count > 0 {
+            return Measured { most, count, bytes };
+        }
+        let most = version.limits().item_header + PAYLOAD;
+        let (count, bytes) = self.table.measure(to, most);
+        Measured { most, count, bytes }
+    }
+
+    /// Makes the next batch for a node, as it was measured, the next frame. Returns the frame's number. Without memory nothing has
+    /// changed.
+    fn push_batch(&mut self, to: NodeId, next: &Measured) -> Result<u64, OutOfMemory>
         requires room { has_room (window_to self.old to.number) ≡ true }
-        requires some { 0 < count }
-        requires count { count ≡ length (batch self.old.table.version to.number (room_of self.old.table.version) self.old.table.groups) }
-        requires bytes { bytes ≡ sum_by (size self.old.table.version) (batch self.old.table.version to.number (room_of self.old.table.version) self.old.table.groups) }
-        ensures state { OnOk result (self.new ≡ sent_batch to (Some (batch_to self.old.table to)) self.old) }
-        ensures frame { IfOk result (λ number. (0 < number) × (number ≡ (window_to self.old to.number).next) × (frame_again (window_to self.new to.number) number ≡ Some (number, batch_to self.old.table to))) }
-        ensures texts { OnOk result (length (items_text self.old.table.version (batch_to self.old.table to)) ≡ bytes) }
+        requires some { 0 < next.count }
+        requires most { next.most ≡ room_to self.old to }
+        requires within { next.most ≤ room_of self.old.table.version }
+        requires count { next.count ≡ length (batch self.old.table.version to.number next.most self.old.table.groups) }
+        requires bytes { next.bytes ≡ sum_by (size self.old.table.version) (batch self.old.table.version to.number next.most self.old.table.groups) }
+        ensures state { OnOk result (self.new ≡ sent_batch to (Some (batch_to next.most self.old.table to)) self.old) }
+        ensures frame { IfOk result (λ number. (0 < number) × (number ≡ (window_to self.old to.number).next) × (frame_again (window_to self.new to.number) number ≡ Some (number, batch_to next.most self.old.table to))) }
+        ensures texts { OnOk result (length (items_text self.old.table.version (batch_to next.most self.old.table to)) ≡ next.bytes) }
         ensures err { OnErr result (self.new ≡ self.old) }
     {
         let window = &mut self.windows[to.index()];
-        window.pack(&mut self.table, to, count, bytes)
+        window.pack(&mut self.table, to, next.most, next.count, next.bytes)
     }
 
-    /// The texts of the frame for a node with this number that was not acknowledged, and the number; for 0 the lowest
-    /// such frame.
+    /// Returns the number and the texts of the frame for a node with this number, if it is not acknowledged; for 0, of the
+    /// lowest such frame.
     fn undone(&self, to: NodeId, number: u64) -> Option<(u64, &[u8])>
         ensures { MatchOption result (frame_again (window_to self.now to.number) number ≡ None) (λ r. (frame_again (window_to self.now to.number) number ≡ Some (r.0, batch_in self.now.table.version r.1.now)) × IsBatch self.now.table.version r.1.now × (0 < r.0) × FitPacket self.now.table.version (batch_in self.now.table.version r.1.now)) }
     {
         self.windows[to.index()].again(number)
     }
 
-    /// The packet to another node with the frame that has this number and so many items and was not acknowledged, written
-    /// into an empty vector with room for it.
+    /// Returns the packet to another node with the frame that has this number, `count` items, and is not acknowledged. It is
+    /// written into an empty vector with room for it.
     fn write_frame(&self, to: NodeId, number: u64, count: u16, packet: Vec<u8>) -> PacketText
         requires another { is_another self.now to ≡ true }
         requires number { 0 < number }
@@ -320,32 +359,29 @@ impl Node {
         frame_packet(self.head(to, number), count, texts, self.key.key(), packet)
     }
 
-    /// Sends the next batch for a node, so many items with so many bytes. Without memory nothing has changed.
-    fn send_batch(
-        &mut self,
-        to: NodeId,
-        count: u16,
-        bytes: usize,
-    ) -> Result<PacketText, OutOfMemory>
+    /// Sends the next batch for a node, as it was measured. Without memory nothing has changed.
+    fn send_batch(&mut self, to: NodeId, next: &Measured) -> Result<PacketText, OutOfMemory>
         requires another { is_another self.old to ≡ true }
         requires room { has_room (window_to self.old to.number) ≡ true }
-        requires some { 0 < count }
-        requires count { count ≡ length (batch self.old.table.version to.number (room_of self.old.table.version) self.old.table.groups) }
-        requires bytes { bytes ≡ sum_by (size self.old.table.version) (batch self.old.table.version to.number (room_of self.old.table.version) self.old.table.groups) }
-        requires most { bytes ≤ room_of self.old.table.version }
-        ensures packet { IfOk result (λ p. p ≡ packet_text self.old.key (content_to self.old to (window_to self.old to.number).next (batch_to self.old.table to))) }
-        ensures spelt { OnOk result (IsPacket (content_to self.old to (window_to self.old to.number).next (batch_to self.old.table to))) }
-        ensures state { OnOk result (self.new ≡ sent_batch to (Some (batch_to self.old.table to)) self.old) }
+        requires some { 0 < next.count }
+        requires most { next.most ≡ room_to self.old to }
+        requires within { next.most ≤ room_of self.old.table.version }
+        requires count { next.count ≡ length (batch self.old.table.version to.number next.most self.old.table.groups) }
+        requires bytes { next.bytes ≡ sum_by (size self.old.table.version) (batch self.old.table.version to.number next.most self.old.table.groups) }
+        requires fits { next.bytes ≤ next.most }
+        ensures packet { IfOk result (λ p. p ≡ packet_text self.old.key (content_to self.old to (window_to self.old to.number).next (batch_to next.most self.old.table to))) }
+        ensures spelt { OnOk result (IsPacket (content_to self.old to (window_to self.old to.number).next (batch_to next.most self.old.table to))) }
+        ensures state { OnOk result (self.new ≡ sent_batch to (Some (batch_to next.most self.old.table to)) self.old) }
         ensures err { OnErr result (self.new ≡ self.old) }
     {
-        let packet = Vec::with_capacity(self.alloc, SHORTEST + bytes)?;
-        let number = self.push_batch(to, count, bytes)?;
-        Ok(self.write_frame(to, number, count, packet))
+        let packet = Vec::with_capacity(self.alloc, SHORTEST + next.bytes)?;
+        let number = self.push_batch(to, next)?;
+        Ok(self.write_frame(to, number, next.count, packet))
     }
 
-    /// Packs what waits for a node as the next frame of the link to it. Nothing, with nothing changed, where the node is
-    /// no other one of the cluster or was noticed, where the link has no room, or where nothing waits; after a refusal
-    /// nothing has changed either.
+    /// Packs what waits for a node as the next frame of the link to it. `Nothing`: the node is no other one of the cluster,
+    /// was noticed, its link has no room, or nothing waits. After `Nothing`, as after a refusal, nothing has changed. `Packet`
+    /// is the packet to send.
     pub fn pack(&mut self, to: NodeId) -> Sent
         ensures turn { IsTurn self.old (NodeEvent.Pack to) (NodeAnswer.Sent result) self.new }
         ensures spelt { IsSpelt self.old (NodeEvent.Pack to) (NodeAnswer.Sent result) }
@@ -357,17 +393,17 @@ impl Node {
         if !self.is_reached(to) || !self.has_room(to) {
             return Sent::Nothing;
         }
-        let (count, bytes) = self.table.measure(to, room(self.table.version()));
-        if count == 0 {
+        let next = self.measure(to);
+        if next.count == 0 {
             return Sent::Nothing;
         }
-        match self.send_batch(to, count, bytes) {
+        match self.send_batch(to, &next) {
             Ok(packet) => Sent::Packet(packet),
             Err(_) => Sent::Refused(Refusal::OutOfMemory),
         }
     }
 
-    /// The packet to another node with the frame that has these texts.
+    /// Returns the packet to another node with the frame that has these texts.
     fn frame(&self, to: NodeId, number: u64, texts: &[u8]) -> Result<PacketText, OutOfMemory>
         requires another { is_another self.now to ≡ true }
         requires number { 0 < number }
@@ -381,8 +417,8 @@ impl Node {
         Ok(frame_packet(self.head(to, number), count, texts, self.key.key(), packet))
     }
 
-    /// Sends a frame that was not acknowledged once more, by its number; 0 stands for the lowest such number. Changes
-    /// nothing.
+    /// Returns the packet that sends an unacknowledged frame again, by its number; 0 stands for the lowest such number.
+    /// Changes nothing.
     pub fn again(&self, to: NodeId, number: u64) -> Sent
         ensures turn { IsTurn self.now (NodeEvent.Again to number) (NodeAnswer.Sent result) self.now }
         ensures spelt { IsSpelt self.now (NodeEvent.Again to number) (NodeAnswer.Sent result) }
@@ -402,7 +438,7 @@ impl Node {
         }
     }
 
-    /// The packet to another node that acknowledges what came from there so far, alone.
+    /// Returns the packet to another node that only acknowledges what came from there so far.
     fn acknowledgement(&mut self, to: NodeId) -> Result<PacketText, OutOfMemory>
         requires { is_another self.old to ≡ true }
         ensures text { IfOk result (λ p. p ≡ packet_text self.old.key (content_to self.old to 0 [])) }
@@ -413,7 +449,7 @@ impl Node {
         self.key.bare_packet(self.alloc, head)
     }
 
-    /// Sends an acknowledgement alone. Changes nothing.
+    /// Returns a packet that is an acknowledgement alone. Changes nothing.
     pub fn ack(&mut self, to: NodeId) -> Sent
         ensures turn { IsTurn self.old (NodeEvent.Ack to) (NodeAnswer.Sent result) self.new }
         ensures spelt { IsSpelt self.old (NodeEvent.Ack to) (NodeAnswer.Sent result) }
@@ -452,7 +488,7 @@ impl Node {
         }
     }
 
-    /// The packet for this node that bytes are, read where they lie, or what is wrong with them.
+    /// Returns the packet for this node that bytes are, as a view of them, or what is wrong with them.
     fn read<'a>(&self, bytes: &'a [u8]) -> Result<PacketView<'a>, PacketFault>
         ensures { result ≡ read_at self.now bytes.now }
     {
@@ -467,14 +503,14 @@ impl Node {
         Ok(packet)
     }
 
-    /// Whether bytes are a packet of the cluster for this node, stopped or not.
+    /// Returns true if bytes are a packet of the cluster for this node, stopped or not.
     pub fn is_packet(&self, bytes: &[u8]) -> bool
         ensures { result ≡ is_ok (read_at self.now bytes.now) }
     {
         self.read(bytes).is_ok()
     }
 
-    /// Takes bytes that came. They are read where they lie; after a fault nothing has changed, the detector included.
+    /// Takes bytes that came, without a copy. After a fault nothing has changed, the detector included.
     /// Takes no memory.
     pub fn packet(&mut self, bytes: &[u8]) -> PacketAnswer
         ensures { IsTurn self.old (NodeEvent.Packet bytes.now) (NodeAnswer.Taken result) self.new }
@@ -488,7 +524,7 @@ impl Node {
         }
     }
 
-    /// The packet that bytes are which are known to be one for this node. Nothing is tested again.
+    /// Returns the packet that bytes are, which are known to be one for this node. Nothing is tested again.
     fn read_known<'a>(&self, bytes: &'a [u8]) -> PacketView<'a>
         requires { is_ok (read_at self.now bytes.now) ≡ true }
         ensures { read_at self.now bytes.now ≡ Ok result }
@@ -496,8 +532,8 @@ impl Node {
         decode_known(bytes, self.key.key())
     }
 
-    /// Takes bytes that are known to be a packet of the cluster for this node, as those are that its nodes sent to it. What
-    /// comes of it is what comes of `packet`, without a test, and with no tag computed. Takes no memory.
+    /// Takes bytes that are known to be a packet of the cluster for this node, since one of its nodes sent them. The effect is
+    /// that of `packet`, without a test and without a tag computed. Takes no memory.
     pub fn known_packet(&mut self, bytes: &[u8]) -> PacketAnswer
         requires { is_ok (read_at self.old bytes.now) ≡ true }
         ensures { IsTurn self.old (NodeEvent.Packet bytes.now) (NodeAnswer.Taken result) self.new }
@@ -509,7 +545,7 @@ impl Node {
         PacketAnswer::Good(self.take_packet(&packet))
     }
 
-    /// The time ticks. The nodes that are noticed now are noticed in each group, rising. Takes no memory.
+    /// Lets the time tick. The nodes that are noticed now are noticed in each group, rising. Takes no memory.
     pub fn tick(&mut self) -> Ticked
         ensures { IsTurn self.old NodeEvent.Tick (NodeAnswer.Ticked result) self.new }
     {
@@ -521,7 +557,7 @@ impl Node {
         Ticked::Noticed(found)
     }
 
-    /// Stops the node, for good: it answers Stopped to every event from then on.
+    /// Stops the node for good. It answers Stopped to every later event.
     pub fn stop(&mut self) -> Halted
         ensures { IsTurn self.old NodeEvent.Stop (NodeAnswer.Halted result) self.new }
     {
@@ -532,7 +568,7 @@ impl Node {
         Halted::Done
     }
 
-    /// One event.
+    /// Takes one event.
     #[tactic(auto, using(crate::proofs::ReadLemmas::reads))]
     pub fn take(&mut self, event: &NodeEvent) -> NodeAnswer
         ensures turn { IsTurn self.old event.now result self.new }
@@ -544,7 +580,7 @@ impl Node {
         self.happen(event)
     }
 
-    /// One event, by its kind.
+    /// Takes one event, by its kind.
     fn happen(&mut self, event: &NodeEvent) -> NodeAnswer
         ensures turn { IsTurn self.old event.now result self.new }
         ensures spelt { IsSpelt self.old event.now result }

@@ -1,4 +1,4 @@
-//! Packets of a node, as their bytes.
+//! The packets of a node, as bytes.
 ghost use Rattle.std.specs.Prelude.{◌≡◌, ◌+◌, ◌<◌, ◌≤◌, [], length, IfOk, OnOk, vec_capacity};
 ghost use Rattle.gb_frame.specs.Batch.{batch_in, IsBatch, FitPacket};
 ghost use Rattle.gb_frame.specs.Packet.{packet_of};
@@ -14,7 +14,8 @@ use gb_frame::writing::wrap;
 use gb_types::memory::OutOfMemory;
 use std::alloc::Global;
 
-/// The packet with this head and the frame of so many items with these texts, which are of the head's version, written into an empty vector with room for it.
+/// Returns the packet with this head and a frame of `count` items. `texts` are the items' texts, of the head's version. The
+/// packet is written into `packet`, an empty vector with room for it.
 pub fn frame_packet(
     head: Head,
     count: u16,
@@ -36,7 +37,7 @@ pub fn frame_packet(
     PacketText::from(packet)
 }
 
-/// The packet with this head alone, which has no frame.
+/// Returns the packet with this head and no frame.
 pub fn bare_packet(alloc: Global, head: Head, key: &HmacKey) -> Result<PacketText, OutOfMemory>
     requires head { IsHead head }
     requires frame { head.frame ≡ 0 }

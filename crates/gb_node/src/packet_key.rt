@@ -1,4 +1,4 @@
-//! The key of a cluster's packets at a node, with the acknowledgements that were sent last.
+//! The key of a cluster's packets at a node, with the last packet without a frame for each other node.
 ghost use Rattle.std.specs.Prelude.{◌≡◌, ◌≤◌, [], length, replicate, IfOk, OnOk, IfSome, None};
 ghost use Rattle.gb_types.specs.declared.limits.TheConstants.{NODES as MOST};
 ghost use Rattle.gb_frame.specs.Packet.{packet_of};
@@ -23,8 +23,8 @@ struct Bare {
     text: [u8; SHORTEST],
 }
 
-/// The key of the cluster's packets. For each node it keeps the last packet without a frame that went there: where nothing
-/// came from the node since, the next one is the same, and its tag is not computed again. Contracts see the key alone.
+/// The key of the cluster's packets. For each node it keeps the last packet without a frame that went there. If nothing came
+/// from that node since, the next such packet is the same, and its tag is not computed again. Contracts see only the key.
 #[derive(Drop)]
 pub struct PacketKey {
     key: HmacKey,
@@ -42,7 +42,7 @@ impl Model for PacketKey {
     ghost invariant = { λ k. AreKept k.key k.kept };
 }
 
-/// A packet that was sent, with its head.
+/// Returns a packet that was sent, with its head.
 fn bare_of(head: Head, packet: &PacketText) -> Bare
     requires { length packet.now ≡ SHORTEST }
     ensures head { result.head ≡ head }
@@ -53,7 +53,7 @@ fn bare_of(head: Head, packet: &PacketText) -> Bare
     Bare { head, text }
 }
 
-/// The bytes of a packet that was kept.
+/// Returns a copy of the bytes of a packet that was kept.
 fn copied(alloc: Global, bare: &Bare) -> Result<PacketText, OutOfMemory>
     ensures { IfOk result (λ p. p ≡ bare.now.text) }
 {
@@ -62,7 +62,7 @@ fn copied(alloc: Global, bare: &Bare) -> Result<PacketText, OutOfMemory>
     Ok(PacketText::from(text))
 }
 
-/// The packet with this head alone, made and kept.
+/// Makes the packet with this head and no frame, keeps it, and returns its bytes.
 fn anew(
     alloc: Global,
     head: Head,
@@ -81,7 +81,8 @@ fn anew(
     Ok(packet)
 }
 
-/// The packet with this head alone: the one that is kept, where it has this head, or one that is made and kept.
+/// Returns the packet with this head and no frame: the one that is kept if it has this head, otherwise one that is made and
+/// kept.
 fn again_or_anew(
     alloc: Global,
     head: Head,
@@ -104,7 +105,7 @@ fn again_or_anew(
 }
 
 impl PacketKey {
-    /// No packet was sent under it.
+    /// Returns the key, under which no packet was sent yet.
     pub fn new(key: &Key) -> PacketKey
         ensures { result ≡ key.now }
     {
@@ -114,14 +115,14 @@ impl PacketKey {
         }
     }
 
-    /// The key, with its pads hashed.
+    /// Returns the key, with its pads hashed.
     pub fn key(&self) -> &HmacKey
         ensures { result.now ≡ self.now }
     {
         &self.key
     }
 
-    /// The packet with this head alone, which has no frame.
+    /// Returns the packet with this head and no frame.
     pub fn bare_packet(&mut self, alloc: Global, head: Head) -> Result<PacketText, OutOfMemory>
         requires head { IsHead head }
         requires frame { head.frame ≡ 0 }

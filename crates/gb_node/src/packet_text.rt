@@ -3,7 +3,7 @@ ghost use Rattle.std.specs.Prelude.{◌≡◌, ℕ, List};
 
 use std::marker::Model;
 
-/// The bytes of a packet, or those that came in the place of one. Contracts see their list.
+/// The bytes of a packet, or bytes that came and are no packet. Contracts see them as a list.
 #[derive(Drop)]
 pub struct PacketText {
     bytes: Vec<u8>,
@@ -22,7 +22,7 @@ impl PacketText {
         self.bytes.as_slice()
     }
 
-    /// The bytes, with no copy.
+    /// Returns the bytes, without copying them.
     pub fn into_vec(self) -> Vec<u8>
         ensures { result.items ≡ self }
     {

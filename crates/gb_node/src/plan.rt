@@ -15,6 +15,9 @@ pub struct NodePlan {
     pub silence: u16,
     /// How many groups its tenants may make in all: 4,096 at most.
     pub places: u16,
+    /// The most bytes of the items of a packet; no more than a packet of the version has room for. An item that is longer than this is
+    /// sent all the same.
+    pub room: u16,
     /// The key of the packets between the cluster's nodes.
     pub cluster_key: Key,
     /// The key of the administrator's token.

@@ -1,4 +1,4 @@
-//! Whether two values that events and answers are made of are the same.
+//! Comparisons of the values that events and answers are made of.
 ghost use Rattle.std.specs.Prelude.{◌≡◌, ◌↔◌, IsTrue};
 
 use crate::answer::{Good, PacketAnswer, Sent, Ticked};
@@ -11,21 +11,21 @@ use gb_types::reply::Reply;
 use gb_types::request::Request;
 use gb_types::spec::Spec;
 
-/// Whether the bytes are the same.
+/// Returns true if the bytes are the same.
 pub(crate) fn same_text(first: &PacketText, second: &PacketText) -> bool
     ensures { IsTrue result ↔ (first.now ≡ second.now) }
 {
     first.as_slice() == second.as_slice()
 }
 
-/// Whether the nodes have one number.
+/// Returns true if the nodes have the same number.
 pub(crate) fn same_node(first: NodeId, second: NodeId) -> bool
     ensures { IsTrue result ↔ (first ≡ second) }
 {
     first.number == second.number
 }
 
-/// Whether the sets have the same nodes.
+/// Returns true if the sets have the same nodes.
 fn same_set(first: &NodeSet, second: &NodeSet) -> bool
     ensures { IsTrue result ↔ (first.now ≡ second.now) }
 {
@@ -42,7 +42,7 @@ fn same_spec(first: &Spec, second: &Spec) -> bool
         && first.window == second.window
 }
 
-/// Whether the tokens are the same, and the groups that are asked for under them.
+/// Returns true if the tokens and the groups are the same.
 fn same_group(token: &[u8; 32], group: &Addr, other_token: &[u8; 32], other_group: &Addr) -> bool
     ensures { IsTrue result ↔ ((token.now ≡ other_token.now) × (group.now ≡ other_group.now)) }
 {
@@ -55,7 +55,7 @@ fn same_message(first: &NewMessage, second: &NewMessage) -> bool
     first.seq == second.seq && first.payload.as_slice() == second.payload.as_slice()
 }
 
-/// Whether the requests are the same, and under the same token.
+/// Returns true if the requests are the same, including their tokens.
 pub(crate) fn same_request(first: &Request, second: &Request) -> bool
     ensures { IsTrue result ↔ (first.now ≡ second.now) }
 {
@@ -99,7 +99,7 @@ fn same_entries(first: &[Entry], second: &[Entry]) -> bool
     true
 }
 
-/// Whether the replies are the same.
+/// Returns true if the replies are the same.
 pub(crate) fn same_reply(first: &Reply, second: &Reply) -> bool
     ensures { IsTrue result ↔ (first.now ≡ second.now) }
 {
@@ -121,7 +121,7 @@ fn same_good(first: &Good, second: &Good) -> bool
         && first.done == second.done
 }
 
-/// Whether the same became of bytes that came.
+/// Returns true if the answers to bytes that came are the same.
 pub(crate) fn same_taken(first: &PacketAnswer, second: &PacketAnswer) -> bool
     ensures { IsTrue result ↔ (first.now ≡ second.now) }
 {
@@ -133,7 +133,7 @@ pub(crate) fn same_taken(first: &PacketAnswer, second: &PacketAnswer) -> bool
     }
 }
 
-/// Whether the same was sent.
+/// Returns true if the same was sent.
 pub(crate) fn same_sent(first: &Sent, second: &Sent) -> bool
     ensures { IsTrue result ↔ (first.now ≡ second.now) }
 {
@@ -145,7 +145,7 @@ pub(crate) fn same_sent(first: &Sent, second: &Sent) -> bool
     }
 }
 
-/// Whether the same came to light.
+/// Returns true if the answers to ticks are the same.
 pub(crate) fn same_ticked(first: &Ticked, second: &Ticked) -> bool
     ensures { IsTrue result ↔ (first.now ≡ second.now) }
 {

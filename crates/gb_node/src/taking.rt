@@ -17,7 +17,7 @@ use gb_types::message::MsgId;
 use gb_types::node::{NodeId, NodeSet};
 use gb_types::version::Version;
 
-/// An item is acknowledged by a node.
+/// Marks an item as acknowledged by the node `by`.
 fn finish_item(table: &mut Table, by: NodeId, item: ItemView<'_>)
     ensures { table.new ≡ item_done by table.old (item_of item.entry) }
 {
@@ -36,7 +36,8 @@ fn finish_item(table: &mut Table, by: NodeId, item: ItemView<'_>)
     table.done(by, addr, m);
 }
 
-/// A frame with these texts, which are of this version, is acknowledged by a node: each of its items is, in order.
+/// Marks each item of a frame, in order, as acknowledged by the node `by`. `texts` are the texts of the frame's items, of this
+/// version.
 fn finish_frame(table: &mut Table, by: NodeId, version: Version, texts: &[u8])
     requires { IsBatch version texts.now }
     ensures { table.new ≡ fold (item_done by) table.old (batch_in version texts.now) }
@@ -46,14 +47,14 @@ fn finish_frame(table: &mut Table, by: NodeId, version: Version, texts: &[u8])
     }
 }
 
-/// Takes an acknowledgement from a node: the frames that it newly covers are done, by rising number. How many these
-/// are, at most 64.
+/// Takes an acknowledgement from a node: marks the frames that it newly covers as done, in rising order of their numbers.
+/// Returns the number of these frames, at most 64.
 pub fn take_ack(table: &mut Table, window: &mut Window, by: NodeId, base: u64, mask: u64) -> u32
     ensures count { result ≡ length (freed window.old.window base mask) }
     ensures window { window.new ≡ record window.old { window = without_done base mask window.old.window } }
     ensures table { table.new ≡ fold (frame_done by) table.old (freed window.old.window base mask) }
 {
-    // The proof reads how many frames may be undone.
+    // The proof reads the limit on the number of unacknowledged frames.
     let _ = window.room();
     let version = window.version();
     let mut done = 0;
@@ -65,7 +66,7 @@ pub fn take_ack(table: &mut Table, window: &mut Window, by: NodeId, base: u64, m
     done
 }
 
-/// A packet's items come from a node, in order.
+/// Takes in a packet's items, in order, from the node that sent it.
 fn bring(table: &mut Table, from: NodeId, packet: &PacketView<'_>)
     ensures { table.new ≡ fold (item_comes from) table.old packet.now.items }
 {
@@ -74,8 +75,8 @@ fn bring(table: &mut Table, from: NodeId, packet: &PacketView<'_>)
     }
 }
 
-/// Takes a packet's frame, if it has one: its items come where its number does for the first time. What became of it,
-/// and how many items came.
+/// Takes a packet's frame, if it has one. Its items come if its number comes for the first time. Returns what became of the
+/// frame, and the number of items that came.
 pub fn take_frame(
     table: &mut Table,
     receiver: &mut Receiver,
@@ -101,7 +102,7 @@ pub fn take_frame(
     }
 }
 
-/// Notices these nodes in each group, rising.
+/// Notices these nodes in each group, in rising order.
 pub fn notice_each(table: &mut Table, found: &NodeSet)
     ensures { table.new ≡ notice_each table.old (rising found.now) }
 {

@@ -1,4 +1,4 @@
-//! Tapes: what happened at a node, as a host notes it.
+//! Tapes: what happened at a node, as a host records it.
 ghost use Rattle.std.specs.Prelude.{◌≡◌};
 
 use crate::answer::NodeAnswer;
@@ -8,9 +8,9 @@ use std::marker::Model;
 /// An event at a node with its answer, and who asked for it.
 #[derive(Drop)]
 pub struct TapeEntry {
-    /// The number of the seat from which it was asked.
+    /// The number of the seat that asked for the event.
     pub seat: u32,
-    /// How many events of this seat happened at the node before.
+    /// The number of events of this seat that happened at the node before.
     pub count: u64,
     pub event: NodeEvent,
     pub answer: NodeAnswer,

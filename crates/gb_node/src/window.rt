@@ -11,7 +11,6 @@ ghost use Rattle.gb_table.specs.TableValue.{table_packed};
 ghost use Rattle.gb_node.specs.NodeStep.{batch_to};
 
 use gb_frame::laws::texts_tell_items;
-use gb_frame::limits::room;
 use gb_link::spaced::SpacedSender;
 use gb_table::table::Table;
 use gb_types::memory::OutOfMemory;
@@ -20,8 +19,8 @@ use gb_types::version::Version;
 use std::alloc::Global;
 use std::marker::Model;
 
-/// The frames to a node that are not acknowledged, each a batch of items. Contracts see the items; kept are their texts in one
-/// version, each payload once.
+/// The frames to a node that are not acknowledged, each a batch of items. Contracts see the items; memory holds their texts in
+/// one version, each payload once.
 #[derive(Drop)]
 pub struct Window {
     /// The version of the texts.
@@ -40,7 +39,7 @@ impl Model for Window {
 }
 
 impl Window {
-    /// Nothing was sent. Texts will be of this version.
+    /// Returns the window of a link on which nothing was sent. Its texts are of this version.
     pub fn new(alloc: Global, version: Version) -> Window
         ensures { result ≡ new_frames version }
     {
@@ -50,14 +49,14 @@ impl Window {
         }
     }
 
-    /// The version of the texts.
+    /// Returns the version of the texts.
     pub fn version(&self) -> Version
         ensures { result ≡ self.now.version }
     {
         self.version
     }
 
-    /// Whether one more frame may be sent.
+    /// Returns true if one more frame may be sent.
     pub fn room(&self) -> bool
         ensures room { result ≡ has_room self.now.window }
         ensures window { IsWindow self.now.window }
@@ -65,7 +64,7 @@ impl Window {
         self.sender.room()
     }
 
-    /// The texts of the frame with this number that is not acknowledged, and the number; for 0 the lowest such frame.
+    /// Returns the number and the texts of the frame with this number, if it is not acknowledged; for 0, of the lowest such frame.
     pub fn again(&self, number: u64) -> Option<(u64, &[u8])>
         ensures { MatchOption result (frame_again self.now.window number ≡ None) (λ r. (frame_again self.now.window number ≡ Some (r.0, batch_in self.now.version r.1.now)) × IsBatch self.now.version r.1.now × (0 < r.0)) }
     {
@@ -93,32 +92,33 @@ impl Window {
         self.sender.reuse(texts);
     }
 
-    /// Packs the next batch of a table for a node, so many items with so many bytes, where it stays, as the next frame,
-    /// and gives its number. Without memory nothing has changed.
+    /// Packs the next batch of a table for a node, which may have `most` bytes and has `count` items with `bytes` bytes, where it stays,
+    /// as the next frame. Returns its number. Without memory nothing has changed.
     pub fn pack(
         &mut self,
         table: &mut Table,
         to: NodeId,
+        most: usize,
         count: u16,
         bytes: usize,
     ) -> Result<u64, OutOfMemory>
+        requires most { most ≤ room_of table.old.version }
         requires version { self.old.version ≡ table.old.version }
         requires room { has_room self.old.window ≡ true }
         requires some { 0 < count }
-        requires count { count ≡ length (batch table.old.version to.number (room_of table.old.version) table.old.groups) }
-        requires bytes { bytes ≡ sum_by (size table.old.version) (batch table.old.version to.number (room_of table.old.version) table.old.groups) }
-        ensures frame { IfOk result (λ number. (0 < number) × (number ≡ self.old.window.next) × (frame_again self.new.window number ≡ Some (number, batch_to table.old to))) }
-        ensures texts { OnOk result (length (items_text table.old.version (batch_to table.old to)) ≡ bytes) }
-        ensures window { OnOk result (self.new ≡ record self.old { window = pushed self.old.window (batch_to table.old to) }) }
-        ensures fit { OnOk result (FitPacket table.old.version (batch_to table.old to)) }
-        ensures table { OnOk result (table.new ≡ table_packed to.number (room_of table.old.version) table.old) }
+        requires count { count ≡ length (batch table.old.version to.number most table.old.groups) }
+        requires bytes { bytes ≡ sum_by (size table.old.version) (batch table.old.version to.number most table.old.groups) }
+        ensures frame { IfOk result (λ number. (0 < number) × (number ≡ self.old.window.next) × (frame_again self.new.window number ≡ Some (number, batch_to most table.old to))) }
+        ensures texts { OnOk result (length (items_text table.old.version (batch_to most table.old to)) ≡ bytes) }
+        ensures window { OnOk result (self.new ≡ record self.old { window = pushed self.old.window (batch_to most table.old to) }) }
+        ensures fit { OnOk result (FitPacket table.old.version (batch_to most table.old to)) }
+        ensures table { OnOk result (table.new ≡ table_packed to.number most table.old) }
         ensures err { OnErr result ((self.new ≡ self.old) × (table.new ≡ table.old)) }
     {
         texts_tell_items();
         // The proof reads how frames are numbered.
         let _ = self.sender.room();
         self.sender.space(bytes)?;
-        let most = room(table.version());
         table.pack_into(to, most, count, self.sender.spare());
         Ok(self.sender.commit())
     }

@@ -95,8 +95,9 @@ pub enum Told {
 /// The number of a node, a step there, and what it must tell.
 pub type Line = (u8, Step, Told);
 
-/// Returns the node with this number, in a cluster of `nodes` nodes, at which nothing has happened. It sends this version.
-fn start(alloc: Global, number: u8, nodes: u8, version: Version) -> Node
+/// Returns the node with this number, in a cluster of `nodes` nodes, at which nothing has happened. It sends this version, and at most
+/// `room` bytes of items a packet.
+fn start_with(alloc: Global, number: u8, nodes: u8, version: Version, room: u16) -> Node
     requires member { number < nodes }
     requires cluster { nodes ≤ (limits_of version).nodes }
 {
@@ -106,11 +107,20 @@ fn start(alloc: Global, number: u8, nodes: u8, version: Version) -> Node
         version,
         silence: 3,
         places: 8,
+        room,
         cluster_key: CLUSTER_KEY,
         admin_key: ADMIN_KEY,
         tape: false,
     };
     Node::start(alloc, &plan)
+}
+
+/// The same, where packets are as long as the version has them.
+fn start(alloc: Global, number: u8, nodes: u8, version: Version) -> Node
+    requires member { number < nodes }
+    requires cluster { nodes ≤ (limits_of version).nodes }
+{
+    start_with(alloc, number, nodes, version, 16_345)
 }
 
 /// The three nodes of a cluster of version 1, at which nothing has happened.
@@ -127,6 +137,15 @@ pub fn unlike(alloc: Global) -> Result<Vec<Node>, OutOfMemory> {
     let mut nodes = three(alloc)?;
     if let Some(first) = nodes.first_mut() {
         *first = start(alloc, FIRST, 3, Version::Two);
+    }
+    Ok(nodes)
+}
+
+/// The three nodes, where the first is of version 2 and has room for 1,400 bytes of items a packet.
+pub fn narrow(alloc: Global) -> Result<Vec<Node>, OutOfMemory> {
+    let mut nodes = three(alloc)?;
+    if let Some(first) = nodes.first_mut() {
+        *first = start_with(alloc, FIRST, 3, Version::Two, 1_400);
     }
     Ok(nodes)
 }

@@ -1,5 +1,7 @@
 // Nodes of each version of the packet text, and the last of 32 nodes.
-use crate::steps::{FIRST, GROUP, LAST, Line, SECOND, Step, Told, far, run, run_at, unlike};
+use crate::steps::{
+    FIRST, GROUP, LAST, Line, SECOND, Step, Told, far, narrow, run, run_at, unlike,
+};
 use gb_frame::fault::PacketFault;
 use gb_node::answer::Frame;
 use gb_types::address::Addr;
@@ -220,6 +222,31 @@ const ROOM_OF_THREE: &[Line] = &[
 fn room_of_version_three(rt: HostRuntime) -> Result<(), Fail> {
     let mut nodes = far(rt.alloc(), Version::Three)?;
     run_at(&rt, rt.alloc(), &mut nodes, ROOM_OF_THREE)?;
+    Ok(())
+}
+
+/// A node with room for 1,400 bytes of items a packet. An item that is longer travels in a packet of its own.
+const ROOM_OF_A_PLAN: &[Line] = &[
+    (FIRST, Step::Tenant(7), Told::Done),
+    (FIRST, Step::Make(GROUP, Kind::Beb), Told::Done),
+    (FIRST, Step::Open(GROUP), Told::Done),
+    (FIRST, Step::Say(GROUP, LONGEST_OF_ONE), Told::Said(1)),
+    (FIRST, Step::Say(GROUP, LONGEST_OF_ONE), Told::Said(2)),
+    (FIRST, Step::Say(GROUP, b"first"), Told::Said(3)),
+    (FIRST, Step::Say(GROUP, LONGEST_OF_TWO), Told::Said(4)),
+    (FIRST, Step::Say(GROUP, b"last"), Told::Said(5)),
+    (FIRST, Step::Pack(SECOND), Told::SentTwo(1_072)),
+    (FIRST, Step::Pack(SECOND), Told::SentTwo(1_086)),
+    (FIRST, Step::Pack(SECOND), Told::SentTwo(4_144)),
+    (FIRST, Step::Pack(SECOND), Told::SentTwo(52)),
+    (FIRST, Step::Pack(SECOND), Told::Nothing),
+    (FIRST, Step::Again(SECOND, 3), Told::SentTwo(4_144)),
+];
+
+#[test]
+fn room_of_a_plan(rt: HostRuntime) -> Result<(), Fail> {
+    let mut nodes = narrow(rt.alloc())?;
+    run_at(&rt, rt.alloc(), &mut nodes, ROOM_OF_A_PLAN)?;
     Ok(())
 }
 

@@ -1,4 +1,4 @@
--- How pasts lie in the log of a book of `logbook`: its rule, and what each step tells.
+-- How pasts lie in the log of a book of `logbook`: the book's rule, and what each step says.
 use Rattle.std.specs.Prelude.{ℕ, ◌≡◌, ◌<◌, ◌==◌, ◌++◌, true, List, [], ◌∷◌, length, if◌then◌else◌}
 use mathlib.Core.List.{IsPrefix}
 use Rattle.logbook.specs.Pages.{Cell, cell, Step, View, Book, Named, Nib, may_write, may_make}
@@ -6,7 +6,7 @@ use Rattle.gb_past.specs.declared.entry.Mark.{Mark}
 use Rattle.gb_past.specs.declared.entry.Mark.TheVariants.{Begun, Added}
 use Rattle.gb_past.specs.Story.{Known, IsStory}
 
--- The owner's cell after these marks, if it was k before them
+-- The key of the owner's cell after these marks, if it was k before them
 abbrev pub last_key : {E : Type 0} → ℕ → List (Mark E) → ℕ
 last_key k [] = k
 last_key k (Begun p ∷ more) = last_key k more
@@ -22,13 +22,13 @@ abbrev pub past_of : {E : Type 0} → Mark E → ℕ
 past_of (Begun p) = p
 past_of (Added a) = a.past
 
--- The past that the last mark is of
+-- The past that the last mark belongs to
 abbrev pub last_past : {E : Type 0} → List (Mark E) → ℕ
 last_past [] = 0
 last_past (m ∷ []) = past_of m
 last_past (m ∷ n ∷ more) = last_past (n ∷ more)
 
--- What clauses see
+-- What clauses see of the past of the last mark
 abbrev pub known_of : {E : Type 0} → Book → List (Mark E) → Known E
 known_of b marks = record { book = (b, last_past marks); log = entries_from (last_past marks) marks }
 

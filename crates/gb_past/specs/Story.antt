@@ -3,7 +3,7 @@ use Rattle.std.specs.Prelude.{ℕ, List, [], ◌∷◌, ◌++◌}
 use mathlib.Core.List.{IsPrefix}
 use Rattle.logbook.specs.Pages.{Book}
 
--- Which past it is, and entries that it has, oldest first
+-- Which past it is, and entries that it has, the oldest first
 pub record Known (E : Type 0) : Type 0 where
   pub book : Book × ℕ
   pub log : List E

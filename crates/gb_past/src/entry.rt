@@ -1,6 +1,6 @@
-//! How a past lies in a book of `logbook`. The owner holds a pen whose cell is not at home. An entry is added in the
-//! step that brings this cell home, with the key of the owner's next cell. So while a cell is not at home, no entry
-//! was added at it: what its owner knows is the whole past.
+//! How a past lies in a book of `logbook`. The owner holds a pen whose cell is not at home. The step that adds an entry brings
+//! this cell home and names the key of the owner's next cell. So while a cell is not at home, no entry was added at it: what its
+//! owner knows is the whole past.
 ghost use Rattle.std.specs.Prelude.{List};
 
 use crate::story::Told;
@@ -46,7 +46,7 @@ impl<E> Rule<Mark<E>, u64> for Law {
     ghost moves = { λ ask before after answer. Unit {0} };
 }
 
-/// Who steps trades nothing.
+/// What a step trades: nothing.
 pub struct Nothing;
 
 impl<E> Gain<Mark<E>, u64> for Nothing {
@@ -101,7 +101,7 @@ impl<E> Plain<u64, Mark<E>, u64> for Look {
     ghost state = { λ n. None };
 }
 
-/// What is to be added, by whom.
+/// What a step asks to be added, and by whom.
 pub struct Asked<'a, X, E> {
     pub marks: &'a logbook::Seen<Mark<E>, u64, Law>,
     pub pen: &'a Pen,
@@ -120,7 +120,7 @@ impl<X, E> Drop for Asked<'_, X, E> {
     }
 }
 
-/// A step that asks for an entry.
+/// The step that asks for an entry to be added.
 pub struct Telling<M> {
     marker: PhantomData<M>,
 }

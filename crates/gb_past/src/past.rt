@@ -11,7 +11,7 @@ use crate::story::{Story, Told};
 use logbook::{Offer, Pen, Start, Word};
 use std::marker::{Model, PhantomData};
 
-/// The one owner of a past. It may go to another thread. Clauses see which past it is, and all its entries, oldest first.
+/// The only owner of a past. It may go to another thread. Clauses see which past it is, and all its entries, oldest first.
 #[derive(Drop)]
 pub struct Past<E, S: Story<E>> {
     head: Word<Mark<E>, u64, Law>,
@@ -31,7 +31,7 @@ impl<E, S: Story<E>> Model for Past<E, S> {
     ghost invariant = { λ p. IsOwned S.goes_on p.head p.marks.book p.marks.log p.pen.book p.pen.nib };
 }
 
-/// A witness of a past: at some time these were all its entries. It has no bytes; any thread may copy and keep it.
+/// A witness of a past: at some time the past had exactly these entries. It has no bytes; any thread may copy and keep it.
 #[derive(Drop)]
 pub struct Seen<E, S: Story<E>> {
     marks: logbook::Seen<Mark<E>, u64, Law>,
@@ -50,7 +50,7 @@ impl<E, S: Story<E>> Model for Seen<E, S> {
 }
 
 impl<E, S: Story<E>> Past<E, S> {
-    /// A past of its own, with no entry.
+    /// Returns a new past with no entry.
     pub fn new() -> Past<E, S>
         ensures { result.log ≡ [] }
     {
@@ -68,7 +68,7 @@ impl<E, S: Story<E>> Past<E, S> {
         }
     }
 
-    /// Adds an entry. It makes two atomic steps on a word that nobody else has, and takes no memory.
+    /// Adds an entry. This makes two atomic steps on a word that only the owner has, and takes no memory.
     pub fn add<X, M: Told<X, E>>(&mut self, about: &X)
         requires { S.goes_on self.old.log (M.entry about.now) }
         ensures book { self.new.book ≡ self.old.book }
@@ -81,7 +81,7 @@ impl<E, S: Story<E>> Past<E, S> {
         self.pen = next;
     }
 
-    /// A witness of all entries.
+    /// Returns a witness of all entries.
     pub fn seen(&self) -> Seen<E, S>
         ensures { result ≡ self.now }
     {
@@ -94,7 +94,7 @@ impl<E, S: Story<E>> Past<E, S> {
 }
 
 impl<E, S: Story<E>> Seen<E, S> {
-    /// A copy.
+    /// Returns a copy.
     pub fn again(&self) -> Seen<E, S>
         ensures { result ≡ self.now }
     {
@@ -119,7 +119,7 @@ impl<E, S: Story<E>> Seen<E, S> {
         self.marks = past.marks.again();
     }
 
-    /// The law that of two witnesses of one past the log of one begins with that of the other.
+    /// A law: of two witnesses of one past, the log of one begins with the log of the other.
     pub fn compare(&self, other: &Seen<E, S>)
         requires { self.now.book ≡ other.now.book }
         ensures { IsPrefix self.now.log other.now.log ⊎ IsPrefix other.now.log self.now.log }
@@ -128,7 +128,7 @@ impl<E, S: Story<E>> Seen<E, S> {
         both.learn(&other.marks);
     }
 
-    /// The law that each entry was one that may come after those before it.
+    /// A law: each entry was one that may come after those before it.
     pub fn is_story(&self)
         ensures { IsStory S.goes_on self.now.log }
     {
@@ -136,7 +136,7 @@ impl<E, S: Story<E>> Seen<E, S> {
     }
 }
 
-/// A new cell that is not at home: the pen that may write it.
+/// Returns the pen that may write a new cell, which is not at home.
 fn new_cell<E>(head: &Word<Mark<E>, u64, Law>, marks: &logbook::Seen<Mark<E>, u64, Law>) -> Pen
     requires { head.now ≡ head_of marks.now.book }
     ensures { (result.book ≡ marks.now.book) × (result.nib.right ≡ may_write) }
@@ -149,7 +149,7 @@ fn new_cell<E>(head: &Word<Mark<E>, u64, Law>, marks: &logbook::Seen<Mark<E>, u6
     pen
 }
 
-/// What the step that adds an entry asks for.
+/// Returns what the step that adds an entry asks for.
 fn offer_of<X, E, M: Told<X, E>>(
     marks: &logbook::Seen<Mark<E>, u64, Law>,
     pen: &Pen,

@@ -1,4 +1,4 @@
-//! What a past tells, as its users say it.
+//! What a past says, as its users define it.
 ghost use Rattle.std.specs.Prelude.{List};
 
 /// What may come next in a past.
@@ -7,7 +7,7 @@ pub trait Story<E> {
     ghost goes_on: { List E → E → Type 0 };
 }
 
-/// Which entry a value tells.
+/// Which entry a value is recorded as.
 pub trait Told<X, E> {
     ghost entry: { X → E };
 }

@@ -9,7 +9,7 @@ use std::sync::ledger::{Blank, Ledger, Share};
 use std::test::*;
 use std::thread::{Threads, join};
 
-/// What was said, and how much was said before it.
+/// What was said, and the number of lines that were said before it.
 #[derive(Clone, Copy)]
 struct Line {
     before: u64,
@@ -74,7 +74,7 @@ fn two_lines_are_seen() {
     let (_, _) = earlier_and_later(Line { before: 0, word: 7 });
 }
 
-/// The desk after it was in another thread, with a witness that knows all that it has then.
+/// Returns the desk after it was in another thread, with a witness that knows all entries that it has then.
 fn there_and_back<L: Ledger + Send + Sync, S: Story<Line> + Send + Sync, R: Threads + Sync>(
     rt: &R,
     desk: Desk<L, S>,

@@ -13,7 +13,7 @@ use Rattle.gb_server.specs.declared.keys.Keys.{Keys}
 -- the host of nodes of a cluster, with keys; each node sends the version of the file, and packets are tagged under the key of the run
 abbrev pub host_of : ClusterFile → Keys → HostPlan
 host_of file keys = record {
-  cluster = record { nodes = length file.nodes.items; versions = replicate NODES file.version; silence = file.silence; places = places; cluster_key = run_key keys.cluster file.run; admin_key = keys.admin };
+  cluster = record { nodes = length file.nodes.items; versions = replicate NODES file.version; silence = file.silence; places = places; room = file.room; cluster_key = run_key keys.cluster file.run; admin_key = keys.admin };
   tape = false;
   ring = false;
 }

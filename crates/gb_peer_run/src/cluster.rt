@@ -36,6 +36,7 @@ pub fn host_plan(file: &ClusterFile, keys: Keys) -> HostPlan
         versions: [file.version; NODES],
         silence: file.silence,
         places: PLACES,
+        room: file.room,
         cluster_key: run_key(&keys.cluster, file.run),
         admin_key: keys.admin,
     };

@@ -112,9 +112,9 @@ abbrev pub entry_lines : NodeId → List TapeEntry → List ℕ
 entry_lines b [] = []
 entry_lines b (e ∷ es) = entry_line b e ++ 10 ∷ entry_lines b es
 
--- what a record says of its node and its cluster: `tape 1 NODE NODES SILENCE PLACES VERSION`
+-- what a record says of its node and its cluster: `tape 1 NODE NODES SILENCE PLACES VERSION ROOM`
 abbrev pub head_line : RecordHead → List ℕ
-head_line h = codes "tape 1" ++ after_space (decimal h.node.number) ++ after_space (decimal h.nodes) ++ after_space (decimal h.silence) ++ after_space (decimal h.places) ++ after_space (decimal (limits_of h.version).byte)
+head_line h = codes "tape 1" ++ after_space (decimal h.node.number) ++ after_space (decimal h.nodes) ++ after_space (decimal h.silence) ++ after_space (decimal h.places) ++ after_space (decimal (limits_of h.version).byte) ++ after_space (decimal h.room)
 
 -- the line behind a tape that is whole
 abbrev pub last_line : List ℕ

@@ -24,6 +24,8 @@ pub struct RecordHead {
     pub places: u16,
     /// The version of packets that the node sends.
     pub version: Version,
+    /// The most bytes of the items of a packet.
+    pub room: u16,
 }
 
 /// Appends the first line of a record, without its line feed.
@@ -35,12 +37,13 @@ pub fn put_head(out: &mut Vec<u8>, head: &RecordHead) -> Result<(), OutOfMemory>
     put_after(out, u64::from(head.nodes))?;
     put_after(out, u64::from(head.silence))?;
     put_after(out, u64::from(head.places))?;
-    put_after(out, u64::from(head.version.limits().byte))
+    put_after(out, u64::from(head.version.limits().byte))?;
+    put_after(out, u64::from(head.room))
 }
 
 // Returns what the words of a first line may say.
 fn read_words(words: &[&[u8]]) -> Option<RecordHead> {
-    let [_tape, _one, node, nodes, silence, places, version] = words else {
+    let [_tape, _one, node, nodes, silence, places, version, room] = words else {
         return None;
     };
     Some(RecordHead {
@@ -49,6 +52,7 @@ fn read_words(words: &[&[u8]]) -> Option<RecordHead> {
         silence: read_u16(silence)?,
         places: read_u16(places)?,
         version: Version::from_byte(u8::try_from(read_u16(version)?).ok()?)?,
+        room: read_u16(room)?,
     })
 }
 

@@ -1,4 +1,4 @@
--- What a record that is added or given up is in the columns.
+-- The columns after a record is added or handed up.
 use Rattle.std.proofs.Common.{◌&&◌, nat_eq, ◌≡◌, ℕ, ◌++◌, ◌∷◌, false, List, [], length, set, get_or, slice_get, count_by, refl, ap, sym, ◌∙◌}
 use Rattle.std.specs.declared.option.Option.TheVariants.{Some}
 use Rattle.std.proofs.lemmas.List.{map-set, map-append}

@@ -1,4 +1,4 @@
--- The records of a stack, and what each of its layers remembers in them.
+-- The records of a stack, and the columns of each of its layers.
 use Rattle.std.specs.Prelude.{Bool, false, cond, not, List, [], ◌∷◌, ◌++◌, map}
 use Rattle.std.specs.List.{list_any}
 use Rattle.std.specs.FinSet as set
@@ -16,11 +16,11 @@ keys = map (λ r. r.m)
 abbrev pub is_for : MsgId → Record → Bool
 is_for m r = same r.m m
 
--- a record of m that has nothing yet
+-- a record of m with no holders, not sent, not brought up and not handed up
 abbrev pub blank : MsgId → Record
 blank m = record { m = m; holders = set.empty; sent = false; up = false; given = false }
 
--- the records, with one of m at the end where there was none
+-- the records, with one of m at the end if there was none
 abbrev pub noted : List Record → MsgId → List Record
 noted rs m = cond (list_any (is_for m) rs) rs (rs ++ blank m ∷ [])
 
@@ -28,18 +28,18 @@ noted rs m = cond (list_any (is_for m) rs) rs (rs ++ blank m ∷ [])
 abbrev pub is_unsent : Record → Bool
 is_unsent r = not r.sent
 
--- the message was not given up yet
+-- the message was not handed up by the order yet
 abbrev pub is_ungiven : Record → Bool
 is_ungiven r = not r.given
 
--- what a relay remembers of the message
+-- the columns of a relay
 abbrev pub relay_entry : Record → relay.Entry
 relay_entry r = record { m = r.m; holders = r.holders; sent = r.sent; given = r.up }
 
 abbrev pub relay_entries : List Record → List relay.Entry
 relay_entries = map relay_entry
 
--- what the order remembers of the message
+-- the columns of the order
 abbrev pub order_entry : Record → order.Entry
 order_entry r = record { m = r.m; here = r.up; given = r.given }
 

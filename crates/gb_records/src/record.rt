@@ -1,9 +1,9 @@
-//! What a stack remembers of a message.
+//! The record of one message in a stack.
 use gb_types::message::MsgId;
 use gb_types::node::NodeSet;
 
-/// A message, which nodes hold it as far as this node knows, whether it was sent from here, whether the broadcast
-/// brought it up, and whether the order gave it up.
+/// A message, the nodes that hold it as far as this node knows, whether it was sent from here, whether the broadcast brought it up,
+/// and whether the order handed it up.
 #[derive(Drop)]
 pub struct Record {
     pub m: MsgId,

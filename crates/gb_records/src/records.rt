@@ -19,20 +19,20 @@ use gb_types::message::MsgId;
 use gb_types::node::{NodeId, NodeSet};
 use std::alloc::Global;
 
-/// Whether the broadcast brought the message up, and it was not given up.
+/// Returns true if the broadcast brought the message up, and the order has not handed it up.
 fn is_waiting(r: &Record) -> bool
     ensures { result ≡ (r.now.up && not r.now.given) }
 {
     r.up && !r.given
 }
 
-/// The records in the order of first mention, one for each message, with a table that leads to them.
+/// The records in the order of first mention, one for each message, with a table that finds them.
 pub struct Records {
     pub list: Vec<Record>,
     pub table: Table,
-    /// The place of the message that was noted last, where one is looked for first.
+    /// The place of the message that was noted last. `find` compares it first.
     pub recent: usize,
-    /// How many messages of each origin were given up, which is the number of the last.
+    /// For each origin, the number of messages that the order handed up, which is the number of the last one.
     pub given: [u16; NODES],
     /// The greatest number among the messages of each origin.
     pub last: [u16; NODES],
@@ -55,7 +55,7 @@ impl Drop for Records {
     }
 }
 
-/// Whether the record at a place is of m.
+/// Returns true if the record at a place is of `m`.
 fn is_at(records: &[Record], place: usize, m: MsgId) -> bool
     ensures { result ≡ true → slice_get (keys records.now) place ≡ Some m }
 {
@@ -65,7 +65,7 @@ fn is_at(records: &[Record], place: usize, m: MsgId) -> bool
     }
 }
 
-/// The place of the record of m, if there is one, by a search from the front.
+/// Returns the place of the record of `m`, if there is one, by a search from the front.
 fn search(records: &[Record], m: MsgId) -> Option<usize>
     ensures { MatchOption result (list_any (is_for m) records.now ≡ false) (λ i. slice_get (keys records.now) i ≡ Some m) }
 {
@@ -78,7 +78,7 @@ fn search(records: &[Record], m: MsgId) -> Option<usize>
 }
 
 impl Records {
-    /// No records.
+    /// Returns an empty list of records.
     #[tactic(auto, using(crate::proofs::PlaceLemmas::once_none))]
     pub fn new(alloc: Global) -> Records
         ensures { result.list.items ≡ [] }
@@ -92,7 +92,7 @@ impl Records {
         }
     }
 
-    /// Has the table cover the members' messages numbered from 1 to this width, where there are no records yet.
+    /// Makes the table cover the members' messages numbered from 1 to `width`. There are no records yet.
     pub fn cover(&mut self, members: &NodeSet, width: u16) -> Result<(), OutOfMemory>
         requires { self.old.list.items ≡ [] }
         ensures list { self.new.list ≡ self.old.list }
@@ -101,7 +101,7 @@ impl Records {
         self.table.cover(members, width)
     }
 
-    /// The place of the record of m, if there is one.
+    /// Returns the place of the record of `m`, if there is one.
     pub fn find(&self, m: MsgId) -> Option<usize>
         ensures { MatchOption result (list_any (is_for m) self.now.list.items ≡ false) (λ i. slice_get (keys self.now.list.items) i ≡ Some m) }
     {
@@ -117,7 +117,7 @@ impl Records {
         }
     }
 
-    /// Adds a record of m, where there is none. Gives the place of the record of m.
+    /// Adds a record of `m` if there is none. Returns the place of the record of `m`.
     pub fn note(&mut self, m: MsgId) -> usize
         requires { vec_len self.old.list + 1 ≤ vec_capacity self.old.list }
         ensures items { self.new.list.items ≡ noted self.old.list.items m }
@@ -144,7 +144,7 @@ impl Records {
         at
     }
 
-    /// The place of the next message of an origin, if the broadcast brought it up.
+    /// Returns the place of the next message of an origin, if the broadcast brought it up.
     fn find_next(&self, origin: NodeId) -> Option<usize>
         ensures { IsPlace (next_of origin.number (order_entries self.now.list.items)) (order_entries self.now.list.items) result }
     {
@@ -164,7 +164,7 @@ impl Records {
     }
 }
 
-/// Gives up one message, and says its number.
+/// Hands up one message. Returns its number.
 fn give_one(r: &mut Record, ups: &mut Vec<Up>) -> u16
     requires { 1 ≤ free ups.old }
     ensures number { result ≡ r.old.m.seq }
@@ -182,7 +182,7 @@ fn give_one(r: &mut Record, ups: &mut Vec<Up>) -> u16
     r.m.seq
 }
 
-/// Gives up the next message of an origin, if the broadcast brought it up, and says whether it did.
+/// Hands up the next message of an origin, if the broadcast brought it up. Returns true if it did.
 fn give_next(records: &mut Records, origin: NodeId, ups: &mut Vec<Up>) -> bool
     requires { count_by is_ungiven records.old.list.items ≤ free ups.old }
     ensures found { result ≡ list_any (next_of origin.number (order_entries records.old.list.items)) (order_entries records.old.list.items) }
@@ -203,7 +203,7 @@ fn give_next(records: &mut Records, origin: NodeId, ups: &mut Vec<Up>) -> bool
     }
 }
 
-/// Gives up the next messages of an origin, as long as the broadcast brought the next one up.
+/// Hands up the next messages of an origin, as long as the broadcast brought the next one up.
 pub fn release(records: &mut Records, origin: NodeId, ups: &mut Vec<Up>)
     requires { count_by is_ungiven records.old.list.items ≤ free ups.old }
     ensures order { order_entries records.new.list.items ≡ released origin.number (length records.old.list.items) (order_entries records.old.list.items) }

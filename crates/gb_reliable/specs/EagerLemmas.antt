@@ -1,4 +1,4 @@
--- The laws of the rule of eager reliable broadcast, and that it has the module's tests.
+-- The laws of the rule of eager reliable broadcast, and its equality with the module's tests.
 use Rattle.std.proofs.Common.{refl}
 use Rattle.gb_layer.specs.declared.broadcast_module.BroadcastModule.TheVariants.{Eager}
 use Rattle.gb_layer.specs.Rule.{BroadcastsMore, DeliversMore, BroadcastsItsOwn, BroadcastsAs, DeliversAs}

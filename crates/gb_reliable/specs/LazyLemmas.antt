@@ -1,4 +1,4 @@
--- The laws of the rule of lazy reliable broadcast, and that it has the module's tests.
+-- The laws of the rule of lazy reliable broadcast, and its equality with the module's tests.
 use Rattle.std.proofs.Common.{◌||◌, ◌&&◌, nat_eq, refl, ap}
 use Rattle.std.specs.FinSet as set
 use Rattle.std.proofs.lemmas.Bool.{eq-eqb}

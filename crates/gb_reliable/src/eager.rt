@@ -29,6 +29,6 @@ impl Rule for Eagerly {
     ghost broadcasts_its_own = { eager_own };
 }
 
-/// Eager reliable broadcast over a layer (Cachin, Guerraoui, Rodrigues 2011, Algorithm 3.3): relays each message
-/// once, when it first comes.
+/// Eager reliable broadcast over a layer (Cachin, Guerraoui, Rodrigues 2011, Algorithm 3.3). It relays each message once, when it
+/// first comes.
 pub type Eager<L> = Relay<L, Eagerly>;

@@ -7,8 +7,8 @@ use gb_layer::rule::Rule;
 use gb_types::message::MsgId;
 use gb_types::node::{NodeId, NodeSet};
 
-/// The rule of lazy reliable broadcast: own messages are broadcast, and those whose origin was noticed; a message
-/// is delivered as soon as it is here.
+/// The rule of lazy reliable broadcast. A message is broadcast if it is the node's own or its origin was noticed. It is delivered
+/// as soon as it is here.
 #[derive(Clone, Copy, Drop)]
 pub struct Lazily;
 
@@ -30,6 +30,6 @@ impl Rule for Lazily {
     ghost broadcasts_its_own = { lazy_own };
 }
 
-/// Lazy reliable broadcast over a layer (Cachin, Guerraoui, Rodrigues 2011, Algorithm 3.2): relays the messages of
-/// a node from the notice of that node on.
+/// Lazy reliable broadcast over a layer (Cachin, Guerraoui, Rodrigues 2011, Algorithm 3.2). It relays the messages of a node from
+/// the notice of that node on.
 pub type Lazy<L> = Relay<L, Lazily>;

@@ -1,6 +1,6 @@
-//! Reliable broadcast, lazy and eager: two rules for the layer that relays. What each broadcasts and delivers
-//! over `Beb` is that of the module in gb_layer's specs/Modules.antt; `modules` says so. Read `lazy::Lazy` and
-//! `eager::Eager` first. The layer itself is gb_layer's `relay::Relay`.
+//! Reliable broadcast, lazy and eager: two rules for the layer that relays. Over `Beb`, each broadcasts and delivers what its
+//! module in gb_layer's specs/Modules.antt defines; `modules` says so. Read `lazy::Lazy` and `eager::Eager` first. The layer itself
+//! is gb_layer's `relay::Relay`.
 #![tactic(auto)]
 
 pub mod eager;

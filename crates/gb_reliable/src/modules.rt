@@ -1,4 +1,4 @@
-//! Which layers are which module of broadcast.
+//! Laws: which layers are which module of broadcast.
 ghost use Rattle.std.specs.Prelude.{◌≡◌, List, ◌∷◌};
 ghost use Rattle.std.specs.FinSet as set;
 ghost use Rattle.gb_types.specs.declared.node.NodeId.{NodeId};
@@ -15,9 +15,8 @@ use gb_layer::beb::Beb;
 use gb_layer::layer::Layer;
 use gb_layer::relay::Relay;
 
-/// `Lazy` over `Beb` at the node me, in a group with these members, is lazy reliable broadcast: over every
-/// lawful history what a call hands up is what it delivers, what it sends is what it broadcasts, and all that
-/// came up is the log.
+/// `Lazy` over `Beb` at the node `me`, in a group with these members, is lazy reliable broadcast. Over every lawful history, what a
+/// call hands up is what the module delivers, what it sends is what the module broadcasts, and all that came up is the log.
 pub fn lazy()
     ensures up { (me : NodeId) (members : Nodes) (past : List Call) (c : Call) → IsLawful me.number (c ∷ past)
         → messages (⟦<Relay<Beb, Lazily> as Layer>⟧.gives (after ⟦<Relay<Beb, Lazily> as Layer>⟧.next (at_start me members) past) c).ups ≡ delivers Lazy me.number (set.items members) c past }
@@ -27,9 +26,8 @@ pub fn lazy()
         → messages (all_ups ⟦<Relay<Beb, Lazily> as Layer>⟧.next ⟦<Relay<Beb, Lazily> as Layer>⟧.gives (at_start me members) past) ≡ log Lazy me.number (set.items members) past }
 {}
 
-/// `Eager` over `Beb` at the node me, in a group with these members, is eager reliable broadcast: over every
-/// lawful history what a call hands up is what it delivers, what it sends is what it broadcasts, and all that
-/// came up is the log.
+/// `Eager` over `Beb` at the node `me`, in a group with these members, is eager reliable broadcast. Over every lawful history, what
+/// a call hands up is what the module delivers, what it sends is what the module broadcasts, and all that came up is the log.
 pub fn eager()
     ensures up { (me : NodeId) (members : Nodes) (past : List Call) (c : Call) → IsLawful me.number (c ∷ past)
         → messages (⟦<Relay<Beb, Eagerly> as Layer>⟧.gives (after ⟦<Relay<Beb, Eagerly> as Layer>⟧.next (at_start me members) past) c).ups ≡ delivers Eager me.number (set.items members) c past }

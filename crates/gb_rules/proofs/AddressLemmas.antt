@@ -1,4 +1,4 @@
--- When two addresses are one.
+-- Two addresses are one if their tenants, numbers and generations are equal.
 use Rattle.std.proofs.Common.{◌≡◌, true, ap, arith}
 use Rattle.std.proofs.lemmas.Bool.Decides.{nat_tests}
 use Rattle.gb_types.specs.declared.address.Addr.{Addr}

@@ -1,4 +1,4 @@
--- What is not too long is no longer than any version allows.
+-- A payload that is not too long is within the limit of every version.
 use Rattle.std.proofs.Common.{◌≡◌, ◌≤◌, ℕ, List, length, false, arith}
 use Rattle.std.proofs.lemmas.Bool.{ltb-false}
 use Rattle.gb_types.specs.declared.limits.TheConstants.{PAYLOAD}

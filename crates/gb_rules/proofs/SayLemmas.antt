@@ -1,4 +1,4 @@
--- What holds where a message gets a number.
+-- The facts that hold when a message gets a number.
 use Rattle.std.proofs.Common.{◌≡◌, ℕ, ◌+◌, Bool, true, false, refl, length}
 use Rattle.std.specs.Prelude.{nat_lt, nat_le, if◌then◌else◌}
 use Rattle.gb_types.specs.declared.new_message.NewMessage.{NewMessage}

@@ -1,4 +1,4 @@
--- The rules of a group at a node: what is answered to its commands, in which order refusals come.
+-- The rules of a group at a node: the answers to its commands, and the order of the refusals.
 use Rattle.std.specs.Prelude.{ℕ, ◌+◌, ◌&&◌, ◌||◌, not, Bool, true, false, List, [], length, take, drop, nat_lt, nat_le, nat_eq, Option, Some, None, Result, Ok, Err, if◌then◌else◌}
 use Rattle.std.specs.FinSet as set
 use Rattle.gb_types.specs.declared.entry.Entry.{Entry}
@@ -15,13 +15,13 @@ use Rattle.gb_rules.specs.declared.phase.Phase.{Phase}
 use Rattle.gb_rules.specs.declared.phase.Phase.TheVariants.{Made, Opened, Gone}
 use Rattle.gb_rules.specs.declared.usage.Usage.{Usage}
 
--- what the rules read of a group that was made at a node
+-- what the rules read of a group at a node
 pub record Shown : Type 0 where
   pub spec : Spec
   pub phase : Phase
-  -- what its member has used here of what the spec lets it have
+  -- what its member has used of its budgets and its window
   pub usage : Usage
-  -- what was delivered here
+  -- the messages that were delivered here
   pub log : List Entry
 
 -- the node is a member
@@ -85,20 +85,20 @@ say_answer version s message = say_in s.phase
 abbrev pub is_bad_place : ℕ → ℕ → ℕ → Bool
 is_bad_place count from most = nat_lt count from || nat_lt FETCH most
 
--- the log from a place on, so many entries at most
+-- the log from a place on, up to `most` entries
 abbrev pub fetch_answer : Shown → ℕ → ℕ → Reply
 fetch_answer s from most = if is_bad_place (length s.log) from most then Refused BadPlace else Log (take most (drop from s.log))
 
--- a command on a group that may have been made here, and dropped since
+-- the answer to a command on a group that may never have been made here, or was dropped since
 abbrev pub on_made : (Shown → Reply) → Option Shown → Reply
 on_made answer None = Refused NoGroup
 on_made answer (Some s) = if is_gone s.phase then Refused Spent else answer s
 
--- what the rules on saying read of a group
+-- the part of a group that the rules on saying read
 abbrev pub unlogged : Spec → Phase → Usage → Shown
 unlogged spec phase usage = record { spec = spec; phase = phase; usage = usage; log = [] }
 
--- a message may be said next, with the number after so many, or not
+-- the reply to a say: the number after `said`, or the refusal
 abbrev pub said_next : ℕ → Result Unit Refusal → Reply
 said_next said (Ok v) = Said (said + 1)
 said_next said (Err why) = Refused why

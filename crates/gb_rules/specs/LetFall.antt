@@ -1,11 +1,11 @@
--- Which items that come from other nodes are let fall.
+-- Which items from other nodes are let fall.
 use Rattle.std.specs.Prelude.{ℕ, ◌+◌, ◌&&◌, ◌||◌, not, Bool, length, nat_lt, nat_eq}
 use Rattle.gb_types.specs.declared.entry.Entry.{Entry}
 use Rattle.gb_types.specs.declared.spec.Spec.{Spec}
 use Rattle.gb_rules.specs.Group.{is_member}
 
--- An item that came from a node is let fall: `before` says that the same came from that node before, `known` that the message is known
--- here, and so many payload bytes of its origin were `seen` here. A copy that another member relayed is taken in.
+-- An item that came from a node is let fall: `before` says that the same item came from that node before, `known` that the message is known here.
+-- `seen` is the number of payload bytes of its origin that came here. A copy that another member relayed is taken in.
 abbrev pub is_let_fall : Spec → ℕ → ℕ → Entry → Bool → Bool → ℕ → Bool
 is_let_fall spec me from x before known seen =
     not (is_member spec from) || (not (is_member spec x.origin.number) || (nat_eq from me || (before

@@ -1,19 +1,19 @@
--- What becomes of a group that may never have been made, or was dropped: None where it was not made, Some None where it was dropped.
+-- The states of a group: None if it was never made, Some None if it was dropped.
 use Rattle.std.specs.Prelude.{Bool, Option, Some, None, option_map, if◌then◌else◌}
 
--- after a step of the group, where it is there
+-- the group after a step, if it is there
 abbrev pub stepped : {X : Type 0} → (X → X) → Option (Option X) → Option (Option X)
 stepped step o = option_map (option_map step) o
 
--- once it was dropped, if it was made
+-- the group after it was dropped, if it was made
 abbrev pub dropped : {X : Type 0} → Option (Option X) → Option (Option X)
 dropped o = option_map (λ s. None) o
 
--- where it was not made, it is the one that is added
+-- the group that is added, if none was made
 abbrev pub or_added : {X : Type 0} → Option (Option X) → Option (Option X) → Option (Option X)
 or_added None new = new
 or_added (Some s) new = Some s
 
--- only where a test holds
+-- the step if a test holds, else no change
 abbrev pub where_so : {X : Type 0} → Bool → (X → X) → X → X
 where_so b step o = if b then step o else o

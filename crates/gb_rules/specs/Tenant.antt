@@ -12,11 +12,11 @@ use Rattle.gb_types.specs.declared.spec.TenantRow.{TenantRow}
 use Rattle.gb_rules.specs.Group.{is_member}
 use Rattle.gb_rules.specs.declared.reserve.Reserve.{Reserve}
 
--- what a row lets each of its tenant's groups have
+-- the limits that a row sets for each of its tenant's groups
 abbrev pub reserve_of : TenantRow → Reserve
 reserve_of row = record { groups = row.groups; msgs = row.msgs; bytes = row.bytes; window = row.window }
 
--- a row asks for more than the service gives
+-- a row asks for more than the service allows
 abbrev pub is_over_limits : TenantRow → Bool
 is_over_limits row =
     nat_eq row.tenant 0 || (nat_eq row.groups 0 || (nat_lt GROUPS row.groups || (nat_eq row.msgs 0 || (nat_lt MESSAGES row.msgs || (nat_lt BYTES row.bytes
@@ -26,11 +26,11 @@ is_over_limits row =
 abbrev pub row_of : ℕ → List TenantRow → Option TenantRow
 row_of tenant rows = find (λ row. nat_eq row.tenant tenant) rows
 
--- how many groups these tenants may make in all
+-- the number of groups that these tenants may make in all
 abbrev pub reserved : List TenantRow → ℕ
 reserved rows = sum_by (λ row. row.groups) rows
 
--- a tenant is taken in once, where the groups of all tenants, which were so many before, are no more than so many places
+-- a tenant is added once, and only if its groups and the `before` groups of the other tenants are at most `places`
 abbrev pub tenant_answer : ℕ → ℕ → Bool → TenantRow → Reply
 tenant_answer places before there row =
     if is_over_limits row then Refused OverReserve
@@ -38,7 +38,7 @@ tenant_answer places before there row =
     else (if nat_lt places (before + row.groups) then Refused NoRoom
     else Done))
 
--- members are none, without this node, or beyond the cluster
+-- the set of members lacks this node, or names a node beyond the cluster
 abbrev pub is_bad : ℕ → ℕ → Spec → Bool
 is_bad nodes me spec = not (is_member spec me) || not (list_all (λ b. nat_lt b nodes) (set.items spec.members))
 
@@ -47,7 +47,7 @@ abbrev pub is_over : Reserve → Spec → Bool
 is_over reserve spec =
     nat_eq spec.msgs 0 || (nat_lt reserve.msgs spec.msgs || (nat_lt reserve.bytes spec.bytes || (nat_eq spec.window 0 || nat_lt reserve.window spec.window)))
 
--- a group with this address, which may have been made here before, is made; no version of packets has items of a later generation
+-- the answer to a request to make a group with this address; `made` says that it was made here before; no version of packets has items of a later generation
 abbrev pub make_answer : ℕ → ℕ → Addr → Bool → Spec → Reserve → Reply
 make_answer nodes me addr made spec reserve =
     if nat_le reserve.groups addr.group then Refused NoGroup
@@ -56,7 +56,7 @@ make_answer nodes me addr made spec reserve =
     else (if nat_lt 0 addr.generation || is_over reserve spec then Refused OverReserve
     else Done)))
 
--- a request of a tenant that may be here
+-- the answer to a request of a tenant that may not be here
 abbrev pub by_tenant : (Reserve → Reply) → Option Reserve → Reply
 by_tenant answer None = Refused Denied
 by_tenant answer (Some reserve) = answer reserve

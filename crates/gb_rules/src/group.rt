@@ -1,4 +1,4 @@
-//! What is answered to a group's commands where it was made.
+//! The answers to the commands on a group that was made at a node.
 ghost use Rattle.std.specs.Prelude.{◌≡◌, ◌+◌, ◌<◌, ◌≤◌, false, length, OnOk};
 ghost use Rattle.gb_types.specs.declared.limits.TheConstants.{FETCH as MOST};
 ghost use Rattle.gb_rules.specs.Group.{open_in, shut_in, is_out_of_turn, is_too_long, say_answer, is_bad_place, unlogged, said_next};
@@ -11,7 +11,7 @@ use gb_types::refusal::Refusal;
 use gb_types::spec::Spec;
 use gb_types::version::Version;
 
-/// Whether a group in the phase is opened: WrongPhase where it was opened before.
+/// Returns Ok if a group in this phase may be opened. WrongPhase if it was opened before.
 pub fn check_open(phase: Phase) -> Result<(), Refusal>
     ensures { done_reply result ≡ open_in phase }
 {
@@ -23,7 +23,7 @@ pub fn check_open(phase: Phase) -> Result<(), Refusal>
     }
 }
 
-/// Whether a group in the phase is shut: WrongPhase where it is not open.
+/// Returns Ok if a group in this phase may be shut. WrongPhase if it is not open.
 pub fn check_shut(phase: Phase) -> Result<(), Refusal>
     ensures { done_reply result ≡ shut_in phase }
 {
@@ -35,14 +35,14 @@ pub fn check_shut(phase: Phase) -> Result<(), Refusal>
     }
 }
 
-/// Whether a payload is longer than a message may be at a node that sends this version of the packet text.
+/// Returns true if a payload is longer than a message may be at a node that sends this version of the packet text.
 pub fn is_too_long(version: Version, payload: &[u8]) -> bool
     ensures { result ≡ is_too_long version payload.now }
 {
     payload.len() > version.limits().payload
 }
 
-/// Whether a caller names the number that its message must get, and another is next after `said` messages.
+/// Returns true if the caller names the number of its message, and it is not the next after `said` messages.
 pub fn is_out_of_turn(said: u32, seq: Option<u32>) -> bool
     ensures { result ≡ is_out_of_turn said seq }
 {
@@ -52,11 +52,10 @@ pub fn is_out_of_turn(said: u32, seq: Option<u32>) -> bool
     }
 }
 
-/// Whether a payload may be said as the next message of a group by a member that has used so much, under the number `seq` if
-/// the caller names one. WrongPhase where the group is
-/// not open, BadPlace where the caller names another number than the next, TooLong above the payload's limit of the
-/// version that the node sends, Budget where all messages are said, Bytes where the payload's bytes would be too many
-/// in all, Window where too many messages are unfinished, in this order.
+/// Returns Ok if a member with this usage may say the payload as its next message of a group, under the number `seq` if the caller
+/// names one. Refusals, in this order: WrongPhase if the group is not open, BadPlace if the caller names another number than the
+/// next, TooLong above the payload limit of the version that the node sends, Budget if all messages are said, Bytes if the payload
+/// bytes would exceed their limit, Window if too many messages are unfinished.
 pub fn check_say(
     version: Version,
     spec: &Spec,
@@ -91,8 +90,7 @@ pub fn check_say(
     Ok(())
 }
 
-/// Whether a log with so many entries is not to be read so: the place is above its length, or more than 16
-/// entries are asked for.
+/// Returns true if a read of a log with `count` entries is refused: `from` is above `count`, or more than 16 entries are asked for.
 pub fn is_bad_place(count: usize, from: u32, most: u32) -> bool
     ensures test { result ≡ is_bad_place count from most }
     ensures place { result ≡ false → from ≤ count }

@@ -1,4 +1,4 @@
-//! Which items that come from other nodes are let fall.
+//! Which items from other nodes are let fall.
 ghost use Rattle.std.specs.Prelude.{◌≡◌, []};
 ghost use Rattle.gb_rules.specs.LetFall.{is_let_fall};
 
@@ -6,8 +6,8 @@ use gb_types::message::MsgId;
 use gb_types::node::NodeId;
 use gb_types::spec::Spec;
 
-/// Whether an item that came from a node is let fall: the same came from it `before`, `known` says that the
-/// message is known here, and so many payload bytes of its origin were `seen` here.
+/// Returns true if an item that came from a node is let fall. `before` says that the same item came from it before, `known` that
+/// the message is known here. `seen` is the number of payload bytes of its origin that came here.
 pub fn is_let_fall(
     spec: &Spec,
     me: NodeId,

@@ -1,6 +1,6 @@
-//! The rules of a tenant and of a group at a node: what is answered, in which order refusals come, and which items
-//! are let fall. Each rule stands once, as a definition over the little that it reads and as the function that
-//! computes it: a slot, a node and a group by itself all call it.
+//! The rules of tenants and of groups at a node: the answers, the order of the refusals, and which items are let fall. Each rule
+//! stands once as a definition, over the few values that it reads, and once as the function that computes it. A slot, a node and a
+//! group by itself all call it.
 //!
 //! There is no state here. Read specs/Group.antt and specs/Tenant.antt first.
 #![tactic(auto)]

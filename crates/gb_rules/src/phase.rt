@@ -1,6 +1,6 @@
 //! The phases of a group at a node.
 
-/// The phase of a group at a node. It takes items in and delivers until it is gone.
+/// The phase of a group at a node. The group receives and delivers until it is gone.
 #[derive(Clone, Copy, PartialEq, Eq)]
 pub enum Phase {
     /// Made, and not yet open for its member's messages.

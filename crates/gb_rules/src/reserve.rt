@@ -1,24 +1,24 @@
-//! What a tenant may have.
+//! The limits of a tenant.
 ghost use Rattle.std.specs.Prelude.{◌≡◌};
 ghost use Rattle.gb_rules.specs.Tenant.{reserve_of};
 
 use gb_types::spec::TenantRow;
 
-/// What a tenant may have for each of its groups: its row without tenant and key.
+/// The limits of a tenant for each of its groups: its row without tenant and key.
 #[derive(Clone, Copy)]
 pub struct Reserve {
-    /// Its groups are numbered from 0 and below this.
+    /// The numbers of its groups are 0 to `groups - 1`.
     pub groups: u32,
-    /// How many messages each member may say, for life.
+    /// The number of messages that each member may say, for life.
     pub msgs: u32,
-    /// How many payload bytes each member may say, for life.
+    /// The number of payload bytes that each member may say, for life.
     pub bytes: u32,
-    /// How many of its own messages a member may have unfinished at once.
+    /// The number of own messages that a member may have unfinished at once.
     pub window: u32,
 }
 
 impl Reserve {
-    /// What the row lets each group of its tenant have.
+    /// Returns the limits that the row sets for each group of its tenant.
     pub fn of(row: &TenantRow) -> Reserve
         ensures { result ≡ reserve_of row.now }
     {

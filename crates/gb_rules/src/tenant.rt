@@ -1,4 +1,4 @@
-//! What is answered where a tenant is taken in, and where it makes a group.
+//! The answers to a request that adds a tenant, and to one that makes a group.
 ghost use Rattle.std.specs.Prelude.{◌≡◌};
 ghost use Rattle.gb_rules.specs.Tenant.{is_over_limits, tenant_answer, is_bad, is_over, make_answer};
 
@@ -10,7 +10,7 @@ use gb_types::refusal::Refusal;
 use gb_types::reply::Reply;
 use gb_types::spec::{Spec, TenantRow};
 
-/// Whether a row asks for more than the service gives.
+/// Returns true if a row asks for more than the service allows.
 pub fn is_over_limits(row: &TenantRow) -> bool
     ensures { result ≡ is_over_limits row.now }
 {
@@ -23,9 +23,9 @@ pub fn is_over_limits(row: &TenantRow) -> bool
     row.window == 0 || row.window > WINDOW
 }
 
-/// The answer to the row of a tenant, which may be `there` already, at a node with so many places, of which other
-/// tenants had reserved so many `before`: OverReserve, TenantThere, NoRoom where the tenant's groups would pass the
-/// places, in this order.
+/// Returns the answer to the row of a tenant, at a node with `places` places. `there` says that the tenant is there already, and
+/// `before` is the number of groups that the other tenants reserved. Refusals, in this order: OverReserve, TenantThere, NoRoom if
+/// the tenant's groups would exceed the places.
 pub fn answer_tenant(places: u32, before: u32, there: bool, row: &TenantRow) -> Reply
     ensures { result ≡ tenant_answer places before there row.now }
 {
@@ -41,14 +41,14 @@ pub fn answer_tenant(places: u32, before: u32, there: bool, row: &TenantRow) -> 
     Reply::Done
 }
 
-/// Whether members are none, without this node, or beyond a cluster of so many nodes.
+/// Returns true if the set of members lacks this node, or names a node beyond a cluster of `nodes` nodes.
 fn is_bad_members(nodes: usize, me: NodeId, spec: &Spec) -> bool
     ensures { result ≡ is_bad nodes me.number spec.now }
 {
     !spec.members.contains(me) || !spec.members.is_below(nodes)
 }
 
-/// Whether a spec asks for more than its tenant has.
+/// Returns true if a spec asks for more than its tenant has.
 fn is_over_reserve(reserve: &Reserve, spec: &Spec) -> bool
     ensures { result ≡ is_over reserve.now spec.now }
 {
@@ -58,9 +58,9 @@ fn is_over_reserve(reserve: &Reserve, spec: &Spec) -> bool
     spec.window == 0 || spec.window > reserve.window
 }
 
-/// Returns the answer to a request to make the group with this address, which may have been `made` here before: NoGroup
-/// where its tenant has no such number, Spent, BadMembers, OverReserve, in this order. A generation after the first is OverReserve,
-/// since no version of packets has items of one.
+/// Returns the answer to a request to make the group with this address; `made` says that it was made here before. Refusals, in this
+/// order: NoGroup if its tenant has no such number, Spent, BadMembers, OverReserve. A generation after the first is OverReserve,
+/// since no version of packets has items of such a group.
 pub fn answer_make(
     nodes: usize,
     me: NodeId,

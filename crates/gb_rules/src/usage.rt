@@ -1,12 +1,12 @@
-//! What a group's member has used of what its spec lets it have.
+//! The usage of a group's member: how much of its budgets and its window it has used.
 
-/// What a group's member has used of what its spec lets it have.
+/// The usage of a group's member: how much of its budgets and its window it has used.
 #[derive(Clone, Copy)]
 pub struct Usage {
-    /// How many messages it said.
+    /// The number of messages that it said.
     pub said: u32,
-    /// How many payload bytes these have in all.
+    /// The number of payload bytes of these messages in all.
     pub bytes: u32,
-    /// How many of these messages are not acknowledged by each other member that is not noticed.
+    /// The number of these messages that some other member, which is not noticed, has not acknowledged.
     pub unfinished: u32,
 }

@@ -1,5 +1,5 @@
 -- For each head: the command that its words spell, from what the readers of its words found.
-use Rattle.std.proofs.Common.{◌≡◌, ◌↔◌, ℕ, ◌<◌, ◌≤◌, List, [], ◌∷◌, replicate, Some, None, refl, sym, ap, ◌∙◌, decimal}
+use Rattle.std.proofs.Common.{◌≡◌, ◌↔◌, ℕ, ◌<◌, ◌≤◌, List, [], ◌∷◌, replicate, Some, None, refl, sym, ap, ◌∙◌, subst, decimal}
 use Rattle.gb_types.specs.declared.limits.TheConstants.{NODES, SILENCE_MIN, SILENCE_MAX}
 use Rattle.gb_types.specs.PayloadWord.{payload_of}
 use Rattle.gb_types.specs.declared.new_message.NewMessage.{NewMessage}
@@ -17,7 +17,7 @@ use Rattle.gb_schedule.specs.declared.command.Command.{Command}
 use Rattle.gb_schedule.specs.declared.command.Command.TheVariants.{Cluster, Request, Noise}
 use Rattle.gb_types.specs.RequestWords.{IsShort, SpellsSpec, group_word, IsGroup}
 use Rattle.gb_types.proofs.RequestWordLemmas.{IsShortWord, IsLongWord, AreAddressWords, AreLimitWords}
-use Rattle.gb_schedule.specs.Grammar.{SpellsCluster, SpellsCluster2, SpellsTenant, SpellsMake, SpellsNamed, SpellsForge, SpellsNoise}
+use Rattle.gb_schedule.specs.Grammar.{AreRoomWords, SpellsCluster, SpellsCluster2, SpellsTenant, SpellsMake, SpellsNamed, SpellsForge, SpellsNoise}
 use Rattle.gb_schedule.specs.Versions.{AreVersions}
 use Rattle.gb_schedule.specs.Keys.{tenant_key, no_token, admin_token, tenant_token}
 use Rattle.gb_types.proofs.ReadLemmas.{Reads, found, only, reads_one, some_same}
@@ -94,11 +94,11 @@ between_reads word n least most low high is_low is_high reads k = (
 
 pub cluster_reads : (words : List (List ℕ)) (n s : List ℕ) (nodes silence most : ℕ) → words ≡ n ∷ s ∷ [] → most ≡ (limits_of One).nodes
     → Reads (IsCountWord most n) nodes → Reads (IsSilenceWord s) silence
-    → Reads (λ command. SpellsCluster command words) (Cluster (record { nodes = nodes; versions = replicate NODES One; silence = silence }))
+    → Reads (λ command. SpellsCluster command words) (Cluster (record { nodes = nodes; versions = replicate NODES One; silence = silence; room = 16345 }))
 cluster_reads words n s nodes silence most are is_most reads_nodes reads_silence =
     let is_nodes = found (IsCountWord most n) nodes reads_nodes in
     let is_silence = found (IsSilenceWord s) silence reads_silence in
-    let start : ClusterStart = record { nodes = nodes; versions = replicate NODES One; silence = silence } in
+    let start : ClusterStart = record { nodes = nodes; versions = replicate NODES One; silence = silence; room = 16345 } in
     let here : SpellsCluster (Cluster start) words = record {
       start = start;
       command_is = refl;
@@ -106,6 +106,7 @@ cluster_reads words n s nodes silence most are is_most reads_nodes reads_silence
       nodes_in = (is_nodes.0, rw (← is_most) is_nodes.1);
       silence_in = (is_silence.0, is_silence.1);
       versions_are = refl;
+      room_is = refl;
     } in
     reads_one (λ command. SpellsCluster command words) _ here (λ command spelt.
     let other = spelt.start in
@@ -113,46 +114,61 @@ cluster_reads words n s nodes silence most are is_most reads_nodes reads_silence
     let same_nodes : nodes ≡ other.nodes = only (IsCountWord most n) nodes other.nodes reads_nodes (spelt.nodes_in.0, rw is_most spelt.nodes_in.1, cc) in
     let same_silence : silence ≡ other.silence = only (IsSilenceWord s) silence other.silence reads_silence (spelt.silence_in.0, spelt.silence_in.1, cc) in
     let same_versions : replicate NODES One ≡ other.versions = sym spelt.versions_are in
-    let same_start : start ≡ other = λ i. record { nodes = same_nodes i; versions = same_versions i; silence = same_silence i } in
+    let same_room : 16345 ≡ other.room = sym spelt.room_is in
+    let same_start : start ≡ other = λ i. record { nodes = same_nodes i; versions = same_versions i; silence = same_silence i; room = same_room i } in
     ap Cluster same_start ∙ sym spelt.command_is)
 
-pub cluster2_reads : (words : List (List ℕ)) (n s v : List ℕ) (nodes silence : ℕ) (versions : List Version) → words ≡ n ∷ s ∷ v ∷ []
-    → Reads (IsCountWord NODES n) nodes → Reads (IsSilenceWord s) silence → Reads (λ vs. AreVersions nodes vs v) versions
-    → Reads (λ command. SpellsCluster2 command words) (Cluster (record { nodes = nodes; versions = versions; silence = silence }))
-cluster2_reads words n s v nodes silence versions are reads_nodes reads_silence reads_versions =
+pub cluster2_reads : (words : List (List ℕ)) (n s v : List ℕ) (rest : List (List ℕ)) (nodes silence : ℕ) (versions : List Version) (room : ℕ) → words ≡ n ∷ s ∷ v ∷ rest
+    → Reads (IsCountWord NODES n) nodes → Reads (IsSilenceWord s) silence → Reads (λ vs. AreVersions nodes vs v) versions → Reads (AreRoomWords rest) room
+    → Reads (λ command. SpellsCluster2 command words) (Cluster (record { nodes = nodes; versions = versions; silence = silence; room = room }))
+cluster2_reads words n s v rest nodes silence versions room are reads_nodes reads_silence reads_versions reads_room =
     let is_nodes = found (IsCountWord NODES n) nodes reads_nodes in
     let is_silence = found (IsSilenceWord s) silence reads_silence in
-    let start : ClusterStart = record { nodes = nodes; versions = versions; silence = silence } in
+    let start : ClusterStart = record { nodes = nodes; versions = versions; silence = silence; room = room } in
     let here : SpellsCluster2 (Cluster start) words = record {
       start = start;
       versions_word = v;
+      room_words = rest;
       command_is = refl;
       words_are = cc (are, is_nodes.2, is_silence.2);
       nodes_in = (is_nodes.0, is_nodes.1);
       silence_in = (is_silence.0, is_silence.1);
       versions_are = found (λ vs. AreVersions nodes vs v) versions reads_versions;
+      room_are = found (AreRoomWords rest) room reads_room;
     } in
     reads_one (λ command. SpellsCluster2 command words) _ here (λ command spelt.
     let other = spelt.start in
-    let same : n ∷ s ∷ v ∷ [] ≡ decimal other.nodes ∷ decimal other.silence ∷ spelt.versions_word ∷ [] = sym are ∙ spelt.words_are in
+    let same : n ∷ s ∷ v ∷ rest ≡ decimal other.nodes ∷ decimal other.silence ∷ spelt.versions_word ∷ spelt.room_words = sym are ∙ spelt.words_are in
     let same_nodes : nodes ≡ other.nodes = only (IsCountWord NODES n) nodes other.nodes reads_nodes (spelt.nodes_in.0, spelt.nodes_in.1, cc) in
     let same_silence : silence ≡ other.silence = only (IsSilenceWord s) silence other.silence reads_silence (spelt.silence_in.0, spelt.silence_in.1, cc) in
     let same_word : v ≡ spelt.versions_word = cc in
+    let same_rest : rest ≡ spelt.room_words = cc in
     let are_versions : AreVersions nodes other.versions v = rw (same_nodes, same_word) spelt.versions_are in
     let same_versions : versions ≡ other.versions = only (λ vs. AreVersions nodes vs v) versions other.versions reads_versions are_versions in
-    let same_start : start ≡ other = λ i. record { nodes = same_nodes i; versions = same_versions i; silence = same_silence i } in
+    let same_room : room ≡ other.room = only (AreRoomWords rest) room other.room reads_room (subst (λ ws. AreRoomWords ws other.room) (sym same_rest) spelt.room_are) in
+    let same_start : start ≡ other = λ i. record { nodes = same_nodes i; versions = same_versions i; silence = same_silence i; room = same_room i } in
     ap Cluster same_start ∙ sym spelt.command_is)
 
 -- where no versions are read, words start no cluster
-pub no_versions : (words : List (List ℕ)) (n s v : List ℕ) (nodes : ℕ) (command : Command) → words ≡ n ∷ s ∷ v ∷ [] → Reads (IsCountWord NODES n) nodes
+pub no_versions : (words : List (List ℕ)) (n s v : List ℕ) (rest : List (List ℕ)) (nodes : ℕ) (command : Command) → words ≡ n ∷ s ∷ v ∷ rest → Reads (IsCountWord NODES n) nodes
     → ((versions : List Version) → (None ≡ Some versions) ↔ AreVersions nodes versions v) → SpellsCluster2 command words → ⊥
-no_versions words n s v nodes command are reads_nodes none spelt =
+no_versions words n s v rest nodes command are reads_nodes none spelt =
     let other = spelt.start in
-    let same : n ∷ s ∷ v ∷ [] ≡ decimal other.nodes ∷ decimal other.silence ∷ spelt.versions_word ∷ [] = sym are ∙ spelt.words_are in
+    let same : n ∷ s ∷ v ∷ rest ≡ decimal other.nodes ∷ decimal other.silence ∷ spelt.versions_word ∷ spelt.room_words = sym are ∙ spelt.words_are in
     let same_nodes : nodes ≡ other.nodes = only (IsCountWord NODES n) nodes other.nodes reads_nodes (spelt.nodes_in.0, spelt.nodes_in.1, cc) in
     let same_word : v ≡ spelt.versions_word = cc in
     let are_versions : AreVersions nodes other.versions v = rw (same_nodes, same_word) spelt.versions_are in
     let is = (none other.versions).1 are_versions in
+    cc is
+
+-- where no room is read, words start no cluster
+pub no_room : (words : List (List ℕ)) (n s v : List ℕ) (rest : List (List ℕ)) (nodes : ℕ) (command : Command) → words ≡ n ∷ s ∷ v ∷ rest → Reads (IsCountWord NODES n) nodes
+    → ((room : ℕ) → (None ≡ Some room) ↔ AreRoomWords rest room) → SpellsCluster2 command words → ⊥
+no_room words n s v rest nodes command are reads_nodes none spelt =
+    let other = spelt.start in
+    let same : n ∷ s ∷ v ∷ rest ≡ decimal other.nodes ∷ decimal other.silence ∷ spelt.versions_word ∷ spelt.room_words = sym are ∙ spelt.words_are in
+    let same_rest : rest ≡ spelt.room_words = cc in
+    let is = (none other.room).1 (subst (λ ws. AreRoomWords ws other.room) (sym same_rest) spelt.room_are) in
     cc is
 
 pub tenant_reads : (nodes : ℕ) (words : List (List ℕ)) (a t gs m b w : List ℕ) (node : NodeId) (tenant groups : ℕ) (limits : ℕ × ℕ × ℕ) (token key : List ℕ) → words ≡ a ∷ t ∷ gs ∷ m ∷ b ∷ w ∷ []

@@ -1,6 +1,6 @@
 -- The grammar of a schedule: for each head, the words behind it and the command that they spell. Numbers are decimal,
 -- without a leading zero.
-use Rattle.std.specs.Prelude.{◌≡◌, ℕ, ◌<◌, ◌≤◌, List, [], ◌∷◌, Option, None, Some, replicate, decimal}
+use Rattle.std.specs.Prelude.{◌≡◌, ◌⊎◌, ℕ, ◌<◌, ◌≤◌, List, [], ◌∷◌, Option, None, Some, replicate, decimal}
 use Rattle.gb_types.specs.declared.limits.TheConstants.{NODES, SILENCE_MIN, SILENCE_MAX}
 use Rattle.gb_types.specs.PayloadWord.{payload_of}
 use Rattle.gb_types.specs.RequestWords.{IsShort, IsLong, SpellsSpec, SpellsMessage, group_word, IsGroup}
@@ -32,16 +32,23 @@ pub record SpellsCluster (command : Command) (words : List (List ℕ)) : Type 0 
   pub nodes_in : (1 ≤ start.nodes) × (start.nodes ≤ (limits_of One).nodes)
   pub silence_in : (SILENCE_MIN ≤ start.silence) × (start.silence ≤ SILENCE_MAX)
   pub versions_are : start.versions ≡ replicate NODES One
+  pub room_is : start.room ≡ 16345
 
--- `cluster2 N S VERS`: each node sends its own version
+-- words that name the most bytes of the items of a packet: one word, a number from 1 to 16,345, or none for 16,345
+abbrev pub AreRoomWords : List (List ℕ) → ℕ → Type 0
+AreRoomWords words room = ((words ≡ []) × (room ≡ 16345)) ⊎ ((words ≡ decimal room ∷ []) × (1 ≤ room) × (room ≤ 16345))
+
+-- `cluster2 N S VERS` or `cluster2 N S VERS ROOM`: each node sends its own version
 pub record SpellsCluster2 (command : Command) (words : List (List ℕ)) : Type 0 where
   pub start : ClusterStart
   pub versions_word : List ℕ
+  pub room_words : List (List ℕ)
   pub command_is : command ≡ Cluster start
-  pub words_are : words ≡ decimal start.nodes ∷ decimal start.silence ∷ versions_word ∷ []
+  pub words_are : words ≡ decimal start.nodes ∷ decimal start.silence ∷ versions_word ∷ room_words
   pub nodes_in : (1 ≤ start.nodes) × (start.nodes ≤ NODES)
   pub silence_in : (SILENCE_MIN ≤ start.silence) × (start.silence ≤ SILENCE_MAX)
   pub versions_are : AreVersions start.nodes start.versions versions_word
+  pub room_are : AreRoomWords room_words start.room
 
 -- `tenant A T GROUPS MSGS BYTES WINDOW`
 pub record SpellsTenant (nodes : ℕ) (command : Command) (words : List (List ℕ)) : Type 0 where

@@ -36,6 +36,8 @@ pub struct ClusterStart {
     pub versions: [Version; NODES],
     /// The number of ticks without a good packet after which a node is noticed: 2 to 1,000.
     pub silence: u16,
+    /// The most bytes of the items of a packet: 1 to 16,345.
+    pub room: u16,
 }
 
 /// What a line of a schedule asks for.

@@ -12,7 +12,7 @@ ghost use Rattle.gb_schedule.specs.declared.command.Command.{Command as TheComma
 ghost use Rattle.gb_schedule.specs.declared.command.Command.TheVariants as Commands;
 ghost use Rattle.gb_types.specs.declared.request.Request.TheVariants.{OpenGroup, ShutGroup, DropGroup};
 ghost use Rattle.gb_schedule.specs.declared.head.Head.TheVariants.{Open as OpenHead, Shut as ShutHead, Drop as DropHead, Say as SayHead};
-ghost use Rattle.gb_schedule.specs.Grammar.{NamesMember, NamesNoMember, NamesTwoNodes, SpellsCluster, SpellsCluster2, SpellsTenant, SpellsMake, SpellsNamed, SpellsSay, SpellsFetch, SpellsForge, SpellsPack, SpellsAgain, SpellsAck, SpellsArrive, SpellsNoise, SpellsTick, SpellsStop, Spells, IsCommandLine, IsInPlace, IsSilent, SilentLinesSpellNothing};
+ghost use Rattle.gb_schedule.specs.Grammar.{NamesMember, NamesNoMember, NamesTwoNodes, AreRoomWords, SpellsCluster, SpellsCluster2, SpellsTenant, SpellsMake, SpellsNamed, SpellsSay, SpellsFetch, SpellsForge, SpellsPack, SpellsAgain, SpellsAck, SpellsArrive, SpellsNoise, SpellsTick, SpellsStop, Spells, IsCommandLine, IsInPlace, IsSilent, SilentLinesSpellNothing};
 
 use crate::command::{ClusterStart, Command, Step};
 use crate::head::{Head, read_head};
@@ -40,6 +40,9 @@ use std::alloc::Global;
 const SHORT: u64 = 65_535;
 
 const LONG: u64 = 4_294_967_295;
+
+// The bytes that a packet of any version has room for.
+const ROOM: u16 = 16_345;
 
 // Returns the number that a word spells. `None` if it spells none from `least` to `most`.
 fn read_between(word: &[u8], least: u64, most: u64) -> Option<u64>
@@ -94,24 +97,41 @@ fn read_cluster(words: &[&[u8]]) -> Option<Command>
         nodes,
         versions: [Version::One; NODES],
         silence,
+        room: ROOM,
     }))
 }
 
-// cluster2 N S VERS
+// Reads the most bytes of the items of a packet: 1 to 16,345, and 16,345 where no word names them.
+fn read_room(words: &[&[u8]]) -> Option<u16>
+    ensures { (n : ℕ) → (result ≡ Some n) ↔ AreRoomWords (map (λ word. word.now) words.now) n }
+{
+    match words {
+        [] => Some(ROOM),
+        [room] => {
+            let room = read_between(room, 1, u64::from(ROOM))?;
+            Some(room as u16)
+        }
+        _ => None,
+    }
+}
+
+// cluster2 N S VERS, or cluster2 N S VERS ROOM
 fn read_cluster2(words: &[&[u8]]) -> Option<Command>
     ensures { (command : TheCommand) → (result ≡ Some command)
         ↔ SpellsCluster2 command (map (λ word. word.now) words.now) }
 {
-    let [nodes, silence, versions] = words else {
+    let [nodes, silence, versions, rest @ ..] = words else {
         return None;
     };
     let nodes = read_count(nodes, NODES as u8)?;
     let silence = read_silence(silence)?;
     let versions = read_versions(nodes, versions)?;
+    let room = read_room(rest)?;
     Some(Command::Cluster(ClusterStart {
         nodes,
         versions,
         silence,
+        room,
     }))
 }
 

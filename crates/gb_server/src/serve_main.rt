@@ -46,6 +46,11 @@ pub const PLACES: u16 = 1_024;
 // Definitions cite this value.
 const _: () = prove!(PLACES == 1_024);
 
+/// The most bytes of the items of a packet between nodes of one machine: those that a packet of any version has room for.
+const ROOM: u16 = 16_345;
+
+const _: () = prove!(ROOM == 16_345);
+
 // The host of a plan in a run. Each node sends the version of the plan.
 fn host_plan(plan: ServePlan, keys: Keys, run: u64) -> HostPlan
     ensures is { result ≡ host_of plan keys run }
@@ -57,6 +62,7 @@ fn host_plan(plan: ServePlan, keys: Keys, run: u64) -> HostPlan
         versions: [plan.version; NODES],
         silence: plan.silence,
         places: PLACES,
+        room: ROOM,
         cluster_key,
         admin_key,
     };

@@ -42,6 +42,7 @@ fn two_nodes() -> HostPlan
             versions: [Version::One; NODES],
             silence: 1_000,
             places: 1_024,
+            room: 16_345,
             cluster_key: [0x11; 32],
             admin_key: [0x22; 32],
         },

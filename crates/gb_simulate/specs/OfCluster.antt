@@ -10,7 +10,7 @@ use Rattle.gb_schedule.specs.Keys.{cluster_key, admin_key}
 
 -- what it is started with: the tenants of a node may make 1,024 groups in all
 abbrev pub plan_of : ClusterStart → Plan
-plan_of start = record { nodes = start.nodes; versions = start.versions; silence = start.silence; places = 1024; cluster_key = cluster_key; admin_key = admin_key }
+plan_of start = record { nodes = start.nodes; versions = start.versions; silence = start.silence; places = 1024; room = start.room; cluster_key = cluster_key; admin_key = admin_key }
 
 -- a cluster that was just started
 unfoldable pub started : ClusterStart → ClusterValue

@@ -44,6 +44,7 @@ fn plan_of(start: &ClusterStart) -> Plan
         versions: start.versions,
         silence: start.silence,
         places: PLACES,
+        room: start.room,
         cluster_key: CLUSTER_KEY,
         admin_key: ADMIN_KEY,
     }

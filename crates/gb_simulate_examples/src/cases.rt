@@ -314,6 +314,12 @@ const FULL_FRAME_OF_VERSION_3: Text = (
     "ok\nok\nok\nok\nok\nok\nok\nsaid 1\nsaid 2\nsaid 3\nsaid 4\nrefused 7 TooLong\npacket 1\ngood first 3 0\npacket 2\ngood first 1 0\n",
 );
 
+// Packets with room for 1,400 bytes of items; each `*` is a payload of 4,096 bytes, which is longer and travels by itself.
+const NARROW_FRAMES: Text = (
+    "cluster2 2 3 2,2 1400\ntenant 0 7 4 8 65536 8\nmake 0 7 1 beb 0,1 8 65536 8\nopen 0 7 1\ntenant 1 7 4 8 65536 8\nmake 1 7 1 beb 0,1 8 65536 8\nopen 1 7 1\nsay 0 7 1 61\nsay 0 7 1 62\nsay 0 7 1 *\nsay 0 7 1 *\nsay 0 7 1 63\npack 0 1\narrive 1\npack 0 1\narrive 2\npack 0 1\narrive 3\npack 0 1\narrive 4\npack 0 1\n",
+    "ok\nok\nok\nok\nok\nok\nok\nsaid 1\nsaid 2\nsaid 3\nsaid 4\nsaid 5\npacket 1\ngood first 2 0\npacket 2\ngood first 1 0\npacket 3\ngood first 1 0\npacket 4\ngood first 1 0\nnothing\n",
+);
+
 // Each `*` is a payload of 1,025 bytes: node 1 sends version 1, may not say it, and lets it fall where it comes.
 const UNLIKE_VERSIONS: Text = (
     "cluster2 2 3 2,1\ntenant 0 7 4 8 65536 8\nmake 0 7 1 beb 0,1 8 65536 8\nopen 0 7 1\ntenant 1 7 4 8 65536 8\nmake 1 7 1 beb 0,1 8 65536 8\nopen 1 7 1\nsay 1 7 1 *\nsay 0 7 1 *\npack 0 1\narrive 1\nfetch 1 7 1 0 16\n",
@@ -469,6 +475,7 @@ pub const LONG_PAYLOADS: &[Built] = &[
     (1_025, &[(ORDER_OF_REFUSALS, 0, 1)]),
     (4_096, &[(FULL_FRAME_OF_VERSION_2, 0, 1)]),
     (4_096, &[(FULL_FRAME_OF_VERSION_3, 0, 1)]),
+    (4_096, &[(NARROW_FRAMES, 0, 1)]),
     (1_025, &[(UNLIKE_VERSIONS, 0, 1)]),
     (1_024, &[(FAULTS_OF_VERSION_2, 0, 1)]),
 ];

@@ -1,4 +1,4 @@
--- From which nodes messages were taken in, after each call.
+-- The nodes from which messages were taken in, after each call.
 use Rattle.std.proofs.Common.{◌≡◌, ℕ, ◌||◌, ◌&&◌, Bool, true, false, List, [], ◌∷◌, ◌++◌, refl, sym, ◌∙◌, ap}
 use Rattle.std.specs.Prelude.{nat_eq, if◌then◌else◌}
 use Rattle.std.specs.Ordering.{nat_cmp}

@@ -1,4 +1,4 @@
--- What one call of the group's broadcast makes of a slot.
+-- The effect of one call of the group's broadcast on a slot.
 use Rattle.std.proofs.Common.{◌≡◌, ◌≢◌, ℕ, ◌<◌, true, false, List, zero, suc, [], ◌∷◌, ◌++◌, length, drop, refl, sym, ◌∙◌, ap, subst, arith, length-append}
 use Rattle.std.specs.Prelude.{if◌then◌else◌, map}
 use Rattle.std.specs.Ordering.{nat_cmp}

@@ -1,4 +1,4 @@
--- How many payload bytes of each origin there are.
+-- The number of payload bytes of each origin.
 use Rattle.std.proofs.Common.{◌≡◌, ◌≢◌, ℕ, ◌+◌, ◌≤◌, ◌<◌, true, false, List, [], ◌∷◌, ◌++◌, length, ◌∙◌, ap, sym, arith, refl, nat_eq, set, slice_index}
 use Rattle.std.specs.Prelude.{if◌then◌else◌}
 use Rattle.std.proofs.lemmas.Bool.{eqb-true, eq-eqb}

@@ -1,4 +1,4 @@
--- No more messages, and no more of their bytes, than a group has.
+-- The number of messages, and of their bytes, is at most that of the group.
 use Rattle.std.proofs.Common.{◌≡◌, ℕ, zero, suc, ◌+◌, ◌*◌, ◌≤◌, ◌<◌, Bool, true, false, cond, ◌||◌, ◌&&◌, List, [], ◌∷◌, ◌++◌, length, refl, sym, ◌∙◌, ap, subst, arith, nat_eq}
 use Rattle.std.specs.Prelude.{map, count_by, if◌then◌else◌}
 use Rattle.std.specs.FinSet as set

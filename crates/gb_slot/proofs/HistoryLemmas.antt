@@ -1,4 +1,4 @@
--- A slot stands for what its group was told.
+-- A slot stands for the history of its group's calls.
 use Rattle.std.proofs.Common.{◌≡◌, ◌≢◌, ℕ, ◌+◌, ◌-◌, ◌≤◌, ◌<◌, ◌||◌, ◌&&◌, not, Bool, true, false, List, [], ◌∷◌, ◌++◌, length, drop, refl, sym, ◌∙◌, ap, subst, arith, length-append}
 use Rattle.std.specs.Prelude.{if◌then◌else◌, map, nat_eq, nat_le, slice_index_or, slice_set}
 use Rattle.std.specs.Ordering.{nat_cmp}

@@ -1,4 +1,4 @@
--- What a slot took when it was made is enough for each call.
+-- The memory that a slot took when it was made is enough for each call.
 use Rattle.std.proofs.Common.{◌≡◌, ℕ, Bool, false, ◌&&◌, ◌*◌, ◌+◌, ◌≤◌, ◌<◌, List, [], ◌∷◌, ◌++◌, length, refl, sym, ◌∙◌, ap, subst, arith, length-append, vec_len, vec_capacity}
 use Rattle.std.specs.Prelude.{slice_index_or, if◌then◌else◌}
 use Rattle.std.specs.FinSet as set

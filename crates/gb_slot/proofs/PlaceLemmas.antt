@@ -1,4 +1,4 @@
--- What stands at the place of a message.
+-- The entry at the place of a message.
 use Rattle.std.proofs.Common.{◌≡◌, ℕ, zero, suc, ◌+◌, ◌≤◌, ◌<◌, ◌||◌, Bool, true, false, List, [], ◌∷◌, ◌++◌, length, take, drop, set, get_or, slice_get, Some, None, refl, sym, ◌∙◌, ap, subst, arith}
 use Rattle.std.specs.Prelude.{Option, IfSome, MatchOption, map, replicate, slice_range, is_some, if◌then◌else◌}
 use Rattle.std.specs.Ordering.{nat_cmp}

@@ -1,4 +1,4 @@
--- Each call leads to a state that its group's messages lead to, whose lists have no more than the group's messages.
+-- Each call leads to a state that the group's messages lead to, and whose lists have at most the group's messages.
 use Rattle.std.proofs.Common.{◌≡◌, ℕ, ◌+◌, ◌≤◌, ◌<◌, Bool, true, false, ◌&&◌, ◌||◌, not, List, [], ◌∷◌, ◌++◌, length, refl, sym, ◌∙◌, ap, subst, arith}
 use Rattle.std.specs.Prelude.{map, count_by, filter, nat_eq, nat_le, nat_lt, if◌then◌else◌}
 use Rattle.std.specs.Ordering.{nat_cmp}

@@ -1,4 +1,4 @@
--- Which items were taken to be sent.
+-- The items that were taken to be sent.
 use Rattle.std.proofs.Common.{◌≡◌, ◌≢◌, ℕ, zero, suc, ◌+◌, ◌≤◌, ◌<◌, true, false, List, [], ◌∷◌, length, drop, sym, ◌∙◌, ap, arith, length-drop}
 use Rattle.std.specs.Prelude.{if◌then◌else◌, map, replicate, slice_index_or}
 use Rattle.std.proofs.Math.Seq.{drop-nil}

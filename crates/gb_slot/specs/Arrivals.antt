@@ -1,4 +1,4 @@
--- From which nodes messages were taken in.
+-- The nodes from which messages were taken in.
 use Rattle.std.specs.Prelude.{Bool, List, [], ◌∷◌, ◌++◌, if◌then◌else◌}
 use Rattle.std.specs.Ordering.{nat_cmp}
 use Rattle.std.specs.FinSet as set
@@ -16,7 +16,7 @@ pub record Arrival : Type 0 where
 abbrev pub has_arrival : List Arrival → MsgId → Bool
 has_arrival arrivals m = list_any (λ a. same a.m m) arrivals
 
--- a message more, which was not taken in from a node
+-- one more message, which was taken in from no node
 abbrev pub with_message : List Arrival → MsgId → List Arrival
 with_message arrivals m = arrivals ++ record { m = m; from = set.empty } ∷ []
 
@@ -25,11 +25,11 @@ abbrev pub nodes_of : List Arrival → MsgId → set.FinSet nat_cmp
 nodes_of [] m = set.empty
 nodes_of (a ∷ arrivals) m = if same a.m m then a.from else nodes_of arrivals m
 
--- the message was taken in from a node more
+-- the message was taken in from one more node
 abbrev pub with_node : NodeId → MsgId → List Arrival → List Arrival
 with_node p m [] = []
 with_node p m (a ∷ arrivals) = if same a.m m then record { m = a.m; from = set.insert a.from p.number } ∷ arrivals else a ∷ with_node p m arrivals
 
--- after a message came from a node
+-- the arrivals after a message came from a node
 abbrev pub with_arrived : NodeId → MsgId → List Arrival → List Arrival
 with_arrived p m arrivals = with_node p m (if has_arrival arrivals m then arrivals else with_message arrivals m)

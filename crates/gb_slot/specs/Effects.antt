@@ -1,4 +1,4 @@
--- What a call of the broadcast gave is taken at once.
+-- The effects of a call of the broadcast are taken at once.
 use Rattle.std.specs.Prelude.{◌≡◌, ◌≤◌, ℕ, []}
 use Rattle.gb_types.specs.declared.spec.Spec.{Spec}
 use Rattle.gb_layer.specs.declared.effects.Effects.{Effects}
@@ -11,21 +11,21 @@ pub record IsEmpty (out : Effects) : Type 0 where
   pub sends : out.sends.items ≡ []
   pub ups : out.ups.items ≡ []
 
--- how many more sends fit into the memory that is there
+-- the number of further sends that fit into the memory
 abbrev pub free_sends : Effects → ℕ
 free_sends out = free out.sends
 
--- how many more pairs fit into the memory that is there
+-- the number of further pairs that fit into the memory
 abbrev pub free_ups : Effects → ℕ
 free_ups out = free out.ups
 
--- the lists are empty, and have the memory for what any call of a group with this spec gives
+-- the lists are empty, and have the memory for the effects of any call of a group with this spec
 pub record AreReady (spec : Spec) (out : Effects) : Type 0 where
   pub empty : IsEmpty out
   pub sends : (stack_need (limit_of spec)).sends ≤ free_sends out
   pub ups : (stack_need (limit_of spec)).ups ≤ free_ups out
 
--- the lists are empty, and have no less memory than before
+-- the lists are empty, and have at least as much memory as before
 pub record AreEmptied (before after : Effects) : Type 0 where
   pub empty : IsEmpty after
   pub sends : free_sends before ≤ free_sends after

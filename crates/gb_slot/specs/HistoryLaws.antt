@@ -1,4 +1,4 @@
--- What holds of a slot for every history that it stands for.
+-- The laws of a slot for every history that it stands for.
 use Rattle.gb_rules.specs.declared.phase.Phase.{Phase}
 use Rattle.std.specs.Prelude.{ℕ, ◌≡◌, ◌≢◌, ◌≤◌, ◌<◌, ◌+◌, true, false, List, [], ◌∷◌, ◌++◌, length, map, drop, nat_eq, if◌then◌else◌}
 use Rattle.std.specs.Ordering.{nat_cmp}
@@ -19,12 +19,12 @@ use Rattle.gb_slot.specs.Slot.{new_slot, shown, waiting, own_entry, slot_moved, 
 use Rattle.gb_slot.specs.SlotState.{SlotState}
 use Rattle.gb_slot.specs.StandsFor.{StandsFor, reaches}
 
--- a slot that was just made, at a node that has noticed these, stands for the notices of the other members among them
+-- a new slot, at a node that has noticed these nodes, stands for the notices of the other members among them
 abbrev pub FreshStands : Type 0
 FreshStands = (spec : Spec) (me : NodeId) (noticed : set.FinSet nat_cmp) (qs : List NodeId) → AllByRecursion (λ q. is_other spec me.number q.number ≡ true) qs
     → ((b : ℕ) → is_other spec me.number b ≡ true → set.contains noticed b ≡ list_any (λ q. nat_eq q.number b) qs) → StandsFor (new_slot spec me noticed) (map Crashed qs)
 
--- another phase changes nothing of it
+-- after a change of its phase the slot stands for the same history
 abbrev pub MovedStands : Type 0
 MovedStands = (s : SlotState) (told : List GroupCall) (phase : Phase) (reply : Reply) → StandsFor s told → StandsFor (slot_moved phase reply s) told
 
@@ -40,23 +40,23 @@ CameStands = (s : SlotState) (told : List GroupCall) (from : NodeId) (x : Entry)
 abbrev pub NoticedStands : Type 0
 NoticedStands = (s : SlotState) (told : List GroupCall) (q : NodeId) → StandsFor s told → is_other s.spec s.me.number q.number ≡ true → StandsFor (slot_noticed q s) (Crashed q ∷ told)
 
--- an acknowledgement changes nothing of it
+-- after an acknowledgement the slot stands for the same history
 abbrev pub DoneStands : Type 0
 DoneStands = (s : SlotState) (told : List GroupCall) (b : NodeId) (m : MsgId) → StandsFor s told → StandsFor (slot_done b m s) told
 
--- nor does taking items to be sent
+-- after items were taken to be sent the slot stands for the same history
 abbrev pub TookStands : Type 0
 TookStands = (s : SlotState) (told : List GroupCall) (b count : ℕ) → StandsFor s told → b < NODES → count ≤ length (waiting s b) → StandsFor (slot_took b count s) told
 
--- the log is what the history delivers
+-- the log has the messages that the history delivers
 abbrev pub LogIs : Type 0
 LogIs = (s : SlotState) (told : List GroupCall) → StandsFor s told → (shown s).log ≡ log_of s.spec s.me.number told
 
--- which items are let fall is read from the history
+-- which items are let fall is a function of the history
 abbrev pub FallsIs : Type 0
 FallsIs = (s : SlotState) (told : List GroupCall) (from : NodeId) (x : Entry) → StandsFor s told → falls from x s ≡ falls_after s.spec s.me.number told from.number x
 
--- what waits for a node grows by what the history broadcasts
+-- the items that wait for a node grow by those that the history broadcasts
 abbrev pub WaitingSaid : Type 0
 WaitingSaid = (s : SlotState) (told : List GroupCall) (payload : List ℕ) (b : ℕ) → StandsFor s told
     → waiting (slot_said payload (Said (s.said + 1)) s) b ≡ waiting s b ++ (if reaches s b then puts_of s.spec s.me.number (Own (own_entry s payload)) told else [])
@@ -70,7 +70,7 @@ abbrev pub WaitingNoticed : Type 0
 WaitingNoticed = (s : SlotState) (told : List GroupCall) (q : NodeId) (b : ℕ) → StandsFor s told → is_other s.spec s.me.number q.number ≡ true
     → waiting (slot_noticed q s) b ≡ (if nat_eq b q.number then [] else waiting s b ++ (if reaches s b then puts_of s.spec s.me.number (Crashed q) told else []))
 
--- what waits for a node shrinks by what is taken for it
+-- the items that wait for a node shrink by those that are taken for it
 abbrev pub WaitingTook : Type 0
 WaitingTook = (s : SlotState) (told : List GroupCall) (b count : ℕ) → StandsFor s told → b < NODES → waiting (slot_took b count s) b ≡ drop count (waiting s b)
 

@@ -1,4 +1,4 @@
--- What was put out.
+-- The messages that were put out.
 use Rattle.std.specs.Prelude.{List, map}
 use Rattle.gb_types.specs.declared.message.MsgId.{MsgId}
 use Rattle.gb_slot.specs.declared.put_out.PutOut.{PutOut}

@@ -12,25 +12,25 @@ use Rattle.gb_rules.specs.Group.{is_member}
 use Rattle.gb_slot.specs.SlotState.{SlotState}
 use Rattle.gb_slot.specs.StandsFor.{StandsFor}
 
--- the messages of a group, where what a call gives is taken at once
+-- the messages of a group, where the effects of each call are taken at once
 abbrev pub limit_of : Spec → Limit
 limit_of spec = record { members = spec.members; msgs = spec.msgs; calls = 1 }
 
--- so many messages are said in a group at most
+-- the greatest number of messages that are said in a group
 abbrev pub most_messages : Spec → ℕ
 most_messages spec = message_count (limit_of spec)
 
--- with so many payload bytes in all
+-- the greatest number of payload bytes that are said in a group
 abbrev pub most_bytes : Spec → ℕ
 most_bytes spec = common spec.members spec.members * spec.bytes
 
--- the state stands for some history, in which each member, this one among them, said what the spec lets it say
+-- the state stands for some history, in which each member, this one too, said no more than the spec allows
 pub record IsReached (s : SlotState) : Type 0 where
   pub told : List GroupCall
   pub stands : StandsFor s told
   pub member : is_member s.spec s.me.number ≡ true
-  -- the messages that are known are the group's, each stands there once
+  -- the messages that are known are the group's, and each occurs once
   pub counted : list_all (is_counted (limit_of s.spec)) (map message_of s.store) ≡ true
   pub once : IsDistinct same (map message_of s.store)
-  -- and of each origin they have no more bytes than it may say
+  -- for each origin they have at most the payload bytes that it may say
   pub bytes : (origin : ℕ) → bytes_of origin s.store ≤ s.spec.bytes

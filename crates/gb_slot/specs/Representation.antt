@@ -7,7 +7,7 @@ use Rattle.gb_slot.specs.Reached.{limit_of, most_messages, most_bytes}
 use Rattle.gb_slot.specs.SlotState.{SlotState}
 use Rattle.gb_slot.specs.declared.slot.Slot.TheInside.{Inside}
 
--- the state, where the broadcast remembers this
+-- the state of a slot whose broadcast is in this state
 abbrev pub state_of : StackState → Inside → SlotState
 state_of stack s = record {
   spec = s.spec;
@@ -24,7 +24,7 @@ state_of stack s = record {
   acknowledged = s.acknowledged.items;
 }
 
--- all calls that are to come find the memory that the group has alone
+-- the group's own memory is enough for all later calls
 pub record HasMemory (s : Inside) : Type 0 where
   pub stack : IsWhole s.stack (limit_of s.spec)
   pub log : most_messages s.spec ≤ vec_capacity s.log

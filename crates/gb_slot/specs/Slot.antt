@@ -1,4 +1,4 @@
--- What each call makes of a slot.
+-- The effect of each call on a slot.
 use Rattle.std.specs.Prelude.{ℕ, ◌≤◌, ◌<◌, ◌+◌, ◌-◌, ◌&&◌, ◌||◌, not, Bool, List, [], ◌∷◌, ◌++◌, length, map, drop, replicate, nat_eq, nat_le, slice_index_or, slice_set, if◌then◌else◌}
 use Rattle.std.specs.Ordering.{nat_cmp}
 use Rattle.std.specs.FinSet as set
@@ -31,7 +31,7 @@ pub record IsWithinLimits (spec : Spec) : Type 0 where
   pub bytes : spec.bytes ≤ BYTES
   pub window : spec.window ≤ WINDOW
 
--- a slot in which nothing has happened, at a node that has noticed these
+-- a slot in which nothing has happened, at a node that has noticed these nodes
 abbrev pub new_slot : Spec → NodeId → set.FinSet nat_cmp → SlotState
 new_slot spec me noticed = record { spec = spec; me = me; phase = Made; noticed = noticed; stack = new_stack spec.kind me spec.members noticed; arrivals = []; said = 0; store = []; log = []; outgoing = []; taken = replicate NODES 0; acknowledged = [] }
 
@@ -39,20 +39,20 @@ new_slot spec me noticed = record { spec = spec; me = me; phase = Made; noticed 
 abbrev pub is_finished : Spec → set.FinSet nat_cmp → set.FinSet nat_cmp → Bool
 is_finished spec noticed by = list_all (λ b. set.contains noticed b || set.contains by b) (set.items spec.members)
 
--- how many messages are unfinished, of which these nodes each have one for good
+-- the number of unfinished messages; for each message the list has the nodes that have it for good
 abbrev pub unfinished_of : Spec → set.FinSet nat_cmp → List (set.FinSet nat_cmp) → ℕ
 unfinished_of spec noticed [] = 0
 unfinished_of spec noticed (by ∷ bys) = (if is_finished spec noticed by then 0 else 1) + unfinished_of spec noticed bys
 
--- what its member has used here
+-- what its member has used of its budgets and its window
 abbrev pub usage_of : SlotState → Usage
 usage_of s = record { said = s.said; bytes = bytes_of s.me.number s.store; unfinished = unfinished_of s.spec s.noticed s.acknowledged }
 
--- what the rules read of it
+-- what the rules read of the slot
 abbrev pub shown : SlotState → Shown
 shown s = record { spec = s.spec; phase = s.phase; usage = usage_of s; log = map (entry_in s.store) s.log }
 
--- how many items were taken to be sent to the node
+-- the number of items that were taken to be sent to the node
 abbrev pub taken_for : SlotState → ℕ → ℕ
 taken_for s b = slice_index_or s.taken b 0
 
@@ -60,18 +60,18 @@ taken_for s b = slice_index_or s.taken b 0
 abbrev pub waiting : SlotState → ℕ → List Entry
 waiting s b = if is_other s.spec s.me.number b && not (set.contains s.noticed b) then map (entry_in s.store) (drop (taken_for s b) s.outgoing) else []
 
--- after the answer to a request that moves it to a phase
+-- the slot after the answer to a request that moves it to a phase
 abbrev pub slot_moved : Phase → Reply → SlotState → SlotState
 slot_moved phase Done s = record s { phase = phase }
 slot_moved phase reply s = s
 
--- what was taken in from other nodes, with what a call brings
+-- the arrivals from other nodes, with those of a call
 abbrev pub with_arrival : Call → List Arrival → List Arrival
 with_arrival (Say m) arrivals = with_message arrivals m
 with_arrival (Came p m) arrivals = with_arrived p m arrivals
 with_arrival (Notice q) arrivals = arrivals
 
--- the broadcast takes a call, after which these messages are known
+-- the slot after a call of its broadcast; `store` are the messages that are then known
 abbrev pub slot_called : Call → List Entry → SlotState → SlotState
 slot_called c store s = record s {
   stack = stack_next s.stack c;
@@ -85,7 +85,7 @@ slot_called c store s = record s {
 abbrev pub own_entry : SlotState → List ℕ → Entry
 own_entry s payload = record { origin = s.me; seq = s.said + 1; payload = payload }
 
--- after the answer to a request that says something
+-- the slot after the answer to a request that says something
 abbrev pub slot_said : List ℕ → Reply → SlotState → SlotState
 slot_said payload (Said seq) s =
     let next = slot_called (Say (message_of (own_entry s payload))) (s.store ++ own_entry s payload ∷ []) s in
@@ -96,15 +96,15 @@ slot_said payload reply s = s
 abbrev pub came_before : SlotState → ℕ → MsgId → Bool
 came_before s from m = set.contains (nodes_of s.arrivals m) from
 
--- whether an item is let fall
+-- true if an item is let fall
 abbrev pub falls : NodeId → Entry → SlotState → Bool
 falls from x s = is_let_fall s.spec s.me.number from.number x (came_before s from.number (message_of x)) (has s.store (message_of x)) (bytes_of x.origin.number s.store)
 
--- an item came from a node
+-- the slot after an item came from a node
 abbrev pub slot_came : NodeId → Entry → SlotState → SlotState
 slot_came from x s = if falls from x s then s else slot_called (Came from (message_of x)) (with_new s.store x) s
 
--- another member is noticed to have crashed
+-- the slot after another member is noticed to have crashed
 abbrev pub slot_noticed : NodeId → SlotState → SlotState
 slot_noticed q s =
     if is_other s.spec s.me.number q.number then (
@@ -112,19 +112,19 @@ slot_noticed q s =
     record next { noticed = set.insert s.noticed q.number }
     ) else s
 
--- the message with the number from 1 is acknowledged by a node, too
+-- the message with this number, counted from 1, is acknowledged by one more node
 abbrev pub with_acknowledgement : ℕ → NodeId → List (set.FinSet nat_cmp) → List (set.FinSet nat_cmp)
 with_acknowledgement seq b acknowledged =
     if nat_le 1 seq && nat_le seq (length acknowledged) then slice_set acknowledged (seq - 1) (set.insert (slice_index_or acknowledged (seq - 1) set.empty) b.number) else acknowledged
 
--- the nodes that have each message that was said here for good, after a node acknowledged a message
+-- for each message that was said here, the nodes that have it for good, after a node acknowledged a message
 abbrev pub acknowledged_by : NodeId → MsgId → SlotState → List (set.FinSet nat_cmp)
 acknowledged_by b m s = if nat_eq m.origin.number s.me.number then with_acknowledgement m.seq b s.acknowledged else s.acknowledged
 
--- a node acknowledged a message
+-- the slot after a node acknowledged a message
 abbrev pub slot_done : NodeId → MsgId → SlotState → SlotState
 slot_done b m s = record s { acknowledged = acknowledged_by b m s }
 
--- so many more items are taken to be sent to the node
+-- the slot after `count` more items were taken to be sent to the node b
 abbrev pub slot_took : ℕ → ℕ → SlotState → SlotState
 slot_took b count s = record s { taken = slice_set s.taken b (taken_for s b + count) }

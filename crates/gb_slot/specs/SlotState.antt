@@ -17,19 +17,19 @@ pub record SlotState : Type 0 where
   pub phase : Phase
   -- the nodes that were noticed
   pub noticed : set.FinSet nat_cmp
-  -- what the broadcast remembers
+  -- the state of the broadcast
   pub stack : StackState
   -- for each message that is known, in order, the nodes from which it was taken in
   pub arrivals : List Arrival
-  -- how many messages were said here
+  -- the number of messages that were said here
   pub said : ℕ
   -- the messages that are known, in the order in which they became known
   pub store : List Entry
-  -- what was delivered, in order
+  -- the delivered messages, in order
   pub log : List MsgId
-  -- what was broadcast, in order: the same for each other member
+  -- the broadcast messages, in order: the same for each other member
   pub outgoing : List MsgId
-  -- for each node, how many of these were taken to be sent to it
+  -- for each node, the number of these that were taken to be sent to it
   pub taken : List ℕ
   -- for each message that was said here, in order, the nodes that have it for good: this one, and those that acknowledged it
   pub acknowledged : List (set.FinSet nat_cmp)

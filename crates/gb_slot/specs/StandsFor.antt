@@ -19,25 +19,25 @@ use Rattle.gb_slot.specs.SlotState.{SlotState}
 abbrev pub reaches : SlotState → ℕ → Bool
 reaches s b = is_other s.spec s.me.number b && not (set.contains s.noticed b)
 
--- the slot stands for the history: what it holds is what the history gives
+-- the slot stands for the history: it holds what the history delivers and broadcasts
 pub record StandsFor (s : SlotState) (told : List GroupCall) : Type 0 where
   pub lawful : IsLawful s.me.number (calls_of told)
-  -- the broadcast was told the same
+  -- the broadcast is in the state after the calls of the history
   pub stack : IsStackAfter s.spec.kind s.me s.spec.members (calls_of told) s.stack
   pub store : s.store ≡ known told
   pub log : s.log ≡ delivered s.spec s.me.number told
   pub said : s.said ≡ said_in told
-  -- no own message beyond those that were said is known
+  -- each own message that is mentioned is one of those that were said
   pub own : (x : MsgId) → x.origin.number ≡ s.me.number → s.said < x.seq → mentions (calls_of told) x ≡ false
-  -- what was taken in from another node is what came from it
+  -- the items that were taken in from another node are those that came from it
   pub arrivals : (p : ℕ) (x : MsgId) → p ≢ s.me.number → came_before s p x ≡ came_from s.me.number (calls_of told) p x
-  -- what was broadcast is all that the broadcast sent
+  -- the outgoing messages are all that the broadcast sent
   pub sent : s.outgoing ≡ all_sends stack_next stack_gives (untold_stack s.spec.kind s.me s.spec.members) (calls_of told)
-  -- it is known, and no more of it was taken than there is
+  -- each of them is known, and at most all of them were taken
   pub outgoing : AllByRecursion (λ m. has s.store m ≡ true) s.outgoing
   pub taken : (b : ℕ) → taken_for s b ≤ length s.outgoing
   pub size : length s.taken ≡ NODES
   -- the other members that were noticed are those of the history
   pub noticed : (b : ℕ) → is_other s.spec s.me.number b ≡ true → set.contains s.noticed b ≡ was_noticed (calls_of told) b
-  -- acknowledgements are kept for each message that was said
+  -- the acknowledgements are kept for each message that was said
   pub acknowledged : length s.acknowledged ≡ s.said

@@ -1,4 +1,4 @@
--- For whom something waits.
+-- The nodes for which something waits.
 use Rattle.std.specs.Prelude.{ℕ, ◌≡◌, ◌<◌, true, length}
 use Rattle.gb_slot.specs.Slot.{waiting}
 use Rattle.gb_slot.specs.SlotState.{SlotState}

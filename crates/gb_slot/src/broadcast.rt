@@ -1,4 +1,4 @@
-//! A call of a group's broadcast, and where what it gives goes.
+//! A call of a group's broadcast, and where its effects go.
 ghost use Rattle.std.specs.Prelude.{◌≡◌, ◌≤◌, ◌+◌, ◌++◌, ◌^◌, true, [], length, map, Some, slice_get, vec_len, vec_capacity};
 ghost use Rattle.gb_layer.specs.Limit.{Limit, is_within};
 ghost use Rattle.gb_layer.specs.Machine.{messages};
@@ -17,7 +17,7 @@ use gb_layer::layer::Layer;
 use gb_stack::stack::Stack;
 use gb_types::message::MsgId;
 
-/// A message that is put out, with its place in the store.
+/// Returns a message to put out, with its place in the store.
 fn placed(store: &Store, m: MsgId) -> PutOut
     ensures message { result.m ≡ m }
     ensures place { has store.now.entries m ≡ true → length store.now.entries ≤ 2 ^ 16 → slice_get (map message_of store.now.entries) result.place ≡ Some m }
@@ -29,7 +29,7 @@ fn placed(store: &Store, m: MsgId) -> PutOut
     PutOut { m, place }
 }
 
-/// Moves the messages that were sent to the end of those that are put out, where there is room.
+/// Moves the messages that were sent to the end of the outgoing messages, which have the capacity.
 #[inline(always)]
 fn put_out(outgoing: &mut Vec<PutOut>, sends: &mut Vec<MsgId>, store: &Store)
     requires { vec_len outgoing.old + vec_len sends.old ≤ vec_capacity outgoing.old }
@@ -44,7 +44,7 @@ fn put_out(outgoing: &mut Vec<PutOut>, sends: &mut Vec<MsgId>, store: &Store)
     sends.clear();
 }
 
-/// Moves the messages that came up to the end of the log, where there is room.
+/// Moves the messages that came up to the end of the log, which has the capacity.
 fn write_log(log: &mut Vec<MsgId>, ups: &mut Vec<Up>)
     requires { vec_len log.old + vec_len ups.old ≤ vec_capacity log.old }
     ensures log { log.new.items ≡ log.old.items ++ messages ups.old.items }
@@ -58,8 +58,8 @@ fn write_log(log: &mut Vec<MsgId>, ups: &mut Vec<Up>)
     ups.clear();
 }
 
-/// The broadcast takes a call. What it sends is put out, with its place in the store, what comes up goes to the log.
-/// Takes no memory.
+/// Makes a call of the broadcast. Each message that it sends is put out, with its place in the store. Each message that comes up is
+/// appended to the log. Takes no memory.
 #[inline(always)]
 pub(crate) fn take_call(
     stack: &mut Stack,

@@ -1,7 +1,7 @@
-//! What a slot stands for.
+//! Laws: the histories that a slot stands for.
 ghost use Rattle.gb_slot.specs.HistoryLaws.{FreshStands, MovedStands, SaidStands, CameStands, NoticedStands, DoneStands, TookStands, LogIs, FallsIs, WaitingSaid, WaitingCame, WaitingNoticed, WaitingTook, WaitingElsewhere};
 
-/// What a slot holds is, for every history that it stands for, what the group's broadcast makes of the history.
+/// For every history that a slot stands for, the slot holds what the group's broadcast makes of the history.
 pub fn stands()
     ensures fresh { FreshStands }
     ensures opened { MovedStands }

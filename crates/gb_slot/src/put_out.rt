@@ -1,8 +1,8 @@
 //! A message that was put out.
 use gb_types::message::MsgId;
 
-/// A message that was put out, and the place in the store where its payload is looked for first. The place is for speed
-/// alone: what stands there is tested.
+/// A message that was put out, and the place in the store where its payload is looked for first. The place only saves a search: the
+/// message at the place is compared.
 #[derive(Clone, Copy)]
 pub struct PutOut {
     pub m: MsgId,

@@ -36,9 +36,8 @@ use gb_types::version::Version;
 use std::alloc::Global;
 use std::marker::Model;
 
-/// One group at one node. Contracts see its state. All its memory is taken when it is made: no call but `new` and
-/// `fetch`, whose answer is built anew, takes memory. The lists in which a call of the broadcast gives what it gives are
-/// lent by the caller, and emptied by each call.
+/// One group at one node. Contracts see its state. All its memory is taken when it is made: only `new`, and `fetch`, which builds
+/// its answer, take memory. The caller lends the lists for the effects of a call of the broadcast; each call empties them.
 pub struct Slot {
     alloc: Global,
     spec: Spec,
@@ -46,14 +45,14 @@ pub struct Slot {
     phase: Phase,
     noticed: NodeSet,
     said: u32,
-    /// How many of the messages that were said here are unfinished.
+    /// The number of messages that were said here and are unfinished.
     unfinished: u32,
     /// For each message that was said here, in order, the nodes that have it for good.
     acknowledged: Vec<NodeSet>,
     stack: Stack,
-    /// All that was delivered, in order.
+    /// The delivered messages, in order.
     log: Vec<MsgId>,
-    /// All that was broadcast, in order.
+    /// The broadcast messages, in order.
     outgoing: Vec<PutOut>,
     store: Store,
     taken: [u16; NODES],
@@ -105,16 +104,16 @@ impl Model for Slot {
 impl Slot {
     ghost use Rattle.gb_slot.specs.Slot.{IsWithinLimits, new_slot, usage_of, shown, waiting, slot_moved, slot_said, slot_came, slot_noticed, slot_done, slot_took};
 
-    /// A group that was just made at the node `me`, one of its members, which has noticed these nodes. What is
-    /// broadcast is put out to the other members.
+    /// Returns a new group at the node `me`, one of its members, which has noticed these nodes. What is broadcast is put out to the
+    /// other members.
     ///
-    /// All memory that the group alone ever needs is taken here. With n members, each of whom says `msgs` messages with
-    /// `bytes` payload bytes in all at most, this is n * `bytes` payload bytes; 22 bytes for each of the n * `msgs`
-    /// messages (12 in the store, 4 in the log, 6 in what is put out), 10 more where the broadcast relays or keeps the order of
-    /// each origin; 2 bytes for each of `msgs` own messages, for the nodes that have it for good; and tables by which
-    /// messages are found, of 2 * `msgs` bytes for each node up to the last member: one, and one more where the broadcast
-    /// relays or keeps an order. The lists get room for what a call of the group gives, 4 and 6 bytes for each message,
-    /// which all groups to which they are lent share. OutOfMemory where it is not there.
+    /// All memory that the group alone ever needs is taken here. Let n be the number of members; each says at most `msgs` messages
+    /// with at most `bytes` payload bytes in all. The group takes n * `bytes` payload bytes. It takes 22 bytes for each of the n *
+    /// `msgs` messages: 12 in the store, 4 in the log, 6 in what is put out; and 12 more if the broadcast relays or keeps the order
+    /// of each origin. It takes 4 bytes for each of `msgs` own messages, for the nodes that have it for good. It takes one table,
+    /// by which messages are found, of 2 * `msgs` bytes for each node up to the last member; and a second one if the broadcast
+    /// relays or keeps an order. The lists of effects get capacity for a call of the group, 4 and 6 bytes for each message. All
+    /// groups to which these lists are lent share it. OutOfMemory if memory is refused.
     pub fn new(
         alloc: Global,
         spec: Spec,
@@ -136,7 +135,7 @@ impl Slot {
         }
     }
 
-    /// The group, with all its memory.
+    /// Returns the group, with all its memory.
     fn make(
         alloc: Global,
         spec: Spec,
@@ -172,7 +171,7 @@ impl Slot {
         })
     }
 
-    /// Opens the group for its member's messages. WrongPhase where it was opened before.
+    /// Opens the group for its member's messages. WrongPhase if it was opened before.
     pub fn open_group(&mut self) -> Result<(), Refusal>
         ensures answer { done_reply result ≡ open_answer (shown self.old) }
         ensures present { is_gone self.old.phase ≡ false }
@@ -183,7 +182,7 @@ impl Slot {
         Ok(())
     }
 
-    /// Shuts the group: its member says nothing more. WrongPhase where it is not open.
+    /// Shuts the group: its member says nothing more. WrongPhase if it is not open.
     pub fn shut_group(&mut self) -> Result<(), Refusal>
         ensures answer { done_reply result ≡ shut_answer (shown self.old) }
         ensures present { is_gone self.old.phase ≡ false }
@@ -194,7 +193,7 @@ impl Slot {
         Ok(())
     }
 
-    /// What the member here has used of what the spec lets it have.
+    /// Returns what the member here has used of its budgets and its window.
     fn usage(&self) -> Usage
         ensures { result ≡ usage_of self.now }
     {
@@ -205,11 +204,11 @@ impl Slot {
         }
     }
 
-    /// Broadcasts a payload at a node that sends this version of the packet text, under the number `seq` if the caller names
-    /// one, and returns its number here. WrongPhase where the group is not open, BadPlace where the caller names another
-    /// number than the next, TooLong above the version's payload limit, Budget where all messages are said, Bytes where the
-    /// payload's bytes would be too many in all, Window where too many messages are unfinished, in this order. A message that
-    /// gets a number is put out at once: something waits then for each other member that was not noticed. Takes no memory.
+    /// Broadcasts a payload at a node that sends this version of the packet text, under the number `seq` if the caller names one.
+    /// Returns its number here. Refusals, in this order: WrongPhase if the group is not open, BadPlace if the caller names another
+    /// number than the next, TooLong above the version's payload limit, Budget if all messages are said, Bytes if the payload bytes
+    /// would exceed their limit, Window if too many messages are unfinished. A message that gets a number is put out at once: then
+    /// something waits for each other member that was not noticed. Takes no memory.
     pub fn say(
         &mut self,
         version: Version,
@@ -255,9 +254,9 @@ impl Slot {
         Ok(number)
     }
 
-    /// Takes an item that came from a node: it is let fall, or the broadcast takes it. Says whether something was put out:
-    /// where it was, something waits for each other member that was not noticed, and where it was not, as many items wait
-    /// for each node as before. Takes no memory.
+    /// Receives an item from a node: it is let fall, or handed to the broadcast. Returns true if something was put out. If so,
+    /// something waits for each other member that was not noticed; if not, as many items wait for each node as before. Takes no
+    /// memory.
     pub fn came(
         &mut self,
         from: NodeId,
@@ -272,7 +271,7 @@ impl Slot {
         ensures unchanged { result ≡ false → (dest : ℕ) → length (waiting self.new dest) ≡ length (waiting self.old dest) }
         ensures effects { AreEmptied effects.old effects.new }
     {
-        // (the tables cover the members' messages alone)
+        // (the tables cover only the members' messages)
         if !self.spec.members.contains(origin) {
             return false;
         }
@@ -298,8 +297,8 @@ impl Slot {
         self.outgoing.len() != count
     }
 
-    /// Takes note that a node is noticed to have crashed. Nothing waits for it from then on. A node that is no
-    /// other member changes nothing. Takes no memory.
+    /// Records that a node is noticed to have crashed. From then on nothing waits for it. If the node is not another member,
+    /// nothing changes. Takes no memory.
     pub fn notice(&mut self, who: NodeId, effects: &mut Effects)
         requires ready { AreReady self.old.spec effects.old }
         ensures state { self.new ≡ slot_noticed who self.old }
@@ -320,8 +319,7 @@ impl Slot {
         );
     }
 
-    /// Takes an acknowledgement of a message from a node: it is kept where the message was said here. Takes no
-    /// memory.
+    /// Records that a node acknowledged a message, if the message was said here. Takes no memory.
     pub fn done(&mut self, dest: NodeId, m: MsgId)
         ensures state { self.new ≡ slot_done dest m self.old }
     {
@@ -337,15 +335,15 @@ impl Slot {
         }
     }
 
-    /// For each message that was said here, in order, the nodes that have it for good.
+    /// Returns, for each message that was said here, in order, the nodes that have it for good.
     pub fn acknowledged(&self) -> &[NodeSet]
         ensures { result.now ≡ self.now.acknowledged }
     {
         &self.acknowledged
     }
 
-    /// The log from a place on, `max` entries at most; places count from 0. BadPlace where the place is above
-    /// the log's length, or more than 16 entries are asked for.
+    /// Returns up to `max` entries of the log, from place `from` on; places count from 0. BadPlace if `from` is above the log's
+    /// length, or if more than 16 entries are asked for.
     pub fn fetch(&self, from: u32, max: u32) -> Result<Vec<Entry>, Refusal>
         ensures answer { IsReply (fetch_answer (shown self.now) from max) (log_reply result) }
         ensures present { is_gone self.now.phase ≡ false }
@@ -360,35 +358,35 @@ impl Slot {
         }
     }
 
-    /// What the group was made with.
+    /// Returns the parameters of the group.
     pub fn spec(&self) -> &Spec
         ensures { result.now ≡ self.now.spec }
     {
         &self.spec
     }
 
-    /// The group's phase.
+    /// Returns the group's phase.
     pub fn phase(&self) -> Phase
         ensures { result ≡ self.now.phase }
     {
         self.phase
     }
 
-    /// The number of messages that were delivered here.
+    /// Returns the number of messages that were delivered here.
     pub fn log_len(&self) -> usize
         ensures { result ≡ length self.now.log }
     {
         self.log.len()
     }
 
-    /// The group's members.
+    /// Returns the group's members.
     pub fn members(&self) -> &NodeSet
         ensures { result.now ≡ self.now.spec.members }
     {
         &self.spec.members
     }
 
-    /// This node, and those that were noticed: of the members, those to which nothing is put out.
+    /// Returns this node and the noticed nodes. Of the members, these are the ones to which nothing is put out.
     pub fn passed_over(&self) -> NodeSet
         ensures { result ≡ set.insert self.now.noticed self.now.me.number }
     {
@@ -397,14 +395,14 @@ impl Slot {
         nodes
     }
 
-    /// Whether items are put out to the node: it is another member, and was not noticed.
+    /// Returns true if items are put out to the node: it is another member, and was not noticed.
     fn is_reached(&self, dest: NodeId) -> bool
         ensures { result ≡ (is_other self.now.spec self.now.me.number dest.number && not (set.contains self.now.noticed dest.number)) }
     {
         self.spec.members.contains(dest) && dest != self.me && !self.noticed.contains(dest)
     }
 
-    /// The first item that waits for the node, with its payload.
+    /// Returns the first item that waits for the node, with its payload. `None` if nothing waits.
     pub fn peek(&self, dest: NodeId) -> Option<(MsgId, &[u8])>
         ensures { MatchOption result (waiting self.now dest.number ≡ []) (λ r. (rest : List EntryValue) × (waiting self.now dest.number ≡ record { origin = r.0.origin; seq = r.0.seq; payload = r.1.now } ∷ rest)) }
     {
@@ -420,7 +418,7 @@ impl Slot {
         }
     }
 
-    /// The item at a place among those that wait for the node, with its payload; places count from 0.
+    /// Returns the item at a place among those that wait for the node, with its payload; places count from 0.
     #[inline(always)]
     pub fn peek_at(&self, dest: NodeId, place: usize) -> (MsgId, &[u8])
         requires { place < length (waiting self.now dest.number) }
@@ -434,7 +432,7 @@ impl Slot {
         )
     }
 
-    /// How many items wait for the node.
+    /// Returns the number of items that wait for the node.
     pub fn waiting_for(&self, dest: NodeId) -> usize
         ensures { result ≡ length (waiting self.now dest.number) }
     {
@@ -446,7 +444,7 @@ impl Slot {
             .saturating_sub(self.taken[dest.index()] as usize)
     }
 
-    /// The first items that wait for the node, so many, are taken to be sent to it.
+    /// Marks the first `count` items that wait for the node as taken to be sent to it.
     pub fn took(&mut self, dest: NodeId, count: usize)
         requires { count ≤ length (waiting self.old dest.number) }
         ensures state { self.new ≡ slot_took dest.number count self.old }
@@ -456,8 +454,8 @@ impl Slot {
     }
 }
 
-/// The broadcast of a group at the node `me`, which has noticed these nodes. It has all its memory, and the lists have
-/// the memory for what a call of it gives.
+/// Returns the broadcast of a group at the node `me`, which has noticed these nodes. It has all its memory, and the lists have the
+/// memory for the effects of a call.
 fn broadcast(
     alloc: Global,
     spec: &Spec,
@@ -484,8 +482,8 @@ fn broadcast(
     Ok(stack)
 }
 
-/// The store and the lists of a group, empty, with all their memory: the log, what is put out, and for each message that
-/// is said here the nodes that have it for good.
+/// Returns the store and the lists of a group, empty, with all their memory: the log, the messages that are put out, and for each
+/// message that is said here the nodes that have it for good.
 fn memory(
     alloc: Global,
     spec: &Spec,
@@ -509,7 +507,7 @@ fn memory(
     Ok((store, log, outgoing, acknowledged))
 }
 
-/// The lists of a group, with memory for so many messages, and so many of them said here.
+/// Returns the lists of a group, with memory for `messages` messages, of which `own` are said here.
 fn lists(
     alloc: Global,
     messages: usize,
@@ -528,14 +526,14 @@ fn lists(
     Ok((log, outgoing, acknowledged))
 }
 
-/// The item at a place.
+/// Returns the item at an index, if there is one.
 fn item_at(items: &[PutOut], at: usize) -> Option<PutOut>
     ensures { result ≡ slice_get items.now at }
 {
     items.get(at).copied()
 }
 
-/// The messages from a place on, so many at most.
+/// Returns up to `most` messages, from index `from` on.
 fn page(messages: &[MsgId], from: usize, most: usize) -> &[MsgId]
     requires { from ≤ length messages.now }
     ensures { result.now ≡ take most (drop from messages.entry.now) }
@@ -545,8 +543,8 @@ fn page(messages: &[MsgId], from: usize, most: usize) -> &[MsgId]
     &rest[..count]
 }
 
-/// The messages, with their payloads. Each is looked for behind the one before it, since most of a log stands in the
-/// store in its order.
+/// Returns copies of the messages with their payloads. Each is looked for behind the one before it, since most of a log is in the
+/// store in the same order.
 fn copies(alloc: Global, store: &Store, messages: &[MsgId]) -> Result<Vec<Entry>, OutOfMemory>
     ensures ok { IfOk result (λ v. v.items ≡ map (entry_in store.now.entries) messages.now) }
     ensures lack { OnErr result (messages.now ≢ []) }

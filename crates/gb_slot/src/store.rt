@@ -1,4 +1,4 @@
-//! The messages that a slot knows, with their payloads. Each payload stands here once.
+//! The messages that a slot knows, with their payloads. Each payload is stored once.
 ghost use Rattle.std.specs.Prelude.{◌≡◌, ℕ, true, false, ◌+◌, ◌^◌, ◌≤◌, ◌<◌, ◌∷◌, ◌++◌, [], List, length, map, drop, Some, slice_get, slice_index, vec_len, vec_capacity, IsOk, IfOk, OnOk, OnErr, MatchOption, IfSome, is_some};
 ghost use Rattle.std.specs.List.{list_any, IsDistinct};
 ghost use Rattle.gb_history.specs.Messages.{has, payload_in, entry_in, with_new, bytes_of};
@@ -23,8 +23,8 @@ use gb_types::payload::{INLINE, Payload};
 use std::alloc::Global;
 use std::marker::Model;
 
-/// A message, where its payload begins among the bytes, and the nodes from which it was taken in. The payload ends where
-/// the next one begins.
+/// A message, the index at which its payload begins among the bytes, and the nodes from which it was taken in. The payload ends
+/// where the next one begins.
 #[derive(Drop)]
 pub struct Kept {
     start: u32,
@@ -32,14 +32,14 @@ pub struct Kept {
     from: NodeSet,
 }
 
-/// Messages in the order in which they were put in, with their payloads. All memory is taken when it is made.
+/// Messages in the order in which they were added, with their payloads. All memory is taken when the store is made.
 #[derive(Drop)]
 pub struct Store {
     kept: Vec<Kept>,
     bytes: Vec<u8>,
-    /// Where each message is kept.
+    /// The place of each message.
     table: Table,
-    /// How many of the bytes are of each origin's messages.
+    /// For each origin, the number of payload bytes of its messages.
     seen: [u32; NODES],
 }
 
@@ -63,14 +63,14 @@ impl Model for Store {
     ghost invariant = { λ s. AreInside s.bytes.items s.kept.items × AreCounted s.seen (entries_of s.bytes.items s.kept.items) × (leads s.table.width s.table.told.items 0 (messages_of s.kept.items) ≡ true) × (vec_len s.bytes ≡ total_bytes (entries_of s.bytes.items s.kept.items)) × IsDistinct same (messages_of s.kept.items) };
 }
 
-/// Whether what is kept is of the message.
+/// Returns true if `kept` is of the message.
 fn is_of(kept: &Kept, m: MsgId) -> bool
     ensures { result ≡ is_of m kept.now }
 {
     kept.m == m
 }
 
-/// Where the message is kept, found by a table.
+/// Returns the place of the message, found by the table. `None` if it is not kept.
 fn find(kept: &[Kept], table: &Table, m: MsgId) -> Option<usize>
     requires { leads table.now.width table.now.told.items 0 (messages_of kept.now) ≡ true }
     ensures { IsPlaceOf m kept.now result }
@@ -84,8 +84,7 @@ fn find(kept: &[Kept], table: &Table, m: MsgId) -> Option<usize>
     None
 }
 
-/// Where the message is kept. It is looked for in the last place first: a message is asked for most often when it was just
-/// put in.
+/// Returns the place of the message. The last place is compared first: most often the message was just added.
 fn find_recent(kept: &[Kept], table: &Table, m: MsgId) -> Option<usize>
     requires leads { leads table.now.width table.now.told.items 0 (messages_of kept.now) ≡ true }
     requires once { IsDistinct same (messages_of kept.now) }
@@ -98,7 +97,7 @@ fn find_recent(kept: &[Kept], table: &Table, m: MsgId) -> Option<usize>
     find(kept, table, m)
 }
 
-/// Where the payload that is kept at a place ends.
+/// Returns the index at which the payload at a place ends.
 fn end_of(kept: &[Kept], bytes: &[u8], place: usize) -> usize
     requires { place < length kept.now }
     ensures { result ≡ start_of bytes.now (drop (place + 1) kept.now) }
@@ -109,7 +108,7 @@ fn end_of(kept: &[Kept], bytes: &[u8], place: usize) -> usize
     }
 }
 
-/// The payload of the message that is kept at a place.
+/// Returns the payload of the message at a place.
 fn part<'a>(kept: &[Kept], bytes: &'a [u8], place: usize) -> &'a [u8]
     requires inside { AreInside bytes.now kept.now }
     requires within { place < length kept.now }
@@ -118,7 +117,7 @@ fn part<'a>(kept: &[Kept], bytes: &'a [u8], place: usize) -> &'a [u8]
     &bytes[kept[place].start as usize..end_of(kept, bytes, place)]
 }
 
-/// The payload of a message, none where it is not there.
+/// Returns the payload of a message. It is empty if the message is not kept.
 fn payload_of<'a>(kept: &[Kept], table: &Table, bytes: &'a [u8], m: MsgId) -> &'a [u8]
     requires inside { AreInside bytes.now kept.now }
     requires leads { leads table.now.width table.now.told.items 0 (messages_of kept.now) ≡ true }
@@ -130,7 +129,7 @@ fn payload_of<'a>(kept: &[Kept], table: &Table, bytes: &'a [u8], m: MsgId) -> &'
     }
 }
 
-/// The payload of a message, none where it is not there. It is looked for at this place first.
+/// Returns the payload of a message. It is empty if the message is not kept. `place` is compared first.
 #[inline(always)]
 fn payload_at<'a>(kept: &[Kept], table: &Table, bytes: &'a [u8], m: MsgId, place: usize) -> &'a [u8]
     requires inside { AreInside bytes.now kept.now }
@@ -144,7 +143,7 @@ fn payload_at<'a>(kept: &[Kept], table: &Table, bytes: &'a [u8], m: MsgId, place
     payload_of(kept, table, bytes, m)
 }
 
-/// Where a message is kept, and whether it was taken in from a node.
+/// Returns the place of a message, and true if it was taken in from `from`.
 fn known_from(kept: &[Kept], table: &Table, m: MsgId, from: NodeId) -> (Option<usize>, bool)
     requires { leads table.now.width table.now.told.items 0 (messages_of kept.now) ≡ true }
     ensures place { IsPlaceOf m kept.now result.0 }
@@ -156,7 +155,7 @@ fn known_from(kept: &[Kept], table: &Table, m: MsgId, from: NodeId) -> (Option<u
     }
 }
 
-/// The message that is kept at this place was taken in from a node.
+/// Records that the message at this place was taken in from a node.
 fn mark(kept: &mut Vec<Kept>, place: usize, from: NodeId)
     requires { place < vec_len kept.old }
     ensures arrivals { (m : MsgId) → IsPlaceOf m kept.old.items (Some place) → arrivals_of kept.new.items ≡ with_node from m (arrivals_of kept.old.items) }
@@ -168,7 +167,7 @@ fn mark(kept: &mut Vec<Kept>, place: usize, from: NodeId)
     kept[place].from.insert(from);
 }
 
-/// Adds a message that was taken in from these nodes, and its payload, at the end, where there is room.
+/// Appends a message that was taken in from these nodes, and its payload. There is memory for both.
 fn append(kept: &mut Vec<Kept>, bytes: &mut Vec<u8>, m: MsgId, payload: &[u8], from: NodeSet)
     requires place { vec_len kept.old < vec_capacity kept.old }
     requires room { vec_len bytes.old + length payload.now ≤ vec_capacity bytes.old }
@@ -186,7 +185,7 @@ fn append(kept: &mut Vec<Kept>, bytes: &mut Vec<u8>, m: MsgId, payload: &[u8], f
     kept.push_reserved(Kept { start, m, from });
 }
 
-/// Counts a payload's bytes as its origin's.
+/// Counts a payload's bytes for its origin.
 fn count_bytes(seen: &mut [u32; NODES], m: MsgId, payload: &[u8])
     requires { slice_index seen.old m.origin.number + length payload.now ≤ BYTES }
     ensures { (entries : List EntryValue) → AreCounted seen.old entries → AreCounted seen.new (entries ++ record { origin = m.origin; seq = m.seq; payload = payload.now } ∷ []) }
@@ -194,8 +193,8 @@ fn count_bytes(seen: &mut [u32; NODES], m: MsgId, payload: &[u8])
     seen[m.origin.index()] += payload.len() as u32;
 }
 
-/// Puts a message with few bytes behind entries with room for one more. The bytes are copied to where they stay: made first and
-/// then moved, such an entry was measured to take longer.
+/// Appends a message of at most `INLINE` bytes to entries with capacity for one more. The bytes are copied to where they stay. To
+/// build such an entry first and then move it was measured to take longer.
 fn put_few(m: MsgId, payload: &[u8], entries: &mut Vec<Entry>)
     requires few { length payload.now ≤ INLINE }
     requires room { vec_len entries.old < vec_capacity entries.old }
@@ -212,8 +211,8 @@ fn put_few(m: MsgId, payload: &[u8], entries: &mut Vec<Entry>)
 }
 
 impl Store {
-    /// Nothing, with memory for so many messages, with so many bytes of payload in all. The members' messages numbered
-    /// up to this width are found at once, others by a search.
+    /// Returns an empty store, with memory for a number of messages and a number of payload bytes in all. The members' messages
+    /// numbered from 1 to `width` are found by a table, others by a search.
     pub fn new(
         alloc: Global,
         members: &NodeSet,
@@ -234,7 +233,7 @@ impl Store {
         })
     }
 
-    /// Puts a message in at the end that was taken in from these nodes, and copies its payload. Takes no memory.
+    /// Appends a message that was taken in from these nodes, and a copy of its payload. Takes no memory.
     #[inline(always)]
     fn add(&mut self, m: MsgId, payload: &[u8], from: NodeSet)
         requires new { has self.old.entries m ≡ false }
@@ -250,7 +249,7 @@ impl Store {
         count_bytes(&mut self.seen, m, payload);
     }
 
-    /// Puts a message in at the end, and copies its payload. Takes no memory.
+    /// Appends a message and a copy of its payload. Takes no memory.
     pub fn push(&mut self, m: MsgId, payload: &[u8])
         requires new { has self.old.entries m ≡ false }
         requires place { length self.old.entries < self.old.places }
@@ -263,15 +262,14 @@ impl Store {
         self.add(m, payload, NodeSet::new());
     }
 
-    /// How many payload bytes an origin's messages have.
+    /// Returns the number of payload bytes of an origin's messages.
     pub fn bytes_of(&self, origin: NodeId) -> u32
         ensures { result ≡ bytes_of origin.number self.now.entries }
     {
         self.seen[origin.index()]
     }
 
-    /// Where the message stands among those that are there, if it does, and whether it was taken in from the node; places
-    /// count from 0.
+    /// Returns the place of the message, if it is here, and true if it was taken in from the node. Places count from 0.
     pub fn known_from(&self, m: MsgId, from: NodeId) -> (Option<usize>, bool)
         ensures place { IfSome result.0 (λ i. slice_get (map message_of self.now.entries) i ≡ Some m) }
         ensures entries { is_some result.0 ≡ has self.now.entries m }
@@ -281,7 +279,7 @@ impl Store {
         known_from(&self.kept, &self.table, m, from)
     }
 
-    /// The message that stands at this place was taken in from the node.
+    /// Records that the message at this place was taken in from the node.
     fn mark(&mut self, place: usize, from: NodeId)
         requires { place < length self.old.entries }
         ensures arrivals { (m : MsgId) → slice_get (map message_of self.old.entries) place ≡ Some m → self.new.arrivals ≡ with_node from m self.old.arrivals }
@@ -291,8 +289,8 @@ impl Store {
         mark(&mut self.kept, place, from);
     }
 
-    /// Takes a message in from a node; `known` is where it stands here, if it does. Where it is not known here yet it is
-    /// put in, and its payload copied. Takes no memory.
+    /// Records that a message was taken in from a node. `known` is its place, if it is here. If it is not here yet, it is appended,
+    /// with a copy of its payload. Takes no memory.
     pub fn take_in(&mut self, m: MsgId, payload: &[u8], from: NodeId, known: Option<usize>)
         requires stands { IfSome known (λ i. slice_get (map message_of self.old.entries) i ≡ Some m) }
         requires known { is_some known ≡ has self.old.entries m }
@@ -314,15 +312,15 @@ impl Store {
         }
     }
 
-    /// Where the message stands among those that are there, if it does; places count from 0.
+    /// Returns the place of the message, if it is here. Places count from 0.
     pub fn place(&self, m: MsgId) -> Option<usize>
         ensures { MatchOption result (has self.now.entries m ≡ false) (λ i. slice_get (map message_of self.now.entries) i ≡ Some m) }
     {
         find_recent(&self.kept, &self.table, m)
     }
 
-    /// The payload of a message, none where it is not there. Where the message stands at this place, nothing is
-    /// searched. Inlined: packing calls it twice an item.
+    /// Returns the payload of a message. It is empty if the message is not here. If the message is at `place`, no search is made.
+    /// Inlined: packing calls it twice an item.
     #[inline(always)]
     pub fn payload_at(&self, m: MsgId, place: usize) -> &[u8]
         ensures { result.now ≡ payload_in self.now.entries m }
@@ -330,8 +328,8 @@ impl Store {
         payload_at(&self.kept, &self.table, &self.bytes, m, place)
     }
 
-    /// Puts the message with its payload, copied, behind entries with room for one more. Where it stands at this place,
-    /// nothing is searched. Without memory nothing has changed.
+    /// Appends the message with a copy of its payload to entries with capacity for one more. If the message is at `place`, no
+    /// search is made. If memory is refused, the entries stay as they were.
     pub fn put_entry(
         &self,
         alloc: Global,

@@ -1,4 +1,4 @@
-//! How many own messages of a member are unfinished.
+//! The number of a member's own messages that are unfinished.
 ghost use Rattle.std.specs.Prelude.{◌≡◌, ◌+◌, ◌≤◌, ◌<◌, ◌++◌, ◌∷◌, [], length, vec_len, vec_capacity, if◌then◌else◌};
 ghost use Rattle.gb_types.specs.declared.limits.TheConstants.{MESSAGES};
 ghost use Rattle.gb_slot.specs.Slot.{is_finished, unfinished_of, with_acknowledgement};
@@ -6,7 +6,7 @@ ghost use Rattle.gb_slot.specs.Slot.{is_finished, unfinished_of, with_acknowledg
 use gb_types::node::{NodeId, NodeSet};
 use gb_types::spec::Spec;
 
-/// 1 where a message is unfinished that these nodes have for good, else 0.
+/// Returns 1 if a message that the nodes `by` have for good is unfinished, else 0.
 fn count_one(spec: &Spec, noticed: &NodeSet, by: &NodeSet) -> u32
     ensures value { result ≡ (if is_finished spec.now noticed.now by.now then 0 else 1) }
     ensures most { result ≤ 1 }
@@ -18,7 +18,7 @@ fn count_one(spec: &Spec, noticed: &NodeSet, by: &NodeSet) -> u32
     }
 }
 
-/// How many messages are unfinished, of which these nodes each have one for good.
+/// Returns the number of unfinished messages. For each message `acknowledged` has the nodes that have it for good.
 pub(crate) fn count_unfinished(spec: &Spec, noticed: &NodeSet, acknowledged: &[NodeSet]) -> u32
     requires { length acknowledged.now ≤ MESSAGES }
     ensures { result ≡ unfinished_of spec.now noticed.now acknowledged.now }
@@ -30,7 +30,7 @@ pub(crate) fn count_unfinished(spec: &Spec, noticed: &NodeSet, acknowledged: &[N
     count
 }
 
-/// One more message was said, which these nodes have for good. Gives how many are unfinished then.
+/// Adds a message that was said, which these nodes have for good. Returns the number of unfinished messages afterwards.
 pub(crate) fn add_said(
     spec: &Spec,
     noticed: &NodeSet,
@@ -51,7 +51,8 @@ pub(crate) fn add_said(
     unfinished + more
 }
 
-/// The message with the number from 1 is acknowledged by a node, too. Gives how many are unfinished then.
+/// Records that a node acknowledged the message with this number, counted from 1. Returns the number of unfinished messages
+/// afterwards.
 pub(crate) fn acknowledge(
     spec: &Spec,
     noticed: &NodeSet,

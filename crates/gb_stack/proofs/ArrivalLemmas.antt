@@ -1,4 +1,4 @@
--- What a message that comes, or is said, makes of the entries of a relay.
+-- The effect of a message that comes, or is said, on the entries of a relay.
 use Rattle.std.proofs.Common.{◌≡◌, ◌≢◌, ℕ, Bool, true, false, cond, ◌&&◌, ◌||◌, List, [], ◌∷◌, ◌++◌, map, filter, set, slice_get, Some, refl, ap, ◌∙◌, sym, subst, zero, suc}
 use Rattle.std.specs.List.{list_any, IsDistinct, AllByRecursion}
 use Rattle.gb_types.specs.declared.node.NodeId.{NodeId}

@@ -1,4 +1,4 @@
--- What a history mentions, delivers and broadcasts, in every module of broadcast and in every kind.
+-- The messages that a history mentions, delivers and broadcasts, in every module of broadcast and in every kind.
 use Rattle.std.proofs.Common.{◌≡◌, ℕ, Bool, true, false, cond, not, ◌&&◌, ◌||◌, nat_eq, List, [], ◌∷◌, ◌++◌, filter, length, ◌≤◌, refl, sym, ap, ◌∙◌, arith, subst}
 use Rattle.std.specs.List.{AllByRecursion, list_all, list_any}
 use Rattle.std.proofs.lemmas.List.Elements.{filter-append}

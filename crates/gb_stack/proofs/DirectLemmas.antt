@@ -1,4 +1,4 @@
--- Best-effort broadcast: what is remembered of a message that moved, and what comes up.
+-- Best-effort broadcast: the record of a message, and the pairs that come up.
 use Rattle.std.proofs.Common.{◌≡◌, ℕ, ◌+◌, ◌<◌, ◌≤◌, Bool, true, false, cond, not, ◌||◌, nat_eq, List, [], ◌∷◌, length, map, filter, set, get_or, slice_get, Some, count_by, refl, ap, ◌∙◌, sym, subst, arith}
 use Rattle.std.specs.List.{IsDistinct}
 use Rattle.std.proofs.Math.Bool.{or-true, or-false}

@@ -1,4 +1,4 @@
--- What the records with one of a message are in the columns.
+-- The columns after a record of one message is added.
 use Rattle.std.proofs.Common.{◌≡◌, ℕ, ◌+◌, ◌<◌, ◌≤◌, Bool, true, false, cond, List, [], ◌∷◌, ◌++◌, length, map, set, get_or, slice_get, Some, count_by, refl, ap, ◌∙◌, sym, arith, zero, suc}
 use Rattle.std.specs.List.{list_any}
 use Rattle.std.proofs.lemmas.List.{map-append}

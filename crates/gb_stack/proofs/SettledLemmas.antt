@@ -1,4 +1,4 @@
--- A call about a message changes one entry, where nothing else is due.
+-- A call about a message changes one entry, if no other entry is due.
 use Rattle.std.proofs.Common.{◌≡◌, ◌≢◌, ℕ, Bool, true, false, cond, List, [], ◌∷◌, map, filter, set, slice_get, Some, refl, ap, ◌∙◌, sym, zero, suc, arith}
 use Rattle.std.specs.Prelude.{option_map}
 use Rattle.std.specs.List.{IsDistinct, AllByRecursion}

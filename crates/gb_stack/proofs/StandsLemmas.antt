@@ -1,4 +1,4 @@
--- What a stack gives over a history is what its kind delivers and broadcasts.
+-- Over a history a stack hands up and sends what its kind delivers and broadcasts.
 use Rattle.std.proofs.Common.{◌≡◌, ℕ, true, false, cond, List, [], ◌∷◌, ◌++◌, refl, ap, ◌∙◌}
 use Rattle.std.specs.FinSet as set
 use Rattle.gb_types.specs.declared.kind.Kind.{Kind}

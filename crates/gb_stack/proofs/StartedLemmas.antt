@@ -1,4 +1,4 @@
--- What the laws of a layer say of one that started with notices.
+-- The laws of a layer for one that started with notices.
 use Rattle.std.proofs.Common.{◌≡◌, ◌≢◌, ℕ, ◌+◌, ◌≤◌, false, ◌&&◌, ◌||◌, not, nat_eq, nat_lt, List, [], ◌∷◌, ◌++◌, map, count_by, refl, ap, ◌∙◌, sym, arith, subst, append_assoc}
 use Rattle.std.specs.FinSet as set
 use Rattle.std.specs.List.{list_any}

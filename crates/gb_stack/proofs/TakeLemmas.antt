@@ -1,4 +1,4 @@
--- What a call leaves a stack of its room and of its memory.
+-- The room and the memory of a stack after a call.
 use Rattle.std.proofs.Common.{◌≡◌, ℕ, ◌+◌, ◌-◌, ◌≤◌, true, false, ◌||◌, if◌then◌else◌, List, ◌++◌, length, vec_len, vec_capacity, refl, ap, ◌∙◌, sym, arith}
 use Rattle.std.specs.Global.{Vec}
 use Rattle.std.specs.List.{list_all}

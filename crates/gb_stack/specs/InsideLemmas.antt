@@ -1,4 +1,4 @@
--- A layer's memory as one case of another's: the laws go over.
+-- The laws of a layer hold also where its state is one case of another state.
 use Rattle.std.proofs.Common.{◌≡◌, ℕ, ◌≤◌, true, false, List, [], ◌∷◌, ◌++◌, count_by, refl, ap, ◌∙◌, sym, subst}
 use Rattle.gb_types.specs.declared.node.NodeId.{NodeId}
 use Rattle.gb_types.specs.declared.message.MsgId.{MsgId}

@@ -31,16 +31,16 @@ is_fifo kind.FifoAllAck = true
 is_fifo kind.FifoMajority = true
 is_fifo kind = false
 
--- what the call c delivers: what the module delivers, or what that sets free in the order of each origin
+-- the messages that the call c delivers: those that the module delivers, or those that they release in the order of each origin
 abbrev pub kind_delivers : Kind → ℕ → List ℕ → Call → List Call → List MsgId
 kind_delivers kind me members c past =
     if is_fifo kind then ordered_after (log (module_of kind) me members past) (delivers (module_of kind) me members c past)
     else delivers (module_of kind) me members c past
 
--- what the call c broadcasts from here: an order changes nothing of it
+-- the messages that the call c broadcasts from here: an order changes nothing of them
 abbrev pub kind_broadcasts : Kind → ℕ → Call → List Call → List MsgId
 kind_broadcasts kind me c past = broadcasts (module_of kind) me c past
 
--- the log: what the module delivered, the oldest first, or this in the order of each origin
+-- the log: the messages that the module delivered, the oldest first; for a fifo kind in the order of each origin
 abbrev pub kind_log : Kind → ℕ → List ℕ → List Call → List MsgId
 kind_log kind me members past = if is_fifo kind then in_order (log (module_of kind) me members past) else log (module_of kind) me members past

@@ -1,4 +1,4 @@
--- What holds of every log of a kind, whatever the history.
+-- The laws of every log of a kind, whatever the history.
 use Rattle.std.specs.Prelude.{◌≡◌, ℕ, ◌≤◌, true, List, [], ◌∷◌, filter, length, if◌then◌else◌}
 use Rattle.std.specs.List.{AllByRecursion}
 use Rattle.gb_types.specs.Message.{same}
@@ -11,19 +11,19 @@ use Rattle.gb_layer.specs.declared.call.Call.{Call}
 use Rattle.gb_fifo.specs.Order.{RunsFromOne}
 use Rattle.gb_stack.specs.Kinds.{is_fifo, kind_log}
 
--- in the log of a fifo kind each origin's messages stand as 1, 2, 3, .., without a gap
+-- the log of a fifo kind has each origin's messages as 1, 2, 3, .., without a gap
 abbrev pub FifoLogRuns : Type 0
 FifoLogRuns = (kind : Kind) (me : ℕ) (members : List ℕ) (past : List Call) → is_fifo kind ≡ true → RunsFromOne (kind_log kind me members past)
 
--- no message stands in a log twice
+-- each message is in a log at most once
 abbrev pub KindLogOnce : Type 0
 KindLogOnce = (kind : Kind) (me : ℕ) (members : List ℕ) (past : List Call) (m : MsgId) → length (filter (λ x. same x m) (kind_log kind me members past)) ≤ 1
 
--- only what was said or came stands in a log
+-- each message in a log was said or came
 abbrev pub KindLogMentioned : Type 0
 KindLogMentioned = (kind : Kind) (me : ℕ) (members : List ℕ) (past : List Call) → AllByRecursion (λ m. mentions past m ≡ true) (kind_log kind me members past)
 
--- in the log of a module each message stands that is delivered, once, and no other
+-- the log of a module has exactly the messages that are delivered, each once
 abbrev pub ModuleLogHasDelivered : Type 0
 ModuleLogHasDelivered =
     (base : BroadcastModule) (me : ℕ) (members : List ℕ) (past : List Call) (m : MsgId)

@@ -1,4 +1,4 @@
--- What a broadcast that relays does with a message that is due.
+-- The step of a broadcast that relays, for a message that is due.
 use Rattle.std.specs.Prelude.{◌≡◌, ℕ, Bool, true, false, cond, List, slice_get}
 use Rattle.std.specs.Coded.{Unit-prop}
 use Rattle.std.proofs.Props.{props}
@@ -12,11 +12,11 @@ use Rattle.gb_layer.specs.Rule.{Nodes, Rules}
 use Rattle.gb_reliable.specs.Rules.{lazy_rules, eager_rules}
 use Rattle.gb_uniform.specs.Rules.{all_ack_rules, majority_ack_rules}
 
--- an entry once its message was sent, where that was due
+-- an entry after its message was sent, if that was due
 abbrev pub passed_on : Rules → NodeId → Nodes → Entry → Entry
 passed_on rules me noticed e = cond (due_to_relay rules me noticed e) (sent_entry e) e
 
--- and once it came up, where that was due
+-- an entry after it was also handed up, if that was due
 abbrev pub settled : Rules → NodeId → Nodes → Nodes → Entry → Entry
 settled rules me members noticed e = handed (due_to_deliver rules me members noticed) (passed_on rules me noticed e)
 
@@ -25,7 +25,7 @@ pub record AreQuiescent (rules : Rules) (me : NodeId) (members noticed : Nodes) 
   pub relay : (k : ℕ) (e : Entry) → slice_get es k ≡ Some e → due_to_relay rules me noticed e ≡ false
   pub deliver : (k : ℕ) (e : Entry) → slice_get es k ≡ Some e → due_to_deliver rules me members noticed e ≡ false
 
--- a module's broadcast remembers messages
+-- a module's broadcast records messages
 abbrev pub relays : BroadcastModule → Bool
 relays BestEffort = false
 relays Lazy = true
@@ -33,7 +33,7 @@ relays Eager = true
 relays AllAck = true
 relays MajorityAck = true
 
--- where the module relays, nothing is due
+-- if the module relays, nothing is due
 abbrev pub IsQuiescent : BroadcastModule → NodeId → Nodes → Nodes → List Entry → Type 0
 IsQuiescent BestEffort me members noticed es = Unit {0}
 IsQuiescent Lazy me members noticed es = AreQuiescent lazy_rules me members noticed es

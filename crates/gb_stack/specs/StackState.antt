@@ -1,4 +1,4 @@
--- What a stack remembers, what a call gives and what is remembered then.
+-- The state of a stack, the effects of a call, and the state after it.
 use Rattle.std.specs.Prelude.{[], if◌then◌else◌}
 use Rattle.std.specs.FinSet as set
 use Rattle.gb_types.specs.declared.kind.Kind.{Kind}
@@ -17,7 +17,7 @@ use Rattle.gb_fifo.specs.FifoMachine.{FifoState, fifo_next, fifo_gives}
 use Rattle.gb_fifo.specs.FifoRoom as fifo_room
 use Rattle.gb_stack.specs.Kinds.{module_of, is_fifo}
 
--- what a broadcast without an order remembers: best effort its node alone, the others as a relay
+-- the state of a broadcast without an order: for best effort its node alone, for the others that of a relay
 pub data UnorderedState : Type 0 where
   best_effort : NodeId → UnorderedState
   lazy : State NodeId → UnorderedState
@@ -25,20 +25,20 @@ pub data UnorderedState : Type 0 where
   all_ack : State NodeId → UnorderedState
   majority_ack : State NodeId → UnorderedState
 
--- what a stack remembers
+-- the state of a stack
 pub data StackState : Type 0 where
   unordered : UnorderedState → StackState
   fifo : FifoState UnorderedState → StackState
 
--- what a relay over `Beb` remembers after a call, by its rules
+-- the state of a relay over `Beb` after a call, by its rules
 abbrev pub relayed_next : Rules → State NodeId → Call → State NodeId
 relayed_next = relay_next (λ s _. s) beb_gives (λ s. s)
 
--- what the call gives
+-- the effects of the call
 abbrev pub relayed_gives : Rules → State NodeId → Call → Gives
 relayed_gives = relay_gives (λ s _. s) beb_gives (λ s. s)
 
--- what is remembered after a call
+-- the state after a call
 abbrev pub unordered_next : UnorderedState → Call → UnorderedState
 unordered_next (best_effort s) c = best_effort s
 unordered_next (lazy s) c = lazy (relayed_next lazy_rules s c)
@@ -46,7 +46,7 @@ unordered_next (eager s) c = eager (relayed_next eager_rules s c)
 unordered_next (all_ack s) c = all_ack (relayed_next all_ack_rules s c)
 unordered_next (majority_ack s) c = majority_ack (relayed_next majority_ack_rules s c)
 
--- what the call gives
+-- the effects of the call
 abbrev pub unordered_gives : UnorderedState → Call → Gives
 unordered_gives (best_effort s) c = own_gives (beb_gives s c)
 unordered_gives (lazy s) c = relayed_gives lazy_rules s c
@@ -62,7 +62,7 @@ unordered_me (eager s) = s.lower
 unordered_me (all_ack s) = s.lower
 unordered_me (majority_ack s) = s.lower
 
--- it was told nothing yet
+-- no call was made yet
 abbrev pub IsUntold : UnorderedState → Type 0
 IsUntold (best_effort s) = Unit {0}
 IsUntold (lazy s) = relay.IsNew (λ _. Unit {0}) s
@@ -70,7 +70,7 @@ IsUntold (eager s) = relay.IsNew (λ _. Unit {0}) s
 IsUntold (all_ack s) = relay.IsNew (λ _. Unit {0}) s
 IsUntold (majority_ack s) = relay.IsNew (λ _. Unit {0}) s
 
--- it was told of no message yet
+-- no message was handed in yet
 abbrev pub IsEmpty : UnorderedState → Type 0
 IsEmpty (best_effort s) = Unit {0}
 IsEmpty (lazy s) = relay.IsEmpty (λ _. Unit {0}) s
@@ -78,12 +78,12 @@ IsEmpty (eager s) = relay.IsEmpty (λ _. Unit {0}) s
 IsEmpty (all_ack s) = relay.IsEmpty (λ _. Unit {0}) s
 IsEmpty (majority_ack s) = relay.IsEmpty (λ _. Unit {0}) s
 
--- what a stack remembers after a call
+-- the state of a stack after a call
 abbrev pub stack_next : StackState → Call → StackState
 stack_next (unordered s) c = unordered (unordered_next s c)
 stack_next (fifo s) c = fifo (fifo_next unordered_next unordered_gives s c)
 
--- what the call gives
+-- the effects of the call
 abbrev pub stack_gives : StackState → Call → Gives
 stack_gives (unordered s) c = unordered_gives s c
 stack_gives (fifo s) c = fifo_gives unordered_next unordered_gives s c
@@ -93,17 +93,17 @@ abbrev pub stack_me : StackState → NodeId
 stack_me (unordered s) = unordered_me s
 stack_me (fifo s) = unordered_me s.lower
 
--- a stack was told nothing yet
+-- no call was made to a stack yet
 abbrev pub IsUntoldStack : StackState → Type 0
 IsUntoldStack (unordered s) = IsUntold s
 IsUntoldStack (fifo s) = fifo_room.IsNew IsUntold s
 
--- a stack was told of no message yet
+-- no message was handed in to a stack yet
 abbrev pub IsEmptyStack : StackState → Type 0
 IsEmptyStack (unordered s) = IsEmpty s
 IsEmptyStack (fifo s) = fifo_room.IsNew IsEmpty s
 
--- a broadcast at a node, in a group with these members, that was told the notices of these nodes, and nothing more
+-- a broadcast at a node, in a group with these members, that took the notices of these nodes, and no other call
 abbrev pub unordered_noticing : BroadcastModule → NodeId → Nodes → Nodes → UnorderedState
 unordered_noticing BestEffort me members noticed = best_effort me
 unordered_noticing Lazy me members noticed = lazy (record { lower = me; members = members; noticed = noticed; entries = [] })
@@ -111,13 +111,13 @@ unordered_noticing Eager me members noticed = eager (record { lower = me; member
 unordered_noticing AllAck me members noticed = all_ack (record { lower = me; members = members; noticed = noticed; entries = [] })
 unordered_noticing MajorityAck me members noticed = majority_ack (record { lower = me; members = members; noticed = noticed; entries = [] })
 
--- a stack of a kind that starts at a node which has noticed some
+-- a stack of a kind that starts at a node which has noticed these nodes
 abbrev pub stack_noticing : Kind → NodeId → Nodes → Nodes → StackState
 stack_noticing kind me members noticed =
     if is_fifo kind then fifo (record { lower = unordered_noticing (module_of kind) me members noticed; entries = [] })
     else unordered (unordered_noticing (module_of kind) me members noticed)
 
--- a stack that was told nothing
+-- a stack to which no call was made
 abbrev pub untold_stack : Kind → NodeId → Nodes → StackState
 untold_stack kind me members = stack_noticing kind me members set.empty
 
@@ -125,6 +125,6 @@ untold_stack kind me members = stack_noticing kind me members set.empty
 abbrev pub others_in : NodeId → Nodes → Nodes → Nodes
 others_in me members nodes = set.remove (set.intersection nodes members) me.number
 
--- a stack that starts at a node which has noticed these: the other members among them were noticed
+-- a stack that starts at a node which has noticed these nodes: it took the notices of the other members among them
 abbrev pub new_stack : Kind → NodeId → Nodes → Nodes → StackState
 new_stack kind me members noticed = stack_noticing kind me members (others_in me members noticed)

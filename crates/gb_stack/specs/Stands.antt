@@ -1,4 +1,4 @@
--- When a stack stands for a history, and what holds of it then.
+-- The histories that a stack stands for, and the laws that hold then.
 use Rattle.std.specs.Prelude.{◌≡◌, ℕ, ◌≤◌, Bool, ◌&&◌, not, nat_eq, nat_lt, List, ◌∷◌, ◌++◌, map, count_by}
 use Rattle.std.specs.FinSet as set
 use Rattle.std.specs.List.{list_any}
@@ -14,7 +14,7 @@ use Rattle.gb_layer.specs.Rule.{Nodes}
 use Rattle.gb_stack.specs.Kinds.{kind_delivers, kind_broadcasts, kind_log}
 use Rattle.gb_stack.specs.StackState.{StackState, stack_next, stack_gives, stack_me, IsUntoldStack, untold_stack, new_stack}
 
--- what a stack of a kind remembers at the node me, in a group with these members, after these calls, the newest first
+-- the state of a stack of a kind at the node me, in a group with these members, after these calls, the newest first
 pub record IsStackAfter (kind : Kind) (me : NodeId) (members : Nodes) (calls : List Call) (value : StackState) : Type 0 where
   pub is : value ≡ after stack_next (untold_stack kind me members) calls
 
@@ -22,27 +22,27 @@ pub record IsStackAfter (kind : Kind) (me : NodeId) (members : Nodes) (calls : L
 abbrev pub is_other_noticed : NodeId → Nodes → Nodes → ℕ → Bool
 is_other_noticed me members noticed b = (set.contains noticed b && set.contains members b) && not (nat_eq b me.number)
 
--- a stack that starts at a node which has noticed these stands for notices of the other members among them, whichever way they are listed
+-- a stack that starts at a node which has noticed these nodes stands for notices of the other members among them, in whatever order they are listed
 abbrev pub NewStackStands : Type 0
 NewStackStands =
     (kind : Kind) (me : NodeId) (members noticed : Nodes) (qs : List NodeId)
     → ((b : ℕ) → list_any (λ q. nat_eq q.number b) qs ≡ is_other_noticed me members noticed b)
     → IsStackAfter kind me members (map Notice qs) (new_stack kind me members noticed)
 
--- between two states a layer was told of the other members that were noticed, with numbers below a bound
+-- between two states a layer took the notices of the other members that were noticed, with numbers below a bound
 pub record HasHeard {S : Type 0} (next : S → Call → S) (me : NodeId) (members noticed : Nodes) (bound : ℕ) (old new : S) : Type 0 where
   pub qs : List NodeId
   pub tell : (b : ℕ) → list_any (λ q. nat_eq q.number b) qs ≡ (is_other_noticed me members noticed b && nat_lt b bound)
   pub is : new ≡ after next old (map Notice qs)
 
--- a stack that was told nothing was told of the other members that were noticed, and of nothing more
+-- a stack to which no call was made took the notices of the other members that were noticed, and no other call
 pub record HasStarted (me : NodeId) (members noticed : Nodes) (value : StackState) : Type 0 where
   pub start : StackState
   pub untold : IsUntoldStack start
   pub here : stack_me start ≡ me
   pub heard : HasHeard stack_next me members noticed NODES start value
 
--- whatever a stack that so started is then told, no message comes up twice, where the caller keeps its conditions
+-- after any further calls of such a stack no message comes up twice, if the caller keeps its conditions
 abbrev pub StartedHandsUpEachOnce : Type 0
 StartedHandsUpEachOnce =
     (me : NodeId) (members noticed : Nodes) (value : StackState) (past : List Call) (m : MsgId)
@@ -54,14 +54,14 @@ CalledStackStands =
     (kind : Kind) (me : NodeId) (members : Nodes) (calls : List Call) (value : StackState) (c : Call)
     → IsStackAfter kind me members calls value → IsStackAfter kind me members (c ∷ calls) (stack_next value c)
 
--- what a call hands up is what the kind delivers then
+-- the messages that a call hands up are those that the kind delivers then
 abbrev pub HandsUpWhatIsDelivered : Type 0
 HandsUpWhatIsDelivered =
     (kind : Kind) (me : NodeId) (members : Nodes) (calls : List Call) (value : StackState) (c : Call)
     → IsStackAfter kind me members calls value → IsLawful me.number (c ∷ calls)
     → messages (stack_gives value c).ups ≡ kind_delivers kind me.number (set.items members) c calls
 
--- what a call sends is what the kind broadcasts then
+-- the messages that a call sends are those that the kind broadcasts then
 abbrev pub SendsWhatIsBroadcast : Type 0
 SendsWhatIsBroadcast =
     (kind : Kind) (me : NodeId) (members : Nodes) (calls : List Call) (value : StackState) (c : Call)
@@ -75,7 +75,7 @@ HandsUpTheLog =
     → IsLawful me.number calls
     → messages (all_ups stack_next stack_gives (untold_stack kind me members) calls) ≡ kind_log kind me.number (set.items members) calls
 
--- a kind's log grows by what the kind delivers
+-- a kind's log grows by the messages that the kind delivers
 abbrev pub LogGrows : Type 0
 LogGrows =
     (kind : Kind) (me : ℕ) (members : List ℕ) (c : Call) (past : List Call)

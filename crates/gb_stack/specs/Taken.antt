@@ -1,4 +1,4 @@
--- What a call makes of a stack's records, and what it gives.
+-- The effect of a call on a stack's records, and what the call sends and hands up.
 use Rattle.std.specs.Prelude.{◌≡◌, ℕ, ◌+◌, ◌≤◌, Bool, true, false, cond, not, List, [], ◌∷◌, ◌++◌, length, count_by, set, slice_get}
 use Rattle.std.specs.declared.option.Option.TheVariants.{Some}
 use Rattle.gb_types.specs.declared.node.NodeId.{NodeId}
@@ -16,15 +16,15 @@ use Rattle.gb_records.specs.Records.{keys, noted, is_unsent, is_ungiven, relay_e
 use Rattle.gb_stack.specs.Settled.{passed_on, settled, AreQuiescent}
 use Rattle.gb_stack.specs.StackState.{relayed_next, relayed_gives}
 
--- what a relay over `Beb` at a node remembers, with these entries
+-- the state of a relay over `Beb` at a node, with these entries
 abbrev pub relay_state : NodeId → Nodes → Nodes → List Entry → State NodeId
 relay_state me members noticed es = record { lower = me; members = members; noticed = noticed; entries = es }
 
--- a message as a pair, which comes up as from its origin
+-- a message as a pair, which comes up as received from its origin
 abbrev pub up_of : MsgId → Up
 up_of m = record { via = m.origin; m = m }
 
--- what a message that rises makes of the order's entries, and what comes up then
+-- the order's entries after the broadcast brought a message up, and the pairs that then come up
 abbrev pub rise_order : Bool → MsgId → List Record → List order.Entry
 rise_order ordered m rs = cond ordered (released m.origin.number (length rs) (order_entries rs)) (order_entries rs)
 
@@ -35,30 +35,30 @@ rise_ups ordered m rs = cond ordered (released_ups m.origin.number (length rs) (
 abbrev pub is_low : Record → Bool
 is_low r = not r.up
 
--- how many messages may still be handed up
+-- the number of messages that may still be handed up
 abbrev pub left : Bool → List Record → ℕ
 left ordered rs = cond ordered (count_by is_ungiven rs) (count_by is_low rs)
 
--- what the broadcast brings up is handed up as it comes, or in the order of each origin
+-- the pairs that the broadcast brings up are handed up as they come, or in the order of each origin
 pub record HandsUp (ordered : Bool) (us : List Up) (noted done : List order.Entry) (before after : List Up) : Type 0 where
   pub plain : ordered ≡ false → after ≡ before ++ us
   pub order : ordered ≡ true → done ≡ taken us noted
   pub given : ordered ≡ true → after ≡ before ++ taken_ups us noted
 
--- what was due for the message at a place was done
+-- the message at a place was sent and handed up as far as that was due
 pub record Moves (rules : Rules) (me : NodeId) (members noticed : Nodes) (ordered : Bool) (at : ℕ) (old new : List Record) (sent sent' : List MsgId) (given given' : List Up) : Type 0 where
   pub relay : (e : Entry) → slice_get (relay_entries old) at ≡ Some e → relay_entries new ≡ set (relay_entries old) at (settled rules me members noticed e)
   pub sends : (e : Entry) → slice_get (relay_entries old) at ≡ Some e → sent' ≡ sent ++ cond (due_to_relay rules me noticed e) (e.m ∷ []) []
   pub ups : (e : Entry) → slice_get (relay_entries old) at ≡ Some e
       → HandsUp ordered (cond (due_to_deliver rules me members noticed (passed_on rules me noticed e)) (up_of e.m ∷ []) []) (order_entries old) (order_entries new) given given'
 
--- the records, with one of the message that a call hands in
+-- the records, with one of the call's message at the end if there was none
 abbrev pub noted_in : Call → List Record → List Record
 noted_in (Say m) rs = noted rs m
 noted_in (Came p m) rs = noted rs m
 noted_in (Notice q) rs = rs
 
--- a broadcast that relays took a call, which made of the state before the state after
+-- a broadcast that relays took a call, which led from the state `before` to the state `after`
 pub record HasTaken (rules : Rules) (ordered : Bool) (c : Call) (before after : State NodeId) (old new : List Record) (sent sent' : List MsgId) (given given' : List Up) : Type 0 where
   pub state : after ≡ relayed_next rules before c
   pub keys : keys new ≡ keys (noted_in c old)
@@ -66,7 +66,7 @@ pub record HasTaken (rules : Rules) (ordered : Bool) (c : Call) (before after : 
   pub ups : HandsUp ordered (relayed_gives rules before c).ups (noted_by c (order_entries old)) (order_entries new) given given'
   pub quiescent : AreQuiescent rules after.lower after.members after.noticed after.entries
 
--- a call takes no more free places for sends and for pairs than there were messages to send and to hand up, and one
+-- a call uses at most as many free places for sends and for pairs as there were messages to send and to hand up, and one more
 pub record Spends (ordered : Bool) (old new : List Record) (sends_free sends_left ups_free ups_left : ℕ) : Type 0 where
   pub sends : sends_free + count_by is_unsent new ≤ sends_left + count_by is_unsent old + 1
   pub ups : ups_free + left ordered new ≤ ups_left + left ordered old + 1

@@ -1,4 +1,4 @@
--- The laws of a broadcast without an order: each is that of its kind.
+-- The laws of a broadcast without an order, by its kind.
 use Rattle.std.proofs.Common.{refl}
 use Rattle.gb_types.specs.declared.node.NodeId.{NodeId}
 use Rattle.gb_layer.specs.declared.call.Call.{Call}
@@ -16,15 +16,15 @@ use Rattle.gb_uniform.specs.Rules.{all_ack_rules, majority_ack_rules}
 use Rattle.gb_stack.specs.InsideLemmas.{sends_handed_in_into, ups_handed_in_into, up_once_into, sent_once_into, noticed_once_into}
 use Rattle.gb_stack.specs.StackState.{best_effort, lazy, eager, all_ack, majority_ack, relayed_next, relayed_gives, unordered_next, unordered_gives, unordered_me, IsUntold}
 
--- `Beb` asks nothing of its start
+-- `Beb` has no condition on its start
 abbrev IsAny : NodeId → Type 0
 IsAny _ = Unit {0}
 
--- `Beb` remembers its node alone
+-- the state of `Beb` is its node alone
 abbrev pub stay : NodeId → Call → NodeId
 stay s _ = s
 
--- best effort gives what came from its origin
+-- best effort hands up what came from its origin
 abbrev direct_gives : NodeId → Call → Gives
 direct_gives s c = own_gives (beb_gives s c)
 

@@ -1,4 +1,4 @@
-//! What best-effort broadcast does with a call.
+//! The calls of best-effort broadcast.
 ghost use Rattle.std.specs.Prelude.{◌≡◌, true, cond, ◌+◌, ◌≤◌, ◌++◌, ◌∷◌, [], map, count_by, vec_len, vec_capacity};
 ghost use Rattle.gb_layer.specs.BebMachine.{beb_gives};
 ghost use Rattle.gb_layer.specs.Machine.{own_gives};
@@ -16,7 +16,7 @@ use gb_layer::effects::Up;
 use gb_records::records::Records;
 use gb_types::message::MsgId;
 
-/// Remembers a message that moved.
+/// Adds a record of `m` if there is none, and marks in it whether `m` was sent and came up.
 #[inline(always)]
 fn remember(records: &mut Records, m: MsgId, moved: Moved)
     requires { vec_len records.old.list + 1 ≤ vec_capacity records.old.list }
@@ -33,7 +33,7 @@ fn remember(records: &mut Records, m: MsgId, moved: Moved)
     r.up |= moved.rises;
 }
 
-/// Best-effort broadcast takes a message that is said here, or came from a node: it remembers it where an order is kept.
+/// Takes a message of best-effort broadcast that is said here, or came from a node. It is recorded if an order is kept.
 #[inline(always)]
 fn pass(
     records: &mut Records,
@@ -61,7 +61,7 @@ fn pass(
     give(records, ordered, m, moved, sends, ups);
 }
 
-/// Best-effort broadcast takes a call.
+/// Makes a call of best-effort broadcast.
 #[inline(always)]
 pub(crate) fn take_direct(
     records: &mut Records,

@@ -1,7 +1,7 @@
-//! Where a stack is.
+//! The place of a stack: its node and its group.
 use gb_types::node::{NodeId, NodeSet};
 
-/// The node where a stack is, whether it keeps the order of each origin, the group's members, and who was noticed.
+/// The node of a stack, whether the stack keeps the order of each origin, the group's members, and the noticed nodes.
 #[derive(Drop)]
 pub struct Here {
     pub me: NodeId,

@@ -1,11 +1,11 @@
-//! What a kind is made of.
+//! The parts of a kind.
 ghost use Rattle.std.specs.Prelude.{◌≡◌};
 ghost use Rattle.gb_stack.specs.Kinds as kinds;
 
 use gb_layer::broadcast_module::BroadcastModule;
 use gb_types::kind::Kind;
 
-/// The module of broadcast that a kind is, or keeps an order over.
+/// Returns the module of broadcast that a kind is, or keeps an order over.
 pub fn broadcast_module(kind: Kind) -> BroadcastModule
     ensures { result ≡ kinds.module_of kind }
 {
@@ -23,7 +23,7 @@ pub fn broadcast_module(kind: Kind) -> BroadcastModule
     }
 }
 
-/// Whether a kind keeps the order of each origin.
+/// Returns true if a kind keeps the order of each origin.
 pub fn is_fifo(kind: Kind) -> bool
     ensures { result ≡ kinds.is_fifo kind }
 {

@@ -1,7 +1,7 @@
 //! The ten broadcasts that a group may choose: best-effort, lazy, eager, all-ack and majority-ack, each plain or in the order of
-//! each origin. Read `stack::Stack` first: it is the layers of gb_layer, gb_reliable, gb_uniform and gb_fifo, one over
-//! the other, with one record for each message (gb_records). What a kind delivers and broadcasts stands in
-//! specs/Kinds.antt; `stands` says that each stack keeps it, and `plain` computes it slowly, straight from its meaning.
+//! each origin. Read `stack::Stack` first: it does what the layers of gb_layer, gb_reliable, gb_uniform and gb_fifo do, one over
+//! the other, with one record for each message (gb_records). specs/Kinds.antt defines what a kind delivers and broadcasts. `stands`
+//! says that each stack keeps it, and `plain` computes it slowly, straight from its definition.
 #![tactic(auto)]
 
 mod direct;

@@ -1,5 +1,5 @@
-//! What a kind broadcasts, and its log, computed plainly from their meaning: slow, for short histories, to compare
-//! stacks with. A history has the newest call first.
+//! What a kind broadcasts, and its log, computed straight from their definition: slow, for short histories, to compare stacks with.
+//! A history has the newest call first.
 ghost use Rattle.std.specs.Prelude.{◌≡◌, IfOk};
 ghost use Rattle.gb_layer.specs.Machine.{numbers};
 ghost use Rattle.gb_layer.specs.Modules.{newest};
@@ -15,7 +15,7 @@ use gb_types::message::MsgId;
 use gb_types::node::NodeId;
 use std::alloc::Global;
 
-/// What the newest call of a history broadcasts from here, in order. An empty history broadcasts nothing.
+/// Returns what the newest call of a history broadcasts from here, in order. An empty history broadcasts nothing.
 pub fn broadcasts(
     alloc: Global,
     kind: Kind,
@@ -27,7 +27,7 @@ pub fn broadcasts(
     plain::broadcasts(alloc, broadcast_module(kind), me, history)
 }
 
-/// The log of a history: what its calls delivered, the oldest first.
+/// Returns the log of a history: what its calls delivered, the oldest first.
 pub fn log(
     alloc: Global,
     kind: Kind,

@@ -1,4 +1,4 @@
-//! What a broadcast that relays does with a message, in the message's record.
+//! The step of a broadcast that relays, on the record of one message.
 ghost use Rattle.std.specs.Prelude.{◌≡◌};
 ghost use Rattle.gb_layer.specs.Relay.{due_to_relay, due_to_deliver};
 ghost use Rattle.gb_records.specs.Records.{relay_entry};
@@ -8,15 +8,15 @@ use crate::here::Here;
 use gb_layer::rule::Rule;
 use gb_records::record::Record;
 
-/// Whether a message is sent from here, and whether it comes up.
+/// The effects of a step on a message: `sends` if it is sent from here, `rises` if it comes up.
 #[derive(Clone, Copy)]
 pub(crate) struct Moved {
     pub sends: bool,
     pub rises: bool,
 }
 
-/// Does what is due: the message is sent, unless it was, if the rule broadcasts it, and it comes up, unless it did, if the
-/// rule delivers it.
+/// Does what is due for a message. It is sent if the rule broadcasts it and it was not sent before. It comes up if the rule
+/// delivers it and it did not come up before.
 #[inline(always)]
 pub(crate) fn settle<R: Rule>(r: &mut Record, rule: &R, here: &Here) -> Moved
     ensures entry { relay_entry r.new ≡ settled R.rules here.now.me here.now.members here.now.noticed (relay_entry r.old) }

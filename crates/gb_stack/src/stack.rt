@@ -32,7 +32,7 @@ use gb_uniform::all_ack::AllAcked;
 use gb_uniform::majority_ack::MajorityAcked;
 use std::alloc::Global;
 
-/// The layer takes the notice of a node, where the node is another member that was noticed.
+/// Makes the layer take the notice of a node, if the node is another member that was noticed.
 fn hear_of<L: Layer>(
     layer: &mut L,
     me: NodeId,
@@ -53,7 +53,7 @@ fn hear_of<L: Layer>(
     }
 }
 
-/// The layer takes the notices of the other members that were noticed.
+/// Makes the layer take the notices of the other members that were noticed.
 fn hear<L: Layer>(
     layer: &mut L,
     me: NodeId,
@@ -71,9 +71,9 @@ fn hear<L: Layer>(
     }
 }
 
-/// The broadcast of a group, of the kind that the group chose: one of four (Cachin, Guerraoui, Rodrigues 2011, chapter 3),
-/// plain or in the order of each origin. What it does is what its layers do, one over the other (`Lazy<Beb>`,
-/// `Fifo<AllAck<Beb>>`, ..), but they have one record for each message, which a call looks up once.
+/// The broadcast of a group, of the kind that the group chose: one of five (Cachin, Guerraoui, Rodrigues 2011, chapter 3), plain or
+/// in the order of each origin. It does what its layers do, one over the other (`Lazy<Beb>`, `Fifo<AllAck<Beb>>`, ..). But all
+/// layers share one record for each message, which a call looks up once.
 pub struct Stack {
     base: BroadcastModule,
     here: Here,
@@ -93,7 +93,7 @@ impl Drop for Stack {
     }
 }
 
-/// A broadcast that relays takes a call.
+/// Makes a call of a broadcast that relays.
 #[inline(always)]
 fn take_call<R: Rule>(
     records: &mut Records,
@@ -125,14 +125,14 @@ fn take_call<R: Rule>(
 impl Stack {
     ghost use Rattle.gb_stack.specs.StackRoom.{remembers};
 
-    /// Whether it remembers messages: best-effort broadcast without an order remembers none.
+    /// Returns true if the stack records messages. Best-effort broadcast without an order records none.
     fn remembers(&self) -> bool
         ensures { result ≡ remembers self.now }
     {
         self.here.ordered || !matches!(self.base, BroadcastModule::BestEffort)
     }
 
-    /// A stack that was told nothing.
+    /// Returns a stack to which no call was made.
     fn untold(alloc: Global, kind: Kind, me: NodeId, members: NodeSet) -> Stack
         ensures meaning { ⟦<Stack as Layer>⟧.meaning result ≡ untold_stack kind me members }
         ensures fresh { ⟦<Stack as Layer>⟧.is_fresh (⟦<Stack as Layer>⟧.meaning result) }
@@ -149,8 +149,8 @@ impl Stack {
         }
     }
 
-    /// The stack of a group at the node me, which has noticed these nodes: the stack starts as if it had been told,
-    /// one after the other, that the other members among them were noticed to have crashed.
+    /// Returns the stack of a group at the node `me`, which has noticed these nodes. The stack starts as if it had taken, one after
+    /// the other, the notices of the other members among them.
     pub fn new(
         alloc: Global,
         spec: &Spec,

@@ -1,4 +1,4 @@
-//! What a call makes of a stack's records, and what it gives.
+//! The effect of a call on a stack's records, and what the call sends and hands up.
 ghost use Rattle.std.specs.Prelude.{◌≡◌, true, false, cond, Some, set, slice_get, ◌+◌, ◌≤◌, ◌<◌, ◌++◌, ◌∷◌, [], count_by, vec_len, vec_capacity};
 ghost use Rattle.gb_types.specs.declared.node.NodeId.{NodeId};
 ghost use Rattle.gb_layer.specs.declared.call.Call.TheVariants.{Say, Came, Notice};
@@ -17,7 +17,7 @@ use gb_records::records::{Records, release};
 use gb_types::message::MsgId;
 use gb_types::node::NodeId;
 
-/// Hands up a message that the broadcast brought up: at once, or with what waits for it, in the order of its origin.
+/// Hands up a message that the broadcast brought up: at once, or in the order of its origin with the messages that waited for it.
 fn rise(records: &mut Records, ordered: bool, m: MsgId, ups: &mut Vec<Up>)
     requires { cond ordered (count_by is_ungiven records.old.list.items) 1 ≤ free ups.old }
     ensures relay { relay_entries records.new.list.items ≡ relay_entries records.old.list.items }
@@ -35,7 +35,7 @@ fn rise(records: &mut Records, ordered: bool, m: MsgId, ups: &mut Vec<Up>)
     }
 }
 
-/// Sends and hands up a message that moved.
+/// Sends and hands up a message, as `moved` says.
 #[inline(always)]
 pub(crate) fn give(
     records: &mut Records,
@@ -93,7 +93,7 @@ pub(crate) fn settle_at<R: Rule>(
     give(records, here.ordered, m, moved, sends, ups);
 }
 
-/// The message at a place was sent from here.
+/// Records that the message at a place was sent from here.
 #[inline(always)]
 fn mark_at(records: &mut Records, at: usize)
     requires { at < vec_len records.old.list }
@@ -109,7 +109,7 @@ fn mark_at(records: &mut Records, at: usize)
     r.sent = true;
 }
 
-/// This node and another hold the message at a place.
+/// Records that this node and another hold the message at a place.
 #[inline(always)]
 fn hold_at(records: &mut Records, at: usize, me: NodeId, via: NodeId)
     requires { at < vec_len records.old.list }
@@ -126,7 +126,7 @@ fn hold_at(records: &mut Records, at: usize, me: NodeId, via: NodeId)
     r.holders.insert(via);
 }
 
-/// A broadcast that relays takes a message that came from a node.
+/// Takes a message that came from a node, for a broadcast that relays.
 pub(crate) fn take_arrival<R: Rule>(
     records: &mut Records,
     rule: &R,
@@ -152,7 +152,7 @@ pub(crate) fn take_arrival<R: Rule>(
     settle_at(records, rule, here, at, sends, ups);
 }
 
-/// A broadcast that relays takes a message that is said here.
+/// Takes a message that is said here, for a broadcast that relays.
 pub(crate) fn take_saying<R: Rule>(
     records: &mut Records,
     rule: &R,
@@ -182,7 +182,7 @@ pub(crate) fn take_saying<R: Rule>(
     settle_at(records, rule, here, at, sends, ups);
 }
 
-/// A broadcast that relays takes the notice of a node.
+/// Takes the notice of a node, for a broadcast that relays.
 pub(crate) fn take_notice<R: Rule>(
     records: &mut Records,
     rule: &R,

@@ -1,4 +1,4 @@
--- What steps leave of the addresses of groups.
+-- What steps leave unchanged of the addresses of groups.
 use Rattle.std.proofs.Common.{◌≡◌, ℕ, suc, List, [], ◌∷◌, map, get_or, refl, ap, sym, true, false}
 use Rattle.std.specs.Prelude.{◌&&◌, not, nat_lt, Option, Some, None, if◌then◌else◌}
 use Rattle.std.proofs.Math.ListN.{set, get_or-map}

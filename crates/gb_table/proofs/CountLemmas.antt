@@ -1,4 +1,4 @@
--- No more groups have addresses of tenants than the tenants may make.
+-- The number of groups with addresses of tenants is at most the number that the tenants may make.
 use Rattle.std.proofs.Common.{◌≡◌, ℕ, zero, suc, ◌+◌, ◌≤◌, ◌<◌, List, [], ◌∷◌, length, get_or, refl, ap, sym, ◌∙◌, true, false, arith, inl, inr, eq-eqb, eqb-true}
 use Rattle.std.specs.Prelude.{Bool, cond, ◌&&◌, nat_lt, nat_eq, Some, find, sum_by, count_by, All}
 use Rattle.std.proofs.lemmas.Bool.{cases_lt, cases_eq, cases_Bool, lt-ltb, le-ltb, ne_eqb}

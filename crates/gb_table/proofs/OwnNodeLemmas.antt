@@ -1,4 +1,4 @@
--- What steps leave of the node at which groups are, and of the length of the messages that they know.
+-- What steps leave unchanged: the node at which groups are, and the limit on the length of the messages that they know.
 use Rattle.std.proofs.Common.{◌≡◌, ◌≤◌, ℕ, zero, suc, List, [], ◌∷◌, ◌++◌, map, refl, ap, sym, subst, ◌∙◌, true, false, inl, inr, arith}
 use Rattle.std.specs.Prelude.{Bool, not, ◌&&◌, length, nat_lt, nat_eq, Option, Some, None, option_map, if◌then◌else◌}
 use Rattle.std.specs.FinSet as nodes

@@ -1,4 +1,4 @@
--- What the parts of a table's code give together.
+-- What the parts of a table's code yield together.
 use Rattle.std.proofs.Common.{◌≡◌, ℕ, zero, suc, ◌<◌, ◌≤◌, List, [], ◌∷◌, ◌++◌, length, get_or, refl, ap, sym, ◌∙◌, subst, true, false, arith, inl, inr}
 use Rattle.std.specs.Prelude.{Bool, cond, nat_lt, Option, Some, None, is_some, option_map, All, if◌then◌else◌}
 use Rattle.std.specs.List.{position_or_len}

@@ -18,7 +18,7 @@ abbrev pub is_by_row : Need → List ℕ → Option TenantRow → Bool
 is_by_row need token None = false
 is_by_row need token (Some row) = is_token row.key need token
 
--- a request that names a group comes with the token of the group's tenant, or, where it says or fetches, with that of the member at this node
+-- a request that names a group comes with the token that it needs: to say or fetch that of the group's member at this node, otherwise that of the group's tenant
 abbrev pub has_group_token : NodeId → List TenantRow → Request → Bool
 has_group_token me rows (AddTenant token row) = false
 has_group_token me rows (Make token addr spec) = is_by_row (Tenant addr.tenant) token (row_of addr.tenant rows)
@@ -28,7 +28,7 @@ has_group_token me rows (DropGroup token addr) = is_by_row (Tenant addr.tenant) 
 has_group_token me rows (Say token addr message) = is_by_row (Member addr.tenant addr.group me) token (row_of addr.tenant rows)
 has_group_token me rows (Fetch token addr from most) = is_by_row (Member addr.tenant addr.group me) token (row_of addr.tenant rows)
 
--- a request comes with the token that it needs: the administrator's to add a tenant, else the group's
+-- a request comes with the token that it needs: the administrator's to add a tenant, otherwise the group's
 abbrev pub has_token : List ℕ → NodeId → List TenantRow → Request → Bool
 has_token admin_key me rows (AddTenant token row) = is_token admin_key Admin token
 has_token admin_key me rows request = has_group_token me rows request

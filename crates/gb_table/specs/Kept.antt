@@ -1,5 +1,5 @@
--- How the tenants of a node are kept: a map from their numbers to their rows, in the order in which they were added. And how the tokens of its
--- groups' members are: a map from the groups' addresses.
+-- How the tenants of a node are kept: a map from their numbers to their rows, in the order in which they were added. The tokens of the groups'
+-- members are kept in a map from the groups' addresses.
 use Rattle.std.specs.Prelude.{ℕ, ◌≡◌, List, map, All, Some}
 use Rattle.gb_types.specs.declared.address.Addr.{Addr}
 use Rattle.gb_types.specs.declared.node.NodeId.{NodeId}
@@ -12,11 +12,11 @@ use Rattle.gb_rules.specs.Tenant.{row_of}
 abbrev pub rows_of : List (ℕ × TenantRow) → List TenantRow
 rows_of entries = map (λ e. e.1) entries
 
--- each row stands under its tenant
+-- each row stands under its tenant's number
 abbrev pub AreKeyed : List (ℕ × TenantRow) → Type 0
 AreKeyed entries = All (λ e. e.0 ≡ e.1.tenant) entries
 
--- the token of an address's member at a node, whose tenant is here
+-- the token of an address's member at a node; the address's tenant is here
 abbrev pub IsMemberToken : NodeId → List TenantRow → Addr → List ℕ → Type 0
 IsMemberToken me tenants addr token = (row : TenantRow) × (row_of addr.tenant tenants ≡ Some row) × (token ≡ token_of row.key (Member addr.tenant addr.group me))
 

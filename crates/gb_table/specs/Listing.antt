@@ -1,4 +1,4 @@
--- What a node tells its administrator of its groups.
+-- What a node tells its administrator about its groups.
 use Rattle.std.specs.Prelude.{ℕ, ◌||◌, List, length, nat_lt, Result, Ok, Err, if◌then◌else◌}
 use Rattle.gb_types.specs.declared.refusal.Refusal.{Refusal}
 use Rattle.gb_types.specs.declared.refusal.Refusal.TheVariants.{Denied, BadPlace}
@@ -9,7 +9,7 @@ use Rattle.gb_table.specs.Admission.{is_token}
 use Rattle.gb_table.specs.TableValue.{TableValue}
 use Rattle.gb_table.specs.declared.listing.TheConstants.{LISTED}
 
--- the groups from a place on, at most `most` and no more than a list names, for who has the administrator's token
+-- the groups from a place on, at most `most` and at most as many as one list names, if the token is the administrator's
 abbrev pub list_answer : List ℕ → ℕ → ℕ → TableValue → Result (List GroupRow) Refusal
 list_answer token from most t =
     if is_token t.admin_key Admin token then

@@ -1,4 +1,4 @@
--- What holds of each group of a table: it is at the table's node, and knows no message that is longer than a message may be there.
+-- An invariant of each group of a table: it is at the table's node, and each message that it knows is within the length limit there.
 use Rattle.std.specs.Prelude.{ℕ, ◌≡◌, List, Option, Some, None}
 use Rattle.gb_types.specs.Version.{limits_of}
 use Rattle.gb_types.specs.declared.node.NodeId.{NodeId}
@@ -6,11 +6,11 @@ use Rattle.gb_types.specs.declared.version.Version.{Version}
 use Rattle.gb_slot.specs.SlotState.{SlotState}
 use Rattle.gb_groups.specs.SlotsValue.{Row, row_at, IsShort}
 
--- the slot is at the node, which sends this version of the packet text, and is within its limit; there is none where the group was dropped
+-- the slot is at the node, which sends this version of the packet text, and its messages are within the version's limit; a dropped group has no slot
 abbrev pub IsOwn : NodeId → Version → Option SlotState → Type 0
 IsOwn me version None = Unit {0}
 IsOwn me version (Some s) = (s.me ≡ me) × IsShort (limits_of version).payload (Some s)
 
--- so is each group that was not dropped
+-- each group that was not dropped is so
 pub record AreOwn (me : NodeId) (version : Version) (rows : List Row) : Type 0 where
   pub each : (p : ℕ) → IsOwn me version (row_at rows p).slot

@@ -1,4 +1,4 @@
--- What a node's table answers to requests, and what they do.
+-- What a node's table answers to requests, and what they change.
 use Rattle.std.specs.Prelude.{◌≡◌, ℕ, Bool, List, [], ◌∷◌, ◌++◌, Option, Some, None, is_some, if◌then◌else◌}
 use Rattle.std.specs.Ordering.{nat_cmp}
 use Rattle.std.specs.FinSet as set
@@ -24,7 +24,7 @@ is_by_tenant tenant need token t = is_by_row need token (row_of tenant t.tenants
 abbrev pub is_admitted : Request → TableValue → Bool
 is_admitted request t = has_token t.admin_key t.me t.tenants request
 
--- the place of the group that a member speaks to or reads
+-- the place of the group that a member's say or fetch is for
 abbrev pub place_for : Request → TableValue → Option ℕ
 place_for (Say token addr message) t = place_of addr t.groups.rows
 place_for (Fetch token addr from most) t = place_of addr t.groups.rows
@@ -41,18 +41,18 @@ admitted_reply (DropGroup token addr) t = group_reply drop_answer addr t.groups.
 admitted_reply (Say token addr message) t = group_reply (λ s. say_answer t.version s message) addr t.groups.rows
 admitted_reply (Fetch token addr from most) t = group_reply (λ s. fetch_answer s from most) addr t.groups.rows
 
--- The reply to a request. With a wrong token it says nothing of tenants and groups.
+-- The reply to a request. With a wrong token the reply says nothing about tenants and groups.
 abbrev pub table_reply : Request → TableValue → Reply
 table_reply request t = if is_admitted request t then admitted_reply request t else Refused Denied
 
--- the reply is what it should be; where a tenant is added, a group made or a log read, memory may be wanting in its place
+-- the reply is what it should be; to a request that adds a tenant, makes a group or fetches, it may be OutOfMemory instead
 abbrev pub IsReplyTo : Request → Reply → Reply → Type 0
 IsReplyTo (AddTenant token row) should reply = IsReply should reply
 IsReplyTo (Make token addr spec) should reply = IsReply should reply
 IsReplyTo (Fetch token addr from most) should reply = IsReply should reply
 IsReplyTo request should reply = reply ≡ should
 
--- what a request does besides its reply, at a node that has noticed these
+-- what a request changes besides its reply, at a node that has noticed these nodes
 abbrev pub table_did : set.FinSet nat_cmp → Request → Reply → TableValue → TableValue
 table_did noticed (AddTenant token row) Done t = record t { tenants = t.tenants ++ row ∷ [] }
 table_did noticed (Make token addr spec) Done t = with_rows (t.groups.rows ++ record { addr = addr; slot = Some (new_slot spec t.me noticed) } ∷ []) t

@@ -1,4 +1,4 @@
--- What holds of a node's table.
+-- An invariant of a node's table.
 use Rattle.std.specs.Prelude.{ℕ, ◌≡◌, ◌<◌, ◌≤◌, false, List, map, Some, All}
 use Rattle.gb_types.specs.declared.address.Addr.{Addr}
 use Rattle.gb_types.specs.declared.limits.TheConstants.{PLACES}
@@ -10,11 +10,11 @@ use Rattle.gb_groups.specs.SlotsValue.{Row}
 abbrev pub addrs_of : List Row → List Addr
 addrs_of rows = map (λ row. row.addr) rows
 
--- the address is one of those that its tenant, which is here, may make groups with
+-- the address's tenant is here, and may make a group with this address
 abbrev pub IsReserved : List TenantRow → Addr → Type 0
 IsReserved tenants addr = (row : TenantRow) × (row_of addr.tenant tenants ≡ Some row) × (addr.group < row.groups) × (addr.generation ≡ 0)
 
--- The tenants are within the limits and their groups have places; each group has an address of its tenant's. So no more groups are made than there are places.
+-- The tenants are within the limits and there are places for their groups; each group has an address of its tenant's. So there are at most as many groups as places.
 pub record IsWithin (places : ℕ) (tenants : List TenantRow) (addrs : List Addr) : Type 0 where
   pub limits : All (λ row. is_over_limits row ≡ false) tenants
   pub sum : reserved tenants ≤ places

@@ -50,13 +50,13 @@ pub struct Table {
     nodes: u8,
     /// The version of the packet text that the node sends.
     version: Version,
-    /// So many groups may its tenants make in all.
+    /// The number of groups that its tenants may make in all.
     places: u16,
     /// The administrator's key, with its pads hashed.
     admin_key: HmacKey,
     tenants: Tenants,
     groups: Groups,
-    /// The token of each group's member at this node, made with the group, as far as there was memory for it. Contracts
+    /// The token of each group's member at this node, computed when the group was made, if there was memory for it. Contracts
     /// see nothing of it.
     member_tokens: IndexMap<Addr, Token>,
 }
@@ -96,7 +96,7 @@ impl Model for Table {
     ghost invariant = { λ t. IsWithin t.places t.tenants (addrs_of t.groups.rows) × AreMemberTokens t.me t.tenants t.member_tokens.entries × AreOwn t.me t.version t.groups.rows };
 }
 
-/// Whether a token is the one that is kept.
+/// Returns true if the token is the one that is kept.
 fn is_kept(token: &Token, kept: &Token) -> bool
     ensures { result ≡ bytes_eq token.now kept.now }
 {
@@ -104,8 +104,8 @@ fn is_kept(token: &Token, kept: &Token) -> bool
 }
 
 impl Table {
-    /// Returns a table with no tenant and no group, at node `me` of `nodes` nodes. The node sends packets of this version. Its tenants
-    /// may make `places` groups in all. Who holds the administrator's key may add tenants.
+    /// Returns a table with no tenant and no group, at node `me` of `nodes` nodes. The node sends packets of this version. Its
+    /// tenants may make `places` groups in all. Who holds the administrator's key may add tenants.
     pub fn new(
         alloc: Global,
         me: NodeId,
@@ -131,28 +131,29 @@ impl Table {
         }
     }
 
-    /// The node where it is.
+    /// Returns the table's node.
     pub fn me(&self) -> NodeId
         ensures { result ≡ self.now.me }
     {
         self.me
     }
 
-    /// How many nodes the cluster has.
+    /// Returns the number of nodes in the cluster.
     pub fn nodes(&self) -> u8
         ensures { result ≡ self.now.nodes }
     {
         self.nodes
     }
 
-    /// The version of the packet text that the node sends.
+    /// Returns the version of the packet text that the node sends.
     pub fn version(&self) -> Version
         ensures { result ≡ self.now.version }
     {
         self.version
     }
 
-    /// The place of the group that a member speaks to or reads, where it was ever made.
+    /// Returns the place of the group that a member's say or fetch is for, or `None` if that group was never made or for other
+    /// requests.
     fn place_for(&self, request: &Request) -> Option<usize>
         ensures { result ≡ place_for request.now self.now }
     {
@@ -163,7 +164,7 @@ impl Table {
         }
     }
 
-    /// Whether a request comes with the token that it needs. A member's is looked for at a place.
+    /// Returns true if the request has the token that it needs. A member's token is looked up at `place`.
     fn is_admitted(&self, request: &Request, place: Option<usize>) -> bool
         ensures { result ≡ is_admitted request.now self.now }
     {
@@ -178,7 +179,7 @@ impl Table {
         }
     }
 
-    /// Whether this is the token of the address's tenant.
+    /// Returns true if `token` is the token of the address's tenant.
     fn is_tenant(&self, token: &Token, addr: Addr) -> bool
         ensures { result ≡ is_by_tenant addr.tenant (Need.Tenant addr.tenant) token.now self.now }
     {
@@ -186,15 +187,15 @@ impl Table {
             .admits(addr.tenant, Need::Tenant(addr.tenant), token)
     }
 
-    /// To be the address's member at this node.
+    /// Returns the need for the token of the address's member at this node.
     fn as_member(&self, addr: Addr) -> Need
         ensures { result ≡ Need.Member addr.tenant addr.group self.now.me }
     {
         Need::Member(addr.tenant, addr.group, self.me)
     }
 
-    /// The token of the address's member at this node, where it is kept at this place. Tokens are kept in the order in which
-    /// groups were made, so this is the group's place, but where memory lacked for one.
+    /// Returns the token of the address's member at this node, if it is kept at `place`. Tokens are kept in the order in which
+    /// groups were made, so a token's place is its group's place, unless memory was lacking for an earlier token.
     fn kept_token(&self, addr: Addr, place: Option<usize>) -> Option<&Token>
         ensures { IfSome result (λ own. IsMemberToken self.now.me self.now.tenants addr own.now) }
     {
@@ -205,8 +206,8 @@ impl Table {
         Some(own)
     }
 
-    /// Whether this is the token of the address's member at this node. It is looked for at a place; where another stands
-    /// there, it is made.
+    /// Returns true if `token` is the token of the address's member at this node. That token is looked up at `place`; if it is
+    /// not there, it is computed.
     fn is_member(&self, token: &Token, addr: Addr, place: Option<usize>) -> bool
         ensures { result ≡ is_by_tenant addr.tenant (Need.Member addr.tenant addr.group self.now.me) token.now self.now }
     {
@@ -217,7 +218,7 @@ impl Table {
             .admits(addr.tenant, self.as_member(addr), token)
     }
 
-    /// Keeps the token of the address's member at this node, where its tenant is here and there is memory for it.
+    /// Keeps the token of the address's member at this node, if the tenant is here and there is memory for the token.
     fn keep_member_token(&mut self, addr: Addr)
         ensures { self.new ≡ self.old }
     {
@@ -226,7 +227,7 @@ impl Table {
         }
     }
 
-    // Called, not inlined, as the next ones are: what many requests run through keeps a small frame.
+    // Called, not inlined, and so are the next ones: a function that many requests run through keeps a small frame.
     #[inline(never)]
     fn add_tenant(&mut self, row: &TenantRow) -> Reply
         ensures reply { IsReply (tenant_answer self.old.places (reserved self.old.tenants) (is_some (row_of row.now.tenant self.old.tenants)) row.now) result }
@@ -310,8 +311,8 @@ impl Table {
             .say(self.version, addr, place, message.seq, payload)
     }
 
-    /// Answers a request at a node that has noticed these. Denied comes first, with a token that is not the one that
-    /// the request needs, where the tenant is not here, and for a group that is not the token's, all alike. Then the
+    /// Answers a request at a node that has noticed the nodes `noticed`. Denied comes first and is the same in three cases: the
+    /// token is not the one that the request needs, the tenant is not here, or the token is another group's. Then come the
     /// refusals of the rules in their order, and OutOfMemory last. After a refusal nothing has changed.
     pub fn request(&mut self, request: &Request, noticed: &NodeSet) -> Reply
         ensures reply { IsReplyTo request.now (table_reply request.now self.old) result }
@@ -333,15 +334,16 @@ impl Table {
         }
     }
 
-    /// Returns true if this is the administrator's token.
+    /// Returns true if `token` is the administrator's token.
     pub fn is_admin(&self, token: &Token) -> bool
         ensures { result ≡ is_token self.now.admin_key Admin token.now }
     {
         self.admin_key.admits(Need::Admin, token)
     }
 
-    /// Lists the node's groups from a place on, at most `most` of them, in the order in which they were made, for who has the
-    /// administrator's token. Denied: the token is another. BadPlace: there are fewer than `from` groups, or `most` is above 64.
+    /// Returns at most `most` of the node's groups, from the place `from` on, in the order in which they were made, with their
+    /// total number. `Err` with `Denied` if the token is not the administrator's, with `BadPlace` if there are fewer than `from`
+    /// groups or `most` is above 64, and with `OutOfMemory` if there is no memory for the list.
     pub fn list(&self, token: &Token, from: u32, most: u32) -> Result<Listing, Refusal>
         ensures groups { IfOk result (λ listing. list_answer token.now from most self.now ≡ Ok listing.groups.items) }
         ensures total { IfOk result (λ listing. listing.total ≡ length self.now.groups.rows) }
@@ -361,8 +363,8 @@ impl Table {
         }
     }
 
-    /// Takes an item in that came from a node. It is let fall where its group is not here, where its payload is longer than this
-    /// node's version allows, or by the group's rules.
+    /// Takes in an item that came from a node. The item is let fall if its group is not here, if its payload is longer than this
+    /// node's version allows, or if the group's rules say so.
     pub fn item(&mut self, from: NodeId, item: ItemView<'_>)
         ensures state { self.new ≡ table_came from (view_item item.entry) self.old }
         ensures others { OthersKept (address_of (view_item item.entry)) self.old.groups.rows self.new.groups.rows }
@@ -370,8 +372,8 @@ impl Table {
         self.groups.item(self.version, from, item);
     }
 
-    /// Takes an acknowledgement of a message of a group from a node. One of a message that was not said here changes
-    /// nothing, so its group is not looked for.
+    /// Takes a node's acknowledgement of a message of a group. If the message was not said here, nothing changes, and the group
+    /// is not looked up.
     pub fn done(&mut self, dest: NodeId, addr: Addr, m: MsgId)
         ensures state { self.new ≡ table_done dest addr m self.old }
         ensures others { OthersKept addr self.old.groups.rows self.new.groups.rows }
@@ -389,8 +391,9 @@ impl Table {
         self.groups.notice(who);
     }
 
-    /// How many items the next batch for a node has where it may have so many bytes, 65,535 at most, and how many
-    /// bytes they take. Where there is room for the longest message, a batch without items says that nothing waits.
+    /// Returns the number of items in the next batch for the node `dest`, and the number of bytes that they take: at most
+    /// `room`, which is at most 65,535. If `room` is enough for the longest item, a batch without items means that nothing
+    /// waits.
     pub fn measure(&self, dest: NodeId, room: usize) -> (u16, usize)
         requires { room ≤ 65535 }
         ensures count { result.0 ≡ length (batch self.now.version dest.number room self.now.groups) }
@@ -401,8 +404,9 @@ impl Table {
         self.groups.measure(self.version, dest, room)
     }
 
-    /// Appends the texts of the items of the next batch for a node, which may have so many bytes, 65,535 at most;
-    /// `count` and the capacity of `out` are what `measure` says of it. Takes no memory.
+    /// Appends the texts of the items in the next batch for the node `dest`. They take at most `room` bytes, which is at most
+    /// 65,535. `count` is the number of items that `measure` returned for this room, and `out` has room for the bytes that it
+    /// returned. Takes no memory.
     pub fn pack_into(&mut self, dest: NodeId, room: usize, count: u16, out: &mut Vec<u8>)
         requires room { room ≤ 65535 }
         requires count { count ≡ length (batch self.old.version dest.number room self.old.groups) }

@@ -14,8 +14,8 @@ use indexmap::IndexMap;
 use std::alloc::Global;
 use std::marker::Model;
 
-/// A tenant's row, and its key with its pads hashed, so that a token costs no more than a text of its length. Contracts see
-/// the row.
+/// A tenant's row, and its key with its pads hashed, so that a token costs only the hashing of its own text. Contracts see the
+/// row.
 #[derive(Drop)]
 pub struct Tenant {
     row: TenantRow,
@@ -49,14 +49,14 @@ impl Tenant {
         &self.row
     }
 
-    /// The token for a need under the tenant's key.
+    /// Returns the token for `need` under the tenant's key.
     fn token(&self, need: Need) -> Token
         ensures { result ≡ token_of self.now.key need }
     {
         self.key.token(need)
     }
 
-    /// Whether this is the token for a need under the tenant's key.
+    /// Returns true if `token` is the one for `need` under the tenant's key.
     fn admits(&self, need: Need, token: &Token) -> bool
         ensures { result ≡ is_token self.now.key need token.now }
     {
@@ -68,7 +68,7 @@ impl Tenant {
 #[derive(Drop)]
 pub struct Tenants {
     rows: IndexMap<TenantId, Tenant>,
-    /// How many groups they may make in all.
+    /// The number of groups that the tenants may make in all.
     reserved: u32,
 }
 
@@ -86,7 +86,7 @@ impl Model for Tenants {
 }
 
 impl Tenants {
-    /// No tenant.
+    /// Returns an empty list of tenants.
     pub fn new(alloc: Global) -> Tenants
         ensures { result ≡ [] }
     {
@@ -96,14 +96,14 @@ impl Tenants {
         }
     }
 
-    /// A tenant.
+    /// Returns a tenant, or `None` if it is not here.
     fn find(&self, tenant: TenantId) -> Option<&Tenant>
         ensures { option_copied result ≡ row_of tenant self.now }
     {
         self.rows.get(&tenant)
     }
 
-    /// The row of a tenant.
+    /// Returns the row of a tenant, or `None` if the tenant is not here.
     pub fn row(&self, tenant: TenantId) -> Option<&TenantRow>
         ensures { option_copied result ≡ row_of tenant self.now }
     {
@@ -113,14 +113,14 @@ impl Tenants {
         }
     }
 
-    /// How many groups the tenants may make in all.
+    /// Returns the number of groups that the tenants may make in all.
     pub fn reserved(&self) -> u32
         ensures { result ≡ reserved self.now }
     {
         self.reserved
     }
 
-    /// Adds a tenant, which is not here. After a refusal of memory nothing has changed.
+    /// Adds a tenant, which is not here yet. `Err` if there is no memory; then nothing has changed.
     pub fn add(&mut self, row: &TenantRow) -> Result<(), OutOfMemory>
         requires fresh { row_of row.now.tenant self.old ≡ None }
         requires few { reserved self.old + row.now.groups ≤ PLACES }
@@ -133,7 +133,7 @@ impl Tenants {
         Ok(())
     }
 
-    /// The token for a need under the key of a tenant, where it is here.
+    /// Returns the token for `need` under the key of a tenant, or `None` if the tenant is not here.
     pub fn token(&self, tenant: TenantId, need: Need) -> Option<Token>
         ensures { result ≡ option_map (λ row. token_of row.key need) (row_of tenant self.now) }
     {
@@ -143,7 +143,7 @@ impl Tenants {
         }
     }
 
-    /// Whether a tenant is here and this is the token for a need under its key.
+    /// Returns true if the tenant is here and `token` is the one for `need` under its key.
     pub fn admits(&self, tenant: TenantId, need: Need, token: &Token) -> bool
         ensures { result ≡ is_by_row need token.now (row_of tenant self.now) }
     {

@@ -174,7 +174,7 @@ fn told_step(alloc: Global, step: Step) -> Result<Vec<u8>, OutOfMemory> {
 }
 
 /// How a cluster is started. The nodes that send the second and the third version come last, by number; 100 stands behind each that
-/// sends the third.
+/// sends the third. Behind them stands the room of packets, where it is not the greatest.
 fn told_start(alloc: Global, start: &ClusterStart) -> Result<Vec<u8>, OutOfMemory> {
     let numbers = [u64::from(start.nodes), u64::from(start.silence)];
     let mut text = shown(alloc, b"cluster", &numbers)?;
@@ -185,6 +185,9 @@ fn told_start(alloc: Global, start: &ClusterStart) -> Result<Vec<u8>, OutOfMemor
         if *version == Version::Three {
             add(&mut text, 100)?;
         }
+    }
+    if start.room != 16_345 {
+        add(&mut text, u64::from(start.room))?;
     }
     Ok(text)
 }
@@ -264,10 +267,10 @@ const FIRST_LINES: &str =
     "cluster 1 2=cluster 1 2\ncluster 16 1000=cluster 16 1000\ncluster 0 2\ncluster 17 2\ncluster 32 2\ncluster 272 2\ncluster 2 1\ncluster 2 1001\ncluster 2\ncluster 2 3 4\nopen 0 7 1\narrive 1\nagain 0 0 0\nack 0 0\ntick 0\nstop 0";
 
 const VERSIONED_LINES: &str =
-    "cluster2 1 2 1=cluster 1 2\ncluster2 2 3 1,1=cluster 2 3\ncluster2 2 3 2,2=cluster 2 3 0 1\ncluster2 2 3 3,3=cluster 2 3 0 100 1 100\ncluster2 2 3 1,3=cluster 2 3 1 100\ncluster2 2 3 3,2=cluster 2 3 0 100 1\ncluster2 2 3 2,1=cluster 2 3 0\ncluster2 2 1000 1,2=cluster 2 1000 1\ncluster2 16 3 1,1,1,1,1,1,1,1,1,1,1,1,1,1,1,1=cluster 16 3\ncluster2 16 3 2,1,1,1,1,1,1,1,1,1,1,1,1,1,1,2=cluster 16 3 0 15\ncluster2 17 3 2,2,2,2,2,2,2,2,2,2,2,2,2,2,2,2,2=cluster 17 3 0 1 2 3 4 5 6 7 8 9 10 11 12 13 14 15 16\ncluster2 32 3 2,2,2,2,2,2,2,2,2,2,2,2,2,2,2,2,2,2,2,2,2,2,2,2,2,2,2,2,2,2,2,2=cluster 32 3 0 1 2 3 4 5 6 7 8 9 10 11 12 13 14 15 16 17 18 19 20 21 22 23 24 25 26 27 28 29 30 31";
+    "cluster2 1 2 1=cluster 1 2\ncluster2 2 3 1,1=cluster 2 3\ncluster2 2 3 2,2=cluster 2 3 0 1\ncluster2 2 3 3,3=cluster 2 3 0 100 1 100\ncluster2 2 3 1,3=cluster 2 3 1 100\ncluster2 2 3 3,2=cluster 2 3 0 100 1\ncluster2 2 3 2,1=cluster 2 3 0\ncluster2 2 1000 1,2=cluster 2 1000 1\ncluster2 2 3 1,1 1=cluster 2 3 1\ncluster2 2 3 2,3 1400=cluster 2 3 0 1 100 1400\ncluster2 2 3 1,1 16344=cluster 2 3 16344\ncluster2 2 3 1,1 16345=cluster 2 3\ncluster2 16 3 1,1,1,1,1,1,1,1,1,1,1,1,1,1,1,1=cluster 16 3\ncluster2 16 3 2,1,1,1,1,1,1,1,1,1,1,1,1,1,1,2=cluster 16 3 0 15\ncluster2 17 3 2,2,2,2,2,2,2,2,2,2,2,2,2,2,2,2,2=cluster 17 3 0 1 2 3 4 5 6 7 8 9 10 11 12 13 14 15 16\ncluster2 32 3 2,2,2,2,2,2,2,2,2,2,2,2,2,2,2,2,2,2,2,2,2,2,2,2,2,2,2,2,2,2,2,2=cluster 32 3 0 1 2 3 4 5 6 7 8 9 10 11 12 13 14 15 16 17 18 19 20 21 22 23 24 25 26 27 28 29 30 31";
 
 const BAD_VERSIONED_LINES: &str =
-    "cluster2 0 3 1\ncluster2 0 3 \ncluster2 33 3 2,2,2,2,2,2,2,2,2,2,2,2,2,2,2,2,2,2,2,2,2,2,2,2,2,2,2,2,2,2,2,2,2\ncluster2 258 3 2,2\ncluster2 02 3 2,2\ncluster2 2 1 2,2\ncluster2 2 1001 2,2\ncluster2 17 3 1,1,1,1,1,1,1,1,1,1,1,1,1,1,1,1,1\ncluster2 17 3 1,2,2,2,2,2,2,2,2,2,2,2,2,2,2,2,2\ncluster2 17 3 1,3,3,3,3,3,3,3,3,3,3,3,3,3,3,3,3\ncluster2 17 3 2,2,2,2,2,2,2,2,2,2,2,2,2,2,2,2,1\ncluster2 32 3 2,2,2,2,2,2,2,2,2,2,2,2,2,2,2,2,2,2,2,2,2,2,2,2,2,2,2,2,2,2,2,1\ncluster2 1 3 2,2\ncluster2 2 3 2\ncluster2 2 3 2,2,2\ncluster2 32 3 2,2,2,2,2,2,2,2,2,2,2,2,2,2,2,2,2,2,2,2,2,2,2,2,2,2,2,2,2,2,2\ncluster2 32 3 2,2,2,2,2,2,2,2,2,2,2,2,2,2,2,2,2,2,2,2,2,2,2,2,2,2,2,2,2,2,2,2,2\ncluster2 2 3 2,0\ncluster2 2 3 0,2\ncluster2 2 3 2,4\ncluster2 2 3 4,2\ncluster2 2 3 258,2\ncluster2 2 3 2,18446744073709551618\ncluster2 2 3 2,\ncluster2 2 3 ,2\ncluster2 2 3 2,,2\ncluster2 2 3 2,2,\ncluster2 2 3 ,\ncluster2 2 3 \ncluster2 2 3 02,2\ncluster2 2 3 2,02\ncluster2 2 3 +2,2\ncluster2 2 3 2;2\ncluster2 2 3 22\ncluster2 2 3 2 2\ncluster2 2 3 2,2 \ncluster2 2 3 2, 2\ncluster2 2 3 2,2 2,2\ncluster2 2 3\ncluster2 2\ncluster2\ncluster2 \ncluster 2 3 2,2\ncluster22 2 3 2,2\ncluster3 2 3 2,2\nCluster2 2 3 2,2\n2 2 3 2,2";
+    "cluster2 0 3 1\ncluster2 0 3 \ncluster2 33 3 2,2,2,2,2,2,2,2,2,2,2,2,2,2,2,2,2,2,2,2,2,2,2,2,2,2,2,2,2,2,2,2,2\ncluster2 258 3 2,2\ncluster2 02 3 2,2\ncluster2 2 1 2,2\ncluster2 2 1001 2,2\ncluster2 17 3 1,1,1,1,1,1,1,1,1,1,1,1,1,1,1,1,1\ncluster2 17 3 1,2,2,2,2,2,2,2,2,2,2,2,2,2,2,2,2\ncluster2 17 3 1,3,3,3,3,3,3,3,3,3,3,3,3,3,3,3,3\ncluster2 17 3 2,2,2,2,2,2,2,2,2,2,2,2,2,2,2,2,1\ncluster2 32 3 2,2,2,2,2,2,2,2,2,2,2,2,2,2,2,2,2,2,2,2,2,2,2,2,2,2,2,2,2,2,2,1\ncluster2 1 3 2,2\ncluster2 2 3 2\ncluster2 2 3 2,2,2\ncluster2 32 3 2,2,2,2,2,2,2,2,2,2,2,2,2,2,2,2,2,2,2,2,2,2,2,2,2,2,2,2,2,2,2\ncluster2 32 3 2,2,2,2,2,2,2,2,2,2,2,2,2,2,2,2,2,2,2,2,2,2,2,2,2,2,2,2,2,2,2,2,2\ncluster2 2 3 2,0\ncluster2 2 3 0,2\ncluster2 2 3 2,4\ncluster2 2 3 4,2\ncluster2 2 3 258,2\ncluster2 2 3 2,18446744073709551618\ncluster2 2 3 2,\ncluster2 2 3 ,2\ncluster2 2 3 2,,2\ncluster2 2 3 2,2,\ncluster2 2 3 ,\ncluster2 2 3 \ncluster2 2 3 02,2\ncluster2 2 3 2,02\ncluster2 2 3 +2,2\ncluster2 2 3 2;2\ncluster2 2 3 22\ncluster2 2 3 2 2\ncluster2 2 3 2,2 \ncluster2 2 3 2, 2\ncluster2 2 3 2,2 2,2\ncluster2 2 3 2,2 0\ncluster2 2 3 2,2 16346\ncluster2 2 3 2,2 01400\ncluster2 2 3 2,2 x\ncluster2 2 3 2,2 1400 1\ncluster2 2 3 2,4 1400\ncluster2 2 3\ncluster2 2\ncluster2\ncluster2 \ncluster 2 3 2,2\ncluster22 2 3 2,2\ncluster3 2 3 2,2\nCluster2 2 3 2,2\n2 2 3 2,2";
 
 const GOOD_LINES: &str =
     "tenant 2 65535 256 4294967295 0 10=take in 2 65535 256 4294967295 0 10\nmake 0 7 1 beb 0,1,15 8 64 4=make 0 7 1 8 64 4 0 1 15\nmake 0 7 1 beb 0,16,31 8 64 4=make 0 7 1 8 64 4 0 16 31\nopen 1 0 65535=open 1 0 65535\nshut 2 7 1=shut 2 7 1\ndrop 0 65535 0=drop 0 65535 0\nsay 0 7 1 -=say 0 7 1\nsay 0 7 1 00fF6a=say 0 7 1 0 255 106\nsay 2 65535 65535 00ff6a=say 2 65535 65535 0 255 106\nsay 0 7 1 000102030405060708090a0b0c0d0e0f10=say 0 7 1 0 1 2 3 4 5 6 7 8 9 10 11 12 13 14 15 16\nsay 0 7 1 000102030405060708090a0b0c0d0e0F10=say 0 7 1 0 1 2 3 4 5 6 7 8 9 10 11 12 13 14 15 16\nsay 0 7 1 61 0=say under 0 7 1 0 97\nsay 0 7 1 61 61=say under 0 7 1 61 97\nsay 2 65535 65535 - 4294967295=say under 2 65535 65535 4294967295\nfetch 0 7 1 1 4294967295=fetch 0 7 1 1 4294967295\nforge 2 7 65535=say 2 7 65535\nnoise 2 -=noise 2\nnoise 0 00fF6a=noise 0 0 255 106\npack 0 2=pack 0 2\npack 1 1=pack 1 1\nagain 0 2 1=again 0 2 1\nagain 2 0 0=again 2 0 0\nagain 1 1 0=again 1 1 0\nagain 1 2 18446744073709551615=again 1 2 18446744073709551615\nack 0 2=acknowledge 0 2\nack 2 0=acknowledge 2 0\nack 1 1=acknowledge 1 1\ntick 0=tick 0\ntick 2=tick 2\nstop 0=stop 0\nstop 2=stop 2\narrive 0=arrive 0\npack 2 0=pack 2 0\narrive 9=arrive 9\narrive 10=arrive 10\narrive 18446744073709551615=arrive 18446744073709551615\narrive 18446744073709551610=arrive 18446744073709551610\narrive 18446744073709551609=arrive 18446744073709551609\narrive 1844674407370955161=arrive 1844674407370955161\narrive 9999999999999999999=arrive 9999999999999999999\narrive 10000000000000000000=arrive 10000000000000000000\nfetch 2 65535 65535 4294967295 0=fetch 2 65535 65535 4294967295 0";
@@ -285,9 +288,9 @@ fn the_first_line(rt: HostRuntime) -> Result<(), Fail> {
 #[test]
 fn the_first_line_with_versions(rt: HostRuntime) -> Result<(), Fail> {
     let good = compare(&rt, rt.alloc(), None, VERSIONED_LINES)?;
-    assert!(rt; good == 12);
+    assert!(rt; good == 16);
     let bad = compare(&rt, rt.alloc(), None, BAD_VERSIONED_LINES)?;
-    assert!(rt; bad == 47);
+    assert!(rt; bad == 53);
     Ok(())
 }
 

@@ -1,4 +1,4 @@
--- How many items of a group frames have, and what is told of them.
+-- How many items of a group frames have, and what their counts add to the projection.
 use Rattle.std.proofs.Common.{◌≡◌, ◌≢◌, ℕ, zero, suc, ◌+◌, ◌-◌, ◌<◌, Bool, List, [], ◌∷◌, ◌++◌, map, length, take, get_or, length-take, refl, sym, ap, ◌∙◌, arith, append_assoc, length-append}
 use Rattle.std.specs.Prelude.{sum, if◌then◌else◌}
 use Rattle.std.proofs.lemmas.List.{append-nil, map-append, take-map, take_more}

@@ -1,4 +1,4 @@
--- What happened in a run, from its front.
+-- What happened in a run, from its first event on.
 use Rattle.std.proofs.Common.{◌≡◌, ℕ, zero, suc, ◌+◌, ◌<◌, List, [], ◌∷◌, ◌++◌, length, take, get_or, ◌∙◌, ap, sym, refl, arith, add-one, append_assoc}
 use Rattle.std.specs.Prelude.{min, Option}
 use Rattle.std.specs.Option.{option_map_or}

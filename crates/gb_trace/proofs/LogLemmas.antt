@@ -1,4 +1,4 @@
--- A run that goes on by a request to fetch a log.
+-- A run goes on by a request to fetch a log.
 use Rattle.std.proofs.Common.{◌≡◌, suc, List, [], ◌∷◌, ◌++◌, length, refl, sym, ap, subst, ◌∙◌}
 use Rattle.std.specs.Prelude.{reverse}
 use Rattle.std.proofs.lemmas.List.{reverse-append}

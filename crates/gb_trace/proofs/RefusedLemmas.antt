@@ -1,4 +1,4 @@
--- A group for which no refusal was found had the memory that it asked for, and what one event more says of it.
+-- If no refusal of memory was found for a group, it had no request refused for lack of memory; and what one more event changes in this.
 use Rattle.std.proofs.Common.{◌≡◌, ℕ, ◌+◌, ◌<◌, Bool, true, false, not, ◌&&◌, ◌||◌, List, [], ◌∷◌, ◌++◌, length, take, get_or, Option, Some, None, nat_eq, refl, sym, ap, ◌∙◌, append_assoc, Bor}
 use Rattle.std.proofs.lemmas.List.{append-nil, reverse-append}
 use Rattle.std.specs.Option.{option_copied, option_or}

@@ -1,4 +1,4 @@
--- A run that goes on by one more event.
+-- A run goes on by one more event.
 use Rattle.std.proofs.Common.{◌≡◌, ℕ, zero, suc, ◌+◌, ◌<◌, ◌≤◌, true, false, Bool, List, [], ◌∷◌, ◌++◌, length, take, get_or, Option, Some, None, refl, sym, ap, subst, ◌∙◌, arith, add-one, append_assoc, length-append}
 use Rattle.std.specs.Prelude.{slice_get, option_map, reverse, All, MatchBool, not, ◌&&◌}
 use Rattle.std.specs.List.{list_any}

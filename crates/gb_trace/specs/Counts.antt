@@ -1,12 +1,12 @@
--- Frames by how many items of a group they have.
+-- Frames, given by the number of a group's items in each.
 use Rattle.std.specs.Prelude.{ℕ, ◌+◌, Bool, List, [], ◌∷◌, ◌++◌, if◌then◌else◌}
 use Rattle.gb_types.specs.declared.node.NodeId.{NodeId}
 use Rattle.gb_alone.specs.declared.event.GroupEvent.TheVariants.{Done}
 use Rattle.gb_alone.specs.declared.event.GroupStep.{GroupStep}
 use Rattle.gb_isolation.specs.Project.{if_any}
 
--- The items of frames from a to b are acknowledged whose frame's number passes the test, where the frames have these numbers of items. The frames are
--- numbered from n on, and `before` items stand in the frames before them.
+-- The acknowledged items of the frames from a to b: those in the frames whose number passes the test. The list has the number of items of each frame. The frames are
+-- numbered from n on, and `before` is the number of items in the frames before them.
 abbrev pub counts_acknowledged : NodeId → NodeId → (ℕ → Bool) → ℕ → ℕ → List ℕ → List GroupStep
 counts_acknowledged a b new n before [] = []
 counts_acknowledged a b new n before (k ∷ ks) = (if new n then if_any a k (Done b (before + 1) k) else []) ++ counts_acknowledged a b new (n + 1) (before + k) ks

@@ -5,10 +5,10 @@ use Rattle.gb_frame.specs.Packet.{Content}
 use Rattle.gb_node.specs.Past.{Happened}
 use Rattle.gb_cluster.specs.Run.{Did, past_at}
 
--- what happened at a node, the newest first, where all this happened in order
+-- what happened at a node, the newest first; `deeds` is all that happened, in order
 abbrev pub past_in : NodeId → List Did → List Happened
 past_in a deeds = past_at a (reverse deeds)
 
--- the packet is of this sender
+-- the packet is from this sender
 abbrev pub is_from : ℕ → Content → Bool
 is_from b c = nat_eq c.from b

@@ -1,4 +1,4 @@
--- What is seen of a group in a run, but for what only the nodes hold.
+-- What is seen of a group in a run, without what only the nodes hold.
 use Rattle.std.specs.Prelude.{◌≡◌, ◌≤◌, true, List, map}
 use Rattle.gb_types.specs.Version.{bounds_of}
 use Rattle.gb_types.specs.declared.address.Addr.{Addr}
@@ -26,15 +26,15 @@ observed_at plan g run a = record {
   carried = map (λ b. group_items_of g (frames_to plan.cluster_key b (past_at a run))) (numbers_below plan.nodes);
 }
 
--- at each node
+-- what is observed at each node
 abbrev pub observed : Plan → Addr → List Did → List SeenAt
 observed plan g run = map (λ a. observed_at plan g run (node_numbered a)) (numbers_below plan.nodes)
 
--- a group that is isolated in a run is seen there as what the projection makes of it alone
+-- what is seen in a run of a group that is isolated there is what is seen of it alone, given the projection
 abbrev pub IsolatedGroupsAreSeenAlone : Type 0
 IsolatedGroupsAreSeenAlone = (plan : Plan) (run : List Did) (v : ClusterValue) (g : Addr) → plan.nodes ≤ NODES → IsIsolated plan run v g → observed plan g run ≡ observed_alone plan.nodes (alone_in plan g run)
 
--- In a run, a group that had no request refused for lack of memory: the projection is legal, and what is seen of the group is what these steps make of it alone.
+-- For each group that had no request refused for lack of memory in a run: the projection is legal, and what is seen of the group is what these steps make of it alone.
 abbrev pub FedGroupsAreSeenAlone : Type 0
 FedGroupsAreSeenAlone =
     (plan : Plan) (events : List Event) (answers : List Answer) (packets : List Posted) (v : ClusterValue) → IsRun plan events answers packets v

@@ -1,4 +1,4 @@
--- For which groups a run says that they lacked memory.
+-- Which groups were refused memory, as a run shows it.
 use Rattle.std.specs.Prelude.{Bool, false, ◌||◌, List, [], ◌∷◌, nat_eq, if◌then◌else◌}
 use Rattle.gb_types.specs.declared.address.Addr.{Addr}
 use Rattle.gb_types.specs.declared.refusal.Refusal.TheVariants.{OutOfMemory}
@@ -23,17 +23,17 @@ abbrev pub is_untaken_by : Addr → NodeEvent → NodeAnswer → Bool
 is_untaken_by g (Asked (AddTenant token row)) (Replied (Refused OutOfMemory)) = nat_eq row.tenant g.tenant
 is_untaken_by g event answer = false
 
--- in the run such a request was refused for lack of memory, or a request of the group
+-- in the run a request that adds the group's tenant, or a request of the group, was refused for lack of memory
 unfoldable pub is_refused_for : Addr → List Did → Bool
 is_refused_for g [] = false
 is_refused_for g (d ∷ run) = (is_untaken_by g d.event d.answer || is_starved_by d.node g (past_at d.node run) d.event d.answer) || is_refused_for g run
 
--- after the run an event in the cluster with its answer is such
+-- after the run, an event in the cluster with its answer is a request that adds the group's tenant, or a request of the group, that was refused for lack of memory
 abbrev pub is_lacked_by : Addr → List Did → Event → Answer → Bool
 is_lacked_by g run (At a event) (AnswerReply reply) = is_untaken_by g event (Replied reply) || is_starved_by a g (past_at a run) event (Replied reply)
 is_lacked_by g run event answer = false
 
--- what rows of tenants an event in the cluster with its answer adds at the node
+-- the rows of tenants that an event in the cluster with its answer adds at the node
 abbrev pub rows_by : NodeId → Event → Answer → List TenantRow
 rows_by a (At node event) (AnswerReply reply) = if nat_eq node.number a.number then added event (Replied reply) else []
 rows_by a event answer = []

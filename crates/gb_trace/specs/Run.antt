@@ -1,4 +1,4 @@
--- What holds of every whole run of a cluster, and which answers are want of memory.
+-- What holds of every whole run of a cluster, and which answers refuse for lack of memory.
 use Rattle.std.specs.Prelude.{ℕ, ◌≡◌, ◌<◌, Bool, true, false, List, [], ◌∷◌, ◌++◌, Option, Some, None}
 use Rattle.gb_types.specs.declared.address.Addr.{Addr}
 use Rattle.gb_types.specs.declared.node.NodeId.{NodeId}
@@ -28,7 +28,7 @@ abbrev pub IsAmpleRun : Plan → List Event → List Answer → List Posted → 
 IsAmpleRun plan events answers packets v refused = refused ≡ false → (g : Addr) → IsIsolated plan (run_of events answers packets) v g
 
 -- A run may go on by a request to fetch a group's log, at any running node, with the token that it needs: the answer is that of the group alone, and no packet is sent.
--- So what the group's log is after these events, at each node, is seen in the run that is longer by this event.
+-- So the run that is longer by this event shows the group's log, at that node, after the events so far.
 abbrev pub LogsAreShown : Type 0
 LogsAreShown =
     (plan : Plan) (events : List Event) (answers : List Answer) (packets : List Posted) (v : ClusterValue) → IsRun plan events answers packets v

@@ -23,13 +23,13 @@ use Rattle.gb_cluster.specs.declared.posted.Posted.{Posted}
 use Rattle.gb_isolation.specs.Isolation.{IsSeenAlone}
 use Rattle.gb_isolation.specs.Project.{is_fed}
 
--- what a node sent, where a packet's number stands for its text among the packets
+-- what a node sent; a packet's number stands for its text among the packets
 abbrev pub sent_as : List Posted → Sending → Option SentValue
 sent_as packets (SendingPacket k) = option_map (λ (p : Posted). SentPacket p.text) (packet_numbered packets k)
 sent_as packets SendingNothing = Some SentNothing
 sent_as packets (SendingRefused why) = Some (SentRefused why)
 
--- the answer of the node that acted, if one did
+-- the answer of the node that acted; None if no node acted
 abbrev pub own_answer : List Posted → Answer → Option NodeAnswer
 own_answer packets (AnswerReply reply) = Some (Replied reply)
 own_answer packets (AnswerTaken taken) = Some (Taken taken)
@@ -38,37 +38,37 @@ own_answer packets (AnswerTicked ticked) = Some (Ticked ticked)
 own_answer packets (AnswerHalted halted) = Some (Halted halted)
 own_answer packets answer = None
 
--- an event at a node, where the node answered
+-- what happened at a node by an event; nothing if the node did not answer
 abbrev pub did_with : NodeId → NodeEvent → Option NodeAnswer → List Did
 did_with a event o = option_to_list (option_map (λ answer. record { node = a; event = event; answer = answer }) o)
 
--- What happened at a node by an event with its answer: an event at a node is its own, and a packet that arrives is its text, at the node that it was sent to.
--- Where there was no such packet, or the noise was none, nothing happened.
+-- What happened at a node by an event with its answer. An event at a node is that node's own. A packet that arrives is its text, at the node that it was sent to.
+-- If there was no such packet, or no node answered, nothing happened.
 abbrev pub did_in : List Posted → Event → Answer → List Did
 did_in packets (At a event) answer = did_with a event (own_answer packets answer)
 did_in packets (Arrive k) answer = option_map_or (λ (p : Posted). did_with p.to (Came p.text) (own_answer packets answer)) (packet_numbered packets k) []
 
--- all that happened, in order; events beyond the answers do not count, nor answers beyond the events
+-- all that happened, in order; if there are more events than answers, or more answers than events, the surplus is ignored
 unfoldable pub all_did : List Posted → List Event → List Answer → List Did
 all_did packets [] answers = []
 all_did packets (e ∷ events) [] = []
 all_did packets (e ∷ events) (a ∷ answers) = did_in packets e a ++ all_did packets events answers
 
--- the run that these events, answers and packets tell, the newest first
+-- the run that these events, answers and packets show, the newest first
 abbrev pub run_of : List Event → List Answer → List Posted → List Did
 run_of events answers packets = reverse (all_did packets events answers)
 
--- each group that had no request refused for lack of memory is seen in the run as what it is alone
+-- what the run shows of each group that had no request refused for lack of memory is what the group has alone
 abbrev pub AreSeenAlone : Plan → List Event → List Answer → List Posted → Type 0
 AreSeenAlone plan events answers packets = (g : Addr) → is_fed g (run_of events answers packets) ≡ true → IsSeenAlone plan (run_of events answers packets) g
 
--- each event in turn is answered so, and makes the second cluster of the first
+-- the events take the first cluster to the second, and each is answered with the answer at its place
 unfoldable pub AreSteps : ClusterValue → List Event → List Answer → ClusterValue → Type 0
 AreSteps v [] [] w = w ≡ v
 AreSteps v (e ∷ events) (a ∷ answers) w = (x : ClusterValue) × IsStep v e a x × AreSteps x events answers w
 AreSteps v events answers w = ⊥
 
--- A cluster that is started with the plan answers these events so and is this then, with these packets; it came to it by the run that they tell.
+-- A cluster that is started with the plan gives these answers to these events, and is then v, with these packets. It came to v by the run that they show.
 pub record IsRun (plan : Plan) (events : List Event) (answers : List Answer) (packets : List Posted) (v : ClusterValue) : Type 0 where
   pub stepped : AreSteps (new_cluster plan) events answers v
   pub comes : ComesTo plan (run_of events answers packets) v

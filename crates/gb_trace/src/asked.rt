@@ -1,4 +1,4 @@
-//! What requests give a group in the projection of a run.
+//! What requests add to the projection of a run on a group.
 ghost use Rattle.std.specs.Prelude.{◌≡◌, ◌≤◌, ◌++◌, [], ◌∷◌, true, IfOk, OnOk, if◌then◌else◌};
 ghost use Rattle.std.specs.Option.{option_to_list};
 ghost use Rattle.gb_types.specs.declared.limits.TheConstants.{SILENCE_MIN as LEAST};
@@ -24,7 +24,7 @@ use gb_types::reply::Reply;
 use gb_types::request::Request;
 use std::alloc::Global;
 
-/// The group's command that a request is.
+/// Returns the command that `request` makes for a group at the node `a`. `Ok(None)` if the request names no group.
 fn command(alloc: Global, a: NodeId, request: &Request) -> Result<Option<GroupStep>, OutOfMemory>
     ensures { (addr : AnyAddr) → IfOk result (λ s. option_to_list s ≡ command_for a request.now) }
 {
@@ -39,8 +39,8 @@ fn command(alloc: Global, a: NodeId, request: &Request) -> Result<Option<GroupSt
     })
 }
 
-/// Adds what a request of the group with its reply gives it at a running node: made, it learns of the members that are
-/// noticed there.
+/// Adds the group's steps from a request of the group, with its reply, at a running node. If the request makes the group, these
+/// include the notices of the members that are noticed there.
 fn of_own(
     alloc: Global,
     plan: &Plan,
@@ -63,7 +63,7 @@ fn of_own(
     }
 }
 
-/// What a request with its reply tells the group of its tenant.
+/// Returns the step that tells the group of its tenant, or `None` if the request with its reply adds another tenant or none.
 fn tenant(addr: Addr, a: NodeId, request: &Request, reply: &Reply) -> Option<GroupStep>
     ensures { option_to_list result ≡ tenant_given addr a request.now reply.now }
 {
@@ -82,7 +82,7 @@ fn tenant(addr: Addr, a: NodeId, request: &Request, reply: &Reply) -> Option<Gro
     }
 }
 
-/// Adds what a request with its reply gives the group at a running node.
+/// Adds the group's steps from a request, with its reply, at a running node.
 fn of_running(
     alloc: Global,
     plan: &Plan,
@@ -105,7 +105,7 @@ fn of_running(
     Ok(())
 }
 
-/// Adds the node's stop, unless a request of the group met it before.
+/// Adds the node's stop, unless a request of the group met it before (`met`).
 fn add_stop(a: NodeId, met: bool, steps: &mut Vec<GroupStep>) -> Result<(), OutOfMemory>
     ensures { OnOk result (steps.new.items ≡ steps.old.items ++ (if met then [] else record { node = a; event = Ends } ∷ [])) }
 {
@@ -115,7 +115,7 @@ fn add_stop(a: NodeId, met: bool, steps: &mut Vec<GroupStep>) -> Result<(), OutO
     Ok(())
 }
 
-/// Adds what a request of the group gives it at a node that has stopped: the first of them shows the stop.
+/// Adds the group's steps from a request of the group at a node that has stopped. The first such request also adds the stop.
 fn of_stopped(
     alloc: Global,
     addr: Addr,
@@ -133,7 +133,7 @@ fn of_stopped(
     Ok(())
 }
 
-/// Adds what a request with its reply gives the group, after what happened before.
+/// Adds the group's steps from `request`, with its reply, at the node `a`. `before` is what happened before.
 pub(crate) fn of_request(
     alloc: Global,
     plan: &Plan,

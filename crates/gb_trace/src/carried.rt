@@ -1,4 +1,4 @@
-//! What packets give a group in the projection of a run.
+//! What packets add to the projection of a run on a group.
 ghost use Rattle.std.specs.Prelude.{◌≡◌, ◌++◌, [], OnOk, length, reverse, if◌then◌else◌, map};
 ghost use Rattle.std.specs.List.{flat_map};
 ghost use Rattle.std.specs.Option.{option_to_list};
@@ -24,7 +24,8 @@ use gb_types::node::NodeId;
 use gb_types::plan::Plan;
 use std::alloc::Global;
 
-/// What a packet that was packed for the other node gives the group.
+/// Returns the group's step from the packet `text`, which the node `a` packed for `b`, or `None` if the packet has no item of
+/// the group.
 #[tactic(auto, using(crate::proofs::CountLemmas::any_some, crate::proofs::CountLemmas::text_none, crate::proofs::CountLemmas::text_one))]
 pub(crate) fn of_packed(
     addr: Addr,
@@ -43,7 +44,7 @@ pub(crate) fn of_packed(
     Some(at(a, GroupEvent::Took(b, count)))
 }
 
-/// Adds that this number of items is acknowledged, from a place on, unless it is 0.
+/// Adds that `count` items, from `place` on, are acknowledged, unless `count` is 0.
 #[tactic(auto, using(crate::proofs::CountLemmas::any_some))]
 fn add_acknowledged(
     a: NodeId,
@@ -60,7 +61,7 @@ fn add_acknowledged(
     Ok(())
 }
 
-/// Adds that this number of items comes, with the places after this one. `Err` also where there is no number for them.
+/// Adds that `count` items come, with the places after `place`. `Err` also if a place would be above 2^64 - 1.
 fn add_comes(
     from: NodeId,
     to: NodeId,
@@ -80,7 +81,7 @@ fn add_comes(
     add_comes(from, to, next, count - 1, steps)
 }
 
-/// Whether the packet acknowledges the frame with this number for the first time.
+/// Returns true if the packet acknowledges the frame `number` for the first time.
 fn is_new(key: &HmacKey, before: &[Deed], a: NodeId, packet: &PacketView<'_>, number: u64) -> bool
     ensures { result ≡ is_new_ack key.now (past_in a before.now) packet.now number }
 {
@@ -88,8 +89,8 @@ fn is_new(key: &HmacKey, before: &[Deed], a: NodeId, packet: &PacketView<'_>, nu
     covers(head.base, head.mask, number) && !was_acknowledged(key, a, head.from, number, before)
 }
 
-/// Adds that this number of items is acknowledged, from a place on, those of a frame, where the packet acknowledges it for the
-/// first time.
+/// Adds that the `count` items of the frame `number`, from `place` on, are acknowledged, if the packet acknowledges that frame
+/// for the first time.
 fn add_new(
     key: &HmacKey,
     before: &[Deed],
@@ -108,8 +109,8 @@ fn add_new(
     Ok(())
 }
 
-/// Adds what the packet's acknowledgement gives the group. `counts` are the numbers of its items in the frames for the packet's sender.
-/// `Err` also where there is no number for them.
+/// Adds the group's steps from the packet's acknowledgement. `counts` has, for each frame for the packet's sender, the number of
+/// the group's items in it. `Err` also if a place would be above 2^64 - 1.
 fn add_all_acknowledged(
     key: &HmacKey,
     before: &[Deed],
@@ -140,7 +141,7 @@ fn add_all_acknowledged(
     Ok(())
 }
 
-/// Adds what the packet's acknowledgement gives the group.
+/// Adds the group's steps from the packet's acknowledgement.
 fn of_acknowledgement(
     alloc: Global,
     plan: &Plan,
@@ -158,7 +159,8 @@ fn of_acknowledgement(
     add_all_acknowledged(key, before, a, packet, counts.as_slice(), steps)
 }
 
-/// Adds what the packet's frame gives the group: its items come, with the places after those of the frames before it.
+/// Adds the group's steps from the packet's frame: its items come, with the places after those of the items in the frames before
+/// it.
 #[tactic(auto, using(crate::proofs::CountLemmas::offset_is))]
 fn of_frame(
     alloc: Global,
@@ -179,7 +181,7 @@ fn of_frame(
     add_comes(from, a, place, count_in(addr, packet), steps)
 }
 
-/// Whether the packet has a frame, and none with its number came from its sender before.
+/// Returns true if the packet has a frame, and no frame with its number came from its sender before.
 fn has_new_frame(key: &HmacKey, before: &[Deed], a: NodeId, packet: &PacketView<'_>) -> bool
     ensures { result ≡ is_new_frame key.now (past_in a before.now) packet.now }
 {
@@ -187,7 +189,7 @@ fn has_new_frame(key: &HmacKey, before: &[Deed], a: NodeId, packet: &PacketView<
     head.frame != 0 && !has_come(key, a, head.from, head.frame, before)
 }
 
-/// Adds what the packet gives the group: its acknowledgement counts first.
+/// Adds the group's steps from the packet: first those of its acknowledgement, then those of its frame if it is new.
 fn of_packet(
     alloc: Global,
     plan: &Plan,
@@ -208,7 +210,7 @@ fn of_packet(
     Ok(())
 }
 
-/// Adds what bytes that a running node took give the group, after what happened before.
+/// Adds the group's steps from the bytes that the running node `a` took. `before` is what happened before.
 pub(crate) fn of_taken(
     alloc: Global,
     plan: &Plan,

@@ -14,7 +14,7 @@ use gb_types::node::NodeId;
 use std::alloc::Global;
 use std::marker::Model;
 
-/// Something that happened at a node, and the node's answer. Contracts see these three.
+/// Something that happened at a node: the node, the event and the node's answer. Contracts see these three.
 #[derive(Drop)]
 pub(crate) struct Deed {
     node: NodeId,
@@ -54,7 +54,7 @@ impl Deed {
         &self.answer
     }
 
-    /// Whether it happened at the node.
+    /// Returns true if it happened at `node`.
     pub(crate) fn is_at(&self, node: NodeId) -> bool
         ensures { result ≡ nat_eq self.now.node.number node.number }
     {
@@ -62,7 +62,7 @@ impl Deed {
     }
 }
 
-/// The packet with the number.
+/// Returns the packet with this number, or `None` if there is none.
 pub(crate) fn packet_of(packets: &[Posted], number: u64) -> Option<&Posted>
     ensures { MatchOption result (packet_numbered packets.now number ≡ None) (λ p. packet_numbered packets.now number ≡ Some p.now) }
 {
@@ -72,7 +72,7 @@ pub(crate) fn packet_of(packets: &[Posted], number: u64) -> Option<&Posted>
     packets.get((number - 1) as usize)
 }
 
-/// A copy of these bytes.
+/// Returns a copy of `text`.
 fn copied(alloc: Global, text: &PacketText) -> Result<PacketText, OutOfMemory>
     ensures { IfOk result (λ t. t ≡ text.now) }
 {
@@ -80,7 +80,7 @@ fn copied(alloc: Global, text: &PacketText) -> Result<PacketText, OutOfMemory>
     Ok(PacketText::from(bytes))
 }
 
-/// What the node sent, with the text of the packet in place of its number.
+/// Returns what the node sent, with the packet's text in place of its number. `Ok(None)` if no packet has the number.
 fn sent_of(alloc: Global, packets: &[Posted], sending: Sending) -> Result<Option<Sent>, OutOfMemory>
     ensures { IfOk result (λ s. s ≡ sent_as packets.now sending) }
 {
@@ -94,7 +94,7 @@ fn sent_of(alloc: Global, packets: &[Posted], sending: Sending) -> Result<Option
     }
 }
 
-/// The answer that tells what the node sent, where that is known.
+/// Returns the node's answer that says what it sent, or `None` if that is not known.
 fn sent_answer(sent: Option<Sent>) -> Option<NodeAnswer>
     ensures { MatchOption result (sent ≡ None) (λ a. MatchOption sent (result ≡ None) (λ s. a ≡ NodeAnswer.Sent s)) }
 {
@@ -104,7 +104,7 @@ fn sent_answer(sent: Option<Sent>) -> Option<NodeAnswer>
     }
 }
 
-/// What a tick brought to light, copied.
+/// Returns a copy of a tick's answer.
 fn ticked_of(ticked: &Ticked) -> Ticked
     ensures { result ≡ ticked.now }
 {
@@ -114,7 +114,7 @@ fn ticked_of(ticked: &Ticked) -> Ticked
     }
 }
 
-/// The answer of the node that acted, if one did.
+/// Returns the answer of the node that acted, or `Ok(None)` if no node acted.
 fn answer_of(
     alloc: Global,
     packets: &[Posted],
@@ -133,7 +133,7 @@ fn answer_of(
     }
 }
 
-/// Adds what happened at the node, if its answer is there.
+/// Adds what happened at the node, if the node answered.
 fn add(
     alloc: Global,
     packets: &[Posted],
@@ -154,7 +154,7 @@ fn add(
     Ok(())
 }
 
-/// Adds what happened at a node by the event with its answer.
+/// Adds what happened at a node by the event with its answer, if anything did.
 fn add_deed(
     alloc: Global,
     packets: &[Posted],
@@ -179,7 +179,8 @@ fn add_deed(
     }
 }
 
-/// All that happened at nodes, in order. Events beyond the answers do not count, nor answers beyond the events.
+/// Returns all that happened at nodes, in order. If there are more events than answers, or more answers than events, the surplus
+/// is ignored.
 #[tactic(auto, using(crate::proofs::DeedLemmas::all_deeds, crate::proofs::DeedLemmas::no_deeds))]
 pub(crate) fn deeds_of(
     alloc: Global,

@@ -1,4 +1,4 @@
-//! Questions about the frames of the links, asked of all that happened in a run so far, in order.
+//! Questions about the frames of the links. `deeds` is all that happened in a run so far, in order.
 ghost use Rattle.std.specs.Prelude.{◌≡◌, ◌≤◌, ◌++◌, IfOk, OnOk, length, map, sum, take, if◌then◌else◌};
 ghost use Rattle.std.specs.List.{list_any};
 ghost use Rattle.gb_node.specs.Past.{came as taken_by, packed_for, frames_to, is_ack, is_acked, is_frame};
@@ -15,7 +15,7 @@ use gb_types::memory::OutOfMemory;
 use gb_types::node::NodeId;
 use std::alloc::Global;
 
-/// Whether this took a packet of the other node with this frame number.
+/// Returns true if `deed` took a packet of the node `b` with this frame number.
 #[tactic(auto, using(crate::proofs::FrameLemmas::any_none, crate::proofs::FrameLemmas::any_one))]
 fn has_frame(key: &HmacKey, b: NodeId, number: u64, deed: &Deed) -> bool
     ensures { result ≡ list_any (is_frame b.number number) (taken_by key.now deed.now.event deed.now.answer) }
@@ -29,7 +29,7 @@ fn has_frame(key: &HmacKey, b: NodeId, number: u64, deed: &Deed) -> bool
     }
 }
 
-/// Whether the node took a packet of the other with this frame number.
+/// Returns true if the node `a` took a packet of `b` with this frame number.
 #[tactic(auto, using(crate::proofs::PastLemmas::here, crate::proofs::PastLemmas::elsewhere, crate::proofs::PastLemmas::whole), unfolding(gb_isolation::specs::Project::has_come, gb_cluster::specs::Run::past_at))]
 pub(crate) fn has_come(key: &HmacKey, a: NodeId, b: NodeId, number: u64, deeds: &[Deed]) -> bool
     ensures { result ≡ projected.has_come key.now b.number number (past_in a deeds.now) }
@@ -44,7 +44,7 @@ pub(crate) fn has_come(key: &HmacKey, a: NodeId, b: NodeId, number: u64, deeds: 
     come
 }
 
-/// Whether this took a packet of the other node that acknowledges this frame.
+/// Returns true if `deed` took a packet of the node `b` that acknowledges this frame.
 #[tactic(auto, using(crate::proofs::FrameLemmas::any_none, crate::proofs::FrameLemmas::any_one))]
 fn acknowledges(key: &HmacKey, b: NodeId, number: u64, deed: &Deed) -> bool
     ensures { result ≡ list_any (is_ack b.number number) (taken_by key.now deed.now.event deed.now.answer) }
@@ -58,7 +58,7 @@ fn acknowledges(key: &HmacKey, b: NodeId, number: u64, deed: &Deed) -> bool
     }
 }
 
-/// How many frames this packed for the other node: one, where it did.
+/// Returns the number of frames that `deed` packed for the node `b`: 0 or 1.
 fn frames_packed(key: &HmacKey, b: NodeId, deed: &Deed) -> usize
     ensures count { result ≡ length (packed_for key.now b.number deed.now.event deed.now.answer) }
     ensures most { result ≤ 1 }
@@ -69,7 +69,7 @@ fn frames_packed(key: &HmacKey, b: NodeId, deed: &Deed) -> usize
     }
 }
 
-/// Whether the node took an acknowledgement of the frame for the other with this number, after it had packed it.
+/// Returns true if the node `a` took an acknowledgement of its frame `number` for `b` after it had packed that frame.
 #[tactic(auto, using(crate::proofs::PastLemmas::here, crate::proofs::PastLemmas::elsewhere, crate::proofs::PastLemmas::whole), unfolding(gb_node::specs::Past::is_acked, gb_node::specs::Past::frames_to, gb_cluster::specs::Run::past_at))]
 pub(crate) fn was_acknowledged(
     key: &HmacKey,
@@ -93,7 +93,7 @@ pub(crate) fn was_acknowledged(
     acknowledged
 }
 
-/// Adds how many items of the group the frame has that this packed for the other node, if it did.
+/// If `deed` packed a frame for the node `b`, adds the number of the group's items in it.
 fn add_count(
     addr: Addr,
     key: &HmacKey,
@@ -109,7 +109,7 @@ fn add_count(
     Ok(())
 }
 
-/// How many items of the group each frame has that the node packed for the other, in order.
+/// Returns, for each frame that the node `a` packed for `b`, the number of the group's items in it, in order.
 pub(crate) fn counts_to(
     alloc: Global,
     addr: Addr,
@@ -130,7 +130,7 @@ pub(crate) fn counts_to(
     Ok(counts)
 }
 
-/// Returns how many items the first `frames` frames have together. `Err` where there is no number for them.
+/// Returns the sum of the first `frames` counts. `Err` if it is above 2^64 - 1.
 pub(crate) fn first_of(counts: &[u64], frames: u64) -> Result<u64, OutOfMemory>
     ensures { IfOk result (λ n. n ≡ sum (take frames counts.now)) }
 {

@@ -1,7 +1,7 @@
-//! Whole runs of a cluster, what a run leaves, and the plain programs that read it: what a run shows of one group, computed slowly
-//! from its meaning. The programs look into no node: all is read from events, answers and packets, as `run::run` gives them. Read
-//! `trace::Trace` first, then specs/Trace.antt. The programs stand here: `observe`, `project` and `refused_for` of a run, and
-//! `alone`, which takes what `project` gives; `laws::fed_groups_are_seen_alone` says how they meet.
+//! Whole runs of a cluster, and the plain programs that read them: they compute what a run shows of one group slowly, from its
+//! meaning. The programs never look into a node: they read events, answers and packets, as `run::run` returns them. Read
+//! `trace::Trace` first, then specs/Trace.antt. The programs of this crate are `observe`, `project` and `refused_for`.
+//! gb_alone's `alone` takes what `project` returns; `laws::fed_groups_are_seen_alone` says how they agree.
 #![tactic(auto)]
 
 mod asked;

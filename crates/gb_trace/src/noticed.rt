@@ -1,4 +1,4 @@
-//! The notices that the projection of a run on a group has.
+//! The notices in the projection of a run on a group.
 ghost use Rattle.std.specs.Prelude.{◌≡◌, ◌≤◌, ◌++◌, ◌&&◌, [], ◌∷◌, OnOk, if◌then◌else◌};
 ghost use Rattle.std.specs.FinSet as set;
 ghost use Rattle.gb_types.specs.declared.limits.TheConstants.{SILENCE_MIN as LEAST};
@@ -21,7 +21,7 @@ use gb_types::node::{NodeId, NodeSet};
 use gb_types::plan::Plan;
 use gb_types::spec::Spec;
 
-/// Adds the notice of a node, where it is another member and is new.
+/// Adds the notice of the node `other`, if it is another member and `new` is true.
 fn add_notice(
     a: NodeId,
     spec: &Spec,
@@ -37,7 +37,7 @@ fn add_notice(
     Ok(())
 }
 
-/// Adds the notices of the members that are noticed at the node.
+/// Adds the notices of the members that are noticed at the node `a`.
 pub(crate) fn add_noticed(
     plan: &Plan,
     key: &HmacKey,
@@ -58,7 +58,7 @@ pub(crate) fn add_noticed(
     Ok(())
 }
 
-/// Adds the notices of the members that are found.
+/// Adds the notices of the members in `found`.
 fn add_found(
     a: NodeId,
     spec: &Spec,
@@ -74,7 +74,7 @@ fn add_found(
     Ok(())
 }
 
-/// Adds what a tick that found these nodes gives the group, where it was made at the node.
+/// Adds the group's steps from a tick that noticed the nodes `found`, if the group was made at the node.
 pub(crate) fn of_tick(
     addr: Addr,
     before: &[Deed],

@@ -26,7 +26,7 @@ use gb_types::plan::Plan;
 use gb_types::reply::Reply;
 use std::alloc::Global;
 
-/// Adds a copy of the reply that this brings to the group at the node, after what happened before.
+/// If `deed` is a request of the group at the node `a`, adds a copy of its reply. `before` is what happened before.
 fn add_reply(
     alloc: Global,
     addr: Addr,
@@ -49,7 +49,7 @@ fn add_reply(
     Ok(())
 }
 
-/// The replies to the group's commands at the node.
+/// Returns the replies to the group's commands at the node.
 fn replies_at(
     alloc: Global,
     addr: Addr,
@@ -68,7 +68,7 @@ fn replies_at(
     Ok(replies)
 }
 
-/// Adds the group's items of the frame that this packed for the node, if it did.
+/// If `deed` packed a frame for the node `b`, adds the group's items in it.
 #[tactic(auto, using(crate::proofs::FrameLemmas::one_frame, crate::proofs::FrameLemmas::no_frame))]
 fn add_frame(
     alloc: Global,
@@ -86,7 +86,7 @@ fn add_frame(
     Ok(())
 }
 
-/// The group's items in the frames that a node packed for another one.
+/// Returns the group's items in the frames that the node `a` packed for `b`, in order.
 fn items_to(
     alloc: Global,
     addr: Addr,
@@ -107,7 +107,7 @@ fn items_to(
     Ok(items)
 }
 
-/// Returns the group's items that are carried from the node to each node of the cluster.
+/// Returns, for each node of the cluster, the group's items that are carried to it from the node `a`.
 #[tactic(auto, using(gb_alone::proofs::ObservationLemmas::map_more, gb_alone::proofs::ObservationLemmas::map_none))]
 fn items_from(
     alloc: Global,
@@ -127,7 +127,7 @@ fn items_from(
     Ok(carried)
 }
 
-/// What is seen of the group at the node.
+/// Returns what is seen of the group at the node.
 fn seen_at(
     alloc: Global,
     plan: &Plan,
@@ -145,7 +145,7 @@ fn seen_at(
     Ok(NodeSeen::new(replies, carried))
 }
 
-/// What is seen of the group at each node.
+/// Returns what is seen of the group at each node.
 #[tactic(auto, using(gb_alone::proofs::ObservationLemmas::map_none))]
 fn seen_in(
     alloc: Global,
@@ -164,8 +164,8 @@ fn seen_in(
     Ok(Observation::from(seen))
 }
 
-/// What is seen of the group in a run, at each node of the plan: the replies to its commands, and its items that are
-/// carried. Events beyond the answers do not count, nor answers beyond the events.
+/// Returns what is seen of the group in a run, at each node of the plan: the replies to its commands, and its items that are
+/// carried. If there are more events than answers, or more answers than events, the surplus is ignored.
 pub fn observe(
     alloc: Global,
     plan: &Plan,

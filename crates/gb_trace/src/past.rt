@@ -1,4 +1,4 @@
-//! Questions about the past of a node, asked of all that happened in a run so far, in order.
+//! Questions about a node's past. `deeds` is all that happened in a run so far, in order.
 ghost use Rattle.std.specs.Prelude.{◌≡◌, ◌&&◌, List};
 ghost use Rattle.std.specs.Option.{option_copied};
 ghost use Rattle.gb_rules.specs.Tenant.{row_of};
@@ -22,7 +22,7 @@ use gb_types::reply::Reply;
 use gb_types::request::Request;
 use gb_types::spec::{Spec, TenantRow};
 
-/// The row of the tenant, where the request with its reply added it.
+/// Returns the row of the tenant, if the request with its reply added it.
 pub(crate) fn row_added<'a>(
     tenant: u16,
     request: &'a Request,
@@ -45,7 +45,7 @@ pub(crate) fn row_added<'a>(
     }
 }
 
-/// The row of the tenant, where this added it.
+/// Returns the row of the tenant, if `deed` added it.
 fn row_in(tenant: u16, deed: &Deed) -> Option<&TenantRow>
     ensures { option_copied result ≡ row_of tenant (added deed.now.event deed.now.answer) }
 {
@@ -58,7 +58,7 @@ fn row_in(tenant: u16, deed: &Deed) -> Option<&TenantRow>
     }
 }
 
-/// The row of the tenant at the node.
+/// Returns the row of the tenant at the node, or `None` if the tenant was not added there.
 #[tactic(auto, using(crate::proofs::PastLemmas::here, crate::proofs::PastLemmas::elsewhere, crate::proofs::PastLemmas::whole, crate::proofs::PastLemmas::find_later), unfolding(gb_node::specs::Past::tenants_in, gb_cluster::specs::Run::past_at))]
 pub(crate) fn row_at(a: NodeId, tenant: u16, deeds: &[Deed]) -> Option<&TenantRow>
     ensures { option_copied result ≡ row_of tenant (tenants_in (past_in a deeds.now)) }
@@ -73,7 +73,7 @@ pub(crate) fn row_at(a: NodeId, tenant: u16, deeds: &[Deed]) -> Option<&TenantRo
     found
 }
 
-/// Whether this is the token for the need under the key of a tenant, if it is there.
+/// Returns true if `row` is there and `token` is the token for `need` under its key.
 fn is_token(need: Need, token: &Token, row: Option<&TenantRow>) -> bool
     ensures { result ≡ is_by_row need token.now (option_copied row.entry) }
 {
@@ -83,8 +83,8 @@ fn is_token(need: Need, token: &Token, row: Option<&TenantRow>) -> bool
     }
 }
 
-/// Whether the request is one of the group at the node where this is the row of its tenant: it names the group, with the
-/// token that it needs.
+/// Returns true if the request names the group and has the token that it needs at the node `a`. `row` is the row of the group's
+/// tenant at the node.
 pub(crate) fn is_own_by(addr: Addr, a: NodeId, row: Option<&TenantRow>, request: &Request) -> bool
     ensures { (rows : List RowValue) → option_copied row.entry ≡ row_of addr.tenant rows → result ≡ (projected.is_named addr request.now && has_group_token a rows request.now) }
 {
@@ -104,14 +104,14 @@ pub(crate) fn is_own_by(addr: Addr, a: NodeId, row: Option<&TenantRow>, request:
     is_same(addr, *named) && is_token(need, token, row)
 }
 
-/// Whether the request is one of the group at the node.
+/// Returns true if the request is one of the group at the node: it names the group and has the token that it needs there.
 pub(crate) fn is_own_request(addr: Addr, a: NodeId, deeds: &[Deed], request: &Request) -> bool
     ensures { result ≡ projected.is_own_request a addr (past_in a deeds.now) request.now }
 {
     is_own_by(addr, a, row_at(a, addr.tenant, deeds), request)
 }
 
-/// Whether the node stopped by this.
+/// Returns true if the node stopped by `deed`.
 fn stops(deed: &Deed) -> bool
     ensures { result ≡ occurred.stops deed.now.event deed.now.answer }
 {
@@ -124,7 +124,7 @@ fn stops(deed: &Deed) -> bool
     }
 }
 
-/// Whether the node has stopped.
+/// Returns true if the node has stopped.
 #[tactic(auto, using(crate::proofs::PastLemmas::here, crate::proofs::PastLemmas::elsewhere, crate::proofs::PastLemmas::whole), unfolding(gb_node::specs::Past::is_stopped, gb_cluster::specs::Run::past_at))]
 pub(crate) fn was_stopped(a: NodeId, deeds: &[Deed]) -> bool
     ensures { result ≡ is_stopped (past_in a deeds.now) }
@@ -139,7 +139,8 @@ pub(crate) fn was_stopped(a: NodeId, deeds: &[Deed]) -> bool
     stopped
 }
 
-/// Whether this, after what happened before, is a request of the group at the node, which has stopped.
+/// Returns true if `deed` is a request of the group at the node `a`, after the node had stopped. `before` is what happened
+/// before.
 fn meets(addr: Addr, a: NodeId, before: &[Deed], deed: &Deed) -> bool
     ensures { result ≡ projected.is_met_by a addr (past_in a before.now) deed.now.event deed.now.answer }
 {
@@ -152,7 +153,7 @@ fn meets(addr: Addr, a: NodeId, before: &[Deed], deed: &Deed) -> bool
     was_stopped(a, before) && is_own_request(addr, a, before, request)
 }
 
-/// Whether a request of the group met the node's stop.
+/// Returns true if a request of the group met the node's stop.
 #[tactic(auto, using(crate::proofs::PastLemmas::here, crate::proofs::PastLemmas::elsewhere, crate::proofs::PastLemmas::whole), unfolding(gb_isolation::specs::Project::is_met, gb_cluster::specs::Run::past_at))]
 pub(crate) fn was_met(addr: Addr, a: NodeId, deeds: &[Deed]) -> bool
     ensures { result ≡ projected.is_met a addr (past_in a deeds.now) }
@@ -167,7 +168,7 @@ pub(crate) fn was_met(addr: Addr, a: NodeId, deeds: &[Deed]) -> bool
     met
 }
 
-/// What the request with its reply makes the group with, where it does.
+/// Returns the spec with which the request makes the group, or `None` if it, with its reply, does not make it.
 pub(crate) fn made<'a>(addr: Addr, request: &'a Request, reply: &Reply) -> Option<&'a Spec>
     ensures { option_copied result ≡ projected.made_by addr (Asked request.now) (Replied reply.now) }
 {
@@ -186,7 +187,7 @@ pub(crate) fn made<'a>(addr: Addr, request: &'a Request, reply: &Reply) -> Optio
     }
 }
 
-/// What this makes the group with, where it does.
+/// Returns the spec with which `deed` makes the group, or `None` if it does not make it.
 fn makes(addr: Addr, deed: &Deed) -> Option<&Spec>
     ensures { option_copied result ≡ projected.made_by addr deed.now.event deed.now.answer }
 {
@@ -199,7 +200,7 @@ fn makes(addr: Addr, deed: &Deed) -> Option<&Spec>
     }
 }
 
-/// What the group was made with at the node, where it was.
+/// Returns the spec with which the group was made at the node, or `None` if it was not made there.
 #[tactic(auto, using(crate::proofs::PastLemmas::here, crate::proofs::PastLemmas::elsewhere, crate::proofs::PastLemmas::whole), unfolding(gb_isolation::specs::Project::made_with, gb_cluster::specs::Run::past_at))]
 pub(crate) fn made_with(addr: Addr, a: NodeId, deeds: &[Deed]) -> Option<&Spec>
     ensures { option_copied result ≡ projected.made_with addr (past_in a deeds.now) }

@@ -21,7 +21,7 @@ use gb_types::memory::OutOfMemory;
 use gb_types::plan::Plan;
 use std::alloc::Global;
 
-/// Adds what this gives the group, after what happened before.
+/// Adds the group's steps from `deed`. `before` is what happened before.
 fn of_deed(
     alloc: Global,
     plan: &Plan,
@@ -63,7 +63,7 @@ fn of_deed(
     }
 }
 
-/// What of all this concerns the group.
+/// Returns the part of `deeds` that concerns the group, as steps of the group.
 fn of_deeds(
     alloc: Global,
     plan: &Plan,
@@ -81,9 +81,9 @@ fn of_deeds(
     Ok(steps)
 }
 
-/// The projection of a run on the group: what concerns it of events, answers and packets, in order. Events beyond the
-/// answers do not count, nor answers beyond the events. `Err` also where more than 2^64 - 1 items of the group are
-/// carried, since no more have numbers.
+/// Returns the projection of a run on the group: the steps of the group that the events, answers and packets show, in order. If
+/// there are more events than answers, or more answers than events, the surplus is ignored. `Err` also if more than 2^64 - 1
+/// items of the group are carried, since places are at most 2^64 - 1.
 pub fn project(
     alloc: Global,
     plan: &Plan,

@@ -1,4 +1,4 @@
-//! The packets that were packed and that came, read from their texts; and the items of a group in them.
+//! The packets that were packed and that came, read from their texts, and the items of a group in them.
 ghost use Rattle.std.specs.Prelude.{◌≡◌, ◌++◌, [], ◌∷◌, length, IfOk, OnOk, MatchOption};
 ghost use Rattle.gb_frame.specs.Packet.{item_of};
 ghost use Rattle.gb_frame.specs.Items.{entry_of, names};
@@ -22,7 +22,7 @@ use gb_types::node::NodeId;
 use gb_types::payload::Payload;
 use std::alloc::Global;
 
-/// The packet that these bytes are, if they are one.
+/// Returns the packet that `bytes` are, or `None` if they are no good packet.
 pub(crate) fn read<'a>(key: &HmacKey, bytes: &'a [u8]) -> Option<PacketView<'a>>
     ensures { MatchOption result (past.read key.now bytes.now ≡ []) (λ c. past.read key.now bytes.now ≡ c ∷ []) }
 {
@@ -32,7 +32,7 @@ pub(crate) fn read<'a>(key: &HmacKey, bytes: &'a [u8]) -> Option<PacketView<'a>>
     }
 }
 
-/// The packet that this took.
+/// Returns the packet that `deed` took, or `None` if it took none.
 pub(crate) fn came<'a>(key: &HmacKey, deed: &'a Deed) -> Option<PacketView<'a>>
     ensures { MatchOption result (past.came key.now deed.now.event deed.now.answer ≡ []) (λ c. past.came key.now deed.now.event deed.now.answer ≡ c ∷ []) }
 {
@@ -45,7 +45,7 @@ pub(crate) fn came<'a>(key: &HmacKey, deed: &'a Deed) -> Option<PacketView<'a>>
     read(key, bytes.as_slice())
 }
 
-/// The packet that this packed for the node.
+/// Returns the packet that `deed` packed for the node `b`, or `None` if it packed none.
 pub(crate) fn packed<'a>(key: &HmacKey, b: NodeId, deed: &'a Deed) -> Option<PacketView<'a>>
     ensures { MatchOption result (past.packed_for key.now b.number deed.now.event deed.now.answer ≡ []) (λ c. past.packed_for key.now b.number deed.now.event deed.now.answer ≡ c.items ∷ []) }
 {
@@ -61,7 +61,7 @@ pub(crate) fn packed<'a>(key: &HmacKey, b: NodeId, deed: &'a Deed) -> Option<Pac
     read(key, text.as_slice())
 }
 
-/// Whether the item is the group's.
+/// Returns true if the item is the group's.
 fn is_of(addr: Addr, item: ItemView<'_>) -> bool
     ensures { result ≡ names addr (item_of item.entry) }
 {
@@ -73,7 +73,7 @@ fn is_of(addr: Addr, item: ItemView<'_>) -> bool
     is_same(addr, named)
 }
 
-/// What the item says. Nodes beyond the last are counted from 0 again.
+/// Returns the item's origin, number and payload. An origin beyond the last node's number is counted from 0 again.
 fn entry(alloc: Global, item: ItemView<'_>) -> Result<Entry, OutOfMemory>
     ensures { IfOk result (λ e. e ≡ entry_of (item_of item.entry)) }
 {
@@ -102,7 +102,7 @@ pub(crate) fn add_items(
     Ok(())
 }
 
-/// How many of the packet's items are the group's.
+/// Returns the number of the group's items in the packet.
 pub(crate) fn count_in(addr: Addr, packet: &PacketView<'_>) -> u64
     ensures { result ≡ length (group_items addr packet.now.items) }
 {
@@ -116,7 +116,7 @@ pub(crate) fn count_in(addr: Addr, packet: &PacketView<'_>) -> u64
     count
 }
 
-/// The node that sent the packet.
+/// Returns the node that sent the packet.
 pub(crate) fn sender(packet: &PacketView<'_>) -> NodeId
     ensures node { result ≡ node_numbered packet.now.from }
     ensures number { result.number ≡ packet.now.from }

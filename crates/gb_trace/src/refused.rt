@@ -1,4 +1,4 @@
-//! Whether a group lacked memory in a run, computed plainly from its meaning, with no copy of the run.
+//! Whether a group was refused memory in a run, computed plainly from its meaning, with no copy of the run.
 ghost use Rattle.std.specs.Prelude.{◌≡◌, ◌≤◌, false, true, length, take};
 ghost use Rattle.std.specs.Option.{option_copied};
 ghost use Rattle.gb_rules.specs.Tenant.{row_of};
@@ -20,7 +20,7 @@ use gb_types::reply::Reply;
 use gb_types::request::Request;
 use gb_types::spec::TenantRow;
 
-/// The row of the tenant, where the event with its answer added it at the node.
+/// Returns the row of the tenant, if the event with its answer added it at the node `a`.
 fn row_in<'a>(a: NodeId, tenant: u16, event: &'a Event, answer: &Answer) -> Option<&'a TenantRow>
     ensures { option_copied result ≡ row_of tenant (rows_by a event.now answer.now) }
 {
@@ -36,7 +36,7 @@ fn row_in<'a>(a: NodeId, tenant: u16, event: &'a Event, answer: &Answer) -> Opti
     row_added(tenant, request, reply)
 }
 
-/// Returns the row of the tenant at the node, after the first `count` events.
+/// Returns the row of the tenant at the node `a` after the first `count` events, or `None` if it was not added by then.
 #[tactic(auto, using(crate::proofs::RefusedLemmas::rows_more, crate::proofs::RefusedLemmas::no_rows, crate::proofs::PastLemmas::find_later))]
 fn row_at<'a>(
     trace: &Trace,
@@ -57,8 +57,8 @@ fn row_at<'a>(
     found
 }
 
-/// Returns whether the event behind the first `count` events was refused for lack of memory, and is a request of the group or one
-/// that adds its tenant.
+/// Returns true if `event`, which follows the first `count` events, was refused for lack of memory and is a request of the group
+/// or one that adds its tenant.
 fn is_lacking(
     trace: &Trace,
     events: &[Event],
@@ -84,8 +84,9 @@ fn is_lacking(
     is_own_by(addr, *node, row, request)
 }
 
-/// Whether in a run a request of the group, or one that adds its tenant, was refused for lack of memory. Where none was,
-/// the group is what it is alone. Events beyond the answers do not count, nor answers beyond the events.
+/// Returns true if in the run a request of the group, or one that adds its tenant, was refused for lack of memory. If it returns
+/// false, the group is what it is alone. If there are more events than answers, or more answers than events, the surplus is
+/// ignored.
 #[tactic(auto, using(crate::proofs::RefusedLemmas::refused_more, crate::proofs::RefusedLemmas::none_refused, crate::proofs::RefusedLemmas::unrefused_fed, crate::proofs::DeedLemmas::all_deeds))]
 pub fn refused_for(trace: &Trace, events: &[Event], addr: Addr) -> bool
     ensures refused { result ≡ is_refused_for addr (run_of events.now trace.now.answers.items trace.now.packets.items) }

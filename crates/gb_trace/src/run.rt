@@ -19,7 +19,7 @@ use gb_types::refusal::Refusal;
 use gb_types::reply::Reply;
 use std::alloc::Global;
 
-/// Whether the answer says that a node lacked memory.
+/// Returns true if the answer says that a node refused for lack of memory.
 fn is_refused(answer: &Answer) -> bool
     ensures { result ≡ tells_want answer.now }
 {
@@ -33,14 +33,14 @@ fn is_refused(answer: &Answer) -> bool
     }
 }
 
-/// Whether some answer says so.
+/// Returns true if some answer says that a node refused for lack of memory.
 fn has_refusal(answers: &[Answer]) -> bool
     ensures { result ≡ list_any tells_want answers.now }
 {
     answers.iter().any(is_refused)
 }
 
-/// Returns true if the node that acts has a number below this.
+/// Returns true if the event is at a node with a number below `nodes`, or at no named node.
 fn is_placed(nodes: usize, event: &Event) -> bool
     ensures { IsTrue result ↔ IsPlaced nodes event.now }
 {
@@ -50,7 +50,7 @@ fn is_placed(nodes: usize, event: &Event) -> bool
     }
 }
 
-/// Returns true if each node that acts has a number below this.
+/// Returns true if each event that names a node names one with a number below `nodes`.
 #[tactic(auto, using(crate::proofs::RunLemmas::placed_none, crate::proofs::RunLemmas::placed_more, crate::proofs::RunLemmas::placed_all, crate::proofs::RunLemmas::placed_each))]
 pub fn are_placed(nodes: usize, events: &[Event]) -> bool
     ensures { IsTrue result ↔ All (IsPlaced nodes) events.now }
@@ -63,9 +63,10 @@ pub fn are_placed(nodes: usize, events: &[Event]) -> bool
     true
 }
 
-/// A whole run: what a cluster that is started with the plan answers to these events, one after the other. Each group of
-/// which no request was refused for lack of memory is in it what it is alone; where `refused` is false, every group is. `Err` says
-/// that there was no memory to keep the run; that a node lacks memory is an answer.
+/// Runs a whole cluster: starts it with `plan` and returns its answers to `events`, one after the other, with the packets that
+/// were sent. In this run each group that had no request refused for lack of memory is what it is alone; if `refused` is false,
+/// every group is. `Err` means that there was no memory to keep the run. A node that refuses for lack of memory is no error:
+/// that is an answer.
 pub fn run(alloc: Global, plan: Plan, events: &[Event]) -> Result<Trace, OutOfMemory>
     requires plan { IsClusterPlan plan }
     requires placed { All (IsPlaced plan.nodes) events.now }

@@ -1,4 +1,4 @@
-//! For how long nodes were silent, asked of all that happened in a run so far, in order.
+//! For how many ticks nodes were silent. `deeds` is all that happened in a run so far, in order.
 ghost use Rattle.std.specs.Prelude.{◌≡◌, ◌≤◌, ◌||◌, [], ◌∷◌, nat_le, if◌then◌else◌};
 ghost use Rattle.std.specs.List.{list_any};
 ghost use Rattle.gb_types.specs.declared.limits.TheConstants.{SILENCE_MIN as LEAST};
@@ -15,7 +15,7 @@ use gb_node::event::NodeEvent;
 use gb_types::node::NodeId;
 use gb_types::plan::Plan;
 
-/// Whether the time ticked.
+/// Returns true if `deed` is a tick that was answered with the nodes noticed.
 fn ticks(deed: &Deed) -> bool
     ensures { ticked_by deed.now.event deed.now.answer ≡ (if result then Tick ∷ [] else []) }
 {
@@ -28,7 +28,8 @@ fn ticks(deed: &Deed) -> bool
     }
 }
 
-/// Returns for how many ticks the other node was not heard after this, but for its own tick. `unheard` is that number before it.
+/// Returns for how many ticks in a row the node `b` was not heard, after `deed`. If `deed` is a tick, it is not counted yet.
+/// `unheard` is that number before `deed`.
 fn unheard_after(key: &HmacKey, b: NodeId, deed: &Deed, unheard: usize) -> usize
     ensures { result ≡ (if list_any (is_from b.number) (taken_by key.now deed.now.event deed.now.answer) then 0 else unheard) }
 {
@@ -44,14 +45,14 @@ fn unheard_after(key: &HmacKey, b: NodeId, deed: &Deed, unheard: usize) -> usize
     }
 }
 
-/// Whether it was so for too long, now or before.
+/// Returns true if `before` is true or `unheard` has reached `silence`.
 fn is_silent(unheard: usize, silence: u16, before: bool) -> bool
     ensures { result ≡ (nat_le silence unheard || before) }
 {
     unheard >= usize::from(silence) || before
 }
 
-/// Returns true if the other node was not heard at the node for this number of ticks, at some moment so far.
+/// Returns true if at some moment so far the node `a` had not heard `b` for `silence` ticks.
 #[tactic(auto, using(crate::proofs::PastLemmas::here, crate::proofs::PastLemmas::elsewhere, crate::proofs::PastLemmas::whole), unfolding(gb_node::specs::Past::watched, gb_cluster::specs::Run::past_at))]
 fn was_silent(key: &HmacKey, a: NodeId, b: NodeId, silence: u16, deeds: &[Deed]) -> bool
     requires { LEAST ≤ silence }
@@ -72,7 +73,7 @@ fn was_silent(key: &HmacKey, a: NodeId, b: NodeId, silence: u16, deeds: &[Deed])
     silent
 }
 
-/// Whether the other node is noticed at the node.
+/// Returns true if the node `b` is noticed at the node `a`.
 pub(crate) fn was_noticed(plan: &Plan, key: &HmacKey, a: NodeId, b: NodeId, deeds: &[Deed]) -> bool
     requires least { LEAST ≤ plan.now.silence }
     requires key { key.now ≡ plan.now.cluster_key }

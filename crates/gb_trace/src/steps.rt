@@ -1,4 +1,4 @@
-//! Lists of what happens to a group, as they are put together.
+//! Lists of the steps of a group, as they are put together.
 ghost use Rattle.std.specs.Prelude.{◌≡◌, ◌++◌, OnOk};
 ghost use Rattle.std.specs.Option.{option_to_list};
 
@@ -6,14 +6,14 @@ use gb_alone::event::{GroupEvent, GroupStep};
 use gb_types::memory::OutOfMemory;
 use gb_types::node::NodeId;
 
-/// What happens to the group at the node.
+/// Returns the step of the group that `event` is at `node`.
 pub(crate) fn at(node: NodeId, event: GroupEvent) -> GroupStep
     ensures { result ≡ record { node = node; event = event } }
 {
     GroupStep { node, event }
 }
 
-/// Adds a step at the end, where there is one.
+/// Adds `step` at the end, if it is not `None`.
 pub(crate) fn add(step: Option<GroupStep>, steps: &mut Vec<GroupStep>) -> Result<(), OutOfMemory>
     ensures { OnOk result (steps.new.items ≡ steps.old.items ++ option_to_list step) }
 {

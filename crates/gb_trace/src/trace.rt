@@ -9,6 +9,6 @@ pub struct Trace {
     pub answers: Vec<Answer>,
     /// Every packet that was sent, in order: packet 1 stands first.
     pub packets: Vec<Posted>,
-    /// Whether a node lacked memory for some event.
+    /// True if a node refused for lack of memory at some event.
     pub refused: bool,
 }

@@ -19,6 +19,7 @@ pub const PLAN: Plan = Plan {
     versions: [Version::One; NODES],
     silence: 2,
     places: 8,
+    room: 16_345,
     cluster_key: [3; 32],
     admin_key: [1; 32],
 };

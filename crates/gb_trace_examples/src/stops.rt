@@ -40,6 +40,7 @@ fn plan_of(start: &ClusterStart) -> Plan {
         versions: start.versions,
         silence: start.silence,
         places: 1_024,
+        room: start.room,
         cluster_key: CLUSTER_KEY,
         admin_key: ADMIN_KEY,
     }

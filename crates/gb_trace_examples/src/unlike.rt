@@ -57,6 +57,7 @@ const PLAN: Plan = Plan {
     versions: VERSIONS,
     silence: 3,
     places: 8,
+    room: 16_345,
     cluster_key: [3; 32],
     admin_key: [1; 32],
 };

@@ -1,4 +1,4 @@
--- How many bits of a word are 1.
+-- The number of bits of a word that are 1.
 use Rattle.std.proofs.Common.{◌≡◌, ℕ, zero, suc, ◌+◌, ◌%◌, ◌^◌, ◌<◌, min, Bool, cond, ◌&&◌, nat_eq, bit_and, count_ones, mod-lt, sym, ap, ◌∙◌, arith, count_by}
 use lib.Count.{ones-ones}
 use Rattle.std.specs.Int.{bit_at}

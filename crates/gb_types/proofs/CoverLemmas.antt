@@ -1,4 +1,4 @@
--- When each member of a set passes a test.
+-- A test that each member of a set passes.
 use Rattle.gb_types.specs.declared.limits.TheConstants.{NODES}
 use Rattle.std.proofs.Common.{◌≡◌, ℕ, zero, suc, ◌+◌, ◌-◌, ◌/◌, ◌%◌, ◌^◌, ◌<◌, ◌≤◌, min, max, Bool, true, false, List, [], ◌∷◌, nat_eq, nat_lt, bit_and, bit_or, ◌||◌, ◌&&◌, refl, ap, sym, ◌∙◌, arith, inl, inr}
 use Rattle.std.specs.Int.{bit_at}

@@ -1,4 +1,4 @@
--- Only the word without a bit stands for the empty set.
+-- Only the word without a bit represents the empty set.
 use Rattle.std.proofs.Common.{◌≡◌, ◌↔◌, ℕ, ◌<◌, ◌^◌, nat_eq, sym, ap, ◌∙◌}
 use Rattle.std.specs.Int.{bit_at}
 use Rattle.std.specs.Bool.{IsTrue}

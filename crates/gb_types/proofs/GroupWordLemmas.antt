@@ -1,4 +1,4 @@
--- What the word of a group is cut into, and what it spells.
+-- The parts into which the word of a group is cut, and the numbers that it spells.
 use Rattle.std.proofs.Common.{◌≡◌, ◌≢◌, ◌↔◌, ℕ, ◌<◌, ◌^◌, List, [], ◌∷◌, Option, Some, None, refl, sym, subst, ◌∙◌, arith, decimal, ap, inl, inr, if◌then◌else◌}
 use Rattle.std.specs.Char.{digit_value}
 use Rattle.std.specs.Str.Parse.{AllDigits}

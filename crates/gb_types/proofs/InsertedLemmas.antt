@@ -1,4 +1,4 @@
--- What a set of numbers contains once a number was put into it.
+-- The elements of a set of numbers after a number was inserted.
 use Rattle.std.proofs.Common.{◌≡◌, ℕ, ◌||◌, nat_eq, ap, ◌∙◌, arith}
 use Rattle.std.specs.Cmp.{nat_cmp_total, unsigned_tied}
 use Rattle.std.specs.Ordering.{nat_cmp}

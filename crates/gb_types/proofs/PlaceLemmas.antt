@@ -1,4 +1,4 @@
--- The set that a word stands for.
+-- The set that a word represents.
 use Rattle.gb_types.specs.declared.limits.TheConstants.{NODES}
 use Rattle.std.proofs.Common.{◌≡◌, ℕ, zero, suc, ◌<◌, ◌^◌, ◌*◌, ◌%◌, Bool, true, false, nat_eq, nat_lt, bit_or, ◌||◌, ◌&&◌, refl, ap, sym, ◌∙◌, arith, inl, inr, w32, ◌≢◌}
 use Rattle.std.specs.Int.{bit_at}

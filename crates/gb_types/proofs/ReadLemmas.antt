@@ -1,4 +1,4 @@
--- Words behind a head, one by one, and what a reader of words answers.
+-- The words behind a head, one by one, and the answer of a reader of words.
 use Rattle.std.proofs.Common.{◌≡◌, ◌↔◌, ℕ, zero, suc, ◌-◌, ◌≤◌, List, [], ◌∷◌, ◌++◌, Some, length, map, take, drop, get_or, refl, sym, ap, ◌∙◌, subst, arith}
 use Rattle.std.proofs.lemmas.List.{take_rest}
 use Rattle.std.specs.Prelude.{IfErr, Result, Ok, Err}

@@ -1,4 +1,4 @@
--- What the readers of the words of requests find.
+-- The results of the readers of the words of requests.
 use Rattle.std.proofs.Common.{◌≡◌, ◌≢◌, ◌↔◌, ℕ, List, [], ◌∷◌, Option, Some, None, sym, ◌∙◌, decimal}
 use Rattle.std.specs.FinSet as set
 use Rattle.std.specs.Ordering.{nat_cmp}

@@ -1,4 +1,4 @@
--- What the words of a line are, by induction on the words and on the line.
+-- The words of a line, by induction on the words and on the line.
 use Rattle.std.proofs.Common.{◌≡◌, ◌≢◌, ℕ, List, [], ◌∷◌, false, eqb, refl, ap, ◌∙◌, inl, inr}
 use Rattle.std.specs.List.{onto_first, join_with_byte, All}
 use Rattle.std.proofs.lemmas.Bool.{cases_eq, eq-eqb, ne_eqb}

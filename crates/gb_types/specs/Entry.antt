@@ -1,7 +1,7 @@
--- Messages with what they say.
+-- Entries: messages with their payloads.
 use Rattle.gb_types.specs.declared.entry.Entry.{Entry}
 use Rattle.gb_types.specs.declared.message.MsgId.{MsgId}
 
--- which message an entry is
+-- the origin and the number of an entry's message
 abbrev pub message_of : Entry → MsgId
 message_of e = record { origin = e.origin; seq = e.seq }

@@ -3,7 +3,7 @@ use Rattle.std.specs.Prelude.{ℕ, List, codes}
 use Rattle.gb_types.specs.declared.kind.Kind.{Kind}
 use Rattle.gb_types.specs.declared.kind.Kind.TheVariants.{Beb, Lazy, Eager, AllAck, Majority, FifoBeb, FifoLazy, FifoEager, FifoAllAck, FifoMajority}
 
--- the word for a kind: f stands for first-in first-out
+-- the word for a kind; the letter f stands for first-in first-out order
 abbrev pub kind_word : Kind → List ℕ
 kind_word Beb = codes "beb"
 kind_word Lazy = codes "lazy"

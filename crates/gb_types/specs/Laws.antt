@@ -1,4 +1,4 @@
--- What words and texts keep: nothing is lost where a value is written.
+-- Laws of words and texts: a value that is written can be read again.
 use Rattle.std.specs.Prelude.{◌≡◌, ◌≢◌, ℕ, ◌<◌, ◌^◌, List, length, Some, All, decimal}
 use Rattle.std.specs.Ordering.{nat_cmp}
 use Rattle.std.specs.FinSet as set
@@ -36,7 +36,7 @@ OneWordOneNumber = (m n : ℕ) → m < 2 ^ 64 → n < 2 ^ 64 → decimal m ≡ d
 abbrev pub OneWordOneKind : Type 0
 OneWordOneKind = (j k : Kind) → kind_word j ≡ kind_word k → j ≡ k
 
--- two groups of members with one word are equal
+-- two sets of members with one word are equal
 abbrev pub OneWordOneGroup : Type 0
 OneWordOneGroup =
     (s t : set.FinSet nat_cmp) → AreNodes s → AreNodes t → s ≢ set.empty → t ≢ set.empty → members_word s ≡ members_word t → s ≡ t

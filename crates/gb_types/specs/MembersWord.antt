@@ -1,10 +1,10 @@
--- The members of a group in a word.
+-- The members of a group as a word.
 use Rattle.std.specs.Prelude.{ℕ, List, map, decimal}
 use Rattle.std.specs.List.{join_with_byte}
 use Rattle.std.specs.Ordering.{nat_cmp}
 use Rattle.std.specs.FinSet as set
 use Rattle.gb_types.specs.Rising.{rising}
 
--- the word for some members: their numbers, rising, parted by commas (44)
+-- the word for a set of members: their numbers, rising, separated by commas (44)
 abbrev pub members_word : set.FinSet nat_cmp → List ℕ
 members_word s = join_with_byte 44 (map decimal (rising s))

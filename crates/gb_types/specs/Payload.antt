@@ -3,7 +3,7 @@ use Rattle.std.specs.Prelude.{ℕ, List}
 use Rattle.gb_types.specs.declared.payload.Bytes.{Bytes}
 use Rattle.gb_types.specs.declared.payload.Bytes.TheVariants.{Few, Many}
 
--- the bytes, whether they stand in place or in memory of their own
+-- the bytes, whether they are in place or in memory of their own
 abbrev pub bytes_of : Bytes → List ℕ
 bytes_of (Few few) = few
 bytes_of (Many bytes) = bytes.items

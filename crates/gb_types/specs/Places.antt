@@ -1,4 +1,4 @@
--- Words with a bit for each node, and the sets that they stand for.
+-- Words with a bit for each node, and the sets that they represent.
 use Rattle.std.specs.Prelude.{ℕ, ◌*◌, Bool, ◌&&◌, count_by, nat_eq, nat_lt, List, [], ◌∷◌}
 use Rattle.std.specs.Int.{bit_at}
 use Rattle.std.specs.Ordering.{nat_cmp}
@@ -15,7 +15,7 @@ below (suc n) = n ∷ below n
 unfoldable pub of_bits : ℕ → set.FinSet nat_cmp
 of_bits bits = set.retain (set.from_list (below NODES)) (λ i. nat_eq (bit_at bits i) 1)
 
--- how many nodes are in both sets
+-- the number of nodes in both sets
 abbrev pub common : set.FinSet nat_cmp → set.FinSet nat_cmp → ℕ
 common some other = count_by (λ p. set.contains some p && set.contains other p) (below NODES)
 

@@ -1,4 +1,4 @@
--- How a reply is written.
+-- Replies as text.
 use Rattle.std.specs.Prelude.{ℕ, List, ◌++◌, codes, decimal, length}
 use Rattle.std.specs.List.{flat_map}
 use Rattle.gb_types.specs.declared.entry.Entry.{Entry}

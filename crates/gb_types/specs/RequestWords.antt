@@ -1,4 +1,4 @@
--- The words that requests are spelt in.
+-- The words of requests.
 use Rattle.std.specs.Prelude.{◌≡◌, ◌≢◌, ℕ, ◌==◌, ◌≤◌, List, [], ◌∷◌, ◌++◌, Option, Some, None, if◌then◌else◌, decimal, All}
 use Rattle.std.specs.Option.{ForSome}
 use Rattle.std.specs.FinSet as set
@@ -10,27 +10,27 @@ use Rattle.gb_types.specs.declared.address.Addr.{Addr}
 use Rattle.gb_types.specs.declared.new_message.NewMessage.{NewMessage}
 use Rattle.gb_types.specs.declared.spec.Spec.{Spec}
 
--- tenants and groups have numbers of two bytes, the other numbers of a request have four
+-- the numbers of tenants and groups have two bytes, the other numbers of a request four
 abbrev pub IsShort : ℕ → Type 0
 IsShort n = n ≤ 65535
 
 abbrev pub IsLong : ℕ → Type 0
 IsLong n = n ≤ 4294967295
 
--- the numbers of a group among its tenant's: its own and its generation's
+-- the number and the generation of a group are in range
 abbrev pub IsGroup : Addr → Type 0
 IsGroup a = IsShort a.group × IsLong a.generation
 
--- a word, and behind a dot (46) a second one, where there is one
+-- a word, followed by a dot (46) and the second word if there is one
 abbrev pub with_dot : List ℕ → Option (List ℕ) → List ℕ
 with_dot word None = word
 with_dot word (Some behind) = word ++ 46 ∷ behind
 
--- the word for a generation: none for the first one
+-- the word for a generation: None for the first one
 abbrev pub generation_word : ℕ → Option (List ℕ)
 generation_word n = if n == 0 then None else Some (decimal n)
 
--- the word for a group among its tenant's: its number, and behind a dot its generation, where it is not the first
+-- the word for a group among its tenant's: its number, followed by a dot and its generation if it is not the first
 abbrev pub group_word : Addr → List ℕ
 group_word a = with_dot (decimal a.group) (generation_word a.generation)
 
@@ -38,11 +38,11 @@ group_word a = with_dot (decimal a.group) (generation_word a.generation)
 abbrev pub AreGroupNumbers : List ℕ → ℕ × ℕ → Type 0
 AreGroupNumbers word n = IsShort n.0 × IsLong n.1 × (word ≡ with_dot (decimal n.0) (generation_word n.1))
 
--- no byte of a word is a dot
+-- each byte of a word differs from a dot
 abbrev pub HasNoDot : List ℕ → Type 0
 HasNoDot word = All (λ byte. byte ≢ 46) word
 
--- what a group is made with, in the words KIND MEMBERS MSGS BYTES WINDOW
+-- the parameters of a group in the words KIND MEMBERS MSGS BYTES WINDOW
 pub record SpellsSpec (spec : Spec) (words : List (List ℕ)) : Type 0 where
   pub words_are : words ≡ kind_word spec.kind ∷ members_word spec.members ∷ decimal spec.msgs ∷ decimal spec.bytes ∷ decimal spec.window ∷ []
   pub are_nodes : AreNodes spec.members
@@ -51,12 +51,12 @@ pub record SpellsSpec (spec : Spec) (words : List (List ℕ)) : Type 0 where
   pub bytes : IsLong spec.bytes
   pub window : IsLong spec.window
 
--- the word for the number that a message must get, and none where the caller names no number
+-- the word for the number that a message must get; no word if the caller names no number
 abbrev pub seq_words : Option ℕ → List (List ℕ)
 seq_words None = []
 seq_words (Some n) = decimal n ∷ []
 
--- what is said, in the words PAYLOAD, or PAYLOAD SEQ; a payload may be spelt in digits of both cases
+-- a message in the words PAYLOAD, or PAYLOAD SEQ; the digits of the payload may be of both cases
 pub record SpellsMessage (message : NewMessage) (words : List (List ℕ)) : Type 0 where
   pub payload_word : List ℕ
   pub words_are : words ≡ payload_word ∷ seq_words message.seq

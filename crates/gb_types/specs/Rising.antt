@@ -5,7 +5,7 @@ use Rattle.std.specs.Ordering.{nat_cmp}
 use Rattle.std.specs.FinSet as set
 use Rattle.gb_types.specs.declared.limits.TheConstants.{NODES}
 
--- each number of the set is a node's
+-- each number of the set is a node's number
 abbrev pub AreNodes : set.FinSet nat_cmp → Type 0
 AreNodes s = (q : ℕ) → set.contains s q ≡ true → q < NODES
 

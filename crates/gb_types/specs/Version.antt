@@ -14,7 +14,7 @@ limits_of One = record { byte = 1; nodes = 16; payload = 1024; packet = 8192; it
 limits_of Two = record { byte = 2; nodes = 32; payload = 4096; packet = 16384; item_header = 9 }
 limits_of Three = record { byte = 3; nodes = 32; payload = 4096; packet = 16384; item_header = 13 }
 
--- the version that a byte stands for
+-- the version that a byte stands for; None if it stands for none
 abbrev pub version_named : ℕ → Option Version
 version_named byte = if byte == 1 then Some One else (if byte == 2 then Some Two else (if byte == 3 then Some Three else None))
 
@@ -22,11 +22,11 @@ version_named byte = if byte == 1 then Some One else (if byte == 2 then Some Two
 abbrev pub version_at : List Version → ℕ → Version
 version_at versions a = slice_index_or versions a One
 
--- what bounds the groups of a cluster with this plan
+-- the bounds of the groups of a cluster with this plan
 abbrev pub bounds_of : Plan → Bounds
 bounds_of plan = record { nodes = plan.nodes; versions = plan.versions }
 
--- they are no more than the greatest limits of all versions
+-- limits that are at most the greatest limits of all versions
 pub record AreWithinGreatest (limits : VersionLimits) : Type 0 where
   pub nodes : limits.nodes ≤ NODES
   pub payload : limits.payload ≤ PAYLOAD

@@ -1,12 +1,12 @@
--- The words of a line: they are parted by single spaces.
+-- The words of a line: they are separated by single spaces.
 use Rattle.std.specs.Prelude.{◌≡◌, ◌≢◌, ℕ, ◌==◌, List, [], All}
 use Rattle.std.specs.List.{slice_split, join_with_byte}
 
--- the parts of a line between its spaces; an empty part stands where two spaces meet, or one begins or ends the line
+-- the parts of a line between its spaces; a part is empty if two spaces meet, or if a space begins or ends the line
 abbrev pub words_of : List ℕ → List (List ℕ)
 words_of line = slice_split (λ byte. byte == 32) line
 
--- no byte of a word is a space
+-- each byte of a word differs from a space
 abbrev pub IsWord : List ℕ → Type 0
 IsWord word = All (λ byte. byte ≢ 32) word
 

@@ -8,8 +8,8 @@ use std::hash::{Hash, Hasher};
 /// A tenant, by its number: 1 to 65,535.
 pub type TenantId = u16;
 
-/// The address of a group: its tenant, its number among the tenant's groups, and its generation. The generations of one number
-/// follow one another under one name.
+/// The address of a group: its tenant, its number among the tenant's groups, and its generation. The groups that follow one another
+/// under one tenant and number are its generations.
 #[derive(Clone, Copy, PartialEq, Eq)]
 pub struct Addr {
     pub tenant: TenantId,

@@ -1,4 +1,4 @@
-//! Messages with what they say.
+//! Entries: messages with their payloads.
 ghost use Rattle.std.specs.Prelude.{◌≡◌, ◌==◌, ◌∷◌, ◌++◌, [], length, OnOk, OnErr, IfOk};
 
 use crate::memory::OutOfMemory;
@@ -8,7 +8,7 @@ use crate::payload::Payload;
 use std::alloc::Global;
 use std::marker::Model;
 
-/// A message with what it says.
+/// A message with its payload.
 #[derive(Drop)]
 pub struct Entry {
     pub origin: NodeId,
@@ -20,7 +20,7 @@ pub struct Entry {
 impl Entry {
     ghost use Rattle.gb_types.specs.Entry.{message_of};
 
-    /// Which message it is.
+    /// Returns the origin and the number of the message.
     pub fn message(&self) -> MsgId
         ensures { result ≡ message_of self.now }
     {
@@ -30,7 +30,7 @@ impl Entry {
         }
     }
 
-    /// The same entry, copied.
+    /// Returns a copy of the entry.
     pub fn duplicate(&self, alloc: Global) -> Result<Entry, OutOfMemory>
         ensures { IfOk result (λ e. e ≡ self.now) }
     {
@@ -65,7 +65,7 @@ impl Model for Entries {
 }
 
 impl Entries {
-    /// None.
+    /// Returns an empty list.
     pub fn new(alloc: Global) -> Entries
         ensures { result ≡ [] }
     {
@@ -80,7 +80,7 @@ impl Entries {
         self.items.len()
     }
 
-    /// Whether there are none.
+    /// Returns true if there are no entries.
     pub fn is_empty(&self) -> bool
         ensures { result ≡ (length self.now == 0) }
     {
@@ -93,7 +93,7 @@ impl Entries {
         self.items.as_slice()
     }
 
-    /// Adds an entry at the end. Without memory nothing has changed, and the entry is lost.
+    /// Adds an entry at the end. If memory is refused, the list stays as it was and the entry is lost.
     pub fn push(&mut self, entry: Entry) -> Result<(), OutOfMemory>
         ensures ok { OnOk result (self.new ≡ self.old ++ entry ∷ []) }
         ensures err { OnErr result (self.new ≡ self.old) }
@@ -105,7 +105,7 @@ impl Entries {
 }
 
 impl Entries {
-    /// These entries, copied.
+    /// Returns a copy of these entries.
     pub fn from_slice(alloc: Global, entries: &[Entry]) -> Result<Entries, OutOfMemory>
         ensures { IfOk result (λ e. e ≡ entries.now) }
     {

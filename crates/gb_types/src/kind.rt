@@ -26,7 +26,7 @@ pub enum Kind {
     FifoMajority,
 }
 
-/// Every kind.
+/// All kinds.
 pub const KINDS: &[Kind] = &[
     Kind::Beb,
     Kind::Lazy,

@@ -5,7 +5,7 @@ ghost use Rattle.gb_types.specs.KindWord.{kind_word};
 
 use crate::kind::Kind;
 
-/// The word for a kind.
+/// Returns the word for a kind.
 pub fn word_of(kind: Kind) -> &'static [u8]
     ensures { result.now ≡ kind_word kind }
 {
@@ -23,7 +23,7 @@ pub fn word_of(kind: Kind) -> &'static [u8]
     }
 }
 
-/// The only kind that a word can name, by its first letters.
+/// Returns the only kind that the word can name, by its first letters.
 fn kind_like(word: &[u8]) -> Option<Kind>
     ensures { (k : Kind) → word.now ≡ kind_word k → result ≡ Some k }
 {
@@ -42,7 +42,7 @@ fn kind_like(word: &[u8]) -> Option<Kind>
     }
 }
 
-/// The kind that a word names.
+/// Returns the kind that the word names. `None` if it names no kind.
 pub fn read_kind(word: &[u8]) -> Option<Kind>
     ensures { (k : Kind) → (result ≡ Some k) ↔ (word.now ≡ kind_word k) }
 {

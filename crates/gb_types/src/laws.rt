@@ -1,5 +1,4 @@
-//! What words and texts keep: where a value is written, nothing is lost. Each function is a law: its contract
-//! is what it is for.
+//! Laws of words and texts: a value that is written can be read again. Each function is a law: its contract is the theorem.
 ghost use Rattle.std.specs.Prelude.{◌≡◌, ◌≤◌, Some, decimal};
 ghost use Rattle.gb_types.specs.Laws.{OneTextOneReply, OneWordOneNumber, OneWordOneKind, OneWordOneGroup, PayloadReadsBack};
 
@@ -20,12 +19,12 @@ pub fn one_word_one_kind()
     ensures { OneWordOneKind }
 {}
 
-/// Two groups of members with one word are equal.
+/// Two sets of members with one word are equal.
 pub fn one_word_one_group()
     ensures { OneWordOneGroup }
 {}
 
-/// A payload that is written in a word reads back.
+/// A payload that is written as a word reads back.
 pub fn payload_reads_back()
     ensures { PayloadReadsBack }
 {}

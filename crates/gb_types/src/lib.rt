@@ -1,6 +1,6 @@
-//! The words that every crate shares: limits, nodes, addresses, requests and replies; how a reply is spelt, and
-//! how numbers, kinds, members, payloads and tokens stand in words. There is no state and no rule here. Read
-//! `request::Request` and `reply::Reply` first.
+//! The types that every crate shares: limits, nodes, addresses, requests and replies; the text of a reply; and the words for
+//! numbers, kinds, members, payloads and tokens. There is no state and no rule here. Read `request::Request` and `reply::Reply`
+//! first.
 #![tactic(auto)]
 
 pub mod address;

@@ -1,27 +1,27 @@
 //! The limits of the service. Every table over nodes has `NODES` places.
 
-/// How many nodes a cluster has at most, under any version of the packet text. Nodes are numbered from 0.
+/// The greatest number of nodes of a cluster, under any version of the packet text. Nodes are numbered from 0.
 pub const NODES: usize = 32;
 
-/// How many groups a tenant has at most.
+/// The greatest number of groups of a tenant.
 pub const GROUPS: u32 = 256;
 
-/// How many messages a member says in a group at most, for life.
+/// The greatest number of messages that a member says in a group, for life.
 pub const MESSAGES: u32 = 1_024;
 
-/// How many payload bytes a member says in a group at most, for life.
+/// The greatest number of payload bytes that a member says in a group, for life.
 pub const BYTES: u32 = 65_536;
 
-/// How many own messages of a member are unfinished at once, at most.
+/// The greatest number of a member's own messages that are unfinished at once.
 pub const WINDOW: u32 = 1_024;
 
-/// The bytes of the longest payload, under any version of the packet text.
+/// The length of the longest payload in bytes, under any version of the packet text.
 pub const PAYLOAD: usize = 4_096;
 
-/// The bytes of the longest packet, of any version.
+/// The length of the longest packet in bytes, of any version.
 pub const PACKET: usize = 16_384;
 
-/// How many frames of a link are not acknowledged at once, at most.
+/// The greatest number of frames of a link that are unacknowledged at once.
 pub const LINK_WINDOW: u64 = 64;
 
 /// The last frame number of a link. After it the link has no room.
@@ -33,10 +33,10 @@ pub const SILENCE_MIN: u16 = 2;
 /// The most ticks without a good packet after which a node is noticed.
 pub const SILENCE_MAX: u16 = 1_000;
 
-/// How many entries a fetch gives at most.
+/// The greatest number of entries that a fetch returns.
 pub const FETCH: u32 = 16;
 
-/// How many groups all tenants of a node may reserve at most.
+/// The greatest number of groups that all tenants of a node may reserve.
 pub const PLACES: u16 = 4_096;
 
 // Definitions cite these values.

@@ -1,4 +1,4 @@
-//! How the entries of a log are written: each byte at its place, in room that is made for all of them at once.
+//! Writes the entries of a log as text, each byte at its index. The memory for all of them is reserved at once.
 ghost use Rattle.std.specs.Prelude.{◌≡◌, ◌+◌, ◌<◌, ◌≤◌, [], ◌∷◌, ◌++◌, codes, decimal, take, length, IfSome, OnOk, OnErr};
 ghost use Rattle.std.specs.List.{flat_map};
 ghost use Rattle.gb_types.specs.PayloadWord.{payload_word};
@@ -8,7 +8,7 @@ use crate::entry::Entry;
 use crate::memory::OutOfMemory;
 use itoa::write_digits;
 
-/// Writes a byte at a place, and gives the place behind it.
+/// Writes `byte` at index `at`. Returns the index behind it.
 #[inline(always)]
 fn write_byte(bytes: &mut [u8], at: usize, byte: u8) -> usize
     requires { at < length bytes.old }
@@ -20,7 +20,7 @@ fn write_byte(bytes: &mut [u8], at: usize, byte: u8) -> usize
     at + 1
 }
 
-/// How many digits a number has.
+/// Returns the number of decimal digits of `number`.
 #[inline(always)]
 fn digits_of(number: u64) -> usize
     ensures { result ≡ length (decimal number) }
@@ -34,7 +34,7 @@ fn digits_of(number: u64) -> usize
     count
 }
 
-/// Writes a number at a place, and gives the place behind it.
+/// Writes `number` in decimal at index `at`. Returns the index behind it.
 #[inline(always)]
 fn write_number(bytes: &mut [u8], at: usize, number: u64) -> usize
     requires { at + length (decimal number) ≤ length bytes.old }
@@ -47,7 +47,7 @@ fn write_number(bytes: &mut [u8], at: usize, number: u64) -> usize
     end
 }
 
-/// Writes the word of a payload at a place, and gives the place behind it.
+/// Writes the word of a payload at index `at`. Returns the index behind it.
 #[inline(always)]
 fn write_payload(bytes: &mut [u8], at: usize, payload: &[u8]) -> usize
     requires { at + length (payload_word payload.now) ≤ length bytes.old }
@@ -63,7 +63,7 @@ fn write_payload(bytes: &mut [u8], at: usize, payload: &[u8]) -> usize
     end
 }
 
-/// Writes ` ORIGIN:SEQ:PAYLOAD` at a place, and gives the place behind it.
+/// Writes ` ORIGIN:SEQ:PAYLOAD` at index `at`. Returns the index behind it.
 #[inline(always)]
 fn write_entry(bytes: &mut [u8], at: usize, entry: &Entry) -> usize
     requires { at + length (codes " " ++ entry_text entry.now) ≤ length bytes.old }
@@ -79,7 +79,7 @@ fn write_entry(bytes: &mut [u8], at: usize, entry: &Entry) -> usize
     write_payload(bytes, at, entry.payload.as_slice())
 }
 
-/// Writes each entry after a space from a place on, and gives the place behind them.
+/// Writes the entries, each after a space, from index `from` on. Returns the index behind them.
 fn write_entries(bytes: &mut [u8], from: usize, entries: &[Entry]) -> usize
     requires { from + length (flat_map (λ e. codes " " ++ entry_text e) entries.now) ≤ length bytes.old }
     ensures end { result ≡ from + length (flat_map (λ e. codes " " ++ entry_text e) entries.now) }
@@ -93,8 +93,8 @@ fn write_entries(bytes: &mut [u8], from: usize, entries: &[Entry]) -> usize
     at
 }
 
-/// As many bytes as an entry needs after a space, at least: a space, two and five digits, two colons, and two digits
-/// for each byte of the payload, or `-`.
+/// Returns an upper bound of the bytes of an entry after a space: a space, two and five digits, two colons, and two digits for each
+/// byte of the payload, or `-`. `None` if it exceeds `usize::MAX`.
 fn room_for_one(entry: &Entry) -> Option<usize>
     ensures { IfSome result (λ room. length (codes " " ++ entry_text entry.now) ≤ room) }
 {
@@ -102,7 +102,7 @@ fn room_for_one(entry: &Entry) -> Option<usize>
     entry.payload.len().checked_mul(2)?.checked_add(11)
 }
 
-/// As many bytes as the entries need, each after a space, at least.
+/// Returns an upper bound of the bytes of the entries, each after a space. `None` if it exceeds `usize::MAX`.
 fn room_for(entries: &[Entry]) -> Option<usize>
     ensures { IfSome result (λ room. length (flat_map (λ e. codes " " ++ entry_text e) entries.now) ≤ room) }
 {
@@ -113,7 +113,7 @@ fn room_for(entries: &[Entry]) -> Option<usize>
     Some(room)
 }
 
-/// Appends each entry after a space. Without memory nothing has changed.
+/// Appends the entries, each after a space. If memory is refused, `out` stays as it was.
 pub(crate) fn put_entries(out: &mut Vec<u8>, entries: &[Entry]) -> Result<(), OutOfMemory>
     ensures ok { OnOk result (out.new.items
         ≡ out.old.items ++ flat_map (λ e. codes " " ++ entry_text e) entries.now) }

@@ -1,6 +1,6 @@
-//! The bytes of hexadecimal digits in lower case. The crate `hex` reads them with a branch for each, which a processor foretells
-//! where payloads look alike; where they do not, reading takes several times as long. So the bytes are guessed without a branch, and
-//! their digits, as `hex` writes them, are compared with the word.
+//! The bytes of hexadecimal digits in lower case. The crate `hex` reads them with a branch for each, which a processor predicts
+//! well only where payloads look alike; else reading takes several times as long. So the bytes are guessed without a branch, written
+//! as digits by `hex`, and these are compared with the word.
 ghost use Rattle.std.specs.Prelude.{◌≡◌, ◌≤◌, ◌*◌, length, true, Ok, IfOk, IfSome};
 ghost use Rattle.hex.specs.Hex.{decode_of, encode_lower};
 
@@ -10,17 +10,17 @@ use std::alloc::Global;
 /// How many bytes are compared with their digits at once.
 const BLOCK: usize = 16;
 
-/// How many digits those have.
+/// The number of their digits.
 const DIGITS: usize = 32;
 
 const _: () = prove!(DIGITS == 2 * BLOCK);
 
-/// What a hexadecimal digit stands for. Of any other character some number.
+/// Returns the value of a hexadecimal digit, and for any other character an arbitrary number.
 fn guess_digit(digit: u8) -> u8 {
     (digit & 15).wrapping_add((digit >> 6).wrapping_mul(9))
 }
 
-/// The byte that two hexadecimal digits write. Of any other characters some byte.
+/// Returns the byte that two hexadecimal digits write, and for other characters an arbitrary byte.
 #[inline(always)]
 fn guess_byte(high: u8, low: u8) -> u8 {
     guess_digit(high)
@@ -28,14 +28,14 @@ fn guess_byte(high: u8, low: u8) -> u8 {
         .wrapping_add(guess_digit(low))
 }
 
-/// Fills bytes with what pairs of digits write, as they are guessed.
+/// Fills bytes with the guesses for pairs of digits.
 fn guess_bytes(bytes: &mut [u8], pairs: &[[u8; 2]]) {
     for (byte, [high, low]) in bytes.iter_mut().zip(pairs) {
         *byte = guess_byte(*high, *low);
     }
 }
 
-/// Whether the digits of a block of bytes are these: true only where they are.
+/// Returns true only if these are the digits of a block of bytes.
 fn is_block_spelled(bytes: &[u8; BLOCK], word: &[u8; DIGITS]) -> bool
     ensures { result ≡ true → encode_lower bytes.now ≡ word.now }
 {
@@ -43,7 +43,7 @@ fn is_block_spelled(bytes: &[u8; BLOCK], word: &[u8; DIGITS]) -> bool
     hex::encode_to_slice(bytes, &mut digits).is_ok() && digits == *word
 }
 
-/// Whether the digits of at most a block of bytes are these: true only where they are.
+/// Returns true only if these are the digits of at most a block of bytes.
 fn is_rest_spelled(bytes: &[u8], word: &[u8]) -> bool
     ensures { result ≡ true → encode_lower bytes.now ≡ word.now }
 {
@@ -55,7 +55,7 @@ fn is_rest_spelled(bytes: &[u8], word: &[u8]) -> bool
     hex::encode_to_slice(bytes, few).is_ok() && *few == *word
 }
 
-/// Whether a word spells the bytes in lower case: true only where it does.
+/// Returns true only if a word spells the bytes in lower case.
 fn is_spelled(bytes: &[u8], word: &[u8]) -> bool
     ensures { result ≡ true → decode_of word.now ≡ Ok bytes.now }
 {
@@ -77,14 +77,32 @@ fn is_spelled(bytes: &[u8], word: &[u8]) -> bool
     is_rest_spelled(left, digits)
 }
 
-/// The bytes that a word spells, found where it is written in lower case. None leaves it to be read digit by digit.
+/// Returns the bytes that a word spells, if it is written in lower case. `None`: read it digit by digit.
 pub fn read_lower(alloc: Global, word: &[u8]) -> Result<Option<Vec<u8>>, OutOfMemory>
     ensures { IfOk result (λ found. IfSome found (λ bytes. decode_of word.now ≡ Ok bytes.items)) }
 {
     let (pairs, _) = word.as_chunks::<2>();
     let mut bytes = vec![in alloc; 0u8; pairs.len()]?;
-    // Any bytes will do here: they are looked at below.
+    // A wrong guess does no harm: it is compared with the word below.
     guess_bytes(bytes.as_mut_slice(), pairs);
     let is_found = is_spelled(bytes.as_slice(), word);
     Ok(is_found.then_some(bytes))
+}
+
+/// Returns the 32 bytes that a word of 64 digits spells, if it is written in lower case. `None`: read it digit by digit.
+pub fn read_lower_token(word: &[u8]) -> Option<[u8; 32]>
+    ensures { IfSome result (λ token. (length word.now ≡ 64) × (decode_of word.now ≡ Ok token)) }
+{
+    if word.len() != 64 {
+        return None;
+    }
+    let (pairs, _) = word.as_chunks::<2>();
+    let mut token = [0; 32];
+    // A wrong guess does no harm: it is compared with the word below.
+    guess_bytes(&mut token, pairs);
+    if is_spelled(&token, word) {
+        Some(token)
+    } else {
+        None
+    }
 }

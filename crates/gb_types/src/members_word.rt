@@ -1,4 +1,4 @@
-//! The members of a group in a word: their numbers, rising, parted by commas.
+//! The members of a group as a word: their numbers, rising, separated by commas.
 ghost use Rattle.std.specs.Prelude.{◌≡◌, ◌≢◌, ◌↔◌, ℕ, ◌<◌, Some, IfSome, IfNone, decimal};
 ghost use Rattle.std.specs.Ordering.{nat_cmp};
 ghost use Rattle.std.specs.FinSet as set;
@@ -9,7 +9,7 @@ use crate::limits::NODES;
 use crate::node::{NodeId, NodeSet};
 use crate::number::read_number;
 
-/// The node whose number a word spells.
+/// Returns the node whose number the word spells. `None` if it spells no node's number.
 fn read_node(word: &[u8]) -> Option<NodeId>
     ensures some { IfSome result (λ node. word.now ≡ decimal node.number) }
     ensures none { IfNone result ((n : ℕ) → n < NODES → word.now ≢ decimal n) }
@@ -18,13 +18,14 @@ fn read_node(word: &[u8]) -> Option<NodeId>
     Some(NodeId::new(number as u8))
 }
 
-/// The members that a word spells: one or more numbers of nodes, strictly rising, parted by commas.
+/// Returns the members that the word spells: one or more numbers of nodes, strictly rising, separated by commas. `None` if it
+/// spells none.
 pub fn read_members(word: &[u8]) -> Option<NodeSet>
     ensures { (s : set.FinSet nat_cmp)
         → (result ≡ Some s) ↔ (AreNodes s × (s ≢ set.empty) × (word.now ≡ members_word s)) }
 {
     let mut members = NodeSet::new();
-    // The least number that may come next.
+    // The least number that the next part may have.
     let mut lowest: u8 = 0;
     for part in word.split(|byte| *byte == b',') {
         let node = read_node(part)?;

@@ -1,4 +1,4 @@
-//! Want of memory.
+//! The error that memory was refused.
 ghost use Rattle.std.specs.Prelude.{◌≡◌, ◌++◌, OnOk, OnErr};
 
 use std::alloc::{AllocError, AllocFailed};
@@ -21,7 +21,7 @@ impl<T: Drop> From<AllocFailed<T>> for OutOfMemory {
     }
 }
 
-/// Appends bytes. Without memory nothing has changed.
+/// Appends bytes. If memory is refused, `out` stays as it was.
 #[inline(always)]
 pub fn put_bytes(out: &mut Vec<u8>, bytes: &[u8]) -> Result<(), OutOfMemory>
     ensures ok { OnOk result (out.new.items ≡ out.old.items ++ bytes.now) }

@@ -1,15 +1,15 @@
-//! What a member asks to have said.
+//! The message that a member asks to say.
 ghost use Rattle.std.specs.Prelude.{◌≡◌, IfOk, None};
 
 use crate::memory::OutOfMemory;
 use crate::payload::Payload;
 use std::alloc::Global;
 
-/// What a member says: a payload, and the number that the message must get, if the caller names one. A say that names its
-/// number is done once, however often it is sent: a caller whose answer was lost sends it again.
+/// What a member says: a payload, and the number that the message must get, if the caller names one. A say that names its number is
+/// done once, however often it is sent. So a caller whose answer was lost may send it again.
 pub struct NewMessage {
     pub payload: Payload,
-    /// The sequence number that the message must get, as the caller wrote it: any number of four bytes.
+    /// The sequence number that the message must get, as the caller wrote it: 0 to 4,294,967,295.
     pub seq: Option<u32>,
 }
 
@@ -21,14 +21,14 @@ impl Drop for NewMessage {
 }
 
 impl NewMessage {
-    /// A payload under whatever number is next.
+    /// Returns a message with this payload, which gets the next number.
     pub fn new(payload: Payload) -> NewMessage
         ensures { result ≡ record { payload = payload; seq = None } }
     {
         NewMessage { payload, seq: None }
     }
 
-    /// The same message, copied.
+    /// Returns a copy of the message.
     pub fn duplicate(&self, alloc: Global) -> Result<NewMessage, OutOfMemory>
         ensures { IfOk result (λ message. message ≡ self.now) }
     {

@@ -18,7 +18,7 @@ pub struct NodeId {
 }
 
 impl NodeId {
-    /// The node with this number.
+    /// Returns the node with this number.
     pub fn new(number: u8) -> NodeId
         requires { number < NODES }
         ensures { result.number ≡ number }
@@ -26,7 +26,7 @@ impl NodeId {
         NodeId { number }
     }
 
-    /// The node with this number, where there may be one.
+    /// Returns the node with this number. `None` if the number is `NODES` or greater.
     pub fn from_number(number: u8) -> Option<NodeId>
         ensures none { IsNone result ↔ (NODES ≤ number) }
         ensures some { IfSome result (λ n. n.number ≡ number) }
@@ -38,7 +38,7 @@ impl NodeId {
         }
     }
 
-    /// Its number, as a place in a table.
+    /// Returns the number as an index of a table over nodes.
     pub fn index(self) -> usize
         ensures value { result ≡ self.number }
         ensures bound { result < NODES }
@@ -50,7 +50,7 @@ impl NodeId {
 /// A set of nodes. Contracts see a finite set of their numbers.
 #[derive(Drop)]
 pub struct NodeSet {
-    /// The bit with a node's number is 1 where the node is in the set.
+    /// Bit `n` is 1 if node `n` is in the set.
     bits: u32,
 }
 
@@ -67,14 +67,14 @@ impl Model for NodeSet {
     ghost view = { λ a. of_bits a.bits };
 }
 
-/// Whether each node of the first word is in one of the others.
+/// Returns true if each node of `bits` is in `first` or in `second`.
 fn is_within(bits: u32, first: u32, second: u32) -> bool
     ensures { result ≡ list_all (λ p. set.contains (of_bits first) p || set.contains (of_bits second) p) (set.items (of_bits bits)) }
 {
     bits & (first | second) == bits
 }
 
-/// Whether all nodes of the word have numbers below the bound.
+/// Returns true if each node of `bits` has a number below `bound`.
 fn is_all_below(bits: u32, bound: usize) -> bool
     ensures { result ≡ list_all (λ p. nat_lt p bound) (set.items (of_bits bits)) }
 {
@@ -84,7 +84,7 @@ fn is_all_below(bits: u32, bound: usize) -> bool
     bits >> bound == 0
 }
 
-/// How many nodes are in both words.
+/// Returns the number of nodes that are in both words.
 fn count_both(bits: u32, other: u32) -> usize
     ensures { result ≡ count_by (λ p. set.contains (of_bits bits) p && set.contains (of_bits other) p) (below NODES) }
 {
@@ -92,42 +92,42 @@ fn count_both(bits: u32, other: u32) -> usize
 }
 
 impl NodeSet {
-    /// No nodes.
+    /// Returns the empty set.
     pub fn new() -> NodeSet
         ensures { result ≡ set.empty }
     {
         NodeSet { bits: 0 }
     }
 
-    /// The same set.
+    /// Returns a copy of the set.
     pub fn duplicate(&self) -> NodeSet
         ensures { result ≡ self.now }
     {
         NodeSet { bits: self.bits }
     }
 
-    /// Whether the node is in the set.
+    /// Returns true if the node is in the set.
     pub fn contains(&self, node: NodeId) -> bool
         ensures { result ≡ set.contains self.now node.number }
     {
         (self.bits >> node.index()) & 1 == 1
     }
 
-    /// Whether there are none.
+    /// Returns true if the set is empty.
     pub fn is_empty(&self) -> bool
         ensures { IsTrue result ↔ (self.now ≡ set.empty) }
     {
         self.bits == 0
     }
 
-    /// Whether each of these nodes is in the other set.
+    /// Returns true if each of these nodes is in the other set.
     pub fn is_subset(&self, other: &NodeSet) -> bool
         ensures { result ≡ set.is_subset self.now other.now }
     {
         is_within(self.bits, other.bits, other.bits)
     }
 
-    /// The first node of the set that has this number or a greater one.
+    /// Returns the first node of the set with this number or a greater one.
     pub fn next_from(&self, number: usize) -> Option<NodeId>
         ensures { MatchOption result (rising_from self.now number ≡ [])
             (λ n. rising_from self.now number ≡ n.number ∷ rising_from self.now (n.number + 1)) }
@@ -143,7 +143,7 @@ impl NodeSet {
         Some(NodeId::new(first as u8))
     }
 
-    /// The nodes of the set, rising.
+    /// Returns the nodes of the set, rising.
     pub fn nodes(&self) -> Nodes<'_>
         ensures rising { result ≡ rising self.now }
         ensures whole { AreNodes self.now }
@@ -153,7 +153,7 @@ impl NodeSet {
         Nodes::new(self)
     }
 
-    /// The nodes that are in one of the two sets, or in both.
+    /// Returns the nodes that are in one of the two sets, or in both.
     pub fn union(&self, other: &NodeSet) -> NodeSet
         ensures { result ≡ set.union self.now other.now }
     {
@@ -162,35 +162,35 @@ impl NodeSet {
         }
     }
 
-    /// Whether each of these nodes is in one of the two sets.
+    /// Returns true if each of these nodes is in one of the two sets.
     pub fn is_covered(&self, first: &NodeSet, second: &NodeSet) -> bool
         ensures { result ≡ list_all (λ p. set.contains first.now p || set.contains second.now p) (set.items self.now) }
     {
         is_within(self.bits, first.bits, second.bits)
     }
 
-    /// Whether each of these nodes has a number below the bound.
+    /// Returns true if each of these nodes has a number below `bound`.
     pub fn is_below(&self, bound: usize) -> bool
         ensures { result ≡ list_all (λ p. nat_lt p bound) (set.items self.now) }
     {
         is_all_below(self.bits, bound)
     }
 
-    /// How many nodes are in both sets.
+    /// Returns the number of nodes that are in both sets.
     pub fn count_in(&self, other: &NodeSet) -> usize
         ensures { result ≡ common self.now other.now }
     {
         count_both(self.bits, other.bits)
     }
 
-    /// Whether more than half of the members are in the set.
+    /// Returns true if more than half of the members are in the set.
     pub fn has_majority_of(&self, members: &NodeSet) -> bool
         ensures { result ≡ has_majority (set.contains members.now) (set.contains self.now) }
     {
         members.count_in(self) > members.count_in(members) / 2
     }
 
-    /// Puts the node in.
+    /// Inserts the node.
     pub fn insert(&mut self, node: NodeId)
         ensures { self.new ≡ set.insert self.old node.number }
     {

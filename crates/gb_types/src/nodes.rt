@@ -5,11 +5,11 @@ ghost use Rattle.gb_types.specs.Rising.{rising};
 use crate::node::{NodeId, NodeSet};
 use std::marker::Model;
 
-/// The nodes of a set that are still to come, rising. Contracts see the list of their numbers.
+/// The remaining nodes of a set, rising. Contracts see the list of their numbers.
 #[derive(Drop)]
 pub struct Nodes<'a> {
     set: &'a NodeSet,
-    /// The least number that may come.
+    /// The least number that the next node may have.
     from: usize,
 }
 
@@ -23,7 +23,7 @@ impl<'a> Model for Nodes<'a> {
 }
 
 impl<'a> Nodes<'a> {
-    /// The nodes of this set.
+    /// Returns the nodes of this set.
     pub(crate) fn new(set: &'a NodeSet) -> Nodes<'a>
         ensures { result ≡ rising set.now }
     {

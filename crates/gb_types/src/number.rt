@@ -1,11 +1,11 @@
-//! Numbers in words: decimal digits without a leading zero.
+//! Numbers as words: decimal digits without a leading zero.
 ghost use Rattle.std.specs.Prelude.{◌≡◌, ℕ, ◌<◌, ◌≤◌, ◌+◌, ◌*◌, ◌^◌, ◌↔◌, ◌⊎◌, [], ◌++◌, Some, IfSome, IfNone, IsTrue, OnOk, OnErr, slice_index, length, decimal};
 ghost use Rattle.std.specs.Str.Parse.{AllDigits, digits_value};
 
 use crate::memory::OutOfMemory;
 use itoa::Buffer;
 
-/// Whether a word begins as no number does: it has no bytes, or a zero before more.
+/// Returns true if the word is empty, or has a leading zero and more than one byte.
 fn begins_badly(word: &[u8]) -> bool
     // 48 is `0`.
     ensures { IsTrue result ↔ ((word.now ≡ [])
@@ -14,7 +14,7 @@ fn begins_badly(word: &[u8]) -> bool
     matches!(word, [] | [b'0', _, ..])
 }
 
-/// The number that a digit behind those of a number makes of it, where it has 64 bits.
+/// Returns `10 * number + digit`. `None` if it exceeds 64 bits.
 fn with_digit(number: u64, digit: u8) -> Option<u64>
     ensures some { IfSome result (λ n. n ≡ number * 10 + digit) }
     ensures none { IfNone result (2 ^ 64 ≤ number * 10 + digit) }
@@ -22,7 +22,7 @@ fn with_digit(number: u64, digit: u8) -> Option<u64>
     number.checked_mul(10)?.checked_add(u64::from(digit))
 }
 
-/// The number that digits write; None where a byte is no digit, or the number has more than 64 bits.
+/// Returns the number that the digits write. `None` if a byte is not a digit, or if the number exceeds 64 bits.
 fn read_digits(word: &[u8]) -> Option<u64>
     ensures some { IfSome result (λ n. AllDigits 10 word.now × (digits_value 10 word.now ≡ n)) }
     ensures none { IfNone result (AllDigits 10 word.now → 2 ^ 64 ≤ digits_value 10 word.now) }
@@ -37,7 +37,8 @@ fn read_digits(word: &[u8]) -> Option<u64>
     Some(number)
 }
 
-/// The number that a word spells, where it is `max` at most. A word of any length is answered.
+/// Returns the number that the word spells. `None` if it spells no number, or if the number is greater than `max`. The word may
+/// have any length.
 #[inline(always)]
 pub fn read_number(word: &[u8], max: u64) -> Option<u64>
     ensures { (n : ℕ) → (result ≡ Some n) ↔ ((n ≤ max) × (word.now ≡ decimal n)) }
@@ -49,7 +50,7 @@ pub fn read_number(word: &[u8], max: u64) -> Option<u64>
     (number <= max).then_some(number)
 }
 
-/// Appends a number. Without memory nothing has changed.
+/// Appends a number in decimal. If memory is refused, `out` stays as it was.
 #[inline(always)]
 pub fn put_number(out: &mut Vec<u8>, number: u64) -> Result<(), OutOfMemory>
     ensures ok { OnOk result (out.new.items ≡ out.old.items ++ decimal number) }

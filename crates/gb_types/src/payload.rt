@@ -5,12 +5,12 @@ use crate::memory::OutOfMemory;
 use std::alloc::Global;
 use std::marker::Model;
 
-/// How many bytes stand in the payload itself. More take memory of their own.
+/// The greatest number of bytes that are kept in the payload itself. A longer payload has memory of its own.
 pub const INLINE: usize = 16;
 
 const _: () = prove!(INLINE == 16);
 
-/// At most `INLINE` bytes, in place. Contracts see the list of the bytes.
+/// Up to `INLINE` bytes, in place. Contracts see the list of the bytes.
 #[derive(Drop)]
 struct Few {
     array: [u8; INLINE],
@@ -38,7 +38,7 @@ impl Few {
         }
     }
 
-    /// Takes these bytes in place of its own.
+    /// Replaces the bytes by these.
     fn set(&mut self, bytes: &[u8])
         requires { length bytes.now ≤ INLINE }
         ensures { self.new ≡ bytes.now }
@@ -54,14 +54,14 @@ impl Few {
     }
 }
 
-/// Few bytes in place, or any bytes in memory of their own.
+/// Up to `INLINE` bytes in place, or any number of bytes in memory of their own.
 #[derive(Drop)]
 enum Bytes {
     Few(Few),
     Many(Vec<u8>),
 }
 
-/// What a message says: any bytes, as they were given; few of them take no memory. Contracts see the list of the bytes.
+/// The bytes that a message carries, as they were given. Up to `INLINE` bytes take no memory. Contracts see the list of the bytes.
 pub struct Payload {
     bytes: Bytes,
 }
@@ -83,7 +83,7 @@ impl Model for Payload {
 }
 
 impl Payload {
-    /// No bytes.
+    /// Returns a payload without bytes.
     pub fn new() -> Payload
         ensures { result ≡ [] }
     {
@@ -92,7 +92,7 @@ impl Payload {
         }
     }
 
-    /// Takes these bytes in place of its own, copied into the payload itself.
+    /// Replaces the bytes by a copy of these, in the payload itself.
     pub fn set_few(&mut self, bytes: &[u8])
         requires { length bytes.now ≤ INLINE }
         ensures { self.new ≡ bytes.now }
@@ -105,7 +105,7 @@ impl Payload {
         }
     }
 
-    /// These bytes, copied. Up to `INLINE` bytes take no memory, and so never want it.
+    /// Returns a payload with a copy of these bytes. Up to `INLINE` bytes take no memory, so the call succeeds.
     pub fn from_slice(alloc: Global, bytes: &[u8]) -> Result<Payload, OutOfMemory>
         ensures ok { IfOk result (λ p. p ≡ bytes.now) }
         ensures succeeds { length bytes.now ≤ INLINE → IsOk result }
@@ -118,14 +118,14 @@ impl Payload {
         Ok(Payload::from(bytes.to_vec(alloc)?))
     }
 
-    /// How many bytes.
+    /// Returns the number of bytes.
     pub fn len(&self) -> usize
         ensures { result ≡ length self.now }
     {
         self.as_slice().len()
     }
 
-    /// Whether there are none.
+    /// Returns true if there are no bytes.
     pub fn is_empty(&self) -> bool
         ensures { result ≡ (length self.now == 0) }
     {
@@ -141,7 +141,7 @@ impl Payload {
         }
     }
 
-    /// The bytes, with no copy where they stand in memory of their own.
+    /// Returns the bytes. They are not copied if they are in memory of their own.
     pub fn into_vec(self, alloc: Global) -> Result<Vec<u8>, OutOfMemory>
         ensures { IfOk result (λ v. v.items ≡ self) }
     {
@@ -152,7 +152,7 @@ impl Payload {
         }
     }
 
-    /// The same bytes, copied. Up to `INLINE` bytes take no memory, and so never want it.
+    /// Returns a copy of the payload. Up to `INLINE` bytes take no memory, so the call succeeds.
     pub fn duplicate(&self, alloc: Global) -> Result<Payload, OutOfMemory>
         ensures ok { IfOk result (λ p. p ≡ self.now) }
         ensures succeeds { length self.now ≤ INLINE → IsOk result }

@@ -1,4 +1,4 @@
-//! Payloads in words: hexadecimal digits, or `-` for no bytes.
+//! Payloads as words: hexadecimal digits, or `-` for no bytes.
 ghost use Rattle.std.specs.Prelude.{◌≡◌, ◌≤◌, ◌+◌, ◌*◌, ◌++◌, length, IfSome, IfOk, OnOk, OnErr};
 ghost use Rattle.std.specs.Result.{result_ok};
 ghost use Rattle.hex.specs.Hex.{decode_of, encode_lower};
@@ -11,7 +11,8 @@ use crate::payload::{INLINE, Payload};
 use hex::FromHexError;
 use std::alloc::Global;
 
-/// The bytes of at most so many digits that they stand in the payload itself.
+/// Decodes up to `2 * INLINE` hexadecimal digits of either case, into the payload itself. `None` if the word is not hexadecimal or
+/// has an odd length.
 fn read_few(alloc: Global, word: &[u8]) -> Result<Option<Payload>, OutOfMemory>
     requires { length word.now ≤ 2 * INLINE }
     ensures { IfOk result (λ found. found ≡ result_ok (decode_of word.now)) }
@@ -24,7 +25,7 @@ fn read_few(alloc: Global, word: &[u8]) -> Result<Option<Payload>, OutOfMemory>
     }
 }
 
-/// The bytes of any digits. None where these are none, or odd in number.
+/// Decodes hexadecimal digits of either case. `None` if the word is not hexadecimal or has an odd length.
 fn read_any(alloc: Global, word: &[u8]) -> Result<Option<Payload>, OutOfMemory>
     ensures { IfOk result (λ found. found ≡ result_ok (decode_of word.now)) }
 {
@@ -35,8 +36,8 @@ fn read_any(alloc: Global, word: &[u8]) -> Result<Option<Payload>, OutOfMemory>
     }
 }
 
-/// The bytes that a word spells, with digits of both cases. None where it is neither `-` nor an even
-/// number of digits, at least two.
+/// Returns the bytes that the word spells, with digits of either case. `None` if it is neither `-` nor an even number of digits, at
+/// least two.
 pub fn read_payload(alloc: Global, word: &[u8]) -> Result<Option<Payload>, OutOfMemory>
     ensures { IfOk result (λ found. found ≡ payload_of word.now) }
 {
@@ -51,14 +52,14 @@ pub fn read_payload(alloc: Global, word: &[u8]) -> Result<Option<Payload>, OutOf
     }
 }
 
-/// Where the digits of bytes end that begin at a place, where this is a place at all.
+/// Returns the index behind the digits of `bytes` that begin at index `start`. `None` if it exceeds `usize::MAX`.
 fn digits_end(start: usize, bytes: &[u8]) -> Option<usize>
     ensures { IfSome result (λ end. end ≡ start + length bytes.now * 2) }
 {
     start.checked_add(bytes.len().checked_mul(2)?)
 }
 
-/// Appends the digits of bytes, in lower case. Without memory nothing has changed.
+/// Appends the digits of `bytes`, in lower case. If memory is refused, `out` stays as it was.
 fn put_digits(out: &mut Vec<u8>, bytes: &[u8]) -> Result<(), OutOfMemory>
     ensures ok { OnOk result (out.new.items ≡ out.old.items ++ encode_lower bytes.now) }
     ensures err { OnErr result (out.new.items ≡ out.old.items) }
@@ -70,7 +71,7 @@ fn put_digits(out: &mut Vec<u8>, bytes: &[u8]) -> Result<(), OutOfMemory>
     Ok(())
 }
 
-/// Appends the word for these bytes, in lower case. Without memory nothing has changed.
+/// Appends the word for `bytes`, in lower case. If memory is refused, `out` stays as it was.
 pub fn put_payload(out: &mut Vec<u8>, bytes: &[u8]) -> Result<(), OutOfMemory>
     ensures ok { OnOk result (out.new.items ≡ out.old.items ++ payload_word bytes.now) }
     ensures err { OnErr result (out.new.items ≡ out.old.items) }

@@ -17,13 +17,16 @@ pub struct Plan {
     pub silence: u16,
     /// How many groups the tenants of a node may make in all: 4,096 at most.
     pub places: u16,
+    /// The most bytes of the items of a packet; no more than a packet of the sender's version has room for. An item that is longer than
+    /// this is sent all the same.
+    pub room: u16,
     /// The key of the packets between the nodes.
     pub cluster_key: [u8; 32],
     /// The key of the administrator's token.
     pub admin_key: [u8; 32],
 }
 
-/// What bounds the groups of a cluster: how many nodes there are, and the version that each sends.
+/// What a group reads of its cluster: the number of nodes, and the version that each of them sends.
 #[derive(Clone, Copy)]
 pub struct Bounds {
     pub nodes: u8,
@@ -31,7 +34,7 @@ pub struct Bounds {
 }
 
 impl Plan {
-    /// What bounds the groups of the cluster.
+    /// Returns what a group reads of the cluster.
     pub fn bounds(&self) -> Bounds
         ensures { result ≡ bounds_of self.now }
     {
@@ -43,7 +46,7 @@ impl Plan {
 }
 
 impl Bounds {
-    /// The version that a node sends.
+    /// Returns the version that a node sends.
     pub fn version_of(&self, node: NodeId) -> Version
         ensures { result ≡ version_at self.now.versions node.number }
     {

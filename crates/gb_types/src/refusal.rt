@@ -1,7 +1,7 @@
 //! Why a request is refused.
 use thiserror::Error;
 
-/// Why a request was refused. Nothing has changed then.
+/// Why a request was refused. A refused request changes nothing.
 #[derive(Clone, Copy, Debug, PartialEq, Eq, Error)]
 pub enum Refusal {
     /// The token is not the one that the request needs, or the tenant is not known here.
@@ -10,31 +10,31 @@ pub enum Refusal {
     /// The group was never made here, or its number is not below the tenant's.
     #[error("no such group")]
     NoGroup,
-    /// The group was made here before, or is given up.
+    /// The group was made here before, or was dropped.
     #[error("the group's number is spent")]
     Spent,
-    /// The members are none, without this node, or beyond the cluster.
+    /// The set of members is empty, lacks this node, or names a node that is not in the cluster.
     #[error("bad members")]
     BadMembers,
-    /// More is asked than the tenant has, or than the service gives, or nothing where something is needed.
+    /// The request exceeds what the tenant has or what the service allows, or asks for 0 where at least 1 is needed.
     #[error("over the reserve")]
     OverReserve,
     /// The group is not in the phase that the request needs.
     #[error("wrong phase")]
     WrongPhase,
-    /// The payload is longer than the longest.
+    /// The payload is longer than the node's version of the packet text allows.
     #[error("the payload is too long")]
     TooLong,
-    /// All messages that the group allows this member are said.
+    /// The member has said all messages that the group allows it.
     #[error("the budget of messages is spent")]
     Budget,
-    /// The payload would pass the bytes that the group allows this member.
+    /// The payload would exceed the bytes that the group allows this member.
     #[error("the budget of bytes is spent")]
     Bytes,
-    /// As many own messages are unfinished as the group allows.
+    /// As many of the member's own messages are unfinished as the group allows.
     #[error("the window is full")]
     Window,
-    /// The place is beyond the log, or too many entries are asked for.
+    /// The place is beyond the end of the log, too many entries are asked for, or a say names another number than the next.
     #[error("bad place")]
     BadPlace,
     /// The node has no place for another tenant or group.

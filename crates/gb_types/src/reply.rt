@@ -1,4 +1,4 @@
-//! What a node answers.
+//! The answers of a node.
 ghost use Rattle.std.specs.Prelude.{◌≡◌, List, IfOk, OnErr};
 ghost use Rattle.gb_types.specs.declared.entry.Entry.{Entry as EntryValue};
 
@@ -18,7 +18,7 @@ pub enum Reply {
 }
 
 impl Reply {
-    /// The same reply, copied. Only a log takes memory.
+    /// Returns a copy of the reply. Only a log takes memory.
     pub fn duplicate(&self, alloc: Global) -> Result<Reply, OutOfMemory>
         ensures ok { IfOk result (λ r. r ≡ self.now) }
         ensures err { OnErr result ((entries : List EntryValue) × (self.now ≡ Reply.Log entries)) }

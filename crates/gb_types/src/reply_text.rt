@@ -1,4 +1,4 @@
-//! How a reply is written.
+//! Replies as text.
 ghost use Rattle.std.specs.Prelude.{◌≡◌, ◌++◌, ◌∷◌, codes, IfOk, OnOk, OnErr};
 ghost use Rattle.std.specs.Io.{StartsWith};
 ghost use Rattle.gb_types.specs.ReplyText.{reply_spelling};
@@ -11,7 +11,7 @@ use crate::refusal::Refusal;
 use crate::reply::Reply;
 use std::alloc::Global;
 
-/// The text of a refusal, `refused NUMBER NAME`, in one piece, so that it is written at once.
+/// Returns the text of a refusal, `refused NUMBER NAME`, as one constant.
 fn refusal_text(why: Refusal) -> &'static [u8]
     ensures { result.now ≡ reply_spelling (Reply.Refused why) }
 {
@@ -54,9 +54,9 @@ fn put_log(out: &mut Vec<u8>, entries: &[Entry]) -> Result<(), OutOfMemory>
     put_entries(out, entries)
 }
 
-/// Appends the text of a reply, without a line end: `ok`, `said SEQ`, `log COUNT` and then for each entry a space
-/// and `ORIGIN:SEQ:PAYLOAD`, or `refused NUMBER NAME`. Payloads are in lower case, or `-`. Without memory a part of it may
-/// stand behind what was there.
+/// Appends the text of a reply, without a line end: `ok`; `said SEQ`; `log COUNT` and then for each entry a space and
+/// `ORIGIN:SEQ:PAYLOAD`; or `refused NUMBER NAME`. Payloads are in lower case, or `-`. If memory is refused, a part of the text may
+/// stand behind the earlier bytes.
 pub fn put_reply(out: &mut Vec<u8>, reply: &Reply) -> Result<(), OutOfMemory>
     ensures ok { OnOk result (out.new.items ≡ out.old.items ++ reply_spelling reply.now) }
     ensures err { OnErr result (StartsWith out.new.items out.old.items) }
@@ -69,7 +69,7 @@ pub fn put_reply(out: &mut Vec<u8>, reply: &Reply) -> Result<(), OutOfMemory>
     }
 }
 
-/// The text of a reply, as `put_reply` appends it.
+/// Returns the text of a reply, as `put_reply` appends it.
 pub fn reply_text(alloc: Global, reply: &Reply) -> Result<Vec<u8>, OutOfMemory>
     ensures { IfOk result (λ text. text.items ≡ reply_spelling reply.now) }
 {

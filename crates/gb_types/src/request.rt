@@ -1,23 +1,23 @@
-//! What a caller may ask of a node.
+//! The requests that a caller may make at a node.
 use crate::address::Addr;
 use crate::new_message::NewMessage;
 use crate::spec::{Spec, TenantRow};
 
-/// A request at a node, with the token that it is asked under.
+/// A request at a node, with the token that authorises it.
 pub enum Request {
-    /// Takes a tenant in.
+    /// Adds a tenant.
     AddTenant([u8; 32], TenantRow),
     /// Makes a group, in which nothing can be said yet.
     Make([u8; 32], Addr, Spec),
-    /// Opens a group for its member's messages.
+    /// Opens a group, so that its member may say messages.
     OpenGroup([u8; 32], Addr),
-    /// Shuts an open group: nothing more is said in it here.
+    /// Shuts an open group: this member says nothing more in it.
     ShutGroup([u8; 32], Addr),
-    /// Drops a group for good: its log and what waits are given up here.
+    /// Drops a group for good: its log and its waiting items are discarded here.
     DropGroup([u8; 32], Addr),
     /// Broadcasts a message to the group.
     Say([u8; 32], Addr, NewMessage),
-    /// Reads the group's log from a place on, so many entries at most.
+    /// Reads the group's log from a place (the first number) on, up to a number of entries (the second).
     Fetch([u8; 32], Addr, u32, u32),
 }
 

@@ -1,4 +1,4 @@
-//! The words of requests: numbers of two and of four bytes, addresses, what a group is made with, and what is said in it.
+//! The words of requests: numbers of two and of four bytes, addresses, the parameters of a group, and messages.
 ghost use Rattle.std.specs.Prelude.{◌≡◌, ◌↔◌, ℕ, Option, Some, IfOk, decimal, map, option_map};
 ghost use Rattle.std.specs.Option.{ForSome};
 ghost use Rattle.gb_types.specs.RequestWords.{IsShort, IsLong, IsGroup, AreGroupNumbers, HasNoDot, with_dot, generation_word, group_word, SpellsSpec, seq_words, SpellsMessage};
@@ -16,21 +16,21 @@ use crate::payload_word::read_payload;
 use crate::spec::Spec;
 use std::alloc::Global;
 
-/// A number of two bytes, 0 to 65,535.
+/// Returns the number of two bytes that the word spells, 0 to 65,535.
 pub fn read_u16(word: &[u8]) -> Option<u16>
     ensures { (n : ℕ) → (result ≡ Some n) ↔ (IsShort n × (word.now ≡ decimal n)) }
 {
     Some(read_number(word, 65_535)? as u16)
 }
 
-/// A number of four bytes, 0 to 4,294,967,295.
+/// Returns the number of four bytes that the word spells, 0 to 4,294,967,295.
 pub fn read_u32(word: &[u8]) -> Option<u32>
     ensures { (n : ℕ) → (result ≡ Some n) ↔ (IsLong n × (word.now ≡ decimal n)) }
 {
     Some(read_number(word, 4_294_967_295)? as u32)
 }
 
-/// Returns the bytes of a word before its first dot, and those behind it. Returns the whole word where it has no dot.
+/// Returns the bytes of the word before its first dot, and those behind it. Without a dot, returns the whole word and `None`.
 fn cut_at_dot(word: &[u8]) -> (&[u8], Option<&[u8]>)
     ensures whole { word.now ≡ with_dot result.0.now (option_map (λ behind. behind.now) result.1) }
     ensures front { HasNoDot result.0.now }
@@ -41,7 +41,7 @@ fn cut_at_dot(word: &[u8]) -> (&[u8], Option<&[u8]>)
     }
 }
 
-/// Returns the generation that stands behind the dot of a group's word: 0 where there is no dot. A later one is 1 to 4,294,967,295.
+/// Returns the generation that stands behind the dot of a group's word: 0 if there is no dot, else 1 to 4,294,967,295.
 fn read_generation(behind: Option<&[u8]>) -> Option<u32>
     ensures { (n : ℕ) → (result ≡ Some n) ↔ (IsLong n × (option_map (λ word. word.now) behind.entry ≡ generation_word n)) }
 {
@@ -55,7 +55,7 @@ fn read_generation(behind: Option<&[u8]>) -> Option<u32>
     Some(generation)
 }
 
-/// Returns the number of a group among its tenant's and its generation: G, or G.N for a generation after the first.
+/// Returns the number of a group among its tenant's, and its generation: G, or G.N for a generation after the first.
 pub fn read_group(word: &[u8]) -> Option<(u16, u32)>
     ensures { (n : ℕ × ℕ) → (result ≡ Some n) ↔ AreGroupNumbers word.now n }
 {
@@ -80,7 +80,7 @@ pub fn read_address(tenant: &[u8], group: &[u8]) -> Option<Addr>
     })
 }
 
-/// The limits of a group: MSGS BYTES WINDOW.
+/// Returns the limits of a group: MSGS BYTES WINDOW.
 pub fn read_limits(msgs: &[u8], bytes: &[u8], window: &[u8]) -> Option<(u32, u32, u32)>
     ensures { (n : ℕ × ℕ × ℕ) → (result ≡ Some n)
         ↔ ((IsLong n.0 × (msgs.now ≡ decimal n.0))
@@ -93,7 +93,7 @@ pub fn read_limits(msgs: &[u8], bytes: &[u8], window: &[u8]) -> Option<(u32, u32
     Some((msgs, bytes, window))
 }
 
-/// What a group is made with: KIND MEMBERS MSGS BYTES WINDOW.
+/// Returns the parameters of a group: KIND MEMBERS MSGS BYTES WINDOW.
 pub fn read_spec(words: &[&[u8]]) -> Option<Spec>
     ensures { (spec : TheSpec) → (result ≡ Some spec)
         ↔ SpellsSpec spec (map (λ word. word.now) words.now) }
@@ -113,7 +113,7 @@ pub fn read_spec(words: &[&[u8]]) -> Option<Spec>
     })
 }
 
-/// The number that a message must get: SEQ, or no word at all.
+/// Returns the number that a message must get: SEQ, or none if there is no word.
 fn read_seq(words: &[&[u8]]) -> Option<Option<u32>>
     ensures { (seq : Option ℕ) → (result ≡ Some seq)
         ↔ (ForSome seq IsLong × (map (λ word. word.now) words.now ≡ seq_words seq)) }
@@ -125,7 +125,7 @@ fn read_seq(words: &[&[u8]]) -> Option<Option<u32>>
     }
 }
 
-/// What is said: PAYLOAD, or PAYLOAD SEQ.
+/// Returns the message that the words spell: PAYLOAD, or PAYLOAD SEQ.
 pub fn read_message(alloc: Global, words: &[&[u8]]) -> Result<Option<NewMessage>, OutOfMemory>
     ensures { IfOk result (λ found. (message : TheMessage) → (found ≡ Some message)
         ↔ SpellsMessage message (map (λ word. word.now) words.now)) }

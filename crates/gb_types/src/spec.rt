@@ -1,25 +1,25 @@
-//! What a group is made with, and what a tenant may have.
+//! The parameters of a group, and the limits of a tenant.
 ghost use Rattle.std.specs.Prelude.{◌≡◌};
 
 use crate::address::TenantId;
 use crate::kind::Kind;
 use crate::node::NodeSet;
 
-/// What a group is made with at a node.
+/// The parameters of a group at a node.
 #[derive(Drop)]
 pub struct Spec {
     pub kind: Kind,
     pub members: NodeSet,
-    /// How many messages each member may say, for life.
+    /// The number of messages that each member may say, for life.
     pub msgs: u32,
-    /// How many payload bytes each member may say, for life.
+    /// The number of payload bytes that each member may say, for life.
     pub bytes: u32,
-    /// How many of its own messages may be unfinished at once.
+    /// The number of own messages that a member may have unfinished at once.
     pub window: u32,
 }
 
 impl Spec {
-    /// The same.
+    /// Returns a copy.
     pub fn duplicate(&self) -> Spec
         ensures { result ≡ self.now }
     {
@@ -33,13 +33,13 @@ impl Spec {
     }
 }
 
-/// A tenant at a node, and the most that each of its groups may be made with.
+/// A tenant at a node, and the greatest limits that each of its groups may have.
 #[derive(Clone, Copy, PartialEq, Eq)]
 pub struct TenantRow {
     pub tenant: TenantId,
     /// The key of the tenant's tokens.
     pub key: [u8; 32],
-    /// Its groups are numbered from 0 and below this.
+    /// The numbers of its groups are 0 to `groups - 1`.
     pub groups: u32,
     pub msgs: u32,
     pub bytes: u32,

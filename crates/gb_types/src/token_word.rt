@@ -2,11 +2,15 @@
 ghost use Rattle.std.specs.Prelude.{◌≡◌};
 ghost use Rattle.gb_types.specs.TokenWord.{token_of};
 
+use crate::lower_digits::read_lower_token;
 use hex::FromHex;
 
-/// The 32 bytes that a word spells, with digits of both cases.
+/// Returns the 32 bytes that a word of 64 digits spells; digits may be of both cases.
 pub fn read_token(word: &[u8]) -> Option<[u8; 32]>
     ensures { result ≡ token_of word.now }
 {
+    if let Some(token) = read_lower_token(word) {
+        return Some(token);
+    }
     <[u8; 32] as FromHex>::from_hex(word).ok()
 }

@@ -13,23 +13,23 @@ pub enum Version {
     Three,
 }
 
-/// What a version of the packet text allows.
+/// The limits of a version of the packet text.
 #[derive(Clone, Copy)]
 pub struct VersionLimits {
-    /// The byte that stands for the version in a packet.
+    /// The version byte of a packet.
     pub byte: u8,
     /// The number of nodes that a packet can name. They are numbered from 0.
     pub nodes: u8,
-    /// The bytes of the longest payload.
+    /// The length of the longest payload in bytes.
     pub payload: usize,
-    /// The bytes of the longest packet.
+    /// The length of the longest packet in bytes.
     pub packet: usize,
-    /// The bytes of an item before its payload: 9, and 4 more where the item names its generation.
+    /// The bytes of an item before its payload: 9, and 4 more if the item names its generation.
     pub item_header: usize,
 }
 
 impl Version {
-    /// What the version allows. This is the one table of limits by version.
+    /// Returns the limits of the version. This is the one table of limits by version.
     pub fn limits(self) -> VersionLimits
         ensures value { result ≡ limits_of self }
         ensures greatest { AreWithinGreatest result }
@@ -60,7 +60,7 @@ impl Version {
         }
     }
 
-    /// The version that a byte of a packet stands for.
+    /// Returns the version that a byte of a packet stands for. `None` if it stands for no version.
     pub fn from_byte(byte: u8) -> Option<Version>
         ensures { result ≡ version_named byte }
     {

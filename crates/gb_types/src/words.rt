@@ -5,15 +5,15 @@ ghost use Rattle.gb_types.specs.Words.{words_of, WrittenWordsAreRead, EachLineIs
 use crate::memory::OutOfMemory;
 use std::alloc::Global;
 
-/// The words of a line. Each space parts two words, so that words may be empty.
+/// Returns the words of a line. Each space separates two words, so a word may be empty.
 pub fn split_words(alloc: Global, line: &[u8]) -> Result<Vec<&[u8]>, OutOfMemory>
     ensures { IfOk result (λ words. map (λ word. word.now) words.items ≡ words_of line.now) }
 {
     Ok(line.split(|byte| *byte == b' ').collect(alloc)?)
 }
 
-/// What the words of a line are: words that were written with single spaces between them are read
-/// again, and each line is its words.
+/// Words that were written with single spaces between them are read again, and each line is its words with single spaces between
+/// them.
 pub fn words_are_the_parts_of_a_line()
     ensures written { WrittenWordsAreRead }
     ensures each { EachLineIsItsWords }

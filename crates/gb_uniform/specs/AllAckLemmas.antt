@@ -1,4 +1,4 @@
--- The laws of the rule of all-ack uniform reliable broadcast, and that it has the module's tests.
+-- The laws of the rule of all-ack uniform reliable broadcast, and its equality with the module's tests.
 use Rattle.std.proofs.Common.{◌≡◌, ℕ, Bool, ◌||◌, ◌&&◌, List, [], ◌∷◌, refl, ap}
 use Rattle.std.specs.List.{list_all}
 use Rattle.std.specs.FinSet as set

@@ -1,4 +1,4 @@
--- The laws of the rule of majority-ack uniform reliable broadcast, and that it has the module's tests.
+-- The laws of the rule of majority-ack uniform reliable broadcast, and its equality with the module's tests.
 use Rattle.std.proofs.Common.{◌&&◌, refl, sym}
 use Rattle.std.specs.FinSet as set
 use Rattle.gb_layer.specs.declared.broadcast_module.BroadcastModule.TheVariants.{MajorityAck}

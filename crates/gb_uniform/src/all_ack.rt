@@ -30,6 +30,6 @@ impl Rule for AllAcked {
     ghost broadcasts_its_own = { all_ack_own };
 }
 
-/// All-ack uniform reliable broadcast over a layer (Cachin, Guerraoui, Rodrigues 2011, Algorithm 3.4): relays each
-/// message once, and hands it up once every member that was not noticed is known to hold it.
+/// All-ack uniform reliable broadcast over a layer (Cachin, Guerraoui, Rodrigues 2011, Algorithm 3.4). It relays each message once.
+/// It hands the message up once each member that was not noticed is known to hold it.
 pub type AllAck<L> = Relay<L, AllAcked>;

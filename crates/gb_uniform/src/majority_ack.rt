@@ -30,6 +30,6 @@ impl Rule for MajorityAcked {
     ghost broadcasts_its_own = { majority_ack_own };
 }
 
-/// Majority-ack uniform reliable broadcast over a layer (Cachin, Guerraoui, Rodrigues 2011, Algorithm 3.5): relays
-/// each message once, and hands it up once more than half of the members are known to hold it.
+/// Majority-ack uniform reliable broadcast over a layer (Cachin, Guerraoui, Rodrigues 2011, Algorithm 3.5). It relays each message
+/// once. It hands the message up once more than half of the members are known to hold it.
 pub type MajorityAck<L> = Relay<L, MajorityAcked>;

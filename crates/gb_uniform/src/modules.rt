@@ -1,4 +1,4 @@
-//! Which layers are which module of broadcast.
+//! Laws: which layers are which module of broadcast.
 ghost use Rattle.std.specs.Prelude.{◌≡◌, List, ◌∷◌};
 ghost use Rattle.std.specs.FinSet as set;
 ghost use Rattle.gb_types.specs.declared.node.NodeId.{NodeId};
@@ -15,9 +15,9 @@ use gb_layer::beb::Beb;
 use gb_layer::layer::Layer;
 use gb_layer::relay::Relay;
 
-/// `AllAck` over `Beb` at the node me, in a group with these members, is all-ack uniform reliable broadcast: over every
-/// lawful history what a call hands up is what it delivers, what it sends is what it broadcasts, and all that
-/// came up is the log.
+/// `AllAck` over `Beb` at the node `me`, in a group with these members, is all-ack uniform reliable broadcast. Over every lawful
+/// history, what a call hands up is what the module delivers, what it sends is what the module broadcasts, and all that came up is
+/// the log.
 pub fn all_ack()
     ensures up { (me : NodeId) (members : Nodes) (past : List Call) (c : Call) → IsLawful me.number (c ∷ past)
         → messages (⟦<Relay<Beb, AllAcked> as Layer>⟧.gives (after ⟦<Relay<Beb, AllAcked> as Layer>⟧.next (at_start me members) past) c).ups ≡ delivers AllAck me.number (set.items members) c past }
@@ -27,9 +27,9 @@ pub fn all_ack()
         → messages (all_ups ⟦<Relay<Beb, AllAcked> as Layer>⟧.next ⟦<Relay<Beb, AllAcked> as Layer>⟧.gives (at_start me members) past) ≡ log AllAck me.number (set.items members) past }
 {}
 
-/// `MajorityAck` over `Beb` at the node me, in a group with these members, is majority-ack uniform reliable broadcast:
-/// over every lawful history what a call hands up is what it delivers, what it sends is what it broadcasts, and all
-/// that came up is the log.
+/// `MajorityAck` over `Beb` at the node `me`, in a group with these members, is majority-ack uniform reliable broadcast. Over every
+/// lawful history, what a call hands up is what the module delivers, what it sends is what the module broadcasts, and all that came
+/// up is the log.
 pub fn majority_ack()
     ensures up { (me : NodeId) (members : Nodes) (past : List Call) (c : Call) → IsLawful me.number (c ∷ past)
         → messages (⟦<Relay<Beb, MajorityAcked> as Layer>⟧.gives (after ⟦<Relay<Beb, MajorityAcked> as Layer>⟧.next (at_start me members) past) c).ups ≡ delivers MajorityAck me.number (set.items members) c past }

@@ -1,4 +1,4 @@
--- A run of answers, seen in the seat's list.
+-- The answers of a session, seen in the seat's list.
 use Rattle.std.proofs.Common.{ℕ, List, [], ◌∷◌, ap, subst, Option, Result, Ok, Err}
 use Rattle.std.specs.Prelude.{IfOk, IfErr}
 use Rattle.gb_types.specs.declared.reply.Reply.{Reply}

@@ -1,4 +1,4 @@
--- What a worker reads from an answer.
+-- What a worker reads in an answer.
 use Rattle.std.specs.Prelude.{ℕ, ◌+◌, Bool, true, false, cond, List, [], ◌∷◌, fold, Option, Some, None}
 use Rattle.std.specs.FinSet as set
 use Rattle.std.specs.Ordering.{nat_cmp}
@@ -14,37 +14,37 @@ use Rattle.gb_host.specs.declared.entry.SeatEntry.{SeatEntry}
 use Rattle.gb_worker.specs.declared.end.Why.{Why}
 use Rattle.gb_worker.specs.declared.end.Why.TheVariants.{Stopped as StoppedThere}
 
--- a packet that came, or a packet to be sent, was answered Stopped
+-- the answer is Stopped, to a packet that came or to a packet to be sent
 abbrev pub is_stopped : NodeAnswer → Bool
 is_stopped (Taken (TakenRefused Stopped)) = true
 is_stopped (Sent (SentRefused Stopped)) = true
 is_stopped other = false
 
--- how many calls were answered Stopped
+-- the number of calls that were answered Stopped
 abbrev pub stops_in : List SeatEntry → ℕ
 stops_in [] = 0
 stops_in (e ∷ es) = cond (is_stopped e.answer) 1 0 + stops_in es
 
--- how many such answers a worker had that ended for this
+-- the number of such answers that a worker had that ended for this reason
 abbrev pub stops_by : Why → ℕ
 stops_by StoppedThere = 1
 stops_by other = 0
 
--- the answer gives a packet
+-- the answer has a packet to be sent
 abbrev pub gives_packet : NodeAnswer → Bool
 gives_packet (Sent (SentPacket text)) = true
 gives_packet other = false
 
--- these nodes, and the one whose good packet was taken, if one was
+-- these nodes, with the one whose good packet was taken, if one was
 abbrev pub and_heard : set.FinSet nat_cmp → NodeAnswer → set.FinSet nat_cmp
 and_heard nodes (Taken (TakenGood good)) = set.insert nodes good.from.number
 and_heard nodes other = nodes
 
--- the nodes of which a good packet was taken
+-- the nodes from which a good packet was taken
 abbrev pub heard_in : List SeatEntry → set.FinSet nat_cmp
 heard_in es = fold (λ nodes e. and_heard nodes e.answer) set.empty es
 
--- to which node an event sends
+-- the node to which an event sends; None if it sends to none
 abbrev pub destination : NodeEvent → Option NodeId
 destination (Pack to) = Some to
 destination (Again to n) = Some to

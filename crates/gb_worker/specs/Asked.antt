@@ -15,12 +15,12 @@ use Rattle.gb_host.specs.declared.fault.HostFault.{HostFault}
 use Rattle.gb_host.specs.declared.fault.HostFault.TheVariants.{OutOfMemory as NoMemory, Behind}
 use Rattle.gb_host.specs.declared.plan.HostPlan.{HostPlan}
 
--- The reply that an answer is. A node answers each request with one; any other answer would be told as Stopped.
+-- The reply that an answer holds. A node answers each request with a reply; any other answer would be reported as Stopped.
 abbrev pub reply_of : NodeAnswer → Reply
 reply_of (Replied reply) = reply
 reply_of other = Refused Stopped
 
--- What a client is told of a call that the host did not make: OutOfMemory where it could not keep it, or, at any other fault, Stopped.
+-- What a client is told of a call that the host refused: OutOfMemory if the host could not keep the call, Stopped at any other fault.
 abbrev pub reply_at : HostFault → Reply
 reply_at NoMemory = Refused OutOfMemory
 reply_at Behind = Refused OutOfMemory
@@ -31,7 +31,7 @@ abbrev pub IsAsked : NodeId → List SeatEntry → Request → Reply → List Se
 IsAsked node old request reply new =
     (answer : NodeAnswer) × (new ≡ old ++ record { node = node; event = Asked request; answer = answer } ∷ []) × (reply ≡ reply_of answer)
 
--- Nothing was asked, and the reply says Stopped, or OutOfMemory where the host keeps calls: else they take no room.
+-- Nothing was asked, and the reply is Stopped, or OutOfMemory if the host keeps calls. A host that keeps none needs no memory for a call.
 abbrev pub IsUnasked : HostPlan → List SeatEntry → Reply → List SeatEntry → Type 0
 IsUnasked p old reply new = (new ≡ old) × ((reply ≡ Refused Stopped) ⊎ ((reply ≡ Refused OutOfMemory) × (is_kept p ≡ true)))
 
@@ -39,6 +39,6 @@ IsUnasked p old reply new = (new ≡ old) × ((reply ≡ Refused Stopped) ⊎ ((
 abbrev pub AnswersAt : HostPlan → NodeId → List SeatEntry → Request → Reply → List SeatEntry → Type 0
 AnswersAt p node old request reply new = IsAsked node old request reply new ⊎ IsUnasked p old reply new
 
--- what a session at a node may tell: to a request as above, to an operation that it is Denied
+-- what a session at a node may answer: to a request as above, to an operation Denied
 abbrev pub answers_at : HostPlan → NodeId → Answering (List SeatEntry)
 answers_at p node = record { replies = AnswersAt p node; tells = IsDenied }

@@ -21,13 +21,13 @@ pub data PortCall : Type 0 where
   Received : Result (Option (Vec ℕ Global)) PortFault → PortCall
   Handed : NodeId → List ℕ → Result Bool PortFault → PortCall
 
--- these calls of a port, in turn, by what it says of each
+-- these are calls of a port, one after the other, by what the port says of each
 abbrev pub AreCalls : {P : Type 0} → (P → NodeId → List ℕ → Result Bool PortFault → P → Type 0) → (P → Result (Option (Vec ℕ Global)) PortFault → P → Type 0) → P → List PortCall → P → Type 0
 AreCalls sends receives p [] q = p ≡ q
 AreCalls {P} sends receives p (Received result ∷ calls) q = (u : P) × receives p result u × AreCalls sends receives u calls q
 AreCalls {P} sends receives p (Handed to bytes result ∷ calls) q = (u : P) × sends p to bytes result u × AreCalls sends receives u calls q
 
--- what travels in a call: bytes that the port gave, or that it was handed
+-- what travels in a call: the bytes that the port returned, or that it was handed
 abbrev pub travels_in : PortCall → List Traffic
 travels_in (Received (Ok (Some bytes))) = Came bytes.items ∷ []
 travels_in (Received other) = []
@@ -37,7 +37,7 @@ abbrev pub travels : List PortCall → List Traffic
 travels [] = []
 travels (call ∷ calls) = travels_in call ++ travels calls
 
--- what goes to a node by an answer, if it gives a packet
+-- what an answer sends to a node: its packet, if it has one
 abbrev pub goes_to : NodeId → NodeAnswer → List Traffic
 goes_to to (Sent (SentPacket text)) = Went to text ∷ []
 goes_to to other = []
@@ -54,11 +54,11 @@ abbrev pub traffic : List SeatEntry → List Traffic
 traffic [] = []
 traffic (e ∷ es) = traffic_of e.event e.answer ++ traffic es
 
--- a port was asked for what came and gave nothing
+-- the port was asked for what came and returned no bytes
 abbrev pub GivesNothing : {P : Type 0} → (P → Result (Option (Vec ℕ Global)) PortFault → P → Type 0) → P → P → Type 0
 GivesNothing receives before after = (result : Result (Option (Vec ℕ Global)) PortFault) × receives before result after × (travels_in (Received result) ≡ [])
 
--- What travelled at the port is what the entries that a list gained say, in their order, each once.
+-- What travelled at the port is what the entries say that the list gained, in their order, each once.
 abbrev pub HasCarried : {P : Type 0} → (P → NodeId → List ℕ → Result Bool PortFault → P → Type 0) → (P → Result (Option (Vec ℕ Global)) PortFault → P → Type 0) → P → P → List SeatEntry → List SeatEntry → Type 0
 HasCarried sends receives before after old new =
     (es : List SeatEntry) × (new ≡ old ++ es) × (calls : List PortCall) × AreCalls sends receives before calls after × (travels calls ≡ traffic es)

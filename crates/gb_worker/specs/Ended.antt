@@ -1,4 +1,4 @@
--- Why a worker ends, and what it counts.
+-- Why a worker ends, and which calls it counts.
 use Rattle.std.specs.Prelude.{ℕ, ◌≡◌, ◌⊎◌, ◌-◌, ◌^◌, false, slice_index}
 use Rattle.std.specs.FinSet as set
 use Rattle.std.specs.Ordering.{nat_cmp}
@@ -9,7 +9,7 @@ use Rattle.gb_host.specs.declared.fault.HostFault.{HostFault}
 use Rattle.gb_host.specs.declared.fault.HostFault.TheVariants.{OutOfMemory, Behind}
 use Rattle.gb_host.specs.declared.plan.HostPlan.{HostPlan}
 
--- the host does not take the seat's calls at the node: the node is not here, or the seat called it 2^64 - 1 times
+-- the host refuses the seat's calls at the node: the node is not here, or the seat has called it 2^64 - 1 times
 abbrev pub IsLost : set.FinSet nat_cmp → NodeId → SeatValue → Type 0
 IsLost here node seat = (set.contains here node.number ≡ false) ⊎ (slice_index seat.counts node.number ≡ 2 ^ 64 - 1)
 
@@ -19,6 +19,6 @@ IsPassing OutOfMemory = Unit {0}
 IsPassing Behind = Unit {0}
 IsPassing why = ⊥
 
--- no call at the node can lack room: the host keeps no calls, or the node is not here
+-- a call at the node cannot be refused for lack of room: the host keeps no calls, or the node is not here
 abbrev pub IsUncounted : HostPlan → set.FinSet nat_cmp → NodeId → Type 0
 IsUncounted p here node = (is_kept p ≡ false) ⊎ (set.contains here node.number ≡ false)

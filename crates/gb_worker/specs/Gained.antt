@@ -6,7 +6,7 @@ use Rattle.gb_node.specs.declared.event.NodeEvent.{NodeEvent}
 use Rattle.gb_host.specs.declared.entry.SeatEntry.{SeatEntry}
 use Rattle.gb_worker.specs.Answered.{is_stopped, gives_packet}
 
--- the list has gained entries of which this holds
+-- the list has gained entries that have this property
 abbrev pub Gains : (List SeatEntry → Type 0) → List SeatEntry → List SeatEntry → Type 0
 Gains P old new = (es : List SeatEntry) × (new ≡ old ++ es) × P es
 
@@ -14,7 +14,7 @@ Gains P old new = (es : List SeatEntry) × (new ≡ old ++ es) × P es
 abbrev pub noted : NodeId → NodeEvent → NodeAnswer → SeatEntry
 noted node event answer = record { node = node; event = event; answer = answer }
 
--- one call with its answer, or none
+-- one call with its answer, or no call
 abbrev pub IsCalled : NodeId → NodeEvent → Option NodeAnswer → List SeatEntry → List SeatEntry → Type 0
 IsCalled node event (Some answer) old new = new ≡ old ++ noted node event answer ∷ []
 IsCalled node event None old new = new ≡ old
@@ -23,11 +23,11 @@ IsCalled node event None old new = new ≡ old
 abbrev pub IsStopped : NodeId → NodeEvent → List SeatEntry → Type 0
 IsStopped node event es = (answer : NodeAnswer) × (is_stopped answer ≡ true) × (es ≡ noted node event answer ∷ [])
 
--- one call, which gave a packet or not
+-- one call, which gave a packet or did not
 abbrev pub IsMade : NodeId → NodeEvent → Bool → List SeatEntry → Type 0
 IsMade node event is_given es = (answer : NodeAnswer) × (gives_packet answer ≡ is_given) × (es ≡ noted node event answer ∷ [])
 
--- one call, or none
+-- one call, or no call
 abbrev pub IsBegun : NodeId → NodeEvent → List SeatEntry → Type 0
 IsBegun node event es = (es ≡ []) ⊎ ((answer : NodeAnswer) × (es ≡ noted node event answer ∷ []))
 
@@ -35,7 +35,7 @@ IsBegun node event es = (es ≡ []) ⊎ ((answer : NodeAnswer) × (es ≡ noted 
 abbrev pub IsNoted : NodeId → NodeEvent → SeatEntry → Type 0
 IsNoted node event e = (e.node ≡ node) × (e.event ≡ event)
 
--- one entry of which this holds where it is due, else none
+-- one entry that has this property if it is due, otherwise no entry
 abbrev pub IfDue : Bool → (SeatEntry → Type 0) → List SeatEntry → Type 0
 IfDue true P es = (e : SeatEntry) × (es ≡ e ∷ []) × P e
 IfDue false P es = es ≡ []

@@ -15,11 +15,11 @@ abbrev pub events_of : List SeatEntry → List (ℕ × NodeEvent)
 events_of [] = []
 events_of (e ∷ es) = (e.node.number, e.event) ∷ events_of es
 
--- a tick at a node, if it is one of these
+-- a tick at the node, if it is one of these
 abbrev pub tick_at : set.FinSet nat_cmp → ℕ → List (ℕ × NodeEvent)
 tick_at here k = cond (set.contains here k) ((k, Tick) ∷ []) []
 
--- a tick at each of these nodes with a number below this, rising
+-- a tick at each of these nodes with a number below this, in rising order
 abbrev pub ticks_to : set.FinSet nat_cmp → ℕ → List (ℕ × NodeEvent)
 ticks_to here zero = []
 ticks_to here (suc n) = ticks_to here n ++ tick_at here n
@@ -33,12 +33,12 @@ tick_turns here nodes (suc t) = tick_turns here nodes t ++ ticks_to here nodes
 abbrev pub IsTick : set.FinSet nat_cmp → NodeId → List SeatEntry → Type 0
 IsTick here node es = events_of es ≡ tick_at here node.number
 
--- this number of whole turns, and ticks at the first nodes of one more
+-- this number of whole turns, then ticks at the first nodes of one more turn
 abbrev pub AreTicks : set.FinSet nat_cmp → ℕ → ℕ → ℕ → List SeatEntry → Type 0
 AreTicks here nodes turns part es = events_of es ≡ tick_turns here nodes turns ++ ticks_to here part
 
--- The calls have gained the ticks of all whole turns, and those at the first nodes of one more where the ticker ended by a
--- fault.
+-- The calls have gained the ticks of all whole turns and, if the ticker ended by a fault, those at the first nodes of
+-- one more turn.
 pub record HasTicked (here : set.FinSet nat_cmp) (nodes : ℕ) (end : WorkerEnd) (old new : List SeatEntry) : Type 0 where
   pub part : ℕ
   pub within : part ≤ nodes

@@ -14,7 +14,7 @@ use Rattle.gb_worker.specs.declared.end.WorkerEnd.{WorkerEnd}
 use Rattle.gb_worker.specs.declared.end.Why.TheVariants.{Turns, Gate}
 use Rattle.gb_worker.specs.declared.pump.TheConstants.{PACKETS, AGAIN, ACK}
 
--- each is the event of bytes that came, at the node
+-- each entry is the event of bytes that came, at the node
 abbrev pub ArePackets : NodeId → List SeatEntry → Type 0
 ArePackets me [] = Unit {0}
 ArePackets me (e ∷ es) = (e.node ≡ me) × ((bytes : List ℕ) × (e.event ≡ Packet bytes)) × ArePackets me es
@@ -23,15 +23,15 @@ ArePackets me (e ∷ es) = (e.node ≡ me) × ((bytes : List ℕ) × (e.event �
 abbrev pub IsFor : (NodeId → NodeEvent) → NodeId → ℕ → SeatEntry → Type 0
 IsFor event me b e = (e.node ≡ me) × ((to : NodeId) × (to.number ≡ b) × (e.event ≡ event to))
 
--- in turn r a frame is sent again where a pack gave nothing
+-- in turn r the lowest frame is sent again: the pack had no packet, and AGAIN divides r
 abbrev pub is_again_due : ℕ → NodeAnswer → Bool
 is_again_due r answer = not (gives_packet answer) && (r % AGAIN == 0)
 
--- in turn r an acknowledgement is sent where the other node was heard in the turn, and in every 16th turn
+-- in turn r an acknowledgement is sent: the other node was heard in the turn, or ACK divides r
 abbrev pub is_ack_due : ℕ → Bool → Bool
 is_ack_due r is_heard = is_heard || (r % ACK == 0)
 
--- What turn r sends to node b: a pack; where that gave nothing and 8 divides r an again, of the lowest frame; and where a
+-- What turn r sends to node b: a pack; if that gave no packet and 8 divides r, an again of the lowest frame; and if a
 -- good packet of b came in the turn, or 16 divides r, an ack.
 pub record SendsTo (r : ℕ) (me : NodeId) (b : ℕ) (is_heard : Bool) (es : List SeatEntry) : Type 0 where
   pub pack : SeatEntry
@@ -42,17 +42,17 @@ pub record SendsTo (r : ℕ) (me : NodeId) (b : ℕ) (is_heard : Bool) (es : Lis
   pub resends : IfDue (is_again_due r pack.answer) (IsFor (λ to. Again to 0) me b) again
   pub acknowledges : IfDue (is_ack_due r is_heard) (IsFor Ack me b) ack
 
--- what a pump sends in a turn to one node, or the beginning of that
+-- what a pump sends in a turn to one node, or a beginning of it
 abbrev pub IsPartTo : ℕ → NodeId → ℕ → Bool → List SeatEntry → Type 0
 IsPartTo r me b is_heard es = (rest : List SeatEntry) × SendsTo r me b is_heard (es ++ rest)
 
--- what a pump sends in a turn to each other node below b, rising; the nodes in the set were heard
+-- what a pump sends in a turn to each other node below b, in rising order; `heard` are the nodes that were heard
 abbrev pub SendsAll : ℕ → NodeId → set.FinSet nat_cmp → ℕ → List SeatEntry → Type 0
 SendsAll r me heard zero es = es ≡ []
 SendsAll r me heard (suc b) es = MatchBool (b == me.number) (SendsAll r me heard b es)
     ((xs ys : List SeatEntry) × (es ≡ xs ++ ys) × SendsAll r me heard b xs × SendsTo r me b (set.contains heard b) ys)
 
--- what a pump sends in a turn to all, or the beginning of that
+-- what a pump sends in a turn to all nodes, or a beginning of it
 abbrev pub IsPartAll : ℕ → NodeId → set.FinSet nat_cmp → ℕ → List SeatEntry → Type 0
 IsPartAll r me heard nodes es = (rest : List SeatEntry) × SendsAll r me heard nodes (es ++ rest)
 
@@ -64,7 +64,7 @@ IsReceived me n es = ArePackets me es × (length es ≤ n)
 abbrev pub HasReceived : NodeId → ℕ → set.FinSet nat_cmp → List SeatEntry → Type 0
 HasReceived me n heard es = IsReceived me n es × (heard ≡ heard_in es)
 
--- turn r: at most 16 packets that came, then what is sent to each other node, rising
+-- turn r: at most 16 packets that came, then what is sent to each other node, in rising order
 pub record IsTurn (r : ℕ) (me : NodeId) (nodes : ℕ) (es : List SeatEntry) : Type 0 where
   pub received : List SeatEntry
   pub sent : List SeatEntry
@@ -72,7 +72,7 @@ pub record IsTurn (r : ℕ) (me : NodeId) (nodes : ℕ) (es : List SeatEntry) : 
   pub receives : IsReceived me PACKETS received
   pub sends : SendsAll r me (heard_in received) nodes sent
 
--- the beginning of turn r
+-- a beginning of turn r
 abbrev pub IsPart : ℕ → NodeId → ℕ → List SeatEntry → Type 0
 IsPart r me nodes es = (rest : List SeatEntry) × IsTurn r me nodes (es ++ rest)
 
@@ -81,7 +81,7 @@ abbrev pub AreTurns : NodeId → ℕ → ℕ → List SeatEntry → Type 0
 AreTurns me nodes zero es = es ≡ []
 AreTurns me nodes (suc t) es = (xs ys : List SeatEntry) × (es ≡ xs ++ ys) × AreTurns me nodes t xs × IsTurn (suc t) me nodes ys
 
--- The list has gained the turns 1 to `end.turns`, and the beginning of one more where the pump ended as the node had
+-- The list has gained the turns 1 to `end.turns`, and a beginning of one more turn if the pump ended because the node had
 -- stopped or by a fault.
 pub record HasPumped (me : NodeId) (nodes : ℕ) (end : WorkerEnd) (old new : List SeatEntry) : Type 0 where
   pub turns : List SeatEntry

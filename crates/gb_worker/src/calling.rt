@@ -17,7 +17,7 @@ use gb_types::node::NodeId;
 use gb_types::refusal::Refusal;
 use std::sync::Wait;
 
-// Whether a packet that came, or a packet to be sent, was answered Stopped.
+// Returns true if the answer is Stopped, to a packet that came or to a packet to be sent.
 fn is_stopped(answer: &NodeAnswer) -> bool
     ensures { result ≡ is_stopped answer.now }
 {
@@ -28,7 +28,7 @@ fn is_stopped(answer: &NodeAnswer) -> bool
     }
 }
 
-// Whether a call may be made later that a host refused so: there was no memory for it, or its node's recorder is behind.
+// Returns true if the host may accept the call later: it had no memory for the call, or its node's recorder is behind.
 fn is_passing(fault: &HostFault) -> bool
     ensures { MatchBool result (IsPassing fault.now) (IsPassing fault.now → ⊥) }
 {
@@ -42,8 +42,8 @@ fn is_passing(fault: &HostFault) -> bool
     }
 }
 
-// One event at a node, and its answer; or None where the host could not keep it, which is counted. Any other fault of the host
-// ends the worker.
+// Makes the event happen at the node and returns its answer. Returns `None` if the host could not keep the call, and counts that
+// in `refused`. `Err` at any other fault of the host, which ends the worker.
 pub(crate) fn ask<L: Tapes, H: Wait>(
     rt: &H,
     host: &Host<L>,
@@ -74,7 +74,8 @@ pub(crate) fn ask<L: Tapes, H: Wait>(
     Ok(None)
 }
 
-// The same of packets that come or are to be sent; the answer Stopped ends the worker too.
+// Does what `ask` does, for a packet that came or a packet to be sent. `Err` also if the answer is Stopped, which ends the
+// worker too.
 pub(crate) fn make<L: Tapes, H: Wait>(
     rt: &H,
     host: &Host<L>,

@@ -1,6 +1,6 @@
-//! The workers of a host: functions that run, each in a thread of its own, until they are told to end. A pump carries a
-//! node's packets (`pump::pump`), a ticker makes the time tick (`ticker::ticker`), a session answers a client's requests at
-//! a node (`session::session`, and `sessions::sessions` for many at once). Each calls the host through a seat of its own and
+//! The workers of a host: functions that run, each in a thread of its own, until they are told to end. A pump carries a node's
+//! packets (`pump::pump`). A ticker makes the time tick (`ticker::ticker`). A session answers a client's requests at a node
+//! (`session::session`, and `sessions::sessions` for many at once). Each worker calls the host through a seat of its own and
 //! waits at its gate. Nothing here knows what a port or a stream is made of. Read `pump::pump` first.
 #![tactic(auto)]
 

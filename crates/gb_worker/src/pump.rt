@@ -27,13 +27,13 @@ use gb_port::port::Port;
 use gb_types::node::{NodeId, NodeSet};
 use std::sync::Wait;
 
-/// How many packets a turn receives at most.
+/// The number of packets that a turn receives at most.
 pub const PACKETS: usize = 16;
 
-/// In each turn whose number this divides a frame that was not acknowledged is sent again to a node for which nothing waits.
+/// Every `AGAIN`-th turn, the lowest unacknowledged frame is sent again to each node for which the turn's pack had no packet.
 pub const AGAIN: u64 = 8;
 
-/// In each turn whose number this divides an acknowledgement is sent to a node that was not heard.
+/// Every `ACK`-th turn, an acknowledgement is also sent to the nodes that were not heard in the turn.
 pub const ACK: u64 = 16;
 
 // Definitions cite these values.
@@ -43,7 +43,7 @@ const _: () = prove!(AGAIN == 8);
 
 const _: () = prove!(ACK == 16);
 
-/// A turn: its number, from 1, its node, and how many nodes there are.
+/// A turn: its number, from 1, its node, and the number of nodes in the cluster.
 #[derive(Clone, Copy)]
 struct Turn {
     number: u64,
@@ -51,7 +51,7 @@ struct Turn {
     nodes: u8,
 }
 
-// Adds the node whose good packet was taken, if one was.
+// Adds the node whose good packet was taken, if one was taken.
 fn hear(heard: &mut NodeSet, answer: Option<NodeAnswer>)
     ensures { (a : AnswerValue) → answer ≡ Some a → heard.new ≡ and_heard heard.old a }
 {
@@ -60,7 +60,7 @@ fn hear(heard: &mut NodeSet, answer: Option<NodeAnswer>)
     }
 }
 
-// The next packet that came. None also where the port failed.
+// Returns the next packet that came. `None` if nothing came or the port failed.
 fn next_packet<P: Port>(port: &mut P) -> Option<Vec<u8>>
     ensures some { IfSome result (λ bytes. P.receives port.old (Ok (Some bytes)) port.new) }
     ensures none { IfNone result (GivesNothing P.receives port.old port.new) }
@@ -72,7 +72,7 @@ fn next_packet<P: Port>(port: &mut P) -> Option<Vec<u8>>
     }
 }
 
-// The packet that an answer gives.
+// Returns the packet that an answer has to be sent, or `None` if it has none.
 fn packet_of(answer: NodeAnswer) -> Option<PacketText>
     ensures some { IfSome result (λ text. answer ≡ WasSent (SentPacket text)) }
     ensures none { IfNone result (gives_packet answer ≡ false) }
@@ -83,8 +83,8 @@ fn packet_of(answer: NodeAnswer) -> Option<PacketText>
     }
 }
 
-// At most 16 packets that have come. Returns the nodes of which a good one came. Nothing there, or a fault of the port, ends
-// the receiving.
+// Receives at most 16 packets that have come, and returns the nodes from which a good packet came. Stops when nothing is there
+// or the port fails.
 fn receive<L: Tapes, H: Wait, P: Port>(
     rt: &H,
     host: &Host<L>,
@@ -119,7 +119,8 @@ fn receive<L: Tapes, H: Wait, P: Port>(
     Ok(heard)
 }
 
-// One event by which a node sends to another. What it gives is sent at once. Returns whether it gave a packet.
+// Makes one event happen by which a node sends to another, and sends the packet of its answer at once. Returns whether there was
+// a packet.
 fn send_one<L: Tapes, H: Wait, P: Port>(
     rt: &H,
     host: &Host<L>,
@@ -154,7 +155,7 @@ fn send_one<L: Tapes, H: Wait, P: Port>(
     Ok(true)
 }
 
-// The same where it is due.
+// Does what `send_one` does if `is_due` is true; otherwise does nothing.
 fn send_due<L: Tapes, H: Wait, P: Port>(
     rt: &H,
     host: &Host<L>,
@@ -188,21 +189,21 @@ fn send_due<L: Tapes, H: Wait, P: Port>(
     }
 }
 
-// Whether an again is due in a turn.
+// Returns true if an again is due in the turn: the pack had no packet, and `AGAIN` divides the turn's number.
 fn is_again_due(turn: u64, is_given: bool) -> bool
     ensures { result ≡ (not is_given && (turn % AGAIN == 0)) }
 {
     !is_given && turn % AGAIN == 0
 }
 
-// Whether an acknowledgement is due in a turn.
+// Returns true if an acknowledgement is due in the turn: the node was heard in it, or `ACK` divides the turn's number.
 fn is_ack_due(turn: u64, is_heard: bool) -> bool
     ensures { result ≡ is_ack_due turn is_heard }
 {
     is_heard || turn % ACK == 0
 }
 
-// What a turn sends to one node.
+// Sends what the turn has for one node.
 fn send_to<L: Tapes, H: Wait, P: Port>(
     rt: &H,
     host: &Host<L>,
@@ -261,7 +262,7 @@ fn send_to<L: Tapes, H: Wait, P: Port>(
     }
 }
 
-// What a turn sends to the other nodes, rising.
+// Sends what the turn has for each other node, in rising order of their numbers.
 fn send_all<L: Tapes, H: Wait, P: Port>(
     rt: &H,
     host: &Host<L>,
@@ -295,7 +296,7 @@ fn send_all<L: Tapes, H: Wait, P: Port>(
     Ok(())
 }
 
-// One turn.
+// Makes one turn.
 fn make_turn<L: Tapes, H: Wait, P: Port>(
     rt: &H,
     host: &Host<L>,
@@ -326,13 +327,13 @@ fn make_turn<L: Tapes, H: Wait, P: Port>(
     }
 }
 
-/// Makes this number of turns, numbered from 1. Each passes the gate, then receives at most 16 packets from the port, each of which
-/// is an event at the node, and then does this for each other node, rising: a pack; where that gave no packet and 8 divides
-/// the turn's number, an again of the lowest frame that is not acknowledged; where a good packet of that node came in this
-/// turn or 16 divides its number, an ack. What each gives is handed to the port at once; what the port does not take is lost.
-/// False at the gate ends the pump, and so does the answer Stopped, of which there is one at most, and a fault of the host other
-/// than that it could not keep the call; such an event did not happen, and is counted, and a packet that was to be it is lost. None is
-/// counted where the host keeps no calls.
+/// Makes `turns` turns, numbered from 1. Each turn passes the gate and then receives at most 16 packets from the port, each of
+/// which is an event at the node. Then it does this for each other node, in rising order: a pack; if that gave no packet and 8
+/// divides the turn's number, an again of the lowest unacknowledged frame; if a good packet of that node came in this turn or 16
+/// divides the turn's number, an ack. Each packet is handed to the port at once; a packet that the port does not take is lost.
+/// The pump ends early if the gate returns false, at the first answer Stopped, and at a fault of the host other than that it
+/// could not keep the call. A call that the host could not keep did not happen and is counted; if it was to take a packet, that
+/// packet is lost. None is counted if the host keeps no calls.
 pub fn pump<L: Tapes, H: Wait, P: Port, G: Gate>(
     rt: &H,
     host: &Host<L>,

@@ -22,7 +22,7 @@ use std::alloc::Global;
 use std::io::{Read, Write};
 use std::sync::Wait;
 
-// What a client is told of a call.
+// Returns what the client is told of a call.
 fn reply_of(outcome: Result<NodeAnswer, HostFault>) -> Reply
     ensures answered { IfOk outcome (λ a. result ≡ reply_of a) }
     ensures fault { IfErr outcome (λ why. result ≡ reply_at why) }
@@ -35,7 +35,7 @@ fn reply_of(outcome: Result<NodeAnswer, HostFault>) -> Reply
     }
 }
 
-// Who answers a session's requests: a node of a host, asked from a seat, as long as a gate is passed.
+// Answers a session's requests: a node of a host, which it asks from a seat, as long as it passes a gate.
 #[derive(Drop)]
 struct Desk<'a, L: Tapes, H, G> {
     rt: &'a H,
@@ -71,10 +71,11 @@ impl<'a, L: Tapes, H: Wait, G: Gate> Answers for Desk<'a, L, H, G> {
     }
 }
 
-/// Answers the requests that the reader gives by calls at a node, and writes each reply; all else is as in
-/// `gb_session::serve::serve`, whose result it gives. The gate is passed before each call; from its first false on no call is
-/// made and each reply is Stopped. An operation is Denied. Where the host had no memory for a call, or the node's recorder is
-/// behind, the reply is OutOfMemory, and Stopped at any other fault of the host: then nothing happened at the node.
+/// Answers the requests of `reader` by calls at a node, and writes each reply to `writer`. The rest is as in
+/// `gb_session::serve::serve`, whose result it returns. The gate is passed before each call. Once it has returned false, no call
+/// is made and each reply is Stopped. The reply to an operation is Denied. If the host had no memory for a call, or the node's
+/// recorder is behind, the reply is OutOfMemory; at any other fault of the host it is Stopped. In all these cases nothing
+/// happened at the node.
 pub fn session<L: Tapes, H: Wait, R: Read, W: Write, G: Gate>(
     rt: &H,
     alloc: Global,

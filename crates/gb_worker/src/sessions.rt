@@ -16,7 +16,7 @@ use std::sync::Wait;
 use std::thread;
 use std::thread::Threads;
 
-/// A client: the node that it asks, the end from which its requests come, and the end to which the replies go.
+/// A client: the node that it asks, the end from which its requests are read, and the end to which the replies are written.
 #[derive(Drop)]
 pub struct Stream<R, W> {
     pub node: NodeId,
@@ -24,12 +24,12 @@ pub struct Stream<R, W> {
     pub writer: W,
 }
 
-/// How one of many sessions ended.
+/// How one of the sessions ended.
 pub type Ending = Result<SessionEnd, SessionFault>;
 
-/// Holds a session with each client, all at once, each in a thread of its own, from a seat and by a gate of its own. Gives how
-/// each ended, in the order of the clients; or, once all have ended, lack of memory for that. Where no thread can be made the
-/// sessions are held one after the other.
+/// Holds a session with each client, all at once, each in a thread of its own, from a seat and by a gate of its own. Returns how
+/// each ended, in the order of the clients; `Err`, once all have ended, if there is no memory for that list. If no thread can be
+/// made, the sessions are held one after the other.
 pub fn sessions<
     L: Tapes + Send + Sync,
     H: Threads + Wait + Sync,
@@ -53,7 +53,7 @@ pub fn sessions<
     let Some((seat, others)) = seats.split_last_mut() else {
         return Ok(Vec::new(alloc));
     };
-    // There are as many streams and gates as seats.
+    // The number of streams and of gates is the number of seats.
     let stream = streams.pop().unwrap();
     let gate = gates.pop().unwrap();
     let (end, ends) = thread::join(
@@ -69,7 +69,7 @@ pub fn sessions<
     Ok(ends)
 }
 
-// One of the sessions.
+// Holds one of the sessions.
 fn hold<L: Tapes, H: Wait, R: Read + Drop, W: Write + Drop, G: Gate + Drop>(
     rt: &H,
     alloc: Global,

@@ -14,7 +14,7 @@ use gb_node::event::NodeEvent;
 use gb_types::node::NodeId;
 use std::sync::Wait;
 
-// A tick at a node, if it is here.
+// Makes a tick at a node, if the node is here.
 fn tick<L: Tapes, H: Wait>(
     rt: &H,
     host: &Host<L>,
@@ -38,9 +38,9 @@ fn tick<L: Tapes, H: Wait>(
     }
 }
 
-/// Makes this number of turns. Each passes the gate and then makes a tick at each node that is here, rising; a node that has
-/// stopped is asked too. False at the gate ends the ticker, and so does it that the seat called a node 2^64 - 1 times; a
-/// tick that the host could not keep did not happen, and is counted. None is counted where the host keeps no calls.
+/// Makes `turns` turns. Each turn passes the gate and then makes a tick at each node that is here, in rising order; a node that
+/// has stopped is asked too. The ticker ends early if the gate returns false, or once the seat has called a node 2^64 - 1 times.
+/// A tick that the host could not keep did not happen and is counted. None is counted if the host keeps no calls.
 pub fn ticker<L: Tapes, H: Wait, G: Gate>(
     rt: &H,
     host: &Host<L>,

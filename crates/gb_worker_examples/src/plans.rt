@@ -25,6 +25,7 @@ pub fn two_nodes(version: Version, tape: bool) -> HostPlan
             versions: [version; NODES],
             silence: 1_000,
             places: 1_024,
+            room: 16_345,
             cluster_key: [0x11; 32],
             admin_key: ADMIN_KEY,
         },

@@ -1,4 +1,4 @@
--- Where there are no entries, no message of any origin was given up.
+-- If there are no entries, the number of handed up messages of each origin is 0.
 use Rattle.std.proofs.Common.{ap, sym, ◌∙◌}
 use Rattle.std.proofs.lemmas.List.{get_or-replicate}
 use Rattle.gb_types.specs.declared.limits.TheConstants.{NODES}

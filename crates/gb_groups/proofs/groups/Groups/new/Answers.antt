@@ -1,4 +1,4 @@
--- Where no group was made, packing begins at place 0 for each node, and no place is in any set.
+-- If no group was made, packing begins at place 0 for each node, and each set is empty.
 use Rattle.std.proofs.Common.{rules, refl, arith}
 use Rattle.gb_types.specs.declared.limits.TheConstants.{NODES}
 use Rattle.gb_slot.proofs.TakenLemmas.{none_taken}

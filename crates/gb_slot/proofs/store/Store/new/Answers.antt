@@ -1,4 +1,4 @@
--- A store that was just made holds nothing.
+-- A new store is empty.
 use Rattle.std.proofs.Common.{rules, sym, subst, List}
 use Rattle.gb_slot.specs.declared.store.Kept.{Kept}
 use Rattle.gb_slot.specs.Kept.{AreInside}
