@@ -101,7 +101,7 @@ fn read_cluster(words: &[&[u8]]) -> Option<Command>
     }))
 }
 
-// Reads the most bytes of the items of a packet: 1 to 16,345, and 16,345 where no word names them.
+// Reads the most bytes of the items of a packet: 1 to 16,345. Returns 16,345 if there is no word.
 fn read_room(words: &[&[u8]]) -> Option<u16>
     ensures { (n : ℕ) → (result ≡ Some n) ↔ AreRoomWords (map (λ word. word.now) words.now) n }
 {
