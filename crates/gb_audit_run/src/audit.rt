@@ -27,7 +27,7 @@ pub enum Verdict {
     Whole,
     /// The first entries of the records are one run, and behind them some are left.
     Left,
-    /// The records are not what nodes of one cluster did; the last line says why.
+    /// The records are not what the nodes of one cluster did; the last line says why.
     Refused,
 }
 
@@ -43,7 +43,7 @@ pub struct Source<'a> {
 pub struct Audited {
     /// The plan of the cluster that the records are of.
     pub plan: Plan,
-    /// The tapes of the records, by the nodes' numbers; an empty one for a node without a record.
+    /// The tapes of the records, by the nodes' numbers. It is empty for a node without a record.
     pub tapes: Vec<Tape>,
     /// The events of the run.
     pub events: Vec<Event>,
@@ -70,7 +70,7 @@ fn is_one_more(records: &[Record], record: &Record) -> bool
     true
 }
 
-// Reads the records. Returns None where a file is no record, or not one of the cluster of the first; the last line says so.
+// Reads the records. `None` if a file is no record, or not one of the first record's cluster; the last line says so.
 fn read_all(
     alloc: Global,
     sources: &[Source<'_>],
@@ -109,7 +109,7 @@ fn read_all(
     Ok(Some(records))
 }
 
-// Returns what records say of their nodes and their cluster.
+// Returns the first lines of records.
 fn heads_of(alloc: Global, records: &[Record]) -> Result<Vec<RecordHead>, OutOfMemory>
     ensures { IfOk result (λ heads. heads.items ≡ map (λ r. r.head) records.now) }
 {
@@ -120,7 +120,8 @@ fn heads_of(alloc: Global, records: &[Record]) -> Result<Vec<RecordHead>, OutOfM
     Ok(heads)
 }
 
-// Returns true if each answer of each record is what its node gives alone. Otherwise the last line says which is not.
+// Returns true if each answer of each record is the one that its node returns when it is replayed alone. Otherwise the last line
+// says which one is not.
 fn are_replayed(
     alloc: Global,
     plan: &Plan,
@@ -185,9 +186,9 @@ fn tapes_of(alloc: Global, nodes: u8, records: Vec<Record>) -> Result<Vec<Tape>,
 enum Rest {
     // No entry.
     Nothing,
-    // Entries, and one run may have them: more of a record that was cut short may be missing.
+    // Entries that one run may have: a part of another record, which was cut short, may be missing.
     Waiting,
-    // Entries of which the first takes a packet that its sender, whose record is whole, did not send.
+    // Entries. The first one takes a packet that its sender, whose record is whole, did not send.
     Stranger,
 }
 
@@ -225,7 +226,7 @@ fn tell_rest(
     Ok(Rest::Waiting)
 }
 
-// Returns true if tapes have this number of entries together.
+// Returns true if the tapes together have `count` entries.
 fn have_entries(tapes: &[Tape], count: usize) -> bool
     ensures { IsTrue result ↔ (count ≡ sum (map length tapes.now)) }
 {
@@ -240,7 +241,7 @@ fn have_entries(tapes: &[Tape], count: usize) -> bool
     left == 0
 }
 
-// Tells what is left of all records behind the entries that are in the run, where some is.
+// Tells what is left of each record behind the entries that are in the run.
 fn tell_all(
     plan: &Plan,
     tapes: &[Tape],
@@ -269,8 +270,8 @@ fn tell_all(
 }
 
 /// Audits the records of a cluster's nodes, given in any order, under the cluster's keys, and appends a line for each thing that it
-/// finds. Returns the part of the records that is one run of the cluster. Returns None where the records are not of one cluster, or an
-/// answer in them is not what its node gives.
+/// finds. Returns the part of the records that is one run of the cluster. `None` if the records are not of one cluster, or if an
+/// answer in them is not the one that its node returns when it is replayed alone.
 pub fn audit(
     alloc: Global,
     sources: &[Source<'_>],

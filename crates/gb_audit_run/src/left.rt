@@ -37,7 +37,7 @@ fn place_of(event: &Event, sent: &[NodeId]) -> Option<NodeId> {
     }
 }
 
-/// Returns how many entries of each node's record are in the run that these events are, by the nodes' numbers.
+/// Returns the number of entries of each node's record that are in the run of these events, by the nodes' numbers.
 pub fn merged_counts(
     alloc: Global,
     tapes: &[Tape],
@@ -66,7 +66,7 @@ pub fn merged_counts(
     Ok(counts)
 }
 
-/// Returns the node whose packet an entry takes, where the entry takes a packet of the cluster.
+/// Returns the node whose packet an entry takes. `None` if the entry takes no packet of the cluster.
 pub fn sender_of(plan: &Plan, entry: &TapeEntry) -> Option<NodeId> {
     let NodeEvent::Packet(bytes) = &entry.event else {
         return None;

@@ -48,7 +48,7 @@ pub fn put_stranger(out: &mut Vec<u8>, name: &str) -> Result<(), OutOfMemory> {
     put_bytes(out, b"\n")
 }
 
-/// Appends `audit fault N FILE line L`, where `place` entries stand before the one that is wrong.
+/// Appends `audit fault N FILE line L`. `place` is the number of entries before the one that is wrong.
 pub fn put_fault(
     out: &mut Vec<u8>,
     fault: u8,
@@ -63,8 +63,8 @@ pub fn put_fault(
     put_bytes(out, b"\n")
 }
 
-/// Appends `left FILE line L entries R awaits I`: from this line on a record is in no run, and its next entry waits for a packet of
-/// node I.
+/// Appends `left FILE line L entries R awaits I`: the R entries from line L on are not in the run, and the first of them takes a
+/// packet of node I. If it takes no packet, ` awaits I` is left out.
 pub fn put_left(
     out: &mut Vec<u8>,
     name: &str,

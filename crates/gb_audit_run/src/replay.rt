@@ -9,8 +9,8 @@ use gb_types::node::NodeId;
 use gb_types::plan::Plan;
 use std::alloc::Global;
 
-/// Returns how many entries stand before the first one whose answer is not what a node gives that took the entries before it. Returns
-/// None where all answers are right.
+/// Returns the number of entries before the first wrong one: its answer is not the one that a node returns which took the entries
+/// before it. `None` if all answers are right.
 pub fn first_wrong(alloc: Global, plan: &Plan, me: NodeId, entries: &[TapeEntry]) -> Option<usize>
     requires plan { IsClusterPlan plan.now }
     requires here { me.number < plan.now.nodes }

@@ -1,8 +1,8 @@
 //! How an audit ends.
 use crate::audit::{Audited, Verdict};
 
-/// Returns the exit status of an audit: 0 when all records are one run of the cluster, 3 when that holds of their first entries
-/// alone, 1 for all else.
+/// Returns the exit status of an audit: 0 if all records are one run of the cluster, 3 if only their first entries are one run,
+/// 1 otherwise.
 pub fn status_of(found: &Option<Audited>) -> u8 {
     match found {
         None => 1,

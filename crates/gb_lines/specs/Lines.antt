@@ -7,7 +7,7 @@ abbrev pub lines_of : List ℕ → List (List ℕ)
 lines_of [] = []
 lines_of (byte ∷ bytes) = if byte == 10 then [] ∷ lines_of bytes else onto_first byte (lines_of bytes)
 
--- no byte of a line is a line feed
+-- each byte of a line is other than a line feed
 abbrev pub IsLine : List ℕ → Type 0
 IsLine line = All (λ byte. byte ≢ 10) line
 
@@ -20,6 +20,6 @@ pub record GivesLine (line text rest : List ℕ) : Type 0 where
   pub first : lines_of text ≡ line ∷ lines_of rest
   pub consumed : (text ≡ line ++ 10 ∷ rest) ⊎ ((text ≡ line) × (rest ≡ []))
 
--- the first line of the text has more bytes than that
+-- the first line of the text has more bytes than this number
 abbrev pub BeginsLonger : ℕ → List ℕ → Type 0
 BeginsLonger most text = (line : List ℕ) × (more : List (List ℕ)) × (lines_of text ≡ line ∷ more) × (most < length line)

@@ -1,4 +1,4 @@
-//! The lines of a text, read from any reader by large pieces. What a line says is nobody's business here. Read
+//! The lines of a text, read from any reader in large pieces. This crate does not interpret the lines. Read
 //! `lines::LineBuffer` first.
 #![tactic(auto)]
 

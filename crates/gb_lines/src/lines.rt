@@ -18,12 +18,12 @@ pub const LINE: usize = 65_536;
 
 const _: () = prove!(LINE == 65_536);
 
-/// How many reads are made at most.
+/// The most reads that are made.
 pub const READS: u64 = 64_000_000;
 
 const _: () = prove!(READS == 64_000_000);
 
-/// The bytes that are kept at once: a line that is not whole yet, and as much again for a read.
+/// The size of the buffer in bytes: a line that is not whole yet, and as much again for a read.
 const SPACE: usize = 131_072;
 
 /// What comes next in a text.
@@ -31,7 +31,7 @@ const SPACE: usize = 131_072;
 pub enum NextLine {
     /// A line, which `LineBuffer::line` shows.
     Given,
-    /// A line of more than `LINE` bytes. It is not given, and nothing behind it can be.
+    /// A line of more than `LINE` bytes. Neither it nor a line behind it can be returned.
     TooLong,
     /// No line: the text is at its end.
     End,
@@ -43,21 +43,21 @@ pub enum LinesFault {
     /// A read failed.
     #[error("a read failed")]
     Read,
-    /// `READS` reads were made, and one more was wanted.
+    /// `READS` reads were made, and one more was needed.
     #[error("too many reads")]
     TooManyReads,
 }
 
-/// What the lines of a text are: written lines are read again, also where the last one lacks its
-/// line feed, and each text is its lines.
+/// What the lines of a text are: lines that were written are the lines that are read, even if the last one lacks its
+/// line feed; and each text is its lines.
 pub fn lines_are_the_pieces_of_a_text()
     ensures written { WrittenLinesAreRead }
     ensures last { LastMayLackItsLineFeed }
     ensures each { EachTextIsItsLines }
 {}
 
-/// Reads a text by large pieces and gives its lines, one at a time. A read of 0 bytes is the end of
-/// the text, and none is made after it. A read that a signal interrupted is made again.
+/// Reads a text in large pieces and returns its lines, one at a time. A read of 0 bytes is the end of
+/// the text, and no read is made after it. A read that a signal interrupted is made again.
 pub struct LineBuffer {
     bytes: Vec<u8>,
     line_start: usize,
@@ -69,7 +69,7 @@ pub struct LineBuffer {
     reads: u64,
 }
 
-// Not derived: what is derived is proved anew in each crate that ends one.
+// Not derived: a derived `Drop` is proved anew in each crate that drops one.
 impl Drop for LineBuffer {
     fn drop(self) {
         let LineBuffer {
@@ -85,7 +85,7 @@ impl Drop for LineBuffer {
     }
 }
 
-// The first line feed from `from` up to `to`.
+// Returns the index of the first line feed from `from` up to `to`. `None` if there is none.
 #[inline(always)]
 fn line_feed_within(bytes: &[u8], from: usize, to: usize) -> Option<usize>
     requires ordered { from ≤ to }
@@ -94,7 +94,7 @@ fn line_feed_within(bytes: &[u8], from: usize, to: usize) -> Option<usize>
         × (slice_index bytes.now place ≡ 10) × NoLineFeed bytes.now from place) }
     ensures none { IfNone result (NoLineFeed bytes.now from to) }
 {
-    // The place where a search before ended is looked at first.
+    // An earlier search may have ended at a line feed, which then stands at `from`.
     if from < to && bytes[from] == b'\n' {
         return Some(from);
     }
@@ -104,7 +104,7 @@ fn line_feed_within(bytes: &[u8], from: usize, to: usize) -> Option<usize>
     }
 }
 
-// The first line feed from `from` up to `to`, or `to`, where there is none.
+// Returns the index of the first line feed from `from` up to `to`, or `to` if there is none.
 fn search_line_feed(bytes: &[u8], from: usize, to: usize) -> usize
     requires ordered { from ≤ to }
     requires within { to ≤ length bytes.now }
@@ -118,8 +118,8 @@ fn search_line_feed(bytes: &[u8], from: usize, to: usize) -> usize
     }
 }
 
-// What the error of a read comes to: none where a signal interrupted it, since the next read is made
-// then as after a read that gave nothing yet.
+// Returns the fault for the error of a read. `Ok` if a signal interrupted it: the next read is then made as after a read
+// that returned nothing.
 fn judge_error(error: &Error) -> Result<(), LinesFault>
     ensures interrupted { error_kind error.now ≡ ErrorKind.Interrupted → result ≡ Ok tt }
     ensures failed { error_kind error.now ≢ ErrorKind.Interrupted → result ≡ Err LinesFault.Read }
@@ -130,8 +130,8 @@ fn judge_error(error: &Error) -> Result<(), LinesFault>
     }
 }
 
-// Moves a part of the bytes to the front. It is not copied where it stands there, so that an
-// unfinished line, to which bytes come behind, is copied once at most.
+// Moves a part of the bytes to the front. It is not copied if it stands there already. So an unfinished
+// line is copied at most once while more bytes come behind it.
 fn move_to_front(bytes: &mut Vec<u8>, start: usize, end: usize)
     requires ordered { start ≤ end }
     requires within { end ≤ vec_len bytes.old }
@@ -143,7 +143,7 @@ fn move_to_front(bytes: &mut Vec<u8>, start: usize, end: usize)
     }
 }
 
-// The space, filled with zeros.
+// Returns the space, filled with zeros.
 fn make_space(alloc: Global) -> Result<Vec<u8>, OutOfMemory>
     ensures { IfOk result (λ bytes. vec_len bytes ≡ SPACE) }
 {
@@ -164,7 +164,7 @@ impl Model for LineBuffer {
 }
 
 impl LineBuffer {
-    /// A buffer before the first read.
+    /// Returns a buffer before the first read.
     pub fn new(alloc: Global) -> Result<LineBuffer, OutOfMemory>
         ensures { IfOk result
             (λ lines. lines ≡ record { line = []; unread = []; has_ended = false; reads = 0 }) }
@@ -181,14 +181,14 @@ impl LineBuffer {
         })
     }
 
-    /// The line that was given last, without its line feed; empty where the last call gave none.
+    /// Returns the line that the last call of `next` found, without its line feed. It is empty if that call found none.
     pub fn line(&self) -> &[u8]
         ensures { result.now ≡ self.now.line }
     {
         &self.bytes[self.line_start..self.line_end]
     }
 
-    /// Whether the next line cannot be told without a read.
+    /// Returns true if the next line cannot be returned without a read.
     pub fn wants_read(&self) -> bool
         ensures { IsTrue result ↔ WantsRead self.now }
     {
@@ -201,7 +201,7 @@ impl LineBuffer {
         }
     }
 
-    // The next line, as far as the unread bytes tell.
+    // Finds the next line, if the unread bytes tell it. `None`: a read is needed.
     fn cut(&mut self) -> Option<NextLine>
         ensures given { result ≡ Some NextLine.Given
             → CutsLine self.new.line self.old.unread self.new.unread self.old.has_ended }
@@ -244,7 +244,7 @@ impl LineBuffer {
         }
     }
 
-    // Makes one read behind the unread bytes, which stand at the front then.
+    // Moves the unread bytes to the front, and makes one read behind them.
     fn fill<R: Read>(&mut self, reader: &mut R) -> Result<(), LinesFault>
         requires { WantsRead self.old }
         ensures left { Keeps (left self.old (R.remaining reader.old))
@@ -279,7 +279,7 @@ impl LineBuffer {
         }
     }
 
-    /// Gives the next line of what is left of the text. Where none is given, all that was left still is.
+    /// Finds the next line of what is left of the text; `line` returns it. If no line is found, nothing of the text is lost.
     pub fn next<R: Read>(&mut self, reader: &mut R) -> Result<NextLine, LinesFault>
         ensures given { result ≡ Ok NextLine.Given
             → WhereKnown (GivesLine self.new.line) (left self.old (R.remaining reader.old))

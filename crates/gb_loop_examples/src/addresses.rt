@@ -1,4 +1,4 @@
-// Where a server can be reached: at the address 127.0.0.1 alone.
+// A server can be reached at the address 127.0.0.1 only.
 use crate::clients::{address, end_server, figure, figure_at_last, joined, serves};
 use gb_client::fault::ClientFault;
 use gb_types::node::NodeId;
@@ -10,7 +10,7 @@ use std::time::Clock;
 
 static WORDS: [&str; 5] = ["gb_serve", "--nodes=2", "--base-port=25400", "--tick", "20"];
 
-// A port of another loopback address of this machine.
+// Returns a port of another loopback address of this machine.
 fn other_address(port: u16) -> SocketAddr {
     SocketAddr::V4(SocketAddrV4::new(Ipv4Addr::new(127, 0, 0, 2), port))
 }
@@ -27,12 +27,13 @@ fn send_to<H: Net>(rt: &H, to: SocketAddr, count: u32) -> bool {
     are_taken
 }
 
-// Whether nobody listens for sessions at the other address.
+// Returns true if no server listens for sessions at the other address.
 fn is_refused<H: Net<Stream = TcpStream>>(rt: &H, port: u16) -> bool {
     TcpStream::connect(rt, other_address(port)).is_err()
 }
 
-// What comes to node 1 of what is sent to it: nothing of what is sent to the other address, and then one datagram.
+// Returns the numbers of datagrams that node 1 has counted after ten were sent to the other address, and after one was sent to its
+// own.
 fn come<H: Net<Stream = TcpStream> + Clock>(
     rt: &H,
     alloc: Global,

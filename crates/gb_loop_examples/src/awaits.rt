@@ -1,4 +1,4 @@
-// Fetches that wait: answered when there is something, when their time is over, and when their group is dropped.
+// Fetches that wait are answered when there is an entry, when their time is over, and when their group is dropped.
 use crate::clients::{
     Member, end_server, fetches, figure_at_last, gives, is_at_end, joined, reply, serves, stops,
     waits,
@@ -41,7 +41,7 @@ struct Clients {
     fourth: Member,
 }
 
-// Connects, and makes the groups.
+// Connects the clients, and makes the groups.
 fn enter<H: Net<Stream = TcpStream> + Clock>(
     rt: &H,
     alloc: Global,
@@ -63,8 +63,8 @@ fn enter<H: Net<Stream = TcpStream> + Clock>(
     })
 }
 
-// Whether a client that waits at these places is told this, after a least and a most number of milliseconds; a fifth of a second
-// after it began another one asks this.
+// Returns true if a client that waits at these places gets this reply, after a least and at most a greatest number of
+// milliseconds. A fifth of a second after it began, another client makes this request.
 fn is_woken<H: Clock + Threads + Sync>(
     rt: &H,
     alloc: Global,
@@ -89,7 +89,7 @@ fn is_woken<H: Clock + Threads + Sync>(
     }
 }
 
-// Whether a wait of this number of milliseconds in which nothing comes takes its time and no more than a few ticks.
+// Returns true if a wait in which nothing comes takes this number of milliseconds and at most a few ticks more.
 fn is_late<H: Clock>(rt: &H, alloc: Global, member: &mut Member, wait: u32) -> bool {
     match waits(rt, alloc, member, &["7 1 0 16", "7 2 0 16"], wait) {
         Ok((took, text)) => text.as_slice() == b"log 0".as_slice()
@@ -99,7 +99,7 @@ fn is_late<H: Clock>(rt: &H, alloc: Global, member: &mut Member, wait: u32) -> b
     }
 }
 
-// Whether a wait for what is there already is answered at once.
+// Returns true if a wait for an entry that is there already is answered at once.
 fn is_answered<H: Clock>(rt: &H, alloc: Global, member: &mut Member) -> bool {
     match waits(rt, alloc, member, &["7 1 0 16"], 9_000) {
         Ok((took, text)) => text.as_slice() == b"log 1 1:1:6869".as_slice() && took < 5_000,
@@ -107,7 +107,7 @@ fn is_answered<H: Clock>(rt: &H, alloc: Global, member: &mut Member) -> bool {
     }
 }
 
-// What all clients are told. Whether each reply was right.
+// Lets all clients wait. Returns true for each reply that was right.
 fn all_wait<H: Net<Stream = TcpStream> + Clock + Threads + Sync>(
     rt: &H,
     alloc: Global,
@@ -181,7 +181,7 @@ fn waits_end_when_they_should(rt: HostRuntime) {
 
 static STOPPED: [&str; 5] = ["gb_serve", "--nodes=2", "--base-port=25200", "--tick", "20"];
 
-// An administrator at node 1 ends the server as soon as a client waits at node 0, which two watch. Whether it is granted.
+// Ends the server by an administrator at node 1 as soon as a client waits at node 0. Returns true if it is granted.
 fn stop_waiting<H: Clock>(
     rt: &H,
     alloc: Global,
@@ -192,7 +192,8 @@ fn stop_waiting<H: Clock>(
     Ok(waiting == 1 && stops(alloc, admin)?)
 }
 
-// Whether a client that would wait for a minute is answered as late when the server ends, and its connection ends then.
+// Returns true if a client that would wait for a minute is answered as if its time was over when the server ends, and its
+// connection ends then.
 fn ends_with_node<H: Net<Stream = TcpStream> + Clock + Threads + Sync>(
     rt: &H,
     alloc: Global,
@@ -229,7 +230,7 @@ fn a_wait_ends_with_its_node(rt: HostRuntime) {
 
 static SIXTEEN: [&str; 3] = ["gb_serve", "--nodes=1", "--base-port=26800"];
 
-// Two groups of a node alone, in the second of which something is said.
+// Two groups of a node alone. The second one has a message.
 static LONE: [(Head, &str, &str); 6] = [
     (Head::Tenant, "7 4 100 4096 100", "ok"),
     (Head::Make, "7 1 beb 0 100 4096 100", "ok"),
@@ -239,7 +240,7 @@ static LONE: [(Head, &str, &str); 6] = [
     (Head::Say, "7 2 hi", "said 1"),
 ];
 
-// Sixteen places of the group in which nothing was said, the same with the other group at the last one, and one place more.
+// Sixteen places of the group without a message, the same with the other group at the last one, and one place more.
 static EMPTY: [&str; 16] = ["7 1 0 16"; 16];
 
 static LAST: [&str; 16] = [
@@ -249,7 +250,7 @@ static LAST: [&str; 16] = [
 
 static ONE_MORE: [&str; 17] = ["7 2 0 16"; 17];
 
-// What a client is told that waits at sixteen places in vain, that finds something at the last one, and that names one more.
+// Returns the replies to a client that waits at sixteen places in vain, finds an entry at the last one, and names one more place.
 fn wait_at_many<H: Net<Stream = TcpStream> + Clock>(
     rt: &H,
     alloc: Global,

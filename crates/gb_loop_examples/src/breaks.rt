@@ -1,4 +1,4 @@
-// Connections that break: they end by themselves, and whoever else asks is answered.
+// Connections that break. Each ends alone, and each other client is answered.
 use crate::clients::{DENIED, OPEN, ask_often, connect, flood_requests, serves};
 use std::alloc::Global;
 use std::io::{Read, Write};
@@ -17,7 +17,7 @@ static WORDS: [&str; 7] = [
     "6",
 ];
 
-// What a client reads that sends these bytes and then no more. None: it could not connect, or its connection broke.
+// Returns what a client reads that sends these bytes and then no more. `None` if it could not connect, or its connection broke.
 fn told<H: Net<Stream = TcpStream> + Clock>(
     rt: &H,
     alloc: Global,
@@ -32,7 +32,7 @@ fn told<H: Net<Stream = TcpStream> + Clock>(
     Some(text)
 }
 
-// Whether a client that sends these bytes and then no more is told those.
+// Returns true if a client that sends the first bytes and then no more reads the others.
 fn is_told<H: Net<Stream = TcpStream> + Clock>(
     rt: &H,
     alloc: Global,
@@ -46,7 +46,7 @@ fn is_told<H: Net<Stream = TcpStream> + Clock>(
 }
 
 // Sends one request and a part of another, and goes away when the reply is there, without reading it: the system resets the
-// connection. Whether a reply came.
+// connection. Returns true if a reply came.
 fn resets<H: Net<Stream = TcpStream> + Clock>(rt: &H, port: u16) -> bool {
     let Some(mut stream) = connect(rt, port) else {
         return false;
@@ -56,8 +56,8 @@ fn resets<H: Net<Stream = TcpStream> + Clock>(rt: &H, port: u16) -> bool {
     is_sent && stream.peek(&mut space).is_ok()
 }
 
-// What these clients see: a reset in the middle of a message, one with replies that wait, half a message, no message, and a whole
-// one behind which no more comes.
+// Returns true for each of these clients that sees what it should: a reset in the middle of a message, a reset with replies that
+// wait, half a message, no message, and a whole message behind which no more comes.
 fn break_all<H: Net<Stream = TcpStream> + Clock>(rt: &H, alloc: Global) -> [bool; 5] {
     let is_reset = resets(rt, 24_464);
     let is_deaf = flood_requests(rt, 24_464).is_some();

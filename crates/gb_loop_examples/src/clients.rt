@@ -1,4 +1,4 @@
-// What the clients of these tests share: a server's lines, connections, and requests with their tokens.
+// The common parts of the clients of these tests: a server's lines, connections, and requests with their tokens.
 ghost use Rattle.std.specs.Prelude.{◌≤◌, vec_len, IfOk};
 ghost use Rattle.gb_session.specs.declared.grammar.TheConstants.{BODY};
 
@@ -27,26 +27,26 @@ const RUN: u64 = 1;
 static KEYS: &[u8] =
     b"1111111111111111111111111111111111111111111111111111111111111111\n2222222222222222222222222222222222222222222222222222222222222222\n";
 
-/// A request of a group of a tenant that is not there, whose token no node gave out.
+/// A request for a group of a tenant that is not there, with a token that is not valid.
 pub static OPEN: &[u8] =
     b"\x00\x00\x00\x49open 0000000000000000000000000000000000000000000000000000000000000000 7 1";
 
-/// How a running node answers it.
+/// A running node's reply to it.
 pub static DENIED: &[u8] = b"\x00\x00\x00\x10refused 1 Denied";
 
-// What the members know: the administrator's key, which the server reads in its second line, and the tenant's.
+// The keys that the members know: the administrator's key, which the server reads in its second line, and the tenant's key.
 const SECRETS: Secrets = Secrets {
     admin: Some([0x22; 32]),
     tenant: Some([0x33; 32]),
     token: None,
 };
 
-// What an administrator asks, with the token that docs/FORMATS.md, "Tokens", has: for a node's figures, and for the server's end.
+// An administrator's requests for a node's figures and for the server's end, with the token in docs/FORMATS.md, "Tokens".
 static STATUS: &[u8] = b"status 674e623760cac750ae766b788c59c762f116bab90bcfb901f9c20ac06448c55d";
 
 static STOP: &[u8] = b"stop 674e623760cac750ae766b788c59c762f116bab90bcfb901f9c20ac06448c55d";
 
-/// Whether a server with these words serves, and ends well with these lines.
+/// Returns true if a server with these words serves, and ends well with these lines.
 pub fn serves<H: Net<Listener = TcpListener, Stream = TcpStream> + Threads + Wait + Clock + Sync>(
     rt: &H,
     alloc: Global,
@@ -68,12 +68,13 @@ pub fn serves<H: Net<Listener = TcpListener, Stream = TcpStream> + Threads + Wai
     status == 0 && found.as_slice() == lines
 }
 
-/// A port of this machine.
+/// Returns the address of a port of this machine.
 pub fn address(port: u16) -> SocketAddr {
     SocketAddr::V4(SocketAddrV4::new(Ipv4Addr::LOCALHOST, port))
 }
 
-/// A connection to a port of this machine, as soon as somebody listens there; ten seconds are waited for that, and for each read.
+/// Returns a connection to a port of this machine, as soon as a server listens there. `None` if none does within ten seconds. Each
+/// read waits for ten seconds at most.
 pub fn connect<H: Net<Stream = TcpStream> + Clock>(rt: &H, port: u16) -> Option<TcpStream> {
     for _ in 0..1_000 {
         if let Ok(stream) = TcpStream::connect(rt, address(port)) {
@@ -86,7 +87,7 @@ pub fn connect<H: Net<Stream = TcpStream> + Clock>(rt: &H, port: u16) -> Option<
     None
 }
 
-/// Asks so often on one connection, one at a time. Returns how many replies were right.
+/// Asks `count` requests on one connection, one at a time. Returns the number of replies that were right.
 pub fn ask_often<H: Net<Stream = TcpStream> + Clock>(rt: &H, port: u16, count: u32) -> u32 {
     let Some(mut stream) = connect(rt, port) else {
         return 0;
@@ -123,7 +124,7 @@ pub struct Member {
     stream: TcpStream,
 }
 
-/// A member of a server with this base port.
+/// Returns a member of a server with this base port.
 pub fn joined<H: Net<Stream = TcpStream> + Clock>(
     rt: &H,
     base_port: u16,
@@ -138,7 +139,7 @@ pub fn joined<H: Net<Stream = TcpStream> + Clock>(
     }
 }
 
-// The request that is asked at a node by these words, which are those that gb_ctl takes.
+// Returns the body of a request at a node. The words are those of gb_ctl.
 fn body_of(alloc: Global, node: NodeId, head: Head, line: &str) -> Result<Vec<u8>, ClientFault>
     ensures { IfOk result (λ body. vec_len body ≤ BODY) }
 {
@@ -150,23 +151,23 @@ fn body_of(alloc: Global, node: NodeId, head: Head, line: &str) -> Result<Vec<u8
     request_of(alloc, &SECRETS, node, &asked)
 }
 
-/// Sends a member's node a request, whose words are those that gb_ctl takes.
+/// Sends a member's node a request. The words are those of gb_ctl.
 pub fn ask(alloc: Global, member: &mut Member, head: Head, line: &str) -> Result<(), ClientFault> {
     let body = body_of(alloc, member.node, head, line)?;
     send(&mut member.stream, &body)
 }
 
-/// The next reply of a member's node.
+/// Returns the next reply of a member's node.
 pub fn told(alloc: Global, member: &mut Member) -> Result<Vec<u8>, ClientFault> {
     receive(alloc, &mut member.stream)
 }
 
-/// Whether a member's connection has not failed.
+/// Returns true if a member's connection has not failed.
 pub fn is_sound(member: &Member) -> bool {
     matches!(member.stream.take_error(), Ok(None))
 }
 
-/// The reply of a member's node to a request, whose words are those that gb_ctl takes.
+/// Returns the reply of a member's node to a request. The words are those of gb_ctl.
 pub fn reply(
     alloc: Global,
     member: &mut Member,
@@ -177,7 +178,7 @@ pub fn reply(
     told(alloc, member)
 }
 
-// The reply of a member's node to a message with this body, if it is no longer than one may be.
+// Returns the reply of a member's node to a message with this body, if the body is not too long.
 fn reply_to(alloc: Global, member: &mut Member, body: &[u8]) -> Result<Vec<u8>, ClientFault> {
     if body.len() > 16_384 {
         return Err(ClientFault::Words);
@@ -204,13 +205,13 @@ pub fn end_server<H: Net<Stream = TcpStream> + Clock>(
     stops(alloc, &mut admin).unwrap_or(false)
 }
 
-/// Whether a member's connection has ended, and nothing more came.
+/// Returns true if a member's connection has ended, and nothing more came.
 pub fn is_at_end(member: &mut Member) -> bool {
     let mut space = [0u8; 1];
     matches!(member.stream.read(&mut space), Ok(0))
 }
 
-// The number of the figure in a text of figures whose word begins with this.
+// Returns the number of the figure whose word begins with `name`, in a text of figures.
 fn figure_in(alloc: Global, text: &[u8], name: &[u8]) -> Result<u64, ClientFault> {
     for word in split_words(alloc, text)? {
         if let Some(number) = word.strip_prefix(name) {
@@ -220,13 +221,14 @@ fn figure_in(alloc: Global, text: &[u8], name: &[u8]) -> Result<u64, ClientFault
     Err(ClientFault::NoReply)
 }
 
-/// The figure of a member's node whose word begins with this.
+/// Returns the figure of a member's node whose word begins with `name`.
 pub fn figure(alloc: Global, member: &mut Member, name: &[u8]) -> Result<u64, ClientFault> {
     let text = reply_to(alloc, member, STATUS)?;
     figure_in(alloc, &text, name)
 }
 
-/// The figure of a member's node whose word begins with this, once it is so great; ten seconds are waited for that.
+/// Returns the figure of a member's node whose word begins with `name`, as soon as it is at least `least`. `Late`: it was not
+/// within ten seconds.
 pub fn figure_at_last<H: Clock>(
     rt: &H,
     alloc: Global,
@@ -244,7 +246,7 @@ pub fn figure_at_last<H: Clock>(
     Err(ClientFault::Late)
 }
 
-/// Whether a member's node gives these replies.
+/// Returns true if a member's node sends these replies.
 pub fn gives(
     alloc: Global,
     member: &mut Member,
@@ -259,7 +261,7 @@ pub fn gives(
     Ok(true)
 }
 
-// This word, and what the fetches at the places of these lines say behind theirs.
+// Returns this word, and for each of these lines the words of its fetch behind the first word.
 fn places_of(
     alloc: Global,
     node: NodeId,
@@ -274,7 +276,7 @@ fn places_of(
     Ok(places)
 }
 
-// The body of fetches that wait, at the places of these lines.
+// Returns the body of fetches that wait, at the places of these lines.
 fn wait_of(alloc: Global, node: NodeId, lines: &[&str], wait: u32) -> Result<Vec<u8>, ClientFault>
     ensures { IfOk result (λ body. vec_len body ≤ BODY) }
 {
@@ -282,15 +284,15 @@ fn wait_of(alloc: Global, node: NodeId, lines: &[&str], wait: u32) -> Result<Vec
     await_text(alloc, &fetches, wait)
 }
 
-/// The reply of a member's node to fetches that do not wait, at the places of these lines, however many there are.
+/// Returns the reply of a member's node to fetches that do not wait, at the places of these lines. Their number is not limited.
 pub fn fetches(alloc: Global, member: &mut Member, lines: &[&str]) -> Result<Vec<u8>, ClientFault> {
     let mut body = places_of(alloc, member.node, b"await", lines)?;
     body.extend_from_slice(b" 0")?;
     reply_to(alloc, member, &body)
 }
 
-/// The reply of a member's node to fetches that wait for at most `wait` milliseconds, at the places of these lines, whose words are
-/// those that gb_ctl takes for a fetch; and how many milliseconds it took.
+/// Returns the reply of a member's node to fetches that wait for at most `wait` milliseconds, at the places of these lines, and
+/// the milliseconds that it took. The words of a line are those of gb_ctl's fetch.
 pub fn waits<H: Clock>(
     rt: &H,
     alloc: Global,

@@ -1,4 +1,4 @@
-// Many clients of one node at once, whatever some of them do.
+// Many clients of one node at once, some of which are idle or do not read.
 use crate::clients::{DENIED, OPEN, address, ask_often, connect, flood_requests, serves};
 use std::alloc::Global;
 use std::io::{Read, Write};
@@ -7,7 +7,7 @@ use std::rt::HostRuntime;
 use std::thread;
 use std::time::{Clock, Duration};
 
-// Connections to a port, on which nothing is sent.
+// Returns connections to a port, on which nothing is sent.
 fn idle_ones<H: Net<Stream = TcpStream> + Clock>(
     rt: &H,
     alloc: Global,
@@ -33,7 +33,8 @@ static MANY: [&str; 7] = [
     "102",
 ];
 
-// What a busy client is told beside 100 that are idle and one that never reads.
+// Returns the number of idle connections, true if one client sends and never reads, and the number of right replies to a busy
+// client beside them.
 fn busy_beside_others<H: Net<Stream = TcpStream> + Clock>(
     rt: &H,
     alloc: Global,
@@ -70,7 +71,7 @@ static SLOW: [&str; 7] = [
     "1",
 ];
 
-// Sends a number of requests, and then reads their replies a number of bytes at a time. Returns how many bytes were right.
+// Sends a number of requests, and then reads their replies a number of bytes at a time. Returns the number of right bytes.
 fn read_slowly<H: Net<Stream = TcpStream> + Clock>(
     rt: &H,
     port: u16,
@@ -88,7 +89,7 @@ fn read_slowly<H: Net<Stream = TcpStream> + Clock>(
     count_right(&mut stream, requests as usize * 20, piece)
 }
 
-// Reads a number of bytes, a piece at a time. Returns how many stand where they do in replies.
+// Reads a number of bytes, a piece at a time. Returns the number of bytes that are those of the replies.
 fn count_right(stream: &mut TcpStream, total: usize, piece: usize) -> usize {
     let mut space = [0u8; 1_000];
     let piece = piece.min(space.len());
@@ -136,7 +137,7 @@ static FLOODED: [&str; 7] = [
     "1",
 ];
 
-// Sends datagrams that are no packets to a port. Returns how many the system took.
+// Sends datagrams that are no packets to a port. Returns the number of datagrams that the system took.
 fn flood_packets<H: Net>(rt: &H, port: u16, count: u32) -> u32 {
     let Ok(socket) = UdpSocket::bind(rt, address(0)) else {
         return 0;

@@ -1,5 +1,5 @@
-//! Worked uses of a node's loop, as tests: servers with many clients at once on sockets of this machine. There is nothing here but
-//! tests.
+//! Worked uses of a node's loop, as tests: servers with many clients at once on sockets of this machine. This crate has tests
+//! only.
 #![tactic(auto)]
 
 #[cfg(test)]

@@ -1,4 +1,4 @@
-// What the words of a server say of its connections: how many at once, how long they may be silent, and how much they may ask.
+// The limits of connections in a server's words: how many at once, how long they may be silent, and how much they may ask.
 use crate::clients::{
     DENIED, Member, OPEN, ask, connect, gives, is_sound, joined as member_of, serves, told,
 };
@@ -12,14 +12,14 @@ use std::rt::HostRuntime;
 use std::thread;
 use std::time::{Clock, Duration};
 
-// What is read from a connection to its end.
+// Returns what is read from a connection to its end.
 fn rest_of(alloc: Global, stream: &mut TcpStream) -> Option<Vec<u8>> {
     let mut text = Vec::new(alloc);
     stream.read_to_end(&mut text).ok()?;
     Some(text)
 }
 
-// Whether a connection that sends these bytes is told those and is then closed, though it does not close.
+// Returns true if the server answers the first bytes with the others and then closes the connection, which the client keeps open.
 fn is_closed_after<H: Net<Stream = TcpStream> + Clock>(
     rt: &H,
     alloc: Global,
@@ -37,7 +37,7 @@ fn is_closed_after<H: Net<Stream = TcpStream> + Clock>(
     }
 }
 
-// Whether a connection answers a request.
+// Returns true if a connection answers a request.
 fn answers(stream: &mut TcpStream) -> bool {
     let mut reply = [0u8; 20];
     stream.write_all(OPEN).is_ok()
@@ -45,7 +45,7 @@ fn answers(stream: &mut TcpStream) -> bool {
         && reply.as_slice() == DENIED
 }
 
-// A new connection on which one request was answered.
+// Returns a new connection on which one request was answered.
 fn answered<H: Net<Stream = TcpStream> + Clock>(rt: &H, port: u16) -> Option<TcpStream> {
     let mut stream = connect(rt, port)?;
     if answers(&mut stream) {
@@ -66,7 +66,7 @@ fn is_answered_at_last<H: Net<Stream = TcpStream> + Clock>(rt: &H, port: u16) ->
     false
 }
 
-// Whether two connections are served on while one more is closed. Both end here.
+// Returns true if two connections are still served while one more is closed. Both end here.
 fn are_undisturbed<H: Net<Stream = TcpStream> + Clock>(rt: &H, alloc: Global, port: u16) -> bool {
     let (Some(mut first), Some(mut second)) = (answered(rt, port), answered(rt, port)) else {
         return false;
@@ -111,7 +111,8 @@ static SHORT: [&str; 8] = [
     "2",
 ];
 
-// A client that asks once is closed when it was silent for a second; one that asks three requests is told two replies.
+// The connection of a client that asks once is closed when it was silent for a second. A client that asks three requests gets two
+// replies.
 #[test]
 fn silence_and_many_requests_end_a_connection(rt: HostRuntime) {
     let alloc = rt.alloc();
@@ -179,8 +180,8 @@ fn are_same(alloc: Global, member: &mut Member, want: &[u8], count: u32) -> bool
     true
 }
 
-// Asks for 32 megabytes in all, and reads 400,000 bytes of them each half a second. Whether they were right, and the connection still
-// stands.
+// Asks for 32 megabytes in all, and reads 400,000 bytes of them each half a second. Returns true if they were right and the
+// connection is still open.
 fn read_late<H: Net<Stream = TcpStream> + Clock>(
     rt: &H,
     alloc: Global,
@@ -200,7 +201,7 @@ fn read_late<H: Net<Stream = TcpStream> + Clock>(
     Ok(first.len() > 32_000 && is_sound(member))
 }
 
-// Whether a client that reads late is told all that it asked.
+// Returns true if a client that reads late gets all replies.
 fn is_served_late<H: Net<Stream = TcpStream> + Clock>(rt: &H, alloc: Global) -> bool {
     let Ok(mut member) = member_of(rt, 26_200, NodeId::new(0)) else {
         return false;
@@ -226,7 +227,7 @@ fn one_that_reads_late_is_not_idle(rt: HostRuntime) {
     assert!(rt; is_served && is_right);
 }
 
-// Texts one behind the other; nothing if there is no memory.
+// Returns texts one behind the other. It is empty if there is no memory.
 fn joined(alloc: Global, texts: &[&[u8]]) -> Vec<u8> {
     let mut all = Vec::new(alloc);
     for text in texts {

@@ -1,4 +1,4 @@
-// The loop of one node by itself: of a cluster whose other nodes do not run.
+// The loop of one node of a cluster whose other nodes do not run.
 ghost use Rattle.std.specs.Prelude.{◌≡◌, ◌≤◌, vec_len, IfSome};
 ghost use Rattle.gb_host.specs.Pasts.{AreBlank, books_of};
 ghost use Rattle.gb_host.specs.Plans.{IsPlan};
@@ -32,8 +32,8 @@ use std::time::{Clock, Duration, Instant};
 
 const ME: NodeId = NodeId { number: 0 };
 
-/// A node that runs alone: how many nodes its cluster has, after how many ticks it notices the others, how many microseconds a tick
-/// takes, and the port for its packets. The one for its clients is 64 above.
+/// A node that runs alone: the number of nodes of its cluster, the ticks after which it notices the others, the microseconds of a
+/// tick, and the port for its packets. The port for its clients is 64 above.
 #[derive(Clone, Copy)]
 pub struct Alone {
     pub nodes: u8,
@@ -43,7 +43,7 @@ pub struct Alone {
     pub wait: u64,
 }
 
-/// How far a loop is, and when it is to end: when it is told, when this number of nodes is noticed, or after this number of rounds.
+/// The progress of a loop, and its end: when it is told, when this number of nodes is noticed, or after this number of rounds.
 #[derive(Drop)]
 pub struct Watch<'a, H> {
     clock: &'a H,
@@ -57,7 +57,7 @@ pub struct Watch<'a, H> {
 }
 
 impl<'a, H: Clock> Watch<'a, H> {
-    /// A loop that begins now.
+    /// Returns the watch of a loop that begins now.
     pub fn new(clock: &'a H, others: usize, most: u64) -> Watch<'a, H> {
         let begun = match Instant::now(clock) {
             Ok(begun) => Some(begun),
@@ -75,13 +75,13 @@ impl<'a, H: Clock> Watch<'a, H> {
         }
     }
 
-    /// The loop is to end.
+    /// Tells the loop to end.
     pub fn end(&self) {
         self.is_over.store(true, Ordering::SeqCst);
     }
 
-    /// How many ticks there were when the other nodes were noticed, and how many microseconds after the watch was made that was; 0
-    /// if they were not.
+    /// Returns the number of ticks when the other nodes were noticed, and the microseconds from the making of the watch to then.
+    /// Both are 0 if they were not noticed.
     pub fn noticed(&self) -> (u64, u64) {
         (
             self.ticks.load(Ordering::SeqCst),
@@ -89,7 +89,7 @@ impl<'a, H: Clock> Watch<'a, H> {
         )
     }
 
-    // How many microseconds went by.
+    // Returns the microseconds since the watch was made.
     fn elapsed(&self) -> u64 {
         let Some(begun) = self.begun else {
             return 0;
@@ -125,7 +125,7 @@ impl<'a, H: Clock> Ending for Watch<'a, H> {
     }
 }
 
-// The plan of a host of a node that runs alone.
+// Returns the plan of a host of a node that runs alone.
 fn plan_of(alone: Alone) -> HostPlan
     requires nodes { (1 ≤ alone.nodes) × (alone.nodes ≤ 16) }
     requires silence { (2 ≤ alone.silence) × (alone.silence ≤ 1000) }
@@ -147,7 +147,7 @@ fn plan_of(alone: Alone) -> HostPlan
     }
 }
 
-// How its loop behaves: it serves for ever, and gives a sign of life once a second.
+// Returns the options of its loop: it serves for ever, and gives a sign of life once a second.
 fn options_of(alone: Alone) -> LoopOptions {
     LoopOptions {
         tick: alone.tick,
@@ -161,7 +161,7 @@ fn options_of(alone: Alone) -> LoopOptions {
     }
 }
 
-// Who listens for clients on a port.
+// Returns a listener for clients on a port.
 fn listen<N: Net<Listener = TcpListener, Stream = TcpStream>>(
     net: &N,
     port: u16,
@@ -171,7 +171,7 @@ fn listen<N: Net<Listener = TcpListener, Stream = TcpStream>>(
     Some(mio::net::TcpListener::from_std(listener))
 }
 
-// A port and who listens.
+// Returns a port for packets and a listener for clients.
 fn open_sockets<N: Net<Listener = TcpListener, Stream = TcpStream>>(
     net: &N,
     alloc: Global,
@@ -186,7 +186,7 @@ fn open_sockets<N: Net<Listener = TcpListener, Stream = TcpStream>>(
     Some((port, LoopSockets { fd, listener }))
 }
 
-// Runs the loop of a host's node, and closes the host. Returns true if the host and the seat that came back are of one another.
+// Runs the loop of a host's node, and closes the host. Returns true if the seat that the loop hands back is one of this host.
 fn run_host<
     L: Tapes,
     H: Wait + Clock,
@@ -241,7 +241,7 @@ pub fn runs<H: Wait + Clock, N: Net<Listener = TcpListener, Stream = TcpStream>,
     run_host::<Brand, H, N, E>(rt, net, alloc, alone, plan, pasts, sockets, ending).unwrap_or(false)
 }
 
-// A node without others, whose time ticks in each round.
+// A node of a cluster of one node that ticks in each round.
 const RESTLESS: Alone = Alone {
     nodes: 1,
     silence: 2,
@@ -250,8 +250,8 @@ const RESTLESS: Alone = Alone {
     wait: 0,
 };
 
-// Asks a loop a hundred times at its beginning, and again after thirty thousand rounds; then it is told to end. Returns how many
-// replies were right, and whether there was that number of rounds.
+// Asks a loop a hundred times at its beginning, and again after thirty thousand rounds. Then tells it to end. Returns the numbers
+// of right replies, and true if there was that number of rounds.
 fn ask_late<H: Net<Stream = TcpStream> + Clock>(rt: &H, watch: &Watch<'_, H>) -> ([u32; 2], bool) {
     let early = ask_often(rt, 25_864, 100);
     for _ in 0..5_000 {

@@ -31,7 +31,7 @@ const PLAN: Plan = Plan {
     admin_key: [1; 32],
 };
 
-/// A short name for what comes of an event.
+/// Returns a short name for an answer.
 fn word(answer: &Answer) -> &'static str {
     match answer {
         Answer::Sent(Sending::Packet(1)) => "packet 1",
@@ -45,7 +45,7 @@ fn word(answer: &Answer) -> &'static str {
     }
 }
 
-/// What comes of an event, where its node is one of the cluster's.
+/// Takes an event in the cluster. Returns the short name of its answer, or `nowhere` if the cluster has no such node.
 fn told(cluster: &mut Cluster, event: &Event) -> Result<&'static str, OutOfMemory> {
     if !cluster.is_placed(event) {
         return Ok("nowhere");
@@ -54,35 +54,35 @@ fn told(cluster: &mut Cluster, event: &Event) -> Result<&'static str, OutOfMemor
     Ok(word(&answer))
 }
 
-/// The packet with a number arrives.
+/// Lets the packet with a number arrive. Returns the short name of the answer.
 fn arrives(cluster: &mut Cluster, number: u64) -> Result<&'static str, OutOfMemory> {
     told(cluster, &Event::Arrive(number))
 }
 
-/// The first node acknowledges what came from the second.
+/// Lets the first node acknowledge what came from the second. Returns the short name of the answer.
 fn acknowledges(cluster: &mut Cluster) -> Result<&'static str, OutOfMemory> {
     told(cluster, &Event::At(FIRST, NodeEvent::Ack(SECOND)))
 }
 
-/// The second node stops.
+/// Stops the second node. Returns the short name of the answer.
 fn stops(cluster: &mut Cluster) -> Result<&'static str, OutOfMemory> {
     told(cluster, &Event::At(SECOND, NodeEvent::Stop))
 }
 
-/// Bytes that come as noise to the second node.
+/// Returns the event that hands bytes to the second node as noise.
 fn noise(alloc: Global, bytes: &[u8]) -> Result<Event, OutOfMemory> {
     let mut copy = Vec::with_capacity(alloc, bytes.len())?;
     copy.extend_from_slice(bytes)?;
     Ok(Event::At(SECOND, NodeEvent::Packet(PacketText::from(copy))))
 }
 
-/// Two bytes come to the second node, which are no packet.
+/// Hands two bytes that are no packet to the second node. Returns the short name of the answer.
 fn garbles(alloc: Global, cluster: &mut Cluster) -> Result<&'static str, OutOfMemory> {
     let event = noise(alloc, b"GB")?;
     told(cluster, &event)
 }
 
-/// The first packet that was sent comes to the second node as noise.
+/// Hands the first packet that was sent to the second node as noise. Returns the short name of the answer.
 fn echoes(alloc: Global, cluster: &mut Cluster) -> Result<&'static str, OutOfMemory> {
     let event = match cluster.packets().first() {
         Some(packet) => noise(alloc, packet.text.as_slice())?,
@@ -91,7 +91,7 @@ fn echoes(alloc: Global, cluster: &mut Cluster) -> Result<&'static str, OutOfMem
     told(cluster, &event)
 }
 
-/// Whether each event is answered as it should be while the node runs, one after the other.
+/// Returns true if each event is answered as it should be while the node runs, one after the other.
 fn is_answered_running(alloc: Global, cluster: &mut Cluster) -> Result<bool, OutOfMemory> {
     let before = arrives(cluster, 1)? == "no packet";
     let sent = acknowledges(cluster)? == "packet 1";
@@ -101,7 +101,7 @@ fn is_answered_running(alloc: Global, cluster: &mut Cluster) -> Result<bool, Out
     Ok(before && sent && came && garbled && echoed)
 }
 
-/// Whether each event is answered as it should be from the stop on, one after the other.
+/// Returns true if each event is answered as it should be from the stop on, one after the other.
 fn is_answered_stopped(alloc: Global, cluster: &mut Cluster) -> Result<bool, OutOfMemory> {
     let stopped = stops(cluster)? == "halted";
     let echoed = echoes(alloc, cluster)? == "not noise";
@@ -109,13 +109,13 @@ fn is_answered_stopped(alloc: Global, cluster: &mut Cluster) -> Result<bool, Out
     Ok(stopped && echoed && refused)
 }
 
-/// Whether each event is answered as it should be, running and stopped.
+/// Returns true if each event is answered as it should be, running and stopped.
 fn is_answered(alloc: Global, cluster: &mut Cluster) -> Result<bool, OutOfMemory> {
     Ok(is_answered_running(alloc, cluster)? && is_answered_stopped(alloc, cluster)?)
 }
 
-// A packet arrives once it was sent, as often as one likes; its bytes are no noise, running or stopped; a stopped node
-// refuses it.
+// A packet may arrive any number of times once it was sent. Its bytes are not noise, at a running and at a stopped node. A stopped
+// node refuses the packet.
 #[test]
 fn packets_and_noise(rt: HostRuntime) -> Result<(), Fail> {
     let alloc = rt.alloc();

@@ -1,4 +1,4 @@
-// Why tapes are not merged, each by tapes that nodes made.
+// Each fault of merging, by tapes that nodes made.
 use crate::merged::{Case, judge, judge_front, judge_front_fault};
 use crate::steps::{At, Step};
 use gb_merge::fault::AuditFault;
@@ -30,8 +30,8 @@ fn no_tape_sent_it(rt: HostRuntime) {
     judge(&rt, rt.alloc(), &UNSENT);
 }
 
-/// Two packets that crossed, and tapes on which each came before the other was sent. The third node's packet comes to
-/// the first last.
+/// Two packets that crossed, and tapes on which each came before the other was sent. Last, the third node's packet comes to
+/// the first node.
 const CROSSED: &[At] = &[
     (2, Step::Ack(0)),
     (0, Step::ComeUnsent(1)),
@@ -66,7 +66,7 @@ fn a_stranger_is_told_before_tapes_that_are_stuck(rt: HostRuntime) {
     judge(&rt, rt.alloc(), &STRANGER);
 }
 
-// One tick of a single node, which notices none, is noted to notice none, to notice itself, and to be refused.
+// A tick of a single node, which notices no node. It is noted to notice none, then to notice the node itself, then to be refused.
 const NONE_NOTICED: Case = Case {
     nodes: 1,
     steps: &[(0, Step::ForgeTick(Ok(&[])))],
@@ -95,7 +95,7 @@ fn an_answer_is_another(rt: HostRuntime) {
     judge(&rt, rt.alloc(), &REFUSED);
 }
 
-// The packet that no tape sent, and all behind it, stay outside.
+// The packet that no tape sent, and each entry behind it, are not in the run.
 #[test]
 fn a_front_ends_where_a_packet_was_never_sent(rt: HostRuntime) {
     judge_front(&rt, rt.alloc(), &UNSENT, &[]);
@@ -126,7 +126,7 @@ fn a_tape_that_is_cut_short_ends_others_where_they_took_what_it_sent(rt: HostRun
     judge_front(&rt, rt.alloc(), &CUT, &["0t", "0a", "#1", "2t"]);
 }
 
-// An answer in the front that is another is no cut.
+// A wrong answer in the front is a fault, not a cut.
 #[test]
 fn a_front_with_another_answer_differs(rt: HostRuntime) {
     judge_front_fault(&rt, rt.alloc(), &ITSELF_NOTICED, AuditFault::Differs);

@@ -6,7 +6,7 @@ use gb_merge::fault::AuditFault;
 use gb_types::refusal::Refusal;
 use std::rt::HostRuntime;
 
-// The first node had no memory for the group, nor for a message, nor for a packet. Each was asked again, and done.
+// The first node had no memory for the group, for a message and for a packet. Each was asked for again, and done.
 const LACKING: Case = Case {
     nodes: 2,
     steps: &[
@@ -38,7 +38,7 @@ fn what_was_refused_is_left_out(rt: HostRuntime) {
     );
 }
 
-// The group was never made, so the message that is said there is answered so. That answer is the run's.
+// The group was never made, so a message in it is refused. The run has that answer.
 const NEVER_MADE: Case = Case {
     nodes: 1,
     steps: &[
@@ -56,7 +56,7 @@ fn what_was_refused_did_not_happen(rt: HostRuntime) {
     judge_fed(&rt, rt.alloc(), &NEVER_MADE, &["0r", "0r"]);
 }
 
-// A packet that was refused was not sent: another node took it in, and no tape sent it.
+// A packet that was refused was not sent. Another node took it in, so no tape sent it.
 const NOT_SENT: Case = Case {
     nodes: 2,
     steps: &[(0, Step::PackRefused(1)), (1, Step::ComeUnsent(0))],

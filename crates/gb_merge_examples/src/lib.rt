@@ -1,5 +1,5 @@
 //! Worked clusters and merged tapes, as tests: packets that arrive twice, noise and a stop; tables of steps at nodes, whose
-//! tapes are merged, and what merging gives. There is nothing here but tests.
+//! tapes are merged, and what merging returns. This crate has tests only.
 #![tactic(auto)]
 
 #[cfg(test)]

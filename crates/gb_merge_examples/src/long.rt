@@ -1,4 +1,4 @@
-//! A long tape: as many ticks at a node alone as a test has time for.
+//! A long tape: the ticks of a node alone, as many as a test has time for.
 ghost use Rattle.std.specs.Prelude.{◌≡◌, IfOk, vec_len};
 ghost use Rattle.gb_cluster.specs.ClusterValue.{IsClusterPlan};
 
@@ -18,7 +18,7 @@ use std::alloc::Global;
 /// The number of entries of the tape.
 const ENTRIES: u64 = 100_000;
 
-// A cluster of one node.
+// Returns a cluster of one node.
 fn alone() -> Plan
     ensures limits { IsClusterPlan result }
     ensures one { result.nodes ≡ 1 }
@@ -34,7 +34,7 @@ fn alone() -> Plan
     }
 }
 
-// A tape of ticks at which nobody is noticed.
+// Returns a tape of ticks at which nobody is noticed.
 fn ticks(alloc: Global) -> Result<Tape, OutOfMemory> {
     let mut entries = Vec::new(alloc);
     for count in 0..ENTRIES {
@@ -48,7 +48,7 @@ fn ticks(alloc: Global) -> Result<Tape, OutOfMemory> {
     Ok(Tape::from(entries))
 }
 
-// The number of events that merging the tape returns.
+// Returns the number of events that merging the tape returns.
 fn count_merged(alloc: Global) -> Result<usize, AuditFault> {
     let Ok(tape) = ticks(alloc) else {
         return Err(AuditFault::OutOfMemory);

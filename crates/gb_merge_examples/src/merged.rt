@@ -1,4 +1,4 @@
-//! What merging the tapes of steps gives.
+//! What merging the tapes of steps returns.
 ghost use Rattle.gb_cluster.specs.ClusterValue.{IsClusterPlan};
 
 use crate::requests::ADMIN_KEY;
@@ -16,9 +16,9 @@ use gb_types::version::Version;
 use std::alloc::Global;
 use std::process::Abort;
 
-/// Steps at the nodes of a cluster, and what merging their tapes gives.
+/// Steps at the nodes of a cluster, and what merging their tapes returns.
 pub struct Case {
-    /// How many nodes there are: 1 to 3.
+    /// The number of nodes: 1 to 3.
     pub nodes: u8,
     pub steps: &'static [At],
     /// The node whose tape is lost after the steps.
@@ -29,7 +29,7 @@ pub struct Case {
     pub told: Result<&'static [&'static str], AuditFault>,
 }
 
-/// A plan by which node 1 sends another version than the others.
+/// Returns a plan by which node 1 sends another version than the others.
 pub fn plan(nodes: u8) -> Plan
     ensures { IsClusterPlan result }
 {
@@ -46,7 +46,7 @@ pub fn plan(nodes: u8) -> Plan
     }
 }
 
-/// The letter of what happens at a node.
+/// Returns the letter of what happens at a node.
 fn letter(event: &NodeEvent) -> u8 {
     match event {
         NodeEvent::Request(_) => b'r',
@@ -59,7 +59,7 @@ fn letter(event: &NodeEvent) -> u8 {
     }
 }
 
-/// An event in letters: its node, and what happens there; an arrival by the packet's number.
+/// Returns an event in letters: its node and what happens there, or, for an arrival, the packet's number.
 fn letters(event: &Event) -> [u8; 2] {
     match event {
         Event::Arrive(number) => [b'#', b'0' + (*number % 10) as u8],
@@ -67,7 +67,7 @@ fn letters(event: &Event) -> [u8; 2] {
     }
 }
 
-/// Whether these are the events, in letters.
+/// Returns true if these are the events, in letters.
 fn are_told(events: &[Event], told: &[&str]) -> bool {
     if events.len() != told.len() {
         return false;
@@ -81,14 +81,14 @@ fn are_told(events: &[Event], told: &[&str]) -> bool {
     true
 }
 
-/// How much of tapes is merged.
+/// The part of tapes that is merged.
 #[derive(Clone, Copy)]
 pub enum Part {
-    /// All, or nothing where they are not one run.
+    /// All entries; a fault if they are not one run.
     All,
-    /// Their first entries, as many as are one run.
+    /// The first entries that are one run.
     Front,
-    /// The entries that were not refused for lack of memory, or nothing where they are not one run.
+    /// The entries that were not refused for lack of memory; a fault if they are not one run.
     Fed,
 }
 
@@ -136,7 +136,7 @@ fn run(
     merge_part(alloc, plan, part, tapes)
 }
 
-/// What merging the tapes of steps gives.
+/// Returns what merging the tapes of steps returns.
 pub fn merged(
     alloc: Global,
     part: Part,
@@ -150,7 +150,7 @@ pub fn merged(
     run(alloc, &plan, part, steps, lost, &mut nodes, &mut tapes)
 }
 
-/// Whether merging a part of the case's tapes gives these events.
+/// Returns true if merging a part of the case's tapes returns these events.
 fn gives(alloc: Global, part: Part, case: &Case, told: &[&str]) -> bool {
     match merged(alloc, part, case.nodes, case.steps, case.lost) {
         Ok(events) => are_told(events.as_slice(), told),
@@ -158,7 +158,7 @@ fn gives(alloc: Global, part: Part, case: &Case, told: &[&str]) -> bool {
     }
 }
 
-/// Whether merging a part of the case's tapes ends with this fault.
+/// Returns true if merging a part of the case's tapes ends with this fault.
 fn faults(alloc: Global, part: Part, case: &Case, fault: AuditFault) -> bool {
     match merged(alloc, part, case.nodes, case.steps, case.lost) {
         Ok(_) => false,
@@ -166,8 +166,8 @@ fn faults(alloc: Global, part: Part, case: &Case, fault: AuditFault) -> bool {
     }
 }
 
-/// Whether merging gives what it must; tapes that are one run have all their entries in its front too, and none that was
-/// refused for lack of memory.
+/// Returns true if merging returns what the case says. If the tapes are one run, merging their front, and merging the entries that
+/// were not refused for lack of memory, return the same events.
 fn holds(alloc: Global, case: &Case) -> bool {
     match case.told {
         Ok(told) => {
@@ -179,31 +179,31 @@ fn holds(alloc: Global, case: &Case) -> bool {
     }
 }
 
-/// Merging gives what it must.
+/// Checks that merging returns what the case says.
 pub fn judge(rt: &impl Abort, alloc: Global, case: &Case) {
     let held = holds(alloc, case);
     assert!(rt; held);
 }
 
-/// Merging the front of the case's tapes gives these events, in letters.
+/// Checks that merging the front of the case's tapes returns these events, in letters.
 pub fn judge_front(rt: &impl Abort, alloc: Global, case: &Case, front: &[&str]) {
     let held = gives(alloc, Part::Front, case, front);
     assert!(rt; held);
 }
 
-/// Merging the front of the case's tapes ends with this fault.
+/// Checks that merging the front of the case's tapes ends with this fault.
 pub fn judge_front_fault(rt: &impl Abort, alloc: Global, case: &Case, fault: AuditFault) {
     let held = faults(alloc, Part::Front, case, fault);
     assert!(rt; held);
 }
 
-/// Merging the entries of the case's tapes that were not refused for lack of memory gives these events, in letters.
+/// Checks that merging the entries of the case's tapes that were not refused for lack of memory returns these events, in letters.
 pub fn judge_fed(rt: &impl Abort, alloc: Global, case: &Case, fed: &[&str]) {
     let held = gives(alloc, Part::Fed, case, fed);
     assert!(rt; held);
 }
 
-/// Merging those entries ends with this fault.
+/// Checks that merging those entries ends with this fault.
 pub fn judge_fed_fault(rt: &impl Abort, alloc: Global, case: &Case, fault: AuditFault) {
     let held = faults(alloc, Part::Fed, case, fault);
     assert!(rt; held);

@@ -1,10 +1,10 @@
-// In which order entries are taken.
+// The order in which entries are taken.
 use crate::merged::{Case, judge};
 use crate::steps::Step;
 use std::rt::HostRuntime;
 
-// The third node sends the first the same packet twice; the first takes it before its tick, the second ticks twice. The
-// first waits, so the second goes as long as it can; then the third, until the first can go.
+// The third node sends the first the same packet twice. The first node takes it before its tick; the second ticks twice. The
+// first node waits, so the entries of the second are taken while they can be; then those of the third, until the first can go on.
 const LOWEST: Case = Case {
     nodes: 3,
     steps: &[
@@ -24,8 +24,8 @@ fn the_lowest_node_that_can_go_goes(rt: HostRuntime) {
     judge(&rt, rt.alloc(), &LOWEST);
 }
 
-// The third node sends the first the same packet twice and the second one, which sends the first another; the first
-// takes that one first. Of two equal packets the first arrives.
+// The third node sends the first the same packet twice, and sends the second a packet. The second sends the first another packet,
+// which the first takes first. Of two equal packets the one that was sent first arrives.
 const EQUAL: Case = Case {
     nodes: 3,
     steps: &[
@@ -46,8 +46,8 @@ fn the_first_equal_packet_arrives(rt: HostRuntime) {
     judge(&rt, rt.alloc(), &EQUAL);
 }
 
-// Bytes that are no packet come to the first node, and a packet that is for the second, once it was sent; the packet
-// comes to the second too.
+// Bytes that are no packet come to the first node. A packet for the second node comes to the first once it was sent, and to the
+// second too.
 const NOISE: Case = Case {
     nodes: 2,
     steps: &[

@@ -48,7 +48,7 @@ enum Change {
     End(usize),
 }
 
-// Appends a line with some of its bytes replaced, where they stand there.
+// Appends a line with some of its bytes replaced, if the line has them.
 fn put_replaced(out: &mut Vec<u8>, line: &[u8], old: &[u8], new: &[u8]) -> Result<(), OutOfMemory> {
     for at in 0..line.len() {
         if line[at..].starts_with(old) {
@@ -126,7 +126,7 @@ fn records(alloc: Global) -> Result<Vec<Vec<u8>>, OutOfMemory> {
     Ok(texts)
 }
 
-// Changes of the records of node 0 and of node 1, what an audit prints then, and its status.
+// Changes of the records of node 0 and of node 1, what an audit of them prints, and its status.
 struct Case {
     first: Change,
     second: Change,

@@ -31,18 +31,18 @@ const GROUP: Addr = Addr {
     generation: 0,
 };
 
-/// What is asked at a node, under the token that it needs.
+/// A request at a node, under the token that it needs.
 #[derive(Clone, Copy)]
 pub enum Asked {
     AddTenant,
     MakeGroup,
     OpenGroup,
     Say(&'static [u8]),
-    /// So many entries of the log at most, from a place on.
+    /// The index of the first entry of the log that is fetched, and the most entries.
     Fetch(u32, u32),
 }
 
-/// The node with this number, below 16.
+/// Returns the node with this number, below 16.
 pub fn node(number: u8) -> NodeId {
     NodeId::new(number % 16)
 }
@@ -68,7 +68,7 @@ fn spec() -> Spec {
     }
 }
 
-/// The request at a node.
+/// Returns the request at a node.
 pub fn request(alloc: Global, me: NodeId, asked: Asked) -> Result<Request, OutOfMemory> {
     Ok(match asked {
         Asked::AddTenant => Request::AddTenant(token(&ADMIN_KEY, Need::Admin), TENANT),

@@ -22,19 +22,19 @@ pub enum Step {
     Ask(Asked),
     /// It is noted that the node had no memory for it, and the node does nothing.
     AskRefused(Asked),
-    /// What waits for another node is packed.
+    /// The items that wait for another node are packed.
     Pack(u8),
     /// It is noted that the node had no memory for that, and the node does nothing.
     PackRefused(u8),
     /// Another node is sent an acknowledgement.
     Ack(u8),
     Tick,
-    /// A tick is noted, with an answer that the node did not give: the nodes that are noticed, or a refusal.
+    /// A tick is noted with a forged answer: the nodes that are noticed, or a refusal.
     ForgeTick(Result<&'static [u8], Refusal>),
     Stop,
     /// Bytes come.
     Bytes(&'static [u8]),
-    /// The packet that a node sent by the entry at a place of its tape comes; no bytes where it sent none.
+    /// The packet comes that a node sent by the entry at an index of its tape; no bytes come if the entry sent none.
     Come(u8, usize),
     /// The acknowledgement that a node would send this one comes, and that node notes nothing.
     ComeUnsent(u8),
@@ -62,7 +62,7 @@ pub fn start(alloc: Global, plan: &Plan, nodes: &mut Vec<Taped>) -> Result<(), O
     Ok(())
 }
 
-/// The bytes of what was sent; none where it is no packet.
+/// Returns the bytes of what was sent. They are empty if it is no packet.
 fn bytes(sent: &Sent) -> &[u8] {
     match sent {
         Sent::Packet(text) => text.as_slice(),
@@ -70,7 +70,7 @@ fn bytes(sent: &Sent) -> &[u8] {
     }
 }
 
-/// The bytes that a node sent by the entry at a place of its tape.
+/// Returns the bytes that a node sent by the entry at an index of its tape.
 fn sent(nodes: &[Taped], from: NodeId, place: usize) -> &[u8] {
     let Some(taped) = nodes.get(from.index()) else {
         return &[];
@@ -84,13 +84,13 @@ fn sent(nodes: &[Taped], from: NodeId, place: usize) -> &[u8] {
     }
 }
 
-/// Bytes come.
+/// Returns the event that bytes come.
 fn come(alloc: Global, bytes: &[u8]) -> Result<NodeEvent, OutOfMemory> {
     let copy = Vec::from_slice(alloc, bytes)?;
     Ok(NodeEvent::Packet(PacketText::from(copy)))
 }
 
-/// The acknowledgement that a node would send another comes.
+/// Returns the event that the acknowledgement comes which a node would send to another one.
 fn come_unsent(
     alloc: Global,
     nodes: &mut [Taped],
@@ -106,7 +106,7 @@ fn come_unsent(
     }
 }
 
-/// The event of a step at a node.
+/// Returns the event of a step at a node.
 fn event(
     alloc: Global,
     nodes: &mut [Taped],
@@ -127,7 +127,7 @@ fn event(
     })
 }
 
-/// What a tick is forged to have brought to light.
+/// Returns the forged answer of a tick.
 fn forged(told: Result<&[u8], Refusal>) -> Ticked {
     match told {
         Ok(numbers) => {
@@ -141,7 +141,7 @@ fn forged(told: Result<&[u8], Refusal>) -> Ticked {
     }
 }
 
-/// What is noted as the answer to the event of a step.
+/// Returns what is noted as the answer to the event of a step.
 fn answer(node: &mut Node, step: Step, event: &NodeEvent) -> NodeAnswer {
     match step {
         Step::AskRefused(_) => NodeAnswer::Reply(Reply::Refused(Refusal::OutOfMemory)),
@@ -151,7 +151,7 @@ fn answer(node: &mut Node, step: Step, event: &NodeEvent) -> NodeAnswer {
     }
 }
 
-/// An event is noted with its answer.
+/// Notes an event with its answer.
 fn note(
     tape: &mut Vec<TapeEntry>,
     event: NodeEvent,
@@ -186,7 +186,7 @@ pub fn take_all(alloc: Global, nodes: &mut [Taped], steps: &[At]) -> Result<(), 
     Ok(())
 }
 
-/// The tape of a node is lost.
+/// Loses the tape of a node.
 pub fn lose(nodes: &mut [Taped], number: u8) {
     if let Some(taped) = nodes.get_mut(usize::from(number)) {
         taped.tape.clear();

@@ -6,8 +6,8 @@ use gb_merge::fault::AuditFault;
 use std::alloc::Global;
 use std::rt::HostRuntime;
 
-/// Two nodes make a group, the first says a message in it and packs it, it comes to the second, which reads its log and
-/// acknowledges; both tick.
+/// Two nodes make a group. The first says a message in it and packs it. The packet comes to the second, which reads its log and
+/// acknowledges. Both nodes tick.
 const STEPS: [At; 14] = [
     (0, Step::Ask(Asked::AddTenant)),
     (1, Step::Ask(Asked::AddTenant)),
@@ -39,10 +39,10 @@ fn without_a_stop(rt: HostRuntime) {
     judge(&rt, rt.alloc(), &WITHOUT);
 }
 
-/// How many events there are with a stop.
+/// The number of events with a stop.
 const EVENTS: usize = 15;
 
-/// Returns how many events are merged, with a stop of a node after this number of steps.
+/// Returns the number of events that are merged, with a stop of a node after this number of steps.
 fn stopped(alloc: Global, after: usize, at: u8) -> Result<usize, AuditFault> {
     let mut steps = Vec::from_slice(alloc, &STEPS)?;
     if after <= steps.len() {
@@ -59,7 +59,7 @@ fn are_merged(alloc: Global, after: usize) -> bool {
     first == Ok(EVENTS) && second == Ok(EVENTS)
 }
 
-/// Whether all events are merged, wherever the stop is.
+/// Returns true if all events are merged, wherever the stop is.
 fn are_always_merged(alloc: Global) -> bool {
     for after in 1..EVENTS {
         if !are_merged(alloc, after) {

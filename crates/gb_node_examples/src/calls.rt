@@ -8,7 +8,7 @@ use std::test::Fail;
 /// No items, behind their count.
 const NO_ITEMS: &[u8] = b"\0\0";
 
-/// One item of the group behind the count: a message of the first node with the payload `a`, and its number.
+/// The count 1 and one item of the group: a message of the first node with the payload `a`, and its number.
 const FIRST_0: &[u8] = b"\0\x01\0\x07\0\x01\0\0\0\0\x01a";
 
 const FIRST_1: &[u8] = b"\0\x01\0\x07\0\x01\0\0\x01\0\x01a";
@@ -28,8 +28,8 @@ const SEEN: Told = Told::Came(FIRST, Frame::Seen, 0, 0);
 
 const OUTSIDE: Told = Told::Came(FIRST, Frame::Outside, 0, 0);
 
-/// An eager group hands up each message that it takes in, whoever it comes from: these items are let fall. Acknowledgements
-/// may be of frames that were never sent, up to the last number.
+/// An eager group hands up each message that it takes in, whichever node it comes from. These items are let fall. Acknowledgements
+/// may be of frames that were never sent, up to the greatest number.
 const WHAT_NO_NODE_SENDS: &[Line] = &[
     (SECOND, Step::Tenant(7), Told::Done),
     (SECOND, Step::Make(GROUP, Kind::Eager), Told::Done),
@@ -37,7 +37,7 @@ const WHAT_NO_NODE_SENDS: &[Line] = &[
     (SECOND, Step::Say(GROUP, b"own"), Told::Said(1)),
     (SECOND, Step::Packet([1, 0, 1], FIRST_1), FIRST_TIME),
     (SECOND, Step::Fetch(GROUP), Told::Log(2)),
-    // A message of the second node itself, that it said and that it never said, and numbers that no message has.
+    // Messages of the second node itself, one that it said and one that it never said, and numbers that no message has.
     (SECOND, Step::Packet([1, 0, 2], SECOND_1), FIRST_TIME),
     (SECOND, Step::Fetch(GROUP), Told::Log(2)),
     (SECOND, Step::Packet([1, 0, 3], SECOND_2), FIRST_TIME),

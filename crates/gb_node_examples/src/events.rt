@@ -19,7 +19,7 @@ pub const ADMIN_KEY: Key = [1; 32];
 
 const TENANT_KEY: Key = [2; 32];
 
-/// Adds a tenant, which may make two groups.
+/// Returns the request that adds a tenant, which may make two groups.
 fn add(tenant: u16) -> Request {
     let row = TenantRow {
         tenant,
@@ -32,17 +32,17 @@ fn add(tenant: u16) -> Request {
     Request::AddTenant(token(&ADMIN_KEY, Need::Admin), row)
 }
 
-/// The token of a group's owner.
+/// Returns the token of a group's owner.
 fn owner(addr: Addr) -> Token {
     token(&TENANT_KEY, Need::Tenant(addr.tenant))
 }
 
-/// The token of a group's member at a node.
+/// Returns the token of a group's member at a node.
 fn member(addr: Addr, me: u8) -> Token {
     token(&TENANT_KEY, Need::Member(addr.tenant, addr.group, node(me)))
 }
 
-/// What a group of the first two nodes and a third is made with.
+/// Returns the specification of a group of the first two nodes and a third.
 fn spec(kind: Kind, third: u8) -> Spec {
     let mut members = NodeSet::new();
     members.insert(node(FIRST));
@@ -57,18 +57,18 @@ fn spec(kind: Kind, third: u8) -> Spec {
     }
 }
 
-/// Makes a group of the first two nodes and a third.
+/// Returns the event that makes a group of the first two nodes and a third.
 fn make(addr: Addr, kind: Kind, third: u8) -> NodeEvent {
     NodeEvent::Request(Request::Make(owner(addr), addr, spec(kind, third)))
 }
 
-/// Says something in a group at a node.
+/// Returns the event that says `bytes` in a group at a node.
 fn say(alloc: Global, me: u8, addr: Addr, bytes: &[u8]) -> Result<NodeEvent, OutOfMemory> {
     let message = NewMessage::new(Payload::from_slice(alloc, bytes)?);
     Ok(NodeEvent::Request(Request::Say(member(addr, me), addr, message)))
 }
 
-/// The packet with this number among those that were sent comes; no bytes come if there is no such packet.
+/// Returns the arrival of the packet with this number among those that were sent, or of no bytes if there is no such packet.
 fn arrive(alloc: Global, sent: &[PacketText], number: usize) -> Result<NodeEvent, OutOfMemory> {
     let bytes: &[u8] = match sent.get(number) {
         Some(packet) => packet.as_slice(),
@@ -78,7 +78,7 @@ fn arrive(alloc: Global, sent: &[PacketText], number: usize) -> Result<NodeEvent
     Ok(NodeEvent::Packet(PacketText::from(bytes)))
 }
 
-/// The event of a step at a node, after these packets were sent.
+/// Returns the event of a step at a node, after these packets were sent.
 pub fn event(
     alloc: Global,
     sent: &[PacketText],

@@ -72,7 +72,7 @@ fn open(groups: &mut Groups, addr: Addr) -> Reply {
     groups.open_group(addr)
 }
 
-/// The friend's first message in a group comes from it to a node of this version.
+/// Hands the friend's first message in a group, which comes from the friend, to a node of this version.
 fn item(groups: &mut Groups, version: Version, group: u16, payload: &[u8]) -> Reply {
     let item = ItemView {
         tenant: 7,
@@ -110,7 +110,7 @@ fn take(groups: &mut Groups, step: Step, group: u16) -> Reply {
     }
 }
 
-/// These steps of groups are answered so.
+/// Compares the answers of the groups to these steps.
 fn compare(rt: &impl Abort, groups: &mut Groups, steps: &[(Step, u16, Told)]) {
     for (step, group, want) in steps {
         let reply = take(groups, *step, *group);
@@ -119,7 +119,7 @@ fn compare(rt: &impl Abort, groups: &mut Groups, steps: &[(Step, u16, Told)]) {
     }
 }
 
-/// The next batch for a node has items of these groups, with these numbers, in this order, in the version.
+/// Compares the next batch for a node: it has items of these groups, with these numbers, in this order, in the version.
 fn packs(
     groups: &mut Groups,
     alloc: Global,
@@ -148,14 +148,14 @@ fn packs(
     Ok(texts.is_empty())
 }
 
-/// For whom a batch is.
+/// The node that a batch is for.
 #[derive(Clone, Copy)]
 enum To {
     Me,
     Friend,
 }
 
-/// The next batches for nodes, with room for this number of bytes, have these items.
+/// Compares the next batches for nodes, with room for this number of bytes: they have these items.
 fn give(
     rt: &impl Abort,
     alloc: Global,
@@ -173,7 +173,7 @@ fn give(
     Ok(())
 }
 
-/// New groups, in which these steps are made; then the friend may be noticed, and these batches come.
+/// Makes these steps in new groups. Then the friend may be noticed, and these batches come.
 fn run(
     rt: &impl Abort,
     alloc: Global,
@@ -189,7 +189,7 @@ fn run(
     give(rt, alloc, &mut groups, batches)
 }
 
-/// Nothing is packed for the friend.
+/// Checks that nothing is packed for the friend.
 static NOTHING: [(To, u16, &[(u16, u16)]); 1] = [(To::Friend, ROOM, &[])];
 
 static THREE_SPEAK: [(Step, u16, Told); 10] = [
@@ -227,7 +227,7 @@ static ONE_IS_DROPPED: [(Step, u16, Told); 13] = [
     (Step::Drop, 1, Told::Refused(Refusal::Spent)),
     (Step::Fetch, 1, Told::Refused(Refusal::Spent)),
     (Step::Fetch, 2, Told::Refused(Refusal::NoGroup)),
-    // The next group stands under the same key.
+    // The next group has the same key.
     (Step::Open, 2, Told::Done),
     (Step::Fetch, 2, Told::Log(0)),
     // An item of a group that is not here is let fall.
@@ -273,7 +273,7 @@ fn nothing_waits_for_a_noticed_node(rt: HostRuntime) -> Result<(), Fail> {
     Ok(())
 }
 
-/// Groups 1 to `last` are made. The first of them were made before.
+/// Makes the groups from `made` + 1 to `last`, behind those that were made before.
 fn open_to(rt: &impl Abort, groups: &mut Groups, made: u16, last: u16) {
     for group in made..last {
         let reply = take(groups, Step::Open, group + 1);
@@ -282,7 +282,7 @@ fn open_to(rt: &impl Abort, groups: &mut Groups, made: u16, last: u16) {
     }
 }
 
-/// The last group says two messages, and the first one between them, its message with this number.
+/// The last group says two messages. Between them the first group says its message with this number.
 fn both_ends_are_busy(
     rt: &impl Abort,
     alloc: Global,
@@ -304,8 +304,8 @@ fn both_ends_are_busy(
     )
 }
 
-/// The number of groups that are made, and as many as were made before: up to the last group of one word of the sets and the first of the
-/// next, the same of 8 words, and the last place.
+/// The number of groups that were made before, and the number that are made then: up to the last group of one word of the
+/// sets and the first of the next word, the same of 8 words, and the last index.
 static PLACES_AT_EDGES: [(u16, u16); 5] = [(0, 64), (64, 65), (65, 512), (512, 513), (513, PLACES)];
 
 /// The groups at each edge are made in turn, and are busy together with the first.

@@ -21,7 +21,7 @@ const ELSEWHERE: Addr = Addr {
     generation: 0,
 };
 
-/// One frame carries an item of each of three groups of two tenants, and each group gets its own, once.
+/// One frame carries an item of each of three groups of two tenants, and each group receives its own item once.
 const A_FRAME_OF_MANY_GROUPS: &[Line] = &[
     (FIRST, Step::Tenant(7), Told::Done),
     (FIRST, Step::Tenant(9), Told::Done),
@@ -64,7 +64,7 @@ fn a_frame_of_many_groups(rt: HostRuntime) -> Result<(), Fail> {
     Ok(())
 }
 
-/// Nothing is sent to the node itself, to a node outside the cluster or where nothing waits.
+/// Nothing is sent to the node itself, to a node outside the cluster or to a node for which nothing waits.
 const NOTHING_IS_SENT: &[Line] = &[
     (FIRST, Step::Pack(FIRST), Told::Nothing),
     (FIRST, Step::Pack(SECOND), Told::Nothing),
@@ -78,7 +78,7 @@ fn nothing_is_sent(rt: HostRuntime) -> Result<(), Fail> {
     Ok(())
 }
 
-/// An acknowledgement that says nothing new is sent again, and once a frame came another one is sent, which counts.
+/// An acknowledgement that says nothing new is sent again. After a frame came, another one is sent, which makes the frame done.
 const AN_ACKNOWLEDGEMENT_IS_SENT_AGAIN: &[Line] = &[
     (SECOND, Step::Ack(FIRST), Told::Sent(39)),
     (SECOND, Step::Ack(FIRST), Told::Sent(39)),
@@ -117,7 +117,7 @@ fn an_acknowledgement_is_sent_again(rt: HostRuntime) -> Result<(), Fail> {
     Ok(())
 }
 
-/// A stopped node refuses.
+/// A stopped node refuses each event.
 const A_STOPPED_NODE_ANSWERS_STOPPED: &[Line] = &[
     (FIRST, Step::Stop, Told::Stopped),
     (FIRST, Step::Tenant(7), Told::Refused(Refusal::Stopped)),

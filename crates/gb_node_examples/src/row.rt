@@ -1,4 +1,4 @@
-// A crash among three nodes, whose second node relays, and which is handed faulty texts before each step.
+// A crash among three nodes. The second node relays, and is handed faulty texts before each step.
 use crate::steps::{FIRST, GROUP, Line, SECOND, Step, THIRD, Told, compare, holds, three};
 use crate::texts::disturb;
 use gb_node::answer::Frame;
@@ -24,7 +24,7 @@ const PREPARED: &[Line] = &[
     (THIRD, Step::Open(GROUP), Told::Done),
 ];
 
-/// The first node crashes, and the second relays what it said.
+/// The first node crashes, and the second node relays its messages.
 const CRASHED: &[Line] = &[
     (FIRST, Step::Say(GROUP, b"a"), Told::Said(1)),
     (FIRST, Step::Pack(SECOND), Told::Sent(49)),
@@ -66,7 +66,7 @@ const CRASHED: &[Line] = &[
     (THIRD, Step::Fetch(GROUP), Told::Log(2)),
 ];
 
-/// Hands the second node each faulty text, and takes a step then. Whether it tells what it must.
+/// Hands the second node each faulty text, and then takes a step. Returns true if the step's answer is as expected.
 fn holds_disturbed(
     rt: &impl Abort,
     alloc: Global,
@@ -78,7 +78,7 @@ fn holds_disturbed(
     holds(alloc, nodes, sent, line)
 }
 
-/// Each step tells what it must, with the faulty texts before it.
+/// Compares the answer of each step, with the faulty texts before it.
 fn compare_disturbed(
     rt: &impl Abort,
     alloc: Global,
@@ -93,7 +93,7 @@ fn compare_disturbed(
     Ok(())
 }
 
-/// The nodes are prepared. Then each step tells what it must, with the faulty texts before it, and they come after the last.
+/// Prepares the nodes. Then compares the answer of each step, with the faulty texts before it and after the last one.
 fn compare_crash(
     rt: &impl Abort,
     alloc: Global,
@@ -105,7 +105,7 @@ fn compare_crash(
     disturb(rt, alloc, nodes)
 }
 
-/// The same of three nodes at which nothing has happened.
+/// Does the same at three new nodes.
 fn run_crash(rt: &impl Abort, alloc: Global) -> Result<(), OutOfMemory> {
     let mut nodes = three(alloc)?;
     let mut sent = Vec::new(alloc);
@@ -113,7 +113,7 @@ fn run_crash(rt: &impl Abort, alloc: Global) -> Result<(), OutOfMemory> {
 }
 
 // Before each step of a run with a crash, and after the last, each faulty text comes to the second node, which answers its
-// fault; the steps go as they do without.
+// fault. The answers of the steps are the same as without these texts.
 #[test]
 fn faults_change_nothing(rt: HostRuntime) -> Result<(), Fail> {
     run_crash(&rt, rt.alloc())?;

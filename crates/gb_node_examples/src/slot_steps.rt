@@ -1,4 +1,4 @@
-//! Calls of a slot with what they must answer.
+//! Calls of a slot with their expected answers.
 ghost use Rattle.gb_slot.specs.Effects.{AreReady};
 
 use gb_layer::effects::Effects;
@@ -17,7 +17,7 @@ pub const OTHER: u8 = 3;
 
 pub const STRANGER: u8 = 4;
 
-/// The node with this number, below 32.
+/// Returns the node with this number, below 32.
 pub fn node(number: u8) -> NodeId {
     NodeId::new(number % 32)
 }
@@ -25,7 +25,7 @@ pub fn node(number: u8) -> NodeId {
 /// The origin, number and payload of a message.
 pub type Message = (u8, u16, &'static [u8]);
 
-/// A call, with nodes by their numbers, and what it must answer.
+/// A call, with nodes by their numbers, and its expected answer.
 #[derive(Clone, Copy)]
 pub enum Step {
     Open(Option<Refusal>),
@@ -39,18 +39,18 @@ pub enum Step {
     Notice(u8),
     /// A node acknowledges the message of an origin with a number.
     Done(u8, u8, u16),
-    /// So many items are taken, of those that wait for the node.
+    /// This number of items is taken, of those that wait for the node.
     Take(u8, usize),
-    /// So many wait for the node, this one first.
+    /// This number of items waits for the node, this one first.
     Waits(u8, usize, Message),
     Idle(u8),
-    /// The log has these messages, and no more.
+    /// The log has exactly these messages.
     Log(&'static [Message]),
-    /// So many entries are read from a place on, this number at most.
+    /// The index of the first entry that is read, the most entries, and the number of entries that are read.
     Fetch(u32, u32, Result<usize, Refusal>),
-    /// So many messages were said.
+    /// The number of messages that were said.
     Said(usize),
-    /// Of these, the one at a place, from 0: whether this node, the friend, the other and the stranger have it for good.
+    /// Of these, the index of one, from 0: true for each of this node, the friend, the other and the stranger that has it for good.
     Acknowledged(usize, [bool; 4]),
 }
 
@@ -104,7 +104,7 @@ fn is_acknowledged(slot: &Slot, place: usize, want: [bool; 4]) -> bool {
     }
 }
 
-/// Makes the call at a node of this version, and says whether it answers what it must.
+/// Makes the call at a node of this version. Returns true if its answer is the expected one.
 fn holds(version: Version, slot: &mut Slot, effects: &mut Effects, step: Step) -> bool
     requires { AreReady slot.old.spec effects.old }
     ensures { AreReady slot.new.spec effects.new }
@@ -152,7 +152,7 @@ fn holds(version: Version, slot: &mut Slot, effects: &mut Effects, step: Step) -
     }
 }
 
-/// Each call answers what it must at a node of this version.
+/// Compares the answer of each call at a node of this version.
 pub fn compare(
     rt: &impl Abort,
     version: Version,

@@ -23,7 +23,7 @@ const TOO_LONG_FOR_TWO: &[u8] = &[7; 4_097];
 
 const LONGEST_OF_TWO: &[u8] = &[7; 4_096];
 
-/// Each member may say this number of messages with this number of bytes in all, and this number of them may be unfinished at once.
+/// The limits of each member: its messages, their bytes in all, and its messages that may be unfinished at once.
 #[derive(Clone, Copy)]
 struct Limits {
     msgs: u32,
@@ -49,7 +49,7 @@ const SMALL: Limits = Limits {
     window: 2,
 };
 
-/// A group of three members at one of them. The other may be noticed before it is made.
+/// Returns a group of three members at one of them. The other may be noticed before it is made.
 fn group(
     alloc: Global,
     kind: Kind,
@@ -87,7 +87,7 @@ fn group(
     Slot::new(alloc, spec, me, &seen, effects)
 }
 
-/// Each call of a group of this kind answers what it must.
+/// Compares the answer of each call of a group of this kind.
 fn run(
     rt: &impl Abort,
     alloc: Global,
@@ -125,7 +125,7 @@ fn members_say_and_hear(rt: HostRuntime) -> Result<(), Fail> {
     run(&rt, rt.alloc(), Kind::Beb, WIDE, MEMBERS_SAY_AND_HEAR)
 }
 
-// Up to 16 bytes stand in the payload itself, more take memory of their own.
+// Up to 16 bytes stand in the payload's value; a longer payload takes memory.
 const PAYLOADS_OF_EACH_LENGTH_ARE_FETCHED: &[Step] = &[
     Step::Open(None),
     Step::Say(b"12345678", Ok(1)),
@@ -281,7 +281,7 @@ const ITEMS_ARE_LET_FALL: &[Step] = &[
     Step::Open(None),
     Step::Say(b"own", Ok(1)),
     Step::Came(FRIEND, (FRIEND, 1, b"first")),
-    // From no member, or made by none.
+    // From a node that is no member, or with an origin that is no member.
     Step::Came(STRANGER, (STRANGER, 1, b"")),
     Step::Came(STRANGER, (FRIEND, 2, b"")),
     Step::Came(FRIEND, (STRANGER, 1, b"")),
@@ -289,7 +289,7 @@ const ITEMS_ARE_LET_FALL: &[Step] = &[
     Step::Came(ME, (ME, 1, b"")),
     Step::Came(ME, (ME, 2, b"")),
     Step::Came(ME, (FRIEND, 2, b"")),
-    // For the second time from its sender.
+    // The second time from its sender.
     Step::Came(FRIEND, (FRIEND, 1, b"")),
     // With a number that no message has.
     Step::Came(FRIEND, (FRIEND, 0, b"")),
@@ -353,8 +353,8 @@ fn nothing_waits_for_a_node_that_crashes(rt: HostRuntime) -> Result<(), Fail> {
     )
 }
 
-/// A copy that another member relayed is taken in and not delivered; the origin's own then is, with the bytes that came
-/// first.
+/// A copy that another member relayed is taken in and not delivered. The origin's own copy then is delivered, with the bytes that
+/// came first.
 const BEST_EFFORT_TAKES_RELAYED_COPIES_IN: &[Step] = &[
     Step::Open(None),
     Step::Came(OTHER, (FRIEND, 1, b"first")),
@@ -508,7 +508,7 @@ const USAGE_IS_BOUNDED: &[Step] = &[
     Step::Say(b"", Ok(3)),
     Step::Notice(OTHER),
     Step::Say(b"", Err(Refusal::Window)),
-    // No other member is to have it.
+    // Each other member was noticed.
     Step::Notice(FRIEND),
     Step::Say(b"", Ok(4)),
     Step::Say(b"x", Err(Refusal::Budget)),
@@ -520,7 +520,7 @@ fn usage_is_bounded(rt: HostRuntime) -> Result<(), Fail> {
     run(&rt, rt.alloc(), Kind::Beb, NARROW, USAGE_IS_BOUNDED)
 }
 
-/// Each origin's bytes are bounded by themselves. What is let fall, or known, counts nothing.
+/// The bytes of each origin are limited separately. An item that is let fall, or known, does not count.
 const BYTES_OF_AN_ORIGIN_ARE_BOUNDED: &[Step] = &[
     Step::Open(None),
     Step::Came(FRIEND, (FRIEND, 1, b"sevenly")),
@@ -552,7 +552,7 @@ fn bytes_of_an_origin_are_bounded(rt: HostRuntime) -> Result<(), Fail> {
     )
 }
 
-/// Each member says all its messages with all their bytes: nothing is refused or let fall, and each is put out once.
+/// Each member says all its messages with all their bytes. None is refused or let fall, and each is put out once.
 const ALL_THAT_MAY_BE_SAID_IS_TAKEN: &[Step] = &[
     Step::Open(None),
     Step::Say(b"me", Ok(1)),

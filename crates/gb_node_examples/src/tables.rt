@@ -26,7 +26,7 @@ const ADMIN_KEY: Key = [1; 32];
 
 const TENANT_KEY: Key = [2; 32];
 
-/// What is asked of the group 0 or 1 of the tenant 7.
+/// A request for the group 0 or 1 of the tenant 7.
 #[derive(Clone, Copy)]
 enum Ask {
     /// Adds a tenant that may make this number of groups.
@@ -38,11 +38,11 @@ enum Ask {
     Drop(u16),
     /// Says a payload of this number of zeros.
     Say(u16, usize),
-    /// Reads the log from a place on.
+    /// Reads the log from an index on.
     Fetch(u16, u32),
 }
 
-/// Whose token comes with a request.
+/// The holder of the token of a request.
 #[derive(Clone, Copy)]
 enum Holder {
     Nobody,
@@ -108,14 +108,14 @@ fn request(alloc: Global, ask: Ask, token: Token) -> Result<Request, OutOfMemory
     Ok(request)
 }
 
-/// What a table answers to what is asked, in short.
+/// Returns a table's answer to a request, in short.
 fn answer(alloc: Global, table: &mut Table, ask: Ask, holder: Holder) -> Result<Told, OutOfMemory> {
     let request = request(alloc, ask, token_of(holder))?;
     let reply = table.request(&request, &NodeSet::new());
     Ok(in_short(&reply))
 }
 
-/// The table answers so, where the tenant 7 may make two groups.
+/// Compares the table's answers; the tenant 7 may make two groups.
 fn compare_each(
     rt: &impl Abort,
     alloc: Global,
@@ -130,7 +130,7 @@ fn compare_each(
     Ok(())
 }
 
-/// A table of a node of this version with four places answers so, where the tenant 7 may make two groups.
+/// Compares the answers of the table of a node of this version with four places; the tenant 7 may make two groups.
 fn compare_at(
     rt: &impl Abort,
     alloc: Global,
@@ -141,7 +141,7 @@ fn compare_at(
     compare_each(rt, alloc, &mut table, steps)
 }
 
-/// The same at a node of version 1.
+/// Does the same at a node of version 1.
 fn compare(rt: &impl Abort, alloc: Global, steps: &[(Ask, Holder, Told)]) -> Result<(), Fail> {
     compare_at(rt, alloc, Version::One, steps)
 }
@@ -247,7 +247,7 @@ fn a_group_is_refused_in_order(rt: HostRuntime) -> Result<(), Fail> {
                 Holder::Member(0),
                 Told::Refused(Refusal::Spent),
             ),
-            // The next group stands under the same key.
+            // The next group has the same key.
             (Ask::Make(1, ME, 1), Holder::Owner, Told::Done),
             (Ask::Open(1), Holder::Owner, Told::Done),
             (Ask::Fetch(1, 0), Holder::Member(1), Told::Log(0)),
@@ -306,7 +306,7 @@ fn says_are_refused_in_order_in_version_two(rt: HostRuntime) -> Result<(), Fail>
                 Holder::Member(0),
                 Told::Refused(Refusal::TooLong),
             ),
-            // No longer too long, and more bytes than may be said.
+            // Not too long any more, and more bytes than may be said.
             (
                 Ask::Say(0, 4_096),
                 Holder::Member(0),

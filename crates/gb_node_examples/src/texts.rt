@@ -1,4 +1,4 @@
-// Packets of the first node to the second that no node sent, and texts that are no packet for the second node.
+// Packets from the first node to the second that no node sent, and texts that are no packet for the second node.
 use crate::steps::SECOND;
 use gb_cap::hmac::{Key, hmac};
 use gb_frame::fault::PacketFault;
@@ -13,7 +13,7 @@ pub const CLUSTER_KEY: Key = [0x11; 32];
 
 const OTHER_KEY: Key = [4; 32];
 
-/// Puts the tag of a text under a key behind it.
+/// Appends the tag of a text under a key.
 fn seal(text: &mut Vec<u8>, key: &Key) -> Result<(), OutOfMemory> {
     let tag = hmac(key, text);
     text.extend_from_slice(&tag[..8])?;
@@ -29,7 +29,7 @@ fn spell(text: &mut Vec<u8>, numbers: &[u64], items: &[u8]) -> Result<(), OutOfM
     seal(text, &CLUSTER_KEY)
 }
 
-/// A packet of the first node to the second, with this base, mask and frame, and these items behind their count.
+/// Returns a packet from the first node to the second, with this base, mask and frame, and these items behind their count.
 pub fn packet(alloc: Global, numbers: &[u64], items: &[u8]) -> Result<PacketText, OutOfMemory> {
     let mut text = Vec::from_slice(alloc, b"GB\x01\0\x01")?;
     spell(&mut text, numbers, items)?;
@@ -46,7 +46,7 @@ fn put_item(text: &mut Vec<u8>, seq: u8, len: u16) -> Result<(), OutOfMemory> {
     Ok(())
 }
 
-/// Returns a packet of version 2 from the first node to the second: frame 1, with three items of 4,096 bytes and one of `last` bytes.
+/// Returns a packet of version 2 from the first node to the second: frame 1, three items of 4,096 bytes and one of `last` bytes.
 pub fn long_packet(alloc: Global, last: u16) -> Result<PacketText, OutOfMemory> {
     let mut items = Vec::from_slice(alloc, b"\0\x04")?;
     for seq in 1..4u8 {
@@ -58,18 +58,18 @@ pub fn long_packet(alloc: Global, last: u16) -> Result<PacketText, OutOfMemory> 
     Ok(PacketText::from(text))
 }
 
-/// A packet of the first node to the second, frame 1 with one item, before its tag; then nine zeros.
+/// A packet from the first node to the second without its tag, frame 1 with one item; then nine zeros.
 const TEXT: &[u8] =
     b"GB\x01\0\x01\0\0\0\0\0\0\0\x01\0\0\0\0\0\0\0\0\0\0\0\0\0\0\0\x01\0\x01\0\x07\0\x01\0\0\x01\0\x01a\0\0\0\0\0\0\0\0\0";
 
-/// What is put behind a text.
+/// What is appended to a text.
 enum Tag {
     Nothing,
-    /// Its tag under a key, in whose last byte these bits are turned.
+    /// Its tag under a key, with these bits of the last byte flipped.
     Under(Key, u8),
 }
 
-/// So many bytes of `TEXT`, one of which is changed, what is put behind them, and how that is answered.
+/// A number of bytes of `TEXT`, the index and the value of the one that is changed, what is appended, and the answer.
 type Faulty = (usize, usize, u8, Tag, PacketFault);
 
 const FAULTY: &[Faulty] = &[
@@ -94,7 +94,7 @@ const FAULTY: &[Faulty] = &[
     (41, 3, 3, Tag::Under(CLUSTER_KEY, 0), PacketFault::Node),
 ];
 
-/// So many bytes of `TEXT`, one of which is changed.
+/// Returns the first `length` bytes of `TEXT` with `byte` at `at`.
 fn changed(alloc: Global, length: usize, at: usize, byte: u8) -> Result<Vec<u8>, OutOfMemory> {
     let mut text = Vec::from_slice(alloc, TEXT)?;
     text.truncate(length);
@@ -104,7 +104,7 @@ fn changed(alloc: Global, length: usize, at: usize, byte: u8) -> Result<Vec<u8>,
     Ok(text)
 }
 
-/// Puts a tag behind a text.
+/// Appends a tag to a text.
 fn end(text: &mut Vec<u8>, tag: &Tag) -> Result<(), OutOfMemory> {
     let Tag::Under(key, turned) = tag else {
         return Ok(());
@@ -116,12 +116,12 @@ fn end(text: &mut Vec<u8>, tag: &Tag) -> Result<(), OutOfMemory> {
     Ok(())
 }
 
-/// Whether the node answers a text by this fault.
+/// Returns true if the node answers a text with this fault.
 fn answers(node: &mut Node, text: &[u8], fault: PacketFault) -> bool {
     node.packet(text) == PacketAnswer::Fault(fault)
 }
 
-/// Whether the node answers the text by its fault.
+/// Returns true if the node answers the text with its fault.
 fn answers_faulty(alloc: Global, node: &mut Node, faulty: &Faulty) -> Result<bool, OutOfMemory> {
     let (length, at, byte, tag, fault) = faulty;
     let mut text = changed(alloc, *length, *at, *byte)?;
@@ -170,7 +170,7 @@ fn put_long(text: &mut Vec<u8>) -> Result<(), OutOfMemory> {
     Ok(())
 }
 
-/// Whether the node answers that a text with eight items of 1,024 bytes each is too long.
+/// Returns true if the node answers that a text with eight items of 1,024 bytes each is too long.
 fn answers_long(alloc: Global, node: &mut Node) -> Result<bool, OutOfMemory> {
     let mut text = changed(alloc, 31, 30, 8)?;
     put_long(&mut text)?;
@@ -178,7 +178,7 @@ fn answers_long(alloc: Global, node: &mut Node) -> Result<bool, OutOfMemory> {
     Ok(answers(node, &text, PacketFault::TooLong))
 }
 
-/// Hands each of the texts to a node, which answers it by its fault.
+/// Hands each of the texts to a node. The node answers it with its fault.
 fn disturb_node(rt: &impl Abort, alloc: Global, node: &mut Node) -> Result<(), OutOfMemory> {
     for length in 0..49 {
         let cut = answers_cut(node, length);
@@ -193,7 +193,7 @@ fn disturb_node(rt: &impl Abort, alloc: Global, node: &mut Node) -> Result<(), O
     Ok(())
 }
 
-/// Hands each of the texts to the second node, which answers it by its fault.
+/// Hands each of the texts to the second node. The node answers it with its fault.
 pub fn disturb(rt: &impl Abort, alloc: Global, nodes: &mut [Node]) -> Result<(), OutOfMemory> {
     match nodes.get_mut(usize::from(SECOND)) {
         Some(node) => disturb_node(rt, alloc, node),

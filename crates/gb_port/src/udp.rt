@@ -15,8 +15,8 @@ use std::net::{Ipv4Addr, Net, SocketAddr, SocketAddrV4, UdpSocket};
 use std::os::fd::{AsRawFd, RawFd};
 use thiserror::Error;
 
-/// Into how many bytes a packet is received: the longest packet and one byte more, so that a longer datagram is cut
-/// and is then too long for a packet.
+/// The bytes of the buffer for a received packet: those of the longest packet and one more. A longer datagram is cut to this
+/// length, and is then too long for a packet.
 pub const SPACE: usize = PACKET + 1;
 
 const _: () = prove!(SPACE == 16_385);
@@ -63,7 +63,7 @@ pub struct UdpPort {
     failures: u64,
 }
 
-// Not derived: what is derived is proved anew in each crate that ends one.
+// Not derived: a derived `Drop` is proved anew in each crate that drops one.
 impl Drop for UdpPort {
     fn drop(self) {
         let UdpPort {
@@ -88,14 +88,14 @@ impl Model for UdpPort {
     ghost invariant = { λ port. vec_len port.space ≡ SPACE };
 }
 
-// A port of the address 127.0.0.1.
+// Returns this port of the address 127.0.0.1.
 fn loopback(port: u16) -> SocketAddr
     ensures { IsLoopback port result }
 {
     SocketAddr::V4(SocketAddrV4::new(Ipv4Addr::new(127, 0, 0, 1), port))
 }
 
-/// The addresses of nodes on this machine: that of node i is port base + i of the address 127.0.0.1.
+/// Returns the addresses of nodes on this machine: that of node i is port base + i of the address 127.0.0.1.
 pub fn loopback_places(alloc: Global, nodes: u8, base: u16) -> Result<Vec<SocketAddr>, OutOfMemory>
     requires nodes { nodes ≤ NODES }
     requires ports { base + NODES ≤ 2 ^ 16 }
@@ -108,7 +108,7 @@ pub fn loopback_places(alloc: Global, nodes: u8, base: u16) -> Result<Vec<Socket
     Ok(places)
 }
 
-// The socket at an address. It does not wait.
+// Returns a socket bound at an address. Its calls do not wait.
 fn bound<R: Net>(rt: &R, address: SocketAddr) -> io::Result<UdpSocket> {
     let socket = UdpSocket::bind(rt, address)?;
     socket.set_nonblocking(true)?;
@@ -116,7 +116,7 @@ fn bound<R: Net>(rt: &R, address: SocketAddr) -> io::Result<UdpSocket> {
 }
 
 impl UdpPort {
-    /// Binds the socket of node `me` at its own address, where these are the addresses of all nodes, by number.
+    /// Binds the socket of node `me` at its own address. `places` are the addresses of all nodes, by number.
     pub fn bind<R: Net>(
         rt: &R,
         alloc: Global,
@@ -157,7 +157,7 @@ impl UdpPort {
 }
 
 impl UdpPort {
-    /// The socket's number at the system, by which it is waited for.
+    /// Returns the file descriptor of the socket, for waiting on it.
     pub fn raw_fd(&self) -> RawFd {
         self.socket.as_raw_fd()
     }
@@ -170,7 +170,7 @@ impl Port for UdpPort {
 
     ghost receives = { λ old _ new. IsSamePort old new };
 
-    /// Hands the packet to the system. False where it has no room. `Device`: the system failed, or there is no such node.
+    /// Hands the packet to the system. Returns false if it has no room. `Device`: the system failed, or there is no such node.
     fn send(&mut self, to: NodeId, bytes: &[u8]) -> Result<bool, PortFault>
         ensures fault { OnErr result (self.new.failures ≡ self.old.failures + 1) }
         ensures well { OnOk result (self.new.failures ≡ self.old.failures) }
@@ -189,7 +189,7 @@ impl Port for UdpPort {
         }
     }
 
-    /// The next datagram that came, of which the first `SPACE` bytes are kept.
+    /// Returns the next datagram that came, cut to `SPACE` bytes. `None` if there is none.
     fn recv(&mut self) -> Result<Option<Vec<u8>>, PortFault>
         ensures fault { OnErr result (self.new.failures ≡ self.old.failures + 1) }
         ensures well { OnOk result (self.new.failures ≡ self.old.failures) }

@@ -13,16 +13,16 @@ use std::alloc::{AllocFailed, Global};
 pub struct Record {
     pub head: RecordHead,
     pub entries: Vec<TapeEntry>,
-    /// The record says that the tape is whole. Otherwise its node may have done more.
+    /// True if the record says that the tape is whole. Otherwise its node may have done more.
     pub is_whole: bool,
-    /// How many bytes stand behind the last line feed: a line whose writing was cut short. It is left out.
+    /// The number of bytes behind the last line feed: a line whose writing was cut short. It is left out.
     pub torn: usize,
 }
 
 /// Why a text is no record.
 #[derive(Clone, Copy, Debug, PartialEq, Eq)]
 pub enum ReadFault {
-    /// The line with this number, from 1, is none that a record has at its place.
+    /// The line with this number, from 1, is not a line that a record may have there.
     BadLine(u64),
     /// A request for memory was refused.
     OutOfMemory,
@@ -40,7 +40,7 @@ impl<T: Drop> From<AllocFailed<T>> for ReadFault {
     }
 }
 
-// Returns the line in front of a text and what stands behind its line feed. Returns None where no line feed is left.
+// Returns the first line of a text and what stands behind its line feed. `None` if the text has no line feed.
 fn cut_line(text: &[u8]) -> Option<(&[u8], &[u8])>
     ensures some { IfSome result (λ cut. text.now ≡ cut.0.now ++ 10 ∷ cut.1.now) }
     ensures none { IfNone result (All (λ byte. byte ≢ 10) text.now) }
@@ -49,7 +49,7 @@ fn cut_line(text: &[u8]) -> Option<(&[u8], &[u8])>
     Some((&text[..end], &text[end + 1..]))
 }
 
-/// Returns the record that a text is. What stands behind the last line feed is left out.
+/// Reads a record. What stands behind the last line feed is left out; `torn` counts its bytes.
 pub fn read_record(alloc: Global, text: &[u8]) -> Result<Record, ReadFault>
     ensures { IfOk result (λ read. IsRecord read text.now) }
 {

@@ -1,4 +1,4 @@
-//! How the line of an entry is read. What was read is written again and compared with the line, so no line is read as another's.
+//! How the line of an entry is read. What was read is written again and compared with the line, so each line is read exactly.
 ghost use Rattle.std.specs.Prelude.{◌≡◌, IfOk, IfSome};
 ghost use Rattle.gb_record_text.specs.RecordText.{entry_line};
 
@@ -431,7 +431,7 @@ fn read_words(alloc: Global, words: &[&[u8]]) -> Result<Option<ReadEntry>, OutOf
     }))
 }
 
-/// Returns the entry whose line this is, without its line feed, and the node that the line names. Returns None where it is no entry's line.
+/// Returns the entry of a line without its line feed, and the node that the line names. `None` if it is not the line of an entry.
 pub fn read_entry(alloc: Global, line: &[u8]) -> Result<Option<ReadEntry>, OutOfMemory>
     ensures { IfOk result (λ found. IfSome found (λ read. entry_line read.node read.entry ≡ line.now)) }
 {

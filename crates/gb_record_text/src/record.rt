@@ -34,7 +34,7 @@ impl From<OutOfMemory> for WriteFault {
     }
 }
 
-// Writes bytes, all of them.
+// Writes all bytes.
 fn write_bytes<W: Write>(writer: &mut W, bytes: &[u8]) -> Result<(), WriteFault>
     ensures { OnOk result (Appends (W.contents writer.old) (W.contents writer.new) bytes.now) }
 {
@@ -63,7 +63,7 @@ fn write_entries<W: Write>(
     Ok(())
 }
 
-/// Writes the record of a whole tape. A line is written as soon as it is there; one line's memory is taken.
+/// Writes the record of a whole tape. Each line is written before the next one is made, so memory is taken for one line only.
 pub fn write_record<W: Write>(
     alloc: Global,
     writer: &mut W,

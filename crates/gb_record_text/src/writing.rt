@@ -1,4 +1,4 @@
-//! How an entry of a tape is written. Without memory a part of it may stand behind what was there.
+//! How an entry of a tape is written. If there is no memory, a part of it may have been appended.
 ghost use Rattle.std.specs.Prelude.{◌≡◌, ◌++◌, [], ◌∷◌, codes, decimal, OnOk, OnErr};
 ghost use Rattle.hex.specs.Hex.{encode_lower};
 ghost use Rattle.gb_types.specs.MembersWord.{members_word};
@@ -93,7 +93,7 @@ fn put_row(out: &mut Vec<u8>, node: NodeId, row: &TenantRow) -> Result<(), OutOf
     put_key(out, &row.key)
 }
 
-/// Appends the numbers of the members from one on, each after a comma.
+/// Appends the numbers of the members from `start` on, each after a comma.
 fn put_commas(out: &mut Vec<u8>, members: &NodeSet, start: usize) -> Result<(), OutOfMemory>
     ensures { OnOk result (out.new.items ≡ out.old.items ++ each_after_comma (rising_from members.now start)) }
 {
@@ -106,7 +106,7 @@ fn put_commas(out: &mut Vec<u8>, members: &NodeSet, start: usize) -> Result<(), 
     Ok(())
 }
 
-/// Appends the numbers of some members, parted by commas; nothing where there are none.
+/// Appends the numbers of some members, separated by commas. Appends nothing if there are none.
 #[tactic(auto, using(crate::proofs::TextLemmas::members_none, crate::proofs::TextLemmas::members_some))]
 fn put_members(out: &mut Vec<u8>, members: &NodeSet) -> Result<(), OutOfMemory>
     ensures { OnOk result (out.new.items ≡ out.old.items ++ members_word members.now) }

@@ -38,7 +38,7 @@ pub record SpellsCluster (command : Command) (words : List (List ℕ)) : Type 0 
 abbrev pub AreRoomWords : List (List ℕ) → ℕ → Type 0
 AreRoomWords words room = ((words ≡ []) × (room ≡ 16345)) ⊎ ((words ≡ decimal room ∷ []) × (1 ≤ room) × (room ≤ 16345))
 
--- `cluster2 N S VERS` or `cluster2 N S VERS ROOM`: each node sends a version of its own
+-- `cluster2 N S VERS` or `cluster2 N S VERS ROOM`: each node sends its own version
 pub record SpellsCluster2 (command : Command) (words : List (List ℕ)) : Type 0 where
   pub start : ClusterStart
   pub versions_word : List ℕ
@@ -87,7 +87,7 @@ pub record SpellsNamed (request : List ℕ → Addr → AnyRequest) (nodes : ℕ
   pub tenant : IsShort address.tenant
   pub group : IsGroup address
 
--- the first three words of a text name a node, a tenant and a group, and these bytes stand behind them
+-- the first three words of a text name a node, a tenant and a group; these bytes stand behind them
 pub record NamesMember (nodes : ℕ) (text : List ℕ) (node : NodeId) (address : Addr) (behind : List ℕ) : Type 0 where
   pub words_are : words_of text ≡ decimal node.number ∷ decimal address.tenant ∷ group_word address ∷ words_of behind
   pub in_cluster : node.number < nodes
@@ -113,7 +113,7 @@ pub record SpellsSay (nodes : ℕ) (command : Command) (words : List (List ℕ))
   pub group : IsGroup address
   pub spells_message : SpellsMessage message message_words
 
--- `fetch A T G FROM MAX`; it comes with the member's token when it is obeyed
+-- `fetch A T G FROM MAX`; the member's token is added when the line is executed
 pub record SpellsFetch (nodes : ℕ) (command : Command) (words : List (List ℕ)) : Type 0 where
   pub node : NodeId
   pub address : Addr
@@ -127,7 +127,7 @@ pub record SpellsFetch (nodes : ℕ) (command : Command) (words : List (List ℕ
   pub from_in : IsLong from
   pub most_in : IsLong most
 
--- `forge A T G`: it is said with no good token
+-- `forge A T G`: a say whose token is not valid
 pub record SpellsForge (nodes : ℕ) (command : Command) (words : List (List ℕ)) : Type 0 where
   pub node : NodeId
   pub address : Addr
@@ -152,7 +152,7 @@ pub record SpellsPack (nodes : ℕ) (command : Command) (words : List (List ℕ)
   pub in_cluster : node.number < nodes
   pub to_in_cluster : to.number < nodes
 
--- `again A B F`; 0 stands for the lowest frame that is not done
+-- `again A B F`; F = 0 stands for the lowest frame that is not done
 pub record SpellsAgain (nodes : ℕ) (command : Command) (words : List (List ℕ)) : Type 0 where
   pub node : NodeId
   pub to : NodeId
@@ -203,8 +203,8 @@ pub record SpellsStop (nodes : ℕ) (command : Command) (words : List (List ℕ)
   pub words_are : words ≡ decimal node.number ∷ []
   pub in_cluster : node.number < nodes
 
--- The table: what the words behind each head spell. The cluster is started first, and once; its number of nodes is
--- known from then on.
+-- The table: what the words behind each head spell. The first command starts the cluster, and no later one does; the number of
+-- nodes is known from then on.
 abbrev pub Spells : Head → Option ℕ → Command → List (List ℕ) → Type 0
 Spells heads.Cluster None command words = SpellsCluster command words
 Spells heads.Cluster (Some nodes) command words = ⊥
@@ -234,7 +234,7 @@ pub record IsCommandLine (nodes : Option ℕ) (line : List ℕ) (command : Comma
   pub line_is : words_of line ≡ head_word head ∷ words
   pub spelt : Spells head nodes command words
 
--- a cluster may be started so: there are no more nodes than the version of each of them can name
+-- a cluster may be started so: the version of each node can name all nodes
 pub record IsStart (start : ClusterStart) : Type 0 where
   pub some : 1 ≤ start.nodes
   pub few : start.nodes ≤ NODES
@@ -242,7 +242,7 @@ pub record IsStart (start : ClusterStart) : Type 0 where
   pub most : start.silence ≤ SILENCE_MAX
   pub named : (a : ℕ) → a < start.nodes → start.nodes ≤ (limits_of (version_at start.versions a)).nodes
 
--- A command in its place: the cluster is started first and once, and later commands name nodes below its number of
+-- A command in its place: the first one starts the cluster; each later one starts none and names nodes below the number of
 -- nodes.
 abbrev pub IsInPlace : Option ℕ → Command → Type 0
 IsInPlace None (Cluster start) = IsStart start
@@ -262,6 +262,6 @@ abbrev pub IsSilent : List ℕ → Type 0
 IsSilent [] = Unit {0}
 IsSilent (byte ∷ bytes) = byte ≡ 35
 
--- no line both asks for nothing and spells a command
+-- a line that asks for nothing spells no command
 abbrev pub SilentLinesSpellNothing : Type 0
 SilentLinesSpellNothing = (nodes : Option ℕ) (line : List ℕ) (command : Command) → IsSilent line → IsCommandLine nodes line command → ⊥

@@ -40,7 +40,7 @@ member_token address node = token_of (tenant_key address.tenant) (Member address
 abbrev pub AreTenantKeys : List (ℕ × List ℕ) → Type 0
 AreTenantKeys entries = All (λ e. e.1 ≡ tenant_key e.0) entries
 
--- the token of a member of a group, whatever node has its number
+-- the token of a member of a group, for any node with the member's number
 abbrev pub IsMemberToken : GroupMember → List ℕ → Type 0
 IsMemberToken member token = (node : NodeId) → node.number ≡ member.node → token ≡ member_token member.address node
 
@@ -48,6 +48,6 @@ IsMemberToken member token = (node : NodeId) → node.number ≡ member.node →
 abbrev pub AreMemberTokens : List (GroupMember × List ℕ) → Type 0
 AreMemberTokens entries = All (λ e. IsMemberToken e.0 e.1) entries
 
--- what stands at a place is a member's token, where something does
+-- each entry that stands at a place is a member's token
 abbrev pub AreRecentTokens : List (Option MemberToken) → Type 0
 AreRecentTokens places = All (λ place. IfSome place (λ found. IsMemberToken found.member found.token)) places

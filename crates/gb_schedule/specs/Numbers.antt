@@ -2,7 +2,7 @@
 use Rattle.std.specs.Prelude.{◌≡◌, ℕ, ◌<◌, ◌≤◌, ◌^◌, List, [], ◌∷◌, length, drop, map, All, Option, Some, None, decimal}
 use Rattle.gb_types.specs.Words.{words_of}
 
--- the word at a place of a text is a number, and this is where the next word stands, if there is one
+-- the word at an index of a text is a number, and this is the index of the next word, if there is one
 abbrev pub IsNumberAt : List ℕ → ℕ → ℕ → Option ℕ → Type 0
 IsNumberAt text from n None = words_of (drop from text) ≡ decimal n ∷ []
 IsNumberAt text from n (Some next) = (next ≤ length text) × (words_of (drop from text) ≡ decimal n ∷ words_of (drop next text))
@@ -15,12 +15,12 @@ BeginsWithNoNumber text = (n : ℕ) (words : List (List ℕ)) → n < 2 ^ 64 →
 abbrev pub AllFit : List ℕ → Type 0
 AllFit ns = All (λ n. n < 2 ^ 64) ns
 
--- there are as many numbers as bounds, and none is larger than its own
+-- there are as many numbers as bounds, and each is at most its bound
 abbrev pub AreAtMost : List ℕ → List ℕ → Type 0
 AreAtMost [] [] = Unit {0}
 AreAtMost (m ∷ most) (n ∷ ns) = (n ≤ m) × AreAtMost most ns
 AreAtMost most ns = ⊥
 
--- the words of a text are these numbers, none larger than its bound
+-- the words of a text are these numbers, each at most its bound
 abbrev pub AreNumbers : List ℕ → List ℕ → List ℕ → Type 0
 AreNumbers most text ns = (words_of text ≡ map decimal ns) × AreAtMost most ns

@@ -6,7 +6,7 @@ use Rattle.gb_types.specs.declared.version.Version.{Version}
 use Rattle.gb_types.specs.declared.version.Version.TheVariants.{One}
 use Rattle.gb_types.specs.Version.{limits_of, version_at}
 
--- the word for some versions: the numbers of their bytes, parted by commas (44)
+-- the word for some versions: the numbers of their bytes, separated by commas (44)
 abbrev pub versions_word : List Version → List ℕ
 versions_word versions = join_with_byte 44 (map (λ version. decimal (limits_of version).byte) versions)
 

@@ -11,30 +11,30 @@ use gb_types::version::Version;
 pub enum Step {
     /// Lets the first node pack the first item that waits for the second.
     Pack(NodeId, NodeId),
-    /// Lets the first node give its frame with this number to the second again, where the frame is
-    /// not done there; 0 stands for the lowest such number.
+    /// Lets the first node send its frame with this number to the second again, if that frame is not
+    /// done; 0 stands for the lowest such number.
     Again(NodeId, NodeId, u64),
-    /// Lets the first node acknowledge to the second the frames that it received of it.
+    /// Lets the first node acknowledge the frames that it received from the second.
     Ack(NodeId, NodeId),
-    /// Lets a packet arrive where it was sent to. Packets are numbered from 1 as they are sent.
+    /// Lets the packet with this number arrive at the node that it was sent to. Packets are numbered from 1 as they are sent.
     Arrive(u64),
     /// Lets time pass at a node.
     Tick(NodeId),
     /// Stops a node for good.
     Stop(NodeId),
-    /// Lets the group's member at a node read its log, from a place on, so many entries at most. It comes with the member's
-    /// token.
+    /// Lets the group's member at a node read its log: the index of the first entry, and the most entries. The member's token is
+    /// added when the line is executed.
     Fetch(NodeId, Addr, u32, u32),
 }
 
 /// How a cluster is started.
 #[derive(Clone, Copy)]
 pub struct ClusterStart {
-    /// How many nodes there are: 1 to 32, and no more than the version of each of them can name.
+    /// The number of nodes: 1 to 32, and at most what the version of each of them can name.
     pub nodes: u8,
-    /// The version of the packet text that each node sends, by its number; One at the places past the last node.
+    /// The version of the packet text that each node sends, by its number; One at the indices past the last node.
     pub versions: [Version; NODES],
-    /// After how many ticks without a good packet a node is noticed: 2 to 1,000.
+    /// The number of ticks without a good packet after which a node is noticed: 2 to 1,000.
     pub silence: u16,
     /// The most bytes of the items of a packet: 1 to 16,345.
     pub room: u16,
@@ -45,9 +45,9 @@ pub struct ClusterStart {
 pub enum Command {
     /// Starts a cluster.
     Cluster(ClusterStart),
-    /// Makes a request at a node, but for a fetch.
+    /// Makes a request other than a fetch at a node.
     Request(NodeId, Request),
-    /// Hands bytes in at a node, which may be anything but a packet of the cluster.
+    /// Hands bytes in at a node. If they are a packet of the cluster for that node, nothing is handed in.
     Noise(NodeId, Payload),
     /// Lets a packet be sent or arrive, time pass, a node stop, or a member fetch.
     Step(Step),

@@ -44,7 +44,7 @@ const LONG: u64 = 4_294_967_295;
 // The bytes that a packet of any version has room for.
 const ROOM: u16 = 16_345;
 
-// A number from the least to the most.
+// Returns the number that a word spells. `None` if it spells none from `least` to `most`.
 fn read_between(word: &[u8], least: u64, most: u64) -> Option<u64>
     ensures { (n : ℕ) → (result ≡ Some n)
         ↔ ((least ≤ n) × (n ≤ most) × (word.now ≡ decimal n)) }
@@ -56,7 +56,7 @@ fn read_between(word: &[u8], least: u64, most: u64) -> Option<u64>
     Some(number)
 }
 
-// A node of a cluster of so many nodes.
+// Returns the node that a word names. `None` if its number is not below `nodes`.
 fn read_node(word: &[u8], nodes: u8) -> Option<NodeId>
     requires { (1 ≤ nodes) × (nodes ≤ NODES) }
     ensures { (node : TheNode) → (result ≡ Some node)
@@ -66,7 +66,7 @@ fn read_node(word: &[u8], nodes: u8) -> Option<NodeId>
     Some(NodeId::new(number as u8))
 }
 
-// After how many ticks without a good packet a node is noticed.
+// Reads the number of ticks without a good packet after which a node is noticed.
 fn read_silence(word: &[u8]) -> Option<u16>
     ensures { (n : ℕ) → (result ≡ Some n)
         ↔ ((SILENCE_MIN ≤ n) × (n ≤ SILENCE_MAX) × (word.now ≡ decimal n)) }
@@ -101,7 +101,7 @@ fn read_cluster(words: &[&[u8]]) -> Option<Command>
     }))
 }
 
-// Reads the most bytes of the items of a packet: 1 to 16,345, and 16,345 where no word names them.
+// Reads the most bytes of the items of a packet: 1 to 16,345. Returns 16,345 if there is no word.
 fn read_room(words: &[&[u8]]) -> Option<u16>
     ensures { (n : ℕ) → (result ≡ Some n) ↔ AreRoomWords (map (λ word. word.now) words.now) n }
 {
@@ -160,7 +160,7 @@ fn read_tenant(keys: &Keys, nodes: u8, words: &[&[u8]]) -> Option<Command>
     Some(Command::Request(node, request))
 }
 
-// A T G: a node of the cluster, and the address of a group.
+// Returns the node and the address of a group that A T G name.
 fn read_group(nodes: u8, node: &[u8], tenant: &[u8], group: &[u8]) -> Option<(NodeId, Addr)>
     requires { (1 ≤ nodes) × (nodes ≤ NODES) }
     ensures { (found : TheNode × TheAddress) → (result ≡ Some found)
@@ -188,7 +188,7 @@ fn read_make(keys: &mut Keys, nodes: u8, words: &[&[u8]]) -> Option<Command>
     Some(Command::Request(node, Request::Make(token, address, spec)))
 }
 
-// What a head asks of a group by its address alone: to open it, to shut it or to drop it.
+// Returns the request that a head makes of a group by its address alone: to open it, to shut it or to drop it.
 fn named_request(head: Head, token: Token, address: Addr) -> Request
     ensures open { head ≡ OpenHead → result ≡ OpenGroup token address }
     ensures shut { head ≡ ShutHead → result ≡ ShutGroup token address }
@@ -219,8 +219,8 @@ fn read_named(keys: &mut Keys, nodes: u8, head: Head, words: &[&[u8]]) -> Option
     Some(Command::Request(node, named_request(head, token, address)))
 }
 
-// Returns the member of a group's first generation that the first three words of a text name, and what stands behind them. Most
-// lines of a schedule name one, and are read so at once.
+// Returns the member of a group's first generation that the first three words of a text name, and what stands behind them. This is
+// the short way for most lines of a schedule.
 #[inline(always)]
 fn first_member(nodes: u8, text: &[u8]) -> Option<(NodeId, Addr, &[u8])>
     requires { (1 ≤ nodes) × (nodes ≤ NODES) }
@@ -241,8 +241,8 @@ fn first_member(nodes: u8, text: &[u8]) -> Option<(NodeId, Addr, &[u8])>
     Some((NodeId::new(node as u8), address, &text[rest..]))
 }
 
-// Returns the member that the first three words of a text name, and what stands behind them. Called, not inlined: few words come
-// here.
+// Returns the member that the first three words of a text name, and what stands behind them. Not inlined, since it is called for
+// few lines.
 #[inline(never)]
 fn any_member(nodes: u8, text: &[u8]) -> Option<(NodeId, Addr, &[u8])>
     requires { (1 ≤ nodes) × (nodes ≤ NODES) }
@@ -270,7 +270,7 @@ fn member_in(nodes: u8, text: &[u8]) -> Option<(NodeId, Addr, &[u8])>
     }
 }
 
-// What a text says: PAYLOAD, or PAYLOAD SEQ.
+// Returns the message that a text spells: PAYLOAD, or PAYLOAD SEQ.
 fn read_message_in(alloc: Global, text: &[u8]) -> Result<Option<NewMessage>, OutOfMemory>
     ensures { IfOk result (λ found. (message : TheMessage) → (found ≡ Some message)
         ↔ SpellsMessage message (words_of text.now)) }
@@ -338,7 +338,7 @@ fn read_noise(alloc: Global, nodes: u8, words: &[&[u8]]) -> Result<Option<Comman
     Ok(Some(Command::Noise(node, bytes)))
 }
 
-// The two nodes that the words of a text name.
+// Returns the two nodes that the words of a text name.
 #[inline(always)]
 fn two_nodes(nodes: u8, text: &[u8]) -> Option<(NodeId, NodeId)>
     requires { (1 ≤ nodes) × (nodes ≤ NODES) }
@@ -416,7 +416,7 @@ fn read_stop(nodes: u8, text: &[u8]) -> Option<Step>
     Some(Step::Stop(NodeId::new(node as u8)))
 }
 
-// fetch A T G FROM MAX, of a group's first generation. Most fetches of a schedule are, and are read so at once.
+// fetch A T G FROM MAX, of a group's first generation. This is the short way for most fetches of a schedule.
 #[inline(always)]
 fn read_first_fetch(nodes: u8, text: &[u8]) -> Option<Step>
     requires { (1 ≤ nodes) × (nodes ≤ NODES) }
@@ -432,7 +432,7 @@ fn read_first_fetch(nodes: u8, text: &[u8]) -> Option<Step>
     Some(Step::Fetch(NodeId::new(node as u8), address, from as u32, most as u32))
 }
 
-// The words of a fetch of any generation.
+// Returns the step that the words of a fetch, of any generation, spell.
 fn read_fetch_words(nodes: u8, words: &[&[u8]]) -> Option<Step>
     requires { (1 ≤ nodes) × (nodes ≤ NODES) }
     ensures { (step : TheStep) → (result ≡ Some step)
@@ -447,7 +447,7 @@ fn read_fetch_words(nodes: u8, words: &[&[u8]]) -> Option<Step>
     Some(Step::Fetch(node, address, from, most))
 }
 
-// fetch A T G FROM MAX, of any generation. Called, not inlined: few lines come here.
+// fetch A T G FROM MAX, of any generation. Not inlined, since it is called for few lines.
 #[inline(never)]
 fn read_any_fetch(nodes: u8, text: &[u8]) -> Option<Step>
     requires { (1 ≤ nodes) × (nodes ≤ NODES) }
@@ -471,7 +471,7 @@ fn read_fetch(nodes: u8, text: &[u8]) -> Option<Step>
     }
 }
 
-// What stands in a line behind these bytes, where it begins with them.
+// Returns what stands in a line behind these bytes. `None` if the line does not begin with them.
 #[inline(always)]
 fn behind<'a>(line: &'a [u8], begin: &[u8]) -> Option<&'a [u8]>
     ensures some { IfSome result (λ text. line.now ≡ begin.now ++ text.now) }
@@ -480,7 +480,7 @@ fn behind<'a>(line: &'a [u8], begin: &[u8]) -> Option<&'a [u8]>
     line.strip_prefix(begin)
 }
 
-// The step that a line which begins with `a` spells in a cluster of so many nodes.
+// Returns the step that a line which begins with `a` spells in a cluster of `nodes` nodes.
 #[inline(always)]
 fn find_step_of_a(nodes: u8, line: &[u8]) -> Option<Step>
     requires few { (1 ≤ nodes) × (nodes ≤ NODES) }
@@ -498,7 +498,7 @@ fn find_step_of_a(nodes: u8, line: &[u8]) -> Option<Step>
     read_again(nodes, behind(line, b"again ")?)
 }
 
-// The step that a line spells in a cluster of so many nodes.
+// Returns the step that a line spells in a cluster of `nodes` nodes.
 fn find_step(nodes: u8, line: &[u8]) -> Option<Step>
     requires { (1 ≤ nodes) × (nodes ≤ NODES) }
     ensures { (step : TheStep) → (result ≡ Some step)
@@ -514,8 +514,8 @@ fn find_step(nodes: u8, line: &[u8]) -> Option<Step>
     }
 }
 
-/// The step that a line spells, or None where it spells none. `nodes` is how many nodes the cluster has, once there is
-/// one.
+/// Returns the step that a line spells. `None` if it spells none. `nodes` is the number of nodes of the cluster; `None` before
+/// a cluster is started.
 pub fn read_step(nodes: Option<u8>, line: &[u8]) -> Option<Step>
     requires { ForSome nodes (λ count. (1 ≤ count) × (count ≤ NODES)) }
     ensures spelt { (step : TheStep) → (result ≡ Some step)
@@ -528,7 +528,8 @@ pub fn read_step(nodes: Option<u8>, line: &[u8]) -> Option<Step>
     }
 }
 
-// What stands behind `say ` in a line that begins with it, and how many nodes the cluster has, once there is one.
+// Returns the number of nodes of the cluster, and what stands behind `say ` in a line. `None` if there is no cluster yet, or if the
+// line does not begin with `say `.
 fn behind_say(nodes: Option<u8>, line: &[u8]) -> Option<(u8, &[u8])>
     ensures some { IfSome result (λ found. (nodes ≡ Some found.0) × (line.now ≡ codes "say " ++ found.1.now)) }
     ensures none { IfNone result (ForSome nodes (λ count. StartsWith line.now (codes "say ") → ⊥)) }
@@ -538,7 +539,7 @@ fn behind_say(nodes: Option<u8>, line: &[u8]) -> Option<(u8, &[u8])>
     Some((nodes, text))
 }
 
-// The command that a head and the words behind it, its arguments, spell, where they spell no step and say nothing.
+// Returns the command that a head and the words behind it, its arguments, spell, if it is neither a step nor a say.
 fn read_arguments(
     alloc: Global,
     keys: &mut Keys,
@@ -577,8 +578,8 @@ fn read_arguments(
     }
 }
 
-/// The command that a line spells which spells no step, or None where it spells none. `nodes` is how many nodes the
-/// cluster has, once there is one. Each request comes with its token, but a forged one.
+/// Returns the command that a line which spells no step spells. `None` if it spells none. `nodes` is the number of nodes of the
+/// cluster; `None` before a cluster is started. Each request but a forged one has its token.
 pub fn read_other_command(
     alloc: Global,
     keys: &mut Keys,
@@ -608,8 +609,8 @@ pub fn read_other_command(
     read_arguments(alloc, keys, nodes, head, arguments)
 }
 
-/// The command that a line spells, or None where it spells none. `nodes` is how many nodes the
-/// cluster has, once there is one. Each request comes with its token, but a forged one.
+/// Returns the command that a line spells. `None` if it spells none. `nodes` is the number of nodes of the cluster; `None`
+/// before a cluster is started. Each request but a forged one has its token.
 pub fn read_command(
     alloc: Global,
     keys: &mut Keys,
@@ -627,14 +628,14 @@ pub fn read_command(
     }
 }
 
-/// Whether a line asks for nothing: it is empty, or a comment, which begins with `#`.
+/// Returns true if a line asks for nothing: it is empty, or it is a comment, which begins with `#`.
 pub fn is_silent(line: &[u8]) -> bool
     ensures { IsTrue result ↔ IsSilent line.now }
 {
     matches!(line, [] | [b'#', ..])
 }
 
-/// A line that asks for nothing spells no command, so it does not matter which is asked first.
+/// A line that asks for nothing spells no command. So the two tests may be made in either order.
 pub fn silent_lines_spell_nothing()
     ensures { SilentLinesSpellNothing }
 {}

@@ -7,7 +7,7 @@ ghost use Rattle.gb_schedule.specs.Head.{head_word};
 #[derive(Clone, Copy)]
 pub enum Head {
     Cluster,
-    /// `cluster2`: a cluster whose nodes send versions of their own.
+    /// `cluster2`: a cluster each of whose nodes sends its own version.
     Cluster2,
     Tenant,
     Make,
@@ -26,7 +26,7 @@ pub enum Head {
     Stop,
 }
 
-/// The word for a head.
+/// Returns the word for a head.
 fn word_of(head: Head) -> &'static [u8]
     ensures { result.now ≡ head_word head }
 {
@@ -51,7 +51,7 @@ fn word_of(head: Head) -> &'static [u8]
     }
 }
 
-/// The only head that a word can name, by its first two letters, or by the first and the last.
+/// Returns the only head that a word can name, by its first two letters, or by its first and its last.
 fn head_like(word: &[u8]) -> Option<Head>
     ensures { (head : Head) → word.now ≡ head_word head → result ≡ Some head }
 {
@@ -77,7 +77,7 @@ fn head_like(word: &[u8]) -> Option<Head>
     }
 }
 
-/// The head that a word names.
+/// Returns the head that a word names. `None` if it names none.
 pub fn read_head(word: &[u8]) -> Option<Head>
     ensures { (head : Head) → (result ≡ Some head) ↔ (word.now ≡ head_word head) }
 {

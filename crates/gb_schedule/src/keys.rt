@@ -1,4 +1,4 @@
-//! The keys of a schedule's cluster, and the tokens that its lines come with.
+//! The keys of a schedule's cluster, and the tokens of its requests.
 ghost use Rattle.std.specs.Prelude.{◌≡◌, IfSome};
 ghost use Rattle.gb_cap.specs.Token.{token_of};
 ghost use Rattle.gb_schedule.specs.Keys.{tenant_key, admin_token, tenant_token, member_token, IsMemberToken, AreRecentTokens};
@@ -18,10 +18,10 @@ pub const CLUSTER_KEY: Key = [0x11; 32];
 /// The key of the administrator's token.
 pub const ADMIN_KEY: Key = [0x22; 32];
 
-/// The token of a forged request: no key was asked for it.
+/// The token of a forged request. It is made without a key.
 pub const NO_TOKEN: Token = [0; 32];
 
-/// The key of a tenant: 30 bytes 0x33 and its number in two bytes.
+/// Returns the key of a tenant: 30 bytes 0x33, then its number in two bytes.
 pub fn tenant_key(tenant: TenantId) -> Key
     ensures { result ≡ tenant_key tenant }
 {
@@ -30,10 +30,10 @@ pub fn tenant_key(tenant: TenantId) -> Key
     key
 }
 
-/// How many members' tokens are kept at most.
+/// The most tokens of members that are kept.
 const KEPT: usize = 16_384;
 
-/// At how many places the tokens of members stand that were named of late.
+/// The number of places for the tokens of members that were named lately.
 const RECENT: usize = 2_048;
 
 /// A member of a group, by the group's address and its node's number.
@@ -43,7 +43,7 @@ pub struct GroupMember {
     node: u8,
 }
 
-/// A token that was made, and the member whose it is.
+/// A token that was made, and the member that it is for.
 #[derive(Clone, Copy)]
 pub struct MemberToken {
     member: GroupMember,
@@ -51,18 +51,18 @@ pub struct MemberToken {
 }
 
 /// Makes the tokens of a schedule's lines. The keys of the administrator and of each tenant that was named are hashed
-/// once, not for each token, and the tokens of the first members that were named are kept. Those of members that were named of
-/// late are found without a hash, each at a place of its member's: of two members with one place the last that was named has it.
-/// Contracts see nothing of it: each token is a function of what it is asked for.
+/// once, not for each token. The tokens of the first `KEPT` members that were named are kept. A token of a member that was named
+/// lately is found without a hash, at the place of its member; if two members share a place, the one that was named last has it.
+/// Contracts do not mention these caches: each token is a function of its arguments.
 pub struct Keys {
     admin: HmacKey,
     tenants: IndexMap<TenantId, HmacKey>,
     members: IndexMap<GroupMember, Token>,
-    /// None where none stands; no places where there was no memory for them.
+    /// `None` at an empty place; no places if there was no memory for them.
     recent: Vec<Option<MemberToken>>,
 }
 
-// Not derived: what is derived is proved anew in each crate that ends one.
+// Not derived: a derived `Drop` is proved anew in each crate that drops one.
 impl Drop for Keys {
     fn drop(self) {
         let Keys {
@@ -85,7 +85,7 @@ impl Model for Keys {
     ghost invariant = { λ k. (k.admin ≡ admin_key) × AreTenantKeys k.tenants.entries × AreMemberTokens k.members.entries × AreRecentTokens k.recent.items };
 }
 
-/// Places at which nothing stands.
+/// Returns `RECENT` empty places, or none if there is no memory for them.
 fn empty_places(alloc: Global) -> Vec<Option<MemberToken>>
     ensures { AreRecentTokens result.items }
 {
@@ -95,14 +95,14 @@ fn empty_places(alloc: Global) -> Vec<Option<MemberToken>>
     }
 }
 
-/// The place of a member's token. The 32 nodes and the first 64 groups of a tenant have places of their own, and so have 4 groups
-/// of 16 tenants.
+/// Returns the place of a member's token. The members of the first 64 groups of a tenant at 32 nodes have different places, and so
+/// have those of 4 groups of 16 tenants.
 fn place_of(tenant: TenantId, group: u16, node: u8) -> usize {
     ((usize::from(tenant) * 4 + usize::from(group)) * NODES + usize::from(node)) % RECENT
 }
 
 impl Keys {
-    /// No tenant was named yet.
+    /// Returns keys for which no tenant was named yet.
     pub fn new(alloc: Global) -> Keys {
         Keys {
             admin: HmacKey::new(&ADMIN_KEY),
@@ -112,21 +112,21 @@ impl Keys {
         }
     }
 
-    /// The administrator's token.
+    /// Returns the administrator's token.
     pub fn admin(&self) -> Token
         ensures { result ≡ admin_token }
     {
         self.admin.token(Need::Admin)
     }
 
-    /// The token of a tenant.
+    /// Returns the token of a tenant.
     pub fn tenant(&mut self, tenant: TenantId) -> Token
         ensures { result ≡ tenant_token tenant }
     {
         self.token(tenant, Need::Tenant(tenant))
     }
 
-    /// The token of a group's member at a node.
+    /// Returns the token of a group's member at a node.
     #[inline(always)]
     pub fn member(&mut self, address: Addr, node: NodeId) -> Token
         ensures { result ≡ member_token address node }
@@ -142,7 +142,7 @@ impl Keys {
         }
     }
 
-    /// The token of a member, where it stands at a place.
+    /// Returns the token of a member. `None` if it does not stand at this place.
     #[inline(always)]
     fn recent_token(&self, member: &GroupMember, place: usize) -> Option<Token>
         ensures { IfSome result (IsMemberToken member.now) }
@@ -153,7 +153,7 @@ impl Keys {
         }
     }
 
-    /// Finds a member's token, or makes it, and puts it at a place. Called, not inlined: most lines find it at its place.
+    /// Finds a member's token, or makes it, and puts it at a place. Not inlined, since most lines find the token at its place.
     #[inline(never)]
     fn find(&mut self, address: Addr, node: NodeId, place: usize) -> Token
         ensures { result ≡ member_token address node }
@@ -184,7 +184,7 @@ impl Keys {
         token
     }
 
-    /// Keeps a member's token, where there are few and memory is there for it.
+    /// Keeps a member's token, if fewer than `KEPT` are kept and there is memory for it.
     fn keep(&mut self, member: GroupMember, token: Token)
         requires { IsMemberToken member token }
     {
@@ -193,7 +193,7 @@ impl Keys {
         }
     }
 
-    /// Puts a member's token at a place, where there is one.
+    /// Puts a member's token at a place, if there is such a place.
     fn put(&mut self, found: MemberToken, place: usize)
         requires { IsMemberToken found.member found.token }
     {
@@ -202,7 +202,7 @@ impl Keys {
         }
     }
 
-    /// The token for a need under the key of a tenant, whose hashed key is kept where memory is there for it.
+    /// Returns the token for a need under the key of a tenant. The hashed key is kept if there is memory for it.
     fn token(&mut self, tenant: TenantId, need: Need) -> Token
         ensures { result ≡ token_of (tenant_key tenant) need }
     {

@@ -1,4 +1,4 @@
-//! Schedules as text: the command that each line of a schedule spells. Nothing is read or run here. Read
+//! Schedules as text: the command that each line of a schedule spells. This crate reads no files and runs no cluster. Read
 //! `command::Command` first, then `grammar::read_command`.
 #![tactic(auto)]
 

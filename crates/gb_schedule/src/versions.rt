@@ -1,4 +1,4 @@
-//! The versions of a cluster's nodes in a word: the numbers of their bytes, parted by commas.
+//! The versions of a cluster's nodes in a word: the numbers of their bytes, separated by commas.
 ghost use Rattle.std.specs.Prelude.{◌≡◌, ◌≤◌, ◌↔◌, List, Some, decimal};
 ghost use Rattle.gb_types.specs.Version.{limits_of};
 ghost use Rattle.gb_types.specs.declared.version.Version.{Version as TheVersion};
@@ -11,7 +11,7 @@ use gb_types::version::Version;
 /// The largest byte.
 const BYTE: u64 = 255;
 
-/// The version for whose byte a word stands.
+/// Returns the version whose byte a word spells. `None` if no version has it.
 fn read_version(word: &[u8]) -> Option<Version>
     ensures { (version : TheVersion) → (result ≡ Some version)
         ↔ (word.now ≡ decimal (limits_of version).byte) }
@@ -20,8 +20,8 @@ fn read_version(word: &[u8]) -> Option<Version>
     Version::from_byte(byte as u8)
 }
 
-/// Reads the versions of the nodes of a cluster, parted by commas. Returns `None` where they are not one for each of `nodes` nodes, or
-/// where one of them cannot name all nodes. The places past the last node have One.
+/// Reads the versions of the nodes of a cluster, separated by commas. Returns `None` if they are not one for each of `nodes`
+/// nodes, or if one of them cannot name all nodes. The indices past the last node have One.
 pub fn read_versions(nodes: u8, word: &[u8]) -> Option<[Version; NODES]>
     requires { (1 ≤ nodes) × (nodes ≤ NODES) }
     ensures { (versions : List TheVersion) → (result ≡ Some versions)

@@ -1,4 +1,4 @@
-//! The words of a line, with no memory taken.
+//! The words of a line, read without allocating memory.
 ghost use Rattle.std.specs.Prelude.{◌≡◌, ◌≤◌, ◌<◌, ◌==◌, ◌∷◌, ◌^◌, ◌↔◌, ℕ, List, [], Some, false, length, slice_index, decimal, map, take, drop, IfSome, IfNone};
 ghost use Rattle.std.specs.List.{position_or_len};
 ghost use Rattle.std.specs.Char.{is_ascii_digit};
@@ -9,12 +9,12 @@ ghost use Rattle.gb_schedule.specs.Numbers.{IsNumberAt, BeginsWithNoNumber, AllF
 use gb_types::number::read_number;
 use memchr::memchr;
 
-/// The most words that a line which spells a command has, its head among them.
+/// The most words of a line that spells a command, its head included.
 pub const WORDS: usize = 9;
 
 const _: () = prove!(WORDS == 9);
 
-/// How many bytes stand before the first space: all, where there is none.
+/// Returns the number of bytes before the first space, or of all bytes if there is no space.
 fn word_len(text: &[u8]) -> usize
     ensures { result ≡ position_or_len (λ byte. byte == 32) text.now }
 {
@@ -24,7 +24,7 @@ fn word_len(text: &[u8]) -> usize
     }
 }
 
-/// The first word of a text, and what stands behind the space after it, where there is one.
+/// Returns the first word of a text, and what stands behind the space after it. `None` if there is no space.
 pub fn cut_word(text: &[u8]) -> (&[u8], Option<&[u8]>)
     ensures more { IfSome result.1 (λ rest. words_of text.now ≡ result.0.now ∷ words_of rest.now) }
     ensures last { IfNone result.1 (words_of text.now ≡ result.0.now ∷ []) }
@@ -36,13 +36,13 @@ pub fn cut_word(text: &[u8]) -> (&[u8], Option<&[u8]>)
     (text, None)
 }
 
-/// Up to so many digits write a number of 64 bits.
+/// A number of at most this many decimal digits has 64 bits.
 const FIT: usize = 19;
 
 const _: () = prove!(FIT == 19);
 
-/// The digits that stand in a text from a place on: the number that they write, where they are so few that it fits, and how many
-/// they are.
+/// Reads the digits that stand in a text from `from` on. Returns the number that they write, which is right if they are at most
+/// `FIT`, and the number of digits.
 #[inline(always)]
 fn digits_at(text: &[u8], from: usize) -> (u64, usize)
     requires { from ≤ length text.now }
@@ -62,7 +62,7 @@ fn digits_at(text: &[u8], from: usize) -> (u64, usize)
     (number, text.len() - from)
 }
 
-/// The number that a word spells. Called, not inlined, since few words come here.
+/// Returns the number that a word spells. Not inlined, since it is called for few words.
 #[inline(never)]
 fn read_word(word: &[u8]) -> Option<u64>
     ensures { (n : ℕ) → (result ≡ Some n) ↔ ((n ≤ 18446744073709551615) × (word.now ≡ decimal n)) }
@@ -70,8 +70,8 @@ fn read_word(word: &[u8]) -> Option<u64>
     read_number(word, u64::MAX)
 }
 
-/// The number that so many digits, which stand in a text from a place on, spell as a word. `number` is what they write, where
-/// they are few.
+/// Returns the number that `digits` digits, which stand in a text from `from` on, spell as a word. `number` is what they write, if
+/// they are at most `FIT`.
 #[inline(always)]
 fn number_of(text: &[u8], from: usize, digits: usize, number: u64) -> Option<u64>
     requires from { from ≤ length text.now }
@@ -91,8 +91,8 @@ fn number_of(text: &[u8], from: usize, digits: usize, number: u64) -> Option<u64
     }
 }
 
-/// The number that a word of one digit writes, which stands in a text from a place on, and where the next word stands, if there is
-/// one. None where no such word is found: most words of a schedule are, and are read so at once.
+/// Returns the number that a word of one digit writes, which stands in a text from `from` on, and the index of the next word, if
+/// there is one. `None` if there is no such word. This is the short way for most words of a schedule.
 #[inline(always)]
 fn one_digit_at(text: &[u8], from: usize) -> Option<(u64, Option<usize>)>
     requires { from ≤ length text.now }
@@ -116,8 +116,8 @@ fn one_digit_at(text: &[u8], from: usize) -> Option<(u64, Option<usize>)>
     Some((number, Some(end + 1)))
 }
 
-/// The number that a word writes, which stands in a text from a place on, and where the next word stands, if there is one. None
-/// where it writes no number of 64 bits.
+/// Returns the number that a word writes, which stands in a text from `from` on, and the index of the next word, if there is one.
+/// `None` if the word writes no number of 64 bits.
 #[inline(always)]
 pub fn number_at(text: &[u8], from: usize) -> Option<(u64, Option<usize>)>
     requires { from ≤ length text.now }
@@ -139,8 +139,8 @@ pub fn number_at(text: &[u8], from: usize) -> Option<(u64, Option<usize>)>
     Some((number, Some(end + 1)))
 }
 
-/// The number that the last word of a text writes, which stands in it from a place on. None where it writes no number of 64 bits,
-/// or where a word stands behind it.
+/// Returns the number that the last word of a text writes, which stands in it from `from` on. `None` if the word writes no number
+/// of 64 bits, or if a word stands behind it.
 #[inline(always)]
 pub fn last_number_at(text: &[u8], from: usize) -> Option<u64>
     requires { from ≤ length text.now }
@@ -154,13 +154,13 @@ pub fn last_number_at(text: &[u8], from: usize) -> Option<u64>
     }
 }
 
-/// The most numbers that are read of a text.
+/// The most numbers that are read from a text.
 const NUMBERS: usize = 5;
 
 const _: () = prove!(NUMBERS == 5);
 
-/// Puts the numbers that the words of a text write into an array, and says how many these are; None where a word writes no number
-/// of 64 bits, or where there are more than fit. Called, not inlined: the readers of all steps share it.
+/// Puts the numbers that the words of a text write into an array. Returns the number of words. `None` if a word writes no number
+/// of 64 bits, or if there are more than `NUMBERS` words. Not inlined, since the readers of all steps share it.
 #[inline(never)]
 fn find_numbers(text: &[u8], numbers: &mut [u64; NUMBERS]) -> Option<usize>
     ensures found { IfSome result (λ count. (count ≤ length numbers.new) × AllFit (take count numbers.new) × (map decimal (take count numbers.new) ≡ words_of text.now)) }
@@ -178,8 +178,8 @@ fn find_numbers(text: &[u8], numbers: &mut [u64; NUMBERS]) -> Option<usize>
     None
 }
 
-/// The numbers that the words of a text write, where these are so many, at most `NUMBERS`, and none is larger than what stands at
-/// its place.
+/// Returns the numbers that the words of a text write. `None` if they are not `N` numbers of 64 bits, or if one is larger than its
+/// bound in `most`. `N` is at most `NUMBERS`.
 #[inline(always)]
 pub fn numbers_in<const N: usize>(text: &[u8], most: [u64; N]) -> Option<[u64; N]>
     requires { N ≤ NUMBERS }
@@ -200,7 +200,7 @@ pub fn numbers_in<const N: usize>(text: &[u8], most: [u64; N]) -> Option<[u64; N
     Some(numbers)
 }
 
-/// Puts the words of a line into an array, and says how many these are; None where the line has more than fit.
+/// Puts the words of a line into an array. Returns the number of words. `None` if the line has more than `WORDS`.
 pub fn words_in<'a>(line: &'a [u8], words: &mut [&'a [u8]; WORDS]) -> Option<usize>
     ensures found { IfSome result (λ count. (count ≤ length words.new) × (map (λ word. word.now) (take count words.new) ≡ words_of line.now)) }
     ensures none { IfNone result (WORDS < length (words_of line.now)) }

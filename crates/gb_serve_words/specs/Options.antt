@@ -1,4 +1,4 @@
--- The options of a command line: the rule of each, as `clap` reads it, and what is read of its entry in the matches.
+-- The options of a command line: the rule of each, as `clap` reads it, and the value of its entry in the matches.
 use Rattle.std.specs.Prelude.{◌≡◌, ◌||◌, ℕ, Bool, true, false, List, Option, None, Some, IfSome, option_map, codes, pos}
 use Rattle.std.specs.Option.{option_map_or}
 use Rattle.std.specs.Net.Grammar.{IsSocketText}
@@ -55,7 +55,7 @@ requests_rule = named_rule (codes "session-requests") 0 MOST_REQUESTS false
 abbrev pub status_rule : Rule
 status_rule = record (text_rule (codes "status")) { value_names = 1 }
 
--- the number that a text spells in decimal digits, with a plus before them or not
+-- the number that a text spells in decimal digits, with or without a plus before them
 abbrev pub spelt : Text → ℕ
 spelt text = digits_value 10 (without_leading_plus text)
 
@@ -63,23 +63,23 @@ spelt text = digits_value 10 (without_leading_plus text)
 abbrev pub given : List Row → Text → Option ℕ
 given rows name = option_map spelt (one_of name rows)
 
--- whether an option without a value was given: its entry is `true` then, and `false` where it was left out
+-- true if an option without a value was given: its entry is `true` then, and `false` if it was left out
 abbrev pub is_set : List Row → Text → Bool
 is_set rows name = option_map_or (λ text. bytes_eq text (codes "true")) (one_of name rows) false
 
--- what an address is of a text that was given for it: the one that the text writes, or none where no text was given
+-- the address is the one that the given text writes, or none if no text was given
 abbrev pub IsAddressOf : Option Text → Option SocketAddr → Type 0
 IsAddressOf None address = address ≡ None
 IsAddressOf (Some text) address = (a : SocketAddr) × (address ≡ Some a) × IsSocketText text a
 
--- no text was given for an address, or one that writes an address
+-- no text was given for an address, or the given text writes an address
 abbrev pub HasAddress : Option Text → Type 0
 HasAddress entry = IfSome entry (λ text. (a : SocketAddr) × IsSocketText text a)
 
--- no text, or one that `clap` made of a number from `least` to `most`
+-- no text, or a text that `clap` made of a number from `least` to `most`
 abbrev pub HasNumber : ℕ → ℕ → Option Text → Type 0
 HasNumber least most entry = IfSome entry (λ text. (word : Text) × (text ≡ without_minus word) × IsSignedIn (pos least) (pos most) word)
 
--- no text, or one of the two of an option without a value
+-- no text, or `true` or `false`, the two texts of an option without a value
 abbrev pub HasFlag : Option Text → Type 0
 HasFlag entry = IfSome entry (λ text. (bytes_eq text (codes "true") || bytes_eq text (codes "false")) ≡ true)

@@ -1,4 +1,4 @@
-//! Options of a command line, and what its words ask for: what gb_serve has in common with other programs.
+//! Options of a command line that gb_serve has in common with other programs, and the texts that its words ask for.
 ghost use Rattle.std.specs.Prelude.{◌≡◌, ◌≢◌, IfSome, IfNone, alloc_error, codes, false};
 ghost use Rattle.clap.specs.Words.{found_of, kind_of, one_of, rows_of, rule_of};
 ghost use Rattle.gb_serve_words.specs.Options.{number_rule, text_rule, flag_rule, sessions_rule, idle_rule, connections_rule, requests_rule, status_rule, HasAddress, IsAddressOf};
@@ -11,7 +11,7 @@ use gb_version::VERSION as PROGRAM;
 use std::alloc::{AllocError, Global};
 use std::net::SocketAddr;
 
-/// The most connections that a node serves in all, where they are limited.
+/// The greatest limit of the connections that a node serves in all.
 pub const MOST_SESSIONS: u32 = 1_000;
 
 /// The most seconds without a byte after which a connection is closed.
@@ -20,10 +20,10 @@ pub const MOST_IDLE: u32 = 60_000;
 /// The most connections that a node serves at once.
 pub const MOST_CONNECTIONS: u32 = 60_000;
 
-/// The most messages that a connection may ask, where they are limited.
+/// The greatest limit of the messages that a connection may ask.
 pub const MOST_REQUESTS: u32 = 4_000_000_000;
 
-/// How many connections a node serves at once where words give no number.
+/// The number of connections that a node serves at once if the words give none.
 pub const CONNECTIONS: u16 = 1_024;
 
 // Definitions cite these values.
@@ -55,7 +55,7 @@ pub fn text_arg<'a>(alloc: Global, name: &'static str) -> Arg<'a>
         .value_parser(ValueParser::String)
 }
 
-/// Returns an option `--name` without a value, which stands among the words or does not.
+/// Returns an option `--name` without a value.
 pub fn flag_arg<'a>(alloc: Global, name: &'static str) -> Arg<'a>
     ensures rule { rule_of result ≡ flag_rule name.entry.now }
     ensures local { result.global ≡ false }
@@ -136,7 +136,7 @@ pub fn quiet_arg<'a>(alloc: Global) -> Arg<'a>
     flag_arg(alloc, "quiet").help("write no log to standard error")
 }
 
-/// Returns the address that is given for the status; `None` where its text is no address.
+/// Returns the address that is given for the status, if one is given. `None` if its text is no address.
 pub fn status_of(matches: &ArgMatches<'_>) -> Option<Option<SocketAddr>>
     ensures read { IfSome result (IsAddressOf (one_of (codes "status") (rows_of (found_of matches.now)))) }
     ensures none { IfNone result (HasAddress (one_of (codes "status") (rows_of (found_of matches.now))) → ⊥) }
@@ -147,7 +147,7 @@ pub fn status_of(matches: &ArgMatches<'_>) -> Option<Option<SocketAddr>>
     }
 }
 
-/// Returns the fault that a parse that failed comes to.
+/// Returns the fault for the error of a parse.
 pub fn fault_from(error: &Error) -> WordFault
     ensures refused { result ≡ WordFault.Refused → kind_of error.now ≢ ErrorKind.OutOfMemory }
     ensures memory { result ≡ WordFault.OutOfMemory → kind_of error.now ≡ ErrorKind.OutOfMemory }
@@ -158,10 +158,10 @@ pub fn fault_from(error: &Error) -> WordFault
     }
 }
 
-/// What a refusal ends with.
+/// The end of the text of a refusal.
 pub static HINT: &str = "\n\nFor more information, try '--help'.\n";
 
-/// Returns why the text that is given for the status is no address; no text where none is given, or one that is an address.
+/// Returns why the text that is given for the status is no address. It is empty if none is given, or if it is an address.
 pub fn status_refusal(alloc: Global, matches: &ArgMatches<'_>) -> Result<String, AllocError> {
     if status_of(matches).is_some() {
         return Ok(String::new(alloc));
@@ -172,8 +172,8 @@ pub fn status_refusal(alloc: Global, matches: &ArgMatches<'_>) -> Result<String,
     )
 }
 
-/// Returns the text that words ask for whose parse failed so: the help, or, where the word behind the program's name is `-V`, the
-/// program's name and version. `None`: they ask for neither.
+/// Returns the text that words ask for whose parse failed with this error: the help, or, if the word behind the program's name is
+/// `-V`, the program's name and version. `None` if they ask for neither.
 pub fn text_asked(
     alloc: Global,
     error: &Error,
@@ -189,7 +189,7 @@ pub fn text_asked(
     }
 }
 
-// The version, where the word behind the program's name asks for it.
+// Returns the program's name and version if the word behind the program's name is `-V`.
 fn version_text(
     alloc: Global,
     words: &[&str],

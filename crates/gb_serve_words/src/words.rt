@@ -14,13 +14,13 @@ use gb_types::limits::NODES;
 use gb_types::version::Version;
 use std::alloc::{AllocError, Global};
 
-/// The silence of a cluster whose words give none.
+/// The silence of a cluster in ticks, if the words give none.
 pub const SILENCE: u16 = 50;
 
-/// The byte of the version of packets where words give none.
+/// The byte of the version of packets if the words give none.
 pub const VERSION: u8 = 1;
 
-/// The milliseconds between two ticks where words give none.
+/// The milliseconds between two ticks if the words give none.
 pub const TICK: u16 = 64;
 
 // Definitions cite these values.
@@ -28,11 +28,11 @@ const _: () = prove!(SILENCE == 50 && VERSION == 1);
 
 const _: () = prove!(TICK == 64);
 
-// The command line.
+// Returns the command, as `clap` reads it.
 fn command<'a>(alloc: Global) -> Result<Command<'a>, AllocError>
     ensures { IfOk result (λ made. app_of made ≡ serve_app) }
 {
-    // Each option is added as soon as it is made, so that none waits where adding another fails.
+    // Each option is added as soon as it is made, so none is left over if adding another one fails.
     let bare = Command::new(alloc, "gb_serve")
         .about("Serves groups that broadcast messages among their members")
         .after_help(AFTER);
@@ -75,7 +75,7 @@ fn command<'a>(alloc: Global) -> Result<Command<'a>, AllocError>
     with_status.arg(quiet_arg(alloc))
 }
 
-/// What the help says behind the options.
+/// The text of the help behind the options.
 static AFTER: &str =
     "Standard input gives two lines of 64 hexadecimal digits each: the cluster's key and the administrator's key. A line `stop` behind them \
 ends the server in order, as gb_ctl's shutdown does.\n\n\
@@ -86,8 +86,8 @@ Example:\n\n\
 Exit status: 0 when all connections were served, or the server was ended in order, and, with --tape, its tapes were merged; 1 for a fault, 2 for \
 words that are refused.";
 
-// Returns the plan of words that `clap` took; `None` where their version does not exist or cannot name their number of nodes, or their
-// address for the status is none.
+// Returns the plan of words that `clap` took. `None` if their version does not exist or cannot name their number of nodes, or if
+// their text for the status is no address.
 fn plan_of(matches: &ArgMatches<'_>) -> Option<ServePlan>
     requires { IsGiven (rows_of (found_of matches.now)) }
     ensures read { IfSome result (IsPlanOf (rows_of (found_of matches.now))) }
@@ -128,8 +128,8 @@ fn plan_of(matches: &ArgMatches<'_>) -> Option<ServePlan>
     })
 }
 
-/// Returns what the words of a command line tell a server to do; the first word is the program's name. Refused: `clap` refuses
-/// the words, their version does not exist or cannot name their number of nodes, or their address for the status is none.
+/// Returns what the words of a command line tell a server to do. The first word is the program's name. `Refused`: `clap` refuses
+/// the words, their version does not exist or cannot name their number of nodes, or their text for the status is no address.
 pub fn read_words<'a>(alloc: Global, words: &'a [&'a str]) -> Result<ServePlan, WordFault>
     ensures given { IfOk result (λ plan. IsPlanOf (matches_of serve_app (map (λ word. word.now) words.entry.now)) plan) }
     ensures within { IfOk result (λ plan. IsWithin plan) }
@@ -149,7 +149,7 @@ pub fn read_words<'a>(alloc: Global, words: &'a [&'a str]) -> Result<ServePlan, 
     }
 }
 
-// Why words that `clap` took are no plan; nothing of words that are one.
+// Returns why words that `clap` took are no plan. It is empty if they are one.
 fn plan_refusal(alloc: Global, matches: &ArgMatches<'_>) -> Result<String, AllocError> {
     let nodes = matches.get_one::<u8>("nodes").unwrap_or(0);
     let byte = matches.get_one::<u8>("packet-version").unwrap_or(VERSION);
@@ -167,7 +167,7 @@ fn plan_refusal(alloc: Global, matches: &ArgMatches<'_>) -> Result<String, Alloc
     status_refusal(alloc, matches)
 }
 
-/// Why words are refused; nothing of words that are a plan.
+/// Returns why words are refused. It is empty if they are a plan.
 pub fn refusal_text(alloc: Global, words: &[&str]) -> Result<String, AllocError> {
     match command(alloc)?.try_get_matches_from(words) {
         Ok(matches) => plan_refusal(alloc, &matches),
@@ -175,7 +175,8 @@ pub fn refusal_text(alloc: Global, words: &[&str]) -> Result<String, AllocError>
     }
 }
 
-/// The text that words ask for: the help, or, where the word behind the program's name is `-V`, its version. None: they ask for neither.
+/// Returns the text that words ask for: the help, or, if the word behind the program's name is `-V`, its name and version.
+/// `None` if they ask for neither.
 pub fn asked_text(alloc: Global, words: &[&str]) -> Result<Option<String>, AllocError>
     ensures taken { takes serve_app (map (λ word. word.now) words.entry.now) ≡ true → IfOk result (λ text. text ≡ None) }
 {

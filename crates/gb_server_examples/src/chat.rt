@@ -17,21 +17,21 @@ use std::net::{Net, TcpStream};
 use std::thread;
 use std::time::{Clock, Duration};
 
-// What the members know: the administrator's key, which the server reads in its second line, and the tenant's.
+// The keys that the members know: the administrator's key, which the server reads in its second line, and the tenant's key.
 const SECRETS: Secrets = Secrets {
     admin: Some([0x22; 32]),
     tenant: Some([0x33; 32]),
     token: None,
 };
 
-// What is asked at each node before anything is said, and its replies.
+// The requests at each node before the first message, and their replies.
 static PREPARATIONS: [(Head, &str, &str); 3] = [
     (Head::Tenant, "7 4 100 4096 100", "ok"),
     (Head::Make, "7 1 fallack 0,1,2 100 4096 100", "ok"),
     (Head::Open, "7 1", "ok"),
 ];
 
-// What each member says, and what is asked at its node at the end.
+// Each member's message, and the requests at its node at the end.
 static SAYS: [[(Head, &str, &str); 1]; 3] = [
     [(Head::Say, "7 1 hello", "said 1")],
     [(Head::Say, "7 1 hi", "said 1")],
@@ -53,7 +53,7 @@ pub struct Member {
     stream: TcpStream,
 }
 
-/// A member of a server with this base port.
+/// Returns a member of a server with this base port.
 pub fn joined<H: Net<Stream = TcpStream> + Clock>(
     rt: &H,
     base_port: u16,
@@ -70,7 +70,7 @@ pub fn joined<H: Net<Stream = TcpStream> + Clock>(
     Ok(Member { node, stream })
 }
 
-// The request that is asked at a node by these words, which are those that gb_ctl takes.
+// Returns the body of a request at a node. The words are those of gb_ctl.
 fn body_of(alloc: Global, node: NodeId, head: Head, line: &str) -> Result<Vec<u8>, ClientFault>
     ensures { IfOk result (λ body. vec_len body ≤ BODY) }
 {
@@ -82,7 +82,7 @@ fn body_of(alloc: Global, node: NodeId, head: Head, line: &str) -> Result<Vec<u8
     request_of(alloc, &SECRETS, node, &asked)
 }
 
-/// The reply of a member's node to a request, whose words are those that gb_ctl takes.
+/// Returns the reply of a member's node to a request. The words are those of gb_ctl.
 pub fn reply(
     alloc: Global,
     member: &mut Member,
@@ -94,7 +94,7 @@ pub fn reply(
     receive(alloc, &mut member.stream)
 }
 
-/// Whether a member's node gives these replies.
+/// Returns true if a member's node sends these replies.
 pub fn gives(
     alloc: Global,
     member: &mut Member,
@@ -109,13 +109,13 @@ pub fn gives(
     Ok(true)
 }
 
-// Whether some text is that of a log with all three entries, in whatever order, and no other.
+// Returns true if a text is that of a log with exactly the three entries, in any order.
 fn has_all(alloc: Global, log: &[u8]) -> Result<bool, ClientFault> {
     let words = split_words(alloc, log)?;
     Ok(are_all(words.as_slice()))
 }
 
-// Whether words are those of such a log.
+// Returns true if the words are those of such a log.
 fn are_all(words: &[&[u8]]) -> bool {
     if words.len() != 5 || words[0] != b"log".as_slice() || words[1] != b"3".as_slice() {
         return false;
@@ -128,7 +128,7 @@ fn are_all(words: &[&[u8]]) -> bool {
     true
 }
 
-// Whether a member's log comes to have all that was said; ten seconds are waited for that.
+// Returns true if a member's log has all messages within ten seconds.
 fn hears_all<H: Clock>(rt: &H, alloc: Global, member: &mut Member) -> Result<bool, ClientFault> {
     for _ in 0..1_000 {
         let log = reply(alloc, member, Head::Fetch, "7 1 0 16")?;
@@ -140,7 +140,7 @@ fn hears_all<H: Clock>(rt: &H, alloc: Global, member: &mut Member) -> Result<boo
     Ok(false)
 }
 
-// The three members of a server with this base port.
+// Returns the three members of a server with this base port.
 fn all_joined<H: Net<Stream = TcpStream> + Clock>(
     rt: &H,
     alloc: Global,
@@ -153,7 +153,7 @@ fn all_joined<H: Net<Stream = TcpStream> + Clock>(
     Ok(members)
 }
 
-// Each member makes its group. Whether each reply was right.
+// Lets each member make its group. Returns true if each reply was right.
 fn all_prepare(alloc: Global, members: &mut [Member]) -> Result<bool, ClientFault> {
     let mut is_right = true;
     for member in members {
@@ -162,7 +162,7 @@ fn all_prepare(alloc: Global, members: &mut [Member]) -> Result<bool, ClientFaul
     Ok(is_right)
 }
 
-// Each member says something. Whether each reply was right.
+// Lets each member say its message. Returns true if each reply was right.
 fn all_say(alloc: Global, members: &mut [Member]) -> Result<bool, ClientFault> {
     let mut is_right = true;
     for (member, say) in members.iter_mut().zip(&SAYS) {
@@ -171,7 +171,7 @@ fn all_say(alloc: Global, members: &mut [Member]) -> Result<bool, ClientFault> {
     Ok(is_right)
 }
 
-// Each member reads what all said, and ends its group. Whether each reply was right.
+// Lets each member read all messages, and end its group. Returns true if each reply was right.
 fn all_hear<H: Clock>(rt: &H, alloc: Global, members: &mut [Member]) -> Result<bool, ClientFault> {
     let mut is_right = true;
     for member in members {
@@ -181,7 +181,7 @@ fn all_hear<H: Clock>(rt: &H, alloc: Global, members: &mut [Member]) -> Result<b
     Ok(is_right)
 }
 
-// What the members do. Whether each reply was right.
+// Lets the members talk. Returns true if each reply was right.
 fn talk<H: Clock>(rt: &H, alloc: Global, members: &mut [Member]) -> Result<bool, ClientFault> {
     let is_prepared = all_prepare(alloc, members)?;
     let is_said = all_say(alloc, members)?;
@@ -189,7 +189,7 @@ fn talk<H: Clock>(rt: &H, alloc: Global, members: &mut [Member]) -> Result<bool,
     Ok(is_prepared && is_said && is_heard)
 }
 
-// What three members do. Whether each reply was right.
+// Connects three members and lets them talk. Returns true if each reply was right.
 fn chat<H: Net<Stream = TcpStream> + Clock>(rt: &H, alloc: Global, base_port: u16) -> bool {
     let Ok(mut members) = all_joined(rt, alloc, base_port) else {
         return false;

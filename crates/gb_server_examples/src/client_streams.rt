@@ -6,10 +6,10 @@ use std::sync::atomic::{AtomicU64, Ordering};
 use std::time::{Clock, Duration};
 use std::{io, thread};
 
-/// How many milliseconds a gate is held at most.
+/// The most milliseconds that a gate is held.
 const PATIENCE: u64 = 10_000;
 
-/// A reader that returns this number of requests, one in each read. One of the reads fails, counted from 1; 0: none.
+/// A reader that returns this number of requests, one in each read. The read with a number, from 1, fails; 0: none fails.
 #[derive(Drop)]
 pub struct Asking {
     requests: u64,
@@ -41,7 +41,7 @@ impl Read for Asking {
     }
 }
 
-/// Counts the replies that say Denied. One of the writes fails, counted from 1; 0: none.
+/// Counts the replies that say Denied. The write with a number, from 1, fails; 0: none fails.
 #[derive(Drop)]
 pub struct Told<'a> {
     denied: &'a AtomicU64,
@@ -76,7 +76,7 @@ impl Write for Told<'_> {
     }
 }
 
-/// A gate that is held, if it is, until another client was told something; false where that takes too long.
+/// A gate that may be held until another client was told something. It answers false if that takes too long.
 #[derive(Drop)]
 pub struct Held<'a, R> {
     pub rt: &'a R,

@@ -5,7 +5,8 @@ use std::alloc::Global;
 use std::io::{ErrorKind, Read};
 use std::{cmp, io};
 
-/// A reader that returns bytes by pieces of at most this size. Each other read is interrupted, and one at the end fails where `fails` is set.
+/// A reader that returns bytes in pieces of at most this size. Every second read is interrupted. If `fails`, a read at the end
+/// fails.
 #[derive(Drop)]
 struct Pieces<'a> {
     bytes: &'a [u8],
@@ -31,11 +32,11 @@ impl Read for Pieces<'_> {
     }
 }
 
-// Two keys in digits of both cases, and what is read behind them by somebody else.
+// Two keys in digits of both cases, and bytes behind them that the reader of the keys leaves.
 static TEXT: &[u8] =
     b"1111111111111111111111111111111111111111111111111111111111111111\nabABcdCD22222222222222222222222222222222222222222222222222222222\nrest";
 
-// Whether the keys are those of the text.
+// Returns true if the keys are those of the text.
 fn are_right(keys: Result<Keys, KeyFault>) -> bool {
     let Ok(keys) = keys else {
         return false;
@@ -48,7 +49,7 @@ fn are_right(keys: Result<Keys, KeyFault>) -> bool {
     keys.cluster == [0x11; 32] && keys.admin == admin
 }
 
-// The keys of the first bytes of the text, in pieces.
+// Returns true if the keys are read from the first bytes of the text, in pieces.
 fn keys_of(len: usize, piece: usize, fails: bool) -> bool {
     let mut reader = Pieces {
         bytes: TEXT.get(..len).unwrap_or(TEXT),
@@ -59,13 +60,13 @@ fn keys_of(len: usize, piece: usize, fails: bool) -> bool {
     are_right(read_keys(&mut reader))
 }
 
-// How many bytes of the text are read, in pieces of how many, whether the reader fails at their end, and whether they are keys.
+// The number of bytes of the text, the size of the pieces, true if the reader fails at their end, and true if they are keys.
 static READ: [(usize, usize, bool, bool); 8] = [
-    // Two whole lines, and what is behind them: no read is made at which the reader would fail.
+    // Two whole lines and bytes behind them: no read is made at the end, where the reader would fail.
     (134, 1, true, true),
     (134, 7, true, true),
     (130, 200, true, true),
-    // The second line may lack its line feed, but then the end of the input shows that it is whole.
+    // The second line may lack its line feed. Then the end of the input shows that it is whole.
     (129, 64, false, true),
     (129, 64, true, false),
     (128, 64, false, false),
@@ -83,7 +84,7 @@ fn keys_come_in_pieces(rt: HostRuntime) {
     }
 }
 
-// A digit that is none, a line that is too long, a carriage return in the place of the line feed: at which place stands which byte.
+// An index and the byte that stands there: no digit, a line that is too long, a carriage return in place of the line feed.
 static WRONG: [(usize, u8); 7] = [
     (0, b'g'),
     (63, b' '),
@@ -94,7 +95,7 @@ static WRONG: [(usize, u8); 7] = [
     (129, b'2'),
 ];
 
-// Whether the two lines are no keys once a byte of theirs is another.
+// Returns true if the two lines are refused with one byte changed.
 fn is_refused(alloc: Global, place: usize, byte: u8) -> bool {
     let Ok(mut text) = Vec::from_slice(alloc, &TEXT[..130]) else {
         return false;
@@ -112,7 +113,7 @@ fn other_texts_are_no_keys(rt: HostRuntime) {
     }
 }
 
-// Lines may end with a carriage return and a line feed, and nothing behind the second line is read.
+// Lines may end with a carriage return and a line feed. The bytes behind the second line are not read.
 static LINES: [(&[u8], &[u8]); 2] = [
     (
         b"1111111111111111111111111111111111111111111111111111111111111111\r\nabABcdCD22222222222222222222222222222222222222222222222222222222\r\nrest",
@@ -146,7 +147,7 @@ fn other_returns_are_characters(rt: HostRuntime) {
     }
 }
 
-// Runs, and their keys where the cluster's key is 32 bytes 11.
+// Numbers of runs, and their keys if the cluster's key is 32 bytes 11.
 static RUNS: [(u64, &[u8]); 3] = [
     (
         1,

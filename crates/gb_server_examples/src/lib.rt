@@ -1,5 +1,5 @@
 //! Worked uses of the server, as tests: its keys, sessions of workers, and whole servers with clients on
-//! sockets of this machine. There is nothing here but tests.
+//! sockets of this machine. This crate has tests only.
 #![tactic(auto)]
 
 #[cfg(test)]

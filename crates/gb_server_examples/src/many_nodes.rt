@@ -1,4 +1,4 @@
-// A server of as many nodes as there may be: each is asked, and what is said at the last is heard at the first.
+// A server with the most nodes that are allowed: each is asked, and a message of the last node reaches the first.
 use crate::chat::{Member, gives, joined, reply};
 use crate::messages::{DENIED, OPEN};
 use crate::served::{KEYS, is_told, prints};
@@ -23,7 +23,7 @@ static WORDS: [&str; 9] = [
     "1",
 ];
 
-// What is asked at the first and at the last node before anything is said, and its replies.
+// The requests at the first and at the last node before the first message, and their replies.
 static PREPARATIONS: [(Head, &str, &str); 3] = [
     (Head::Tenant, "7 2 1 5 1", "ok"),
     (Head::Make, "7 1 beb 0,31 1 5 1", "ok"),
@@ -34,7 +34,7 @@ static SAY: [(Head, &str, &str); 1] = [(Head::Say, "7 1 hello", "said 1")];
 
 static HEARD: &[u8] = b"log 1 31:1:68656c6c6f";
 
-// Whether a member's log comes to have what was said; ten seconds are waited for that.
+// Returns true if a member's log has the message within ten seconds.
 fn hears<H: Clock>(rt: &H, alloc: Global, member: &mut Member) -> Result<bool, ClientFault> {
     for _ in 0..1_000 {
         let log = reply(alloc, member, Head::Fetch, "7 1 0 16")?;
@@ -46,7 +46,7 @@ fn hears<H: Clock>(rt: &H, alloc: Global, member: &mut Member) -> Result<bool, C
     Ok(false)
 }
 
-// Whether what a member of the last node says is heard by one of the first, each reply being right.
+// Returns true if the message of a member at the last node reaches a member at the first, and each reply was right.
 fn is_heard<H: Net<Stream = TcpStream> + Clock>(
     rt: &H,
     alloc: Global,
@@ -59,7 +59,7 @@ fn is_heard<H: Net<Stream = TcpStream> + Clock>(
     Ok(is_first_ready && is_last_ready && is_said && hears(rt, alloc, &mut first)?)
 }
 
-// Asks each node between these once, one after the other. How many answered.
+// Asks each node between these once, one after the other. Returns the number of nodes that answered.
 fn ask_others<H: Net<Stream = TcpStream> + Clock>(rt: &H, alloc: Global) -> u16 {
     let mut count: u16 = 0;
     for node in 1..31 {

@@ -1,8 +1,8 @@
 //! Messages of a session, each with its length before it.
 
-/// A request of a group of a tenant that is not there, whose token no node gave out.
+/// A request for a group of a tenant that is not there, with a token that is not valid.
 pub static OPEN: &[u8] =
     b"\x00\x00\x00\x49open 0000000000000000000000000000000000000000000000000000000000000000 7 1";
 
-/// How a running node answers it.
+/// A running node's reply to it.
 pub static DENIED: &[u8] = b"\x00\x00\x00\x10refused 1 Denied";

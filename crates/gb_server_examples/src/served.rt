@@ -1,4 +1,4 @@
-// Whole servers: what they print, and what their clients are told.
+// Whole servers: what they print, and the replies to their clients.
 use crate::messages::{DENIED, OPEN};
 use crate::socket_clients::{MALFORMED, address, leaves, told};
 use gb_server::serve_main::serve_main;
@@ -25,7 +25,7 @@ pub struct Run {
     pub errors: Vec<u8>,
 }
 
-/// How a server with these words and this standard input ends.
+/// Returns how a server with these words and this standard input ends.
 pub fn run_of<H: Net<Listener = TcpListener, Stream = TcpStream> + Threads + Wait + Clock + Sync>(
     rt: &H,
     alloc: Global,
@@ -51,7 +51,7 @@ pub fn run_of<H: Net<Listener = TcpListener, Stream = TcpStream> + Threads + Wai
     }
 }
 
-/// Whether a server with these words and keys ends with this status and prints these lines.
+/// Returns true if a server with these words and keys ends with this status and prints these lines.
 pub fn prints<H: Net<Listener = TcpListener, Stream = TcpStream> + Threads + Wait + Clock + Sync>(
     rt: &H,
     alloc: Global,
@@ -64,7 +64,7 @@ pub fn prints<H: Net<Listener = TcpListener, Stream = TcpStream> + Threads + Wai
     run.status == status && run.lines.as_slice() == lines
 }
 
-/// Whether a client that sends these bytes to a port is told those.
+/// Returns true if a client that sends the first bytes to a port gets the others in reply.
 pub fn is_told<H: Net<Stream = TcpStream> + Clock>(
     rt: &H,
     alloc: Global,
@@ -106,7 +106,7 @@ fn faults_are_told(rt: HostRuntime) {
     assert!(rt; is_refused && are_too_many);
 }
 
-// What standard input gives, and what is told of it: the line on standard output is the same.
+// Bytes of standard input, and what is told of them. The line on standard output is the same.
 static BAD_KEYS: [(&[u8], &[u8]); 6] = [
     (
         b"",
@@ -176,7 +176,7 @@ fn two_nodes_are_served(rt: HostRuntime) {
     assert!(rt; is_served && first && second);
 }
 
-// Returns how many events were merged, by a server's lines: this one, and the one that tells the number.
+// Returns the number of merged events that a server's lines tell: `first`, and then the line with the number.
 fn merged(lines: &[u8], first: &[u8]) -> Option<u64> {
     let rest = lines.strip_prefix(first)?;
     let count = rest.strip_prefix(b"merged ".as_slice())?;
@@ -194,7 +194,7 @@ static WITH_TAPES: [&str; 8] = [
     "1",
 ];
 
-// Whether a server with tapes ends well, and merged more events than two.
+// Returns true if a server with tapes ends well, and merged more than two events.
 fn merges<H: Net<Listener = TcpListener, Stream = TcpStream> + Threads + Wait + Clock + Sync>(
     rt: &H,
     alloc: Global,
@@ -204,7 +204,7 @@ fn merges<H: Net<Listener = TcpListener, Stream = TcpStream> + Threads + Wait + 
     run.status == 0 && count.unwrap_or(0) > 2
 }
 
-// With tapes a server merges them at its end: at least the client's request, and what the pumps of both nodes did, is an event.
+// A server with tapes merges them at its end. The client's request and what the pumps of both nodes did are among the events.
 #[test]
 fn what_was_done_is_merged(rt: HostRuntime) {
     let alloc = rt.alloc();
@@ -220,8 +220,8 @@ fn what_was_done_is_merged(rt: HostRuntime) {
     assert!(rt; are_merged && first && second);
 }
 
-// What clients of one node are told, one after the other: one that sends no request, one that sends half a message, two that go
-// away, one that sends a message that is no request, and one that is right. Whether each was told what it is to be told.
+// Returns true if each of these clients of one node, one after the other, gets the right reply: one that sends no request, one that
+// sends half a message, two that go away, one that sends a message that is no request, and a good one.
 fn bad_clients<H: Net<Stream = TcpStream> + Clock>(rt: &H, alloc: Global, port: u16) -> bool {
     let garbage = is_told(rt, alloc, port, b"GET / HTTP/1.1\r\n\r\n", MALFORMED);
     let half = is_told(rt, alloc, port, &OPEN[..40], b"");
@@ -242,7 +242,7 @@ static ONE_NODE: [&str; 7] = [
     "6",
 ];
 
-// A client that is no good ends its own session alone, and the next is served.
+// A bad client ends only its own session, and the next client is served.
 #[test]
 fn bad_clients_end_their_own_sessions(rt: HostRuntime) {
     let alloc = rt.alloc();
@@ -271,7 +271,7 @@ static BOUND: [&str; 7] = [
     "1",
 ];
 
-/// Whether a node's two ports can be bound.
+/// Returns true if a node's two ports can be bound.
 pub fn is_free<H: Net<Listener = TcpListener, Stream = TcpStream>>(
     rt: &H,
     packets: u16,
@@ -282,13 +282,13 @@ pub fn is_free<H: Net<Listener = TcpListener, Stream = TcpStream>>(
     is_udp && is_tcp
 }
 
-// Whether a server told that a port could not be bound, and which.
+// Returns true if a server told which port could not be bound.
 fn is_told_of(run: &Run, errors: &[u8]) -> bool {
     let is_fault = run.status == 1 && run.lines.as_slice() == b"host fault 3\n".as_slice();
     is_fault && run.errors.as_slice() == errors
 }
 
-// A port that is bound already is told. Then no socket is left: all ports can be bound.
+// The server tells which port is bound already. It leaves no socket: all ports can be bound then.
 #[test]
 fn bound_ports_are_told(rt: HostRuntime) {
     let holder = UdpSocket::bind(&rt, address(28_451)).expect(&rt, "a socket");

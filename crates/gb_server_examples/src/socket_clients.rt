@@ -1,19 +1,19 @@
-// What clients of a server do over sockets, as clients that are right and as ones that are not.
+// What good and bad clients of a server do over sockets.
 use std::alloc::Global;
 use std::io::{Read, Write};
 use std::net::{Ipv4Addr, Net, Shutdown, SocketAddr, SocketAddrV4, TcpStream};
 use std::thread;
 use std::time::{Clock, Duration};
 
-/// The reply to what is no request.
+/// The reply to a message that is no request.
 pub static MALFORMED: &[u8] = b"\x00\x00\x00\x14refused 14 Malformed";
 
-/// A port of this machine.
+/// Returns the address of a port of this machine.
 pub fn address(port: u16) -> SocketAddr {
     SocketAddr::V4(SocketAddrV4::new(Ipv4Addr::LOCALHOST, port))
 }
 
-/// A connection to a port of this machine, as soon as somebody listens there; ten seconds are waited for that.
+/// Returns a connection to a port of this machine, as soon as a server listens there. `None` if none does within ten seconds.
 pub fn connect<H: Net<Stream = TcpStream> + Clock>(rt: &H, port: u16) -> Option<TcpStream> {
     for _ in 0..1_000 {
         if let Ok(stream) = TcpStream::connect(rt, address(port)) {
@@ -24,7 +24,8 @@ pub fn connect<H: Net<Stream = TcpStream> + Clock>(rt: &H, port: u16) -> Option<
     None
 }
 
-/// What a server writes to a client that sends these bytes, sends no more, and reads to the end. None where it could not connect or read.
+/// Returns what a server writes to a client that sends these bytes, sends no more, and reads to the end. `None` if it could not
+/// connect or read.
 pub fn told<H: Net<Stream = TcpStream> + Clock>(
     rt: &H,
     alloc: Global,
@@ -40,7 +41,7 @@ pub fn told<H: Net<Stream = TcpStream> + Clock>(
     Some(text)
 }
 
-/// Sends these bytes and goes away at once. Whether it could connect.
+/// Sends these bytes and closes the connection at once. Returns true if it could connect.
 pub fn leaves<H: Net<Stream = TcpStream> + Clock>(rt: &H, port: u16, bytes: &[u8]) -> bool {
     let Some(mut stream) = connect(rt, port) else {
         return false;

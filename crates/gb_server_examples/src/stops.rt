@@ -13,7 +13,7 @@ use std::thread::Threads;
 use std::time::{Clock, Duration};
 use std::{io, thread};
 
-// Keys, and behind them, once this is set, more bytes: then the input ends.
+// A reader of keys and, once a flag is set, of more bytes behind them. Then the input ends.
 #[derive(Drop)]
 struct Later<'a> {
     keys: &'a [u8],
@@ -37,7 +37,7 @@ impl Input for Later<'_> {
     }
 }
 
-// How a server with these words ends whose standard input gives the keys, and `more` once this is set.
+// Returns how a server with these words ends. Its standard input has the keys, and `more` once the flag is set.
 fn run_later<H: Net<Listener = TcpListener, Stream = TcpStream> + Threads + Wait + Clock + Sync>(
     rt: &H,
     alloc: Global,
@@ -68,7 +68,7 @@ fn run_later<H: Net<Listener = TcpListener, Stream = TcpStream> + Threads + Wait
     }
 }
 
-// Whether a server ended well, and wrote these lines, and no log.
+// Returns true if a server ended well, wrote these lines, and wrote no log.
 fn has_ended(run: &Run, lines: &[u8]) -> bool {
     run.status == 0 && run.lines.as_slice() == lines && run.errors.is_empty()
 }
@@ -82,8 +82,8 @@ static STOPPED: [&str; 6] = [
     "--quiet",
 ];
 
-// A client is served, and then standard input tells the server to stop, which serves for ever else. A line that is no order is
-// let be.
+// A client is served, and then standard input tells the server to stop, which would serve for ever otherwise. A line that is no
+// order is ignored.
 #[test]
 fn a_line_stops_a_server(rt: HostRuntime) {
     let alloc = rt.alloc();
@@ -111,7 +111,7 @@ static AT_END: [&str; 7] = [
     "--quiet",
 ];
 
-// Where that is wanted a server ends when standard input ends.
+// A server with `--stop-at-end` ends when standard input ends.
 #[test]
 fn the_end_of_input_stops_a_server(rt: HostRuntime) {
     let run = run_of(&rt, rt.alloc(), &AT_END, KEYS);
@@ -129,7 +129,7 @@ static WAITING: [&str; 8] = [
     "1",
 ];
 
-// A server ends that has served all, though its standard input gives nothing and has no end.
+// A server that has served all its connections ends, though its standard input has no more bytes and does not end.
 #[test]
 fn a_server_ends_while_input_waits(rt: HostRuntime) {
     let alloc = rt.alloc();
@@ -143,7 +143,7 @@ fn a_server_ends_while_input_waits(rt: HostRuntime) {
     assert!(rt; is_right && has_ended(&run, b"serving 1 nodes from port 25400\nclosed\n"));
 }
 
-// How many bytes are read until a line stops, of these; 0 where the input ends first.
+// Returns the number of these bytes that are read until a line stops the server, or 0 if the input ends first.
 fn stops_after(text: &[u8]) -> usize {
     let mut reader = text;
     let mut space = [0u8; KEPT];

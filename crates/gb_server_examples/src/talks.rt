@@ -31,7 +31,7 @@ const FIRST: NodeId = NodeId { number: 0 };
 
 const SECOND: NodeId = NodeId { number: 1 };
 
-// Two nodes, with tapes.
+// Returns the plan of two nodes, with tapes.
 fn two_nodes() -> HostPlan
     ensures nodes { result.cluster.nodes ≡ 2 }
     ensures limits { IsPlan result }
@@ -51,7 +51,7 @@ fn two_nodes() -> HostPlan
     }
 }
 
-/// Two clients, each of which asks once, at a node of its own, and what counts its replies. The one with this number is held until
+/// Two clients, each of which asks once at its own node, and the counters of their replies. The one with this number is held until
 /// the other is answered.
 #[derive(Clone, Copy)]
 struct Both<'a> {
@@ -59,7 +59,7 @@ struct Both<'a> {
     denied: (&'a AtomicU64, &'a AtomicU64),
 }
 
-/// A client, and how its session is to end.
+/// A client, and the expected end of its session.
 #[derive(Drop)]
 struct Client<'a> {
     reader: Asking,
@@ -67,7 +67,7 @@ struct Client<'a> {
     end: Ending,
 }
 
-/// Who talks to a host.
+/// The clients that talk to a host.
 #[derive(Drop)]
 enum Talk<'a> {
     /// Two clients at once.
@@ -76,7 +76,7 @@ enum Talk<'a> {
     One(Client<'a>),
 }
 
-// A client that asks once.
+// Returns a client that asks once.
 fn once<'a>(node: NodeId, denied: &'a AtomicU64) -> Stream<Asking, Told<'a>> {
     Stream {
         node,
@@ -85,7 +85,7 @@ fn once<'a>(node: NodeId, denied: &'a AtomicU64) -> Stream<Asking, Told<'a>> {
     }
 }
 
-// A list of two, where there is memory for it.
+// Returns a list of two. `None` if there is no memory for it.
 fn pair<T: Drop>(alloc: Global, first: T, second: T) -> Option<Vec<T>>
     ensures { IfSome result (λ list. vec_len list ≡ 2) }
 {
@@ -95,7 +95,7 @@ fn pair<T: Drop>(alloc: Global, first: T, second: T) -> Option<Vec<T>>
     Some(list)
 }
 
-// How both sessions ended.
+// Returns how both sessions ended.
 fn ends_of<L: Tapes + Send + Sync, R: Threads + Wait + Clock + Sync>(
     rt: &R,
     alloc: Global,
@@ -124,7 +124,7 @@ fn ends_of<L: Tapes + Send + Sync, R: Threads + Wait + Clock + Sync>(
     sessions(rt, alloc, host, seats, streams, gates).ok()
 }
 
-// Holds both sessions at once. How many ended well.
+// Holds both sessions at once. Returns the number of sessions that ended well.
 fn hold_both<L: Tapes + Send + Sync, R: Threads + Wait + Clock + Sync>(
     rt: &R,
     alloc: Global,
@@ -141,7 +141,7 @@ fn hold_both<L: Tapes + Send + Sync, R: Threads + Wait + Clock + Sync>(
     count
 }
 
-// Holds a session with a client of node 1. Whether it ended as it is to.
+// Holds a session with a client of node 1. Returns true if it ended as expected.
 fn converse<L: Tapes, R: Wait>(
     rt: &R,
     alloc: Global,
@@ -154,7 +154,7 @@ fn converse<L: Tapes, R: Wait>(
     end == client.end
 }
 
-// How many sessions of a talk ended as they are to.
+// Returns the number of sessions of a talk that ended as expected.
 fn count_ended<L: Tapes + Send + Sync, R: Threads + Wait + Clock + Sync>(
     rt: &R,
     alloc: Global,
@@ -171,7 +171,7 @@ fn count_ended<L: Tapes + Send + Sync, R: Threads + Wait + Clock + Sync>(
     }
 }
 
-// How many calls the first two seats noted.
+// Returns the number of calls that each of the first two seats noted.
 fn calls_of<L: Tapes>(seats: &[Seat<L>]) -> [usize; 2] {
     let mut calls = [0; 2];
     for i in 0..2 {
@@ -182,8 +182,8 @@ fn calls_of<L: Tapes>(seats: &[Seat<L>]) -> [usize; 2] {
     calls
 }
 
-// Opens a host with two seats, holds a talk, and closes the host: how many sessions ended as they are to, and how many calls each
-// seat noted. None where the host was refused, or its end.
+// Opens a host with two seats, holds a talk, and closes the host. Returns the number of sessions that ended as expected, and the
+// number of calls that each seat noted. `None` if the host, or its end, was refused.
 fn run<L: Tapes + Send + Sync, R: Threads + Wait + Clock + Sync>(
     rt: &R,
     alloc: Global,
@@ -209,7 +209,7 @@ fn run<L: Tapes + Send + Sync, R: Threads + Wait + Clock + Sync>(
     }
 }
 
-// The same, on a host of two nodes.
+// Does the same on a host of two nodes.
 fn hold<R: Threads + Wait + Clock + Sync>(
     rt: &R,
     alloc: Global,
@@ -230,8 +230,8 @@ fn two_sessions_at_once(rt: HostRuntime) {
     }
 }
 
-// Three requests, of which a read or a write fails: how many sessions end so, how many calls were made, and how many replies
-// were written.
+// Asks three requests, with a read or a write that fails. Returns the numbers of sessions that ended as expected, of calls that
+// were made, and of replies that were written.
 fn ask_thrice<R: Threads + Wait + Clock + Sync>(
     rt: &R,
     alloc: Global,
@@ -249,7 +249,7 @@ fn ask_thrice<R: Threads + Wait + Clock + Sync>(
     Some((count, calls, denied.load(Ordering::SeqCst)))
 }
 
-// Which read fails, and which write; how the session ends, after how many calls and replies.
+// The numbers of the read and of the write that fail; the end of the session; and the numbers of calls and replies before it.
 static FAILURES: [(u64, u64, Ending, usize, u64); 8] = [
     (0, 0, Ok(SessionEnd::Finished), 3, 3),
     (1, 0, Err(SessionFault::Read), 0, 0),

@@ -1,4 +1,4 @@
-// The version that a server's words give reaches its nodes: it bounds what may be said at them.
+// The version in a server's words reaches its nodes: it limits the length of a message there.
 use crate::chat::{gives, joined};
 use crate::served::{KEYS, prints};
 use gb_client::fault::ClientFault;
@@ -10,14 +10,14 @@ use std::rt::HostRuntime;
 use std::thread;
 use std::time::Clock;
 
-// What is asked before anything is said, and its replies.
+// The requests before the first message, and their replies.
 static PREPARATIONS: [(Head, &str, &str); 3] = [
     (Head::Tenant, "7 2 1 4096 1", "ok"),
     (Head::Make, "7 1 allack 0 1 4096 1", "ok"),
     (Head::Open, "7 1", "ok"),
 ];
 
-// A server of one node: the option of its version, the length of a message, and what a member that says it is told.
+// A server of one node: the option of its version, the length of a message, and the reply to the member that says it.
 static SAID: [(&str, usize, &str); 4] = [
     ("--version=1", 1_024, "said 1"),
     ("--version=1", 1_025, "refused 7 TooLong"),
@@ -31,7 +31,7 @@ fn say_line(alloc: Global, bytes: usize) -> Result<String, AllocError> {
     format!(in alloc; "7 1 {word}")
 }
 
-// Returns whether a member that says `bytes` bytes to a server with this base port is told this.
+// Returns true if this is the reply to a member that says `bytes` bytes at a server with this base port.
 fn is_answered<H: Net<Stream = TcpStream> + Clock>(
     rt: &H,
     alloc: Global,

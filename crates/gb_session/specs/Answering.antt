@@ -7,7 +7,7 @@ use Rattle.gb_types.specs.declared.reply.Reply.{Reply}
 use Rattle.gb_types.specs.declared.request.Request.{Request}
 use Rattle.gb_session.specs.declared.operation.Operation.{Operation}
 
--- Who answers: the reply that a request may get in a state, with the state behind it, and the texts that an operation may get. An
+-- Who answers: the reply that a request may get in a state, with the state after it, and the texts that an operation may get. An
 -- operation leaves the state as it is.
 pub record Answering (S : Type 0) : Type 1 where
   pub replies : S → Request → Reply → S → Type 0

@@ -30,7 +30,7 @@ IsOutcome is_late ask requests replies (Replied label reply) = SettlesBy is_late
 IsOutcome is_late ask requests replies (Waits awaited) = (is_late ≡ false) × (ask ≡ Await awaited) × FindsNone awaited.places.items requests replies
 IsOutcome is_late ask requests replies (Operates operation) = (ask ≡ Operate operation) × (requests ≡ []) × (replies ≡ [])
 
--- the bytes start with a whole message that ends at `end`; what it asks was asked, and its reply is `text`
+-- the bytes start with a whole message that ends at `end`; what the message asks was asked, and its reply is `text`
 abbrev pub SettlesFront : {S : Type 0} → Answering S → Bool → S → S → List ℕ → ℕ → List ℕ → Type 0
 SettlesFront answers is_late s t bytes end text =
     (ask : Ask) × (requests : List Request) × (replies : List Reply) × IsAskMessage bytes ask end × IsRun answers s requests replies t
@@ -54,7 +54,7 @@ abbrev pub FailsNext : {S : Type 0} → Answering S → Bool → S → S → Lis
 FailsNext answers is_late s t bytes left before after =
     (0 < left) × (after ≡ before) × ((t ≡ s) ⊎ ((end : ℕ) × (text : List ℕ) × SettlesFront answers is_late s t bytes end text))
 
--- a session behind the message in front, where that is answered
+-- a session behind the message in front, if that message is answered
 abbrev pub behind : SessionValue → Next → SessionValue
 behind session (Answered end) = record { kept = drop end session.kept; left = session.left - 1 }
 behind session other = session

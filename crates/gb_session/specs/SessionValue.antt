@@ -1,7 +1,7 @@
 -- What a session is to those who use it.
 use Rattle.std.specs.Prelude.{ℕ, List}
 
--- a session: the bytes that are not answered yet, and how many messages may still be answered
+-- a session: the bytes that are not answered yet, and the number of messages that may still be answered
 pub record SessionValue : Type 0 where
   pub kept : List ℕ
   pub left : ℕ

@@ -1,4 +1,4 @@
--- By which requests an ask is settled, and what its reply is.
+-- The requests that settle an ask, and its reply.
 use Rattle.std.specs.Prelude.{◌≡◌, ℕ, ◌==◌, ◌⊎◌, Bool, true, false, List, [], ◌∷◌, ◌++◌, length, map, All, Option, Some, None, decimal, codes, if◌then◌else◌}
 use Rattle.std.specs.List.{flat_map}
 use Rattle.gb_types.specs.ReplyText.{reply_spelling}
@@ -26,7 +26,7 @@ is_empty_log other = false
 abbrev pub FindsNone : List Place → List Request → List Reply → Type 0
 FindsNone places requests replies = (requests ≡ map fetch_of places) × All (λ reply. is_empty_log reply ≡ true) replies
 
--- the places before this one were fetched from, in turn, in vain, and from this one the reply is another than an empty log
+-- each place before this one was fetched from in turn, and nothing was there; the reply from this one is no empty log
 pub record Finds (places : List Place) (at : ℕ) (found : Reply) (requests : List Request) (replies : List Reply) : Type 0 where
   pub before : List Place
   pub place : Place
@@ -39,17 +39,17 @@ pub record Finds (places : List Place) (at : ℕ) (found : Reply) (requests : Li
   pub none_before : All (λ reply. is_empty_log reply ≡ true) in_vain
   pub is_something : is_empty_log found ≡ false
 
--- whether a reply tells at which place: where more than one is awaited
+-- the label of a reply: the number of its place if more than one is awaited, else none
 abbrev pub label_of : List Place → ℕ → Option ℕ
 label_of places at = if length places == 1 then None else Some at
 
--- the text of a reply, `at K ` before it where it tells at which place
+-- the text of a reply, behind `at K ` if it has the label K
 abbrev pub answer_text : Option ℕ → Reply → List ℕ
 answer_text None reply = reply_spelling reply
 answer_text (Some at) reply = codes "at " ++ decimal at ++ codes " " ++ reply_spelling reply
 
--- An ask is settled by these requests and their replies, with this reply: a request by itself, fetches that wait by the first
--- that finds something, or, late, by an empty log where none does. An operation has no such reply.
+-- An ask is settled by these requests and their replies, with this reply. A request settles itself. Fetches that wait are settled
+-- by the first that finds something; if it is late and none does, by an empty log. An operation has no such reply.
 abbrev pub SettlesBy : Bool → Ask → List Request → List Reply → Option ℕ → Reply → Type 0
 SettlesBy is_late (Now request) requests replies label reply = (requests ≡ request ∷ []) × (replies ≡ reply ∷ []) × (label ≡ None)
 SettlesBy is_late (Await awaited) requests replies label reply =

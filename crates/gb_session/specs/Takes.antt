@@ -29,7 +29,7 @@ pub record AnswersFront {S : Type 0} (answers : Answering S) (is_late : Bool) (s
 abbrev pub IsWithin : ℕ → List ℕ → List (List ℕ) → Type 0
 IsWithin room before texts = (earlier : List (List ℕ)) (last : List ℕ) → texts ≡ earlier ++ last ∷ [] → length (before ++ framed_all earlier) < room
 
--- fetches that wait stand in front, were tried once more and found nothing
+-- the message in front is fetches that wait; they were tried once more and found nothing
 abbrev pub TriesInVain : {S : Type 0} → Answering S → S → S → List ℕ → Awaited → Type 0
 TriesInVain answers s t rest awaited =
     (end : ℕ) × IsAskMessage rest (Await awaited) end × (requests : List Request) × (replies : List Reply) × IsRun answers s requests replies t
@@ -55,7 +55,7 @@ pub record Takes {S : Type 0} (answers : Answering S) (is_late : Bool) (s t : S)
   pub stops : StopsSo answers is_late mid t rest m room (before ++ framed_all texts) after step
 
 -- There was no memory. The messages in front of what is kept are answered in turn, and their replies written while there was room; the
--- next message was not asked, or it was asked and its reply is not written. Nothing else was asked.
+-- next message was not asked, or it was asked and its reply is not written. No other message was asked.
 pub record BreaksOff {S : Type 0} (answers : Answering S) (is_late : Bool) (s t : S) (bytes rest before after : List ℕ) (n m room : ℕ) : Type 0 where
   pub mid : S
   pub texts : List (List ℕ)

@@ -12,11 +12,11 @@ use Rattle.gb_session.specs.Asks.{SpellsAsks, AsksNothing}
 use Rattle.gb_session.specs.Runs.{IsRun, malformed_message}
 use Rattle.gb_session.specs.Settled.{FindsNone, Telling, Settles, framed_all}
 
--- these requests fetched from some places, and there was nothing at any of them, which nobody was told
+-- these requests fetched from some places, and each reply was an empty log; no client was told of it
 abbrev pub AreInVain : List Request → List Reply → Type 0
 AreInVain requests replies = (places : List Place) × FindsNone places requests replies
 
--- these asks are settled in turn, with these texts; before and between and behind them nothing was asked but fetches in vain
+-- these asks are settled in turn, with these texts; the only other requests are fetches that found nothing
 abbrev pub SettlesInTime : Telling → List Ask → List Request → List Reply → List (List ℕ) → Type 0
 SettlesInTime tells [] requests replies texts = AreInVain requests replies × (texts ≡ [])
 SettlesInTime tells (ask ∷ asks) requests replies texts =
@@ -24,7 +24,7 @@ SettlesInTime tells (ask ∷ asks) requests replies texts =
     × (text : List ℕ) × (texts' : List (List ℕ)) × (requests ≡ vain ++ (first ++ more)) × (replies ≡ vain' ++ (first' ++ more')) × (texts ≡ text ∷ texts')
     × AreInVain vain vain' × Settles tells true ask first first' text × SettlesInTime tells asks more more' texts'
 
--- Of a stream so far a session has answered what its messages ask up to these bytes, and this is what was written.
+-- The session has answered what the messages of the stream so far ask, up to these bytes, and this is what was written.
 pub record ServedSoFar {S : Type 0} (answers : Answering S) (s t : S) (stream kept written : List ℕ) : Type 0 where
   pub asks : List Ask
   pub requests : List Request
@@ -53,8 +53,8 @@ ServesMore {S} answers t u kept piece kept' before after step =
 abbrev pub IsToldLast : List ℕ → List ℕ → Type 0
 IsToldLast rest last = (last ≡ []) ⊎ (AsksNothing rest × (last ≡ malformed_message))
 
--- What messages at the front of some bytes ask was asked in turn, and nothing else; of what was told, in its order, this beginning was
--- sent.
+-- Exactly what messages at the front of some bytes ask was asked, in turn; a beginning of what was told, in its order,
+-- was sent: these bytes.
 pub record AsksInTurn {S : Type 0} (answers : Answering S) (s t : S) (bytes sent : List ℕ) : Type 0 where
   pub rest : List ℕ
   pub written : List ℕ

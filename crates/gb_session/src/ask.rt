@@ -25,7 +25,7 @@ pub const WAIT: u32 = 60_000;
 
 const _: () = prove!(WAIT == 60_000);
 
-/// What one fetch asks: a token, a group, the first place of its log that is wanted, and the most entries.
+/// What one fetch asks: a token, a group, the index of the first entry of its log that is wanted, and the most entries.
 #[derive(Clone, Copy)]
 pub struct Place {
     pub token: [u8; 32],
@@ -34,7 +34,7 @@ pub struct Place {
     pub most: u32,
 }
 
-/// Places that are fetched from in turn, 1 to `PLACES`. The reply may wait while there is nothing at any of them.
+/// Places that are fetched from in turn, 1 to `PLACES` of them. The reply may wait while none of them has an entry.
 #[derive(Drop)]
 pub struct Awaited {
     pub places: Vec<Place>,

@@ -2,7 +2,7 @@
 //! `session::Session` is a session as a value: bytes in any cut go in, replies come out, and what a message asks
 //! (`ask::Ask`) is answered by the caller's `answers::Answers`. `serve::serve` is that value with a reader and a writer
 //! round it. `feed::Feed` finds the requests of a stream in pieces of any size, and `grammar::parse_request` reads
-//! one. Nothing is known here of nodes, sockets or threads. Read `session::Session` first.
+//! one. This crate knows no nodes, sockets or threads. Read `session::Session` first.
 #![tactic(auto)]
 
 pub mod answers;

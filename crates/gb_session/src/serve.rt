@@ -36,7 +36,7 @@ pub enum SessionEnd {
     Cut,
     /// A message was Malformed. The client was told, and nothing was read after it.
     Malformed,
-    /// `REQUESTS` messages were answered, or `READS` reads were made and one more was wanted.
+    /// `REQUESTS` messages were answered, or `READS` reads were made and one more was needed.
     Limit,
 }
 
@@ -70,7 +70,7 @@ impl From<AllocError> for SessionFault {
     }
 }
 
-// The space for a read, filled with zeros.
+// Returns the space for a read, filled with zeros.
 fn make_space(alloc: Global) -> Result<Vec<u8>, OutOfMemory>
     ensures { IfOk result (λ space. vec_len space ≡ PIECE) }
 {

@@ -79,8 +79,8 @@ pub enum Step {
     Ended(SessionEnd),
 }
 
-/// A session: the bytes that came and are not answered yet, and how many messages may still be answered. It keeps no memory while
-/// it keeps no bytes.
+/// A session: the bytes that came and are not answered yet, and the number of messages that may still be answered. It keeps no
+/// memory while it keeps no bytes.
 #[derive(Drop)]
 pub struct Session {
     alloc: Global,
@@ -101,7 +101,7 @@ impl Model for Session {
     ghost invariant = { IsHeld };
 }
 
-/// Reads the message at the front of the bytes.
+/// Returns what the message at the front of the bytes asks.
 pub fn read_ask_front(alloc: Global, bytes: &[u8]) -> Result<AskFront, OutOfMemory>
     ensures { IfOk result (IsAskFront bytes.now) }
 {
@@ -281,7 +281,7 @@ fn answer_front<A: Answers>(
 }
 
 impl Session {
-    /// A session that has taken no bytes. It answers at most `left` messages.
+    /// Returns a session that has taken no bytes. It answers at most `left` messages.
     pub fn new(alloc: Global, left: u64) -> Session
         ensures { result ≡ record { kept = []; left = left } }
     {

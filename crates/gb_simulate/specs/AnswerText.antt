@@ -41,11 +41,11 @@ fault_name Trailing = codes "Trailing"
 fault_name TooLong = codes "TooLong"
 fault_name Tag = codes "Tag"
 
--- a fault of bytes: its number in the table and its name
+-- the text of a packet fault: its number in the table and its name
 abbrev pub fault_spelling : PacketFault → List ℕ
 fault_spelling fault = codes "fault " ++ decimal (fault_number fault) ++ codes " " ++ fault_name fault
 
--- what a node made of a packet: of its frame, how many items, how many frames are done
+-- the text of a good packet: what became of its frame, the number of its items, and the number of frames that are done
 abbrev pub good_spelling : Good → List ℕ
 good_spelling good = codes "good " ++ frame_word good.frame ++ codes " " ++ decimal good.items ++ codes " " ++ decimal good.done
 
@@ -66,17 +66,17 @@ abbrev pub each_after_space : List ℕ → List ℕ
 each_after_space [] = []
 each_after_space (b ∷ bs) = codes " " ++ decimal b ++ each_after_space bs
 
--- the nodes that are noticed, rising
+-- the numbers of the nodes that are noticed, in rising order
 abbrev pub noticed_words : List ℕ → List ℕ
 noticed_words [] = codes "noticed -"
 noticed_words (b ∷ bs) = codes "noticed" ++ each_after_space (b ∷ bs)
 
--- what a tick brought to light
+-- the text of a tick's answer: the nodes that it newly noticed
 abbrev pub ticked_spelling : Ticked → List ℕ
 ticked_spelling (Noticed found) = noticed_words (rising found)
 ticked_spelling (TickRefused why) = reply_spelling (Refused why)
 
--- whether a node stopped
+-- the text of the answer to a stop
 abbrev pub halted_spelling : Halted → List ℕ
 halted_spelling HaltDone = codes "ok"
 halted_spelling (HaltRefused why) = reply_spelling (Refused why)

@@ -1,5 +1,5 @@
--- How one line moves a schedule on, and its answer those that are gathered. What is left of the text and what is written are
--- known or not.
+-- How one line changes the cluster, what is left of the text, and the gathered answers. What is left of the text and what is
+-- written may be unknown.
 use Rattle.std.specs.Prelude.{ℕ, ◌≡◌, ◌≢◌, ◌≤◌, List, [], ◌∷◌, ◌++◌, length, Option, Some}
 use Rattle.std.specs.Option.{IfSome}
 use Rattle.std.specs.Io.KnownBytes.{Appends, Keeps, prepend_known}
@@ -18,7 +18,7 @@ use Rattle.gb_simulate.specs.declared.outcome.SimEnd.TheVariants.{All, BadLine}
 use Rattle.gb_simulate.specs.declared.outcome.SimFault.{SimFault}
 use Rattle.gb_simulate.specs.declared.outcome.SimFault.TheVariants.{Read, Write, OutOfMemory}
 
--- the next line is the n-th, it is silent or is obeyed, and its answer is gathered
+-- the next line is the n-th, it asks for nothing or is executed, and its answer is gathered
 pub record TakesLine (n : ℕ) (w after : Option ClusterValue) (left left' : Option (List ℕ)) (gathered gathered' : List ℕ) : Type 0 where
   pub line : List ℕ
   pub answer : List ℕ
@@ -32,7 +32,7 @@ pub record TakesLine (n : ℕ) (w after : Option ClusterValue) (left left' : Opt
 abbrev pub IsNextBad : Reason → ℕ → Option ClusterValue → Option (List ℕ) → Type 0
 IsNextBad why n w left = IfSome left (λ text. (line : List ℕ) × (more : List (List ℕ)) × (lines_of text ≡ line ∷ more) × IsBadLine why n w line)
 
--- the schedule ends at line n: there is none, or it is bad, and that is gathered
+-- the schedule ends at line n: there is no such line, or it is bad, and the text that says so is gathered
 abbrev pub Ends : SimEnd → ℕ → Option ClusterValue → Option (List ℕ) → List ℕ → List ℕ → Type 0
 Ends All n w left gathered gathered' = IfSome left (λ text. text ≡ []) × (gathered' ≡ gathered)
 Ends (BadLine k why) n w left gathered gathered' = IsNextBad why n w left × (gathered' ≡ gathered ++ bad_line n) × (k ≡ n)
@@ -41,17 +41,17 @@ Ends (BadLine k why) n w left gathered gathered' = IsNextBad why n w left × (ga
 abbrev pub IsDue : Option (List ℕ) → Type 0
 IsDue left = IfSome left (λ text. (line : List ℕ) × (more : List (List ℕ)) × (lines_of text ≡ line ∷ more))
 
--- what is left of the text is a piece of a line, and what the reader has left
+-- what is left of the text is a piece of a line and the bytes that the reader has left
 abbrev pub IsHeldUp : Option (List ℕ) → Option (List ℕ) → Type 0
 IsHeldUp left unread = (piece : List ℕ) × IsLine piece × Keeps left (prepend_known piece unread)
 
--- the next line is not answered, for this fault
+-- the next line is not answered, because of this fault
 abbrev pub Fails : SimFault → Option (List ℕ) → Option (List ℕ) → List ℕ → List ℕ → Type 0
 Fails Read left unread gathered gathered' = IsHeldUp left unread × (gathered' ≡ gathered)
 Fails OutOfMemory left unread gathered gathered' = IsDue left × (gathered' ≡ gathered)
 Fails Write left unread gathered gathered' = ⊥
 
--- a front of what was gathered, which may be empty or whole, is written, and the rest is gathered still
+-- a front of what was gathered, which may be empty or whole, is written; the rest is still gathered
 abbrev pub HandsOver : Option (List ℕ) → Option (List ℕ) → List ℕ → List ℕ → Type 0
 HandsOver now now' gathered gathered' = (front : List ℕ) × Appends now now' front × (gathered ≡ front ++ gathered')
 
@@ -59,8 +59,8 @@ HandsOver now now' gathered gathered' = (front : List ℕ) × Appends now now' f
 abbrev pub IsCutShort : Option (List ℕ) → Option (List ℕ) → List ℕ → Type 0
 IsCutShort now now' gathered = (gathered ≢ []) × AppendsFront now now' gathered
 
--- the lines before line n are answered; the answers are written behind what was there before, but for those gathered; the
--- rest is left
+-- the lines before line n are answered, and these answers are written behind what was there before, except those still gathered;
+-- the rest of the text is left
 pub record IsAt (input before : List ℕ) (n : ℕ) (w : Option ClusterValue) (left now : Option (List ℕ)) (gathered : List ℕ) : Type 0 where
   pub written : List ℕ
   pub rest : List ℕ
@@ -72,11 +72,11 @@ pub record IsAt (input before : List ℕ) (n : ℕ) (w : Option ClusterValue) (l
 abbrev pub IsHalfway : Option (List ℕ) → Option (List ℕ) → ℕ → Option ClusterValue → Option (List ℕ) → Option (List ℕ) → List ℕ → Type 0
 IsHalfway input before n w left now gathered = IfSome input (λ i. IfSome before (λ b. IsAt i b n w left now gathered))
 
--- the text of the whole schedule is written behind what was there before, but for what is gathered
+-- the text of the whole schedule is written behind what was there before, except what is still gathered
 abbrev pub IsGathered : SimEnd → List ℕ → List ℕ → Option (List ℕ) → List ℕ → Type 0
 IsGathered end input before now gathered = (written : List ℕ) × (now ≡ Some (before ++ written)) × IsText input (written ++ gathered) end
 
--- the text up to a fault is written behind what was there before, but for what is gathered where no write failed
+-- the text up to a fault is written behind what was there before; if no write failed, except what is still gathered
 abbrev pub IsGatheredUpTo : SimFault → List ℕ → List ℕ → Option (List ℕ) → Option (List ℕ) → List ℕ → Type 0
 IsGatheredUpTo Write input before unread now gathered = (written : List ℕ) × (now ≡ Some (before ++ written)) × IsLeftOff Write input written unread
 IsGatheredUpTo why input before unread now gathered = (written : List ℕ) × (now ≡ Some (before ++ written)) × IsLeftOff why input (written ++ gathered) unread

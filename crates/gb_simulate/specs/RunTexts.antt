@@ -26,14 +26,14 @@ AreRunSteps plan [] run v = (run ≡ []) × (v ≡ new_cluster plan)
 AreRunSteps plan (step ∷ steps) run v =
     (before : ClusterValue) × (earlier : List Did) × AreRunSteps plan steps earlier before × IsStep before step.event step.answer v × Happens before step.event step.answer earlier v run
 
--- in a cluster of this number of nodes a line spells the event of a step, and its answer is the step's
+-- a line spells the event of a step in a cluster of this number of nodes, and the line's answer is the step's
 pub record TellsStep (nodes : ℕ) (line answer : List ℕ) (step : RunStep) : Type 0 where
   pub command : Command
   pub spelt : IsCommandLine (Some nodes) line command
   pub event_is : event_of command ≡ Some step.event
   pub answer_is : answer ≡ ended (answer_spelling step.answer)
 
--- Lines tell steps, both with the newest first: each line asks for nothing, or tells the next step; the text is the answers,
+-- Lines tell steps, both with the newest first: each line asks for nothing, or spells the next step; the text is the answers,
 -- one after another.
 abbrev pub TellSteps : ℕ → List (List ℕ) → List ℕ → List RunStep → Type 0
 TellSteps nodes [] text steps = (text ≡ []) × (steps ≡ [])
@@ -42,8 +42,8 @@ TellSteps nodes (line ∷ lines) text steps =
     ⊎ ((step : RunStep) × (earlier : List RunStep) × (answer : List ℕ) × (answers : List ℕ) × (steps ≡ step ∷ earlier) × (text ≡ answers ++ answer)
     × TellsStep nodes line answer step × TellSteps nodes lines answers earlier)
 
--- Lines, the newest first, are those of a run that leads here: one starts the cluster; those before it ask for nothing; those
--- behind it tell the steps. The text is the answers of all. The run is what happened at the nodes by the steps.
+-- These lines, the newest first, are those of a run that leads to v. One line starts the cluster; those before it ask for nothing;
+-- those behind it tell the steps. The text is the answers of all lines. The run is what happened at the nodes by the steps.
 pub record IsRunOf (lines : List (List ℕ)) (text : List ℕ) (run : List Did) (v : ClusterValue) : Type 0 where
   pub start : ClusterStart
   pub behind : List (List ℕ)

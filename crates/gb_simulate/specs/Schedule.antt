@@ -21,11 +21,11 @@ use Rattle.gb_simulate.specs.declared.outcome.BadLine.{BadLine}
 use Rattle.gb_simulate.specs.declared.outcome.BadLine.TheVariants.{TooLong, TooMany, NoCluster, NoCommand}
 use Rattle.gb_simulate.specs.declared.obey.TheConstants.{LINES}
 
--- what stands in a text behind the old one
+-- what was appended to the old text
 abbrev pub added : List ℕ → List ℕ → List ℕ
 added old new = drop (length old) new
 
--- the event that a command is, once there is a cluster; a fetch comes with the member's token
+-- the event that a command is, once there is a cluster; a fetch has the member's token
 abbrev pub event_of : Command → Option Event
 event_of (Cluster start) = None
 event_of (Request node request) = Some (At node (AskEvent request))
@@ -38,16 +38,16 @@ event_of (Step (Tick node)) = Some (At node TickEvent)
 event_of (Step (Stop node)) = Some (At node StopEvent)
 event_of (Step (Fetch node address from most)) = Some (At node (AskEvent (FetchRequest (member_token address node) address from most)))
 
--- how many nodes the cluster has, once there is one
+-- the number of nodes of the cluster, once there is one
 abbrev pub size_in : Option ClusterValue → Option ℕ
 size_in None = None
 size_in (Some v) = Some (size v)
 
--- a cluster has between 1 and 16 nodes
+-- the cluster, if there is one, has 1 to `NODES` nodes
 abbrev pub HasNodes : Option ClusterValue → Type 0
 HasNodes w = ForSome (size_in w) (λ count. (1 ≤ count) × (count ≤ NODES))
 
--- a cluster takes an event, and its answer is the line
+-- a cluster takes an event, and its answer is this line
 pub record Answers (v : ClusterValue) (event : Event) (after : Option ClusterValue) (text : List ℕ) : Type 0 where
   pub answer : Answer
   pub next : ClusterValue
@@ -55,22 +55,22 @@ pub record Answers (v : ClusterValue) (event : Event) (after : Option ClusterVal
   pub after_is : after ≡ Some next
   pub text_is : text ≡ ended (answer_spelling answer)
 
--- what a command does: it starts a cluster, or is an event of the one that there is
+-- what a command does: it starts the cluster, or is an event of the cluster that was started
 abbrev pub Obeys : Option ClusterValue → Command → Option Event → Option ClusterValue → List ℕ → Type 0
 Obeys None (Cluster start) event after text = (after ≡ Some (started start)) × (text ≡ ended (codes "ok"))
 Obeys (Some v) command (Some event) after text = Answers v event after text
 Obeys w command event after text = ⊥
 
--- a line that asks for nothing gives no answer; a command is obeyed
+-- a line that asks for nothing has no answer; a command is executed
 abbrev pub GoesOn : Option ClusterValue → List ℕ → Option ClusterValue → List ℕ → Type 0
 GoesOn w line after text = (IsSilent line × (after ≡ w) × (text ≡ [])) ⊎ ((command : Command) × IsCommandLine (size_in w) line command × Obeys w command (event_of command) after text)
 
--- a line that is in no case of the grammar
+-- a line that neither asks for nothing nor spells a command
 abbrev pub IsNoLine : Option ClusterValue → List ℕ → Type 0
 IsNoLine w line = (IsSilent line → ⊥) × ((command : Command) → IsCommandLine (size_in w) line command → ⊥)
 
--- line n is bad, and this is why: it is too long; it is beyond the last line that a schedule may have; or it is in no
--- case of the grammar, before a cluster was started or after
+-- line n is bad, and this is why: it is too long; it is beyond the last line that a schedule may have; or it spells nothing,
+-- before a cluster was started or after
 abbrev pub IsBadLine : BadLine → ℕ → Option ClusterValue → List ℕ → Type 0
 IsBadLine TooLong n w line = LINE < length line
 IsBadLine TooMany n w line = (length line ≤ LINE) × (LINES < n)

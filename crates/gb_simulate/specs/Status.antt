@@ -1,11 +1,11 @@
--- The status with which the program ends.
+-- The exit status of the program.
 use Rattle.std.specs.Prelude.{ℕ, Result, Ok, Err}
 use Rattle.gb_simulate.specs.declared.outcome.SimEnd.{SimEnd}
 use Rattle.gb_simulate.specs.declared.outcome.SimEnd.TheVariants.{All, BadLine}
 use Rattle.gb_simulate.specs.declared.outcome.SimFault.{SimFault}
 use Rattle.gb_simulate.specs.declared.outcome.SimFault.TheVariants.{Read, Write, OutOfMemory}
 
--- all lines were read; a read or a write failed; a bad line; no memory
+-- 0: all lines were read; 1: a read or a write failed; 2: a bad line; 3: no memory
 abbrev pub status : Result SimEnd SimFault → ℕ
 status (Ok All) = 0
 status (Err Read) = 1

@@ -13,14 +13,14 @@ use Rattle.gb_simulate.specs.declared.outcome.SimEnd.TheVariants.{All, BadLine}
 use Rattle.gb_simulate.specs.declared.outcome.SimFault.{SimFault}
 use Rattle.gb_simulate.specs.declared.outcome.SimFault.TheVariants.{Read, Write, OutOfMemory}
 
--- these lines, the newest first, are the first of a schedule; their answers are this text, and the cluster is so
+-- these lines, the newest first, are the first of a schedule; their answers are this text, and they lead to the cluster `w`
 unfoldable pub AreAnswered : List (List ℕ) → List ℕ → Option ClusterValue → Type 0
 AreAnswered [] text w = (text ≡ []) × (w ≡ None)
 AreAnswered (line ∷ lines) text w =
     (before : Option ClusterValue) × (older : List ℕ) × (answer : List ℕ) × AreAnswered lines older before
     × (length lines < LINES) × (length line ≤ LINE) × GoesOn before line w answer × (text ≡ older ++ answer)
 
--- the lines before line n are answered by this text, which is that of a run; the cluster is so, and these lines are left
+-- the lines before line n are answered by this text, which is that of a run; they lead to the cluster `w`, and these lines are left
 pub record Reaches (input text : List ℕ) (w : Option ClusterValue) (n : ℕ) (lines_left : List (List ℕ)) : Type 0 where
   pub taken : List (List ℕ)
   pub lines : lines_of input ≡ reverse taken ++ lines_left
@@ -28,21 +28,21 @@ pub record Reaches (input text : List ℕ) (w : Option ClusterValue) (n : ℕ) (
   pub run : TellsRun taken text w
   pub count : n ≡ length taken + 1
 
--- the whole text of a schedule: all lines are answered, or all before the first bad one, whose number is told
+-- the whole text of a schedule: the answers of all lines, or of those before the first bad one, and then that line's number
 abbrev pub IsText : List ℕ → List ℕ → SimEnd → Type 0
 IsText input text All = (w : Option ClusterValue) × (n : ℕ) × Reaches input text w n []
 IsText input text (BadLine number why) =
     (w : Option ClusterValue) × (answers : List ℕ) × (line : List ℕ) × (more : List (List ℕ))
     × Reaches input answers w number (line ∷ more) × IsBadLine why number w line × (text ≡ answers ++ bad_line number)
 
--- the answer of line n, also where it is bad
+-- the answer of line n, which may be bad
 abbrev pub IsAnswerOf : ℕ → Option ClusterValue → List ℕ → List ℕ → Type 0
 IsAnswerOf n w line answer =
     ((n ≤ LINES) × (after : Option ClusterValue) × GoesOn w line after answer) ⊎ ((why : Reason) × IsBadLine why n w line × (answer ≡ bad_line n))
 
--- What is written where a fault ends a schedule, and what the reader has left. Read: all lines that were read whole are
--- answered, and a piece of the next one may be read. OutOfMemory: nothing was read yet, or a line is left. Write: of the
--- next line's answer a front is written.
+-- What is written if a fault ends a schedule, and what the reader has left. Read: all lines that were read whole are
+-- answered, and a piece of the next one may be read. OutOfMemory: nothing was read yet, or a line is left. Write: a front of
+-- the next line's answer is written.
 abbrev pub IsLeftOff : SimFault → List ℕ → List ℕ → Option (List ℕ) → Type 0
 IsLeftOff Read input text unread =
     (w : Option ClusterValue) × (n : ℕ) × (piece : List ℕ) × (rest : List ℕ)

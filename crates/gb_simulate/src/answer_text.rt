@@ -1,4 +1,4 @@
-//! How an answer is written. Without memory a part of it may stand behind what was there.
+//! How an answer is written. If there is no memory, a part of it may have been appended.
 ghost use Rattle.std.specs.Prelude.{◌≡◌, ◌++◌, ◌∷◌, [], codes, OnOk, OnErr};
 ghost use Rattle.std.specs.Io.{StartsWith};
 ghost use Rattle.gb_types.specs.Rising.{rising, rising_from};
@@ -24,7 +24,7 @@ pub fn put_refusal(out: &mut Vec<u8>, why: Refusal) -> Result<(), OutOfMemory>
     put_reply(out, &Reply::Refused(why))
 }
 
-/// What a node made of a frame, in a word.
+/// Returns the word for what a node made of a frame.
 fn word_of(frame: Frame) -> &'static [u8]
     ensures { result.now ≡ frame_word frame }
 {
@@ -49,7 +49,7 @@ fn put_good(out: &mut Vec<u8>, good: &Good) -> Result<(), OutOfMemory>
     put_number(out, u64::from(good.done))
 }
 
-/// What is wrong with bytes, in a word.
+/// Returns the name of a packet fault.
 fn name_of(fault: PacketFault) -> &'static [u8]
     ensures { result.now ≡ fault_name fault }
 {
@@ -91,7 +91,7 @@ pub fn put_packet(out: &mut Vec<u8>, taken: &PacketAnswer) -> Result<(), OutOfMe
     }
 }
 
-/// Appends the line `nothing`, with its line feed at once: many lines are so.
+/// Appends the line `nothing` and its line feed in one step, since many lines are this one.
 #[inline(always)]
 fn put_nothing(out: &mut Vec<u8>) -> Result<(), OutOfMemory>
     ensures ok { OnOk result (out.new.items ≡ out.old.items ++ ended (codes "nothing")) }
@@ -128,7 +128,7 @@ fn put_sending(out: &mut Vec<u8>, sending: Sending) -> Result<(), OutOfMemory>
     }
 }
 
-/// Appends the numbers of the nodes of a set, rising, each after a space.
+/// Appends the numbers of the nodes of a set, in rising order, each after a space.
 fn put_each(out: &mut Vec<u8>, found: &NodeSet) -> Result<(), OutOfMemory>
     ensures ok { OnOk result (out.new.items ≡ out.old.items ++ each_after_space (rising_from found.now 0)) }
     ensures err { OnErr result (StartsWith out.new.items out.old.items) }
@@ -159,7 +159,7 @@ fn put_noticed(out: &mut Vec<u8>, found: &NodeSet) -> Result<(), OutOfMemory>
     }
 }
 
-/// Appends what a tick brought to light.
+/// Appends the answer of a tick: the nodes that it newly noticed.
 pub fn put_ticked(out: &mut Vec<u8>, ticked: &Ticked) -> Result<(), OutOfMemory>
     ensures ok { OnOk result (out.new.items ≡ out.old.items ++ ticked_spelling ticked.now) }
     ensures err { OnErr result (StartsWith out.new.items out.old.items) }
@@ -170,7 +170,7 @@ pub fn put_ticked(out: &mut Vec<u8>, ticked: &Ticked) -> Result<(), OutOfMemory>
     }
 }
 
-/// Appends whether a node stopped.
+/// Appends the answer to a stop.
 pub fn put_halted(out: &mut Vec<u8>, halted: Halted) -> Result<(), OutOfMemory>
     ensures ok { OnOk result (out.new.items ≡ out.old.items ++ halted_spelling halted) }
     ensures err { OnErr result (StartsWith out.new.items out.old.items) }
@@ -181,7 +181,7 @@ pub fn put_halted(out: &mut Vec<u8>, halted: Halted) -> Result<(), OutOfMemory>
     }
 }
 
-/// Appends the line of an answer of whichever kind. Called, not inlined: few lines come here.
+/// Appends the line of any answer. Not inlined, since it is called for few lines.
 #[inline(never)]
 fn put_line(out: &mut Vec<u8>, answer: &Answer) -> Result<(), OutOfMemory>
     ensures ok { OnOk result (out.new.items ≡ out.old.items ++ ended (answer_spelling answer.now)) }
@@ -199,7 +199,7 @@ fn put_line(out: &mut Vec<u8>, answer: &Answer) -> Result<(), OutOfMemory>
     put_bytes(out, b"\n")
 }
 
-/// Appends the line of an answer. The two that most lines have are told apart before the others.
+/// Appends the line of an answer. The two most frequent answers are tested for first.
 #[inline(always)]
 pub fn put_answer(out: &mut Vec<u8>, answer: &Answer) -> Result<(), OutOfMemory>
     ensures ok { OnOk result (out.new.items ≡ out.old.items ++ ended (answer_spelling answer.now)) }

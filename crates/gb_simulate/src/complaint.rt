@@ -1,4 +1,4 @@
-//! What is told of how a schedule ended.
+//! What is printed on how a schedule ended.
 ghost use Rattle.std.specs.Prelude.{◌≡◌, ◌++◌, codes, decimal, ◌≢◌, IsOk, OnOk};
 ghost use Rattle.std.specs.Io.KnownBytes.{Appends, Keeps};
 ghost use Rattle.gb_lines.specs.Lines.{ended};
@@ -13,7 +13,7 @@ use gb_types::number::put_number;
 use std::alloc::Global;
 use std::io::Write;
 
-/// Why a line is bad, in words.
+/// Returns the words for why a line is bad.
 fn reason(why: BadLine) -> &'static [u8]
     ensures { result.now ≡ reason_words why }
 {
@@ -25,7 +25,7 @@ fn reason(why: BadLine) -> &'static [u8]
     }
 }
 
-/// The line of a fault.
+/// Returns the line of a fault.
 fn fault_line(fault: SimFault) -> &'static [u8]
     ensures { result.now ≡ ended (fault_words fault) }
 {
@@ -48,7 +48,7 @@ fn put_reason(text: &mut Vec<u8>, number: u64, why: BadLine) -> Result<(), OutOf
     Ok(())
 }
 
-/// Writes the line that says what went wrong, and nothing where all lines were read. Only the line of a bad line takes
+/// Writes the line that says what went wrong. If all lines were read, writes nothing. Only the line of a bad line takes
 /// memory.
 pub fn complain<W: Write>(
     alloc: Global,

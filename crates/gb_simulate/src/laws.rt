@@ -12,7 +12,7 @@ use gb_isolation::laws::{
 };
 
 /// What `simulate` writes is the text of a run: a cluster is started, its events are those that the lines spell, and its
-/// answers are the lines that are written; and of that run holds every law of runs: of its nodes, its packets and its links,
+/// answers are the lines that are written. That run keeps every law of runs: those of its nodes, its packets and its links,
 /// of ticks and refusals, and isolation, alone and beside another run, integrity, order, duties and agreement of its groups.
 pub fn texts_are_of_runs()
     ensures { TextsAreOfRuns }

@@ -7,7 +7,7 @@ use gb_lines::lines::LinesFault;
 use gb_types::memory::OutOfMemory;
 use thiserror::Error;
 
-/// Why a line is bad. Where it is too long, nothing else is asked; then whether there are too many.
+/// Why a line is bad. Of several reasons the first in this order is told.
 #[derive(Clone, Copy, PartialEq, Eq)]
 pub enum BadLine {
     /// The line has more bytes than a line may have.

@@ -18,7 +18,7 @@ use gb_types::memory::OutOfMemory;
 use std::alloc::Global;
 use std::io::{Read, Write};
 
-/// The bytes of answers that are gathered before they are written, where no read comes first.
+/// The bytes of answers that are gathered before they are written, if no read comes first.
 const GATHERED: usize = 16_384;
 
 const _: () = prove!(GATHERED == 16_384);
@@ -32,8 +32,8 @@ fn end_badly(number: u64, why: BadLine, gathered: &mut Vec<u8>) -> Result<SimEnd
     Ok(SimEnd::BadLine(number, why))
 }
 
-/// Answers the next line, or finds the end of the schedule. Where memory lacks, a part of the answer may be gathered. Inlined, as
-/// the next is: a schedule was measured to take less time so.
+/// Answers the next line, or finds the end of the schedule. If there is no memory, a part of the answer may be gathered. Inlined,
+/// as the next function is: a schedule was measured to take less time so.
 #[inline(always)]
 fn gather_next<R: Read>(
     alloc: Global,
@@ -88,7 +88,7 @@ fn answer_next<R: Read>(
     outcome
 }
 
-/// Writes the answers that were gathered, where there are any, and flushes them.
+/// Writes the answers that were gathered, if there are any, and flushes them.
 fn hand_over<W: Write>(writer: &mut W, gathered: &mut Vec<u8>) -> Result<(), SimFault>
     ensures ok { OnOk result (HandsOver (W.contents writer.old) (W.contents writer.new) gathered.old.items gathered.new.items) }
     ensures all { OnOk result (gathered.new.items ≡ []) }
@@ -102,8 +102,8 @@ fn hand_over<W: Write>(writer: &mut W, gathered: &mut Vec<u8>) -> Result<(), Sim
     Ok(())
 }
 
-/// Writes the answers that were gathered, where they are many, or where the next line cannot be told without a read:
-/// none waits while a reader does.
+/// Writes the answers that were gathered if they have `GATHERED` bytes or more, or if the next line needs a read. So no
+/// answer waits while the reader waits.
 fn hand_over_in_time<W: Write>(
     writer: &mut W,
     lines: &LineBuffer,
@@ -119,7 +119,7 @@ fn hand_over_in_time<W: Write>(
     Ok(())
 }
 
-/// Answers the lines of a schedule. What is gathered at the end, or where a read or memory fails, is not written yet.
+/// Answers the lines of a schedule. At the end, or if a read fails or there is no memory, the gathered answers are not yet written.
 fn answer_lines<R: Read, W: Write>(
     alloc: Global,
     reader: &mut R,
@@ -162,10 +162,10 @@ fn answer_all<R: Read, W: Write>(
     answer_lines(alloc, reader, writer, lines, &mut keys, cluster, gathered)
 }
 
-/// Runs the schedule that the reader gives and writes its answers: a line for each event, up to the
-/// end, the first bad line or a fault. Each answer is written whole, but where the writer itself
-/// fails. Answers are gathered, and written and flushed before each read and at the end. The cluster is the one that the
-/// schedule starts: one that was there before is given up first, and whoever runs the schedule gives up this one.
+/// Runs the schedule that the reader holds and writes its answers: a line for each event, up to the
+/// end, the first bad line or a fault. Each answer is written whole, unless a write fails. Answers are gathered, and written
+/// and flushed before each read and at the end. `cluster` becomes the cluster that the schedule starts: one that was there
+/// before is dropped first, and the caller drops this one.
 pub fn simulate<R: Read, W: Write>(
     alloc: Global,
     reader: &mut R,

@@ -1,4 +1,4 @@
-//! Writes answers, and says how far a failed write came.
+//! Writes answers, and says how much of an answer a failed write left.
 ghost use Rattle.std.specs.Prelude.{◌≡◌, ◌≢◌, ◌≤◌, ◌⊎◌, length, take, IfOk, OnOk, IfErr, codes};
 ghost use Rattle.std.specs.Io.KnownBytes.{Appends, Keeps};
 ghost use Rattle.gb_lines.specs.Lines.{ended};
@@ -7,7 +7,7 @@ ghost use Rattle.gb_simulate.specs.Writing.{AppendsFront};
 use crate::outcome::{SimEnd, SimFault};
 use std::io::{ErrorKind, Write};
 
-/// Makes one write of a part of the text, and says how many bytes it took: none, where a signal interrupted it.
+/// Makes one write. Returns the number of bytes that the writer took, 0 if a signal interrupted the write.
 fn write_some<W: Write>(writer: &mut W, text: &[u8]) -> Result<usize, SimFault>
     ensures within { IfOk result (λ count. count ≤ length text.now) }
     ensures ok { IfOk result (λ count. Appends (W.contents writer.old) (W.contents writer.new) (take count text.now)) }
@@ -23,7 +23,7 @@ fn write_some<W: Write>(writer: &mut W, text: &[u8]) -> Result<usize, SimFault>
     }
 }
 
-/// Lets nothing wait in the writer.
+/// Flushes the writer.
 fn flush<W: Write>(writer: &mut W) -> Result<(), SimFault>
     ensures kept { Keeps (W.contents writer.old) (W.contents writer.new) }
     ensures fault { IfErr result (λ why. why ≡ SimFault.Write) }
@@ -34,8 +34,8 @@ fn flush<W: Write>(writer: &mut W) -> Result<(), SimFault>
     }
 }
 
-/// Writes a whole text and flushes it. A fault is a failed write, and only a front of the text may
-/// stand there then.
+/// Writes a whole text and flushes it. `Write`: a write failed; the writer took a front of the text, which may be empty
+/// or whole.
 pub fn write_text<W: Write>(writer: &mut W, text: &[u8]) -> Result<(), SimFault>
     ensures ok { OnOk result (Appends (W.contents writer.old) (W.contents writer.new) text.now) }
     ensures fault { IfErr result (λ why. (why ≡ SimFault.Write) × AppendsFront (W.contents writer.old) (W.contents writer.new) text.now) }
@@ -50,7 +50,7 @@ pub fn write_text<W: Write>(writer: &mut W, text: &[u8]) -> Result<(), SimFault>
     Err(SimFault::Write)
 }
 
-/// Writes the line `out of memory` behind the answers, where a schedule ended so.
+/// Writes the line `out of memory` behind the answers if a schedule ended so.
 pub fn tell_want_of_memory<W: Write>(
     outcome: Result<SimEnd, SimFault>,
     writer: &mut W,

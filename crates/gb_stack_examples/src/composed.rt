@@ -41,7 +41,7 @@ fn take<L: Layer>(layer: &mut L, call: Call, out: &mut Effects) -> Result<(), Ou
     Ok(())
 }
 
-/// Whether a call gives the same at two layers.
+/// Returns true if a call sends and hands up the same at two layers.
 fn gives_same<L: Layer, M: Layer>(
     alloc: Global,
     one: &mut L,

@@ -33,7 +33,7 @@ const UPS: [Up; 2] = [
     },
 ];
 
-/// Compares what a layer that is told so sends and hands up.
+/// Compares what a layer sends and hands up after `tell`.
 fn compare_told(rt: &impl Abort, out: &Effects) {
     assert!(rt; out.sends.as_slice() == [OWN].as_slice());
     assert!(rt; out.ups.as_slice() == UPS.as_slice());
@@ -54,13 +54,13 @@ const HISTORY: [Call; 3] = [
     Call::Came(ORIGIN, FIRST),
 ];
 
-/// Whether the plain program says of the history that it has this log.
+/// Returns true if the plain program computes this log for the history.
 fn has_log(alloc: Global, module: BroadcastModule, log: &[MsgId]) -> Result<bool, OutOfMemory> {
     let found = plain::log(alloc, module, ME, &MEMBERS, &HISTORY)?;
     Ok(found.as_slice() == log)
 }
 
-/// Whether the plain program says of the history that its last call has these broadcasts.
+/// Returns true if the plain program computes these broadcasts for the last call of the history.
 fn has_broadcasts(
     alloc: Global,
     module: BroadcastModule,
@@ -70,7 +70,7 @@ fn has_broadcasts(
     Ok(found.as_slice() == broadcasts)
 }
 
-/// Compares what the plain program says of the history with this log and these broadcasts.
+/// Compares what the plain program computes for the history with this log and these broadcasts.
 fn compare(
     rt: &impl Abort,
     alloc: Global,

@@ -1,5 +1,5 @@
 //! Worked uses of the broadcasts and their layers, as tests: each stack beside the plain program of its kind, and lists
-//! worked out by hand. There is nothing here but tests.
+//! worked out by hand. This crate has tests only.
 #![tactic(auto)]
 
 #[cfg(test)]

@@ -2,7 +2,7 @@
 use gb_types::message::MsgId;
 use gb_types::node::NodeId;
 
-/// The last node that there may be.
+/// The node with the greatest number that is allowed.
 pub const ORIGIN: NodeId = NodeId { number: 31 };
 
 pub const ME: NodeId = NodeId { number: 1 };

@@ -20,12 +20,12 @@ const ME: u8 = 1;
 
 const OTHER: u8 = 31;
 
-/// The node with this number, below 32.
+/// Returns the node with this number, below 32.
 fn node(number: u8) -> NodeId {
     NodeId::new(number % 32)
 }
 
-/// The message of this origin with this number.
+/// Returns the message of this origin with this number.
 fn message(origin: u8, seq: u16) -> MsgId {
     MsgId {
         origin: node(origin),
@@ -42,13 +42,13 @@ fn listed(alloc: Global, told: &[(u8, u16)]) -> Result<Vec<MsgId>, OutOfMemory> 
     Ok(found)
 }
 
-/// Whether these messages were sent.
+/// Returns true if these messages were sent.
 fn has_sent(alloc: Global, out: &Effects, sends: &[(u8, u16)]) -> Result<bool, OutOfMemory> {
     let sends = listed(alloc, sends)?;
     Ok(out.sends.as_slice() == sends.as_slice())
 }
 
-/// The messages that came up.
+/// Returns the messages that came up.
 fn messages(alloc: Global, out: &Effects) -> Result<Vec<MsgId>, OutOfMemory> {
     let mut found = Vec::new(alloc);
     for up in &out.ups {
@@ -57,7 +57,7 @@ fn messages(alloc: Global, out: &Effects) -> Result<Vec<MsgId>, OutOfMemory> {
     Ok(found)
 }
 
-/// Whether these messages came up.
+/// Returns true if these messages came up.
 fn has_given(alloc: Global, out: &Effects, ups: &[(u8, u16)]) -> Result<bool, OutOfMemory> {
     let found = messages(alloc, out)?;
     let ups = listed(alloc, ups)?;
@@ -79,7 +79,7 @@ fn compare(
     Ok(())
 }
 
-/// The own message is said, or another one comes from its origin.
+/// Returns the call that says an own message, or the arrival of another origin's message from its origin.
 fn call_of(origin: u8, seq: u16) -> Call {
     let m = message(origin, seq);
     if origin == ME {
@@ -89,7 +89,7 @@ fn call_of(origin: u8, seq: u16) -> Call {
     }
 }
 
-/// The own message is said to a fifo, or another one comes from its origin. Then so many have come up.
+/// Makes the call for a message at a fifo. Then the number of messages that have come up is the last number of the step.
 fn take<L: Layer>(
     rt: &impl Abort,
     fifo: &mut L,
@@ -103,7 +103,7 @@ fn take<L: Layer>(
     Ok(())
 }
 
-/// Says the node's own messages to a fifo, and has the others come from their origins. After each so many have come up.
+/// Takes the steps at a new fifo, one after the other. Returns what was sent and what came up.
 fn told(
     rt: &impl Abort,
     alloc: Global,
@@ -184,7 +184,7 @@ fn tell<L: Layer>(rt: &impl Abort, layer: &mut L, out: &mut Effects) -> Result<(
     take_all(layer, &calls, out)
 }
 
-/// Compares what a layer that is told so sends and gives up.
+/// Compares what a layer sends and hands up after `tell`.
 fn compare_told<L: Layer>(
     rt: &impl Abort,
     alloc: Global,
@@ -203,13 +203,13 @@ fn compare_two_fifos(rt: &impl Abort, alloc: Global) -> Result<(), OutOfMemory> 
     compare_told(rt, alloc, &mut fifo)
 }
 
-/// The laws of what a fifo over a layer gives up.
+/// Calls the laws on what a fifo over a layer hands up.
 fn laws<L: Broadcast>() {
     order::one_two_three::<L>();
     order::in_origin_order::<L>();
 }
 
-/// A fifo over a fifo gives up the same. It stands where the layer below stands, and makes room for each call.
+/// A fifo over a fifo hands up the same as a fifo. It may take the place of the layer below, and makes room for each call.
 #[test]
 fn a_fifo_stands_over_any_broadcast(rt: HostRuntime) -> Result<(), Fail> {
     laws::<Fifo<Direct<Beb>>>();
@@ -217,7 +217,7 @@ fn a_fifo_stands_over_any_broadcast(rt: HostRuntime) -> Result<(), Fail> {
     Ok(())
 }
 
-/// Puts what was delivered in order by the plain program, and compares.
+/// Returns true if the plain program puts what was delivered in this order.
 fn in_order(
     alloc: Global,
     delivered: &[(u8, u16)],
@@ -229,7 +229,7 @@ fn in_order(
     Ok(found.as_slice() == given.as_slice())
 }
 
-/// What was delivered, and the order in which it is given.
+/// What was delivered, and the order in which it is handed up.
 type Order = (&'static [(u8, u16)], &'static [(u8, u16)]);
 
 const NOTHING: Order = (&[], &[]);
@@ -248,7 +248,7 @@ const ZERO: Order = (&[(ORIGIN, 0), (ORIGIN, 65535), (ORIGIN, 1)], &[(ORIGIN, 1)
 const ORDERS: &[Order] = &[NOTHING, FILLED, GAP, REPEATED, ZERO];
 
 /// The plain program, on lists worked out by hand: a gap that is filled, one that is not, a repeated message, and a
-/// message with the number 0, which no run from 1 on has.
+/// message with the number 0, which is less than each number that a message may have.
 #[test]
 fn plain_answers_are_those_of_the_definition(rt: HostRuntime) -> Result<(), Fail> {
     for (delivered, given) in ORDERS {

@@ -1,4 +1,4 @@
-//! The room that calls need, up to the last number that there is.
+//! The room that calls need, up to the greatest number of calls.
 use crate::names::{MEMBERS, OWN};
 use crate::stacks::{set, stack};
 use gb_layer::effects::{Effects, Room};
@@ -8,7 +8,7 @@ use gb_types::kind::Kind;
 use gb_types::node::NodeSet;
 use std::test::Fail;
 
-/// Room for three sends and for one pair fewer than a number can say.
+/// Room for three sends and for one pair fewer than the greatest number.
 const ONE_LEFT: Room = Room {
     sends: 3,
     ups: usize::MAX - 1,
@@ -33,7 +33,7 @@ fn messages_and_calls_are_counted_up_to_the_last_number(rt: HostRuntime) -> Resu
     Ok(())
 }
 
-/// A stack that was refused room for more calls than a number can count is as before, and takes a call that it has room
+/// A stack that was refused room for too many calls has not changed, and takes a call that it has room
 /// for.
 #[test]
 fn a_stack_that_was_refused_room_goes_on(rt: HostRuntime) -> Result<(), Fail> {

@@ -32,7 +32,7 @@ const CALLS: [Call; 9] = [
     Call::Notice(OTHER),
 ];
 
-/// These nodes, as a set.
+/// Returns these nodes, as a set.
 pub fn set(nodes: &[NodeId]) -> NodeSet {
     let mut found = NodeSet::new();
     for node in nodes {
@@ -41,7 +41,7 @@ pub fn set(nodes: &[NodeId]) -> NodeSet {
     found
 }
 
-/// A stack of a kind, at a node that noticed these.
+/// Returns a stack of a kind, at a node that noticed `noticed`.
 pub fn stack(alloc: Global, kind: Kind, noticed: &NodeSet) -> Result<Stack, OutOfMemory>
     ensures { IfOk result (λ s. ⟦<Stack as Layer>⟧.is_empty (⟦<Stack as Layer>⟧.meaning s)) }
 {
@@ -55,7 +55,7 @@ pub fn stack(alloc: Global, kind: Kind, noticed: &NodeSet) -> Result<Stack, OutO
     Stack::new(alloc, &spec, ME, noticed)
 }
 
-/// Whether the call was made.
+/// Returns true if the call was made.
 fn was_made(past: &[Call], call: Call) -> bool {
     for made in past {
         if *made == call {
@@ -65,7 +65,7 @@ fn was_made(past: &[Call], call: Call) -> bool {
     false
 }
 
-/// Whether the caller may make the call after these, the newest first.
+/// Returns true if the caller may make the call after these, the newest first.
 fn may_come(past: &[Call], call: Call) -> bool {
     let own_is_said = was_made(past, Call::Say(OWN));
     match call {
@@ -75,7 +75,7 @@ fn may_come(past: &[Call], call: Call) -> bool {
     }
 }
 
-/// Whether the plain program broadcasts the same at the last call of a history.
+/// Returns true if the plain program broadcasts the same at the last call of a history.
 fn has_sent(
     alloc: Global,
     kind: Kind,
@@ -86,7 +86,7 @@ fn has_sent(
     Ok(sends == broadcasts.as_slice())
 }
 
-/// Whether the plain program has the same log after a history.
+/// Returns true if the plain program has the same log after a history.
 fn has_log(
     alloc: Global,
     kind: Kind,
@@ -139,7 +139,7 @@ fn take_and_compare<L: Broadcast>(
     compare_effects(rt, alloc, kind, history, &out, log)
 }
 
-/// The notices of the other members among these nodes, the newest first.
+/// Returns the notices of the other members among these nodes, the newest first.
 fn notices(alloc: Global, noticed: &[NodeId]) -> Result<Vec<Call>, OutOfMemory> {
     let mut history = Vec::new(alloc);
     for who in noticed {
@@ -150,7 +150,7 @@ fn notices(alloc: Global, noticed: &[NodeId]) -> Result<Vec<Call>, OutOfMemory> 
     Ok(history)
 }
 
-/// Makes the calls one by one at the layer of this node, up to the first that may not come. Answers whether all were
+/// Makes the calls one by one at the layer of this node, up to the first that may not come. Returns true if all were
 /// made.
 fn take_calls<L: Broadcast>(
     rt: &impl Abort,
@@ -173,7 +173,7 @@ fn take_calls<L: Broadcast>(
     Ok(true)
 }
 
-/// Makes the calls at a new stack, up to the first that may not come. Answers whether all were made.
+/// Makes the calls at a new stack, up to the first that may not come. Returns true if all were made.
 fn compare(
     rt: &impl Abort,
     alloc: Global,
@@ -242,14 +242,14 @@ pub fn take_all<L: Layer>(
     Ok(())
 }
 
-/// What these calls of a layer send and hand up, one after the other.
+/// Returns what these calls of a layer send and hand up, one after the other.
 fn effects<L: Layer>(alloc: Global, layer: &mut L, calls: &[Call]) -> Result<Effects, OutOfMemory> {
     let mut out = Effects::new(alloc);
     take_all(layer, calls, &mut out)?;
     Ok(out)
 }
 
-/// What these calls of a new stack send and hand up, one after the other.
+/// Returns what these calls of a new stack send and hand up, one after the other.
 fn run(
     alloc: Global,
     kind: Kind,
@@ -260,10 +260,10 @@ fn run(
     effects(alloc, &mut layer, calls)
 }
 
-/// A kind, whether the origin was noticed, and how many messages are then sent and handed up.
+/// A kind, true if the origin was noticed, and the numbers of messages that are then sent and handed up.
 type Copied = (Kind, bool, usize, usize);
 
-/// Whether a copy of another node's message has a kind send and hand up so many messages.
+/// Returns true if a stack sends and hands up the numbers of messages of the case when a copy of another node's message comes.
 fn is_copied(alloc: Global, case: Copied) -> Result<bool, OutOfMemory> {
     let (kind, is_noticed, sends, ups) = case;
     let mut noticed = NodeSet::new();
@@ -292,7 +292,7 @@ const COPIES: &[Copied] = &[
 ];
 
 /// A relayed copy is delivered by lazy and by eager broadcast, and relayed by eager; best effort does neither. All-ack
-/// relays it, and delivers it where the origin, which is not known to hold it, was noticed. Majority-ack relays it, and
+/// relays it, and delivers it if the origin, which is not known to hold it, was noticed. Majority-ack relays it, and
 /// delivers it at once, since two of the three members hold it.
 #[test]
 fn a_relayed_copy_tells_the_kinds_apart(rt: HostRuntime) -> Result<(), Fail> {
@@ -303,7 +303,7 @@ fn a_relayed_copy_tells_the_kinds_apart(rt: HostRuntime) -> Result<(), Fail> {
     Ok(())
 }
 
-/// Whether these messages of the origin came up, as taken from it.
+/// Returns true if these messages of the origin came up, as taken from it.
 fn has_given(out: &Effects, told: &[MsgId]) -> bool {
     let ups = out.ups.as_slice();
     if ups.len() != told.len() {
@@ -317,16 +317,16 @@ fn has_given(out: &Effects, told: &[MsgId]) -> bool {
     true
 }
 
-/// Whether two messages that come in the other order have a kind send them so and hand up these, after the origin's
-/// notice.
+/// Returns true if a stack sends two messages in the order in which they come, the second one first, and hands up `told`, after
+/// the origin's notice.
 fn is_turned(alloc: Global, kind: Kind, told: &[MsgId]) -> Result<bool, OutOfMemory> {
     let calls = [Call::Came(OTHER, SECOND), Call::Came(OTHER, FIRST)];
     let out = run(alloc, kind, &set(&[ORIGIN]), &calls)?;
     Ok(out.sends.as_slice() == [SECOND, FIRST].as_slice() && has_given(&out, told))
 }
 
-/// Under a fifo kind the second message waits for the first, which a lazy stack that starts after the origin's
-/// notice also relays.
+/// Under a fifo kind the second message waits for the first. A lazy stack that starts after the origin's notice also
+/// relays the first.
 #[test]
 fn fifo_lazy_waits_and_relays(rt: HostRuntime) -> Result<(), Fail> {
     let waits = is_turned(rt.alloc(), Kind::FifoLazy, &[FIRST, SECOND])?;
@@ -336,8 +336,8 @@ fn fifo_lazy_waits_and_relays(rt: HostRuntime) -> Result<(), Fail> {
     Ok(())
 }
 
-/// What the second of two calls gives, of a new layer that took its memory once, for one message a member; none where
-/// that limit does not allow both.
+/// Returns what the second of two calls sends and hands up at a new layer that took its memory once, for one message of each
+/// member. `None` if that limit does not allow both calls.
 fn second_of<L: Layer>(
     alloc: Global,
     layer: &mut L,
@@ -362,7 +362,7 @@ fn second_of<L: Layer>(
     }
 }
 
-/// The same of a stack that started after these notices.
+/// Returns what `second_of` does, of a stack that started after these notices.
 fn two(
     alloc: Global,
     kind: Kind,
@@ -377,7 +377,7 @@ fn two(
 /// Two copies of a message, the newest first.
 const COPIED: [Call; 2] = [Call::Came(OTHER, FIRST), Call::Came(ORIGIN, FIRST)];
 
-/// Compares what the second copy sends and brings up with the plain program's answers.
+/// Compares what the second copy sends and hands up with the plain program's answers.
 fn compare_second(
     rt: &impl Abort,
     alloc: Global,
@@ -388,7 +388,7 @@ fn compare_second(
     compare_effects(rt, alloc, kind, &COPIED, out, &mut log)
 }
 
-/// Compares what two copies of a message send and bring up with the plain program's answers. Answers whether the limit
+/// Compares what two copies of a message send and hand up with the plain program's answers. Returns true if the limit
 /// allows both.
 fn compare_two(rt: &impl Abort, alloc: Global, kind: Kind) -> Result<bool, OutOfMemory> {
     match two(alloc, kind, &NodeSet::new(), COPIED[1], COPIED[0])? {
@@ -400,7 +400,7 @@ fn compare_two(rt: &impl Abort, alloc: Global, kind: Kind) -> Result<bool, OutOf
     }
 }
 
-/// Whether the limit does not allow a second message of a member, after another one's notice.
+/// Returns true if the limit does not allow a second message of a member, after another one's notice.
 fn is_beyond(alloc: Global, kind: Kind) -> Result<bool, OutOfMemory> {
     let first = Call::Came(ORIGIN, FIRST);
     let second = Call::Came(ORIGIN, SECOND);
@@ -409,7 +409,7 @@ fn is_beyond(alloc: Global, kind: Kind) -> Result<bool, OutOfMemory> {
 }
 
 /// Each stack, of a new node and of one that noticed another, takes its memory once: two copies of a message then
-/// send and bring up what the plain program says. The number after the last that the limit allows is not allowed.
+/// send and hand up what the plain program computes. A number above the limit is not allowed.
 #[test]
 fn each_stack_takes_its_memory_once(rt: HostRuntime) -> Result<(), Fail> {
     for kind in KINDS {

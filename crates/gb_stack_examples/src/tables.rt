@@ -1,4 +1,4 @@
-//! A table of places, at the end of what it can say.
+//! A table of places, at its limits.
 use gb_layer::table::Table;
 use gb_types::memory::OutOfMemory;
 use gb_types::message::MsgId;
@@ -19,7 +19,7 @@ const OTHER: MsgId = MsgId {
     seq: 2,
 };
 
-/// What a table says of the first message, and of another that comes after so many.
+/// Returns what a table says of the first message, and of one that comes after `count` others.
 fn said_after(alloc: Global, count: usize) -> Result<(Option<usize>, Option<usize>), OutOfMemory> {
     let mut table = Table::new(alloc);
     let mut members = NodeSet::new();
@@ -30,7 +30,7 @@ fn said_after(alloc: Global, count: usize) -> Result<(Option<usize>, Option<usiz
     Ok((table.told(FIRST), table.told(OTHER)))
 }
 
-// Beyond that it speaks of none, so that all messages are looked through.
+// With more messages it answers `None` for each, so that all messages are searched.
 #[test]
 fn a_table_speaks_of_65_535_messages(rt: HostRuntime) -> Result<(), Fail> {
     let last = said_after(rt.alloc(), 65_534)?;

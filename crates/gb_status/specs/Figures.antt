@@ -1,4 +1,4 @@
--- How a node's figures are told. Source: the text exposition format 0.0.4 of Prometheus.
+-- How a node's figures are written. Source: the text exposition format 0.0.4 of Prometheus.
 use Rattle.std.specs.Prelude.{ℕ, ◌-◌, ◌^◌, List, ◌++◌, codes, decimal, slice_index, min}
 use Rattle.std.specs.List.{flat_map}
 use Rattle.gb_status.specs.declared.figure.Figure.{Figure}
@@ -11,22 +11,22 @@ use Rattle.gb_status.specs.Names.{family_of, head_of, label_of, line_feed, place
 abbrev pub value_of : Figures → Figure → ℕ
 value_of figures figure = slice_index figures.numbers (place_of figure)
 
--- a count has 64 bits, and stays at the greatest
+-- a count has 64 bits, and stays at 2^64 - 1 once it is reached
 abbrev pub capped : ℕ → ℕ
 capped n = min n (2 ^ 64 - 1)
 
--- the line of a figure of a node: its name and its labels, and its number
+-- the beginning of the line of a figure of a node: its name and its labels
 abbrev pub front_text : Figure → ℕ → List ℕ
 front_text figure node = family_of figure ++ codes "{node=" ++ quote ++ decimal node ++ quote ++ label_of figure
 
 abbrev pub line_text : Figure → ℕ → ℕ → List ℕ
 line_text figure node number = front_text figure node ++ codes "} " ++ decimal number ++ line_feed
 
--- what stands above a figure, and its lines, one for each node
+-- the lines that stand above a figure, and its own lines, one for each node
 abbrev pub figure_text : List NodeFigures → Figure → List ℕ
 figure_text all figure = head_of figure ++ flat_map (λ row. line_text figure row.node.number (value_of row.figures figure)) all
 
--- all figures of these nodes
+-- the text of all figures of these nodes
 abbrev pub metrics_text : List NodeFigures → List ℕ
 metrics_text all = flat_map (figure_text all) FIGURES
 

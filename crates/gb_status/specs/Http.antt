@@ -34,7 +34,7 @@ Asks bytes OtherMethod = (head : RequestHead) × (rest : List ℕ) × ReadsReque
 Asks bytes More = HasNoRequest bytes
 Asks bytes NoRequest = RequestOverflows 64 bytes
 
--- the lines of an answer's head, but for the length
+-- the lines of an answer's head, without the one of the length
 abbrev pub lines_of : Code → List ℕ
 lines_of Fine = codes "HTTP/1.1 200 OK" ++ line_end ++ codes "Content-Type: text/plain; version=0.0.4; charset=utf-8" ++ line_end ++ codes "Connection: close" ++ line_end
 lines_of BadRequest = codes "HTTP/1.1 400 Bad Request" ++ line_end ++ codes "Content-Type: text/plain; charset=utf-8" ++ line_end ++ codes "Connection: close" ++ line_end
@@ -55,7 +55,7 @@ code_of OtherMethod is_serving = NotAllowed
 code_of More is_serving = BadRequest
 code_of NoRequest is_serving = BadRequest
 
--- what is answered behind the figures, where they are asked for
+-- the text that is answered; none if the figures are asked for
 abbrev pub note_of : Asked → Bool → List ℕ
 note_of Metrics is_serving = []
 note_of Health is_serving = if is_serving then codes "ok" ++ line_feed else (codes "ended" ++ line_feed)
@@ -64,7 +64,7 @@ note_of OtherMethod is_serving = codes "only GET" ++ line_feed
 note_of More is_serving = codes "no request" ++ line_feed
 note_of NoRequest is_serving = codes "no request" ++ line_feed
 
--- the figures, where they are asked for
+-- the text of the figures, if they are asked for
 abbrev pub figures_for : Asked → List NodeFigures → List ℕ
 figures_for Metrics all = metrics_text all
 figures_for other all = []
@@ -73,11 +73,11 @@ figures_for other all = []
 abbrev pub answer_of : Asked → List NodeFigures → Bool → List ℕ
 answer_of asked all is_serving = response_text (code_of asked is_serving) (figures_for asked all ++ note_of asked is_serving)
 
--- The text answers what these bytes ask for. A head that is not whole is answered only where no more may come.
+-- The text answers what these bytes ask for. A head that is not whole is answered only if no more bytes may come.
 abbrev pub IsReply : List ℕ → Bool → List NodeFigures → Bool → List ℕ → Type 0
 IsReply bytes may_come all is_serving text =
     (asked : Asked) × Asks bytes asked × (asked ≡ More → may_come ≡ false) × (text ≡ answer_of asked all is_serving)
 
--- the loops of these nodes run
+-- the loop of each of these nodes runs
 abbrev pub all_run : List NodeFigures → Bool
 all_run all = list_all (λ row. value_of row.figures Running == 1) all

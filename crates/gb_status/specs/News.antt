@@ -9,7 +9,7 @@ use Rattle.gb_status.specs.declared.figure.Figure.TheVariants.{Lost, RefusedOutO
 use Rattle.gb_status.specs.declared.figures.Figures.{Figures}
 use Rattle.gb_status.specs.declared.news.Told.{Told}
 
--- what a line of the log that tells of a node begins with: the name of the program, and the node's number
+-- the beginning of a line of the log that tells of a node: the name of the program, and the node's number
 abbrev pub front_of : List ℕ → ℕ → List ℕ
 front_of name node = name ++ codes ": node " ++ decimal node
 
@@ -25,7 +25,7 @@ noticed_line name node other = front_of name node ++ (codes " noticed node " ++ 
 abbrev pub notice_of : List ℕ → ℕ → set.FinSet nat_cmp → ℕ → List ℕ
 notice_of name node told other = if set.contains told other then [] else noticed_line name node other
 
--- the lines of all noticed nodes, rising, but those that were told before
+-- the lines of the noticed nodes that were not told before, in rising order
 abbrev pub notices_of : List ℕ → ℕ → set.FinSet nat_cmp → List ℕ → List ℕ
 notices_of name node told noticed = flat_map (notice_of name node told) noticed
 
@@ -43,11 +43,11 @@ is_full figures = nat_lt 0 (value_of figures TurnedAway)
 abbrev pub is_short : Figures → Bool
 is_short figures = nat_lt 0 (value_of figures Lost) || nat_lt 0 (value_of figures RefusedOutOfMemory)
 
--- a line that is told once
+-- the line, if it is so and was not told before; else nothing
 abbrev pub once : Bool → Bool → List ℕ → List ℕ
 once is_told is_so line = if is_told then [] else (if is_so then line else [])
 
--- what is new of a node
+-- the lines that tell what is new of a node
 abbrev pub news_of : List ℕ → ℕ → Told → Figures → List ℕ → List ℕ
 news_of name node told figures noticed =
     notices_of name node told.noticed noticed ++ once told.is_full (is_full figures) (full_line name node) ++ once told.is_short (is_short figures) (short_line name node)

@@ -1,4 +1,4 @@
-//! Where the threads of nodes put their figures for others to read.
+//! Where each node's thread puts the node's figures for other threads to read.
 use crate::figure::COUNT;
 use crate::figures::{Figures, NodeFigures};
 use gb_types::limits::NODES;
@@ -7,11 +7,11 @@ use gb_types::node::{NodeId, NodeSet};
 use std::alloc::Global;
 use std::sync::atomic::{AtomicU64, Ordering};
 
-/// A number for each figure of each node, and the nodes that it noticed, which one thread may write while others read. Each number is one that was put there, but
-/// those of a node may come from two puts.
+/// For each node, a number for each figure and the set of nodes that it noticed. One thread may write them while others read.
+/// Each number is one that was put there, but the numbers of a node may come from two puts.
 #[derive(Drop)]
 pub struct Board {
-    // The nodes that have a place: `count` of them from number `first` on.
+    // The nodes that have a row: `count` of them from number `first` on.
     first: u8,
     count: u8,
     numbers: Vec<AtomicU64>,
@@ -19,7 +19,7 @@ pub struct Board {
     noticed: Vec<AtomicU64>,
 }
 
-// A set of nodes as a number: the bit with a node's number is 1.
+// Returns a set of nodes as a number: the bit with a node's number is 1.
 fn bits_of(nodes: &NodeSet) -> u64 {
     let mut bits: u64 = 0;
     for number in 0..NODES {
@@ -30,7 +30,7 @@ fn bits_of(nodes: &NodeSet) -> u64 {
     bits
 }
 
-// The set that a number stands for.
+// Returns the set that a number stands for.
 fn set_of(bits: u64) -> NodeSet {
     let mut nodes = NodeSet::new();
     for number in 0..NODES {
@@ -42,7 +42,7 @@ fn set_of(bits: u64) -> NodeSet {
 }
 
 impl Board {
-    /// A board for this number of nodes from one on, all of whose numbers are 0.
+    /// Returns a board for `count` nodes from `first` on. All its numbers are 0.
     pub fn new(alloc: Global, first: NodeId, count: u8) -> Result<Board, OutOfMemory> {
         let mut numbers = Vec::new(alloc);
         let mut noticed = Vec::new(alloc);
@@ -60,7 +60,7 @@ impl Board {
         })
     }
 
-    // The place of a node; None: it has none.
+    // Returns the row of a node. `None` if it has none.
     fn place(&self, node: NodeId) -> Option<u8> {
         let place = node.number.checked_sub(self.first)?;
         if place < self.count {
@@ -70,7 +70,7 @@ impl Board {
         }
     }
 
-    /// Puts the figures of a node there, and the nodes that it noticed. Those of a node that has no place are lost.
+    /// Stores the figures of a node and the nodes that it noticed. If the node has no row, nothing is stored.
     pub fn put(&self, node: NodeId, figures: &Figures, noticed: &NodeSet) {
         let Some(place) = self.place(node) else {
             return;
@@ -86,7 +86,7 @@ impl Board {
         }
     }
 
-    /// The figures of a node that stand there; nothing counted for a node that has no place.
+    /// Returns the stored figures of a node. All are 0 if the node has no row.
     pub fn figures(&self, node: NodeId) -> Figures {
         let mut figures = Figures::new();
         let Some(place) = self.place(node) else {
@@ -101,7 +101,7 @@ impl Board {
         figures
     }
 
-    /// The nodes that a node noticed, as they stand there.
+    /// Returns the stored set of nodes that a node noticed. It is empty if the node has no row.
     pub fn noticed(&self, node: NodeId) -> NodeSet {
         match self.place(node) {
             Some(place) => match self.noticed.get(usize::from(place)) {
@@ -112,7 +112,7 @@ impl Board {
         }
     }
 
-    /// The figures that stand there of the nodes that have a place, in the order of their numbers.
+    /// Returns the stored figures of each node that has a row, in the order of their numbers.
     pub fn all(&self, alloc: Global) -> Result<Vec<NodeFigures>, OutOfMemory> {
         let mut all = Vec::new(alloc);
         for place in 0..self.count {

@@ -1,15 +1,15 @@
-//! The figures of a node: their names, and how they stand in a text.
+//! The figures of a node: their names, and how they are written.
 ghost use Rattle.std.specs.Prelude.{◌≡◌, ◌<◌};
 ghost use Rattle.gb_status.specs.Names.{head_of, label_of, family_of, place_of, word_of};
 ghost use Rattle.gb_status.specs.declared.figure.TheConstants.{COUNT};
 
-/// How many figures a node has.
+/// The number of figures of a node.
 pub const COUNT: usize = 55;
 
 // Definitions cite this value.
 const _: () = prove!(COUNT == 55);
 
-/// A figure of a node. All count from the server's start but the last four, which say what is so.
+/// A figure of a node. The last four are gauges; each other one is a count from the server's start.
 #[derive(Clone, Copy, Debug, PartialEq, Eq)]
 pub enum Figure {
     /// Requests to take a tenant in.
@@ -118,13 +118,13 @@ pub enum Figure {
     Open,
     /// Connections whose await waited at the last tick.
     Waiting,
-    /// Places for groups that no tenant has reserved.
+    /// The number of groups that may still be reserved by tenants.
     PlacesLeft,
-    /// Whether the loop of the node runs: 1, and 0 before it begins and after it ended.
+    /// 1 while the loop of the node runs, 0 before it begins and after it ended.
     Running,
 }
 
-/// Every figure, in the order in which they are told.
+/// Every figure, in the order in which they are written.
 pub const FIGURES: [Figure; COUNT] = [
     Figure::RequestsTenant,
     Figure::RequestsMake,
@@ -184,7 +184,7 @@ pub const FIGURES: [Figure; COUNT] = [
 ];
 
 impl Figure {
-    /// Its place in a table of figures.
+    /// Returns its index in a table of figures.
     pub fn place(self) -> usize
         ensures is { result ≡ place_of self }
         ensures bound { result < COUNT }
@@ -192,7 +192,7 @@ impl Figure {
         self as usize
     }
 
-    /// Its name in the reply to a session's `status`.
+    /// Returns its name in the reply to a session's `status`.
     pub fn word(self) -> &'static [u8]
         ensures { result.now ≡ word_of self }
     {
@@ -255,7 +255,7 @@ impl Figure {
         }
     }
 
-    /// Its name in the text that Prometheus reads. Some figures share one, and differ by their labels.
+    /// Returns its name in the text that Prometheus reads. Some figures share a name and differ by their labels.
     pub fn family(self) -> &'static [u8]
         ensures { result.now ≡ family_of self }
     {
@@ -318,7 +318,7 @@ impl Figure {
         }
     }
 
-    /// What stands behind the node in that text's braces.
+    /// Returns the labels that stand behind the node's label in that text's braces.
     pub fn label(self) -> &'static [u8]
         ensures { result.now ≡ label_of self }
     {
@@ -381,7 +381,7 @@ impl Figure {
         }
     }
 
-    /// The two lines that stand in that text above a name's first figure; nothing for its others.
+    /// Returns the two lines that stand in that text above the first figure with a name. They are empty for its other figures.
     pub fn head(self) -> &'static [u8]
         ensures { result.now ≡ head_of self }
     {

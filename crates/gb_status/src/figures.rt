@@ -9,7 +9,7 @@ use gb_types::node::NodeId;
 /// What a node has counted: a number for each figure, at most 2^64 - 1.
 #[derive(Clone, Copy)]
 pub struct Figures {
-    /// The number of each figure, at its place.
+    /// The number of each figure, at the figure's index.
     pub numbers: [u64; COUNT],
 }
 
@@ -21,7 +21,7 @@ pub struct NodeFigures {
 }
 
 impl Figures {
-    /// Nothing was counted.
+    /// Returns figures that are all 0.
     pub fn new() -> Figures
         ensures { result.numbers ≡ replicate 55 0 }
     {
@@ -30,7 +30,7 @@ impl Figures {
         }
     }
 
-    /// The number of a figure.
+    /// Returns the number of a figure.
     pub fn value(&self, figure: Figure) -> u64
         ensures { result ≡ value_of self.now figure }
     {

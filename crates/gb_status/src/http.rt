@@ -11,7 +11,7 @@ use httparse::Status;
 use httparse::spans::{EMPTY_HEADER_SPAN, parse_request};
 use std::alloc::Global;
 
-/// How many fields the head of a request may have.
+/// The most fields of the head of a request.
 pub const FIELDS: usize = 64;
 
 // Definitions cite this value.
@@ -22,7 +22,7 @@ const _: () = prove!(FIELDS == 64);
 pub enum Asked {
     /// The figures.
     Metrics,
-    /// Whether the nodes are served.
+    /// The state of the nodes: served or not.
     Health,
     /// By GET, something else.
     OtherPlace,
@@ -34,7 +34,7 @@ pub enum Asked {
     NoRequest,
 }
 
-/// What an answer is, by its status code.
+/// The status code of an answer.
 #[derive(Clone, Copy, Debug, PartialEq, Eq)]
 pub enum Code {
     /// 200.
@@ -49,7 +49,7 @@ pub enum Code {
     Unavailable,
 }
 
-// What a request by GET asks for.
+// Returns what a request by GET asks for.
 fn place_asked(target: &[u8]) -> Asked
     ensures { result ≡ place_asked target.now }
 {
@@ -81,7 +81,7 @@ pub fn asked_for(bytes: &[u8]) -> Asked
 }
 
 impl Code {
-    // The lines of an answer's head, but for the length.
+    // Returns the lines of an answer's head, without the one of the length.
     fn lines(self) -> &'static [u8]
         ensures { result.now ≡ lines_of self }
     {
@@ -100,7 +100,7 @@ impl Code {
     }
 }
 
-// An answer with this code and this body.
+// Returns an answer with this code and this body.
 fn response(alloc: Global, code: Code, body: &[u8]) -> Result<Vec<u8>, OutOfMemory>
     ensures { IfOk result (λ text. text.items ≡ response_text code body.now) }
 {
@@ -113,7 +113,7 @@ fn response(alloc: Global, code: Code, body: &[u8]) -> Result<Vec<u8>, OutOfMemo
     Ok(out)
 }
 
-// The code of what is answered but the figures.
+// Returns the code of each answer other than the figures.
 fn code_of(asked: Asked, is_serving: bool) -> Code
     ensures { result ≡ code_of asked is_serving }
 {
@@ -131,7 +131,7 @@ fn code_of(asked: Asked, is_serving: bool) -> Code
     }
 }
 
-// What is answered but the figures.
+// Returns the text of each answer other than the figures.
 fn note_of(asked: Asked, is_serving: bool) -> &'static [u8]
     ensures { result.now ≡ note_of asked is_serving }
 {
@@ -145,7 +145,7 @@ fn note_of(asked: Asked, is_serving: bool) -> &'static [u8]
     }
 }
 
-/// The answer to what is asked for: the figures of these nodes, or whether they are served, or why there is neither.
+/// Returns the answer to what is asked for: the figures of these nodes, whether they are served, or why there is neither.
 pub fn answer(
     alloc: Global,
     asked: Asked,
@@ -162,7 +162,7 @@ pub fn answer(
     response(alloc, code_of(asked, is_serving), &body)
 }
 
-/// Returns the answer to the bytes of a request. None: the head of the request is not whole, and more of it may come.
+/// Returns the answer to the bytes of a request. `None` if the head of the request is not whole and more of it may come.
 pub fn reply(
     alloc: Global,
     bytes: &[u8],

@@ -1,6 +1,6 @@
-//! The figures of a server's nodes, and how they are told: in a session's reply, and in the text that Prometheus reads, by HTTP.
-//! `figures::Figures` is what a node counts, `text` how it is written, `board::Board` where each node's thread puts its figures
-//! for others to read, `http` what is asked for and how it is answered, and `news` what the log tells by them. Read `figure` first.
+//! The figures of a server's nodes, and how they are written: in a session's reply, and in the text that Prometheus reads, by HTTP.
+//! `figures::Figures` is what a node counts, `text` writes it, `board::Board` is where each node's thread puts its figures for
+//! other threads to read, `http` answers requests by HTTP, and `news` writes the lines of the log. Read `figure` first.
 #![tactic(auto)]
 
 pub mod board;

@@ -14,16 +14,16 @@ use gb_types::number::put_number;
 /// What the log has told of a node.
 #[derive(Drop)]
 pub struct Told {
-    /// The nodes that this one noticed.
+    /// The noticed nodes that were told.
     pub noticed: NodeSet,
-    /// That it has as many connections as are allowed.
+    /// True if it was told that the node has as many connections as are allowed.
     pub is_full: bool,
-    /// That it lacked memory.
+    /// True if it was told that the node lacked memory.
     pub is_short: bool,
 }
 
 impl Told {
-    /// Nothing was told.
+    /// Returns a record of a node of which nothing was told.
     pub fn new() -> Told
         ensures noticed { result.noticed ≡ set.empty }
         ensures others { (result.is_full ≡ false) × (result.is_short ≡ false) }
@@ -126,7 +126,7 @@ fn put_notices(
     Ok(())
 }
 
-// Appends a line that tells of a node, if it is so and was not told before.
+// Appends a line that tells of a node, if `is_so` and it was not told before.
 fn put_once(
     out: &mut Vec<u8>,
     name: &[u8],
@@ -187,8 +187,8 @@ fn put_short(
     )
 }
 
-/// Appends the lines that tell what is new of the node with this number, by its figures and the nodes that it noticed. Each begins with the
-/// name of the program.
+/// Appends the lines that tell what is new of the node with this number, by its figures and the nodes that it noticed. Each
+/// line begins with the name of the program.
 pub fn put_news(
     out: &mut Vec<u8>,
     name: &[u8],

@@ -56,7 +56,7 @@ fn put_figures(
     Ok(())
 }
 
-/// The figures of these nodes in the text exposition format 0.0.4 of Prometheus.
+/// Returns the figures of these nodes in the text exposition format 0.0.4 of Prometheus.
 pub fn metrics_text(alloc: Global, all: &[NodeFigures]) -> Result<Vec<u8>, OutOfMemory>
     ensures { IfOk result (λ text. text.items ≡ metrics_text all.now) }
 {
@@ -85,7 +85,7 @@ fn put_words(out: &mut Vec<u8>, list: &[Figure], figures: &Figures) -> Result<()
     Ok(())
 }
 
-/// The text of the reply to a session's `status`: that word, and for each figure a space and `NAME=NUMBER`.
+/// Returns the text of the reply to a session's `status`: that word, and for each figure a space and `NAME=NUMBER`.
 pub fn status_text(alloc: Global, figures: &Figures) -> Result<Vec<u8>, OutOfMemory>
     ensures { IfOk result (λ text. text.items ≡ status_text figures.now) }
 {

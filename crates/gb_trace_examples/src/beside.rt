@@ -45,8 +45,8 @@ const BY_ITSELF: [&[u8]; 27] = [
     b"fetch 1 7 1 0 16",
 ];
 
-/// The same, and another tenant's group has a message in each of the three frames: it is first-in first-out, so the one that
-/// comes first waits.
+/// The same, and another tenant's group has a message in each of the three frames. That group is in first-in first-out order, so
+/// the message that comes first waits.
 const BESIDE: [&[u8]; 42] = [
     b"cluster 3 3",
     b"tenant 0 8 4 8 4096 4",
@@ -92,7 +92,7 @@ const BESIDE: [&[u8]; 42] = [
     b"fetch 1 7 1 0 16",
 ];
 
-/// What of both concerns the first tenant's group, written by hand.
+/// The part of both runs that concerns the first tenant's group, written by hand.
 const LAZY: &[(u8, Told)] = &[
     (0, Told::Tenant),
     (0, Told::Make),
@@ -118,7 +118,7 @@ const LAZY: &[(u8, Told)] = &[
     (1, Told::Fetch),
 ];
 
-/// What of the second concerns the other tenant's group, written by hand.
+/// The part of the second run that concerns the other tenant's group, written by hand.
 const FIFO: &[(u8, Told)] = &[
     (0, Told::Tenant),
     (0, Told::Make),
@@ -151,8 +151,8 @@ struct Shown {
     seen: Observation,
 }
 
-/// What a run of these lines shows of the tenant's group, if all is right in it and the logs that are fetched are so long. The
-/// events are added to a list, which is empty before.
+/// Returns what a run of these lines shows of the tenant's group, if all is right in it and the logs that are fetched have these
+/// numbers of entries. The events are added to a list, which is empty before.
 fn shown_in(
     alloc: Global,
     lines: &[&[u8]],
@@ -182,7 +182,7 @@ fn shown_in(
     }
 }
 
-/// What a run of these lines shows of the tenant's group.
+/// Returns what a run of these lines shows of the tenant's group.
 fn shown_by(
     alloc: Global,
     lines: &[&[u8]],
@@ -193,12 +193,12 @@ fn shown_by(
     shown_in(alloc, lines, logs, tenant, &mut events)
 }
 
-/// The logs that are fetched, by how many entries they have.
+/// The numbers of entries of the logs that are fetched.
 const LOGS_BY_ITSELF: [usize; 3] = [1, 2, 2];
 
 const LOGS_BESIDE: [usize; 6] = [1, 0, 2, 2, 1, 2];
 
-/// Whether both runs show the same of the first tenant's group, and the projection is the one that is written by hand.
+/// Returns true if both runs show the same of the first tenant's group, and the projection is the one that is written by hand.
 fn agrees(alloc: Global) -> Result<bool, OutOfMemory> {
     let by_itself = shown_by(alloc, &BY_ITSELF, &LOGS_BY_ITSELF, 7)?;
     let beside = shown_by(alloc, &BESIDE, &LOGS_BESIDE, 7)?;
@@ -212,7 +212,7 @@ fn agrees(alloc: Global) -> Result<bool, OutOfMemory> {
     }
 }
 
-/// Whether the projection on the second tenant's group is the one that is written by hand.
+/// Returns true if the projection on the second tenant's group is the one that is written by hand.
 fn is_told(alloc: Global) -> Result<bool, OutOfMemory> {
     match shown_by(alloc, &BESIDE, &LOGS_BESIDE, 8)? {
         None => Ok(false),
@@ -220,7 +220,7 @@ fn is_told(alloc: Global) -> Result<bool, OutOfMemory> {
     }
 }
 
-// A tenant's group has the same projection by itself and beside another tenant's, and the same is seen of it.
+// A tenant's group has the same projection and the same observation by itself and beside another tenant's group.
 #[test]
 fn two_runs_of_a_lazy_group_agree(rt: HostRuntime) -> Result<(), Fail> {
     let agrees = agrees(rt.alloc())?;

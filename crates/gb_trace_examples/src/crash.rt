@@ -1,4 +1,4 @@
-// A cluster of three nodes, of which two stop, in short.
+// A cluster of three nodes. Two of them stop. Events are in short.
 use crate::schedule::{FIRST, SECOND, drop_group, fetch, furnish, say, spec_with};
 use crate::told::Told;
 use gb_cluster::event::Event;
@@ -76,7 +76,7 @@ const ACTS: [Act; 31] = [
     Act::Fetch(FIRST, 7),
 ];
 
-/// What of this concerns the groups of tenants 7, 8 and 9: best effort, eager, and all-ack.
+/// The parts of this run that concern the groups of tenants 7, 8 and 9: best effort, eager, and all-ack.
 const BEST_EFFORT: [(u8, Told); 18] = [
     (0, Told::Tenant),
     (0, Told::Make),
@@ -138,7 +138,7 @@ const ALL_ACK: [(u8, Told); 11] = [
     (1, Told::Fetch),
 ];
 
-/// What of this concerns the group of the tenant, written by hand.
+/// Returns the part of this run that concerns the tenant's group, written by hand.
 pub fn told(tenant: u16) -> &'static [(u8, Told)] {
     match tenant {
         7 => &BEST_EFFORT,
@@ -182,7 +182,7 @@ fn add(alloc: Global, events: &mut Vec<Event>, act: Act) -> Result<(), OutOfMemo
     }
 }
 
-/// All that happens.
+/// Returns all events of the run.
 pub fn events(alloc: Global) -> Result<Vec<Event>, OutOfMemory> {
     let mut events = Vec::new(alloc);
     for act in ACTS {

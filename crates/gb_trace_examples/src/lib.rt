@@ -1,6 +1,6 @@
 //! Worked runs of clusters as tests: tenants by themselves and with messages that share frames, nodes of unlike versions, a
-//! group that is settled, and schedules in which a node stops after each event, seen in the run and alone. There is nothing
-//! here but tests.
+//! group that is settled, and schedules in which a node stops after each event, seen in the run and alone. This crate has
+//! tests only.
 #![tactic(auto)]
 
 #[cfg(test)]

@@ -1,4 +1,4 @@
-// The projection of a run on a group, and whether it makes of the group alone what is seen of it.
+// The projection of a run on a group, compared with the group alone.
 ghost use Rattle.std.specs.Prelude.{◌≡◌, ◌≤◌};
 ghost use Rattle.gb_types.specs.declared.limits.TheConstants.{NODES, SILENCE_MIN};
 
@@ -12,8 +12,8 @@ use gb_types::memory::OutOfMemory;
 use gb_types::plan::Plan;
 use std::alloc::Global;
 
-/// The projection on a group, if it makes of the group alone what is seen of it in the run, where it lacked no
-/// memory.
+/// Returns the projection on a group. `None` if the group lacked memory, or if what is seen of it in the run is not what is seen
+/// of the group alone under that projection.
 pub fn projection(
     alloc: Global,
     plan: &Plan,

@@ -1,4 +1,4 @@
-// Which groups are exempt from the law after a refusal for lack of memory.
+// The groups that the law excepts after a refusal for lack of memory.
 use crate::schedule::{FIRST, furnish, group_of, say, spec_with};
 use gb_cluster::answer::Answer;
 use gb_cluster::event::Event;
@@ -13,7 +13,7 @@ use std::alloc::Global;
 use std::rt::HostRuntime;
 use std::test::Fail;
 
-/// Two tenants at the first node, each with a group, and a message of each.
+/// Returns the events of two tenants at the first node, each with a group, and of a message of each.
 fn events(alloc: Global) -> Result<Vec<Event>, OutOfMemory> {
     let mut events = Vec::new(alloc);
     add_events(alloc, &mut events)?;
@@ -30,7 +30,7 @@ fn add_events(alloc: Global, events: &mut Vec<Event>) -> Result<(), OutOfMemory>
     say(alloc, events, FIRST, 8)
 }
 
-/// The trace in which one of the events is refused for lack of memory, and all others are done.
+/// Returns the trace in which the event `refused` is refused for lack of memory, and each other event is done.
 fn trace(alloc: Global, count: usize, refused: usize) -> Result<Trace, OutOfMemory> {
     let mut answers = Vec::new(alloc);
     for i in 0..count {
@@ -47,7 +47,7 @@ fn trace(alloc: Global, count: usize, refused: usize) -> Result<Trace, OutOfMemo
     })
 }
 
-/// Returns whether tenant 7's group lacked memory, and whether tenant 8's did, if this event was refused.
+/// Returns two flags for a run in which this event was refused: tenant 7's group lacked memory, and tenant 8's group did.
 fn lack(alloc: Global, refused: usize) -> Result<(bool, bool), OutOfMemory> {
     let events = events(alloc)?;
     let trace = trace(alloc, events.len(), refused)?;
@@ -56,8 +56,8 @@ fn lack(alloc: Global, refused: usize) -> Result<(bool, bool), OutOfMemory> {
     Ok((seventh, eighth))
 }
 
-/// An event that was refused, and which of the two groups lacked memory then: the first three events are of tenant 7, the
-/// next three of tenant 8, and then each says something.
+/// An event that was refused, and a flag for each of the two groups: it lacked memory then. The first three events are of tenant
+/// 7, the next three of tenant 8; then each says something.
 const CASES: [(usize, bool, bool); 8] = [
     (0, true, false),
     (1, true, false),

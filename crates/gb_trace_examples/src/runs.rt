@@ -17,7 +17,7 @@ use std::test::Fail;
 /// The replies at the first node are the same for each group.
 const FIRST_REPLIES: [Got; 3] = [Got::Done, Got::Done, Got::Said(1)];
 
-/// At the second node, for the groups of tenants 7, 8 and 9.
+/// The replies at the second node, for the groups of tenants 7, 8 and 9.
 const LOGGED: [Got; 3] = [Got::Done, Got::Done, Got::Log(1)];
 
 const STOPPED: [Got; 3] = [Got::Done, Got::Done, Got::Refused(Refusal::Stopped)];
@@ -32,7 +32,7 @@ fn second_replies(tenant: u16) -> &'static [Got] {
     }
 }
 
-/// Whether a tenant's group is seen in the first run as it should be, and its projection is the one that is written by
+/// Returns true if a tenant's group is seen in the first run as it should be, and its projection is the one that is written by
 /// hand.
 fn is_alone(
     alloc: Global,
@@ -50,7 +50,7 @@ fn is_alone(
     }
 }
 
-/// Whether each group is, and how many answers and packets there are.
+/// Returns true if each group is seen as it should be, and the numbers of answers and packets.
 fn outcome(alloc: Global) -> Result<Option<(bool, usize, usize)>, OutOfMemory> {
     let events = events(alloc)?;
     if !is_plan(&PLAN) || !are_placed(2, &events) {
@@ -64,8 +64,8 @@ fn outcome(alloc: Global) -> Result<Option<(bool, usize, usize)>, OutOfMemory> {
     Ok(Some((right, trace.answers.len(), trace.packets.len())))
 }
 
-// Each of three groups is seen in a run as it is alone, though their messages share a frame that comes twice, and one of
-// them is asked for with another node's token.
+// Each of three groups is seen in a run as it is alone. Their messages share a frame that comes twice, and one request for a
+// group has another node's token.
 #[test]
 fn three_groups_in_one_frame(rt: HostRuntime) -> Result<(), Fail> {
     let found = outcome(rt.alloc())?;
@@ -73,7 +73,7 @@ fn three_groups_in_one_frame(rt: HostRuntime) -> Result<(), Fail> {
     Ok(())
 }
 
-/// Whether the projection on a tenant's group in the second run is the one that is written by hand.
+/// Returns true if the projection on a tenant's group in the second run is the one that is written by hand.
 fn is_told(
     alloc: Global,
     events: &[Event],
@@ -86,7 +86,7 @@ fn is_told(
     }
 }
 
-/// Whether it is for each group, and how many answers and packets there are.
+/// Returns the same of the second run.
 fn crash_outcome(alloc: Global) -> Result<Option<(bool, usize, usize)>, OutOfMemory> {
     let events = crash::events(alloc)?;
     if !is_plan(&crash::PLAN) || !are_placed(3, &events) {
@@ -100,7 +100,8 @@ fn crash_outcome(alloc: Global) -> Result<Option<(bool, usize, usize)>, OutOfMem
     Ok(Some((right, trace.answers.len(), trace.packets.len())))
 }
 
-// So are three groups of different kinds when two of three nodes stop: one is noticed, the other is asked after it stopped.
+// Three groups of different kinds are seen as they are alone when two of three nodes stop. One of these nodes is noticed, and the
+// other gets requests after it stopped.
 #[test]
 fn three_groups_and_two_crashes(rt: HostRuntime) -> Result<(), Fail> {
     let found = crash_outcome(rt.alloc())?;

@@ -55,7 +55,7 @@ fn row(tenant: u16) -> TenantRow {
     }
 }
 
-/// A group of this kind with these members.
+/// Returns a group of this kind with these members.
 pub fn spec_with(kind: Kind, members: NodeSet) -> Spec {
     Spec {
         kind,
@@ -66,7 +66,7 @@ pub fn spec_with(kind: Kind, members: NodeSet) -> Spec {
     }
 }
 
-/// A best-effort group of both nodes.
+/// Returns a best-effort group of both nodes.
 pub fn spec() -> Spec {
     let mut members = NodeSet::new();
     members.insert(FIRST);
@@ -82,13 +82,13 @@ fn owner(addr: Addr) -> Token {
     token(&TENANT_KEY, Need::Tenant(addr.tenant))
 }
 
-/// A request is asked at a node.
+/// Adds a request at a node.
 fn ask(events: &mut Vec<Event>, node: NodeId, request: Request) -> Result<(), OutOfMemory> {
     events.push(Event::At(node, NodeEvent::Request(request)))?;
     Ok(())
 }
 
-/// A tenant comes to a node, and its group is made there and opened.
+/// Adds the requests that take a tenant in at a node, and make and open its group there.
 pub fn furnish(
     events: &mut Vec<Event>,
     node: NodeId,
@@ -102,7 +102,7 @@ pub fn furnish(
     ask(events, node, Request::OpenGroup(owner(addr), addr))
 }
 
-/// A group says these bytes at a node.
+/// Adds the request that says these bytes in a group at a node.
 pub fn say_bytes(
     alloc: Global,
     events: &mut Vec<Event>,
@@ -116,7 +116,7 @@ pub fn say_bytes(
     ask(events, node, said)
 }
 
-/// A group says the number of its tenant at a node.
+/// Adds the request that says the number of the tenant in its group at a node.
 pub fn say(
     alloc: Global,
     events: &mut Vec<Event>,
@@ -140,9 +140,9 @@ pub fn fetch(events: &mut Vec<Event>, node: NodeId, tenant: u16) -> Result<(), O
     )
 }
 
-/// Both nodes have the three tenants' groups; each says something at the first node. One frame has the three messages; it
-/// comes to the second node, twice. Somebody says something with another node's token. The last tenant drops its group at
-/// the second node, which then stops; the logs are asked for.
+/// Returns the events of a run. Both nodes have the groups of three tenants, and each says something at the first node. One frame
+/// has the three messages; it comes to the second node twice. One say has another node's token. The last tenant drops its group
+/// at the second node, which then stops. The logs are fetched.
 pub fn events(alloc: Global) -> Result<Vec<Event>, OutOfMemory> {
     let mut events = Vec::new(alloc);
     add_events(alloc, &mut events)?;
@@ -177,14 +177,14 @@ fn step(steps: &mut Vec<GroupStep>, node: NodeId, event: GroupEvent) -> Result<(
     Ok(())
 }
 
-/// What of this concerns a tenant's group, written by hand.
+/// Returns the part of this run that concerns a tenant's group, written by hand.
 pub fn steps(alloc: Global, tenant: u16) -> Result<Vec<GroupStep>, OutOfMemory> {
     let mut steps = Vec::new(alloc);
     add_steps(alloc, tenant, &mut steps)?;
     Ok(steps)
 }
 
-/// The group is made and opened at a node.
+/// Adds the steps that make and open the group at a node.
 fn begin(steps: &mut Vec<GroupStep>, node: NodeId, tenant: u16) -> Result<(), OutOfMemory> {
     step(steps, node, GroupEvent::Tenant(Reserve::of(&row(tenant))))?;
     step(steps, node, GroupEvent::Make(spec()))?;

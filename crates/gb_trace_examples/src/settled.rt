@@ -56,13 +56,13 @@ const SETTLED: [&[u8]; 35] = [
 enum Sign {
     /// The node with this number is noticed first.
     Noticed(u8),
-    /// Nothing is left to be packed.
+    /// Nothing waits to be packed.
     Nothing,
     /// A log with this number of entries.
     Log(usize),
 }
 
-/// What the answer says, if it says something of the kind.
+/// Returns the sign of a settling group that the answer has. `None` if it has none.
 fn sign_of(answer: &Answer) -> Option<Sign> {
     match answer {
         Answer::Ticked(Ticked::Noticed(found)) => match found.next_from(0) {
@@ -75,7 +75,7 @@ fn sign_of(answer: &Answer) -> Option<Sign> {
     }
 }
 
-/// Whether the answers say this, in order.
+/// Returns true if the answers have exactly these signs, in order.
 fn are_signs(answers: &[Answer], signs: &[Sign]) -> bool {
     let mut left = signs;
     for answer in answers {
@@ -92,7 +92,7 @@ fn are_signs(answers: &[Answer], signs: &[Sign]) -> bool {
     left.is_empty()
 }
 
-/// The entries of a log that is fetched.
+/// Returns the entries of a log that is fetched.
 fn entries_of(answer: &Answer) -> &[Entry] {
     match answer {
         Answer::Reply(Reply::Log(entries)) => entries.as_slice(),
@@ -100,7 +100,7 @@ fn entries_of(answer: &Answer) -> &[Entry] {
     }
 }
 
-/// Whether the last two answers are the same logs: the message of the first node, then that of the third.
+/// Returns true if the last two answers are the same logs: the message of the first node, then that of the third.
 fn agree(answers: &[Answer]) -> bool {
     let [.., one, other] = answers else {
         return false;
@@ -127,8 +127,8 @@ const SIGNS: [Sign; 6] = [
     Sign::Log(2),
 ];
 
-/// Whether all is right in the run, the group is settled, and the logs at the running members agree. The events are added to a
-/// list, which is empty before.
+/// Returns true if all is right in the run, the group is settled, and the logs at the running members agree. The events are added
+/// to a list, which is empty before.
 fn settles(alloc: Global, events: &mut Vec<Event>) -> Result<bool, OutOfMemory> {
     let Some(plan) = read(alloc, &SETTLED, events)? else {
         return Ok(false);

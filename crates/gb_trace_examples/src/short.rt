@@ -4,7 +4,7 @@ use gb_types::entry::{Entries, Entry};
 use gb_types::refusal::Refusal;
 use gb_types::reply::Reply;
 
-/// A reply, in short: of a log how many entries.
+/// A reply, in short: a log is its number of entries.
 #[derive(Clone, Copy, PartialEq, Eq)]
 pub enum Got {
     Done,
@@ -22,7 +22,7 @@ fn short_of(reply: &Reply) -> Got {
     }
 }
 
-/// Whether these are the replies.
+/// Returns true if these are the replies.
 pub fn are_replies(replies: &[Reply], wanted: &[Got]) -> bool {
     if replies.len() != wanted.len() {
         return false;
@@ -35,7 +35,7 @@ pub fn are_replies(replies: &[Reply], wanted: &[Got]) -> bool {
     true
 }
 
-/// Whether the items are one, with this payload.
+/// Returns true if there is exactly one item, with this payload.
 fn is_one(items: &Entries, payload: &[u8]) -> bool {
     match items.as_slice() {
         [item] => item.origin.number == 0 && item.seq == 1 && item.payload.as_slice() == payload,
@@ -43,7 +43,7 @@ fn is_one(items: &Entries, payload: &[u8]) -> bool {
     }
 }
 
-/// Whether the first node carried one item with this payload to the second, and nothing else.
+/// Returns true if the first node carried exactly one item, with this payload, to the second.
 fn is_sender(node: &NodeSeen, payload: &[u8]) -> bool {
     match node.carried() {
         [own, other] => own.is_empty() && is_one(other, payload),
@@ -58,8 +58,8 @@ fn is_silent(node: &NodeSeen) -> bool {
     }
 }
 
-/// Whether this is seen: these replies at the two nodes, and one item with this payload that went from the first to the
-/// second.
+/// Returns true if this is seen: these replies at the two nodes, and one item with this payload that went from the first to the
+/// second node.
 pub fn is_seen(seen: &Observation, first: &[Got], second: &[Got], payload: &[u8]) -> bool {
     match seen.nodes() {
         [sender, other] => {
@@ -116,7 +116,7 @@ fn is_same_node(node: &NodeSeen, other: &NodeSeen) -> bool {
     true
 }
 
-/// Whether the same is seen at each of as many nodes.
+/// Returns true if both observations have the same number of nodes, and the same is seen at each node.
 pub fn is_same(seen: &Observation, other: &Observation) -> bool {
     let (nodes, others) = (seen.nodes(), other.nodes());
     if nodes.len() != others.len() {

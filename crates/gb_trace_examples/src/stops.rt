@@ -1,5 +1,5 @@
-// A node stops after each event of worked schedules: each group is still seen as it is alone, and the stopped node refuses
-// whatever comes later.
+// A node stops after each event of worked schedules. Each group is still seen as it is alone, and the stopped node refuses
+// each later event.
 ghost use Rattle.std.specs.Prelude.{◌≡◌, ℕ, ◌<◌, ◌≤◌, IsTrue};
 ghost use Rattle.gb_cluster.specs.ClusterValue.{IsClusterPlan};
 ghost use Rattle.gb_types.specs.declared.limits.TheConstants.{NODES as MOST};
@@ -33,7 +33,7 @@ use std::process::Abort;
 use std::rt::HostRuntime;
 use std::test::Fail;
 
-/// What the cluster of a schedule is started with.
+/// Returns the plan of the cluster of a schedule.
 fn plan_of(start: &ClusterStart) -> Plan {
     Plan {
         nodes: start.nodes,
@@ -46,7 +46,7 @@ fn plan_of(start: &ClusterStart) -> Plan {
     }
 }
 
-/// Whether the version that each node sends can name them all.
+/// Returns true if the version that each node sends can name all nodes.
 fn is_named(plan: &Plan) -> bool
     requires { plan.now.nodes ≤ MOST }
     ensures { IsTrue result → (a : ℕ) → a < plan.now.nodes → plan.now.nodes ≤ (limits_of (version_at plan.now.versions a)).nodes }
@@ -60,7 +60,7 @@ fn is_named(plan: &Plan) -> bool
     true
 }
 
-/// Whether a cluster may be started so.
+/// Returns true if a cluster may be started with this plan.
 pub fn is_plan(plan: &Plan) -> bool
     ensures { IsTrue result → IsClusterPlan plan.now }
 {
@@ -72,7 +72,7 @@ pub fn is_plan(plan: &Plan) -> bool
         && plan.silence <= SILENCE_MAX
 }
 
-/// The event that a step asks for.
+/// Returns the event of a step.
 fn step_of(keys: &mut Keys, step: Step) -> Event {
     match step {
         Step::Pack(node, to) => Event::At(node, NodeEvent::Pack(to)),
@@ -89,7 +89,7 @@ fn step_of(keys: &mut Keys, step: Step) -> Event {
     }
 }
 
-/// The event that a command asks for, if it starts no cluster.
+/// Returns the event of a command. `None` if the command starts a cluster.
 fn event_of(
     alloc: Global,
     keys: &mut Keys,
@@ -106,7 +106,7 @@ fn event_of(
     })
 }
 
-/// The plan that the first line spells, if a cluster may be started so.
+/// Returns the plan that the first line spells, if a cluster may be started with it.
 fn read_plan(alloc: Global, keys: &mut Keys, line: &[u8]) -> Result<Option<Plan>, OutOfMemory> {
     match read_command(alloc, keys, None, line)? {
         Some(Command::Cluster(start)) => Ok(Some(plan_of(&start))),
@@ -114,7 +114,7 @@ fn read_plan(alloc: Global, keys: &mut Keys, line: &[u8]) -> Result<Option<Plan>
     }
 }
 
-/// The event that a line spells, if it spells a command in its place that starts no cluster.
+/// Returns the event that a line spells, if it spells a command in its place that starts no cluster.
 fn read_event(
     alloc: Global,
     keys: &mut Keys,
@@ -129,7 +129,7 @@ fn read_event(
     }
 }
 
-/// Adds the events that the lines spell; whether each line spells one.
+/// Adds the events that the lines spell. Returns true if each line spells one.
 fn read_events(
     alloc: Global,
     keys: &mut Keys,
@@ -148,7 +148,7 @@ fn read_events(
     Ok(true)
 }
 
-/// The plan that the first of the lines spells, with the events of the others added, if each line spells a command in its
+/// Returns the plan that the first of the lines spells, with the events of the others added, if each line spells a command in its
 /// place.
 fn read_all(
     alloc: Global,
@@ -168,7 +168,7 @@ fn read_all(
     Ok(None)
 }
 
-/// The plan of a schedule, with its events added, if each of its lines spells a command in its place.
+/// Returns the plan of a schedule, with its events added, if each of its lines spells a command in its place.
 pub fn read(
     alloc: Global,
     lines: &[&[u8]],
@@ -178,7 +178,7 @@ pub fn read(
     read_all(alloc, &mut keys, lines, events)
 }
 
-/// The group that an event names, if it is a request that names one.
+/// Returns the group that an event names. `None` if it is not a request that names one.
 fn named(event: &Event) -> Option<Addr> {
     let Event::At(_, NodeEvent::Request(request)) = event else {
         return None;
@@ -193,7 +193,7 @@ fn named(event: &Event) -> Option<Addr> {
     }
 }
 
-/// The groups that the events name, each once.
+/// Returns the groups that the events name, each once.
 fn groups_of(alloc: Global, events: &[Event]) -> Result<Vec<Addr>, OutOfMemory> {
     let mut groups: Vec<Addr> = Vec::new(alloc);
     for event in events {
@@ -206,7 +206,7 @@ fn groups_of(alloc: Global, events: &[Event]) -> Result<Vec<Addr>, OutOfMemory> 
     Ok(groups)
 }
 
-/// Whether each of these groups is seen in the run as it is alone.
+/// Returns true if each of these groups is seen in the run as it is alone.
 fn each_is_alone(
     alloc: Global,
     plan: &Plan,
@@ -224,7 +224,7 @@ fn each_is_alone(
     Ok(true)
 }
 
-/// Whether there are groups, and each is seen in the run as it is alone.
+/// Returns true if there are groups, and each is seen in the run as it is alone.
 fn are_alone(
     alloc: Global,
     plan: &Plan,
@@ -237,7 +237,7 @@ fn are_alone(
     Ok(!groups.is_empty() && each_is_alone(alloc, plan, events, trace, &groups)?)
 }
 
-/// Whether an answer is one to such an event.
+/// Returns true if an answer is of the kind that answers this event.
 fn is_answer_to(event: &NodeEvent, answer: &Answer) -> bool {
     match (event, answer) {
         (NodeEvent::Request(_), Answer::Reply(_)) => true,
@@ -251,7 +251,7 @@ fn is_answer_to(event: &NodeEvent, answer: &Answer) -> bool {
     }
 }
 
-/// Whether an answer says that the node has stopped.
+/// Returns true if an answer says that the node has stopped.
 fn is_stopped(answer: &Answer) -> bool {
     match answer {
         Answer::Reply(Reply::Refused(why)) => *why == Refusal::Stopped,
@@ -263,7 +263,7 @@ fn is_stopped(answer: &Answer) -> bool {
     }
 }
 
-/// The node that a packet was sent to, by the packet's number, where these were sent.
+/// Returns the node that the packet with a number was sent to, if these packets were sent.
 fn receiver(packets: &[Posted], number: u64) -> Option<NodeId> {
     if number == 0 || number > packets.len() as u64 {
         return None;
@@ -271,8 +271,8 @@ fn receiver(packets: &[Posted], number: u64) -> Option<NodeId> {
     Some(packets[number as usize - 1].to)
 }
 
-/// Whether an answer is right where these packets were sent and these nodes had stopped before: it says that the node has
-/// stopped exactly where it has.
+/// Returns true if an answer is right after these packets were sent and these nodes stopped: it says that its node has stopped
+/// exactly if the node has.
 fn is_right(stopped: &NodeSet, sent: &[Posted], event: &Event, answer: &Answer) -> bool {
     match event {
         Event::At(node, event) => {
@@ -286,7 +286,7 @@ fn is_right(stopped: &NodeSet, sent: &[Posted], event: &Event, answer: &Answer) 
     }
 }
 
-/// What an event and its answer change: which nodes have stopped, and how many packets were sent.
+/// Takes an event and its answer into account: the nodes that have stopped, and the number of packets that were sent.
 fn pass(event: &Event, answer: &Answer, stopped: &mut NodeSet, sent: &mut usize) {
     if let Event::At(node, NodeEvent::Stop) = event {
         stopped.insert(*node);
@@ -296,7 +296,7 @@ fn pass(event: &Event, answer: &Answer, stopped: &mut NodeSet, sent: &mut usize)
     }
 }
 
-/// Whether each answer of a run is, and it sent these packets.
+/// Returns true if each answer of a run is right, and the run sent as many packets as there are.
 fn are_right(events: &[Event], answers: &[Answer], packets: &[Posted]) -> bool {
     if answers.len() != events.len() {
         return false;
@@ -312,7 +312,7 @@ fn are_right(events: &[Event], answers: &[Answer], packets: &[Posted]) -> bool {
     sent == packets.len()
 }
 
-/// Whether all is right in a run.
+/// Returns true if all is right in a run.
 fn is_right_trace(
     alloc: Global,
     plan: &Plan,
@@ -325,7 +325,7 @@ fn is_right_trace(
     Ok(are_right(events, answers, packets) && are_alone(alloc, plan, events, trace)?)
 }
 
-/// The trace of these events, if a cluster may be started so and all is right in it.
+/// Returns the trace of these events, if a cluster may be started with the plan and all is right in the trace.
 pub fn right_trace(
     alloc: Global,
     plan: Plan,
@@ -341,7 +341,7 @@ pub fn right_trace(
     Ok(None)
 }
 
-/// Whether all is right in a run of a schedule with such a stop: how many events come before it, and where it is. The events are
+/// Returns true if all is right in a run of a schedule with a stop: the number of events before it, and its node. The events are
 /// added to a list, which is empty before.
 fn read_with_stop(
     alloc: Global,
@@ -360,7 +360,7 @@ fn read_with_stop(
     Ok(right_trace(alloc, plan, events)?.is_some())
 }
 
-/// Whether all is right in a run of a schedule with such a stop.
+/// Returns true if all is right in a run of a schedule with this stop.
 fn is_right_with(
     alloc: Global,
     lines: &[&[u8]],
@@ -371,7 +371,7 @@ fn is_right_with(
     read_with_stop(alloc, lines, place, node, &mut events)
 }
 
-/// The first stop with which something is wrong: how many events come before it, and the number of its node.
+/// Returns the first stop with which something is wrong: the number of events before it, and the number of its node.
 fn first_wrong(
     alloc: Global,
     lines: &[&[u8]],
@@ -390,8 +390,8 @@ fn first_wrong(
     Ok(None)
 }
 
-/// Whether these logs, by how many entries they have, were fetched, in order, no request was refused, and no node that had
-/// stopped was asked for anything.
+/// Returns true if logs with these numbers of entries were fetched, in order, each request was granted, and each event came to a
+/// node that had not stopped.
 pub fn are_fetched(answers: &[Answer], logs: &[usize]) -> bool {
     let mut left = logs;
     for answer in answers {
@@ -414,8 +414,8 @@ pub fn are_fetched(answers: &[Answer], logs: &[usize]) -> bool {
     left.is_empty()
 }
 
-/// Whether all is right in a run of the schedule as it is, for this number of nodes, with these logs. The events are added to a list, which
-/// is empty before.
+/// Returns true if all is right in a run of the schedule as it is, for this number of nodes, with these logs. The events are added
+/// to a list, which is empty before.
 fn read_as_it_is(
     alloc: Global,
     lines: &[&[u8]],
@@ -432,7 +432,7 @@ fn read_as_it_is(
     Ok(plan.nodes == nodes && are_fetched(trace.answers.as_slice(), logs))
 }
 
-/// Whether all is right in a run of the schedule as it is.
+/// Returns true if all is right in a run of the schedule as it is.
 fn is_worked(
     alloc: Global,
     lines: &[&[u8]],
@@ -443,7 +443,8 @@ fn is_worked(
     read_as_it_is(alloc, lines, nodes, logs, &mut events)
 }
 
-/// All is right in a run of the schedule as it is, with these logs, and in one with a stop of each node after each event.
+/// Checks that all is right in a run of the schedule as it is, with these logs, and in each run with a stop of a node after one
+/// event.
 fn compare(
     rt: &impl Abort,
     alloc: Global,
@@ -500,7 +501,7 @@ fn a_stop_after_each_event_of_acknowledgements_by_most(rt: HostRuntime) -> Resul
     Ok(())
 }
 
-// A run of 32 nodes, without a stop beside its own.
+// A run of 32 nodes, with no other stop than its own.
 #[test]
 fn the_last_of_32_nodes_is_relayed_for(rt: HostRuntime) -> Result<(), Fail> {
     let worked = is_worked(rt.alloc(), &LAST_NODE, 32, &[1, 1])?;

@@ -1,4 +1,4 @@
-// The worked run of docs/THEOREM.md: what of it concerns a group, and what is seen of the group.
+// The worked run of docs/THEOREM.md: the part of it that concerns a group, and what is seen of the group.
 use crate::projected::projection;
 use crate::schedule::group_of;
 use crate::short::{Got, are_replies};
@@ -39,7 +39,7 @@ const LINES: [&[u8]; 22] = [
     b"fetch 0 7 1 0 16",
 ];
 
-/// What of it concerns tenant 7's group, as the page has it.
+/// The part of it that concerns tenant 7's group, as the page has it.
 const STEPS: &[(u8, Told)] = &[
     (0, Told::Tenant),
     (0, Told::Make),
@@ -71,7 +71,7 @@ fn is_message(item: &Entry, seq: u16, payload: &[u8]) -> bool {
     item.origin.number == 0 && item.seq == seq && item.payload.as_slice() == payload
 }
 
-/// Whether the items are the two messages, in order.
+/// Returns true if the items are the two messages, in order.
 fn are_both(items: &Entries) -> bool {
     match items.as_slice() {
         [first, second] => is_message(first, 1, b"a") && is_message(second, 2, b"b"),
@@ -79,7 +79,7 @@ fn are_both(items: &Entries) -> bool {
     }
 }
 
-/// Whether the first node carried both to the second, and nothing to itself.
+/// Returns true if the first node carried both messages to the second, and none to itself.
 fn is_sender(node: &NodeSeen) -> bool {
     match node.carried() {
         [own, other] => own.is_empty() && are_both(other),
@@ -94,7 +94,7 @@ fn is_silent(node: &NodeSeen) -> bool {
     }
 }
 
-/// Whether this is what the page says is seen.
+/// Returns true if this is what the page says is seen.
 fn is_seen(seen: &Observation) -> bool {
     match seen.nodes() {
         [sender, other] => {
@@ -107,7 +107,7 @@ fn is_seen(seen: &Observation) -> bool {
     }
 }
 
-/// Whether all is as the page has it. The events are added to a list, which is empty before.
+/// Returns true if the run is as the page has it. The events are added to a list, which is empty before.
 fn is_as_told(alloc: Global, events: &mut Vec<Event>) -> Result<bool, OutOfMemory> {
     let Some(plan) = read(alloc, &LINES, events)? else {
         return Ok(false);
@@ -131,7 +131,8 @@ fn is_as_told(alloc: Global, events: &mut Vec<Event>) -> Result<bool, OutOfMemor
     }
 }
 
-// What of the run concerns the group is what the page says, and what is seen of the group is what these steps make of it alone.
+// The part of the run that concerns the group is what the page says. What is seen of the group is what is seen of it alone under
+// these steps.
 #[test]
 fn the_worked_run_of_the_theorem(rt: HostRuntime) -> Result<(), Fail> {
     let alloc = rt.alloc();

@@ -1,7 +1,7 @@
 // What happens to a group, in short.
 use gb_alone::event::{GroupEvent, GroupStep};
 
-/// What happens at a node, in short: of commands only which one it is.
+/// What happens at a node, in short: a command has no arguments.
 #[derive(Clone, Copy, PartialEq, Eq)]
 pub enum Told {
     Tenant,
@@ -35,7 +35,7 @@ fn told_of(event: &GroupEvent) -> Told {
     }
 }
 
-/// Whether these are the steps: the number of a node, and what happens there.
+/// Returns true if these are the steps: the number of a node, and what happens there.
 pub fn are_steps(steps: &[GroupStep], wanted: &[(u8, Told)]) -> bool {
     if steps.len() != wanted.len() {
         return false;
@@ -49,7 +49,7 @@ pub fn are_steps(steps: &[GroupStep], wanted: &[(u8, Told)]) -> bool {
     true
 }
 
-/// Whether these are the same steps, in short.
+/// Returns true if these are the same steps, in short.
 pub fn are_same_steps(steps: &[GroupStep], wanted: &[GroupStep]) -> bool {
     if steps.len() != wanted.len() {
         return false;

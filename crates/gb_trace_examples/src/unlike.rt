@@ -1,4 +1,4 @@
-// A cluster whose first node is of version 2 and whose second is of version 1.
+// A cluster whose first node sends version 2 and whose second sends version 1.
 use crate::projected::projection;
 use crate::schedule::{FIRST, SECOND, fetch, furnish, group_of, say, say_bytes, spec};
 use crate::short::{Got, are_replies, is_same};
@@ -65,9 +65,9 @@ const PLAN: Plan = Plan {
 /// A payload that is too long for a node of version 1.
 const LONG: &[u8] = &[b'a'; 1_025];
 
-/// A group says at the second node what is too long there, and at the first the same, then something short. The frame with
-/// both comes to the second node, where the first of them is let fall, and is acknowledged. Another group may say something
-/// between them.
+/// Adds the events of a run. A group says a message at the second node that is too long there. At the first node it says the same
+/// message, then a short one. The frame with both comes to the second node, which lets the first message fall, and is
+/// acknowledged. If `is_shared`, another group says something between them.
 fn add_events(alloc: Global, is_shared: bool, events: &mut Vec<Event>) -> Result<(), OutOfMemory> {
     if is_shared {
         furnish(events, FIRST, 8, spec())?;
@@ -90,7 +90,7 @@ fn add_events(alloc: Global, is_shared: bool, events: &mut Vec<Event>) -> Result
     fetch(events, FIRST, 7)
 }
 
-/// What of this concerns the group, written by hand.
+/// The part of this run that concerns the group, written by hand.
 const STEPS: &[(u8, Told)] = &[
     (0, Told::Tenant),
     (0, Told::Make),
@@ -124,7 +124,7 @@ const SECOND_REPLIES: &[Got] = &[
     Got::Log(1),
 ];
 
-/// Whether the group is seen as it should be.
+/// Returns true if the group is seen as it should be.
 fn is_seen(seen: &Observation) -> bool {
     match seen.nodes() {
         [first, second] => {
@@ -135,7 +135,7 @@ fn is_seen(seen: &Observation) -> bool {
     }
 }
 
-/// What is seen of the group in a run of these events, if all is right in it and the projection is the one that is written
+/// Returns what is seen of the group in a run of these events, if all is right in it and the projection is the one that is written
 /// by hand.
 fn seen_of(alloc: Global, events: &[Event]) -> Result<Option<Observation>, OutOfMemory> {
     let Some(trace) = right_trace(alloc, PLAN, events)? else {
@@ -150,14 +150,14 @@ fn seen_of(alloc: Global, events: &[Event]) -> Result<Option<Observation>, OutOf
     }
 }
 
-/// What is seen of the group, beside another group or by itself.
+/// Returns what is seen of the group, beside another group or by itself.
 fn seen(alloc: Global, is_shared: bool) -> Result<Option<Observation>, OutOfMemory> {
     let mut events = Vec::new(alloc);
     add_events(alloc, is_shared, &mut events)?;
     seen_of(alloc, &events)
 }
 
-/// Whether the same is seen, and what should be.
+/// Returns true if the same is seen in both runs, and it is what should be seen.
 fn agrees(alloc: Global) -> Result<bool, OutOfMemory> {
     let by_itself = seen(alloc, false)?;
     let shared = seen(alloc, true)?;
@@ -167,7 +167,7 @@ fn agrees(alloc: Global) -> Result<bool, OutOfMemory> {
     }
 }
 
-// What is too long for a node is refused and let fall there, in the run and alone, and another group's messages change
+// A message that is too long for a node is refused and let fall there, in the run and alone. Another group's messages change
 // nothing.
 #[test]
 fn two_runs_of_unlike_versions_agree(rt: HostRuntime) -> Result<(), Fail> {

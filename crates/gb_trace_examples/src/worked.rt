@@ -92,7 +92,7 @@ pub const LAZY_RELAY: [&[u8]; 28] = [
     b"fetch 2 7 1 0 16",
 ];
 
-/// One node relays eagerly what another takes for best effort, and the relayed copy is not delivered there.
+/// A group is eager at one node and best effort at another. The first relays a message, and the second does not deliver that copy.
 pub const UNLIKE_SPECS: [&[u8]; 19] = [
     b"cluster 3 3",
     b"tenant 0 7 4 8 4096 4",

@@ -1,4 +1,4 @@
-// Whether the tapes of a closed host tell of each seat what its list did.
+// The tapes of a closed host, compared with the calls in each seat's list.
 use gb_host::entry::SeatEntry;
 use gb_host::names::Tapes;
 use gb_host::seat::Seat;
@@ -6,7 +6,7 @@ use gb_node::tape::{Tape, TapeEntry};
 use gb_types::memory::OutOfMemory;
 use std::alloc::Global;
 
-// The calls of a seat, copied.
+// Returns the calls of a seat, copied.
 fn copied(alloc: Global, calls: &[SeatEntry]) -> Result<Vec<SeatEntry>, OutOfMemory> {
     let mut copies = Vec::new(alloc);
     for call in calls {
@@ -32,7 +32,7 @@ pub fn copy_lists<L: Tapes>(
     Ok(())
 }
 
-// The place of a seat's first call at a node, from this place on.
+// Returns the index of a seat's first call at a node, from the index `from` on.
 fn next_at(calls: &[SeatEntry], from: usize, node: usize) -> Option<usize> {
     for place in from..calls.len() {
         if usize::from(calls[place].node.number) == node {
@@ -42,7 +42,7 @@ fn next_at(calls: &[SeatEntry], from: usize, node: usize) -> Option<usize> {
     None
 }
 
-// Whether an entry is the call at a place.
+// Returns true if an entry is the call at an index.
 fn is_call(entry: &TapeEntry, calls: &[SeatEntry], place: Option<usize>) -> bool {
     let Some(call) = calls.get(place.unwrap_or(calls.len())) else {
         return false;
@@ -50,7 +50,7 @@ fn is_call(entry: &TapeEntry, calls: &[SeatEntry], place: Option<usize>) -> bool
     entry.event.is(&call.event) && entry.answer.is(&call.answer)
 }
 
-// Whether a seat's entries in a node's tape are its calls at the node, in turn, each once.
+// Returns true if a seat's entries in a node's tape are its calls at the node, in turn, each once.
 fn is_told_at(tape: &[TapeEntry], seat: usize, calls: &[SeatEntry], node: usize) -> bool {
     let mut next = next_at(calls, 0, node);
     for entry in tape {
@@ -64,7 +64,7 @@ fn is_told_at(tape: &[TapeEntry], seat: usize, calls: &[SeatEntry], node: usize)
     next.is_none()
 }
 
-// So it is at each node.
+// Returns true if that holds at each node.
 fn is_told(tapes: &[Tape], seat: usize, calls: &[SeatEntry]) -> bool {
     for node in 0..tapes.len() {
         if !is_told_at(tapes[node].as_slice(), seat, calls, node) {
@@ -74,7 +74,7 @@ fn is_told(tapes: &[Tape], seat: usize, calls: &[SeatEntry]) -> bool {
     true
 }
 
-/// Whether the tapes have, of each seat at each node, the calls of its list there, and no entry besides.
+/// Returns true if the tapes have, for each seat at each node, exactly the calls of its list there.
 pub fn agree(tapes: &[Tape], lists: &[Vec<SeatEntry>]) -> bool {
     let mut calls: usize = 0;
     for seat in 0..lists.len() {
@@ -86,7 +86,7 @@ pub fn agree(tapes: &[Tape], lists: &[Vec<SeatEntry>]) -> bool {
     calls == count_entries(tapes)
 }
 
-/// How many entries the tapes have.
+/// Returns the number of entries of the tapes.
 pub fn count_entries(tapes: &[Tape]) -> usize {
     let mut count: usize = 0;
     for tape in tapes {
@@ -95,7 +95,7 @@ pub fn count_entries(tapes: &[Tape]) -> usize {
     count
 }
 
-/// How many entries of the tapes are a seat's.
+/// Returns the number of entries of a seat in the tapes.
 pub fn entries_of(tapes: &[Tape], seat: u32) -> usize {
     let mut count: usize = 0;
     for tape in tapes {

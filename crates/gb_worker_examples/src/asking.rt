@@ -1,4 +1,4 @@
-// What callers ask: a tenant and its groups are made, and messages are said and fetched in them.
+// The requests of callers: they add a tenant, make its groups, and say and fetch messages in them.
 use crate::plans::{FIRST, SECOND};
 use gb_cap::hmac::Key;
 use gb_cap::token::{Need, token};
@@ -27,7 +27,7 @@ pub const ADMIN_KEY: Key = [0x22; 32];
 
 const TENANT_KEY: Key = [0x33; 32];
 
-/// The group of a node alone, of acknowledgements.
+/// The all-ack group of a node alone.
 pub const ALONE: Addr = Addr {
     tenant: 7,
     group: 0,
@@ -41,12 +41,12 @@ pub const BOTH: Addr = Addr {
     generation: 0,
 };
 
-/// What is said, short and as long as it may be.
+/// A short message and the longest one.
 pub const WORDS: &[u8] = b"hello";
 
 pub const LONG: &[u8] = &[b'a'; 4_096];
 
-/// How many times a caller asks at most, a millisecond apart.
+/// The most times that a caller asks, a millisecond apart.
 pub const PATIENCE: u64 = 10_000;
 
 fn lacks_memory(answer: &NodeAnswer) -> bool {
@@ -66,7 +66,7 @@ pub enum Unanswered {
     Other,
 }
 
-/// Calls a node, the gate being passed while the node's lock is held.
+/// Calls a node. The gate is passed while the node's lock is held.
 pub fn call<L: Tapes, R: Wait, G: Gate>(
     rt: &R,
     host: &Host<L>,
@@ -84,7 +84,7 @@ pub fn call<L: Tapes, R: Wait, G: Gate>(
     }
 }
 
-// Asks once. Want of memory is the caller's, the host's or the node's.
+// Asks once. The caller, the host or the node may be out of memory.
 fn ask_once<L: Tapes, R: Wait>(
     rt: &R,
     alloc: Global,
@@ -102,7 +102,7 @@ fn ask_once<L: Tapes, R: Wait>(
     }
 }
 
-/// Asks a node, and again where there was no memory for it. None where that takes too long, or the host refuses for another
+/// Asks a node, and asks again if there was no memory for it. `None` if that takes too long, or if the host refuses for another
 /// reason.
 pub fn ask<L: Tapes, R: Wait + Clock>(
     rt: &R,
@@ -122,7 +122,7 @@ pub fn ask<L: Tapes, R: Wait + Clock>(
     None
 }
 
-// The answer to a request.
+// Returns the answer to a request.
 fn answer<L: Tapes, R: Wait + Clock>(
     rt: &R,
     alloc: Global,
@@ -134,7 +134,7 @@ fn answer<L: Tapes, R: Wait + Clock>(
     ask(rt, alloc, host, seat, node, &NodeEvent::Request(request))
 }
 
-// Makes a request, whatever is answered.
+// Makes a request and ignores the answer.
 fn tell<L: Tapes, R: Wait + Clock>(
     rt: &R,
     alloc: Global,
@@ -146,7 +146,7 @@ fn tell<L: Tapes, R: Wait + Clock>(
     let _ = answer(rt, alloc, host, seat, node, request);
 }
 
-/// The request that adds the tenant.
+/// Returns the request that adds the tenant.
 pub fn add_tenant() -> Request {
     let row = TenantRow {
         tenant: 7,
@@ -159,7 +159,7 @@ pub fn add_tenant() -> Request {
     Request::AddTenant(token(&ADMIN_KEY, Need::Admin), row)
 }
 
-// The request that makes a group at a node.
+// Returns the request that makes a group at a node.
 fn make(node: NodeId, addr: Addr) -> Request {
     let mut spec = Spec {
         kind: Kind::AllAck,
@@ -205,7 +205,7 @@ pub fn prepare_both<L: Tapes, R: Wait + Clock>(
     }
 }
 
-// The number of a message, where an answer is that it was said.
+// Returns the number of a message, if the answer is that it was said.
 fn said(answer: &Option<NodeAnswer>) -> Option<u16> {
     match answer {
         Some(NodeAnswer::Reply(Reply::Said(seq))) => Some(*seq),
@@ -213,7 +213,7 @@ fn said(answer: &Option<NodeAnswer>) -> Option<u16> {
     }
 }
 
-/// Says words in a group at a node. The number of the message, where it was said.
+/// Says words in a group at a node. Returns the number of the message, if it was said.
 pub fn say<L: Tapes, R: Wait + Clock>(
     rt: &R,
     alloc: Global,
@@ -229,7 +229,7 @@ pub fn say<L: Tapes, R: Wait + Clock>(
     said(&answer(rt, alloc, host, seat, node, request))
 }
 
-/// The answer to a fetch in a group at a node.
+/// Returns the answer to a fetch in a group at a node.
 pub fn log<L: Tapes, R: Wait + Clock>(
     rt: &R,
     alloc: Global,
@@ -243,7 +243,7 @@ pub fn log<L: Tapes, R: Wait + Clock>(
     answer(rt, alloc, host, seat, node, request)
 }
 
-/// Fetches in a group at a node. Whether its log is the first message of a node, which is these words, and just that.
+/// Fetches in a group at a node. Returns true if its log is exactly the first message of a node, and that message is these words.
 pub fn fetch<L: Tapes, R: Wait + Clock>(
     rt: &R,
     alloc: Global,
@@ -257,7 +257,7 @@ pub fn fetch<L: Tapes, R: Wait + Clock>(
     is_first_of(&log(rt, alloc, host, seat, node, addr), origin, words)
 }
 
-// Whether an answer is a log of the first message of a node, which is these words, and just that.
+// Returns true if an answer is a log of exactly the first message of a node, and that message is these words.
 fn is_first_of(answer: &Option<NodeAnswer>, origin: NodeId, words: &[u8]) -> bool {
     let Some(NodeAnswer::Reply(Reply::Log(entries))) = answer else {
         return false;

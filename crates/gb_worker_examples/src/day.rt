@@ -22,7 +22,7 @@ use std::time::Clock;
 // The ports of the sockets in the tests.
 const BASE: u16 = 47_330;
 
-// Each seat with its role; nothing where there was no memory.
+// Returns each seat with its role. It is empty if there was no memory.
 fn jobs_of<'s, 'r, 'a, L: Tapes, P>(
     alloc: Global,
     seats: &'s mut [Seat<L>],
@@ -34,7 +34,7 @@ fn jobs_of<'s, 'r, 'a, L: Tapes, P>(
     }
 }
 
-/// What each of at most four roles counted, each in a thread of its own from the seat with its number.
+/// Returns what each of at most four roles counted. Each role runs in its own thread from the seat with its number.
 pub fn all_work<L: Tapes + Send + Sync, P: Port + Send + Drop, R: Threads + Wait + Clock + Sync>(
     rt: &R,
     alloc: Global,
@@ -65,7 +65,7 @@ fn first_four(counts: &[u64]) -> [u64; 4] {
     four
 }
 
-// A day of two nodes that send this version, with tapes or without, and with the group of both or without.
+// Returns a day of two nodes that send this version, with tapes or without, and with the group of both or without.
 fn day<P: Port + Send + Drop, R: Threads + Wait + Clock + Sync>(
     rt: &R,
     alloc: Global,
@@ -83,7 +83,7 @@ fn day<P: Port + Send + Drop, R: Threads + Wait + Clock + Sync>(
     whole(rt, alloc, version, tape, count, &mut scene).ok()
 }
 
-/// A day of two roles, without the group of both nodes.
+/// Returns a day of two roles, without the group of both nodes.
 pub fn day_of_two<R: Threads + Wait + Clock + Sync>(
     rt: &R,
     alloc: Global,
@@ -95,7 +95,7 @@ pub fn day_of_two<R: Threads + Wait + Clock + Sync>(
     day(rt, alloc, Version::One, tape, false, roles)
 }
 
-/// A day with tapes of two roles at each node, without the group of both nodes.
+/// Returns a day with tapes of two roles at each node, without the group of both nodes.
 pub fn day_of_four<'a, R: Threads + Wait + Clock + Sync>(
     rt: &R,
     alloc: Global,
@@ -110,7 +110,7 @@ pub fn day_of_four<'a, R: Threads + Wait + Clock + Sync>(
     day(rt, alloc, Version::One, true, false, roles)
 }
 
-// A day with a pump for each of two nodes, over these ports, and two more roles.
+// Returns a day with a pump for each of two nodes, over these ports, and two more roles.
 fn day_with_pumps<'a, P: Port + Send + Drop, R: Threads + Wait + Clock + Sync>(
     rt: &R,
     alloc: Global,
@@ -135,10 +135,10 @@ fn rings(alloc: Global) -> Option<(RingPort, RingPort)> {
     Some((first, second))
 }
 
-// What is said between nodes that send a version.
+// Versions that nodes send, and the message that is said between them.
 static SAID: [(Version, &[u8]); 2] = [(Version::One, WORDS), (Version::Two, LONG)];
 
-// Whether what is said at node 0 is found at node 1.
+// Returns true if a message of node 0 is found at node 1.
 fn crosses<P: Port + Send + Drop, R: Threads + Wait + Clock + Sync>(
     rt: &R,
     alloc: Global,
@@ -190,7 +190,7 @@ fn two_ticks(rt: HostRuntime) {
 }
 
 // Two callers say ten messages each, more than the group takes: the first four of each are said. Their nodes' packets travel
-// over rings, of which node 0's port fails at a call, 0 for none.
+// over rings. Node 0's port fails at the call `at`; 0: at none.
 fn two_callers<R: Threads + Wait + Clock + Sync>(rt: &R, alloc: Global, at: u64) -> Option<Left> {
     let (first, second) = rings(alloc)?;
     let ports = (FailAt::new(first, at), FailAt::new(second, 0));

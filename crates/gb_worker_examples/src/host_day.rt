@@ -1,4 +1,4 @@
-// A host's day with two callers, each at a node of its own and in a group of its node alone.
+// A host's day with two callers, each at its own node and in a group of that node alone.
 use crate::day::day_of_two;
 use crate::plans::{FIRST, SECOND};
 use crate::roles::Role;
@@ -19,7 +19,7 @@ fn read_own_say(rt: HostRuntime) {
     }
 }
 
-// At the end the tapes' entries of each seat are as many as its calls; without tapes nothing is noted.
+// At the end the tapes have as many entries of each seat as it made calls. Without tapes nothing is noted.
 #[test]
 fn tapes_and_seats_agree(rt: HostRuntime) {
     for (tape, noted) in [(true, 6), (false, 0)] {

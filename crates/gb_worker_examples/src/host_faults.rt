@@ -1,4 +1,4 @@
-// What a host refuses besides want of memory.
+// The refusals of a host other than out of memory.
 use crate::asking::{Unanswered, call};
 use crate::day::day_of_two;
 use crate::roles::Role;
@@ -14,7 +14,7 @@ use gb_types::version::Version;
 use std::rt::HostRuntime;
 use std::sync::Wait;
 
-/// Whether a tick at a node that the host does not have is refused, and nothing is noted.
+/// Returns true if a tick at a node that the host does not have is refused, and nothing is noted.
 pub fn is_refused<L: Tapes, R: Wait>(rt: &R, host: &Host<L>, seat: &mut Seat<L>) -> bool {
     let node = NodeId { number: 2 };
     let is_missing = match call(rt, host, seat, node, NodeEvent::Tick, &mut Open) {

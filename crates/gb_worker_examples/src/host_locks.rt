@@ -1,4 +1,4 @@
-// Each node has a lock of its own, which is held while a call at the node is made.
+// Each node has its own lock, which is held during a call at the node.
 use crate::asking::call;
 use crate::day::day_of_four;
 use crate::plans::{FIRST, SECOND};
@@ -15,25 +15,25 @@ use std::sync::atomic::{AtomicU64, Ordering};
 use std::thread;
 use std::time::{Clock, Duration};
 
-/// How many milliseconds a thread waits at most.
+/// The most milliseconds that a thread waits.
 const PATIENCE: u64 = 10_000;
 
-/// How many milliseconds the locks are held once each node has a caller who waits.
+/// The milliseconds that the locks are held once each node has a caller who waits.
 const HOLD: u64 = 200;
 
-/// What two calls at two nodes, each inside its node's lock, and a call more at each node know of one another.
+/// The shared counters of two calls at two nodes, each inside its node's lock, and of one more call at each node.
 #[derive(Drop)]
 pub struct Meeting {
-    /// How many are inside.
+    /// The number of calls inside a lock.
     inside: AtomicU64,
-    /// How many call beside them.
+    /// The number of other calls that have begun.
     behind: AtomicU64,
-    /// How many have left the gate inside.
+    /// The number of calls that have left the gate inside their lock.
     left: AtomicU64,
 }
 
 impl Meeting {
-    /// Nobody has come.
+    /// Returns counters that are all 0.
     pub fn new() -> Meeting {
         Meeting {
             inside: AtomicU64::new(0),
@@ -43,7 +43,7 @@ impl Meeting {
     }
 }
 
-// Waits until a count is two. Whether it came to that.
+// Waits until a count is two. Returns true if it came to that.
 fn wait_for_two<R: Clock>(rt: &R, count: &AtomicU64) -> bool {
     for _ in 0..PATIENCE {
         if count.load(Ordering::SeqCst) == 2 {
@@ -54,7 +54,7 @@ fn wait_for_two<R: Clock>(rt: &R, count: &AtomicU64) -> bool {
     false
 }
 
-// A gate inside a lock: the lock is held until both are inside, others call both nodes, and a while more has passed.
+// A gate inside a lock: the lock is held until both calls are inside, others call both nodes, and `HOLD` milliseconds more passed.
 #[derive(Drop)]
 struct Held<'a, R> {
     rt: &'a R,
@@ -74,7 +74,7 @@ impl<R: Clock> Gate for Held<'_, R> {
     }
 }
 
-/// Calls a node, and holds its lock. Whether both locks were held at one time.
+/// Calls a node, and holds its lock. Returns true if both locks were held at one time.
 pub fn hold<L: Tapes, R: Wait + Clock>(
     rt: &R,
     host: &Host<L>,
@@ -91,7 +91,7 @@ pub fn hold<L: Tapes, R: Wait + Clock>(
     is_answered && gate.is_met
 }
 
-/// Calls a node too, once both locks are held. Whether it was answered only when a gate inside had been left.
+/// Calls a node once both locks are held. Returns true if it was answered only after a gate inside had been left.
 pub fn call_behind<L: Tapes, R: Wait + Clock>(
     rt: &R,
     host: &Host<L>,
@@ -107,9 +107,9 @@ pub fn call_behind<L: Tapes, R: Wait + Clock>(
     is_answered && meeting.left.load(Ordering::SeqCst) > 0
 }
 
-// Two callers are inside the locks of two nodes at one time; meanwhile two others call the same nodes, and are answered only when
-// the locks were left. With one lock for both nodes the first two would never meet, and where a gate is passed before the lock is
-// taken the others would be answered at once.
+// Two callers are inside the locks of two nodes at one time. Meanwhile two others call the same nodes, and are answered only after
+// the locks were left. With one lock for both nodes the first two would never meet. If the gate was passed before the lock is
+// taken, the others would be answered at once.
 #[test]
 fn two_nodes_two_locks(rt: HostRuntime) {
     let meeting = Meeting::new();

@@ -1,5 +1,5 @@
 //! Worked hosts and workers, as tests: hosts with callers in threads of their own, and their ends; and pumps over rings, sockets
-//! and failing ports, and tickers, each in a thread of its own. There is nothing here but tests.
+//! and failing ports, and tickers, each in its own thread. This crate has tests only.
 #![tactic(auto)]
 
 #[cfg(test)]

@@ -1,4 +1,4 @@
-// A packet as long as it may be: messages that fill it are said at a node of a host, and it is brought to another.
+// The longest packet: messages that fill it are said at a node of a host, and it is brought to another node.
 use crate::asking::{BOTH, LONG, ask, log, say};
 use crate::plans::{FIRST, SECOND};
 use crate::scenes::{Scene, whole};
@@ -19,10 +19,10 @@ use std::time::Clock;
 
 const LAST: &[u8] = &[b'b'; 4_021];
 
-// What is said: three messages as long as they may be, and one that fills the packet.
+// The messages: three of the greatest length, and one that fills the packet.
 static SAID: [&[u8]; 4] = [LONG, LONG, LONG, LAST];
 
-// Says the messages at node 0. How many were said.
+// Says the messages at node 0. Returns the number of messages that were said.
 fn say_all<L: Tapes, R: Wait + Clock>(
     rt: &R,
     alloc: Global,
@@ -38,7 +38,7 @@ fn say_all<L: Tapes, R: Wait + Clock>(
     count
 }
 
-// The bytes of the packet that node 0 packs for node 1; none where it packs none.
+// Returns the bytes of the packet that node 0 packs for node 1. They are empty if it packs none.
 fn packed<L: Tapes, R: Wait + Clock>(
     rt: &R,
     alloc: Global,
@@ -51,7 +51,7 @@ fn packed<L: Tapes, R: Wait + Clock>(
     }
 }
 
-// How many of the messages stand in a log, each in its place.
+// Returns the number of the messages that stand in a log at their index.
 fn count_said(entries: &[Entry]) -> u64 {
     let mut count: u64 = 0;
     for (entry, words) in entries.iter().zip(&SAID) {
@@ -62,7 +62,7 @@ fn count_said(entries: &[Entry]) -> u64 {
     count
 }
 
-// How many of the messages are found at node 1.
+// Returns the number of the messages that are found at node 1.
 fn count_found<L: Tapes, R: Wait + Clock>(
     rt: &R,
     alloc: Global,
@@ -75,8 +75,8 @@ fn count_found<L: Tapes, R: Wait + Clock>(
     }
 }
 
-/// Says the messages at node 0, packs them there, and brings the packet to node 1. How many were said, how many bytes the packet
-/// has, and how many messages are found at node 1.
+/// Says the messages at node 0, packs them there, and brings the packet to node 1. Returns the number of messages that were said,
+/// the bytes of the packet, and the number of messages that are found at node 1.
 pub fn fill_a_packet<L: Tapes, R: Wait + Clock>(
     rt: &R,
     alloc: Global,
@@ -95,7 +95,7 @@ pub fn fill_a_packet<L: Tapes, R: Wait + Clock>(
     [said, bytes, found, 0]
 }
 
-// What nodes make of the messages, by the version that they send: by the first they are too long.
+// The results for nodes by the version that they send. For the first version the messages are too long.
 static FILLED: [(Version, [u64; 4]); 2] = [
     (Version::One, [0, 0, 0, 0]),
     (Version::Two, [4, 16_384, 4, 0]),

@@ -23,7 +23,7 @@ use std::marker::Brand;
 use std::rt::HostRuntime;
 use std::sync::Wait;
 
-// How a tick is answered.
+// The answer to a tick.
 #[derive(Clone, Copy, PartialEq, Eq)]
 enum Answered {
     Well,
@@ -40,7 +40,7 @@ fn tick<L: Tapes, R: Wait>(rt: &R, host: &Host<L>, seat: &mut Seat<L>, node: Nod
     }
 }
 
-// Whether each node was here, and how many entries its tape has.
+// Returns, for each node, true if it was here, and the number of entries of its tape.
 fn left_of(closed: &Closed) -> [(bool, usize); 2] {
     let mut left = [(false, 0); 2];
     for node in [FIRST, SECOND] {
@@ -51,8 +51,8 @@ fn left_of(closed: &Closed) -> [(bool, usize); 2] {
     left
 }
 
-// Opens a host of node 1 alone, asks for a tick at each of both nodes, and makes three turns of ticks. How the ticks were answered,
-// and what is left of each node.
+// Opens a host of node 1 alone, asks for a tick at each of both nodes, and makes three turns of ticks. Returns the answers to the
+// ticks, and what is left of each node.
 fn run<L: Tapes, R: Wait>(
     rt: &R,
     alloc: Global,

@@ -1,4 +1,4 @@
-// The plan of the hosts in the tests, their nodes, and lists of what they are given.
+// The plans of the hosts in the tests, and lists of two values.
 ghost use Rattle.std.specs.Prelude.{◌≡◌, vec_len, IfSome};
 ghost use Rattle.gb_host.specs.Plans.{IsPlan};
 
@@ -14,7 +14,7 @@ pub const FIRST: NodeId = NodeId { number: 0 };
 
 pub const SECOND: NodeId = NodeId { number: 1 };
 
-/// Two nodes that send this version, with tapes or without.
+/// Returns the plan of two nodes that send this version, with tapes or without.
 pub fn two_nodes(version: Version, tape: bool) -> HostPlan
     ensures nodes { result.cluster.nodes ≡ 2 }
     ensures limits { IsPlan result }
@@ -34,7 +34,7 @@ pub fn two_nodes(version: Version, tape: bool) -> HostPlan
     }
 }
 
-/// Two nodes whose entries go to recorders.
+/// Returns the plan of two nodes whose entries go to recorders.
 pub fn two_recorded() -> HostPlan
     ensures nodes { result.cluster.nodes ≡ 2 }
     ensures limits { IsPlan result }
@@ -46,7 +46,7 @@ pub fn two_recorded() -> HostPlan
     }
 }
 
-/// A list of two, where there is memory for it.
+/// Returns a list of two. `None` if there is no memory for it.
 pub fn pair<T: Drop>(alloc: Global, first: T, second: T) -> Option<Vec<T>>
     ensures { IfSome result (λ list. vec_len list ≡ 2) }
 {

@@ -25,7 +25,7 @@ use std::rt::HostRuntime;
 use std::sync::Wait;
 use std::time::Clock;
 
-// How many entries wait for a recorder at most.
+// The most entries that wait for a recorder.
 const WAITING: u64 = 16_384;
 
 // What is done at a node that has a recorder.
@@ -33,11 +33,11 @@ const WAITING: u64 = 16_384;
 enum Trial {
     // Three calls are made and taken.
     InOrder,
-    // As many entries as its ring holds are left with it, and one is taken.
+    // Its ring is filled with entries, and one entry is taken.
     Full,
 }
 
-// Makes a call at node 1. Its answer, where it was answered.
+// Makes a call at node 1. Returns its answer, if it was answered.
 fn made<L: Tapes, R: Wait>(
     rt: &R,
     host: &Host<L>,
@@ -47,7 +47,7 @@ fn made<L: Tapes, R: Wait>(
     call(rt, host, seat, SECOND, event, &mut Open).ok()
 }
 
-// Whether the recorder takes next a call of this seat, of this number among its calls, with this event and this answer.
+// Returns true if the next entry that the recorder takes has this seat, this number among its calls, this event and this answer.
 fn takes<L: Tapes>(
     recorder: &mut Recorder<L>,
     number: (u32, u64),
@@ -61,7 +61,7 @@ fn takes<L: Tapes>(
     is_next && entry.event.is(event) && entry.answer.is(answer)
 }
 
-// Makes three calls of two seats. Whether the recorder takes each in its order, and nothing before and behind them.
+// Makes three calls of two seats. Returns true if the recorder takes exactly these calls, in their order.
 fn take_in_order<L: Tapes, R: Wait>(
     rt: &R,
     host: &Host<L>,
@@ -79,7 +79,7 @@ fn take_in_order<L: Tapes, R: Wait>(
     is_empty && are_taken && recorder.take().is_none()
 }
 
-// How many of this number of ticks are answered.
+// Asks for `times` ticks. Returns the number of ticks that are answered.
 fn tick<L: Tapes, R: Wait>(rt: &R, host: &Host<L>, seat: &mut Seat<L>, times: u64) -> u64 {
     let mut count: u64 = 0;
     for _ in 0..times {
@@ -90,7 +90,7 @@ fn tick<L: Tapes, R: Wait>(rt: &R, host: &Host<L>, seat: &mut Seat<L>, times: u6
     count
 }
 
-// How many entries the recorder takes, and the number of the last among its seat's calls.
+// Returns the number of entries that the recorder takes, and the number of the last one among its seat's calls.
 fn drain<L: Tapes>(recorder: &mut Recorder<L>) -> (u64, u64) {
     let (mut count, mut last): (u64, u64) = (0, 0);
     for _ in 0..=WAITING {
@@ -102,7 +102,7 @@ fn drain<L: Tapes>(recorder: &mut Recorder<L>) -> (u64, u64) {
     (count, last)
 }
 
-// Whether the tenant is added, and the recorder behind.
+// Asks for a tenant. Returns true if it is added, and true if the answer is that the recorder is behind.
 fn add<L: Tapes, R: Wait>(rt: &R, host: &Host<L>, seat: &mut Seat<L>) -> (bool, bool) {
     let event = NodeEvent::Request(add_tenant());
     match call(rt, host, seat, SECOND, event, &mut Open) {
@@ -112,8 +112,8 @@ fn add<L: Tapes, R: Wait>(rt: &R, host: &Host<L>, seat: &mut Seat<L>) -> (bool, 
     }
 }
 
-// Fills the ring up with ticks, and asks for a tenant, which is refused. Once an entry is taken the tenant is asked for again.
-// Whether it is added then, by the next call of the seat, as one that the node does not have.
+// Fills the ring with ticks, and asks for a tenant, which is refused. Once an entry is taken, asks for the tenant again. Returns
+// true if the next call of the seat then adds it, as a tenant that the node does not have.
 fn fill<L: Tapes, R: Wait>(
     rt: &R,
     host: &Host<L>,
@@ -132,11 +132,11 @@ fn fill<L: Tapes, R: Wait>(
         && left == (WAITING, WAITING)
 }
 
-// What came of a trial: whether all was as it is to be; whether nothing was told of the end before it, and the end next; and whether
-// the recorder then had the whole past of node 1.
+// The result of a trial: true if all was as expected; true if the recorder was not told of the end before it, and was told of it
+// next; and true if the recorder then had the whole past of node 1.
 type Tried = (bool, bool, bool);
 
-// Tries on a host of node 1 alone, and gives it up.
+// Runs a trial on a host of node 1 alone, and closes the host.
 fn run<L: Tapes, R: Wait>(
     rt: &R,
     alloc: Global,
@@ -175,7 +175,7 @@ fn tried<R: Wait>(rt: &R, alloc: Global, trial: Trial) -> Option<Tried> {
     run::<Brand, R>(rt, alloc, two_recorded(), trial, pasts)
 }
 
-// What a node answers to a message and a fetch in a group of its own, and to what the other node is sent.
+// Returns a node's answers to a message and a fetch in its own group, and to the packing for the other node.
 fn answers<L: Tapes, R: Wait + Clock>(
     rt: &R,
     alloc: Global,
@@ -208,7 +208,7 @@ fn answers_of<R: Wait + Clock>(rt: &R, alloc: Global, plan: HostPlan) -> Option<
     answers::<Brand, R>(rt, alloc, plan, pasts)
 }
 
-// Whether both have three answers, and the same.
+// Returns true if both lists have the same three answers.
 fn are_alike(some: &[NodeAnswer], others: &[NodeAnswer]) -> bool {
     if some.len() != 3 || others.len() != 3 {
         return false;

@@ -1,4 +1,4 @@
-// What each thread of a day does, from a seat of its own.
+// What each thread of a day does, from its own seat.
 use crate::asking::{ALONE, BOTH, PATIENCE, WORDS, ask, fetch, prepare, say};
 use crate::host_faults::is_refused;
 use crate::host_locks::{Meeting, call_behind, hold};
@@ -18,31 +18,31 @@ use std::sync::atomic::{AtomicU64, Ordering};
 use std::thread;
 use std::time::{Clock, Duration};
 
-/// How many turns a pump makes at least. Its port is asked in each, so that each call up to this one is made.
+/// The least number of turns of a pump. Its port is asked in each turn, so each call up to this number is made.
 pub const TURNS: u64 = 50;
 
 /// What a thread does.
 #[derive(Drop)]
 pub enum Role<'a, P> {
-    /// Carries a node's packets until no caller is left, and for `TURNS` turns at least.
+    /// Carries a node's packets until no caller is left, and for at least `TURNS` turns.
     Pump(NodeId, P),
     /// Makes this number of turns of ticks.
     Ticker(u64),
     /// Says these words at a node, this number of times.
     Sayer(NodeId, &'a [u8], u64),
-    /// Fetches at a node until its log is the first message of another node, which is these words.
+    /// Fetches at a node until its log is the first message of another node, and that message is these words.
     Fetcher(NodeId, NodeId, &'a [u8]),
     /// Makes a group of a node alone, and says and fetches in it.
     Loner(NodeId),
     /// Calls a node, and holds its lock.
     Holder(NodeId, &'a Meeting),
-    /// Calls a node too, once its lock is held.
+    /// Calls a node once its lock is held.
     Behind(NodeId, &'a Meeting),
     /// Calls a node that the host does not have.
     Lost,
 }
 
-/// A gate that is passed once in a millisecond, while callers are left, and this number of times at least.
+/// A gate that is passed once a millisecond while callers are left, and at least this number of times.
 #[derive(Drop)]
 struct Paced<'a, R> {
     rt: &'a R,
@@ -61,7 +61,7 @@ impl<R: Clock> Gate for Paced<'_, R> {
     }
 }
 
-// Whether pumps wait for a role to end.
+// Returns true if pumps wait for a role to end.
 fn is_caller<P>(role: &Role<'_, P>) -> bool {
     match role {
         Role::Sayer(_, _, _) | Role::Fetcher(_, _, _) => true,
@@ -69,7 +69,7 @@ fn is_caller<P>(role: &Role<'_, P>) -> bool {
     }
 }
 
-/// The number of callers among the roles.
+/// Returns the number of callers among the roles.
 pub fn count_callers<P>(roles: &[Role<'_, P>]) -> u64 {
     let mut count: u64 = 0;
     for role in roles {
@@ -134,8 +134,8 @@ fn wait_for_message<L: Tapes, R: Wait + Clock>(
     false
 }
 
-// Makes a group of a node alone, says something and fetches it, and packs for the other node. Whether the message was its first
-// one, and the fetch gave just that.
+// Makes a group of a node alone, says something and fetches it, and packs for the other node. Returns true if the message was its
+// first one, and the fetch returned exactly that message.
 fn keep_to_itself<L: Tapes, R: Wait + Clock>(
     rt: &R,
     alloc: Global,
@@ -150,8 +150,8 @@ fn keep_to_itself<L: Tapes, R: Wait + Clock>(
     seq == 1 && is_fetched
 }
 
-/// Does what the role says. What it counted: failures of a port, turns of a ticker, messages said or found, calls that were
-/// answered, or refused where they are to be.
+/// Runs a role. Returns what it counted: failures of a port, turns of a ticker, messages said or found, or calls that were
+/// answered as expected.
 pub fn work<L: Tapes, P: Port, R: Wait + Clock>(
     rt: &R,
     alloc: Global,

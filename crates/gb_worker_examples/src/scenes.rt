@@ -1,4 +1,4 @@
-// What is done on a host of two nodes, from its opening to its end, and what it leaves.
+// Scenes on a host of two nodes, from its opening to its end, and their results.
 ghost use Rattle.std.specs.Prelude.{◌≡◌, vec_len};
 ghost use Rattle.gb_host.specs.Pasts.{AreBlank, books_of};
 ghost use Rattle.gb_host.specs.Plans.{IsPlan};
@@ -30,10 +30,10 @@ use std::sync::Wait;
 use std::thread::Threads;
 use std::time::Clock;
 
-/// What is done on a host, from its seats.
+/// What the seats of a host do.
 #[derive(Drop)]
 pub enum Scene<'a, P> {
-    /// Each role in a thread of its own, from the seat with its number.
+    /// Each role in its own thread, from the seat with its number.
     Roles(Vec<Role<'a, P>>),
     /// The same, once the group of both nodes was made from the last seat.
     InGroup(Vec<Role<'a, P>>),
@@ -43,7 +43,7 @@ pub enum Scene<'a, P> {
     LostSeat,
 }
 
-// Plays a scene. What was counted.
+// Plays a scene. Returns what was counted.
 fn play<L: Tapes + Send + Sync, P: Port + Send + Drop, R: Threads + Wait + Clock + Sync>(
     rt: &R,
     alloc: Global,
@@ -68,9 +68,9 @@ fn play<L: Tapes + Send + Sync, P: Port + Send + Drop, R: Threads + Wait + Clock
     }
 }
 
-/// What a host left: what was counted; of each of the first two seats how many calls it noted, and how many entries of the tapes
-/// are its; how many ticks the tape of each node has; whether the tapes tell of each seat what its list did; and whether they were
-/// merged into as many events as they have entries.
+/// The results of a host: what was counted; for each of the first two seats the number of calls that it noted, and the number of
+/// its entries in the tapes; the number of ticks in each node's tape; true if the tapes agree with the list of each seat; and true
+/// if they were merged into as many events as they have entries.
 #[derive(Clone, Copy)]
 pub struct Left {
     pub counts: [u64; 4],
@@ -81,14 +81,14 @@ pub struct Left {
     pub merged: bool,
 }
 
-/// Why a host left nothing.
+/// Why a host has no results.
 #[derive(Clone, Copy)]
 pub enum Refused {
     ForeignSeat,
     Other,
 }
 
-// How many ticks the tapes of the two nodes have.
+// Returns the numbers of ticks in the tapes of the two nodes.
 fn ticks_of(tapes: &[Tape]) -> [usize; 2] {
     let mut ticks: [usize; 2] = [0; 2];
     for node in 0..2 {
@@ -103,7 +103,7 @@ fn ticks_of(tapes: &[Tape]) -> [usize; 2] {
     ticks
 }
 
-// How many calls the first two seats noted.
+// Returns the number of calls that each of the first two seats noted.
 fn calls_of(lists: &[Vec<SeatEntry>]) -> [usize; 2] {
     let mut calls = [0; 2];
     for seat in 0..2 {
@@ -114,7 +114,7 @@ fn calls_of(lists: &[Vec<SeatEntry>]) -> [usize; 2] {
     calls
 }
 
-// Whether the tapes are merged into as many events as they have entries.
+// Returns true if the tapes are merged into as many events as they have entries.
 fn are_merged(alloc: Global, plan: HostPlan, tapes: &[Tape]) -> bool
     requires { IsPlan plan }
 {
@@ -128,7 +128,7 @@ fn are_merged(alloc: Global, plan: HostPlan, tapes: &[Tape]) -> bool
     }
 }
 
-// What is left once a host was closed.
+// Returns the results of a host that was closed.
 fn left_of(
     alloc: Global,
     plan: HostPlan,
