@@ -1,10 +1,9 @@
 //! Whole schedules and their answers, over readers and writers in memory that give and take a text in pieces, and
 //! that fail.
 use crate::cases::{
-    ALL_MESSAGES, ASKED, AT_THEIR_EDGES, AT_THEIR_LIMITS, Built, COMPLAINTS, Case, DAMAGED_PACKETS,
-    FULL_LINK, IN_ANY_PIECES, IN_LOWER_CASE, LONG_PAYLOADS, LONGEST_LINES, LONGEST_LOG,
-    LONGEST_PAYLOAD, MANY_PACKETS, MOST_GROUPS, MOST_LINES, OF_BYTES_WINDOWS_AND_DROPS,
-    OF_TENANTS_FRAMES_AND_NOISE, OF_THE_KINDS, Part, Repeated, SHORTEST_MESSAGES, UNTAGGED,
+    ALL_MESSAGES, ASKED, AT_THEIR_EDGES, Built, COMPLAINTS, Case, DAMAGED_PACKETS, FULL_LINK,
+    IN_ANY_PIECES, IN_LOWER_CASE, LONG_PAYLOADS, LONGEST_LINES, LONGEST_LOG, LONGEST_PAYLOAD,
+    MANY_PACKETS, MOST_GROUPS, MOST_LINES, Part, Repeated, SHORTEST_MESSAGES, UNTAGGED,
     WINDOW_OF_64_FRAMES,
 };
 use gb_simulate::complaint::complain;
@@ -216,26 +215,6 @@ fn judge(rt: &impl Abort, held: Result<bool, SimFault>) {
 #[test]
 fn worked_schedules_in_any_pieces(rt: HostRuntime) {
     judge(&rt, are_run_in_any_pieces(rt.alloc()));
-}
-
-#[test]
-fn worked_schedules_of_the_kinds(rt: HostRuntime) {
-    judge(&rt, are_run(rt.alloc(), OF_THE_KINDS, 100));
-}
-
-#[test]
-fn worked_schedules_of_bytes_windows_and_drops(rt: HostRuntime) {
-    judge(&rt, are_run(rt.alloc(), OF_BYTES_WINDOWS_AND_DROPS, 100));
-}
-
-#[test]
-fn tenants_groups_and_nodes_at_their_limits(rt: HostRuntime) {
-    judge(&rt, are_run(rt.alloc(), AT_THEIR_LIMITS, 100));
-}
-
-#[test]
-fn worked_schedules_of_tenants_frames_and_noise(rt: HostRuntime) {
-    judge(&rt, are_run(rt.alloc(), OF_TENANTS_FRAMES_AND_NOISE, 100));
 }
 
 #[test]
