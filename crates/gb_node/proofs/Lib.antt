@@ -21,6 +21,7 @@ pub mod SlotGroups
 pub mod StepLemmas
 pub mod ToldLemmas
 pub mod TookLemmas
+pub mod TurnLemmas
 pub mod VersionLemmas
 pub mod WaitsLemmas
 pub mod WindowLemmas

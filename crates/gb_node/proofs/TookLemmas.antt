@@ -35,7 +35,7 @@ module _ (v : NodeValue) (p : Content) (h : Head) (is : packet_of h p.items ≡ 
   pub took_state : (table later : TableValue) (window : SendWindow (List Item)) (receiver : Received) (watch : Watch) → watch ≡ after_heard v.watch h.from.number
       → table ≡ fold (frame_done h.from) v.table (freed (window_to v h.from.number) h.base h.mask) → window ≡ without_done h.base h.mask (window_to v h.from.number)
       → later ≡ frame_comes h.from p.frame p.items (receiver_from v h.from.number) table → receiver ≡ receives p.frame (receiver_from v h.from.number)
-      → record { key = v.key; table = later; windows = slice_set v.windows h.from.number window; receivers = slice_set v.receivers h.from.number receiver; watch = watch; stopped = v.stopped } ≡ node_took p v
+      → record { key = v.key; table = later; room = v.room; windows = slice_set v.windows h.from.number window; receivers = slice_set v.receivers h.from.number receiver; watch = watch; stopped = v.stopped } ≡ node_took p v
   took_state table later window receiver watch heard acked left came received =
       let number : h.from.number ≡ p.from = ap (λ (c : Content). c.from) is in
       let e0 = heard ∙ ap (after_heard v.watch) number in
@@ -48,10 +48,10 @@ module _ (v : NodeValue) (p : Content) (h : Head) (is : packet_of h p.items ≡ 
       ∙ (ap (λ n. frame_comes (node_numbered p.from) p.frame p.items (receiver_from v n) table) number ∙ ap (frame_comes (node_numbered p.from) p.frame p.items (receiver_from v p.from)) e1)) in
       let e4 : slice_set v.receivers h.from.number receiver ≡ slice_set v.receivers p.from (receives p.frame (receiver_from v p.from)) =
       ap (slice_set v.receivers h.from.number) received ∙ ap (λ n. slice_set v.receivers n (receives p.frame (receiver_from v n))) number in
-      λ j. record { key = v.key; table = e3 j; windows = e2 j; receivers = e4 j; watch = e0 j; stopped = v.stopped }
+      λ j. record { key = v.key; table = e3 j; room = v.room; windows = e2 j; receivers = e4 j; watch = e0 j; stopped = v.stopped }
 
 -- the place of a window and of a receiver is the node's number
 pub set_at : (v w : NodeValue) (at number : ℕ) (window : SendWindow (List Item)) (receiver : Received) (table : TableValue) (watch : Watch) → at ≡ number
-    → record { key = v.key; table = table; windows = slice_set v.windows number window; receivers = slice_set v.receivers number receiver; watch = watch; stopped = v.stopped } ≡ w
-    → record { key = v.key; table = table; windows = slice_set v.windows at window; receivers = slice_set v.receivers at receiver; watch = watch; stopped = v.stopped } ≡ w
-set_at v w at number window receiver table watch same is = ap (λ k. record { key = v.key; table = table; windows = slice_set v.windows k window; receivers = slice_set v.receivers k receiver; watch = watch; stopped = v.stopped }) same ∙ is
+    → record { key = v.key; table = table; room = v.room; windows = slice_set v.windows number window; receivers = slice_set v.receivers number receiver; watch = watch; stopped = v.stopped } ≡ w
+    → record { key = v.key; table = table; room = v.room; windows = slice_set v.windows at window; receivers = slice_set v.receivers at receiver; watch = watch; stopped = v.stopped } ≡ w
+set_at v w at number window receiver table watch same is = ap (λ k. record { key = v.key; table = table; room = v.room; windows = slice_set v.windows k window; receivers = slice_set v.receivers k receiver; watch = watch; stopped = v.stopped }) same ∙ is

@@ -317,7 +317,7 @@ impl Node {
 
     /// Makes the next batch for a node, as it was measured, the next frame. Returns the frame's number. Without memory nothing has
     /// changed.
-    fn push_batch(&mut self, to: NodeId, next: &Measured) -> Result<u64, OutOfMemory>
+    fn push_batch(&mut self, to: NodeId, next: Measured) -> Result<u64, OutOfMemory>
         requires room { has_room (window_to self.old to.number) ≡ true }
         requires some { 0 < next.count }
         requires most { next.most ≡ room_to self.old to }
@@ -360,7 +360,7 @@ impl Node {
     }
 
     /// Sends the next batch for a node, as it was measured. Without memory nothing has changed.
-    fn send_batch(&mut self, to: NodeId, next: &Measured) -> Result<PacketText, OutOfMemory>
+    fn send_batch(&mut self, to: NodeId, next: Measured) -> Result<PacketText, OutOfMemory>
         requires another { is_another self.old to ≡ true }
         requires room { has_room (window_to self.old to.number) ≡ true }
         requires some { 0 < next.count }
@@ -397,7 +397,7 @@ impl Node {
         if next.count == 0 {
             return Sent::Nothing;
         }
-        match self.send_batch(to, &next) {
+        match self.send_batch(to, next) {
             Ok(packet) => Sent::Packet(packet),
             Err(_) => Sent::Refused(Refusal::OutOfMemory),
         }

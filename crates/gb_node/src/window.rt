@@ -1,5 +1,5 @@
 //! The sending end of a link whose frames are batches of items, kept as their texts.
-ghost use Rattle.std.specs.Prelude.{◌≡◌, ◌<◌, ◌∷◌, [], true, length, sum_by, None, Some, MatchOption, IfOk, OnOk, OnErr};
+ghost use Rattle.std.specs.Prelude.{◌≡◌, ◌<◌, ◌≤◌, ◌∷◌, [], true, length, sum_by, None, Some, MatchOption, IfOk, OnOk, OnErr};
 ghost use Rattle.gb_frame.specs.Room.{room_of};
 ghost use Rattle.gb_frame.specs.Batch.{batch_in, IsBatch, FitPacket};
 ghost use Rattle.gb_frame.specs.Spelling.{items_text};

@@ -1,6 +1,5 @@
 use Rattle.std.proofs.Common.{length, ap, sym, ◌∙◌}
 use Rattle.std.proofs.lemmas.List.{length-map}
-use Rattle.gb_frame.specs.Room.{room_of}
 use Rattle.gb_groups.specs.GroupsValue.{batch}
 use Rattle.gb_groups.specs.Packing.{item_at}
 use Rattle.gb_node.specs.Frames.{items_of_frame}
@@ -10,4 +9,4 @@ pub write_frame-requires-clause-count : goal.write_frame-requires-clause-count
 write_frame-requires-clause-count c =
     let groups = c.args.self.now.table.groups in
     let sent = ap (λ frame. length (items_of_frame frame)) c.in_ok-number.ensures.frame.2 in
-    sent ∙ (length-map (batch c.args.self.now.table.version c.args.to.number (room_of c.args.self.now.table.version) groups) (item_at groups.rows) ∙ sym c.requires.count)
+    sent ∙ (length-map (batch c.args.self.now.table.version c.args.to.number c.args.next.most groups) (item_at groups.rows) ∙ sym c.requires.count)
