@@ -20,6 +20,8 @@ const LOOK: u64 = 50;
 
 const LAST_LOOK: u64 = 10;
 
+const _: () = prove!(LOOK == 50 && LAST_LOOK == 10);
+
 /// Writes this line once all loops have begun, and heeds standard input until the server is over. Returns false if a thread could not be made,
 /// a loop could not begin, or the line could not be written, which ends the server.
 pub fn watch<H: Wait + Clock, R: Input, W: Write>(
