@@ -79,9 +79,10 @@ fn allow(plan: PeerPlan, sessions: SocketAddr) -> Result<(), PeerFault>
 
 // Returns why a node does not begin, by what came of its mark, if it does not.
 fn begun_by(marked: Marked, run: u64, me: NodeId) -> Result<(), PeerFault>
-    ensures new { OnOk result (marked ≡ Marked.New) }
+    ensures ok { OnOk result (marked ≡ Marked.New) }
     ensures old { marked ≡ Marked.Old → result ≡ Err (PeerFault.Begun me.number run) }
     ensures failed { marked ≡ Marked.Failed → result ≡ Err PeerFault.Unmarked }
+    ensures fault { IfErr result (IsMarkFault me.number run) }
 {
     match marked {
         Marked::New => Ok(()),

@@ -1,5 +1,5 @@
 //! Where the nodes of a cluster are reached, once their names are resolved.
-ghost use Rattle.std.specs.Prelude.{◌≡◌, ◌<◌, IfErr, IfOk, IfSome, MatchOption, ⊤, length, vec_len};
+ghost use Rattle.std.specs.Prelude.{◌≡◌, ◌<◌, IfErr, IfOk, IfSome, length, vec_len};
 ghost use Rattle.std.specs.List.{All};
 ghost use Rattle.gb_peer_run.specs.Refused.{AreAlike, IsPlaceFault};
 
@@ -19,7 +19,7 @@ pub struct Places {
 
 // Returns the first address of a place, or the first of the same family as another address.
 fn resolve<H: Net>(rt: &H, place: &Place, like: Option<SocketAddr>) -> Option<SocketAddr>
-    ensures { IfSome result (λ found. MatchOption like (λ like. AreAlike like found) ⊤) }
+    ensures { IfSome result (λ found. IfSome like (λ one. AreAlike one found)) }
 {
     let found = (place.host.as_str(), place.port).to_socket_addrs(rt).ok()?;
     for address in found {
