@@ -25,7 +25,6 @@ NODES, KINDS = 3, ('beb', 'lazy', 'eager', 'allack', 'majority', 'fbeb', 'flazy'
 TENANT, ROUNDS, SPARE = 7, 3, 15  # the group SPARE is made and dropped
 REFUSED, BAD_PLACE = 'refused 16 OutOfMemory', 'refused 11 BadPlace'
 SECONDS = 5  # no single thing that is asked takes longer
-BEGIN = 30  # a server that lacks a thread of its own looks 10,000 times for it, a millisecond apart, before it ends
 PAUSE = 0.001  # before it is asked again, in seconds
 OUTAGE = 0.3  # how long all requests are refused, in seconds
 SESSIONS = 120  # connections that each node serves in all: no more than wait at a socket at once
@@ -82,7 +81,7 @@ class Server:
     def begins(self):
         """Whether it writes that it serves."""
         while b'\n' not in self.text:
-            if not self.read(BEGIN):
+            if not self.read():
                 return False
         return self.text.startswith(b'serving 3 nodes from port ')
 
@@ -315,15 +314,7 @@ class Bench:
                     raise Wrong('a port is still bound')
                 return 'host fault 5', 0
             seen = collections.Counter()
-            try:
-                served = self.asked_shortly(server, seen)
-            except Wrong:
-                ended = server.ended()
-                if ended.lines[1:] != ['host fault 5'] or ended.status != 1:
-                    raise Wrong(f'{ended}') from None
-                if not are_free(self.port):
-                    raise Wrong('a port is still bound') from None
-                return 'serving, then host fault 5', 0
+            served = self.asked_shortly(server, seen)
             refused = server.numbers.get('refused')
             ended = finish(server)
             is_audited = '--tape' in words and refused > 0 and (ended.lines[1:], ended.status) == (['audit fault 3'], 1)
@@ -441,9 +432,8 @@ def head(*cells):
 
 
 def print_before(bench):
-    kinds = ('host fault 5', 'serving, then host fault 5', 'refused', 'closed', 'as if none')
-    head('Until all nodes serve', 'Requests', '`host fault 5`', '`serving ..`, then `host fault 5`', f'serves, `{REFUSED}`',
-         'serves, a connection is closed', 'serves as if none')
+    kinds = ('host fault 5', 'refused', 'closed', 'as if none')
+    head('Until all nodes serve', 'Requests', '`host fault 5`', f'serves, `{REFUSED}`', 'serves, a connection is closed', 'serves as if none')
     for words in ((), ('--tape',), ('--status', f'127.0.0.1:{bench.port + 200}')):
         most, found = bench.all_before(words)
         row(words[0] if words else 'no tapes', most, *[found[what] for what in kinds])

@@ -1,9 +1,11 @@
-"""What `gb_serve --status` costs while its figures are read once a second. Three servers of one node run all the time: one without the
-option, another without it, and one whose figures are read. They are asked in turns, in bursts of a second or so, by one program
+"""What `gb_serve --status` costs while its figures are read once a second. A run starts three servers of one node anew: one without the
+option, another without it, and one whose figures are read; which of three ports each of them has is another in each run, since two processes of
+one program differ in their rates too. They are asked in turns, in bursts of a second or so, by one program
 (bench/serve/play.rs); the order of the three is another in each turn. Words: gb_serve, that program, how many fetches are made in a burst
 with 32 ahead (a fifth of that with 1 ahead), how many bursts of each server make a run, and how many runs are made.
 A run prints the median rate of each server, the median of the ratios of the second and of the third to the first within a turn, and
-the server's processor time for a fetch over all bursts of the run, with that of its answers by HTTP."""
+the server's processor time for a fetch over all bursts of the run, with that of its answers by HTTP. At the end the medians over all turns of all runs
+are printed, and the least and the greatest of the runs' medians."""
 import glob
 import statistics
 import subprocess
@@ -65,13 +67,13 @@ def burst(play, server, port, path, ahead, count):
     return rate, seconds(server) - before
 
 
-def run(play, servers, path, ahead, count, turns):
+def run(play, servers, ports, path, ahead, count, turns):
     """Returns the rates of each server, turn by turn, and its microseconds for a fetch."""
     rates, spent = [[] for _ in servers], [0.0 for _ in servers]
     for turn in range(turns):
         for step in range(len(servers)):
             who = (turn + step) % len(servers)
-            rate, used = burst(play, servers[who], PORTS[who], path, ahead, count)
+            rate, used = burst(play, servers[who], ports[who], path, ahead, count)
             rates[who].append(rate)
             spent[who] += used
     return rates, [used / (turns * count) * 1e6 for used in spent]
@@ -87,32 +89,40 @@ def report(what, rates, spent):
         print(f"  {name}: {statistics.median(rates[who]):,.0f} a second, {ratio(rates, who):.4f} of the first's in its turn; {spent[who]:.3f} us of processor time each", flush=True)
 
 
-def main(program, play, count, turns, runs):
-    words = [[program, "--nodes", "1", "--base-port", str(port)] for port in PORTS]
+def run_anew(program, play, path, count, turns, number):
+    """A run with three servers of its own: for 1 and for 32 ahead, the rates of each and its microseconds for a fetch."""
+    ports = [PORTS[(who + number) % len(PORTS)] for who in range(len(PORTS))]
+    words = [[program, "--nodes", "1", "--base-port", str(port)] for port in ports]
     words[2] += ["--status", f"127.0.0.1:{STATUS}"]
     with Server(words[0]) as first, Server(words[1]) as second, Server(words[2]) as third:
         servers = (first, second, third)
-        for port in PORTS:
+        for port in ports:
             prepare(port)
-        with tempfile.NamedTemporaryFile() as file:
-            file.write(message("fetch", 0, 1, 0, "0 1"))
-            file.flush()
-            reader = Reader()
-            reader.start()
-            for ahead, each in ((1, count // 5), (32, count)):
-                burst(play, third, PORTS[2], file.name, ahead, each)
-                all_rates, all_spent = [[], [], []], []
-                for number in range(runs):
-                    rates, spent = run(play, servers, file.name, ahead, each, turns)
-                    report(f"{ahead} ahead, run {number + 1}", rates, spent)
-                    for who, own in enumerate(rates):
-                        all_rates[who] += own
-                    all_spent.append(spent)
-                report(f"{ahead} ahead, all runs", all_rates, [statistics.mean(own) for own in zip(*all_spent)])
-            assert reader.is_alive(), "the figures could not be read"
-            reader.is_over.set()
-            reader.join()
-        print(f"the figures were read {reader.count} times, {reader.bytes} bytes each")
+        reader = Reader()
+        reader.start()
+        found = []
+        for ahead, each in ((1, count // 5), (32, count)):
+            burst(play, third, ports[2], path, ahead, each)
+            found.append(run(play, servers, ports, path, ahead, each, turns))
+            report(f"{ahead} ahead, run {number + 1}", *found[-1])
+        assert reader.is_alive() and reader.count, "the figures could not be read"
+        reader.is_over.set()
+        reader.join()
+        print(f"the figures were read {reader.count} times, {reader.bytes} bytes each", flush=True)
+    return found
+
+
+def main(program, play, count, turns, runs):
+    with tempfile.NamedTemporaryFile() as file:
+        file.write(message("fetch", 0, 1, 0, "0 1"))
+        file.flush()
+        found = [run_anew(program, play, file.name, count, turns, number) for number in range(runs)]
+    for place, ahead in enumerate((1, 32)):
+        all_rates = [[rate for one in found for rate in one[place][0][who]] for who in range(len(WHO))]
+        report(f"{ahead} ahead, all runs", all_rates, [statistics.mean(own) for own in zip(*(one[place][1] for one in found))])
+        for who in (1, 2):
+            ratios = [ratio(one[place][0], who) for one in found]
+            print(f"  {WHO[who]}, run by run: {min(ratios):.4f} to {max(ratios):.4f}, median {statistics.median(ratios):.4f}", flush=True)
 
 
 if __name__ == "__main__":

@@ -26,6 +26,8 @@ const _: () = prove!(READS == 64_000_000);
 /// The size of the buffer in bytes: a line that is not whole yet, and as much again for a read.
 const SPACE: usize = 131_072;
 
+const _: () = prove!(SPACE == 131_072 && SPACE == 2 * LINE);
+
 /// What comes next in a text.
 #[derive(Clone, Copy, PartialEq, Eq)]
 pub enum NextLine {

@@ -10,3 +10,5 @@ mod marks;
 mod nodes;
 #[cfg(test)]
 mod refusals;
+#[cfg(test)]
+mod ticks;

@@ -1,50 +1,139 @@
 //! What a node tells on standard error of why it does not serve to its end.
+ghost use Rattle.std.specs.Prelude.{◌≡◌, ◌++◌, true, OnOk, IfOk, codes, decimal};
+ghost use Rattle.std.specs.Io.KnownBytes.{Appends};
+ghost use Rattle.std.specs.Net.Text.{socket_text};
+ghost use Rattle.gb_peer_run.specs.Complaint.{complaint, fault_words};
+ghost use Rattle.gb_server.specs.Told.{lined};
+
 use crate::fault::PeerFault;
+use crate::mark::put_mark_name;
 use gb_server::complaint::complain as complain_of_server;
 use gb_server::fault::ServeFault;
+use gb_server::server_log::put_address;
+use gb_server::told::tell;
+use gb_types::memory::{OutOfMemory, put_bytes};
+use gb_types::number::put_number;
 use std::alloc::Global;
 use std::io::Write;
+use std::net::SocketAddr;
 
 /// The name of the program, with which each line on standard error begins.
 pub const NAME: &str = "gb_peer";
 
-/// Writes a line that says why a node does not serve to its end, and what to do about it. Why words or a file are refused is told where they
-/// were read.
-pub fn complain<E: Write>(alloc: Global, fault: PeerFault, dir: &str, errors: &mut E) {
-    let _ = match fault {
+// Appends a number, with words before it and behind it.
+fn put_with(text: &mut Vec<u8>, front: &[u8], number: u64, back: &[u8]) -> Result<(), OutOfMemory>
+    ensures { OnOk result (text.new.items ≡ text.old.items ++ (front.now ++ decimal number ++ back.now)) }
+{
+    put_bytes(text, front)?;
+    put_number(text, number)?;
+    put_bytes(text, back)
+}
+
+// Appends an address, with words before it and behind it.
+fn put_with_address(
+    text: &mut Vec<u8>,
+    front: &[u8],
+    address: SocketAddr,
+    back: &[u8],
+) -> Result<(), OutOfMemory>
+    ensures { OnOk result (text.new.items ≡ text.old.items ++ (front.now ++ socket_text address ++ back.now)) }
+{
+    put_bytes(text, front)?;
+    put_address(text, address)?;
+    put_bytes(text, back)
+}
+
+// Appends that a file does not have a node.
+fn put_no_node(text: &mut Vec<u8>, node: u8, nodes: u8) -> Result<(), OutOfMemory>
+    ensures { OnOk result (text.new.items ≡ text.old.items ++ (codes "the cluster file has no node " ++ decimal node ++ codes ": it has " ++ decimal nodes ++ codes ", from 0 on")) }
+{
+    put_bytes(text, b"the cluster file has no node ")?;
+    put_number(text, u64::from(node))?;
+    put_with(text, b": it has ", u64::from(nodes), b", from 0 on")
+}
+
+// Appends that a node has begun in a run already, and where its mark is.
+fn put_begun(text: &mut Vec<u8>, node: u8, run: u64, dir: &str) -> Result<(), OutOfMemory>
+    ensures { OnOk result (text.new.items ≡ text.old.items ++ fault_words dir.now (PeerFault.Begun node run)) }
+{
+    put_bytes(text, b"node ")?;
+    put_number(text, u64::from(node))?;
+    put_with(text, b" has begun in run ", run, b" already: ")?;
+    put_mark_name(text, dir, run, node)?;
+    put_bytes(
+        text,
+        b" is there. A node speaks once in a run: let a spare node take its place, or start all nodes in the next run",
+    )
+}
+
+// Appends that a mark could not be written.
+fn put_unmarked(text: &mut Vec<u8>, dir: &str) -> Result<(), OutOfMemory>
+    ensures { OnOk result (text.new.items ≡ text.old.items ++ fault_words dir.now PeerFault.Unmarked) }
+{
+    put_bytes(text, b"a mark could not be written to ")?;
+    put_bytes(text, dir.as_bytes())?;
+    put_bytes(text, b": it must be a folder that can be written to")
+}
+
+// Appends why a node does not serve to its end, where that is not told elsewhere.
+fn put_words(text: &mut Vec<u8>, fault: PeerFault, dir: &str) -> Result<(), OutOfMemory>
+    ensures { OnOk result (text.new.items ≡ text.old.items ++ fault_words dir.now fault) }
+{
+    match fault {
         PeerFault::RefusedFile => Ok(()),
-        PeerFault::NoNode { node, nodes } => write!(
-            errors,
-            "{NAME}: the cluster file has no node {node}: it has {nodes}, from 0 on\n"
+        PeerFault::NoNode { node, nodes } => put_no_node(text, node, nodes),
+        PeerFault::Remote(address) => put_with_address(
+            text,
+            b"sessions at ",
+            address,
+            b" would be reached from other machines, and tokens travel in clear: give --remote-sessions if that is meant, or an address of this machine and a tunnel",
         ),
-        PeerFault::Remote(address) => write!(
-            errors,
-            "{NAME}: sessions at {address} would be reached from other machines, and tokens travel in clear: give --remote-sessions if that is meant, or an address of this machine and a tunnel\n"
+        PeerFault::NotFound(node) => put_with(
+            text,
+            b"an address of node ",
+            u64::from(node),
+            b" is not found, or is not of the family, IPv4 or IPv6, of this node's packets",
         ),
-        PeerFault::NotFound(node) => write!(
-            errors,
-            "{NAME}: an address of node {node} is not found, or is not of the family, IPv4 or IPv6, of this node's packets\n"
+        PeerFault::Begun { node, run } => put_begun(text, node, run, dir),
+        PeerFault::Unmarked => put_unmarked(text, dir),
+        PeerFault::Packets(address) => put_with_address(
+            text,
+            b"the address ",
+            address,
+            b" for packets could not be bound",
         ),
-        PeerFault::Begun { node, run } => write!(
-            errors,
-            "{NAME}: node {node} has begun in run {run} already: {dir}/run-{run}-node-{node}.mark is there. A node speaks once in a run: let a spare node take its place, or start all nodes in the next run\n"
+        PeerFault::Sessions(address) => put_with_address(
+            text,
+            b"the address ",
+            address,
+            b" for sessions could not be bound",
         ),
-        PeerFault::Unmarked => write!(
-            errors,
-            "{NAME}: a mark could not be written to {dir}: it must be a folder that can be written to\n"
-        ),
-        PeerFault::Packets(address) => write!(
-            errors,
-            "{NAME}: the address {address} for packets could not be bound\n"
-        ),
-        PeerFault::Sessions(address) => write!(
-            errors,
-            "{NAME}: the address {address} for sessions could not be bound\n"
-        ),
-        PeerFault::Serve(ServeFault::RefusedWords) => Ok(()),
-        PeerFault::Serve(fault) => {
-            let _ = complain_of_server(alloc, NAME.as_bytes(), fault, errors);
-            Ok(())
-        }
-    };
+        PeerFault::Serve(_) => Ok(()),
+    }
+}
+
+// The line of a fault that is not told elsewhere.
+fn line_of(alloc: Global, fault: PeerFault, dir: &str) -> Result<Vec<u8>, OutOfMemory>
+    ensures { IfOk result (λ line. line.items ≡ lined (codes "gb_peer: " ++ fault_words dir.now fault)) }
+{
+    let mut line = Vec::new(alloc);
+    put_bytes(&mut line, b"gb_peer: ")?;
+    put_words(&mut line, fault, dir)?;
+    put_bytes(&mut line, b"\n")?;
+    Ok(line)
+}
+
+/// Writes the line that tells why a node does not serve to its end, and what to do about it. Why words or a file are refused is told where they
+/// were read. False: it could not be written, or there was no memory for it.
+pub fn complain<E: Write>(alloc: Global, fault: PeerFault, dir: &str, errors: &mut E) -> bool
+    ensures { result ≡ true → Appends (E.contents errors.old) (E.contents errors.new) (complaint dir.now fault) }
+{
+    match fault {
+        PeerFault::RefusedFile | PeerFault::Serve(ServeFault::RefusedWords) => true,
+        PeerFault::Serve(fault) => complain_of_server(alloc, NAME.as_bytes(), fault, errors),
+        _ => match line_of(alloc, fault, dir) {
+            Ok(line) => tell(errors, &line),
+            Err(OutOfMemory) => false,
+        },
+    }
 }

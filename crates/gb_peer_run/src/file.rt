@@ -1,6 +1,7 @@
 //! The file of the cluster, as it is read from the disk.
 ghost use Rattle.std.specs.Prelude.{◌≡◌, ℕ, List, IfOk, IfErr};
 ghost use Rattle.gb_cluster_file.specs.Cluster.{IsFileOf};
+ghost use Rattle.gb_peer_run.specs.Told.{fault_status};
 
 use crate::complaint::NAME;
 use crate::fault::PeerFault;
@@ -29,7 +30,9 @@ fn refuse_text<E: Write>(
     name: &str,
     text: &str,
     fault: FileFault,
-) -> PeerFault {
+) -> PeerFault
+    ensures { fault_status result ≡ 2 → result ≡ PeerFault.RefusedFile }
+{
     if fault == FileFault::OutOfMemory {
         return PeerFault::Serve(ServeFault::OutOfMemory);
     }
@@ -47,7 +50,8 @@ pub fn read_file<F: Files + AllocGlobal, E: Write>(
     name: &str,
     errors: &mut E,
 ) -> Result<ClusterFile, PeerFault>
-    ensures { IfOk result (λ file. (text : List ℕ) × IsFileOf text file) }
+    ensures file { IfOk result (λ file. (text : List ℕ) × IsFileOf text file) }
+    ensures refused { IfErr result (λ fault. fault_status fault ≡ 2 → fault ≡ PeerFault.RefusedFile) }
 {
     let Ok(bytes) = fs::read(files, name) else {
         return Err(refuse(errors, name, "it cannot be read"));

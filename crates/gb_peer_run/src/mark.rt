@@ -1,4 +1,7 @@
 //! What the start of a node in a run leaves on disk: a node number speaks once in a run.
+ghost use Rattle.std.specs.Prelude.{◌≡◌, ◌++◌, OnOk, IfOk};
+ghost use Rattle.gb_peer_run.specs.Marks.{mark_name};
+
 use gb_types::memory::{OutOfMemory, put_bytes};
 use gb_types::number::put_number;
 use std::alloc::Global;
@@ -18,15 +21,24 @@ pub enum Marked {
     Failed,
 }
 
-/// Returns the name of the mark of a node in a run, in a folder: `DIR/run-R-node-I.mark`.
-pub fn mark_name(alloc: Global, dir: &str, run: u64, node: u8) -> Result<Vec<u8>, OutOfMemory> {
+/// Appends the name of the mark of a node in a run, in a folder: `DIR/run-R-node-I.mark`.
+pub fn put_mark_name(name: &mut Vec<u8>, dir: &str, run: u64, node: u8) -> Result<(), OutOfMemory>
+    ensures { OnOk result (name.new.items ≡ name.old.items ++ mark_name dir.now run node) }
+{
+    put_bytes(name, dir.as_bytes())?;
+    put_bytes(name, b"/run-")?;
+    put_number(name, run)?;
+    put_bytes(name, b"-node-")?;
+    put_number(name, u64::from(node))?;
+    put_bytes(name, b".mark")
+}
+
+/// Returns the name of the mark of a node in a run, in a folder.
+pub fn mark_name(alloc: Global, dir: &str, run: u64, node: u8) -> Result<Vec<u8>, OutOfMemory>
+    ensures { IfOk result (λ name. name.items ≡ mark_name dir.now run node) }
+{
     let mut name = Vec::new(alloc);
-    put_bytes(&mut name, dir.as_bytes())?;
-    put_bytes(&mut name, b"/run-")?;
-    put_number(&mut name, run)?;
-    put_bytes(&mut name, b"-node-")?;
-    put_number(&mut name, u64::from(node))?;
-    put_bytes(&mut name, b".mark")?;
+    put_mark_name(&mut name, dir, run, node)?;
     Ok(name)
 }
 

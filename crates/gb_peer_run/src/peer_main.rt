@@ -1,12 +1,15 @@
 //! A node of a cluster, from its words to its exit status.
-ghost use Rattle.std.specs.Prelude.{◌≡◌, ◌≢◌, ◌≤◌, ◌<◌, ℕ, List, [], ◌++◌, Ok, Err, IfOk, OnOk, length, map, vec_len};
+ghost use Rattle.std.specs.Prelude.{◌≡◌, ◌≢◌, ◌≤◌, ◌<◌, ℕ, List, [], ◌++◌, Ok, Err, IfErr, IfOk, OnOk, length, map, vec_len};
 ghost use Rattle.std.specs.Io.KnownBytes.{Appends, Consumes};
 ghost use Rattle.gb_cluster_file.specs.Cluster.{IsWithin};
 ghost use Rattle.gb_peer_words.specs.Words.{IsWithin as IsPlanWithin};
 ghost use Rattle.gb_host.specs.Pasts.{AreBlank, books_of};
 ghost use Rattle.gb_host.specs.Plans.{IsPlan};
 ghost use Rattle.gb_server.specs.Keys.{AreKeys};
-ghost use Rattle.gb_peer_run.specs.Told.{HasServed, IsServedBy, closed_line, fault_line, serving_line};
+ghost use Rattle.clap.specs.Words.{matches_of};
+ghost use Rattle.gb_peer_words.specs.Words.{IsReadOf, peer_app};
+ghost use Rattle.gb_peer_run.specs.Refused.{AreTaken, IsFileRefused, IsMarkFault, IsNodeRefused, IsRefused, MayServeAt};
+ghost use Rattle.gb_peer_run.specs.Told.{HasServed, IsServedBy, closed_line, fault_line, fault_status, serving_line};
 
 use crate::cluster::{host_plan, node_count, options_of};
 use crate::complaint::{NAME, complain};
@@ -50,6 +53,7 @@ fn node_of(file: &ClusterFile, number: u8) -> Result<NodeId, PeerFault>
     requires { IsWithin file.now }
     ensures is { IfOk result (λ me. me.number ≡ number) }
     ensures there { IfOk result (λ me. me.number < length file.now.nodes.items) }
+    ensures refused { IfErr result (λ fault. (fault ≡ PeerFault.NoNode number (length file.now.nodes.items)) × (length file.now.nodes.items ≤ number)) }
 {
     let nodes = node_count(file);
     if number >= nodes {
@@ -62,11 +66,31 @@ fn node_of(file: &ClusterFile, number: u8) -> Result<NodeId, PeerFault>
 }
 
 // Refuses sessions that other machines reach, unless the words allow them.
-fn allow(plan: PeerPlan, sessions: SocketAddr) -> Result<(), PeerFault> {
+fn allow(plan: PeerPlan, sessions: SocketAddr) -> Result<(), PeerFault>
+    ensures ok { OnOk result (MayServeAt plan sessions) }
+    ensures refused { IfErr result (λ fault. (fault ≡ PeerFault.Remote sessions) × (MayServeAt plan sessions → ⊥)) }
+{
     if plan.remote_sessions || sessions.ip().is_loopback() {
         Ok(())
     } else {
         Err(PeerFault::Remote(sessions))
+    }
+}
+
+// Returns why a node does not begin, by what came of its mark, if it does not.
+fn begun_by(marked: Marked, run: u64, me: NodeId) -> Result<(), PeerFault>
+    ensures ok { OnOk result (marked ≡ Marked.New) }
+    ensures old { marked ≡ Marked.Old → result ≡ Err (PeerFault.Begun me.number run) }
+    ensures failed { marked ≡ Marked.Failed → result ≡ Err PeerFault.Unmarked }
+    ensures fault { IfErr result (IsMarkFault me.number run) }
+{
+    match marked {
+        Marked::New => Ok(()),
+        Marked::Old => Err(PeerFault::Begun {
+            node: me.number,
+            run,
+        }),
+        Marked::Failed => Err(PeerFault::Unmarked),
     }
 }
 
@@ -77,15 +101,11 @@ fn begin<F: Files>(
     dir: &str,
     run: u64,
     me: NodeId,
-) -> Result<(), PeerFault> {
-    match mark(files, alloc, dir, run, me.number)? {
-        Marked::New => Ok(()),
-        Marked::Old => Err(PeerFault::Begun {
-            node: me.number,
-            run,
-        }),
-        Marked::Failed => Err(PeerFault::Unmarked),
-    }
+) -> Result<(), PeerFault>
+    ensures { IfErr result (IsMarkFault me.number run) }
+{
+    let marked = mark(files, alloc, dir, run, me.number)?;
+    begun_by(marked, run, me)
 }
 
 // Returns what the first line of the log begins with: the version of the program, the node, how many there are, the run, and the addresses.
@@ -167,6 +187,7 @@ fn serve_host<
     requires books { books_of pasts.items ≡ L.books }
     ensures told { OnOk result (Appends (W.contents writer.old) (W.contents writer.new) service.now.line.items) }
     ensures read { OnOk result ((bytes : List ℕ) × Consumes (R.remaining reader.old) (R.remaining reader.new) bytes) }
+    ensures fault { IfErr result (λ fault. fault_status fault ≡ 1) }
 {
     let (host, seats, _) = match Host::<L>::open(alloc, plan, only(me), 1, pasts) {
         Ok(opened) => opened,
@@ -210,8 +231,10 @@ fn serve_node<
     requires plan { IsPlanWithin words.now.plan }
     requires there { me.number < length file.now.nodes.items }
     requires places { vec_len places.packets ≡ length file.now.nodes.items }
+    requires allowed { MayServeAt words.now.plan places.sessions }
     ensures told { OnOk result (Appends (W.contents writer.old) (W.contents writer.new) (serving_line me.number (length file.now.nodes.items) file.now.run)) }
     ensures read { OnOk result ((bytes : List ℕ) × Consumes (R.remaining reader.old) (R.remaining reader.new) bytes) }
+    ensures fault { IfErr result (λ fault. fault_status fault ≡ 1) }
 {
     let plan = words.plan;
     let service = service_of(
@@ -267,6 +290,8 @@ fn serve_file<
     ensures there { OnOk result (words.now.plan.node < length file.now.nodes.items) }
     ensures told { OnOk result (Appends (W.contents writer.old) (W.contents writer.new) (serving_line words.now.plan.node (length file.now.nodes.items) file.now.run)) }
     ensures read { OnOk result ((text : List ℕ) × (behind : List ℕ) × (keys : Keys) × AreKeys text keys × Consumes (R.remaining reader.old) (R.remaining reader.new) (text ++ behind)) }
+    ensures refused { IfErr result (λ fault. fault_status fault ≡ 2
+        → IsNodeRefused words.now.plan file.now fault × (reader.new ≡ reader.old) × (writer.new ≡ writer.old)) }
 {
     let me = node_of(file, words.plan.node)?;
     let places = places_of(rt, alloc, file, me)?;
@@ -283,7 +308,7 @@ fn serve_file<
 // Tells why a node did not serve to its end, if it did not.
 fn explain<E: Write>(alloc: Global, outcome: Result<(), PeerFault>, dir: &str, errors: &mut E) {
     if let Err(fault) = outcome {
-        complain(alloc, fault, dir, errors);
+        let _ = complain(alloc, fault, dir, errors);
     }
 }
 
@@ -308,7 +333,9 @@ fn serve_words<
     errors: &mut E,
 ) -> Result<(), PeerFault>
     requires { IsPlanWithin words.now.plan }
-    ensures { OnOk result ((file : ClusterFile) × IsServedBy words.now file (R.remaining reader.old) (R.remaining reader.new) (W.contents writer.old) (W.contents writer.new) []) }
+    ensures served { OnOk result ((file : ClusterFile) × IsServedBy words.now file (R.remaining reader.old) (R.remaining reader.new) (W.contents writer.old) (W.contents writer.new) []) }
+    ensures refused { IfErr result (λ fault. fault_status fault ≡ 2
+        → IsFileRefused words.now fault × (reader.new ≡ reader.old) × (writer.new ≡ writer.old)) }
 {
     let file = read_file(rt, alloc, words.cluster, errors)?;
     let outcome = serve_file(rt, alloc, &file, words, reader, writer, errors);
@@ -336,7 +363,11 @@ fn serve<
     writer: &mut W,
     errors: &mut E,
 ) -> Result<(), PeerFault>
-    ensures { OnOk result (HasServed (map (λ word. word.now) words.now) (R.remaining reader.old) (R.remaining reader.new) (W.contents writer.old) (W.contents writer.new) []) }
+    ensures served { OnOk result (HasServed (map (λ word. word.now) words.now) (R.remaining reader.old) (R.remaining reader.new) (W.contents writer.old) (W.contents writer.new) []) }
+    ensures refused { IfErr result (λ fault. fault_status fault ≡ 2
+        → IsRefused (map (λ word. word.now) words.now) fault × (reader.new ≡ reader.old) × (writer.new ≡ writer.old)
+        × (fault ≡ PeerFault.Serve ServeFault.RefusedWords → errors.new ≡ errors.old)) }
+    ensures taken { AreTaken (map (λ word. word.now) words.now) → result ≢ Err (PeerFault.Serve ServeFault.RefusedWords) }
 {
     let read = read_words(alloc, words)?;
     serve_words(rt, alloc, &read, reader, writer, errors)
@@ -361,6 +392,11 @@ pub fn peer_main<
 >(rt: &H, alloc: Global, words: &[&str], reader: &mut R, writer: &mut W, errors: &mut E) -> u8
     ensures status { result ≤ 2 }
     ensures served { result ≡ 0 → HasServed (map (λ word. word.now) words.now) (R.remaining reader.old) (R.remaining reader.new) (W.contents writer.old) (W.contents writer.new) closed_line }
+    ensures refused { result ≡ 2 → (fault : PeerFault) × IsRefused (map (λ word. word.now) words.now) fault × (reader.new ≡ reader.old)
+        × (fault ≡ PeerFault.Serve ServeFault.RefusedWords → errors.new ≡ errors.old) × Appends (W.contents writer.old) (W.contents writer.new) (fault_line fault) }
+    ensures taken { AreTaken (map (λ word. word.now) words.now) → result ≡ 2
+        → (fault : PeerFault) × (read : PeerWords) × IsReadOf (matches_of peer_app (map (λ word. word.now) words.now)) read × IsFileRefused read fault
+        × Appends (W.contents writer.old) (W.contents writer.new) (fault_line fault) }
 {
     match serve(rt, alloc, words, reader, writer, errors) {
         Ok(()) => if tell_closed(writer) { 0 } else { 1 },

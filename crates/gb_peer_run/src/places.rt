@@ -1,5 +1,7 @@
 //! Where the nodes of a cluster are reached, once their names are resolved.
-ghost use Rattle.std.specs.Prelude.{◌≡◌, ◌<◌, IfOk, length, vec_len};
+ghost use Rattle.std.specs.Prelude.{◌≡◌, ◌<◌, IfErr, IfOk, IfSome, length, vec_len};
+ghost use Rattle.std.specs.List.{All};
+ghost use Rattle.gb_peer_run.specs.Refused.{AreAlike, IsPlaceFault};
 
 use crate::fault::PeerFault;
 use gb_cluster_file::file::{ClusterFile, NodePlaces, Place};
@@ -16,7 +18,9 @@ pub struct Places {
 }
 
 // Returns the first address of a place, or the first of the same family as another address.
-fn resolve<H: Net>(rt: &H, place: &Place, like: Option<SocketAddr>) -> Option<SocketAddr> {
+fn resolve<H: Net>(rt: &H, place: &Place, like: Option<SocketAddr>) -> Option<SocketAddr>
+    ensures { IfSome result (λ found. IfSome like (λ one. AreAlike one found)) }
+{
     let found = (place.host.as_str(), place.port).to_socket_addrs(rt).ok()?;
     for address in found {
         match like {
@@ -34,7 +38,9 @@ fn resolve_all<H: Net>(
     nodes: &[NodePlaces],
     like: SocketAddr,
 ) -> Result<Vec<SocketAddr>, PeerFault>
-    ensures { IfOk result (λ places. vec_len places ≡ length nodes.now) }
+    ensures count { IfOk result (λ places. vec_len places ≡ length nodes.now) }
+    ensures alike { IfOk result (λ places. All (λ place. AreAlike like place) places.items) }
+    ensures fault { IfErr result (IsPlaceFault (length nodes.now)) }
 {
     let mut places = Vec::new(alloc);
     let mut number = 0u8;
@@ -59,7 +65,9 @@ pub fn places_of<H: Net>(
     me: NodeId,
 ) -> Result<Places, PeerFault>
     requires { me.number < length file.now.nodes.items }
-    ensures { IfOk result (λ places. vec_len places.packets ≡ length file.now.nodes.items) }
+    ensures count { IfOk result (λ places. vec_len places.packets ≡ length file.now.nodes.items) }
+    ensures alike { IfOk result (λ places. (own : SocketAddr) × All (λ place. AreAlike own place) places.packets.items) }
+    ensures fault { IfErr result (IsPlaceFault (length file.now.nodes.items)) }
 {
     let own = &file.nodes[me.index()];
     let not_found = PeerFault::NotFound(me.number);

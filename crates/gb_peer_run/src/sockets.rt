@@ -1,5 +1,6 @@
 //! The sockets of a node.
-ghost use Rattle.std.specs.Prelude.{◌<◌, vec_len};
+ghost use Rattle.std.specs.Prelude.{◌≡◌, ◌<◌, IfErr, vec_len};
+ghost use Rattle.gb_peer_run.specs.Told.{fault_status};
 
 use crate::fault::PeerFault;
 use crate::places::Places;
@@ -18,6 +19,7 @@ pub fn open_sockets<H: Net<Listener = TcpListener, Stream = TcpStream>>(
     places: Places,
 ) -> Result<Sockets, PeerFault>
     requires { me.number < vec_len places.packets }
+    ensures fault { IfErr result (λ fault. fault_status fault ≡ 1) }
 {
     let Places { packets, sessions } = places;
     let own = packets[me.index()];

@@ -1,6 +1,8 @@
 //! The threads of a server.
+use crate::beside::{Lent, Task, take_back};
 use crate::signals::Signals;
 use crate::sockets::Sockets;
+use crate::watch::{Attending, attend};
 use crate::work::run_node;
 use gb_host::host::Host;
 use gb_host::names::Tapes;
@@ -9,6 +11,7 @@ use gb_loop::node_loop::Ending;
 use gb_loop::options::LoopOptions;
 use gb_types::memory::OutOfMemory;
 use std::alloc::Global;
+use std::io::Write;
 use std::net::{Net, TcpListener, TcpStream};
 use std::sync::Wait;
 use std::thread;
@@ -42,11 +45,20 @@ fn join_all<L: Tapes, H: Threads>(
     }
 }
 
-/// Holds a server: a thread for each node's loop, with a seat each. They end when the signals say so. Gives the
-/// seats back. OutOfMemory: not all threads could be made, and no connection was served; or a loop could not begin.
-pub fn hold<
+// Waits until the thread of a desk has ended, if it was made.
+fn join_desk<H: Threads>(rt: &H, threads: Vec<JoinHandle<()>>) {
+    for thread in threads {
+        thread.join(rt);
+    }
+}
+
+// As `hold_beside`, which lends what this thread does.
+fn hold<
     L: Tapes + Send + Sync,
     H: Net<Listener = TcpListener, Stream = TcpStream> + Threads + Wait + Clock + Sync,
+    E: Write + Send,
+    T: Task<Output = B> + Drop,
+    B,
 >(
     rt: &H,
     alloc: Global,
@@ -55,13 +67,20 @@ pub fn hold<
     sockets: Vec<Sockets>,
     options: LoopOptions,
     signals: &Signals,
-) -> Result<Vec<Seat<L>>, OutOfMemory> {
+    attending: Attending<'_, E>,
+    task: T,
+) -> (Result<Vec<Seat<L>>, OutOfMemory>, B)
+    requires { T.can_run task }
+    ensures { T.run_gives task result.1 }
+{
     let shared = signals;
-    shared.hold();
     thread::scope(
         thread::scope_env(),
         rt,
-        move |scope| -> Result<Vec<Seat<L>>, OutOfMemory> {
+        move |scope| -> (Result<Vec<Seat<L>>, OutOfMemory>, B)
+            requires { T.can_run task }
+            ensures { T.run_gives task result.1 }
+        {
             let mut seats = seats;
             let mut loops = Vec::new(alloc);
             for own in sockets {
@@ -74,13 +93,58 @@ pub fn hold<
                 ));
                 keep(&mut loops, made, shared);
             }
+            let mut desks = Vec::new(alloc);
+            let made = scope.spawn(move || attend(rt, shared, attending));
+            keep(&mut desks, made, shared);
             shared.begin();
+            let done = task.run();
             join_all(rt, loops, &mut seats);
-            if shared.has_failed() {
+            shared.leave();
+            join_desk(rt, desks);
+            let held = if shared.has_failed() {
                 Err(OutOfMemory)
             } else {
                 Ok(seats)
-            }
+            };
+            (held, done)
         },
     )
+}
+
+/// Holds a server: a thread for each node's loop, with a seat each, and one for its desk, while this thread does what is beside them. They
+/// end when the signals say so. Gives the seats back. OutOfMemory: not all threads could be made, which the signals say before this thread does
+/// anything, and no connection was served; or a loop could not begin.
+pub fn hold_beside<
+    L: Tapes + Send + Sync,
+    H: Net<Listener = TcpListener, Stream = TcpStream> + Threads + Wait + Clock + Sync,
+    E: Write + Send,
+    G: FnMut() -> B,
+    B: Drop,
+>(
+    rt: &H,
+    alloc: Global,
+    host: &Host<L>,
+    seats: Vec<Seat<L>>,
+    sockets: Vec<Sockets>,
+    options: LoopOptions,
+    signals: &Signals,
+    attending: Attending<'_, E>,
+    beside: &mut G,
+) -> (Result<Vec<Seat<L>>, OutOfMemory>, B)
+    requires { G.pre beside.old }
+    ensures { G.step beside.old result.1 beside.new }
+{
+    let (held, (lent, done)) = hold(
+        rt,
+        alloc,
+        host,
+        seats,
+        sockets,
+        options,
+        signals,
+        attending,
+        Lent { f: beside },
+    );
+    take_back(lent);
+    (held, done)
 }

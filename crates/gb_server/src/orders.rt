@@ -15,8 +15,12 @@ use std::time::{Clock, Duration};
 /// How many bytes of a line are kept: more than those of `stop` with its end.
 pub const KEPT: usize = 8;
 
+const _: () = prove!(KEPT == 8);
+
 // How long standard input is waited for before the server is looked at again, in milliseconds.
 const LOOK: u16 = 50;
+
+const _: () = prove!(LOOK == 50);
 
 /// What came of standard input.
 #[derive(Clone, Copy, Debug, PartialEq, Eq)]

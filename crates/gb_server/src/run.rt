@@ -2,14 +2,14 @@
 ghost use Rattle.std.specs.Prelude.{◌≡◌, ℕ, List, OnOk};
 ghost use Rattle.std.specs.Io.KnownBytes.{Appends, Consumes};
 
-use crate::crew::hold;
+use crate::crew::hold_beside;
 use crate::desk::Desk;
 use crate::input::Input;
 use crate::server_log::{ServerLog, first_line};
 use crate::signals::Signals;
 use crate::sockets::Sockets;
 use crate::status::StatusServer;
-use crate::watch::{attend, watch};
+use crate::watch::{Attending, watch};
 use gb_host::host::Host;
 use gb_host::names::Tapes;
 use gb_host::seat::Seat;
@@ -20,7 +20,7 @@ use std::alloc::Global;
 use std::io::Write;
 use std::net::{Net, TcpListener, TcpStream};
 use std::sync::Wait;
-use std::thread::{Threads, join_mut};
+use std::thread::Threads;
 use std::time::Clock;
 
 /// Why a server did not run to its end.
@@ -43,29 +43,11 @@ impl From<OutOfMemory> for RunFault {
     }
 }
 
-/// What a thread that is to hold a server is given: for each node a seat and its sockets.
+/// What a server is given: for each node a seat and its sockets.
 #[derive(Drop)]
 pub struct Given<L: Tapes> {
     pub seats: Vec<Seat<L>>,
     pub sockets: Vec<Sockets>,
-}
-
-// Holds a server with what is given, where it is. None: not all loops could begin.
-fn hold_given<
-    L: Tapes + Send + Sync,
-    H: Net<Listener = TcpListener, Stream = TcpStream> + Threads + Wait + Clock + Sync,
->(
-    rt: &H,
-    alloc: Global,
-    host: &Host<L>,
-    given: &mut Option<Given<L>>,
-    options: LoopOptions,
-    signals: &Signals,
-) -> Option<Vec<Seat<L>>> {
-    let Given { seats, sockets } = given.take()?;
-    let held = hold(rt, alloc, host, seats, sockets, options, signals);
-    signals.leave();
-    held.ok()
 }
 
 /// What a server of some nodes is told, beside how its loops behave.
@@ -112,29 +94,6 @@ fn desk_of<H: Clock>(
     Ok(Desk { log, first, status })
 }
 
-// Holds a server with what is given, and serves the desk beside it.
-fn hold_with_desk<
-    L: Tapes + Send + Sync,
-    H: Net<Listener = TcpListener, Stream = TcpStream> + Threads + Wait + Clock + Sync,
-    E: Write,
->(
-    rt: &H,
-    alloc: Global,
-    host: &Host<L>,
-    given: &mut Option<Given<L>>,
-    options: LoopOptions,
-    signals: &Signals,
-    desk: &mut Desk,
-    errors: &mut E,
-) -> Option<Vec<Seat<L>>> {
-    let (held, _attended) = join_mut(
-        rt,
-        &mut || hold_given(rt, alloc, host, given, options, signals),
-        &mut || attend(rt, signals, desk, errors),
-    );
-    held
-}
-
 /// Holds a server, tells that it serves once all its loops have begun, and heeds standard input. Tells its status at this listener, if there
 /// is one. Returns the seats.
 pub fn run<
@@ -159,21 +118,24 @@ pub fn run<
     ensures read { OnOk result ((bytes : List ℕ) × Consumes (R.remaining reader.old) (R.remaining reader.new) bytes) }
 {
     let signals = Signals::new(alloc, service.first, service.nodes)?;
-    let mut desk = desk_of(rt, alloc, service, listener)?;
+    let desk = desk_of(rt, alloc, service, listener)?;
+    let attending = Attending { desk, errors };
     let shared = &signals;
     let text = service.line.as_slice();
     let stops_at_end = service.stops_at_end;
-    let mut given = Some(given);
-    let (held, is_told) = join_mut(
+    let Given { seats, sockets } = given;
+    let (held, is_told) = hold_beside(
         rt,
-        &mut || {
-            hold_with_desk(
-                rt, alloc, host, &mut given, options, shared, &mut desk, errors,
-            )
-        },
+        alloc,
+        host,
+        seats,
+        sockets,
+        options,
+        shared,
+        attending,
         &mut || watch(rt, shared, text, stops_at_end, reader, writer),
     );
-    let Some(seats) = held else {
+    let Ok(seats) = held else {
         return Err(RunFault::OutOfMemory);
     };
     if !is_told {

@@ -18,7 +18,7 @@ pub enum Why {
     Stopped,
     /// Standard input ended.
     InputEnded,
-    /// A loop could not begin.
+    /// A thread could not be made, or a loop could not begin.
     Failed,
     /// A line could not be written to standard output.
     Unwritten,
@@ -55,7 +55,6 @@ pub struct Signals {
     left: AtomicU64,
     // How many loops have not begun.
     waiting: AtomicU64,
-    is_held: AtomicBool,
     is_begun: AtomicBool,
     // The number of the reason why the server ends; 0: it does not end.
     why: AtomicU64,
@@ -72,7 +71,6 @@ impl Signals {
         Ok(Signals {
             left: AtomicU64::new(count),
             waiting: AtomicU64::new(count),
-            is_held: AtomicBool::new(false),
             is_begun: AtomicBool::new(false),
             why: AtomicU64::new(0),
             have_left: AtomicBool::new(false),
@@ -81,21 +79,12 @@ impl Signals {
         })
     }
 
-    /// The threads of loops are being made.
-    pub fn hold(&self) {
-        self.is_held.store(true, Ordering::SeqCst);
-    }
-
-    pub fn is_held(&self) -> bool {
-        self.is_held.load(Ordering::SeqCst)
-    }
-
     /// Returns true if all loops have begun.
     pub fn have_begun(&self) -> bool {
         self.waiting.load(Ordering::SeqCst) == 0
     }
 
-    /// All threads have been made: connections may be served.
+    /// Each thread was made, or one could not be and the server is over: connections may be served.
     pub fn begin(&self) {
         self.is_begun.store(true, Ordering::SeqCst);
     }
@@ -131,7 +120,7 @@ impl Signals {
         self.is_begun.load(Ordering::SeqCst)
     }
 
-    /// Returns true if a loop could not begin.
+    /// Returns true if a thread could not be made, or a loop could not begin.
     pub fn has_failed(&self) -> bool {
         self.has_failed.load(Ordering::SeqCst)
     }

@@ -20,8 +20,10 @@ const LOOK: u64 = 50;
 
 const LAST_LOOK: u64 = 10;
 
-/// Writes this line once all loops have begun, and heeds standard input until the server is over. Returns false if a loop could not begin, or
-/// the line could not be written, which ends the server.
+const _: () = prove!(LOOK == 50 && LAST_LOOK == 10);
+
+/// Writes this line once all loops have begun, and heeds standard input until the server is over. Returns false if a thread could not be made,
+/// a loop could not begin, or the line could not be written, which ends the server.
 pub fn watch<H: Wait + Clock, R: Input, W: Write>(
     rt: &H,
     signals: &Signals,
@@ -44,17 +46,20 @@ pub fn watch<H: Wait + Clock, R: Input, W: Write>(
     true
 }
 
-/// Writes the log's first line once all loops have begun, and serves the desk until the threads of all loops have ended.
-pub fn attend<H: Wait + Clock, E: Write>(
+/// A desk, and where its log is written.
+#[derive(Drop)]
+pub struct Attending<'a, E> {
+    pub desk: Desk,
+    pub errors: &'a mut E,
+}
+
+// Serves a desk until the threads of all loops have ended.
+fn serve_desk<H: Wait + Clock, E: Write>(
     rt: &H,
     signals: &Signals,
     desk: &mut Desk,
     errors: &mut E,
 ) {
-    if !wait_until_begun(rt, signals) {
-        return;
-    }
-    desk.begin(errors);
     for _ in rt.forever() {
         let have_left = signals.have_left();
         desk.look(rt, signals, errors);
@@ -64,4 +69,15 @@ pub fn attend<H: Wait + Clock, E: Write>(
         let wait = if signals.is_over() { LAST_LOOK } else { LOOK };
         thread::sleep(rt, Duration::from_millis(wait));
     }
+}
+
+/// Writes the log's first line once all loops have begun, and serves the desk until the threads of all loops have ended.
+pub fn attend<H: Wait + Clock, E: Write>(rt: &H, signals: &Signals, attending: Attending<'_, E>) {
+    let Attending { desk, errors } = attending;
+    let mut desk = desk;
+    if !wait_until_begun(rt, signals) {
+        return;
+    }
+    desk.begin(errors);
+    serve_desk(rt, signals, &mut desk, errors);
 }

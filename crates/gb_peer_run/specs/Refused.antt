@@ -1,0 +1,57 @@
+-- Why a node is not served: its words, the cluster's file, its addresses, or the mark of its start.
+use Rattle.std.specs.Prelude.{◌≡◌, ◌≢◌, ◌⊎◌, ◌≤◌, ◌<◌, ℕ, List, [], true, false, codes, length}
+use Rattle.std.specs.Net.Addr.{IsLoopbackV4, IsLoopbackV6, MatchIp, is_ipv4}
+use Rattle.std.specs.Net.Socket.{socket_ip}
+use Rattle.std.specs.declared.net.socket_addr.SocketAddr.{SocketAddr}
+use Rattle.clap.specs.Words.{Text, fault_of, matches_of, one_of, takes}
+use Rattle.gb_cluster_file.specs.Cluster.{IsFileOf}
+use Rattle.gb_cluster_file.specs.declared.file.ClusterFile.{ClusterFile}
+use Rattle.gb_peer_words.specs.Words.{IsReadOf, peer_app}
+use Rattle.gb_peer_words.specs.declared.plan.PeerPlan.{PeerPlan}
+use Rattle.gb_peer_words.specs.declared.plan.PeerWords.{PeerWords}
+use Rattle.gb_serve_words.specs.Options.{HasAddress}
+use Rattle.gb_server.specs.declared.fault.ServeFault.TheVariants.{RefusedWords, OutOfMemory}
+use Rattle.gb_peer_run.specs.declared.fault.PeerFault.{PeerFault}
+use Rattle.gb_peer_run.specs.declared.fault.PeerFault.TheVariants.{RefusedFile, NoNode, Remote, NotFound, Begun, Unmarked, Packets, Sessions, Serve}
+
+-- words that name no node and no file: `clap` refuses them, or what they give as the address for the status is none
+abbrev pub AreRefused : List Text → Type 0
+AreRefused words = (fault_of peer_app words ≢ []) ⊎ (HasAddress (one_of (codes "status") (matches_of peer_app words)) → ⊥)
+
+-- words that name a node and a file
+abbrev pub AreTaken : List Text → Type 0
+AreTaken words = (takes peer_app words ≡ true) × HasAddress (one_of (codes "status") (matches_of peer_app words))
+
+-- an address that no other machine reaches: one of 127.0.0.0/8, or ::1
+abbrev pub IsLoopback : SocketAddr → Type 0
+IsLoopback address = MatchIp (socket_ip address) IsLoopbackV4 IsLoopbackV6
+
+-- sessions may be served at this address: no other machine reaches it, or the words allow that
+abbrev pub MayServeAt : PeerPlan → SocketAddr → Type 0
+MayServeAt plan address = (plan.remote_sessions ≡ true) ⊎ IsLoopback address
+
+-- two addresses are of one family, IPv4 or IPv6
+abbrev pub AreAlike : SocketAddr → SocketAddr → Type 0
+AreAlike one other = is_ipv4 (socket_ip one) ≡ is_ipv4 (socket_ip other)
+
+-- why the places of this number of nodes are not known: one of them is not found, or lack of memory
+abbrev pub IsPlaceFault : ℕ → PeerFault → Type 0
+IsPlaceFault nodes fault = (fault ≡ Serve OutOfMemory) ⊎ ((node : ℕ) × (node < nodes) × (fault ≡ NotFound node))
+
+-- why a node does not begin in a run: its mark was there, or could not be written, or lack of memory
+abbrev pub IsMarkFault : ℕ → ℕ → PeerFault → Type 0
+IsMarkFault node run fault = (fault ≡ Begun node run) ⊎ ((fault ≡ Unmarked) ⊎ (fault ≡ Serve OutOfMemory))
+
+-- what refuses a node by what the cluster's file says: it does not have the node, or the node's sessions may not be served at their address
+abbrev pub IsNodeRefused : PeerPlan → ClusterFile → PeerFault → Type 0
+IsNodeRefused plan file (NoNode node nodes) = (node ≡ plan.node) × (nodes ≡ length file.nodes.items) × (nodes ≤ node)
+IsNodeRefused plan file (Remote address) = MayServeAt plan address → ⊥
+IsNodeRefused plan file other = ⊥
+
+-- what refuses the file that words name: it cannot be read or is no file of a cluster, or what it says of the node
+abbrev pub IsFileRefused : PeerWords → PeerFault → Type 0
+IsFileRefused read fault = (fault ≡ RefusedFile) ⊎ ((text : List ℕ) × (file : ClusterFile) × IsFileOf text file × IsNodeRefused read.plan file fault)
+
+-- what refuses words, or the file that they name
+abbrev pub IsRefused : List Text → PeerFault → Type 0
+IsRefused words fault = ((fault ≡ Serve RefusedWords) × AreRefused words) ⊎ ((read : PeerWords) × IsReadOf (matches_of peer_app words) read × IsFileRefused read fault)
