@@ -1,8 +1,9 @@
 //! What is asked for by HTTP.
 ghost use Rattle.std.specs.Prelude.{◌≡◌, ◌≤◌, All, length, map};
-ghost use Rattle.std.specs.List.{list_all};
+ghost use Rattle.std.specs.List.{list_all, list_any};
+ghost use Rattle.std.specs.Str.{bytes_eq};
 ghost use Rattle.httparse.specs.Spans.{IsHeaderWithin, header_bytes};
-ghost use Rattle.gb_door.specs.Asked.{Asks, admits, place_asked};
+ghost use Rattle.gb_door.specs.Asked.{Asks, admits, is_origin, place_asked};
 
 use httparse::Status;
 use httparse::spans::{EMPTY_HEADER_SPAN, HeaderSpan, parse_request};
@@ -57,14 +58,28 @@ fn place_asked(target: &[u8], is_welcome: bool) -> Asked
     }
 }
 
+// Whether a name is that of an Origin, in letters of either case.
+fn is_origin(name: &[u8]) -> bool
+    ensures { result ≡ is_origin name.now }
+{
+    name.eq_ignore_ascii_case(b"origin")
+}
+
+// Whether a value is one of these origins.
+fn is_among(origins: &[&str], value: &[u8]) -> bool
+    ensures { result ≡ list_any (λ origin. bytes_eq origin value.now) (map (λ origin. origin.now) origins.now) }
+{
+    let Some((first, rest)) = origins.split_first() else {
+        return false;
+    };
+    first.as_bytes() == value || is_among(rest, value)
+}
+
 // Whether a field with this name and value lets its request in: it is no Origin, or names one of these origins.
 fn admits(origins: &[&str], name: &[u8], value: &[u8]) -> bool
     ensures { result ≡ admits (map (λ origin. origin.now) origins.now) (name.now, value.now) }
 {
-    if !name.eq_ignore_ascii_case(b"origin") {
-        return true;
-    }
-    origins.iter().any(|origin| origin.as_bytes() == value)
+    !is_origin(name) || is_among(origins, value)
 }
 
 // Whether each field lets its request in.

@@ -1,4 +1,7 @@
 //! A WebSocket client, as a visitor.
+ghost use Rattle.std.specs.Prelude.{◌≤◌, length, IfOk};
+ghost use Rattle.gb_session.specs.declared.grammar.TheConstants.{BODY};
+
 use crate::deadline::Deadline;
 use crate::leave::Leave;
 use crate::limits::Limits;
@@ -97,7 +100,9 @@ impl<'a, H: Clock> Guest<'a, H> {
     }
 
     // The bytes of a text.
-    fn bytes_of(&self, text: &str) -> Result<Vec<u8>, Leave> {
+    fn bytes_of(&self, text: &str) -> Result<Vec<u8>, Leave>
+        ensures { IfOk result (λ bytes. length bytes.items ≤ BODY) }
+    {
         if text.len() > BODY {
             return Err(Leave::TooLong);
         }

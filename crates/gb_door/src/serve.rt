@@ -17,7 +17,7 @@ fn attend<H: Net<Listener = TcpListener, Stream = TcpStream> + Clock>(
     rt: &H,
     alloc: Global,
     stream: TcpStream,
-    door: &Door<'_>,
+    door: &Door<'_, '_>,
     count: &AtomicU64,
 ) {
     visit(rt, alloc, &stream, door);
@@ -30,7 +30,7 @@ pub fn serve<H: Net<Listener = TcpListener, Stream = TcpStream> + Threads + Wait
     rt: &H,
     alloc: Global,
     listener: &TcpListener,
-    door: &Door<'_>,
+    door: &Door<'_, '_>,
 ) {
     let count = AtomicU64::new(0);
     let shared = &count;

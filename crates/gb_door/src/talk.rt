@@ -49,7 +49,10 @@ fn exchange<V: Visitor, D: Desk>(visitor: &mut V, desk: &mut D) -> Result<(), Le
         Ok(reply) => reply,
         Err(leave) => return Err(leave),
     };
-    visitor.tell(&reply)
+    match visitor.tell(&reply) {
+        Ok(()) => Ok(()),
+        Err(leave) => Err(leave),
+    }
 }
 
 /// Holds a conversation until one side ends it, and returns why it ended: what the visitor handed over was asked, text by text in its order

@@ -38,7 +38,7 @@ fn read_head<R: Read>(reader: &mut R, origins: &[&str], head: &mut Vec<u8>) -> O
 }
 
 // Writes an answer, and reads on for a little, so that the answer is not lost with bytes that nobody read.
-fn tell<H: Clock>(rt: &H, alloc: Global, stream: &TcpStream, door: &Door<'_>, asked: Asked) {
+fn tell<H: Clock>(rt: &H, alloc: Global, stream: &TcpStream, door: &Door<'_, '_>, asked: Asked) {
     let Ok(text) = answer(alloc, asked, door.page) else {
         return;
     };
@@ -60,7 +60,7 @@ fn hold<H: Net<Stream = TcpStream> + Clock>(
     rt: &H,
     alloc: Global,
     stream: &TcpStream,
-    door: &Door<'_>,
+    door: &Door<'_, '_>,
     head: Vec<u8>,
 ) -> bool {
     let deadline = Deadline::new(rt, stream, head, door.limits.head);
@@ -79,7 +79,7 @@ pub fn visit<H: Net<Stream = TcpStream> + Clock>(
     rt: &H,
     alloc: Global,
     stream: &TcpStream,
-    door: &Door<'_>,
+    door: &Door<'_, '_>,
 ) {
     let _ = stream.set_nodelay(true);
     let mut head = Vec::new(alloc);

@@ -5,7 +5,7 @@ ghost use Rattle.std.specs.Io.KnownBytes.{Appends};
 use crate::door::Door;
 use crate::limits::usual_limits;
 use crate::page::{Page, PageFault, plain_page, read_page};
-use crate::plan::WebWords;
+use crate::plan::{WebPlan, WebWords};
 use crate::serve::serve;
 use crate::words::read_words;
 use gb_serve_words::fault::WordFault;
@@ -87,32 +87,42 @@ fn page_of<H: Files + AllocGlobal>(
     }
 }
 
-// The origin of the page at an address; the other one that a browser may have for it, where it is the machine's own.
-fn own_origins(alloc: Global, address: SocketAddr) -> Result<(String, String), AllocError> {
-    let own = format!(in alloc; "http://{address}")?;
-    let port = address.port();
-    let local = format!(in alloc; "http://localhost:{port}")?;
-    Ok((own, local))
+// The origin of the page at an address.
+fn own_origin(alloc: Global, address: SocketAddr) -> Result<String, AllocError> {
+    format!(in alloc; "http://{address}")
 }
 
-// The origins that are let in: those of the words, or else those of the door's own page.
-fn origins_of<'a>(
+// The other origin that a browser may have for it, where the address is the machine's own.
+fn local_origin(alloc: Global, address: SocketAddr) -> Result<String, AllocError> {
+    if !address.ip().is_loopback() {
+        return own_origin(alloc, address);
+    }
+    let port = address.port();
+    format!(in alloc; "http://localhost:{port}")
+}
+
+// Serves connections for pages of these origins.
+fn serve_for<H: Net<Listener = TcpListener, Stream = TcpStream> + Threads + Wait + Clock + Sync>(
+    rt: &H,
     alloc: Global,
-    read: &'a WebWords<'a>,
-    address: SocketAddr,
-    own: &'a (String, String),
-) -> Result<Vec<&'a str>, AllocError> {
-    let mut origins: Vec<&'a str> = Vec::new(alloc);
-    for origin in read.origins.iter() {
-        origins.push(*origin)?;
-    }
-    if origins.is_empty() {
-        origins.push(own.0.as_str())?;
-        if address.ip().is_loopback() {
-            origins.push(own.1.as_str())?;
-        }
-    }
-    Ok(origins)
+    listener: &TcpListener,
+    plan: WebPlan,
+    page: &Page,
+    origins: &[&str],
+) {
+    let door = Door {
+        node: plan.node,
+        page,
+        origins,
+        limits: usual_limits(),
+        connections: u64::from(plan.connections),
+        sessions: if plan.sessions == 0 {
+            u64::MAX
+        } else {
+            u64::from(plan.sessions)
+        },
+    };
+    serve(rt, alloc, listener, &door);
 }
 
 // Serves what words tell.
@@ -134,25 +144,18 @@ fn serve_words<
     let Ok(address) = listener.local_addr() else {
         return Err(WebFault::Address);
     };
-    let own = own_origins(alloc, address)?;
-    let origins = origins_of(alloc, &read, address, &own)?;
+    let own = own_origin(alloc, address)?;
+    let local = local_origin(alloc, address)?;
     let line = format!(in alloc; "serving http://{address}/ for {}\n", read.plan.node)?;
     if !tell(writer, &line) {
         return Err(WebFault::Output);
     }
-    let door = Door {
-        node: read.plan.node,
-        page: &page,
-        origins: &origins,
-        limits: usual_limits(),
-        connections: u64::from(read.plan.connections),
-        sessions: if read.plan.sessions == 0 {
-            u64::MAX
-        } else {
-            u64::from(read.plan.sessions)
-        },
-    };
-    serve(rt, alloc, &listener, &door);
+    if read.origins.is_empty() {
+        let origins = [own.as_str(), local.as_str()];
+        serve_for(rt, alloc, &listener, read.plan, &page, &origins);
+    } else {
+        serve_for(rt, alloc, &listener, read.plan, &page, &read.origins);
+    }
     Ok(())
 }
 
