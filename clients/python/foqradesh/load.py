@@ -263,7 +263,7 @@ def run(mix: Mix, nodes: Sequence[Address], processes: int) -> Outcome:
 
 def prepare(mix: Mix, nodes: Sequence[Address], admin: bytes) -> None:
     """Take the tenant in at all nodes, and start its groups, whose members are all nodes."""
-    clients = {}
+    clients: Dict[int, Client] = {}
     try:
         for node, address in enumerate(nodes):
             keys = Keys(node, admin=admin, tenants={mix.tenant: mix.key})
