@@ -5,6 +5,6 @@
 #     podman run --rm -i --name foqradesh foqradesh --nodes 3 --version 2 --base-port 24000 <server.keys
 #     podman exec -i foqradesh gb_ctl --port 24000 --node 0 status <admin
 FROM docker.io/library/debian:stable-slim
-COPY bin/gb_serve bin/gb_peer bin/gb_ctl bin/gb_sim bin/gb_audit /usr/local/bin/
+COPY bin/gb_serve bin/gb_peer bin/gb_ctl bin/gb_web bin/gb_sim bin/gb_audit /usr/local/bin/
 USER nobody
 ENTRYPOINT ["/usr/local/bin/gb_serve"]

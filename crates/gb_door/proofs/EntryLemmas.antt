@@ -1,0 +1,23 @@
+-- What a parse by gb_web's command leaves of its options.
+use Rattle.std.proofs.Common.{◌≡◌, true, refl, codes, arith}
+use Rattle.clap.specs.Words.{IsParsedFrom, app_of, found_of, rows_of}
+use Rattle.clap.specs.declared.builder.command.Command.{Command}
+use Rattle.clap.specs.declared.parser.matches.ArgMatches.{ArgMatches}
+use Rattle.gb_serve_words.specs.Options.{text_rule}
+use Rattle.gb_serve_words.specs.declared.options.TheConstants.{MOST_CONNECTIONS, MOST_SESSIONS}
+use Rattle.gb_serve_words.proofs.OptionLemmas.{has_own_options, number_at, some_at}
+use Rattle.gb_door.specs.Words.{IsGiven, web_app}
+
+has_own : has_own_options web_app ≡ true
+has_own = refl
+
+-- what a parse by gb_web's command leaves of its options
+pub given_by : (c : Command) (m : ArgMatches) → IsParsedFrom c m → app_of c ≡ web_app → IsGiven (rows_of (found_of m))
+given_by c m p app =
+    let r = text_rule (codes "page") in
+    record {
+      some_listen = some_at web_app has_own c m p app 0 r (omega arith) refl refl refl;
+      some_node = some_at web_app has_own c m p app 1 r (omega arith) refl refl refl;
+      connections = number_at web_app has_own c m p app 4 r (omega arith) 1 MOST_CONNECTIONS refl;
+      sessions = number_at web_app has_own c m p app 5 r (omega arith) 0 MOST_SESSIONS refl;
+    }

@@ -1,0 +1,2 @@
+mod AddressLemmas
+mod EntryLemmas

@@ -1,0 +1,4 @@
+pub mod Answer
+pub mod Asked
+pub mod Talk
+pub mod Words

@@ -1,0 +1,67 @@
+-- The words of gb_web's command line: the command, as `clap` reads it, and what it makes of the words.
+use Rattle.std.specs.Prelude.{◌≡◌, ◌≤◌, true, false, List, [], Some, is_some, map, option_map, unwrap_or, codes}
+use Rattle.clap.specs.Words.{App, Row, Rule, Text, all_of, first_of, new_app, new_rule, one_of, with_rule}
+use Rattle.clap.specs.declared.builder.action.ArgAction.TheVariants.{Append}
+use Rattle.clap.specs.declared.builder.value_parser.ValueParser.TheVariants.{String as AnyText}
+use Rattle.gb_serve_words.specs.Options.{HasAddress, HasNumber, IsAddressOf, given, named_rule, text_rule}
+use Rattle.gb_serve_words.specs.declared.options.TheConstants.{MOST_CONNECTIONS, MOST_SESSIONS}
+use Rattle.gb_door.specs.declared.plan.WebPlan.{WebPlan}
+use Rattle.gb_door.specs.declared.plan.WebWords.{WebWords}
+use Rattle.gb_door.specs.declared.words.TheConstants.{CONNECTIONS}
+
+-- an option `--name` with an address that must be given
+abbrev pub address_rule : Text → Rule
+address_rule name = record (text_rule name) { required = true; value_names = 1 }
+
+-- an option `--name` with a text that may be left out
+abbrev pub folder_rule : Text → Rule
+folder_rule name = record (text_rule name) { value_names = 1 }
+
+-- the option `--origin`, each use of which has a text
+abbrev pub origin_rule : Rule
+origin_rule = record (new_rule (codes "origin")) {
+  long = Some (codes "origin");
+  action = Some Append;
+  parser = Some AnyText;
+  value_names = 1;
+}
+
+-- the command of gb_web: --listen and --node are required, --page, --origin, --connections and --sessions are not
+abbrev pub web_app : App
+web_app = with_rule (with_rule (with_rule (with_rule (with_rule (with_rule (new_app (codes "gb_web"))
+    (address_rule (codes "listen")))
+    (address_rule (codes "node")))
+    (folder_rule (codes "page")))
+    origin_rule)
+    (named_rule (codes "connections") 1 MOST_CONNECTIONS false))
+    (named_rule (codes "sessions") 0 MOST_SESSIONS false)
+
+-- each field of the plan is what its option was given in these matches, or else what stands for an option that is left out; the
+-- addresses were given
+pub record IsPlanOf (rows : List Row) (plan : WebPlan) : Type 0 where
+  pub listen : IsAddressOf (one_of (codes "listen") rows) (Some plan.listen)
+  pub node : IsAddressOf (one_of (codes "node") rows) (Some plan.node)
+  pub connections : plan.connections ≡ unwrap_or (given rows (codes "connections")) CONNECTIONS
+  pub sessions : plan.sessions ≡ unwrap_or (given rows (codes "sessions")) 0
+
+-- the folder and the origins are the texts that were given for them, in their order, and the plan is that of these matches
+pub record IsReadOf (rows : List Row) (read : WebWords) : Type 0 where
+  pub plan : IsPlanOf rows read.plan
+  pub page : option_map (λ page. page.now) read.page ≡ first_of (codes "page") rows
+  pub origins : map (λ origin. origin.now) read.origins.items ≡ unwrap_or (all_of (codes "origin") rows) []
+
+-- each number of the plan is in its range
+pub record IsWithin (plan : WebPlan) : Type 0 where
+  pub connections : (1 ≤ plan.connections) × (plan.connections ≤ MOST_CONNECTIONS)
+  pub sessions : plan.sessions ≤ MOST_SESSIONS
+
+-- the texts that were given for the addresses are addresses
+abbrev pub HasAddresses : List Row → Type 0
+HasAddresses rows = HasAddress (one_of (codes "listen") rows) × HasAddress (one_of (codes "node") rows)
+
+-- what a parse by the command leaves
+pub record IsGiven (rows : List Row) : Type 0 where
+  pub some_listen : is_some (one_of (codes "listen") rows) ≡ true
+  pub some_node : is_some (one_of (codes "node") rows) ≡ true
+  pub connections : HasNumber 1 MOST_CONNECTIONS (one_of (codes "connections") rows)
+  pub sessions : HasNumber 0 MOST_SESSIONS (one_of (codes "sessions") rows)

@@ -1,0 +1,82 @@
+//! A connection on which what is done takes no longer in all than it may.
+use std::io;
+use std::io::{ErrorKind, Read, Write};
+use std::net::TcpStream;
+use std::time::{Clock, Duration, Instant};
+
+/// A connection, and the bytes that were read of it before and are read again. Reads and writes fail with `TimedOut` or `WouldBlock` once
+/// the time that they may take in all has passed.
+#[derive(Drop)]
+pub struct Deadline<'a, H> {
+    rt: &'a H,
+    stream: &'a TcpStream,
+    // What is read first, from `at` on.
+    front: Vec<u8>,
+    at: usize,
+    begun: Option<Instant>,
+    allowed: Duration,
+}
+
+impl<'a, H: Clock> Deadline<'a, H> {
+    /// A connection of which these bytes are read first, and on which all that is done may take this long.
+    pub fn new(
+        rt: &'a H,
+        stream: &'a TcpStream,
+        front: Vec<u8>,
+        allowed: Duration,
+    ) -> Deadline<'a, H> {
+        Deadline {
+            rt,
+            stream,
+            front,
+            at: 0,
+            begun: Instant::now(rt).ok(),
+            allowed,
+        }
+    }
+
+    /// From now on, all that is done may take this long.
+    pub fn allow(&mut self, allowed: Duration) {
+        self.begun = Instant::now(self.rt).ok();
+        self.allowed = allowed;
+    }
+
+    // How long the next call may take. Err: the time has passed, or the clock cannot be read.
+    fn left(&self) -> io::Result<Duration> {
+        let Some(begun) = self.begun else {
+            return Err(io::Error::from(ErrorKind::TimedOut));
+        };
+        let passed = begun.elapsed(self.rt)?;
+        match self.allowed.checked_sub(passed) {
+            Some(left) if !left.is_zero() => Ok(left),
+            _ => Err(io::Error::from(ErrorKind::TimedOut)),
+        }
+    }
+}
+
+impl<H: Clock> Read for Deadline<'_, H> {
+    fn read(&mut self, buf: &mut [u8]) -> io::Result<usize> {
+        let front = self.front.get(self.at..).unwrap_or(&[]);
+        if !front.is_empty() {
+            let count = front.len().min(buf.len());
+            buf[..count].copy_from_slice(&front[..count]);
+            self.at = self.at.saturating_add(count);
+            return Ok(count);
+        }
+        self.stream.set_read_timeout(Some(self.left()?))?;
+        let mut stream = self.stream;
+        stream.read(buf)
+    }
+}
+
+impl<H: Clock> Write for Deadline<'_, H> {
+    fn write(&mut self, buf: &[u8]) -> io::Result<usize> {
+        self.stream.set_write_timeout(Some(self.left()?))?;
+        let mut stream = self.stream;
+        stream.write(buf)
+    }
+
+    fn flush(&mut self) -> io::Result<()> {
+        Ok(())
+    }
+}

@@ -1,0 +1,20 @@
+//! A door to a node's sessions for browsers: a page by HTTP, and WebSocket connections whose texts are a session's messages. What is asked
+//! by HTTP and how it is answered, and how texts become messages and replies texts, are proved; the sockets and `tungstenite` are tested.
+//! Read `talk` first, and then `asked`.
+#![tactic(auto)]
+
+pub mod answer;
+pub mod asked;
+pub mod deadline;
+pub mod door;
+pub mod guest;
+pub mod leave;
+pub mod limits;
+pub mod node;
+pub mod page;
+pub mod plan;
+pub mod serve;
+pub mod talk;
+pub mod visit;
+pub mod web_main;
+pub mod words;

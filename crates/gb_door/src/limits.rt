@@ -1,0 +1,28 @@
+//! How long a door waits for those who come, and for its node.
+use std::time::Duration;
+
+/// How long a door waits.
+#[derive(Clone, Copy)]
+pub struct Limits {
+    /// For the whole head of a request, and for a client that takes an answer.
+    pub head: Duration,
+    /// For the next whole message of a WebSocket client, before it is asked for a sign of life; and then for that.
+    pub silence: Duration,
+    /// For a WebSocket client that takes a message.
+    pub write: Duration,
+    /// For a connection to the node, and for a reply. An `await` may take a minute.
+    pub reply: Duration,
+    /// For a client to close its connection, once it was told why.
+    pub close: Duration,
+}
+
+/// What the program waits.
+pub fn usual_limits() -> Limits {
+    Limits {
+        head: Duration::from_secs(10),
+        silence: Duration::from_secs(30),
+        write: Duration::from_secs(20),
+        reply: Duration::from_secs(90),
+        close: Duration::from_secs(2),
+    }
+}

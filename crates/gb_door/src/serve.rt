@@ -1,0 +1,60 @@
+//! All connections of a door, each in a thread of its own.
+use crate::door::Door;
+use crate::visit::visit;
+use std::alloc::Global;
+use std::net::{Net, TcpListener, TcpStream};
+use std::sync::Wait;
+use std::sync::atomic::{AtomicU64, Ordering};
+use std::thread;
+use std::thread::Threads;
+use std::time::{Clock, Duration};
+
+// How long nobody is taken in where a connection could not be, in milliseconds.
+const PAUSE: u64 = 10;
+
+// Serves a connection, and counts that it is over.
+fn attend<H: Net<Listener = TcpListener, Stream = TcpStream> + Clock>(
+    rt: &H,
+    alloc: Global,
+    stream: TcpStream,
+    door: &Door<'_, '_>,
+    count: &AtomicU64,
+) {
+    visit(rt, alloc, &stream, door);
+    drop(stream);
+    count.fetch_sub(1, Ordering::SeqCst);
+}
+
+/// Serves connections, as many as the door is told in all, and waits until they have ended.
+pub fn serve<H: Net<Listener = TcpListener, Stream = TcpStream> + Threads + Wait + Clock + Sync>(
+    rt: &H,
+    alloc: Global,
+    listener: &TcpListener,
+    door: &Door<'_, '_>,
+) {
+    let count = AtomicU64::new(0);
+    let shared = &count;
+    thread::scope(thread::scope_env(), rt, |scope| {
+        let mut left = door.sessions;
+        for accepted in listener.incoming() {
+            let Ok(stream) = accepted else {
+                thread::sleep(rt, Duration::from_millis(PAUSE));
+                continue;
+            };
+            if shared.fetch_add(1, Ordering::SeqCst) >= door.connections {
+                shared.fetch_sub(1, Ordering::SeqCst);
+                continue;
+            }
+            if scope
+                .spawn(move || attend(rt, alloc, stream, door, shared))
+                .is_err()
+            {
+                shared.fetch_sub(1, Ordering::SeqCst);
+            }
+            left = left.saturating_sub(1);
+            if left == 0 {
+                return;
+            }
+        }
+    });
+}

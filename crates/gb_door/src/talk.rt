@@ -1,0 +1,69 @@
+//! A conversation: each text that a visitor hands over is one request at a node, and each reply is one text for the visitor.
+ghost use Rattle.std.specs.Prelude.{◌≡◌, ◌≤◌, List, length, OnOk, OnErr, IfOk};
+ghost use Rattle.gb_session.specs.declared.grammar.TheConstants.{BODY};
+ghost use Rattle.gb_door.specs.Talk.{Answers, BreaksOff, Exchange, Talks};
+
+use crate::leave::Leave;
+
+/// Somebody who hands over texts of requests, and is told the texts of replies.
+pub trait Visitor {
+    ghost use Rattle.std.specs.Prelude.{ℕ, List};
+
+    // A text that it may hand over, and what that leaves of it.
+    ghost hears: { Self → List ℕ → Self → Type 0 };
+    // What it leaves of it that a text was told.
+    ghost tells: { Self → List ℕ → Self → Type 0 };
+
+    /// The text that comes next, of at most `BODY` bytes.
+    fn next(&mut self) -> Result<Vec<u8>, Leave>
+        ensures hears { IfOk result (λ text. hears self.old text.items self.new) }
+        ensures short { IfOk result (λ text. length text.items ≤ BODY) };
+    /// Tells a text.
+    fn tell(&mut self, text: &[u8]) -> Result<(), Leave>
+        ensures { OnOk result (tells self.old text.now self.new) };
+}
+
+/// A node that replies to requests, one after the other.
+pub trait Desk {
+    ghost use Rattle.std.specs.Prelude.{ℕ, List};
+
+    // What the reply to a request may be, and what it leaves.
+    ghost asks: { Self → List ℕ → List ℕ → Self → Type 0 };
+
+    /// The text of the reply to the text of a request.
+    fn ask(&mut self, text: &[u8]) -> Result<Vec<u8>, Leave>
+        requires { length text.now ≤ BODY }
+        ensures { IfOk result (λ reply. asks self.old text.now reply.items self.new) };
+}
+
+// Asks what the visitor hands over, and tells it the reply.
+fn exchange<V: Visitor, D: Desk>(visitor: &mut V, desk: &mut D) -> Result<(), Leave>
+    ensures whole { OnOk result ((one : Exchange) × Answers V.hears V.tells D.asks visitor.old desk.old one visitor.new desk.new) }
+    ensures broken { OnErr result (BreaksOff V.hears D.asks visitor.old desk.old visitor.new desk.new) }
+{
+    let text = match visitor.next() {
+        Ok(text) => text,
+        Err(leave) => return Err(leave),
+    };
+    let reply = match desk.ask(&text) {
+        Ok(reply) => reply,
+        Err(leave) => return Err(leave),
+    };
+    match visitor.tell(&reply) {
+        Ok(()) => Ok(()),
+        Err(leave) => Err(leave),
+    }
+}
+
+/// Holds a conversation until one side ends it, and returns why it ended: what the visitor handed over was asked, text by text in its order
+/// and nothing else, and each reply was told before the next text was taken. The last text may have no reply, or a reply that was not told.
+pub fn converse<V: Visitor, D: Desk>(visitor: &mut V, desk: &mut D) -> Leave
+    ensures { (talk : List Exchange) × (v : V) × (d : D) × Talks V.hears V.tells D.asks visitor.old desk.old talk v d × BreaksOff V.hears D.asks v d visitor.new desk.new }
+{
+    for _ in 0..u64::MAX {
+        if let Err(leave) = exchange(visitor, desk) {
+            return leave;
+        }
+    }
+    Leave::Silent
+}

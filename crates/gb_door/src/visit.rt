@@ -1,0 +1,93 @@
+//! One connection: what is asked on it, and how it is answered.
+use crate::answer::answer;
+use crate::asked::{Asked, asked_for};
+use crate::deadline::Deadline;
+use crate::door::Door;
+use crate::guest::{Guest, config};
+use crate::node::NodeLink;
+use crate::talk::converse;
+use gb_types::memory::put_bytes;
+use std::alloc::Global;
+use std::io::{Read, Write};
+use std::net::{Net, Shutdown, TcpStream};
+use std::time::Clock;
+use tungstenite::NoCallback;
+use tungstenite::handshake::server::start;
+
+/// How many bytes of a request's head are read at most.
+pub const HEAD: usize = 8_192;
+
+// How many bytes one read asks for.
+const PIECE: usize = 1_024;
+
+// Reads the head of a request, and returns what it asks for. None: it did not come in time, or the connection ended, or there is no memory.
+fn read_head<R: Read>(reader: &mut R, origins: &[&str], head: &mut Vec<u8>) -> Option<Asked> {
+    for _ in 0..HEAD {
+        let mut space = [0u8; PIECE];
+        let count = reader.read(&mut space).ok()?;
+        if count == 0 {
+            return None;
+        }
+        put_bytes(head, &space[..count]).ok()?;
+        let asked = asked_for(head, origins);
+        if asked != Asked::More || head.len() >= HEAD {
+            return Some(asked);
+        }
+    }
+    None
+}
+
+// Writes an answer, and reads on for a little, so that the answer is not lost with bytes that nobody read.
+fn tell<H: Clock>(rt: &H, alloc: Global, stream: &TcpStream, door: &Door<'_, '_>, asked: Asked) {
+    let Ok(text) = answer(alloc, asked, door.page) else {
+        return;
+    };
+    let mut writer = Deadline::new(rt, stream, Vec::new(alloc), door.limits.head);
+    if writer.write_all(&text).is_err() || stream.shutdown(Shutdown::Write).is_err() {
+        return;
+    }
+    let mut reader = Deadline::new(rt, stream, Vec::new(alloc), door.limits.close);
+    let mut space = [0u8; PIECE];
+    for _ in 0..HEAD {
+        if reader.read(&mut space).unwrap_or(0) == 0 {
+            return;
+        }
+    }
+}
+
+// Holds a session. Returns false where the handshake failed, and nothing was told.
+fn hold<H: Net<Stream = TcpStream> + Clock>(
+    rt: &H,
+    alloc: Global,
+    stream: &TcpStream,
+    door: &Door<'_, '_>,
+    head: Vec<u8>,
+) -> bool {
+    let deadline = Deadline::new(rt, stream, head, door.limits.head);
+    let Ok(socket) = start(alloc, deadline, NoCallback, Some(config())).handshake() else {
+        return false;
+    };
+    let mut guest = Guest::new(alloc, socket, door.limits);
+    let mut node = NodeLink::new(rt, alloc, door.node, door.limits.reply);
+    let leave = converse(&mut guest, &mut node);
+    guest.close(leave);
+    true
+}
+
+/// Serves a connection until it ends.
+pub fn visit<H: Net<Stream = TcpStream> + Clock>(
+    rt: &H,
+    alloc: Global,
+    stream: &TcpStream,
+    door: &Door<'_, '_>,
+) {
+    let _ = stream.set_nodelay(true);
+    let mut head = Vec::new(alloc);
+    let mut reader = Deadline::new(rt, stream, Vec::new(alloc), door.limits.head);
+    let Some(asked) = read_head(&mut reader, door.origins, &mut head) else {
+        return;
+    };
+    if asked != Asked::Session || !hold(rt, alloc, stream, door, head) {
+        tell(rt, alloc, stream, door, asked);
+    }
+}

@@ -1,0 +1,285 @@
+#!/usr/bin/env python3
+"""Tries the chat page in headless Chromium: a gb_serve of three nodes, a gb_web before each, and three pages in one first-in first-out
+all-ack group. It joins them with the keyboard alone, types in each, and looks that all three show the same; then it stops a door and
+starts it again. Status 0: all was as it should be; 1: something was not; 2: a program is not there.
+
+    python3 examples/chat/test_chat.py [--port P] [--picture FILE]
+
+GB_SERVE, GB_WEB and CHROMIUM name other programs than bin/gb_serve, bin/gb_web and chromium.
+"""
+import argparse
+import base64
+import contextlib
+import json
+import os
+import shutil
+import socket
+import struct
+import subprocess
+import sys
+import tempfile
+import time
+import urllib.request
+
+TOP = os.path.dirname(os.path.dirname(os.path.dirname(os.path.abspath(__file__))))
+sys.path.insert(0, os.path.join(TOP, "clients", "python"))
+from foqradesh import Client, Group, Keys, Spec, member_token, node_address
+
+CLUSTER_KEY, ADMIN_KEY, TENANT_KEY = (bytes([byte] * 32) for byte in (0x11, 0x22, 0x33))
+TENANT, GROUP, NODES = 7, 1, 3
+NAMES = ("Ada", "Grace", "Edsger")
+TIME = 20  # seconds in which something has to be seen
+
+
+def program(variable, path):
+    """The path of a program: what the variable names, or else this one."""
+    found = os.environ.get(variable) or path
+    found = shutil.which(found) or found
+    if not os.access(found, os.X_OK):
+        print(f"test_chat: {found} is not there", file=sys.stderr)
+        sys.exit(2)
+    return found
+
+
+class Socket:
+    """A WebSocket client of the standard library alone, for texts."""
+
+    def __init__(self, address, path):
+        self.stream = socket.create_connection(address, TIME)
+        key = base64.b64encode(os.urandom(16)).decode("ascii")
+        head = f"GET {path} HTTP/1.1\r\nHost: {address[0]}:{address[1]}\r\nUpgrade: websocket\r\nConnection: Upgrade\r\nSec-WebSocket-Key: {key}\r\nSec-WebSocket-Version: 13\r\n\r\n"
+        self.stream.sendall(head.encode("ascii"))
+        self.file = self.stream.makefile("rb")
+        if b" 101 " not in self.file.readline():
+            raise RuntimeError("no WebSocket handshake")
+        while self.file.readline() != b"\r\n":
+            pass
+
+    def send(self, text):
+        data, mask = text.encode("utf-8"), os.urandom(4)
+        length = len(data)
+        head = b"\x81" + (bytes([0x80 | length]) if length < 126 else b"\xfe" + struct.pack(">H", length) if length < 65536 else b"\xff" + struct.pack(">Q", length))
+        self.stream.sendall(head + mask + bytes(byte ^ mask[place % 4] for place, byte in enumerate(data)))
+
+    def receive(self):
+        """The next text; frames that are no text are passed over."""
+        whole = b""
+        while True:
+            first, second = self.file.read(2)
+            length = second & 127
+            if length > 125:
+                length = int.from_bytes(self.file.read(2 if length == 126 else 8), "big")
+            data = self.file.read(length)
+            if first & 15 in (0, 1):
+                whole += data
+                if first & 128:
+                    return whole.decode("utf-8")
+
+    def close(self):
+        self.stream.close()
+
+
+class Browser:
+    """A headless Chromium, by its debugging protocol."""
+
+    def __init__(self, path):
+        self.folder = tempfile.mkdtemp()
+        words = [path, "--headless=new", "--no-sandbox", "--disable-gpu", "--disable-dev-shm-usage", "--no-first-run", "--remote-debugging-port=0",
+                 f"--user-data-dir={self.folder}", "--window-size=760,900", "about:blank"]
+        self.process = subprocess.Popen(words, stdout=subprocess.DEVNULL, stderr=subprocess.PIPE, text=True)
+        for line in self.process.stderr:
+            if "DevTools listening on" in line:
+                self.port = int(line.split("ws://")[1].split("/")[0].rsplit(":", 1)[1])
+                break
+        else:
+            raise RuntimeError("Chromium does not start")
+        os.set_blocking(self.process.stderr.fileno(), False)
+
+    def page(self, url):
+        request = urllib.request.Request(f"http://127.0.0.1:{self.port}/json/new?{url}", method="PUT")
+        with urllib.request.urlopen(request, timeout=TIME) as answer:
+            target = json.load(answer)
+        return Page(self.port, target["webSocketDebuggerUrl"].split(str(self.port), 1)[1])
+
+    def close(self):
+        self.process.kill()
+        self.process.wait()
+        self.process.stderr.close()
+        shutil.rmtree(self.folder, ignore_errors=True)
+
+
+class Page:
+    """One page of a browser."""
+
+    def __init__(self, port, path):
+        self.socket, self.count = Socket(("127.0.0.1", port), path), 0
+        self.call("Page.enable")
+
+    def call(self, method, **words):
+        self.count += 1
+        self.socket.send(json.dumps({"id": self.count, "method": method, "params": words}))
+        while True:
+            answer = json.loads(self.socket.receive())
+            if answer.get("id") == self.count:
+                if "error" in answer:
+                    raise RuntimeError(f"{method}: {answer['error']}")
+                return answer["result"]
+
+    def value(self, script):
+        """What a script comes to."""
+        result = self.call("Runtime.evaluate", expression=script, returnByValue=True)
+        if "exceptionDetails" in result:
+            raise RuntimeError(f"{script}: {result['exceptionDetails']['text']}")
+        return result["result"].get("value")
+
+    def key(self, name, code, text=""):
+        for kind in ("keyDown", "keyUp"):
+            self.call("Input.dispatchKeyEvent", type=kind, key=name, code=name, windowsVirtualKeyCode=code, text=text if kind == "keyDown" else "")
+
+    def tab(self):
+        self.key("Tab", 9)
+
+    def enter(self):
+        self.key("Enter", 13, "\r")
+
+    def type(self, text):
+        self.call("Input.insertText", text=text)
+
+    def picture(self, path):
+        with open(path, "wb") as file:
+            file.write(base64.b64decode(self.call("Page.captureScreenshot", format="png")["data"]))
+
+
+def wait(what, test):
+    """Waits until a test holds."""
+    end = time.monotonic() + TIME
+    while not test():
+        if time.monotonic() > end:
+            raise AssertionError(f"not seen in {TIME} seconds: {what}")
+        time.sleep(0.05)
+    print(f"seen: {what}", flush=True)
+
+
+def lines(page):
+    """What a page shows of the log: who, and what."""
+    return page.value("Array.from(document.querySelectorAll('#said li'), (line) => line.querySelector('.who').textContent + line.querySelector('.what, .note').textContent)")
+
+
+def focused(page):
+    return page.value("document.activeElement.id || document.activeElement.tagName")
+
+
+def join(page, name, node):
+    """Fills the form in, by the keyboard alone."""
+    page.value("document.body.focus()")
+    for field, text in (("name", name), ("tenant", str(TENANT)), ("group", str(GROUP)), ("token", member_token(TENANT_KEY, TENANT, GROUP, node)), ("admin", Keys(node, admin=ADMIN_KEY).admin())):
+        page.tab()
+        if focused(page) != field:
+            raise AssertionError(f"Tab leads to {focused(page)} and not to {field}")
+        page.type(text)
+    page.enter()
+    wait(f"{name} has joined, and stands where messages are typed", lambda: focused(page) == "text")
+
+
+def start_server(stack, path, port):
+    words = [path, "--nodes", str(NODES), "--base-port", str(port), "--quiet"]
+    process = subprocess.Popen(words, stdin=subprocess.PIPE, stdout=subprocess.PIPE, text=True)
+    stack.callback(process.wait)
+    stack.callback(process.kill)
+    process.stdin.write(CLUSTER_KEY.hex() + "\n" + ADMIN_KEY.hex() + "\n")
+    process.stdin.flush()
+    if not process.stdout.readline().startswith("serving"):
+        raise RuntimeError("gb_serve does not serve")
+
+
+def start_door(stack, path, port, node):
+    words = [path, "--listen", f"127.0.0.1:{port + 80 + node}", "--node", f"127.0.0.1:{port + 64 + node}", "--page", os.path.join(TOP, "examples", "chat")]
+    process = subprocess.Popen(words, stdout=subprocess.PIPE, text=True)
+    stack.callback(process.wait)
+    stack.callback(process.kill)
+    line = process.stdout.readline()
+    if not line.startswith("serving http://"):
+        raise RuntimeError(f"gb_web does not serve: {line!r}")
+    return process
+
+
+def make_group(stack, port):
+    clients = {}
+    for node in range(NODES):
+        clients[node] = stack.enter_context(Client(node_address(port, node), Keys(node, admin=ADMIN_KEY, tenants={TENANT: TENANT_KEY})))
+        clients[node].tenant(TENANT, TENANT_KEY, groups=4, messages=1000, bytes=65536, window=100)
+    Group(clients, TENANT, GROUP, Spec("fallack", (0, 1, 2), messages=1000, bytes=65536, window=100)).start()
+
+
+def check_labels(page):
+    """Each field has a label, and what comes is told to a screen reader."""
+    bare = page.value("Array.from(document.querySelectorAll('input')).filter((field) => !field.labels.length).map((field) => field.id)")
+    assert bare == [], f"fields without a label: {bare}"
+    assert page.value("document.getElementById('said').getAttribute('role') + document.getElementById('said').getAttribute('aria-live')") == "logpolite"
+
+
+def talk(pages):
+    """Each member says something, and each sees all of it, in the order of each member."""
+    said = [f"{name}: hello from {name}" for name in NAMES]
+    for page, name in zip(pages, NAMES):
+        page.type(f"hello from {name}")
+        page.enter()
+    for page, name in zip(pages, NAMES):
+        wait(f"{name} sees all three", lambda page=page: set(said) <= set(lines(page)))
+    for number in range(5):
+        pages[0].type(f"{number} \N{GREEK SMALL LETTER ALPHA} <b>&amp;")
+        pages[0].enter()
+    wanted = [f"Ada: {number} \N{GREEK SMALL LETTER ALPHA} <b>&amp;" for number in range(5)]
+    for page, name in zip(pages, NAMES):
+        wait(f"{name} sees five more, in their order", lambda page=page: [line for line in lines(page) if line in wanted] == wanted)
+        wait(f"nothing of {name} waits", lambda page=page: page.value("document.querySelectorAll('#waits li').length") == 0)
+        wait(f"{name} sees who is there", lambda page=page: page.value("document.querySelectorAll('#there li').length") == NODES)
+        wait(f"{name} sees that no node was noticed", lambda page=page: page.value("document.getElementById('noticed').textContent").endswith(": 0"))
+
+
+def main():
+    parser = argparse.ArgumentParser(description=__doc__, formatter_class=argparse.RawDescriptionHelpFormatter)
+    parser.add_argument("--port", type=int, default=25600, metavar="P", help="the base port of the nodes; the doors are at P + 80 and above")
+    parser.add_argument("--picture", metavar="FILE", help="write a picture of a page there")
+    words = parser.parse_args()
+    serve = program("GB_SERVE", os.path.join(TOP, "bin", "gb_serve"))
+    web = program("GB_WEB", os.path.join(TOP, "bin", "gb_web"))
+    chromium = program("CHROMIUM", "chromium")
+    with contextlib.ExitStack() as stack:
+        start_server(stack, serve, words.port)
+        make_group(stack, words.port)
+        doors = [start_door(stack, web, words.port, node) for node in range(NODES)]
+        browser = Browser(chromium)
+        stack.callback(browser.close)
+        pages = []
+        for node, name in enumerate(NAMES):
+            page = browser.page(f"http://127.0.0.1:{words.port + 80 + node}/")
+            pages.append(page)
+            wait(f"the page of {name}", lambda page=page: page.value("document.readyState") == "complete")
+            page.call("Page.bringToFront")
+            check_labels(page)
+            join(page, name, node)
+        talk(pages)
+        doors[1].kill()
+        doors[1].wait()
+        wait("a page without its door says so", lambda: "No connection" in pages[1].value("document.getElementById('state').textContent"))
+        pages[1].type("said meanwhile")
+        pages[1].enter()
+        wait("what was said waits", lambda: "waits for a connection" in pages[1].value("document.getElementById('waits').textContent"))
+        start_door(stack, web, words.port, 1)
+        for page, name in zip(pages, NAMES):
+            wait(f"{name} sees it once the door is back", lambda page=page: "Grace: said meanwhile" in lines(page))
+        if words.picture:
+            pages[0].call("Page.bringToFront")
+            pages[0].picture(words.picture)
+        assert all(sorted(lines(page)) == sorted(lines(pages[0])) for page in pages), "the pages show different logs"
+    print("all was as it should be")
+    return 0
+
+
+if __name__ == "__main__":
+    try:
+        sys.exit(main())
+    except AssertionError as fault:
+        print(f"test_chat: {fault}", file=sys.stderr)
+        sys.exit(1)
