@@ -2,6 +2,7 @@
 ghost use Rattle.std.specs.Prelude.{◌≡◌, ◌≤◌, ◌<◌, ◌+◌, ℕ, List, [], ◌∷◌, Some, codes, decimal, map, vec_len, IfOk, IfSome, IfNone};
 ghost use Rattle.hex.specs.Hex.{encode_lower};
 ghost use Rattle.gb_types.specs.PayloadWord.{payload_word};
+ghost use Rattle.gb_client.specs.Errands.{nodes_named};
 ghost use Rattle.gb_client.specs.Asking.{Asks, IsAsked, with_key, with_payload, words_told};
 ghost use Rattle.gb_session.specs.declared.grammar.TheConstants.{BODY};
 ghost use Rattle.gb_session.specs.declared.head.Head.{Head};
@@ -99,7 +100,9 @@ pub enum Errand<'a> {
 
 impl Errand<'_> {
     /// Returns the nodes that may be asked.
-    pub fn nodes(&self, alloc: Global) -> Result<Vec<NodeId>, OutOfMemory> {
+    pub fn nodes(&self, alloc: Global) -> Result<Vec<NodeId>, OutOfMemory>
+        ensures { IfOk result (λ nodes. nodes.items ≡ nodes_named self.now) }
+    {
         match self {
             Errand::Ask(node, _)
             | Errand::Follow(node, _, _, _)
