@@ -1,8 +1,14 @@
 -- What a fault of a directory rules out.
-use Rattle.std.proofs.Common.{◌≡◌, ℕ, List, Option, Some, None, Result, Ok, Err, IfErr, codes, decimal, option_and_then, refl, sym, ap, subst, ◌∙◌}
+use Rattle.std.proofs.Common.{◌≡◌, ℕ, List, Option, Some, None, String, BTreeMap, Global, codes, decimal, option_and_then, refl, sym, ap, subst, ◌∙◌}
+use Rattle.std.specs.Option.{is_some}
 use Rattle.std.proofs.lemmas.Option.{same_Some, none-some}
-use Rattle.toml.specs.Data.{Data, Items, Members, string, integer, float, boolean, datetime, array, table, get, at, as_str, as_table, as_array}
-use Rattle.gb_directory_file.specs.Directory.{IsEntry, IsListed, table_at, text_at, cluster_name, cluster_nodes}
+use Rattle.toml.specs.Data.{Data, string, integer, float, boolean, datetime, array, table, get, at, as_str, as_table, as_array}
+use Rattle.toml.specs.Parse.{parse_document}
+use Rattle.toml.specs.View.{view, members_view}
+use Rattle.toml.specs.declared.value.Value.{Value, Table}
+use Rattle.toml.proofs.Views.{view-Table}
+use Rattle.gb_cluster_file.specs.Places.{IsPlaceText}
+use Rattle.gb_directory_file.specs.Directory.{IsDocument, IsEntry, IsListed, table_at, text_at, cluster_name, cluster_nodes}
 use Rattle.gb_directory_file.specs.Faults.{IsClusterFault, IsFault}
 use Rattle.gb_directory_file.specs.declared.fault.DirectoryFault.{DirectoryFault}
 use Rattle.gb_directory_file.specs.declared.fault.DirectoryFault.TheVariants.{NoTenants, NoTenant, NoClusters, NoCluster, NoNodes, NoNode, NoPlace}
@@ -82,3 +88,37 @@ listed_by file list tenant node name host port named found entry = record {
   named = named;
   entry = subst (λ l. IsEntry (option_and_then (at node) l) host port) (sym found) entry;
 }
+
+-- the table that a text is parsed to
+pub document_is : (text : List ℕ) (m : BTreeMap (String Global) Value) → parse_document text ≡ Some (members_view m.entries) → IsDocument text (view (Table m))
+document_is text m parsed = (members_view m.entries, parsed, view-Table m)
+
+-- the entry that is found, and the place that it writes
+pub entry_is : (list entry : Data) (node : ℕ) (text host : List ℕ) (port : ℕ) → Some entry ≡ at node list → Some text ≡ as_str entry → IsPlaceText text host port
+    → IsEntry (at node list) host port
+entry_is list entry node text host port here is place = (text, ap (option_and_then as_str) (sym here) ∙ sym is, place)
+
+entry_at : (file list entry : Data) (node : ℕ) (name : List ℕ) → Some entry ≡ at node list → cluster_nodes name file ≡ Some list → option_and_then (at node) (cluster_nodes name file) ≡ Some entry
+entry_at file list entry node name here found = ap (option_and_then (at node)) found ∙ sym here
+
+-- an entry that is no text
+pub no_text : (file list entry : Data) (tenant node : ℕ) (name : List ℕ) → Some entry ≡ at node list → None ≡ as_str entry → cluster_name tenant file ≡ Some name → cluster_nodes name file ≡ Some list
+    → IsFault file tenant node NoPlace
+no_text file list entry tenant node name here none named found =
+    let there = entry_at file list entry node name here found in
+    (name, named, (ap is_some there, λ host port e. none-some e.0 (none ∙ (ap (option_and_then as_str) (sym there) ∙ e.1))))
+
+-- an entry whose text is no place
+pub no_place : (file list entry : Data) (text : List ℕ) (tenant node : ℕ) (name : List ℕ) → Some entry ≡ at node list → Some text ≡ as_str entry → ((host : List ℕ) (port : ℕ) → IsPlaceText text host port → ⊥)
+    → cluster_name tenant file ≡ Some name → cluster_nodes name file ≡ Some list → IsFault file tenant node NoPlace
+no_place file list entry text tenant node name here is none named found =
+    let there = entry_at file list entry node name here found in (
+      name,
+      named,
+      (
+        ap is_some there,
+        λ host port e.
+            let same : text ≡ e.0 = same_Some _ _ (is ∙ (ap (option_and_then as_str) (sym there) ∙ e.1)) in
+            none host port (subst (λ t. IsPlaceText t host port) (sym same) e.2),
+      ),
+    )

@@ -1,19 +1,19 @@
 -- What a directory file says.
-use Rattle.std.specs.Prelude.{◌≡◌, ◌≤◌, ℕ, List, Option, Some, length, codes, decimal, option_and_then}
-use Rattle.toml.specs.Data.{Data, Members, table, get, at, as_str, as_table}
+use Rattle.std.specs.Prelude.{◌≡◌, ℕ, List, Option, Some, codes, decimal, option_and_then}
+use Rattle.toml.specs.Data.{Data, Items, Members, table, get, at, as_str, as_table, as_array}
 use Rattle.toml.specs.Parse.{parse_document}
 use Rattle.gb_cluster_file.specs.Places.{IsPlaceText}
 
--- the text of a directory's file, and its document
-pub record IsDirectory (text : List ℕ) (file : Data) : Type 0 where
-  pub short : length text ≤ 65536
-  pub document : Members
-  pub parsed : parse_document text ≡ Some document
-  pub file_is : file ≡ table document
+-- the document that a text is, as a table
+abbrev pub IsDocument : List ℕ → Data → Type 0
+IsDocument text file = (document : Members) × (parse_document text ≡ Some document) × (file ≡ table document)
 
--- the table under a name, and the text under one
+-- the table, the list and the text under a name
 abbrev pub table_at : List ℕ → Data → Option Members
 table_at name value = option_and_then as_table (get name value)
+
+abbrev pub list_at : List ℕ → Data → Option Items
+list_at name value = option_and_then as_array (get name value)
 
 abbrev pub text_at : List ℕ → Data → Option (List ℕ)
 text_at name value = option_and_then as_str (get name value)
