@@ -52,6 +52,7 @@ fn listed_node<'a>(file: &'a Value, tenant: u16, node: NodeId) -> Result<Listed<
 }
 
 /// Returns where some nodes of a tenant's cluster are, in their order.
+#[tactic(auto, using(crate::proofs::ListingLemmas::nodes_more, crate::proofs::ListingLemmas::places_more))]
 pub fn list<'a>(
     alloc: Global,
     file: &'a Value,
@@ -64,15 +65,14 @@ pub fn list<'a>(
 {
     let mut list = Vec::new(alloc);
     'nodes: for node in nodes {
-        match listed_node(file, tenant, *node) {
-            Ok(listed) => list.push(listed)?,
-            Err(fault) => return Err(fault),
-        }
+        let listed = listed_node(file, tenant, *node)?;
+        list.push(listed)?;
     }
     Ok(list)
 }
 
 /// Returns what a list has for a port of the server whose nodes it lists: 64 + I names node I.
+#[tactic(auto, using(crate::proofs::ListingLemmas::is_among))]
 pub fn listed_at<'a>(list: &[Listed<'a>], port: u16) -> Option<Listed<'a>>
     ensures named { IfSome result (λ listed. port ≡ 64 + listed.node.number) }
     ensures listed { IfSome result (Contains list.now) }
