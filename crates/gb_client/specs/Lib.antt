@@ -3,3 +3,4 @@ pub mod Answers
 pub mod Secrets
 pub mod Asking
 pub mod Exports
+pub mod Errands

@@ -2,6 +2,7 @@
 ghost use Rattle.std.specs.Prelude.{◌≡◌, ◌≤◌, ◌<◌, ◌+◌, ℕ, List, [], ◌∷◌, Some, codes, decimal, map, vec_len, IfOk, IfSome, IfNone};
 ghost use Rattle.hex.specs.Hex.{encode_lower};
 ghost use Rattle.gb_types.specs.PayloadWord.{payload_word};
+ghost use Rattle.gb_client.specs.Errands.{nodes_named};
 ghost use Rattle.gb_client.specs.Asking.{Asks, IsAsked, with_key, with_payload, words_told};
 ghost use Rattle.gb_session.specs.declared.grammar.TheConstants.{BODY};
 ghost use Rattle.gb_session.specs.declared.head.Head.{Head};
@@ -12,6 +13,7 @@ use crate::request::request_text;
 use crate::secrets::Secrets;
 use gb_cap::token::Need;
 use gb_session::head::Head;
+use gb_types::memory::OutOfMemory;
 use gb_types::node::NodeId;
 use gb_types::number::put_number;
 use gb_types::payload_word::put_payload;
@@ -26,10 +28,15 @@ pub struct Asked<'a> {
     pub is_text: bool,
 }
 
+/// The base port of a server whose nodes a list has. Its ports name the entries of the list: node I's is 64 + I.
+pub const LISTED: u16 = 0;
+
+const _: () = prove!(LISTED == 0);
+
 /// Which server is asked.
 #[derive(Clone, Copy)]
 pub struct Server {
-    /// Its base port, up to 65,000.
+    /// Its base port, up to 65,000; `LISTED` where a list has its nodes.
     pub port: u16,
     /// How many seconds a reply may take.
     pub wait: u32,
@@ -89,6 +96,26 @@ pub enum Errand<'a> {
     List(NodeId),
     /// End the server, by asking a node.
     Shutdown(NodeId),
+}
+
+impl Errand<'_> {
+    /// Returns the nodes that may be asked.
+    pub fn nodes(&self, alloc: Global) -> Result<Vec<NodeId>, OutOfMemory>
+        ensures { IfOk result (λ nodes. nodes.items ≡ nodes_named self.now) }
+    {
+        match self {
+            Errand::Ask(node, _)
+            | Errand::Follow(node, _, _, _)
+            | Errand::Export(node, _)
+            | Errand::Import(node, _, _)
+            | Errand::Status(node)
+            | Errand::List(node)
+            | Errand::Shutdown(node) => Ok(Vec::from_slice(alloc, &[*node])?),
+            Errand::Group(nodes, _) | Errand::Drop(nodes, _) | Errand::Check(nodes, _, _) => {
+                Ok(Vec::from_slice(alloc, nodes.as_slice())?)
+            }
+        }
+    }
 }
 
 /// What a client is told to do.

@@ -2,3 +2,4 @@ pub mod AskedLemmas
 pub mod FollowLemmas
 pub mod ExportLemmas
 pub mod ImportLemmas
+mod ListingLemmas

@@ -3,3 +3,4 @@ pub mod Exporting
 pub mod Following
 pub mod Groups
 pub mod Importing
+pub mod Listing

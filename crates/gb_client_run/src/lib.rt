@@ -7,6 +7,7 @@ pub mod exporting;
 pub mod following;
 pub mod groups;
 pub mod importing;
+pub mod listed;
 pub mod listing;
 pub mod nodes;
 pub mod obey;

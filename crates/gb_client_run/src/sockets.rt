@@ -1,21 +1,37 @@
-//! Nodes that are asked over sockets of this machine.
+//! Nodes that are asked over sockets: of this machine, or where a directory file lists them.
 use crate::importing::{Pauses, TRIES};
+use crate::listed::{Listed, listed_at};
 use crate::nodes::Nodes;
 use gb_client::exchange::{receive, send};
 use gb_client::fault::ClientFault;
 use std::alloc::Global;
-use std::net::{Ipv4Addr, Net, SocketAddr, SocketAddrV4, TcpStream};
+use std::net::{Net, TcpStream};
 use std::thread;
 use std::time::{Clock, Duration};
 
-/// Returns a connection to a port of this machine, on which each read waits for at most this number of seconds.
+// Returns the host and the port that a port of a server stands for: that port of this machine, or what the list has.
+fn place_of<'a>(list: Option<&'a [Listed<'a>]>, port: u16) -> Option<(&'a str, u16)> {
+    match list {
+        None => Some(("127.0.0.1", port)),
+        Some(list) => {
+            let listed = listed_at(list, port)?;
+            Some((listed.host, listed.port))
+        }
+    }
+}
+
+/// Returns a connection to a port of a server, on which each read waits for at most this number of seconds. The server is on this machine,
+/// or `list` has its nodes.
 pub fn connect<H: Net<Stream = TcpStream>>(
     rt: &H,
+    list: Option<&[Listed<'_>]>,
     port: u16,
     seconds: u64,
 ) -> Result<TcpStream, ClientFault> {
-    let address = SocketAddr::V4(SocketAddrV4::new(Ipv4Addr::LOCALHOST, port));
-    let Ok(stream) = TcpStream::connect(rt, address) else {
+    let Some(place) = place_of(list, port) else {
+        return Err(ClientFault::Connection);
+    };
+    let Ok(stream) = TcpStream::connect(rt, place) else {
         return Err(ClientFault::Connection);
     };
     let wait = Some(Duration::from_secs(seconds));
@@ -25,17 +41,18 @@ pub fn connect<H: Net<Stream = TcpStream>>(
     Ok(stream)
 }
 
-/// The nodes of a server on this machine, each message on a connection of its own.
+/// The nodes of a server, each message on a connection of its own.
 #[derive(Drop)]
 pub struct Sockets<'a, H> {
     rt: &'a H,
+    list: Option<&'a [Listed<'a>]>,
     seconds: u64,
 }
 
 impl<'a, H> Sockets<'a, H> {
-    /// Nodes that may take this number of seconds for a reply.
-    pub fn new(rt: &'a H, seconds: u64) -> Sockets<'a, H> {
-        Sockets { rt, seconds }
+    /// Nodes that may take this number of seconds for a reply, on this machine or where `list` has them.
+    pub fn new(rt: &'a H, list: Option<&'a [Listed<'a>]>, seconds: u64) -> Sockets<'a, H> {
+        Sockets { rt, list, seconds }
     }
 }
 
@@ -46,7 +63,7 @@ impl<H: Net<Stream = TcpStream>> Nodes for Sockets<'_, H> {
     ghost asks = { λ _ _ _ _ _. ⊤ };
 
     fn ask(&mut self, alloc: Global, port: u16, body: &[u8]) -> Result<Vec<u8>, ClientFault> {
-        let mut stream = connect(self.rt, port, self.seconds)?;
+        let mut stream = connect(self.rt, self.list, port, self.seconds)?;
         send(&mut stream, body)?;
         receive(alloc, &mut stream)
     }

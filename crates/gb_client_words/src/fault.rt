@@ -9,8 +9,14 @@ pub enum PlanFault {
     #[error("a subcommand is needed; --help has them")]
     NoSubcommand,
     /// A server is to be asked, and it is not said at which port.
-    #[error("--port P is needed before the subcommand: the server's base port, 1024 to 65000")]
+    #[error("--port P is needed before the subcommand: the server's base port, 1024 to 65000; or --directory FILE, which says where the nodes are")]
     NoPort,
+    /// It is said twice where the nodes are.
+    #[error("--port and --directory both say where the nodes are; give one of them")]
+    TwoServers,
+    /// The subcommand names no tenant, whose cluster a directory file could say.
+    #[error("--directory takes a subcommand that names a tenant; status, list and shutdown take --port P")]
+    NoTenant,
     /// A node is to be asked, and it is not said which.
     #[error("--node I is needed before the subcommand: the node's number, 0 to 31")]
     NoNode,

@@ -3,7 +3,7 @@ use crate::fault::PlanFault;
 use clap::builder::ValueParser;
 use clap::{Arg, ArgAction, ArgMatches, Command};
 use gb_cap::token::Need;
-use gb_client::task::{Asked, Choice, Errand, Server, Task};
+use gb_client::task::{Asked, Choice, Errand, LISTED, Server, Task};
 use gb_session::head::Head;
 use gb_types::limits::NODES;
 use gb_types::members_word::read_members;
@@ -12,11 +12,20 @@ use gb_types::request_words::{read_u16, read_u32};
 use gb_version::VERSION;
 use std::alloc::{AllocError, Global};
 
+/// A directory file, and the tenant whose cluster is looked up there.
+#[derive(Clone, Copy)]
+pub struct Lookup<'a> {
+    pub file: &'a str,
+    pub tenant: u16,
+}
+
 /// What the words of a command line ask for.
 #[derive(Drop)]
 pub struct Plan<'a> {
     /// The file with the secrets. None: they come from standard input.
     pub secrets: Option<&'a str>,
+    /// Where the nodes of the task's server are looked up. None: they are on this machine, at its ports.
+    pub lookup: Option<Lookup<'a>>,
     pub task: Task<'a>,
 }
 
@@ -187,6 +196,12 @@ const PORT: ArgWords = ArgWords {
     form: Form::Number("P", 1_024, 65_000),
 };
 
+const DIRECTORY: ArgWords = ArgWords {
+    name: "directory",
+    help: "the file that says where the nodes of the tenant's cluster are; it stands in the place of --port",
+    form: Form::Named("FILE"),
+};
+
 const NODE: ArgWords = ArgWords {
     name: "node",
     help: "the node to ask, 0 to 31; for token the node of the member",
@@ -206,7 +221,7 @@ const WAIT: ArgWords = ArgWords {
 };
 
 // The options that stand before the subcommand.
-static OPTIONS: &[ArgWords] = &[PORT, NODE, SECRETS, WAIT];
+static OPTIONS: &[ArgWords] = &[PORT, DIRECTORY, NODE, SECRETS, WAIT];
 
 // What a subcommand asks for.
 #[derive(Clone, Copy)]
@@ -582,10 +597,41 @@ fn errand<'a>(
     })
 }
 
+// Where the nodes are looked up. None: they are on this machine, or none is asked.
+fn lookup_of<'a>(
+    matches: &ArgMatches<'a>,
+    purpose: Purpose,
+    inner: &ArgMatches<'a>,
+) -> Result<Option<Lookup<'a>>, PlanFault> {
+    let Some(file) = matches.get_str("directory") else {
+        return Ok(None);
+    };
+    match purpose {
+        Purpose::Token => return Ok(None),
+        Purpose::Status | Purpose::List | Purpose::Shutdown => return Err(PlanFault::NoTenant),
+        _ => {}
+    }
+    if matches.get_str("port").is_some() {
+        return Err(PlanFault::TwoServers);
+    }
+    let word = inner.get_str("T").ok_or(PlanFault::Tenant)?;
+    let tenant = read_u16(word.as_bytes()).ok_or(PlanFault::Tenant)?;
+    Ok(Some(Lookup { file, tenant }))
+}
+
+// The base port of the server that is asked.
+fn base_port<'a>(matches: &ArgMatches<'a>, lookup: &Option<Lookup<'a>>) -> Result<u16, PlanFault> {
+    match lookup {
+        Some(_) => Ok(LISTED),
+        None => matches.get_one::<u16>("port").ok_or(PlanFault::NoPort),
+    }
+}
+
 // What a subcommand asks for.
 fn task<'a>(
     alloc: Global,
     matches: &ArgMatches<'a>,
+    lookup: &Option<Lookup<'a>>,
     subcommand: &SubcommandWords,
     inner: &ArgMatches<'a>,
 ) -> Result<Task<'a>, PlanFault> {
@@ -596,7 +642,7 @@ fn task<'a>(
     if let Purpose::Token = subcommand.purpose {
         return Ok(Task::Token(need(node, inner)?));
     }
-    let port = matches.get_one::<u16>("port").ok_or(PlanFault::NoPort)?;
+    let port = base_port(matches, lookup)?;
     let wait = number(matches, "wait").unwrap_or(SECONDS);
     let errand = errand(alloc, node, subcommand, inner)?;
     let server = Server::new(port, wait).ok_or(PlanFault::NoPort)?;
@@ -616,6 +662,11 @@ pub fn plan_of<'a>(alloc: Global, matches: &ArgMatches<'a>) -> Result<Plan<'a>, 
     if let (Purpose::Import, None) = (subcommand.purpose, secrets) {
         return Err(PlanFault::NoSecrets);
     }
-    let task = task(alloc, matches, subcommand, inner)?;
-    Ok(Plan { secrets, task })
+    let lookup = lookup_of(matches, subcommand.purpose, inner)?;
+    let task = task(alloc, matches, &lookup, subcommand, inner)?;
+    Ok(Plan {
+        secrets,
+        lookup,
+        task,
+    })
 }

@@ -11,8 +11,8 @@ fn line_of(text: &str, at: usize) -> usize {
     1 + before.iter().filter(|byte| **byte == b'\n').count()
 }
 
-// Returns why a text is no document, with the line that byte `at` is in.
-fn document_text(alloc: Global, text: &str, at: usize) -> Result<String, AllocError> {
+/// Returns why a text is no TOML document, with the line that byte `at` is in.
+pub fn document_text(alloc: Global, text: &str, at: usize) -> Result<String, AllocError> {
     let line = line_of(text, at);
     match toml::table_from_str(alloc, text) {
         Ok(_) => format!(in alloc; "line {line}: a TOML document is wanted"),

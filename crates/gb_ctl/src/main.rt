@@ -9,17 +9,22 @@ use gb_client::show::token_line;
 use gb_client::task::{Asked, Errand, Server, Task};
 use gb_client_run::following::{WAIT, follow};
 use gb_client_run::importing::import;
+use gb_client_run::listed::{ListFault, Listed, list};
 use gb_client_run::obey::obey;
 use gb_client_run::printing::print;
 use gb_client_run::sockets::{Pausing, Sockets, connect};
 use gb_client_run::target::Target;
 use gb_client_words::fault::plan_status;
-use gb_client_words::words::{Plan, command, plan_of};
+use gb_client_words::words::{Lookup, Plan, command, plan_of};
+use gb_directory_file::fault::TextFault;
+use gb_directory_file::read::{TEXT, read_directory};
+use gb_directory_file::words::{fault_text, text_fault_text};
 use std::alloc::Global;
 use std::fs::File;
-use std::io;
 use std::io::{Read, Write};
 use std::process::ExitCode;
+use std::{io, str};
+use toml::Value;
 
 // The bytes of the longest text of secrets.
 const SECRETS: u64 = 65_536;
@@ -68,6 +73,7 @@ fn secrets_of(rt: &HostRuntime, path: Option<&str>) -> Result<Secrets, ClientFau
 // Does what is to be done at a server. The exit status.
 fn go(
     rt: &HostRuntime,
+    listed: Option<&[Listed<'_>]>,
     server: Server,
     secrets: &Secrets,
     errand: &Errand<'_>,
@@ -77,7 +83,7 @@ fn go(
     let seconds = u64::from(server.wait);
     if let Errand::Follow(node, asked, from, times) = errand {
         let wait = u64::from(WAIT) / 1_000 + seconds;
-        let stream = connect(rt, server.sessions_port(*node), wait)?;
+        let stream = connect(rt, listed, server.sessions_port(*node), wait)?;
         let (mut reader, mut sender) = (&stream, &stream);
         return follow(
             alloc,
@@ -91,7 +97,7 @@ fn go(
             &mut writer,
         );
     }
-    let mut nodes = Sockets::new(rt, seconds);
+    let mut nodes = Sockets::new(rt, listed, seconds);
     let target = Target { server, secrets };
     if let Errand::Import(node, asked, choice) = errand {
         let text = read_log(alloc, rt.reader())?;
@@ -111,6 +117,68 @@ fn go(
     obey(alloc, &mut nodes, target, errand, &mut writer)
 }
 
+// What may be read of a directory file.
+fn directory_text(rt: &HostRuntime, name: &str) -> Option<Vec<u8>> {
+    let file = File::open(rt, name).ok()?;
+    let mut text = Vec::new(rt.alloc());
+    match file.take(TEXT as u64 + 1).read_to_end(&mut text) {
+        Ok(_) => Some(text),
+        Err(_) => None,
+    }
+}
+
+// Tells on standard error what is wrong with a directory file. The exit status.
+fn refuse(rt: &HostRuntime, name: &str, why: &str) -> u8 {
+    let _ = writeln!(rt.stderr(), "gb_ctl: {name}: {why}");
+    2
+}
+
+// Does what is to be done where a directory says that the nodes are. The exit status.
+fn go_there(
+    rt: &HostRuntime,
+    lookup: Lookup<'_>,
+    directory: &Value,
+    server: Server,
+    secrets: &Secrets,
+    errand: &Errand<'_>,
+) -> Result<u8, ClientFault> {
+    let alloc = rt.alloc();
+    let nodes = errand.nodes(alloc)?;
+    match list(alloc, directory, lookup.tenant, &nodes) {
+        Ok(listed) => go(rt, Some(listed.as_slice()), server, secrets, errand),
+        Err(ListFault::OutOfMemory) => Err(ClientFault::OutOfMemory),
+        Err(ListFault::Node(node, fault)) => {
+            let why = fault_text(alloc, directory, lookup.tenant, node, fault)?;
+            Ok(refuse(rt, lookup.file, &why))
+        }
+    }
+}
+
+// Does what is to be done by a directory file. The exit status.
+fn go_by(
+    rt: &HostRuntime,
+    lookup: Lookup<'_>,
+    server: Server,
+    secrets: &Secrets,
+    errand: &Errand<'_>,
+) -> Result<u8, ClientFault> {
+    let alloc = rt.alloc();
+    let Some(bytes) = directory_text(rt, lookup.file) else {
+        return Ok(refuse(rt, lookup.file, "it cannot be read"));
+    };
+    let Ok(text) = str::from_utf8(&bytes) else {
+        return Ok(refuse(rt, lookup.file, "it is no UTF-8 text"));
+    };
+    match read_directory(alloc, text) {
+        Ok(directory) => go_there(rt, lookup, &directory, server, secrets, errand),
+        Err(TextFault::OutOfMemory) => Err(ClientFault::OutOfMemory),
+        Err(fault) => {
+            let why = text_fault_text(alloc, text, fault)?;
+            Ok(refuse(rt, lookup.file, &why))
+        }
+    }
+}
+
 // Does what the plan says. The exit status.
 fn obey_plan(rt: &HostRuntime, plan: &Plan<'_>) -> Result<u8, ClientFault> {
     let secrets = secrets_of(rt, plan.secrets)?;
@@ -121,7 +189,10 @@ fn obey_plan(rt: &HostRuntime, plan: &Plan<'_>) -> Result<u8, ClientFault> {
             print(&mut io::writer(rt), &line)?;
             Ok(0)
         }
-        Task::At(server, errand) => go(rt, *server, &secrets, errand),
+        Task::At(server, errand) => match plan.lookup {
+            Some(lookup) => go_by(rt, lookup, *server, &secrets, errand),
+            None => go(rt, None, *server, &secrets, errand),
+        },
     }
 }
 

@@ -6,6 +6,8 @@
 #[cfg(test)]
 mod detector;
 #[cfg(test)]
+mod longest;
+#[cfg(test)]
 mod many;
 #[cfg(test)]
 mod operations;

@@ -5,6 +5,7 @@ ghost use Rattle.gb_types.specs.declared.reply.Reply.TheVariants.{Refused};
 ghost use Rattle.gb_session.specs.Answering.{IsDenied};
 
 use gb_session::answers::{Answers, put_refusal};
+use gb_session::feed::Feed;
 use gb_session::operation::Operation;
 use gb_session::session::{Session, Step};
 use gb_types::memory::OutOfMemory;
@@ -61,6 +62,25 @@ fn are_answered(alloc: Global) -> Result<bool, OutOfMemory> {
     let step = session.take(&mut answers, &piece, false, &mut out, usize::MAX)?;
     let is_over = matches!(step, Step::Hungry);
     Ok(is_over && answers.asked == REQUESTS && out.as_slice() == wanted.as_slice())
+}
+
+// Returns whether a feed gives all requests of one piece, and stands between two messages then.
+fn are_given(alloc: Global, count: u64) -> Result<bool, OutOfMemory> {
+    let piece = repeated(alloc, ASKED, count)?;
+    let mut feed = Feed::new(alloc)?;
+    match feed.piece(&piece) {
+        Ok(fed) => Ok(fed.requests.len() as u64 == count && !fed.malformed && feed.is_between()),
+        Err(_) => Ok(false),
+    }
+}
+
+#[test]
+fn a_feed_gives_all_requests_of_one_piece(rt: HostRuntime) -> Result<(), Fail> {
+    for count in [1, 512, REQUESTS] {
+        let are_given = are_given(rt.alloc(), count)?;
+        assert!(rt; are_given);
+    }
+    Ok(())
 }
 
 #[test]

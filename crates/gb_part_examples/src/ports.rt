@@ -134,6 +134,35 @@ fn the_packet_after_sixty_four_has_no_room(rt: HostRuntime) -> Result<(), Fail> 
     Ok(())
 }
 
+// Sends a packet from node 0 to node 1. Returns whether it was taken.
+fn is_taken_by(ports: &mut [RingPort], packet: &[u8]) -> bool {
+    match ports.get_mut(0) {
+        Some(port) => sent(port, NodeId::new(1), packet) == b'+',
+        None => false,
+    }
+}
+
+// Returns whether node 1 receives just this packet.
+fn is_found(ports: &mut [RingPort], packet: &[u8]) -> bool {
+    match ports.get_mut(1) {
+        Some(port) => match port.recv() {
+            Ok(Some(found)) => found.as_slice() == packet,
+            _ => false,
+        },
+        None => false,
+    }
+}
+
+#[test]
+fn the_longest_packet_crosses_a_ring(rt: HostRuntime) -> Result<(), Fail> {
+    let packet = vec![in rt.alloc(); b'7'; 16_384]?;
+    let mut ports = RingPort::mesh(rt.alloc(), 2)?;
+    let is_taken = is_taken_by(&mut ports, &packet);
+    let is_found = is_found(&mut ports, &packet);
+    assert!(rt; is_taken && is_found);
+    Ok(())
+}
+
 const TWO_FOR_THE_FIRST: &[Call] = &[Call::Send(1, 0, b"1", b'+'), Call::Send(1, 0, b"2", b'+')];
 
 // Two packets come to a port that fails at a call. What it tells of two packets to another port and of three receivings,

@@ -5,6 +5,8 @@
 #[cfg(test)]
 mod client_words;
 #[cfg(test)]
+mod directories;
+#[cfg(test)]
 mod errands;
 #[cfg(test)]
 mod figures;

@@ -1,7 +1,8 @@
-// The longest packet: messages that fill it are said at a node of a host, and it is brought to another node.
-use crate::asking::{BOTH, LONG, ask, log, say};
+// The longest packet: messages that fill it are said at a node of a host, and it is brought to another node. And a tape of many calls.
+use crate::asking::{BOTH, LONG, ask, call, log, say};
 use crate::plans::{FIRST, SECOND};
 use crate::scenes::{Scene, whole};
+use gb_host::gate::Open;
 use gb_host::host::Host;
 use gb_host::names::Tapes;
 use gb_host::seat::Seat;
@@ -110,4 +111,27 @@ fn a_full_packet_is_carried(rt: HostRuntime) {
             .expect(&rt, "a scene");
         assert!(rt; left.counts == *counts && left.agree && left.merged);
     }
+}
+
+/// Ticks node 0 a hundred thousand times, from the first seat. How many ticks were answered.
+pub fn fill_a_tape<L: Tapes, R: Wait>(rt: &R, host: &Host<L>, seats: &mut [Seat<L>]) -> [u64; 4] {
+    let mut count: u64 = 0;
+    if let Some(seat) = seats.first_mut() {
+        for _ in 0..100_000 {
+            if call(rt, host, seat, FIRST, NodeEvent::Tick, &mut Open).is_ok() {
+                count = count.saturating_add(1);
+            }
+        }
+    }
+    [count, 0, 0, 0]
+}
+
+#[test]
+fn a_hundred_thousand_calls_stand_on_a_tape(rt: HostRuntime) {
+    let mut scene: Scene<RingPort> = Scene::LongTape;
+    let left = whole(&rt, rt.alloc(), Version::One, true, 1, &mut scene)
+        .ok()
+        .expect(&rt, "a scene");
+    assert!(rt; left.counts[0] == 100_000 && left.ticks == [100_000, 0]);
+    assert!(rt; left.calls == [100_000, 0] && left.agree && left.merged);
 }

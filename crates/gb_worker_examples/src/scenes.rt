@@ -6,7 +6,7 @@ ghost use Rattle.gb_host.specs.Plans.{IsPlan};
 use crate::agreement::{agree, copy_lists, count_entries, entries_of};
 use crate::asking::prepare_both;
 use crate::day::all_work;
-use crate::long::fill_a_packet;
+use crate::long::{fill_a_packet, fill_a_tape};
 use crate::plans::two_nodes;
 use crate::roles::Role;
 use gb_host::close::close;
@@ -39,6 +39,8 @@ pub enum Scene<'a, P> {
     InGroup(Vec<Role<'a, P>>),
     /// Once the group of both nodes was made, messages are said in it at node 0 that fill a packet, and it is brought to node 1.
     FullPacket,
+    /// A node ticks a hundred thousand times.
+    LongTape,
     /// The last seat is lost.
     LostSeat,
 }
@@ -61,6 +63,7 @@ fn play<L: Tapes + Send + Sync, P: Port + Send + Drop, R: Threads + Wait + Clock
             prepare_both(rt, alloc, host, seats);
             fill_a_packet(rt, alloc, host, seats)
         }
+        Scene::LongTape => fill_a_tape(rt, host, seats),
         Scene::LostSeat => {
             let _ = seats.pop();
             [0; 4]

@@ -1,0 +1,86 @@
+//! Where the nodes of a server are, by a directory file.
+ghost use Rattle.std.specs.Prelude.{◌≡◌, ◌+◌, All, Contains, map, IfSome, IfOk, IfErr};
+ghost use Rattle.toml.specs.View.{view};
+ghost use Rattle.gb_client_run.specs.Listing.{IsPlaceOf, IsListFault};
+
+use gb_directory_file::fault::DirectoryFault;
+use gb_directory_file::read::sessions_of;
+use gb_types::node::NodeId;
+use std::alloc::{AllocFailed, Global};
+use toml::Value;
+
+/// Where the sessions of a node are.
+#[derive(Clone, Copy)]
+pub struct Listed<'a> {
+    pub node: NodeId,
+    pub host: &'a str,
+    pub port: u16,
+}
+
+/// Why nodes are not listed.
+#[derive(Clone, Copy, PartialEq, Eq)]
+pub enum ListFault {
+    /// A request for memory was refused.
+    OutOfMemory,
+    /// The directory does not say where this node is.
+    Node(NodeId, DirectoryFault),
+}
+
+impl<T: Drop> From<AllocFailed<T>> for ListFault {
+    ghost use Rattle.gb_client_run.specs.declared.listed.ListFault.TheVariants.{OutOfMemory as NoMemory};
+
+    ghost from_gives = { λ _ fault. fault ≡ NoMemory };
+
+    fn from(_error: AllocFailed<T>) -> ListFault {
+        ListFault::OutOfMemory
+    }
+}
+
+// Returns where a node of a tenant's cluster is.
+fn listed_node<'a>(file: &'a Value, tenant: u16, node: NodeId) -> Result<Listed<'a>, ListFault>
+    ensures ok { IfOk result (λ listed. (listed.node ≡ node) × IsPlaceOf (view file.now) tenant listed) }
+    ensures err { IfErr result (IsListFault (view file.now) tenant) }
+{
+    match sessions_of(file, tenant, node) {
+        Ok(place) => Ok(Listed {
+            node,
+            host: place.host,
+            port: place.port,
+        }),
+        Err(fault) => Err(ListFault::Node(node, fault)),
+    }
+}
+
+/// Returns where some nodes of a tenant's cluster are, in their order.
+#[tactic(auto, using(crate::proofs::ListingLemmas::nodes_more, crate::proofs::ListingLemmas::places_more))]
+pub fn list<'a>(
+    alloc: Global,
+    file: &'a Value,
+    tenant: u16,
+    nodes: &[NodeId],
+) -> Result<Vec<Listed<'a>>, ListFault>
+    ensures nodes { IfOk result (λ list. map (λ listed. listed.node) list.items ≡ nodes.now) }
+    ensures places { IfOk result (λ list. All (IsPlaceOf (view file.now) tenant) list.items) }
+    ensures err { IfErr result (IsListFault (view file.now) tenant) }
+{
+    let mut list = Vec::new(alloc);
+    'nodes: for node in nodes {
+        let listed = listed_node(file, tenant, *node)?;
+        list.push(listed)?;
+    }
+    Ok(list)
+}
+
+/// Returns what a list has for a port of the server whose nodes it lists: 64 + I names node I.
+#[tactic(auto, using(crate::proofs::ListingLemmas::is_among))]
+pub fn listed_at<'a>(list: &[Listed<'a>], port: u16) -> Option<Listed<'a>>
+    ensures named { IfSome result (λ listed. port ≡ 64 + listed.node.number) }
+    ensures listed { IfSome result (Contains list.now) }
+{
+    for listed in list {
+        if port == 64 + u16::from(listed.node.number) {
+            return Some(*listed);
+        }
+    }
+    None
+}

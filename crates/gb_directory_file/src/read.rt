@@ -1,0 +1,206 @@
+//! From the text of a file to the place of a node.
+ghost use Rattle.std.specs.Prelude.{◌≡◌, ◌≤◌, ℕ, List, None, Some, IfSome, IfNone, IfOk, IfErr, decimal, length, option_copied, option_map};
+ghost use Rattle.toml.specs.Data.{Data, get, at};
+ghost use Rattle.toml.specs.Errors.{IsMemory, IsWithin as IsSpanWithin};
+ghost use Rattle.toml.specs.Parse.{parse_document};
+ghost use Rattle.toml.specs.View.{view};
+ghost use Rattle.gb_directory_file.specs.Directory.{IsDocument, IsEntry, IsListed, table_at, text_at, list_at, cluster_name, cluster_nodes};
+ghost use Rattle.gb_directory_file.specs.Faults.{IsTextFault, IsFault};
+
+use crate::fault::{DirectoryFault, TextFault};
+use gb_cluster_file::place::{PlaceParts, place_of};
+use gb_types::node::NodeId;
+use itoa::Buffer;
+use std::alloc::Global;
+use toml::Value;
+use toml::de::Error;
+
+/// The bytes of the longest text.
+pub const TEXT: usize = 65_536;
+
+// What a definition cites.
+const _: () = prove!(TEXT == 65_536);
+
+// Returns what a parse that failed comes to.
+fn fault_from(error: &Error) -> TextFault
+    ensures { (text : List ℕ) → (¬ (IsMemory error.now) → parse_document text ≡ None) → IsSpanWithin text error.now → IsTextFault text result }
+{
+    match error.span() {
+        Some(span) => TextFault::NoDocument { at: span.start },
+        None => TextFault::OutOfMemory,
+    }
+}
+
+// Returns the document that a text is.
+#[tactic(auto, using(crate::proofs::ListedLemmas::document_is))]
+fn document_of(alloc: Global, text: &str) -> Result<Value, TextFault>
+    ensures ok { IfOk result (λ file. IsDocument text.now (view file)) }
+    ensures fault { IfErr result (IsTextFault text.now) }
+{
+    match toml::table_from_str(alloc, text) {
+        Ok(table) => Ok(Value::Table(table)),
+        Err(error) => Err(fault_from(&error)),
+    }
+}
+
+/// Returns the directory that the text of a file is. The text has 65,536 bytes at most.
+pub fn read_directory(alloc: Global, text: &str) -> Result<Value, TextFault>
+    ensures ok { IfOk result (λ file. IsDocument text.now (view file)) }
+    ensures short { IfOk result (λ _. length text.now ≤ 65536) }
+    ensures fault { IfErr result (IsTextFault text.now) }
+{
+    if text.len() > TEXT {
+        return Err(TextFault::TooLong);
+    }
+    match document_of(alloc, text) {
+        Ok(file) => Ok(file),
+        Err(fault) => Err(fault),
+    }
+}
+
+// Returns the table under a name.
+fn table_in<'a>(value: &'a Value, name: &str) -> Option<&'a Value>
+    ensures some { IfSome result (λ found. get name.now (view value.now) ≡ Some (view found.now)) }
+    ensures none { IfNone result (table_at name.now (view value.now) ≡ None) }
+{
+    match value.get(name) {
+        Some(found) => match found.as_table() {
+            Some(_) => Some(found),
+            None => None,
+        },
+        None => None,
+    }
+}
+
+// Returns the list under a name.
+fn list_in<'a>(value: &'a Value, name: &str) -> Option<&'a Value>
+    ensures some { IfSome result (λ found. get name.now (view value.now) ≡ Some (view found.now)) }
+    ensures none { IfNone result (list_at name.now (view value.now) ≡ None) }
+{
+    match value.get(name) {
+        Some(found) => match found.as_array() {
+            Some(_) => Some(found),
+            None => None,
+        },
+        None => None,
+    }
+}
+
+// Returns the text under a name.
+fn text_in<'a>(value: &'a Value, name: &str) -> Option<&'a str>
+    ensures { option_copied result ≡ text_at name.now (view value.now) }
+{
+    match value.get(name) {
+        Some(found) => found.as_str(),
+        None => None,
+    }
+}
+
+// Returns the text under a tenant's number.
+fn tenant_text(tenants: &Value, tenant: u16) -> Option<&str>
+    ensures { option_copied result ≡ text_at (decimal tenant) (view tenants.now) }
+{
+    let mut digits = Buffer::new();
+    text_in(tenants, digits.format(tenant))
+}
+
+/// Returns the name of a tenant's cluster.
+pub fn name_of(file: &Value, tenant: u16) -> Result<&str, DirectoryFault>
+    ensures ok { IfOk result (λ name. cluster_name tenant (view file.now) ≡ Some name.now) }
+    ensures err { IfErr result (λ fault. (node : ℕ) → IsFault (view file.now) tenant node fault) }
+{
+    match table_in(file, "tenant") {
+        None => Err(DirectoryFault::NoTenants),
+        Some(tenants) => match tenant_text(tenants, tenant) {
+            None => Err(DirectoryFault::NoTenant),
+            Some(name) => Ok(name),
+        },
+    }
+}
+
+/// Returns the list of a cluster's nodes.
+pub fn nodes_of<'a>(file: &'a Value, name: &str) -> Result<&'a Value, DirectoryFault>
+    ensures ok { IfOk result (λ nodes. cluster_nodes name.now (view file.now) ≡ Some (view nodes.now)) }
+    ensures err { IfErr result (λ fault. (tenant node : ℕ) → cluster_name tenant (view file.now) ≡ Some name.now → IsFault (view file.now) tenant node fault) }
+{
+    match table_in(file, "cluster") {
+        None => Err(DirectoryFault::NoClusters),
+        Some(clusters) => match table_in(clusters, name) {
+            None => Err(DirectoryFault::NoCluster),
+            Some(cluster) => match list_in(cluster, "nodes") {
+                None => Err(DirectoryFault::NoNodes),
+                Some(nodes) => Ok(nodes),
+            },
+        },
+    }
+}
+
+// Returns the entry of a list for a node.
+fn entry_in(nodes: &Value, node: NodeId) -> Option<&Value>
+    ensures { option_map (λ entry. view entry.now) result ≡ at node.number (view nodes.now) }
+{
+    nodes.get(node.index())
+}
+
+// Returns the place that the entry of a list for a node says.
+#[tactic(auto, using(crate::proofs::ListedLemmas::entry_is, crate::proofs::ListedLemmas::no_text, crate::proofs::ListedLemmas::no_place))]
+fn place_in(nodes: &Value, node: NodeId) -> Result<PlaceParts<'_>, DirectoryFault>
+    ensures ok { IfOk result (λ place. IsEntry (at node.number (view nodes.now)) place.host.now place.port) }
+    ensures err { IfErr result (λ fault. (file : Data) (tenant : ℕ) (name : List ℕ) → cluster_name tenant file ≡ Some name → cluster_nodes name file ≡ Some (view nodes.now)
+        → IsFault file tenant node.number fault) }
+{
+    match entry_in(nodes, node) {
+        None => Err(DirectoryFault::NoNode),
+        Some(entry) => match entry.as_str() {
+            None => Err(DirectoryFault::NoPlace),
+            Some(text) => match place_of(text) {
+                None => Err(DirectoryFault::NoPlace),
+                Some(place) => Ok(PlaceParts {
+                    host: place.host,
+                    port: place.port,
+                }),
+            },
+        },
+    }
+}
+
+// Returns where the sessions of a node of a tenant's cluster are.
+#[tactic(auto, using(crate::proofs::ListedLemmas::listed_by))]
+fn find(file: &Value, tenant: u16, node: NodeId) -> Result<PlaceParts<'_>, DirectoryFault>
+    ensures ok { IfOk result (λ place. IsListed (view file.now) tenant node.number place.host.now place.port) }
+    ensures err { IfErr result (IsFault (view file.now) tenant node.number) }
+{
+    match name_of(file, tenant) {
+        Err(fault) => Err(fault),
+        Ok(name) => match nodes_of(file, name) {
+            Err(fault) => Err(fault),
+            Ok(nodes) => match place_in(nodes, node) {
+                Err(fault) => Err(fault),
+                Ok(place) => Ok(PlaceParts {
+                    host: place.host,
+                    port: place.port,
+                }),
+            },
+        },
+    }
+}
+
+/// Returns where the sessions of a node of a tenant's cluster are.
+#[tactic(auto, using(crate::proofs::ListedLemmas::not_listed))]
+pub fn sessions_of(
+    file: &Value,
+    tenant: u16,
+    node: NodeId,
+) -> Result<PlaceParts<'_>, DirectoryFault>
+    ensures ok { IfOk result (λ place. IsListed (view file.now) tenant node.number place.host.now place.port) }
+    ensures err { IfErr result (IsFault (view file.now) tenant node.number) }
+    ensures refused { IfErr result (λ _. (host : List ℕ) (port : ℕ) → IsListed (view file.now) tenant node.number host port → ⊥) }
+{
+    match find(file, tenant, node) {
+        Err(fault) => Err(fault),
+        Ok(place) => Ok(PlaceParts {
+            host: place.host,
+            port: place.port,
+        }),
+    }
+}

@@ -1,0 +1,84 @@
+//! The longest reply of a session.
+ghost use Rattle.std.specs.Prelude.{⊤};
+ghost use Rattle.gb_session.specs.Answering.{IsDenied};
+
+use gb_session::answers::{Answers, put_refusal};
+use gb_session::operation::Operation;
+use gb_session::session::Session;
+use gb_types::entry::{Entries, Entry};
+use gb_types::memory::OutOfMemory;
+use gb_types::node::NodeId;
+use gb_types::payload::Payload;
+use gb_types::refusal::Refusal;
+use gb_types::reply::Reply;
+use gb_types::request::Request;
+use std::alloc::Global;
+use std::test::Fail;
+
+const PAYLOAD: &[u8] = &[0xab; 4_096];
+
+// Returns as many entries as a log may have, each as long as it may be.
+fn entries(alloc: Global) -> Result<Entries, OutOfMemory> {
+    let mut entries = Entries::new(alloc);
+    for _ in 0..16 {
+        entries.push(Entry {
+            origin: NodeId { number: 31 },
+            seq: 65_535,
+            payload: Payload::from_slice(alloc, PAYLOAD)?,
+        })?;
+    }
+    Ok(entries)
+}
+
+/// Answers each request with the longest log.
+#[derive(Drop)]
+struct Longest {
+    alloc: Global,
+}
+
+impl Answers for Longest {
+    ghost answers = { record { replies = λ s request reply t. ⊤; tells = IsDenied } };
+
+    fn answer(&mut self, _request: Request) -> Reply {
+        match entries(self.alloc) {
+            Ok(entries) => Reply::Log(entries),
+            Err(_) => Reply::Refused(Refusal::OutOfMemory),
+        }
+    }
+
+    fn operate(&self, _operation: Operation, out: &mut Vec<u8>) -> Result<(), OutOfMemory> {
+        put_refusal(out, Refusal::Denied)
+    }
+}
+
+const ASKED: &[u8] =
+    b"\x00\x00\x00\x49open 0000000000000000000000000000000000000000000000000000000000000000 7 1";
+
+// Returns the message of the longest log: 131,238 bytes behind their number.
+fn message(alloc: Global) -> Result<Vec<u8>, OutOfMemory> {
+    let mut text = Vec::from_slice(alloc, b"\x00\x02\x00\xa6log 16")?;
+    for _ in 0..16 {
+        text.extend_from_slice(b" 31:65535:")?;
+        for _ in 0..4_096 {
+            text.extend_from_slice(b"ab")?;
+        }
+    }
+    Ok(text)
+}
+
+// Returns whether a session writes that message, and nothing else.
+fn is_written(alloc: Global) -> Result<bool, OutOfMemory> {
+    let wanted = message(alloc)?;
+    let mut answers = Longest { alloc };
+    let mut session = Session::new(alloc, 2);
+    let mut out = Vec::new(alloc);
+    session.take(&mut answers, ASKED, false, &mut out, usize::MAX)?;
+    Ok(out.len() == 131_242 && out.as_slice() == wanted.as_slice())
+}
+
+#[test]
+fn the_longest_log_is_replied(rt: HostRuntime) -> Result<(), Fail> {
+    let is_written = is_written(rt.alloc())?;
+    assert!(rt; is_written);
+    Ok(())
+}

@@ -1,0 +1,38 @@
+-- What a run of the program reads and writes, and the status with which it ends.
+use Rattle.std.specs.Prelude.{◌≡◌, ◌≢◌, ℕ, List, Option, Result, Ok, Err, OnOk, codes}
+use Rattle.std.specs.Option.{IfSome}
+use Rattle.std.specs.Io.KnownBytes.{Appends, Keeps}
+use Rattle.gb_lines.specs.Lines.{ended}
+use Rattle.gb_simulate.specs.Complaint.{complaint}
+use Rattle.gb_simulate.specs.Status.{status}
+use Rattle.gb_simulate.specs.Text.{IsWritten, IsWrittenUpTo}
+use Rattle.gb_simulate.specs.Writing.{AppendsFront}
+use Rattle.gb_simulate.specs.declared.outcome.SimEnd.{SimEnd}
+use Rattle.gb_simulate.specs.declared.outcome.SimFault.{SimFault}
+use Rattle.gb_simulate.specs.declared.outcome.SimFault.TheVariants.{Write, OutOfMemory}
+use Rattle.gb_sim.specs.declared.run.Ended.{Ended}
+
+-- the line that stands behind the answers where memory lacked
+abbrev pub memory_line : List ℕ
+memory_line = ended (codes "out of memory")
+
+-- a schedule that came to this is answered up to there, behind what was written before; the rest is unread
+abbrev pub IsAnswered : Result SimEnd SimFault → Option (List ℕ) → Option (List ℕ) → Option (List ℕ) → Option (List ℕ) → Type 0
+IsAnswered (Ok end) input unread before after = IfSome input (λ i. IfSome before (λ b. IsWritten end i b after))
+IsAnswered (Err why) input unread before after = IfSome input (λ i. IfSome before (λ b. IsWrittenUpTo why i b unread after))
+
+-- A schedule was answered, and came to an outcome. Behind its answers stands that memory lacked, where it did, and nothing else; where that
+-- cannot be written, the outcome is a failed write. What went wrong is told in its line, or a front of it where it cannot be written, or, without memory, not at
+-- all. The status is the outcome's.
+pub record HasRun (input unread before after errors_before errors_after : Option (List ℕ)) (ending : Ended) : Type 0 where
+  pub outcome : Result SimEnd SimFault
+  pub told : Result SimEnd SimFault
+  pub between : Option (List ℕ)
+  pub answered : IsAnswered outcome input unread before between
+  pub other : outcome ≢ Err OutOfMemory → (told ≡ outcome) × Keeps between after
+  pub memory : outcome ≡ Err OutOfMemory → told ≢ Err Write → (told ≡ outcome) × Appends between after memory_line
+  pub cut : told ≡ Err Write → outcome ≢ Err Write → AppendsFront between after memory_line
+  pub whole : OnOk ending.told (Appends errors_before errors_after (complaint told))
+  pub front : ending.told ≡ Err Write → AppendsFront errors_before errors_after (complaint told)
+  pub silent : ending.told ≡ Err OutOfMemory → Keeps errors_before errors_after
+  pub status_is : ending.status ≡ status told
