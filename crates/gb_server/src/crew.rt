@@ -1,7 +1,8 @@
 //! The threads of a server.
+use crate::recorded::{LeftLog, NodeLog, take_log};
 use crate::signals::Signals;
 use crate::sockets::Sockets;
-use crate::work::run_node;
+use crate::work::{LeftNode, run_node};
 use gb_host::host::Host;
 use gb_host::names::Tapes;
 use gb_host::seat::Seat;
@@ -31,19 +32,31 @@ fn keep<T: Drop, F: Drop>(
     }
 }
 
-// Waits until these threads have ended, and takes their seats back.
+/// What is left of a server whose loops have ended: its seats, and what its nodes recorded by.
+#[derive(Drop)]
+pub struct Held<L: Tapes> {
+    pub seats: Vec<Seat<L>>,
+    pub logs: Vec<LeftLog<L>>,
+}
+
+// Waits until these threads have ended, and takes back what is left of their nodes.
 fn join_all<L: Tapes, H: Threads>(
     rt: &H,
-    threads: Vec<JoinHandle<Seat<L>>>,
-    seats: &mut Vec<Seat<L>>,
+    threads: Vec<JoinHandle<LeftNode<L>>>,
+    held: &mut Held<L>,
 ) {
     for thread in threads {
-        let _ = seats.push(thread.join(rt));
+        let LeftNode { seat, log } = thread.join(rt);
+        let _ = held.seats.push(seat);
+        if let Some(log) = log {
+            let _ = held.logs.push(log);
+        }
     }
 }
 
-/// Holds a server: a thread for each node's loop, with a seat each. They end when the signals say so. Gives the
-/// seats back. OutOfMemory: not all threads could be made, and no connection was served; or a loop could not begin.
+/// Holds a server: a thread for each node's loop, with a seat each, and with what it records by where the host's nodes have recorders. They end when
+/// the signals say so. Gives the seats back, and what was recorded by. OutOfMemory: not all threads could be made, and no connection was served;
+/// or a loop could not begin.
 pub fn hold<
     L: Tapes + Send + Sync,
     H: Net<Listener = TcpListener, Stream = TcpStream> + Threads + Wait + Clock + Sync,
@@ -53,33 +66,45 @@ pub fn hold<
     host: &Host<L>,
     seats: Vec<Seat<L>>,
     sockets: Vec<Sockets>,
+    logs: Vec<NodeLog<L>>,
     options: LoopOptions,
     signals: &Signals,
-) -> Result<Vec<Seat<L>>, OutOfMemory> {
+) -> Result<Held<L>, OutOfMemory> {
     let shared = signals;
+    let plan = host.plan();
+    let are_recorded = plan.ring && !plan.tape;
     shared.hold();
     thread::scope(
         thread::scope_env(),
         rt,
-        move |scope| -> Result<Vec<Seat<L>>, OutOfMemory> {
-            let mut seats = seats;
+        move |scope| -> Result<Held<L>, OutOfMemory> {
+            let mut held = Held {
+                seats,
+                logs: Vec::new(alloc),
+            };
+            let mut logs = logs;
             let mut loops = Vec::new(alloc);
             for own in sockets {
-                let Some(seat) = seats.pop() else {
+                let Some(seat) = held.seats.pop() else {
                     shared.fail();
                     break;
                 };
+                let log = take_log(&mut logs, own.node);
+                if are_recorded && log.is_none() {
+                    shared.fail();
+                    break;
+                }
                 let made = scope.spawn(move || run_node(
-                    rt, alloc, host, seat, own, options, shared,
+                    rt, alloc, host, seat, own, log, options, shared,
                 ));
                 keep(&mut loops, made, shared);
             }
             shared.begin();
-            join_all(rt, loops, &mut seats);
+            join_all(rt, loops, &mut held);
             if shared.has_failed() {
                 Err(OutOfMemory)
             } else {
-                Ok(seats)
+                Ok(held)
             }
         },
     )

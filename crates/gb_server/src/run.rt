@@ -2,9 +2,10 @@
 ghost use Rattle.std.specs.Prelude.{◌≡◌, ℕ, List, OnOk};
 ghost use Rattle.std.specs.Io.KnownBytes.{Appends, Consumes};
 
-use crate::crew::hold;
+use crate::crew::{Held, hold};
 use crate::desk::Desk;
 use crate::input::Input;
+use crate::recorded::NodeLog;
 use crate::server_log::{ServerLog, first_line};
 use crate::signals::Signals;
 use crate::sockets::Sockets;
@@ -30,6 +31,8 @@ pub enum RunFault {
     OutOfMemory,
     /// The line that tells what is served could not be written.
     Write,
+    /// A record could not be written.
+    Unrecorded,
 }
 
 impl From<OutOfMemory> for RunFault {
@@ -43,11 +46,12 @@ impl From<OutOfMemory> for RunFault {
     }
 }
 
-/// What a thread that is to hold a server is given: for each node a seat and its sockets.
+/// What a thread that is to hold a server is given: for each node a seat and its sockets, and what it records by, if it does.
 #[derive(Drop)]
 pub struct Given<L: Tapes> {
     pub seats: Vec<Seat<L>>,
     pub sockets: Vec<Sockets>,
+    pub logs: Vec<NodeLog<L>>,
 }
 
 // Holds a server with what is given, where it is. None: not all loops could begin.
@@ -61,9 +65,13 @@ fn hold_given<
     given: &mut Option<Given<L>>,
     options: LoopOptions,
     signals: &Signals,
-) -> Option<Vec<Seat<L>>> {
-    let Given { seats, sockets } = given.take()?;
-    let held = hold(rt, alloc, host, seats, sockets, options, signals);
+) -> Option<Held<L>> {
+    let Given {
+        seats,
+        sockets,
+        logs,
+    } = given.take()?;
+    let held = hold(rt, alloc, host, seats, sockets, logs, options, signals);
     signals.leave();
     held.ok()
 }
@@ -126,7 +134,7 @@ fn hold_with_desk<
     signals: &Signals,
     desk: &mut Desk,
     errors: &mut E,
-) -> Option<Vec<Seat<L>>> {
+) -> Option<Held<L>> {
     let (held, _attended) = join_mut(
         rt,
         &mut || hold_given(rt, alloc, host, given, options, signals),
@@ -136,7 +144,7 @@ fn hold_with_desk<
 }
 
 /// Holds a server, tells that it serves once all its loops have begun, and heeds standard input. Tells its status at this listener, if there
-/// is one. Returns the seats.
+/// is one. Returns what is left of the nodes.
 pub fn run<
     L: Tapes + Send + Sync,
     H: Net<Listener = TcpListener, Stream = TcpStream> + Threads + Wait + Clock + Sync,
@@ -154,7 +162,7 @@ pub fn run<
     reader: &mut R,
     writer: &mut W,
     errors: &mut E,
-) -> Result<Vec<Seat<L>>, RunFault>
+) -> Result<Held<L>, RunFault>
     ensures told { OnOk result (Appends (W.contents writer.old) (W.contents writer.new) service.now.line.items) }
     ensures read { OnOk result ((bytes : List ℕ) × Consumes (R.remaining reader.old) (R.remaining reader.new) bytes) }
 {
@@ -173,11 +181,14 @@ pub fn run<
         },
         &mut || watch(rt, shared, text, stops_at_end, reader, writer),
     );
-    let Some(seats) = held else {
+    let Some(held) = held else {
         return Err(RunFault::OutOfMemory);
     };
     if !is_told {
         return Err(RunFault::Write);
     }
-    Ok(seats)
+    if shared.lacks_record() {
+        return Err(RunFault::Unrecorded);
+    }
+    Ok(held)
 }
