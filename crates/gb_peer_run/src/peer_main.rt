@@ -201,7 +201,7 @@ fn serve_host<
     Ok(())
 }
 
-// Where the record of the node is kept, if it is.
+// Returns where the record of the node is kept. `None` if none is wanted.
 fn place_of<'a>(words: &PeerWords<'a>, run: u64) -> Option<RecordPlace<'a>> {
     if !words.plan.records {
         return None;
@@ -210,7 +210,7 @@ fn place_of<'a>(words: &PeerWords<'a>, run: u64) -> Option<RecordPlace<'a>> {
     Some(RecordPlace { dir, run, syncs })
 }
 
-// Makes the record of the node, if one is wanted.
+// Makes the record of the node if one is wanted. Returns its file, or no file.
 fn open_files<F: Files<File = File>>(
     files: &F,
     alloc: Global,

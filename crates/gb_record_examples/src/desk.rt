@@ -26,7 +26,7 @@ impl Desk {
         }
     }
 
-    /// How many bytes were written.
+    /// Returns how many bytes were written.
     pub fn len(&self) -> usize {
         match self.text.try_borrow_mut() {
             Ok(text) => text.len(),
@@ -34,7 +34,7 @@ impl Desk {
         }
     }
 
-    // Whether the text ends so.
+    // Returns true if the text ends with these bytes.
     fn ends_with(&self, end: &[u8]) -> bool {
         match self.text.try_borrow_mut() {
             Ok(text) => text.ends_with(end),
@@ -75,7 +75,7 @@ impl Write for Pen<'_> {
     }
 }
 
-// The end of the line of an entry that sent this packet.
+// Returns the end of the line of an entry that sent this packet.
 fn end_of(alloc: Global, packet: &[u8]) -> Result<Vec<u8>, OutOfMemory> {
     let mut end = Vec::new(alloc);
     put_bytes(&mut end, b" > packet ")?;
@@ -123,7 +123,7 @@ impl Port for Gate<'_> {
     }
 }
 
-/// Says whether all is kept, as long as it may be asked.
+/// Keeps nothing, and says that all is kept the first `most` times that it is asked.
 #[derive(Drop)]
 pub struct Asked {
     pub times: Cell<u32>,

@@ -48,6 +48,7 @@ fn plan() -> HostPlan
             versions: [Version::One; NODES],
             silence: 1_000,
             places: 1_024,
+            room: 16_344,
             cluster_key: [0x11; 32],
             admin_key: [0x22; 32],
         },
@@ -56,7 +57,7 @@ fn plan() -> HostPlan
     }
 }
 
-// The first line of its record.
+// Returns what the first line of its record says.
 fn head() -> RecordHead {
     RecordHead {
         node: ME,
@@ -64,6 +65,7 @@ fn head() -> RecordHead {
         silence: 1_000,
         places: 1_024,
         version: Version::One,
+        room: 16_344,
     }
 }
 
@@ -81,10 +83,10 @@ fn acknowledge<L: Tapes, H: Wait, P: Port>(
     port.send(OTHER, text.as_slice()) == Ok(true)
 }
 
-// What came of it: how many of three packets left, whether one did that nobody sent, and whether the record could be written at last.
+// How many of three packets left, whether one left that no entry sent, and whether the record could be written at last.
 type Tried = (u32, bool, bool);
 
-// Three packets, each of which is acknowledged anew, and one that no entry sent.
+// Sends three packets of the node, and one that no entry sent. Returns how many of the three left, and whether the other one did.
 fn send_all<L: Tapes, H: Wait, P: Port>(
     rt: &H,
     host: &Host<L>,
@@ -100,7 +102,7 @@ fn send_all<L: Tapes, H: Wait, P: Port>(
     (count, port.send(OTHER, b"a packet of nobody") == Ok(true))
 }
 
-// Settles after each of 20 times 2,000 ticks, more than a ring holds. Returns how many ticks were answered.
+// Makes the node tick 40,000 times, more often than its ring has places, and settles after each 2,000. Returns how many ticks were answered.
 fn tick_long<R: RecordName, L: Tapes, H: Wait>(
     rt: &H,
     host: &Host<L>,
@@ -119,7 +121,7 @@ fn tick_long<R: RecordName, L: Tapes, H: Wait>(
     count
 }
 
-// Records a node: what came of it, how many ticks were answered, and the recorder and the pen.
+// Records a node. Returns what was tried, how many ticks were answered, and the recorder and the pen.
 fn record_node<'a, R: RecordName, L: Tapes, H: Wait>(
     rt: &H,
     alloc: Global,
@@ -154,7 +156,7 @@ fn record_node<'a, R: RecordName, L: Tapes, H: Wait>(
     ((count, is_strange, is_well), ticks, recorder, pen)
 }
 
-// What came of a record: what was tried, how many ticks were answered, and whether it is whole.
+// What was tried of a record, how many ticks were answered, and whether it is whole.
 type Ended = (Tried, u32, bool);
 
 // Records node 1 of a host, ends the host, and ends the record where it could be written.
@@ -213,7 +215,7 @@ fn tried<H: Wait>(
     run::<Brand, H>(rt, alloc, plan(), pen, is_long, pasts)
 }
 
-// How many entries a whole record has; None where the text is none.
+// Returns how many entries a whole record has. `None` if the text is none.
 fn entries_of(alloc: Global, desk: &Desk) -> Option<usize> {
     match desk.text.try_borrow_mut() {
         Ok(text) => {

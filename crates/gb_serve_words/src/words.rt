@@ -139,14 +139,14 @@ fn plan_of(matches: &ArgMatches<'_>) -> Option<ServePlan>
     })
 }
 
-// Whether a plan's records can be kept, if it wants some: without tapes, and in a folder.
+// Returns false if a plan wants records beside tapes or without a folder.
 fn may_record(plan: &ServePlan, dir: Option<&str>) -> bool
     ensures { result ≡ may_record plan.now.records plan.now.tape (is_some dir) }
 {
     !plan.records || !plan.tape && dir.is_some()
 }
 
-// Returns what words name and tell that `clap` took; `None` where they are no plan, or want records beside tapes or without a folder.
+// Returns what words name and tell that `clap` took. `None` if they are no plan, or want records beside tapes or without a folder.
 fn words_of<'a>(matches: &ArgMatches<'a>) -> Option<ServeWords<'a>>
     requires { IsGiven (rows_of (found_of matches.now)) }
     ensures read { IfSome result (IsReadOf (rows_of (found_of matches.now))) }
@@ -204,7 +204,7 @@ fn plan_refusal(alloc: Global, matches: &ArgMatches<'_>) -> Result<String, Alloc
     status_refusal(alloc, matches)
 }
 
-// Why records cannot be kept; nothing where they can.
+// Returns why records cannot be kept. It is empty if they can.
 fn record_refusal(alloc: Global, matches: &ArgMatches<'_>) -> Result<String, AllocError> {
     if matches.get_flag("tape") {
         return format!(in alloc;

@@ -105,7 +105,7 @@ fn audit_words(fault: AuditFault) -> &'static [u8]
     }
 }
 
-// What became of a record.
+// Returns what became of a record.
 fn record_words(trouble: RecordTrouble) -> &'static [u8]
     ensures { result.now ≡ record_words trouble }
 {

@@ -105,9 +105,9 @@ fn make<F: Files<File = File>>(files: &F, name: &str) -> Result<File, RecordTrou
     }
 }
 
-// What the first line of a node's record says.
+// Returns what the first line of a node's record says.
 fn head_of(plan: &HostPlan, node: NodeId) -> RecordHead
-    ensures { result ≡ record { node = node; nodes = plan.now.cluster.nodes; silence = plan.now.cluster.silence; places = plan.now.cluster.places; version = version_at plan.now.cluster.versions node.number } }
+    ensures { result ≡ record { node = node; nodes = plan.now.cluster.nodes; silence = plan.now.cluster.silence; places = plan.now.cluster.places; version = version_at plan.now.cluster.versions node.number; room = plan.now.cluster.room } }
 {
     RecordHead {
         node,
@@ -115,6 +115,7 @@ fn head_of(plan: &HostPlan, node: NodeId) -> RecordHead
         silence: plan.cluster.silence,
         places: plan.cluster.places,
         version: plan.cluster.bounds().version_of(node),
+        room: plan.cluster.room,
     }
 }
 

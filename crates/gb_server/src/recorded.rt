@@ -50,7 +50,7 @@ impl<R: RecordName, L: Tapes, W: Write> Settle for Settling<'_, R, L, W> {
     }
 }
 
-// Returns a recorder that has taken nothing with the file of its node's record. None: it is another node's, or there is none.
+// Returns a recorder that has taken nothing with the file of its node's record. `None` if there is no file, or it is another node's.
 fn log_of<L: Tapes>(recorder: Recorder<L>, file: Option<RecordFile>) -> Option<NodeLog<L>>
     requires { (recorder.entries ≡ []) × (recorder.is_whole ≡ false) }
 {
@@ -85,7 +85,7 @@ pub fn logs_of<L: Tapes>(
     Ok(logs)
 }
 
-/// Takes the one of a node out of these.
+/// Takes the log of a node out of a list. `None` if none is there.
 pub fn take_log<L: Tapes>(logs: &mut Vec<NodeLog<L>>, node: NodeId) -> Option<NodeLog<L>> {
     let at = logs.iter().position(|log| log.file.node == node)?;
     Some(logs.swap_remove(at))

@@ -194,7 +194,7 @@ fn serve_host<
     end(alloc, host, seats)
 }
 
-// Where the records of a run are kept, if they are.
+// Returns where the records of a run are kept. `None` if none are wanted.
 fn place_of<'a>(words: &ServeWords<'a>, run: u64) -> Option<RecordPlace<'a>> {
     if !words.plan.records {
         return None;

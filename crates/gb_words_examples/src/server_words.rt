@@ -306,7 +306,7 @@ static RECORDS: [(&str, bool, bool, &str); 4] = [
     ),
 ];
 
-// Whether the words of a line say so of records.
+// Returns true if the words of a line say this of records.
 fn is_recorded(alloc: Global, line: &str, records: bool, sync: bool, dir: &str) -> bool {
     let Ok(words) = words_of(alloc, line) else {
         return false;
