@@ -7,14 +7,16 @@ use clap::{Arg, ArgAction, Command};
 use gb_audit_run::audit::{Source, audit};
 use gb_audit_run::cluster::ClusterKeys;
 use gb_audit_run::verdict::status_of;
-use gb_server::keys::read_keys;
+use gb_server::keys::{read_keys, run_key};
 use gb_version::VERSION;
 use std::alloc::{AllocError, AllocFailed, Global};
 use std::io::Write;
 use std::process::ExitCode;
 use std::{fs, io};
 
-static AFTER: &str = "Standard input gives the keys of the cluster, as for gb_serve.\n\n\
+static AFTER: &str =
+    "Standard input gives the keys of the cluster, as for gb_serve. The records that gb_serve and gb_peer write are of a run: R of their \
+names, run-R-node-I.record, is the number of --run. Without it the cluster's key is taken for that of the packets.\n\n\
 Exit status: 0 when all records are one run of the cluster, 3 when that holds of their first entries alone, 1 when they are not what nodes of \
 one cluster did, 2 for words that are refused, 4 when a file could not be read, a line not be written, or memory was refused.";
 
@@ -52,13 +54,21 @@ fn command<'a>(alloc: Global) -> Result<Command<'a>, AllocError> {
         .num_args(1..)
         .required(true)
         .help("a record of each node, in any order");
+    let run = Arg::new(alloc, "run")
+        .long("run")
+        .action(ArgAction::Set)
+        .value_name("R")
+        .help(
+            "the number of the run, 0 to 2^64 - 1, under whose key the nodes tagged their packets",
+        );
     Command::new(alloc, "gb_audit")
         .about(
             "Audits the records of a cluster's nodes: whether what they did is one run of the cluster",
         )
         .version(VERSION)
         .after_help(AFTER)
-        .arg(files)
+        .arg(files)?
+        .arg(run)
 }
 
 // Writes a text and sees that it is written.
@@ -69,15 +79,19 @@ fn print(rt: &HostRuntime, text: &[u8]) -> Result<(), Trouble> {
     Ok(())
 }
 
-// Audits the records in these files. Returns the exit status.
-fn audit_files(rt: &HostRuntime, names: &[&str]) -> Result<u8, Trouble> {
+// Audits the records in these files, of a run if its number is given. Returns the exit status.
+fn audit_files(rt: &HostRuntime, names: &[&str], run: Option<u64>) -> Result<u8, Trouble> {
     let alloc = rt.alloc();
     let Ok(keys) = read_keys(&mut rt.reader()) else {
         print(rt, b"bad keys\n")?;
         return Ok(1);
     };
+    let cluster = match run {
+        Some(run) => run_key(&keys.cluster, run),
+        None => keys.cluster,
+    };
     let keys = ClusterKeys {
-        cluster: keys.cluster,
+        cluster,
         admin: keys.admin,
     };
     let mut texts: Vec<Vec<u8>> = Vec::new(alloc);
@@ -120,7 +134,19 @@ fn run(rt: &HostRuntime) -> Result<u8, Trouble> {
         }
     };
     let names = matches.get_raw("FILE").unwrap_or(&[]);
-    audit_files(rt, names)
+    let run = match matches.get_str("run") {
+        Some(word) => match word.parse::<u64>() {
+            Ok(run) => Some(run),
+            Err(_) => {
+                let _ = rt.stderr().write_all(
+                    b"gb_audit: the number of the run is 0 to 18446744073709551615\n",
+                );
+                return Ok(2);
+            }
+        },
+        None => None,
+    };
+    audit_files(rt, names, run)
 }
 
 fn main(rt: HostRuntime) -> ExitCode {

@@ -5,6 +5,7 @@ use crate::hint::Hint;
 use crate::links::Link;
 use crate::mail::Arrival;
 use crate::node_loop::NodeLoop;
+use crate::settle::Settle;
 use gb_host::names::Tapes;
 use gb_node::answer::{Frame, Good};
 use gb_node::event::NodeEvent;
@@ -21,7 +22,7 @@ pub const FRAMES: usize = 64;
 
 const _: () = prove!(FRAMES == 64 && PACKETS == 64);
 
-impl<'a, L: Tapes, H: Wait + Clock, P: Port> NodeLoop<'a, L, H, P> {
+impl<'a, L: Tapes, H: Wait + Clock, P: Port, S: Settle> NodeLoop<'a, L, H, P, S> {
     // Returns the node with this number, if it is another one.
     fn other(&self, number: u8) -> Option<NodeId> {
         if number == self.mail.origin.node.number || usize::from(number) >= NODES {

@@ -8,6 +8,7 @@ use crate::links::Link;
 use crate::mail::{Mail, Parts};
 use crate::options::LoopOptions;
 use crate::parked::Parked;
+use crate::settle::Settle;
 use gb_host::host::Host;
 use gb_host::names::Tapes;
 use gb_host::seat::Seat;
@@ -66,8 +67,9 @@ pub trait Ending {
 }
 
 /// A node's loop: its sockets, its clients and its links.
-pub struct NodeLoop<'a, L: Tapes, H, P: Port> {
+pub struct NodeLoop<'a, L: Tapes, H, P: Port, S> {
     pub(crate) rt: &'a H,
+    pub(crate) settle: &'a S,
     pub(crate) alloc: Global,
     pub(crate) mail: Mail<'a, L, H, P>,
     pub(crate) nodes: u8,
@@ -116,16 +118,17 @@ pub struct LoopSockets {
     pub listener: TcpListener,
 }
 
-impl<'a, L: Tapes, H: Wait + Clock, P: Port> NodeLoop<'a, L, H, P> {
+impl<'a, L: Tapes, H: Wait + Clock, P: Port, S: Settle> NodeLoop<'a, L, H, P, S> {
     // A loop that has not begun. Without memory the node's parts are given back.
     fn new(
         rt: &'a H,
+        settle: &'a S,
         alloc: Global,
         mail: Mail<'a, L, H, P>,
         nodes: u8,
         options: LoopOptions,
         listener: TcpListener,
-    ) -> Result<NodeLoop<'a, L, H, P>, Mail<'a, L, H, P>>
+    ) -> Result<NodeLoop<'a, L, H, P, S>, Mail<'a, L, H, P>>
         ensures made { IfOk result (λ made. made.mail.origin ≡ mail.entry.origin) }
         ensures back { IfErr result (λ back. back.origin ≡ mail.entry.origin) }
     {
@@ -137,6 +140,7 @@ impl<'a, L: Tapes, H: Wait + Clock, P: Port> NodeLoop<'a, L, H, P> {
         };
         Ok(NodeLoop {
             rt,
+            settle,
             alloc,
             mail,
             nodes,
@@ -240,6 +244,7 @@ impl<'a, L: Tapes, H: Wait + Clock, P: Port> NodeLoop<'a, L, H, P> {
         self.now = self.clock.now(self.rt);
         self.hear_all(events);
         self.work(poll);
+        let _ = self.settle.settle();
         if self.mail.ends.load(Ordering::SeqCst) {
             ending.asked();
         }
@@ -279,6 +284,7 @@ impl<'a, L: Tapes, H: Wait + Clock, P: Port> NodeLoop<'a, L, H, P> {
             self.round(&mut poll, &mut events, ending);
         }
         self.finish();
+        let _ = self.settle.settle();
         self.mail.set(Figure::Running, 0);
         self.publish(ending);
     }
@@ -291,6 +297,7 @@ impl<'a, L: Tapes, H: Wait + Clock, P: Port> NodeLoop<'a, L, H, P> {
     {
         let NodeLoop {
             rt: _,
+            settle: _,
             alloc: _,
             mail,
             nodes: _,
@@ -324,8 +331,8 @@ impl<'a, L: Tapes, H: Wait + Clock, P: Port> NodeLoop<'a, L, H, P> {
 
 /// Runs the loop of a node until its end is told: carries the packets of its port, answers the clients of its listener, and makes
 /// its time tick. Gives node, seat and port back. Each call of the seat is one at the node; what travelled at the port is what
-/// these calls say.
-pub fn run_loop<L: Tapes, H: Wait + Clock, N: Net, P: Port, E: Ending>(
+/// these calls say. What happened is settled before a reply is written, after the turn of each client, and once a round.
+pub fn run_loop<L: Tapes, H: Wait + Clock, N: Net, P: Port, S: Settle, E: Ending>(
     rt: &H,
     net: &N,
     alloc: Global,
@@ -335,6 +342,7 @@ pub fn run_loop<L: Tapes, H: Wait + Clock, N: Net, P: Port, E: Ending>(
     port: P,
     sockets: LoopSockets,
     options: LoopOptions,
+    settle: &S,
     ending: &E,
 ) -> Parts<L, P>
     ensures node { result.node ≡ node }
@@ -344,7 +352,7 @@ pub fn run_loop<L: Tapes, H: Wait + Clock, N: Net, P: Port, E: Ending>(
     let LoopSockets { fd, listener } = sockets;
     let nodes = host.plan().cluster.nodes;
     let mail = Mail::new(rt, host, alloc, node, seat, port);
-    match NodeLoop::new(rt, alloc, mail, nodes, options, listener) {
+    match NodeLoop::new(rt, settle, alloc, mail, nodes, options, listener) {
         Ok(made) => {
             let mut node_loop = made;
             node_loop.run(net, fd, ending);

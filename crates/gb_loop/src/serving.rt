@@ -4,6 +4,7 @@ ghost use Rattle.std.specs.Prelude.{◌≡◌};
 use crate::client::{Turn, Way};
 use crate::connection::Connection;
 use crate::node_loop::NodeLoop;
+use crate::settle::{Settle, SettledFirst};
 use gb_host::names::Tapes;
 use gb_node::answer::{NodeAnswer, Ticked};
 use gb_node::event::NodeEvent;
@@ -96,7 +97,7 @@ fn groups_of(alloc: Global, awaited: &Awaited) -> Option<Vec<Addr>> {
     Some(groups)
 }
 
-impl<'a, L: Tapes, H: Wait + Clock, P: Port> NodeLoop<'a, L, H, P> {
+impl<'a, L: Tapes, H: Wait + Clock, P: Port, S: Settle> NodeLoop<'a, L, H, P, S> {
     // Lists a connection to be looked at in this round.
     pub(crate) fn list(&mut self, key: usize)
         ensures origin { self.new.mail.origin ≡ self.old.mail.origin }
@@ -186,7 +187,7 @@ impl<'a, L: Tapes, H: Wait + Clock, P: Port> NodeLoop<'a, L, H, P> {
         }
     }
 
-    // Makes a turn of a connection. Returns None if there is no such connection.
+    // Makes a turn of a connection, and settles what happened in it. Returns None if there is no such connection.
     fn turn(&mut self, key: usize, way: Way) -> Option<Turn>
         ensures origin { self.new.mail.origin ≡ self.old.mail.origin }
     {
@@ -196,10 +197,12 @@ impl<'a, L: Tapes, H: Wait + Clock, P: Port> NodeLoop<'a, L, H, P> {
             connections,
             space,
             out,
+            settle,
             ..
         } = self;
         let connection = connections.get_mut(key)?;
-        let (mut reader, mut writer) = (&connection.stream, &connection.stream);
+        let mut reader = &connection.stream;
+        let mut writer = SettledFirst::new(*settle, &connection.stream);
         let turn = connection.client.turn(
             *alloc,
             mail,
@@ -209,6 +212,7 @@ impl<'a, L: Tapes, H: Wait + Clock, P: Port> NodeLoop<'a, L, H, P> {
             space.as_mut_slice(),
             out,
         );
+        let _ = settle.settle();
         Some(turn)
     }
 

@@ -13,6 +13,7 @@ use gb_types::node::NodeId;
 use gb_types::number::read_number;
 use gb_types::words::split_words;
 use std::alloc::Global;
+use std::fs::{File, Files};
 use std::io::{Read, Write};
 use std::net::{Ipv4Addr, Net, SocketAddr, SocketAddrV4, TcpListener, TcpStream};
 use std::sync::Wait;
@@ -47,12 +48,14 @@ static STATUS: &[u8] = b"status 674e623760cac750ae766b788c59c762f116bab90bcfb901
 static STOP: &[u8] = b"stop 674e623760cac750ae766b788c59c762f116bab90bcfb901f9c20ac06448c55d";
 
 /// Returns true if a server with these words serves, and ends well with these lines.
-pub fn serves<H: Net<Listener = TcpListener, Stream = TcpStream> + Threads + Wait + Clock + Sync>(
-    rt: &H,
-    alloc: Global,
-    words: &[&str],
-    lines: &[u8],
-) -> bool {
+pub fn serves<
+    H: Net<Listener = TcpListener, Stream = TcpStream>
+        + Threads
+        + Wait
+        + Clock
+        + Sync
+        + Files<File = File>,
+>(rt: &H, alloc: Global, words: &[&str], lines: &[u8]) -> bool {
     let mut reader = KEYS;
     let mut found = Vec::new(alloc);
     let mut errors = Vec::new(alloc);

@@ -14,6 +14,7 @@ use gb_host::seat::Seat;
 use gb_loop::mail::Parts;
 use gb_loop::node_loop::{Ending, LoopSockets, run_loop};
 use gb_loop::options::LoopOptions;
+use gb_loop::settle::Unsettled;
 use gb_port::udp::UdpPort;
 use gb_status::figure::Figure;
 use gb_status::figures::Figures;
@@ -213,7 +214,7 @@ fn run_host<
     let seat = seats.pop()?;
     let options = options_of(alone);
     let Parts { seat, .. } = run_loop(
-        rt, net, alloc, &host, seat, ME, port, sockets, options, ending,
+        rt, net, alloc, &host, seat, ME, port, sockets, options, &Unsettled, ending,
     );
     seats.push(seat).ok()?;
     Some(close(host, seats).is_ok())

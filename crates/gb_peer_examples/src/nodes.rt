@@ -3,7 +3,7 @@ use crate::folders::{file, folder};
 use crate::refusals::{Run, run_of};
 use std::alloc::{AllocGlobal, Global};
 use std::fs;
-use std::fs::Files;
+use std::fs::{File, Files};
 use std::net::{Net, TcpListener, TcpStream};
 use std::rt::HostRuntime;
 use std::sync::Wait;
@@ -25,7 +25,7 @@ fn run_node<
         + Wait
         + Clock
         + Sync
-        + Files
+        + Files<File = File>
         + AllocGlobal,
 >(rt: &H, alloc: Global, name: &str, dir: &str, node: &str) -> Run {
     let words = ["gb_peer", "--cluster", name, "--node", node, "--dir", dir];

@@ -3,7 +3,7 @@ use crate::folders::{file, folder};
 use gb_peer_run::peer_main::peer_main;
 use std::alloc::{AllocGlobal, Global};
 use std::fs;
-use std::fs::Files;
+use std::fs::{File, Files};
 use std::net::{Net, TcpListener, TcpStream};
 use std::rt::HostRuntime;
 use std::sync::Wait;
@@ -29,7 +29,7 @@ pub fn run_of<
         + Wait
         + Clock
         + Sync
-        + Files
+        + Files<File = File>
         + AllocGlobal,
 >(rt: &H, alloc: Global, words: &[&str], input: &[u8]) -> Run {
     let mut reader = input;
@@ -50,7 +50,7 @@ fn run_in<
         + Wait
         + Clock
         + Sync
-        + Files
+        + Files<File = File>
         + AllocGlobal,
 >(rt: &H, alloc: Global, dir: &str, text: &[u8], node: &str) -> Option<Run> {
     let name = file(rt, alloc, dir, text)?;

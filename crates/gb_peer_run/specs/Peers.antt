@@ -1,5 +1,5 @@
 -- The host and the loop of a node of a cluster.
-use Rattle.std.specs.Prelude.{◌≡◌, ℕ, ◌*◌, ◌-◌, ◌^◌, ◌==◌, if◌then◌else◌, false, length, replicate}
+use Rattle.std.specs.Prelude.{◌≡◌, ℕ, ◌*◌, ◌-◌, ◌^◌, ◌==◌, if◌then◌else◌, Bool, false, length, replicate}
 use Rattle.gb_types.specs.declared.limits.TheConstants.{NODES}
 use Rattle.gb_cluster_file.specs.declared.file.ClusterFile.{ClusterFile}
 use Rattle.gb_host.specs.declared.plan.HostPlan.{HostPlan}
@@ -10,12 +10,13 @@ use Rattle.gb_server.specs.Keys.{run_key}
 use Rattle.gb_server.specs.Told.{places}
 use Rattle.gb_server.specs.declared.keys.Keys.{Keys}
 
--- the host of nodes of a cluster, with keys; each node sends the version of the file, and packets are tagged under the key of the run
-abbrev pub host_of : ClusterFile → Keys → HostPlan
-host_of file keys = record {
+-- the host of nodes of a cluster, with keys; each node sends the version of the file, and packets are tagged under the key of the run; what
+-- happens goes through rings where records are wanted
+abbrev pub host_of : ClusterFile → Keys → Bool → HostPlan
+host_of file keys records = record {
   cluster = record { nodes = length file.nodes.items; versions = replicate NODES file.version; silence = file.silence; places = places; room = file.room; cluster_key = run_key keys.cluster file.run; admin_key = keys.admin };
   tape = false;
-  ring = false;
+  ring = records;
 }
 
 -- what file and words tell of the loop, in microseconds, with a limit of connections; the ticks wait for the other nodes

@@ -25,10 +25,10 @@ pub fn node_count(file: &ClusterFile) -> u8
 }
 
 /// Returns the plan of a host of nodes of a cluster, with its keys. Each node sends the version of the file, and packets are tagged under
-/// the key of the run.
-pub fn host_plan(file: &ClusterFile, keys: Keys) -> HostPlan
+/// the key of the run. What happens goes through rings where records are wanted.
+pub fn host_plan(file: &ClusterFile, keys: Keys, records: bool) -> HostPlan
     requires { IsWithin file.now }
-    ensures is { result ≡ host_of file.now keys }
+    ensures is { result ≡ host_of file.now keys records }
     ensures limits { IsPlan result }
 {
     let cluster = Plan {
@@ -43,7 +43,7 @@ pub fn host_plan(file: &ClusterFile, keys: Keys) -> HostPlan
     HostPlan {
         cluster,
         tape: false,
-        ring: false,
+        ring: records,
     }
 }
 

@@ -28,10 +28,14 @@ use gb_host::plan::HostPlan;
 use gb_loop::options::LoopOptions;
 use gb_peer_words::plan::{PeerPlan, PeerWords};
 use gb_peer_words::words::read_words;
+use gb_server::crew::Held;
 use gb_server::descriptors::{connections_of, descriptor_limit};
+use gb_server::ending::end_recorded;
 use gb_server::fault::ServeFault;
 use gb_server::input::Input;
 use gb_server::keys::{Keys, read_keys};
+use gb_server::record_file::{RecordFile, RecordPlace, open_records};
+use gb_server::recorded::logs_of;
 use gb_server::run::{Given, Service, run};
 use gb_server::server_log::put_address;
 use gb_server::sockets::{Sockets, open_status};
@@ -40,7 +44,7 @@ use gb_types::node::NodeId;
 use gb_types::number::put_number;
 use gb_version::VERSION;
 use std::alloc::{AllocGlobal, Global};
-use std::fs::Files;
+use std::fs::{File, Files};
 use std::io::Write;
 use std::marker::Brand;
 use std::net::{Net, SocketAddr, TcpListener, TcpStream};
@@ -174,6 +178,7 @@ fn serve_host<
     service: &Service,
     options: LoopOptions,
     sockets: Sockets,
+    files: Vec<RecordFile>,
     listener: Option<TcpListener>,
     reader: &mut R,
     writer: &mut W,
@@ -189,10 +194,11 @@ fn serve_host<
     ensures read { OnOk result ((bytes : List ℕ) × Consumes (R.remaining reader.old) (R.remaining reader.new) bytes) }
     ensures fault { IfErr result (λ fault. fault_status fault ≡ 1) }
 {
-    let (host, seats, _) = match Host::<L>::open(alloc, plan, only(me), 1, pasts) {
+    let (host, seats, recorders) = match Host::<L>::open(alloc, plan, only(me), 1, pasts) {
         Ok(opened) => opened,
         Err(fault) => return Err(PeerFault::Serve(ServeFault::from(fault))),
     };
+    let logs = logs_of(alloc, &plan, host.here(), recorders, files)?;
     let mut all = Vec::new(alloc);
     let Ok(()) = all.push(sockets) else {
         return Err(PeerFault::from(OutOfMemory));
@@ -200,18 +206,54 @@ fn serve_host<
     let given = Given {
         seats,
         sockets: all,
+        logs,
     };
-    let seats = run(
+    let Held { seats, logs } = run(
         rt, alloc, &host, service, options, given, listener, reader, writer, errors,
     )?;
     drop(seats);
+    if plan.ring && !plan.tape {
+        return match end_recorded(rt, alloc, host, logs) {
+            Ok(_) => Ok(()),
+            Err(fault) => Err(PeerFault::Serve(fault)),
+        };
+    }
     drop(host);
     Ok(())
 }
 
+// Returns where the record of the node is kept. `None` if none is wanted.
+fn place_of<'a>(words: &PeerWords<'a>, run: u64) -> Option<RecordPlace<'a>> {
+    if !words.plan.records {
+        return None;
+    }
+    let (dir, syncs) = (words.dir, words.plan.sync);
+    Some(RecordPlace { dir, run, syncs })
+}
+
+// Makes the record of the node if one is wanted. Returns its file, or no file.
+fn open_files<F: Files<File = File>>(
+    files: &F,
+    alloc: Global,
+    words: &PeerWords<'_>,
+    run: u64,
+    plan: &HostPlan,
+    me: NodeId,
+) -> Result<Vec<RecordFile>, PeerFault> {
+    match open_records(files, alloc, place_of(words, run), plan, me, 1) {
+        Ok(records) => Ok(records),
+        Err(fault) => Err(PeerFault::Serve(ServeFault::from(fault))),
+    }
+}
+
 // Serves a node of a cluster whose places are known, with keys.
 fn serve_node<
-    H: Net<Listener = TcpListener, Stream = TcpStream> + Threads + Wait + Clock + Sync + Files,
+    H: Net<Listener = TcpListener, Stream = TcpStream>
+        + Threads
+        + Wait
+        + Clock
+        + Sync
+        + Files<File = File>,
     R: Input,
     W: Write,
     E: Write + Send,
@@ -251,28 +293,26 @@ fn serve_node<
         Err(fault) => return Err(PeerFault::Serve(ServeFault::from(fault))),
     };
     begin(rt, alloc, words.dir, file.run, me)?;
-    let connections = connections_of(u64::from(plan.connections), 1, descriptor_limit());
+    let host = host_plan(file, keys, plan.records);
+    let files = open_files(rt, alloc, words, file.run, &host, me)?;
+    let descriptors = descriptor_limit().saturating_sub(files.len() as u64);
+    let connections = connections_of(u64::from(plan.connections), 1, descriptors);
     let options = options_of(file, plan, connections);
     let pasts = new_pasts(alloc, node_count(file))?;
     serve_host::<Brand, H, R, W, E>(
-        rt,
-        alloc,
-        host_plan(file, keys),
-        me,
-        &service,
-        options,
-        sockets,
-        listener,
-        reader,
-        writer,
-        errors,
+        rt, alloc, host, me, &service, options, sockets, files, listener, reader, writer, errors,
         pasts,
     )
 }
 
 // Serves a node of the cluster of a file, with the keys that the reader has and what it has behind them.
 fn serve_file<
-    H: Net<Listener = TcpListener, Stream = TcpStream> + Threads + Wait + Clock + Sync + Files,
+    H: Net<Listener = TcpListener, Stream = TcpStream>
+        + Threads
+        + Wait
+        + Clock
+        + Sync
+        + Files<File = File>,
     R: Input,
     W: Write,
     E: Write + Send,
@@ -319,7 +359,7 @@ fn serve_words<
         + Wait
         + Clock
         + Sync
-        + Files
+        + Files<File = File>
         + AllocGlobal,
     R: Input,
     W: Write,
@@ -350,7 +390,7 @@ fn serve<
         + Wait
         + Clock
         + Sync
-        + Files
+        + Files<File = File>
         + AllocGlobal,
     R: Input,
     W: Write,
@@ -384,7 +424,7 @@ pub fn peer_main<
         + Wait
         + Clock
         + Sync
-        + Files
+        + Files<File = File>
         + AllocGlobal,
     R: Input,
     W: Write,

@@ -29,4 +29,6 @@ given_by c m p app =
       remote_sessions = flag_at peer_app has_own c m p app 8 r (omega arith) refl;
       stop_at_end = flag_at peer_app has_own c m p app 10 r (omega arith) refl;
       quiet = flag_at peer_app has_own c m p app 11 r (omega arith) refl;
+      records = flag_at peer_app has_own c m p app 12 r (omega arith) refl;
+      sync = flag_at peer_app has_own c m p app 13 r (omega arith) refl;
     }

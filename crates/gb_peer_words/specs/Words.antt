@@ -12,9 +12,9 @@ abbrev pub required_text : Text → Rule
 required_text name = record (text_rule name) { required = true; value_names = 1 }
 
 -- the command of gb_peer: --cluster, --node and --dir are required, --wait, --sessions, --connections, --idle, --session-requests,
--- --remote-sessions, --status, --stop-at-end and --quiet are not
+-- --remote-sessions, --status, --stop-at-end, --quiet, --record and --sync are not
 abbrev pub peer_app : App
-peer_app = with_rule (with_rule (with_rule (with_rule (with_rule (with_rule (with_rule (with_rule (with_rule (with_rule (with_rule (with_rule (new_app (codes "gb_peer"))
+peer_app = with_rule (with_rule (with_rule (with_rule (with_rule (with_rule (with_rule (with_rule (with_rule (with_rule (with_rule (with_rule (with_rule (with_rule (new_app (codes "gb_peer"))
     (required_text (codes "cluster")))
     (named_rule (codes "node") 0 LAST_NODE true))
     (required_text (codes "dir")))
@@ -26,7 +26,9 @@ peer_app = with_rule (with_rule (with_rule (with_rule (with_rule (with_rule (wit
     (flag_rule (codes "remote-sessions")))
     status_rule)
     (flag_rule (codes "stop-at-end")))
-    (flag_rule (codes "quiet"))
+    (flag_rule (codes "quiet")))
+    (flag_rule (codes "record")))
+    (flag_rule (codes "sync"))
 
 -- each field of the plan is what its option was given in these matches, or else what stands for an option that is left
 -- out; the node was given
@@ -41,6 +43,8 @@ pub record IsPlanOf (rows : List Row) (plan : PeerPlan) : Type 0 where
   pub stop_at_end : plan.stop_at_end ≡ is_set rows (codes "stop-at-end")
   pub status : IsAddressOf (one_of (codes "status") rows) plan.status
   pub quiet : plan.quiet ≡ is_set rows (codes "quiet")
+  pub records : plan.records ≡ is_set rows (codes "record")
+  pub sync : plan.sync ≡ is_set rows (codes "sync")
 
 -- the paths are the texts that were given for them, and the plan is that of these matches
 pub record IsReadOf (rows : List Row) (read : PeerWords) : Type 0 where
@@ -71,3 +75,5 @@ pub record IsGiven (rows : List Row) : Type 0 where
   pub remote_sessions : HasFlag (one_of (codes "remote-sessions") rows)
   pub stop_at_end : HasFlag (one_of (codes "stop-at-end") rows)
   pub quiet : HasFlag (one_of (codes "quiet") rows)
+  pub records : HasFlag (one_of (codes "record") rows)
+  pub sync : HasFlag (one_of (codes "sync") rows)

@@ -24,6 +24,10 @@ pub struct PeerPlan {
     pub status: Option<SocketAddr>,
     /// Whether no log is written.
     pub quiet: bool,
+    /// Whether what happens at the node is written to a file in the folder.
+    pub records: bool,
+    /// Whether what is written there is on the disk before anything leaves the node.
+    pub sync: bool,
 }
 
 /// What the words of a command line name, and what they tell the node to do.
@@ -31,7 +35,7 @@ pub struct PeerPlan {
 pub struct PeerWords<'a> {
     /// The path of the cluster file, as it was written.
     pub cluster: &'a str,
-    /// The path of the folder where the start of a node in a run leaves its mark, as it was written.
+    /// The path of the folder where the start of a node in a run leaves its mark, and where its record is kept, as it was written.
     pub dir: &'a str,
     pub plan: PeerPlan,
 }

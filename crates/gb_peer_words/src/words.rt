@@ -9,8 +9,8 @@ use clap::{ArgMatches, Command};
 use gb_serve_words::fault::WordFault;
 use gb_serve_words::options::{
     CONNECTIONS, connections_arg, fault_from, flag_arg, idle_arg, number_arg, quiet_arg,
-    requests_arg, sessions_arg, status_arg, status_of, status_refusal, stop_arg, text_arg,
-    text_asked,
+    record_arg, requests_arg, sessions_arg, status_arg, status_of, status_refusal, stop_arg,
+    sync_arg, text_arg, text_asked,
 };
 use gb_types::limits::NODES;
 use std::alloc::{AllocError, Global};
@@ -47,7 +47,7 @@ fn command<'a>(alloc: Global) -> Result<Command<'a>, AllocError>
         .help("the number of the node that is served; the first node of the cluster file is 0");
     let with_node = with_cluster.arg(node)?;
     let dir = text_arg(alloc, "dir").required(true).value_name("DIR").help(
-        "the folder where the start of a node in a run leaves its mark",
+        "the folder where the start of a node in a run leaves its mark, and where its record is kept",
     );
     let with_dir = with_node.arg(dir)?;
     let wait = number_arg(alloc, "wait", 0, MOST_WAIT)
@@ -66,7 +66,9 @@ fn command<'a>(alloc: Global) -> Result<Command<'a>, AllocError>
     let with_remote = with_requests.arg(remote_sessions)?;
     let with_status = with_remote.arg(status_arg(alloc))?;
     let with_stop = with_status.arg(stop_arg(alloc))?;
-    with_stop.arg(quiet_arg(alloc))
+    let with_quiet = with_stop.arg(quiet_arg(alloc))?;
+    let with_record = with_quiet.arg(record_arg(alloc))?;
+    with_record.arg(sync_arg(alloc))
 }
 
 /// What the help says behind the options.
@@ -96,6 +98,8 @@ fn plan_of(matches: &ArgMatches<'_>, status: Option<SocketAddr>) -> PeerPlan
     let remote_sessions = matches.get_flag("remote-sessions");
     let stop_at_end = matches.get_flag("stop-at-end");
     let quiet = matches.get_flag("quiet");
+    let records = matches.get_flag("record");
+    let sync = matches.get_flag("sync");
     PeerPlan {
         node,
         wait: wait.unwrap_or(WAIT),
@@ -107,6 +111,8 @@ fn plan_of(matches: &ArgMatches<'_>, status: Option<SocketAddr>) -> PeerPlan
         stop_at_end,
         status,
         quiet,
+        records,
+        sync,
     }
 }
 

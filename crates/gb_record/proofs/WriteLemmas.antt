@@ -99,3 +99,13 @@ among_more old new before after log noted kept all among w bytes h =
 
 pub among_none : (es log : List TapeEntry) → es ≡ [] → (bytes : List ℕ) → is_sent bytes es ≡ true → is_sent bytes log ≡ true
 among_none es log none bytes h = absurd (true≢false (sym h ∙ ap (is_sent bytes) none))
+
+pub is_recorded_rest : (old new : RecorderValue) (before after : Option (List ℕ)) (text text' : List ℕ) (kept all : List TapeEntry) → text ≡ [] → IsGathered old new text text' kept all → Appends before after text' → IsRecorded old new before after
+is_recorded_rest old new before after text text' kept all none g written = record {
+  entries = g.entries;
+  lines = g.lines;
+  node = g.node;
+  taken = g.taken;
+  are = g.are;
+  written = subst (Appends before after) (g.put ∙ ap (λ t. t ++ g.lines) none) written;
+}

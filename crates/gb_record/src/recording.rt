@@ -80,6 +80,22 @@ fn write_text<W: Write>(writer: &mut W, text: &[u8]) -> Result<(), WriteFault>
     Ok(())
 }
 
+/// Writes what a recorder has whose recording was given up, at most as much as its ring holds, and the end, by one call of the writer, and
+/// flushes it.
+#[tactic(auto, using(crate::proofs::WriteLemmas::is_recorded_rest))]
+pub fn write_rest<L: Tapes, W: Write>(
+    alloc: Global,
+    recorder: &mut Recorder<L>,
+    writer: &mut W,
+) -> Result<(), WriteFault>
+    ensures { OnOk result (IsRecorded recorder.old recorder.new (W.contents writer.old) (W.contents writer.new)) }
+{
+    let mut lines = Vec::new(alloc);
+    let mut entries = Vec::new(alloc);
+    gather(recorder, &mut lines, &mut entries)?;
+    write_text(writer, &lines)
+}
+
 // Notes entries as written.
 fn note(written: &mut NodePast, entries: &[TapeEntry])
     ensures book { written.new.book ≡ written.old.book }

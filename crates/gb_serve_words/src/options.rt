@@ -136,6 +136,26 @@ pub fn quiet_arg<'a>(alloc: Global) -> Arg<'a>
     flag_arg(alloc, "quiet").help("write no log to standard error")
 }
 
+/// Returns the option `--record`.
+pub fn record_arg<'a>(alloc: Global) -> Arg<'a>
+    ensures rule { rule_of result ≡ flag_rule (codes "record") }
+    ensures local { result.global ≡ false }
+{
+    flag_arg(alloc, "record").help(
+        "write down what happens at a node before anything leaves it that it led to: a file for each node in the folder of --dir",
+    )
+}
+
+/// Returns the option `--sync`.
+pub fn sync_arg<'a>(alloc: Global) -> Arg<'a>
+    ensures rule { rule_of result ≡ flag_rule (codes "sync") }
+    ensures local { result.global ≡ false }
+{
+    flag_arg(alloc, "sync").help(
+        "with --record: what is written is on the disk before anything leaves the node, as a power cut needs",
+    )
+}
+
 /// Returns the address that is given for the status, if one is given. `None` if its text is no address.
 pub fn status_of(matches: &ArgMatches<'_>) -> Option<Option<SocketAddr>>
     ensures read { IfSome result (IsAddressOf (one_of (codes "status") (rows_of (found_of matches.now)))) }

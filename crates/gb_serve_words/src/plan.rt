@@ -31,4 +31,16 @@ pub struct ServePlan {
     pub status: Option<SocketAddr>,
     /// True: no log is written.
     pub quiet: bool,
+    /// Whether what happens at each node is written to a file. Then no tapes are kept, and the words name a folder.
+    pub records: bool,
+    /// Whether what is written there is on the disk before anything leaves the node.
+    pub sync: bool,
+}
+
+/// What the words of a command line name, and what they tell a server to do.
+#[derive(Clone, Copy)]
+pub struct ServeWords<'a> {
+    /// The path of the folder for the records, as it was written, if it was.
+    pub dir: Option<&'a str>,
+    pub plan: ServePlan,
 }

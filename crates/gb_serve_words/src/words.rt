@@ -1,14 +1,15 @@
 //! The words of the server's command line.
-ghost use Rattle.std.specs.Prelude.{◌≡◌, ◌≢◌, ◌⊎◌, IfOk, IfSome, IfNone, None, map, [], true};
+ghost use Rattle.std.specs.Prelude.{◌≡◌, ◌≢◌, ◌⊎◌, IfOk, IfSome, IfNone, None, map, [], true, is_some};
 ghost use Rattle.clap.specs.Words.{app_of, found_of, matches_of, rows_of, takes, fault_of};
-ghost use Rattle.gb_serve_words.specs.Words.{serve_app, IsGiven, IsPlanOf, IsWithin, CanServe};
+ghost use Rattle.gb_serve_words.specs.Words.{serve_app, may_record, IsGiven, IsPlanOf, IsReadOf, IsWithin, CanServe};
 
 use crate::fault::WordFault;
 use crate::options::{
     CONNECTIONS, HINT, connections_arg, fault_from, flag_arg, idle_arg, number_arg, quiet_arg,
-    requests_arg, sessions_arg, status_arg, status_of, status_refusal, stop_arg, text_asked,
+    record_arg, requests_arg, sessions_arg, status_arg, status_of, status_refusal, stop_arg,
+    sync_arg, text_arg, text_asked,
 };
-use crate::plan::ServePlan;
+use crate::plan::{ServePlan, ServeWords};
 use clap::{ArgMatches, Command};
 use gb_types::limits::NODES;
 use gb_types::version::Version;
@@ -72,7 +73,13 @@ fn command<'a>(alloc: Global) -> Result<Command<'a>, AllocError>
     let with_tape = with_requests.arg(tape)?;
     let with_stop = with_tape.arg(stop_arg(alloc))?;
     let with_status = with_stop.arg(status_arg(alloc))?;
-    with_status.arg(quiet_arg(alloc))
+    let with_quiet = with_status.arg(quiet_arg(alloc))?;
+    let dir = text_arg(alloc, "dir")
+        .value_name("DIR")
+        .help("the folder for the records of --record");
+    let with_dir = with_quiet.arg(dir)?;
+    let with_record = with_dir.arg(record_arg(alloc))?;
+    with_record.arg(sync_arg(alloc))
 }
 
 /// The text of the help behind the options.
@@ -106,6 +113,8 @@ fn plan_of(matches: &ArgMatches<'_>) -> Option<ServePlan>
     let tape = matches.get_flag("tape");
     let stop_at_end = matches.get_flag("stop-at-end");
     let quiet = matches.get_flag("quiet");
+    let records = matches.get_flag("record");
+    let sync = matches.get_flag("sync");
     let version = Version::from_byte(byte.unwrap_or(VERSION))?;
     if nodes > version.limits().nodes {
         return None;
@@ -125,14 +134,39 @@ fn plan_of(matches: &ArgMatches<'_>) -> Option<ServePlan>
         stop_at_end,
         status,
         quiet,
+        records,
+        sync,
     })
 }
 
-/// Returns what the words of a command line tell a server to do. The first word is the program's name. `Refused`: `clap` refuses
-/// the words, their version does not exist or cannot name their number of nodes, or their text for the status is no address.
-pub fn read_words<'a>(alloc: Global, words: &'a [&'a str]) -> Result<ServePlan, WordFault>
-    ensures given { IfOk result (λ plan. IsPlanOf (matches_of serve_app (map (λ word. word.now) words.entry.now)) plan) }
-    ensures within { IfOk result (λ plan. IsWithin plan) }
+// Returns false if a plan wants records beside tapes or without a folder.
+fn may_record(plan: &ServePlan, dir: Option<&str>) -> bool
+    ensures { result ≡ may_record plan.now.records plan.now.tape (is_some dir) }
+{
+    !plan.records || !plan.tape && dir.is_some()
+}
+
+// Returns what words name and tell that `clap` took. `None` if they are no plan, or want records beside tapes or without a folder.
+fn words_of<'a>(matches: &ArgMatches<'a>) -> Option<ServeWords<'a>>
+    requires { IsGiven (rows_of (found_of matches.now)) }
+    ensures read { IfSome result (IsReadOf (rows_of (found_of matches.now))) }
+    ensures within { IfSome result (λ read. IsWithin read.plan) }
+    ensures none { IfNone result (CanServe (rows_of (found_of matches.now)) → ⊥) }
+{
+    let plan = plan_of(matches)?;
+    let dir = matches.get_str("dir");
+    if !may_record(&plan, dir) {
+        return None;
+    }
+    Some(ServeWords { dir, plan })
+}
+
+/// Returns what the words of a command line name and tell a server to do. The first word is the program's name. `Refused`: `clap` refuses
+/// the words, their version does not exist or cannot name their number of nodes, their text for the status is no address, or they want records
+/// beside tapes or without a folder.
+pub fn read_words<'a>(alloc: Global, words: &'a [&'a str]) -> Result<ServeWords<'a>, WordFault>
+    ensures given { IfOk result (λ read. IsReadOf (matches_of serve_app (map (λ word. word.now) words.entry.now)) read) }
+    ensures within { IfOk result (λ read. IsWithin read.plan) }
     ensures accepted { IfOk result (λ _. fault_of serve_app (map (λ word. word.now) words.entry.now) ≡ []) }
     ensures refused { result ≡ Err WordFault.Refused → (fault_of serve_app (map (λ word. word.now) words.entry.now) ≢ [])
         ⊎ (CanServe (matches_of serve_app (map (λ word. word.now) words.entry.now)) → ⊥) }
@@ -141,8 +175,8 @@ pub fn read_words<'a>(alloc: Global, words: &'a [&'a str]) -> Result<ServePlan, 
 {
     let command = command(alloc)?;
     match command.try_get_matches_from(words) {
-        Ok(matches) => match plan_of(&matches) {
-            Some(plan) => Ok(plan),
+        Ok(matches) => match words_of(&matches) {
+            Some(read) => Ok(read),
             None => Err(WordFault::Refused),
         },
         Err(error) => Err(fault_from(&error)),
@@ -164,7 +198,25 @@ fn plan_refusal(alloc: Global, matches: &ArgMatches<'_>) -> Result<String, Alloc
             "error: invalid value '{nodes}' for '--nodes <N>': packets of version {byte} can name {most}{HINT}"
         );
     }
+    if status_of(matches).is_some() && matches.get_flag("record") {
+        return record_refusal(alloc, matches);
+    }
     status_refusal(alloc, matches)
+}
+
+// Returns why records cannot be kept. It is empty if they can.
+fn record_refusal(alloc: Global, matches: &ArgMatches<'_>) -> Result<String, AllocError> {
+    if matches.get_flag("tape") {
+        return format!(in alloc;
+            "error: the argument '--record' cannot be used with '--tape'{HINT}"
+        );
+    }
+    if matches.get_str("dir").is_none() {
+        return format!(in alloc;
+            "error: the argument '--record' wants a folder: '--dir <DIR>'{HINT}"
+        );
+    }
+    Ok(String::new(alloc))
 }
 
 /// Returns why words are refused. It is empty if they are a plan.

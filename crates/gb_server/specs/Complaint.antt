@@ -5,7 +5,9 @@ use Rattle.gb_merge.specs.declared.fault.AuditFault.{AuditFault}
 use Rattle.gb_merge.specs.declared.fault.AuditFault.TheVariants as audit
 use Rattle.gb_server.specs.Told.{lined}
 use Rattle.gb_server.specs.declared.fault.ServeFault.{ServeFault}
-use Rattle.gb_server.specs.declared.fault.ServeFault.TheVariants.{RefusedWords, BadKeys, NoNode, ForeignSeat, Port, Differs, OutOfMemory, Full, Audit, Write, NoRun}
+use Rattle.gb_server.specs.declared.fault.ServeFault.TheVariants.{RefusedWords, BadKeys, NoNode, ForeignSeat, Port, Differs, OutOfMemory, Full, Audit, Write, NoRun, Record}
+use Rattle.gb_server.specs.declared.record_file.RecordTrouble.{RecordTrouble}
+use Rattle.gb_server.specs.declared.record_file.RecordTrouble.TheVariants as record_troubles
 use Rattle.gb_server.specs.declared.sockets.PortName.TheVariants.{Udp, Tcp, Status}
 use Rattle.gb_server.specs.declared.keys.KeyFault.{KeyFault}
 use Rattle.gb_server.specs.declared.keys.KeyFault.TheVariants as keys
@@ -25,6 +27,12 @@ audit_words audit.Stuck = codes "the tapes were not merged: no order of events f
 audit_words audit.Differs = codes "the tapes were not merged: an answer is not what the node's past makes it"
 audit_words audit.OutOfMemory = codes "the tapes were not merged: out of memory"
 
+-- what became of a record
+abbrev pub record_words : RecordTrouble → List ℕ
+record_words record_troubles.There = codes "a record of this node and run is there already: a node speaks once in a run"
+record_words record_troubles.Unmade = codes "a record could not be made: what --dir names must be a folder that can be written to"
+record_words record_troubles.Unwritten = codes "a record could not be written"
+
 -- why a server did not serve to its end
 abbrev pub fault_words : ServeFault → List ℕ
 fault_words RefusedWords = codes "refused words"
@@ -40,6 +48,7 @@ fault_words Full = codes "too many calls"
 fault_words (Audit fault) = audit_words fault
 fault_words Write = codes "a line could not be written to standard output"
 fault_words NoRun = codes "the system has no random number for the run"
+fault_words (Record trouble) = record_words trouble
 
 -- the line that tells it, behind the name of the program
 abbrev pub complaint : List ℕ → ServeFault → List ℕ

@@ -4,7 +4,7 @@ use Rattle.std.specs.Net.Text.{socket_text}
 use Rattle.std.specs.declared.net.socket_addr.SocketAddr.{SocketAddr}
 use Rattle.gb_server.specs.Told.{lined}
 use Rattle.gb_server.specs.declared.signals.Why.{Why}
-use Rattle.gb_server.specs.declared.signals.Why.TheVariants.{Served, Asked, Stopped, InputEnded, Failed, Unwritten}
+use Rattle.gb_server.specs.declared.signals.Why.TheVariants.{Served, Asked, Stopped, InputEnded, Failed, Unwritten, Unrecorded}
 
 -- the first and the last of this number of ports
 abbrev pub range_words : ℕ → ℕ → List ℕ
@@ -36,6 +36,7 @@ end_words Stopped = codes "standard input said stop"
 end_words InputEnded = codes "standard input ended"
 end_words Failed = codes "a loop could not begin"
 end_words Unwritten = codes "a line could not be written to standard output"
+end_words Unrecorded = codes "a record could not be written"
 
 -- the line that tells it, behind the name of the program
 abbrev pub end_line_of : List ℕ → Why → List ℕ

@@ -2,10 +2,11 @@
 ghost use Rattle.std.specs.Prelude.{◌≡◌, ◌++◌, true, OnOk, IfOk, decimal};
 ghost use Rattle.std.specs.Io.KnownBytes.{Appends};
 ghost use Rattle.std.specs.Net.Text.{socket_text};
-ghost use Rattle.gb_server.specs.Complaint.{audit_words, complaint, fault_words, key_words};
+ghost use Rattle.gb_server.specs.Complaint.{audit_words, complaint, fault_words, key_words, record_words};
 
 use crate::fault::ServeFault;
 use crate::keys::KeyFault;
+use crate::record_file::RecordTrouble;
 use crate::server_log::put_address;
 use crate::sockets::PortName;
 use crate::told::tell;
@@ -104,6 +105,19 @@ fn audit_words(fault: AuditFault) -> &'static [u8]
     }
 }
 
+// Returns what became of a record.
+fn record_words(trouble: RecordTrouble) -> &'static [u8]
+    ensures { result.now ≡ record_words trouble }
+{
+    match trouble {
+        RecordTrouble::There =>
+            b"a record of this node and run is there already: a node speaks once in a run",
+        RecordTrouble::Unmade =>
+            b"a record could not be made: what --dir names must be a folder that can be written to",
+        RecordTrouble::Unwritten => b"a record could not be written",
+    }
+}
+
 // Appends that keys are bad, and why.
 fn put_bad_keys(text: &mut Vec<u8>, why: KeyFault) -> Result<(), OutOfMemory>
     ensures { OnOk result (text.new.items ≡ text.old.items ++ fault_words (ServeFault.BadKeys why)) }
@@ -169,6 +183,7 @@ fn put_fault_words(text: &mut Vec<u8>, fault: ServeFault) -> Result<(), OutOfMem
         ServeFault::Audit(fault) => put_bytes(text, audit_words(fault)),
         ServeFault::Write => put_bytes(text, b"a line could not be written to standard output"),
         ServeFault::NoRun => put_bytes(text, b"the system has no random number for the run"),
+        ServeFault::Record(trouble) => put_bytes(text, record_words(trouble)),
     }
 }
 

@@ -1,9 +1,10 @@
 //! The threads of a server.
 use crate::beside::{Lent, Task, take_back};
+use crate::recorded::{LeftLog, NodeLog, take_log};
 use crate::signals::Signals;
 use crate::sockets::Sockets;
 use crate::watch::{Attending, attend};
-use crate::work::run_node;
+use crate::work::{LeftNode, run_node};
 use gb_host::host::Host;
 use gb_host::names::Tapes;
 use gb_host::seat::Seat;
@@ -34,14 +35,25 @@ fn keep<T: Drop, F: Drop>(
     }
 }
 
-// Waits until these threads have ended, and takes their seats back.
+/// What is left of a server whose loops have ended: its seats, and what its nodes recorded by.
+#[derive(Drop)]
+pub struct Held<L: Tapes> {
+    pub seats: Vec<Seat<L>>,
+    pub logs: Vec<LeftLog<L>>,
+}
+
+// Waits until these threads have ended, and takes back what is left of their nodes.
 fn join_all<L: Tapes, H: Threads>(
     rt: &H,
-    threads: Vec<JoinHandle<Seat<L>>>,
-    seats: &mut Vec<Seat<L>>,
+    threads: Vec<JoinHandle<LeftNode<L>>>,
+    held: &mut Held<L>,
 ) {
     for thread in threads {
-        let _ = seats.push(thread.join(rt));
+        let LeftNode { seat, log } = thread.join(rt);
+        let _ = held.seats.push(seat);
+        if let Some(log) = log {
+            let _ = held.logs.push(log);
+        }
     }
 }
 
@@ -65,31 +77,43 @@ fn hold<
     host: &Host<L>,
     seats: Vec<Seat<L>>,
     sockets: Vec<Sockets>,
+    logs: Vec<NodeLog<L>>,
     options: LoopOptions,
     signals: &Signals,
     attending: Attending<'_, E>,
     task: T,
-) -> (Result<Vec<Seat<L>>, OutOfMemory>, B)
+) -> (Result<Held<L>, OutOfMemory>, B)
     requires { T.can_run task }
     ensures { T.run_gives task result.1 }
 {
     let shared = signals;
+    let plan = host.plan();
+    let are_recorded = plan.ring && !plan.tape;
     thread::scope(
         thread::scope_env(),
         rt,
-        move |scope| -> (Result<Vec<Seat<L>>, OutOfMemory>, B)
+        move |scope| -> (Result<Held<L>, OutOfMemory>, B)
             requires { T.can_run task }
             ensures { T.run_gives task result.1 }
         {
-            let mut seats = seats;
+            let mut held = Held {
+                seats,
+                logs: Vec::new(alloc),
+            };
+            let mut logs = logs;
             let mut loops = Vec::new(alloc);
             for own in sockets {
-                let Some(seat) = seats.pop() else {
+                let Some(seat) = held.seats.pop() else {
                     shared.fail();
                     break;
                 };
+                let log = take_log(&mut logs, own.node);
+                if are_recorded && log.is_none() {
+                    shared.fail();
+                    break;
+                }
                 let made = scope.spawn(move || run_node(
-                    rt, alloc, host, seat, own, options, shared,
+                    rt, alloc, host, seat, own, log, options, shared,
                 ));
                 keep(&mut loops, made, shared);
             }
@@ -98,21 +122,21 @@ fn hold<
             keep(&mut desks, made, shared);
             shared.begin();
             let done = task.run();
-            join_all(rt, loops, &mut seats);
+            join_all(rt, loops, &mut held);
             shared.leave();
             join_desk(rt, desks);
-            let held = if shared.has_failed() {
+            let left = if shared.has_failed() {
                 Err(OutOfMemory)
             } else {
-                Ok(seats)
+                Ok(held)
             };
-            (held, done)
+            (left, done)
         },
     )
 }
 
-/// Holds a server: a thread for each node's loop, with a seat each, and one for its desk, while this thread does what is beside them. They
-/// end when the signals say so. Gives the seats back. OutOfMemory: not all threads could be made, which the signals say before this thread does
+/// Holds a server: a thread for each node's loop, with a seat each, and with what it records by where the host's nodes have recorders, and one
+/// for its desk, while this thread does what is beside them. They end when the signals say so. Returns the seats, and what was recorded by. OutOfMemory: not all threads could be made, which the signals say before this thread does
 /// anything, and no connection was served; or a loop could not begin.
 pub fn hold_beside<
     L: Tapes + Send + Sync,
@@ -126,11 +150,12 @@ pub fn hold_beside<
     host: &Host<L>,
     seats: Vec<Seat<L>>,
     sockets: Vec<Sockets>,
+    logs: Vec<NodeLog<L>>,
     options: LoopOptions,
     signals: &Signals,
     attending: Attending<'_, E>,
     beside: &mut G,
-) -> (Result<Vec<Seat<L>>, OutOfMemory>, B)
+) -> (Result<Held<L>, OutOfMemory>, B)
     requires { G.pre beside.old }
     ensures { G.step beside.old result.1 beside.new }
 {
@@ -140,6 +165,7 @@ pub fn hold_beside<
         host,
         seats,
         sockets,
+        logs,
         options,
         signals,
         attending,

@@ -2,9 +2,10 @@
 ghost use Rattle.std.specs.Prelude.{◌≡◌, ℕ, List, OnOk};
 ghost use Rattle.std.specs.Io.KnownBytes.{Appends, Consumes};
 
-use crate::crew::hold_beside;
+use crate::crew::{Held, hold_beside};
 use crate::desk::Desk;
 use crate::input::Input;
+use crate::recorded::NodeLog;
 use crate::server_log::{ServerLog, first_line};
 use crate::signals::Signals;
 use crate::sockets::Sockets;
@@ -30,6 +31,8 @@ pub enum RunFault {
     OutOfMemory,
     /// The line that tells what is served could not be written.
     Write,
+    /// A record could not be written.
+    Unrecorded,
 }
 
 impl From<OutOfMemory> for RunFault {
@@ -43,11 +46,12 @@ impl From<OutOfMemory> for RunFault {
     }
 }
 
-/// What a server is given: for each node a seat and its sockets.
+/// What a server is given: for each node a seat and its sockets, and what it records by, if it does.
 #[derive(Drop)]
 pub struct Given<L: Tapes> {
     pub seats: Vec<Seat<L>>,
     pub sockets: Vec<Sockets>,
+    pub logs: Vec<NodeLog<L>>,
 }
 
 /// What a server of some nodes is told, beside how its loops behave.
@@ -95,7 +99,7 @@ fn desk_of<H: Clock>(
 }
 
 /// Holds a server, tells that it serves once all its loops have begun, and heeds standard input. Tells its status at this listener, if there
-/// is one. Returns the seats.
+/// is one. Returns what is left of the nodes.
 pub fn run<
     L: Tapes + Send + Sync,
     H: Net<Listener = TcpListener, Stream = TcpStream> + Threads + Wait + Clock + Sync,
@@ -113,7 +117,7 @@ pub fn run<
     reader: &mut R,
     writer: &mut W,
     errors: &mut E,
-) -> Result<Vec<Seat<L>>, RunFault>
+) -> Result<Held<L>, RunFault>
     ensures told { OnOk result (Appends (W.contents writer.old) (W.contents writer.new) service.now.line.items) }
     ensures read { OnOk result ((bytes : List ℕ) × Consumes (R.remaining reader.old) (R.remaining reader.new) bytes) }
 {
@@ -123,23 +127,31 @@ pub fn run<
     let shared = &signals;
     let text = service.line.as_slice();
     let stops_at_end = service.stops_at_end;
-    let Given { seats, sockets } = given;
+    let Given {
+        seats,
+        sockets,
+        logs,
+    } = given;
     let (held, is_told) = hold_beside(
         rt,
         alloc,
         host,
         seats,
         sockets,
+        logs,
         options,
         shared,
         attending,
         &mut || watch(rt, shared, text, stops_at_end, reader, writer),
     );
-    let Ok(seats) = held else {
+    let Ok(held) = held else {
         return Err(RunFault::OutOfMemory);
     };
     if !is_told {
         return Err(RunFault::Write);
     }
-    Ok(seats)
+    if shared.lacks_record() {
+        return Err(RunFault::Unrecorded);
+    }
+    Ok(held)
 }

@@ -10,11 +10,14 @@ ghost use Rattle.gb_host.specs.SeatValue.{SeatValue};
 ghost use Rattle.gb_server.specs.Ended.{EndsSo, has_closed};
 
 use crate::complaint::complain;
+use crate::crew::Held;
 use crate::descriptors::{connections_of, descriptor_limit};
-use crate::ending::{Ended, end};
+use crate::ending::{Ended, end, end_recorded};
 use crate::fault::ServeFault;
 use crate::input::Input;
 use crate::keys::{Keys, read_keys, run_key};
+use crate::record_file::{RecordFile, RecordPlace, open_records};
+use crate::recorded::logs_of;
 use crate::run::{Given, Service, run};
 use crate::server_log::begin_front;
 use crate::sockets::{Sockets, open_sockets, open_status};
@@ -25,7 +28,7 @@ use gb_host::names::Tapes;
 use gb_host::pasts::{NodePast, new_pasts};
 use gb_host::plan::HostPlan;
 use gb_loop::options::LoopOptions;
-use gb_serve_words::plan::ServePlan;
+use gb_serve_words::plan::{ServePlan, ServeWords};
 use gb_serve_words::words::read_words;
 use gb_types::limits::NODES;
 use gb_types::memory::OutOfMemory;
@@ -33,6 +36,7 @@ use gb_types::node::NodeId;
 use gb_types::plan::Plan;
 use gb_version::VERSION;
 use std::alloc::Global;
+use std::fs::{File, Files};
 use std::io::Write;
 use std::marker::Brand;
 use std::net::{Net, TcpListener, TcpStream};
@@ -69,7 +73,7 @@ fn host_plan(plan: ServePlan, keys: Keys, run: u64) -> HostPlan
     HostPlan {
         cluster,
         tape: plan.tape,
-        ring: false,
+        ring: plan.records,
     }
 }
 
@@ -149,6 +153,7 @@ fn serve_host<
     plan: HostPlan,
     serve: ServePlan,
     sockets: Vec<Sockets>,
+    files: Vec<RecordFile>,
     listener: Option<TcpListener>,
     reader: &mut R,
     writer: &mut W,
@@ -168,61 +173,85 @@ fn serve_host<
 {
     let seats = u32::from(plan.cluster.nodes);
     let here = all_nodes(plan.cluster.nodes);
-    let (host, seats, _) = Host::<L>::open(alloc, plan, here, seats, pasts)?;
+    let (host, seats, recorders) = Host::<L>::open(alloc, plan, here, seats, pasts)?;
+    let descriptors = descriptor_limit().saturating_sub(files.len() as u64);
+    let logs = logs_of(alloc, &plan, host.here(), recorders, files)?;
     let wanted = u64::from(serve.connections);
-    let connections = connections_of(wanted, serve.nodes, descriptor_limit());
+    let connections = connections_of(wanted, serve.nodes, descriptors);
     let options = options_of(serve, connections);
-    let given = Given { seats, sockets };
+    let given = Given {
+        seats,
+        sockets,
+        logs,
+    };
     let service = service_of(alloc, serve)?;
-    let seats = run(
+    let Held { seats, logs } = run(
         rt, alloc, &host, &service, options, given, listener, reader, writer, errors,
     )?;
+    if plan.ring && !plan.tape {
+        return end_recorded(rt, alloc, host, logs);
+    }
     end(alloc, host, seats)
 }
 
-// Serves by a plan, with keys, in a run.
+// Returns where the records of a run are kept. `None` if none are wanted.
+fn place_of<'a>(words: &ServeWords<'a>, run: u64) -> Option<RecordPlace<'a>> {
+    if !words.plan.records {
+        return None;
+    }
+    let dir = words.dir?;
+    let syncs = words.plan.sync;
+    Some(RecordPlace { dir, run, syncs })
+}
+
+// Serves by words that were read, with keys, in a run.
 fn serve_plan<
-    H: Net<Listener = TcpListener, Stream = TcpStream> + Threads + Wait + Clock + Sync,
+    H: Net<Listener = TcpListener, Stream = TcpStream>
+        + Threads
+        + Wait
+        + Clock
+        + Sync
+        + Files<File = File>,
     R: Input,
     W: Write,
     E: Write + Send,
 >(
     rt: &H,
     alloc: Global,
-    plan: ServePlan,
+    words: &ServeWords<'_>,
     keys: Keys,
     run: u64,
     reader: &mut R,
     writer: &mut W,
     errors: &mut E,
 ) -> Result<Ended, ServeFault>
-    requires { IsWithin plan }
-    ensures told { has_closed result ≡ true → Appends (W.contents writer.old) (W.contents writer.new) (serving_line plan.nodes plan.base_port) }
+    requires { IsWithin words.now.plan }
+    ensures told { has_closed result ≡ true → Appends (W.contents writer.old) (W.contents writer.new) (serving_line words.now.plan.nodes words.now.plan.base_port) }
     ensures read { has_closed result ≡ true → (bytes : List ℕ) × Consumes (R.remaining reader.old) (R.remaining reader.new) bytes }
-    ensures ends { has_closed result ≡ true → (seats : List SeatValue) × EndsSo (host_of plan keys run) seats result }
+    ensures ends { has_closed result ≡ true → (seats : List SeatValue) × EndsSo (host_of words.now.plan keys run) seats result }
     ensures taken { result ≢ Err ServeFault.RefusedWords }
 {
-    let sockets = open_sockets(rt, alloc, plan.nodes, plan.base_port)?;
-    let listener = open_status(rt, plan.status)?;
-    let pasts = new_pasts(alloc, plan.nodes)?;
+    let serve = words.plan;
+    let plan = host_plan(serve, keys, run);
+    let sockets = open_sockets(rt, alloc, serve.nodes, serve.base_port)?;
+    let listener = open_status(rt, serve.status)?;
+    let place = place_of(words, run);
+    let files = open_records(rt, alloc, place, &plan, NodeId::new(0), serve.nodes)?;
+    let pasts = new_pasts(alloc, serve.nodes)?;
     serve_host::<Brand, H, R, W, E>(
-        rt,
-        alloc,
-        host_plan(plan, keys, run),
-        plan,
-        sockets,
-        listener,
-        reader,
-        writer,
-        errors,
-        pasts,
+        rt, alloc, plan, serve, sockets, files, listener, reader, writer, errors, pasts,
     )
 }
 
 /// Serves by words in the run with this number, with the keys that the reader gives and what it gives behind them, and writes what it serves,
 /// and its log to `errors`. The answer is how it ended, which is still to be told.
 pub fn serve<
-    H: Net<Listener = TcpListener, Stream = TcpStream> + Threads + Wait + Clock + Sync,
+    H: Net<Listener = TcpListener, Stream = TcpStream>
+        + Threads
+        + Wait
+        + Clock
+        + Sync
+        + Files<File = File>,
     R: Input,
     W: Write,
     E: Write + Send,
@@ -239,7 +268,7 @@ pub fn serve<
     ensures refused { result ≡ Err ServeFault.RefusedWords → AreRefused (map (λ word. word.now) words.now) × (reader.new ≡ reader.old) × (writer.new ≡ writer.old) × (errors.new ≡ errors.old) }
     ensures taken { AreTaken (map (λ word. word.now) words.now) → result ≢ Err ServeFault.RefusedWords }
 {
-    let plan = read_words(alloc, words)?;
+    let read = read_words(alloc, words)?;
     let keys = match read_keys(reader) {
         Ok(keys) => keys,
         Err(why) => return Err(ServeFault::BadKeys(why)),
@@ -247,7 +276,7 @@ pub fn serve<
     let Some(number) = run else {
         return Err(ServeFault::NoRun);
     };
-    serve_plan(rt, alloc, plan, keys, number, reader, writer, errors)
+    serve_plan(rt, alloc, &read, keys, number, reader, writer, errors)
 }
 
 // Tells why a server did not serve to its end. Why words are refused is told where they were read.
@@ -266,10 +295,15 @@ fn explain<E: Write>(alloc: Global, outcome: Result<Ended, ServeFault>, errors: 
 /// Serves by the words of a command line, of which the first is the program's name, in the run with this number, where the system had one, with the keys that the reader gives, and behind
 /// them the line `stop` that ends it, and writes what it serves and how it ended, a line each. Its log is written to `errors`, and why it did not serve to its end, but for
 /// why words are refused. The answer is the exit status: 0 when all connections were served, or the server was told to
-/// end, and, with tapes, they were merged, 2 for refused
+/// end, and, with tapes, they were merged, or its records are whole, 2 for refused
 /// words, 1 for all else. When it answers, its threads have ended and its sockets are closed.
 pub fn serve_main<
-    H: Net<Listener = TcpListener, Stream = TcpStream> + Threads + Wait + Clock + Sync,
+    H: Net<Listener = TcpListener, Stream = TcpStream>
+        + Threads
+        + Wait
+        + Clock
+        + Sync
+        + Files<File = File>,
     R: Input,
     W: Write,
     E: Write + Send,

@@ -129,6 +129,7 @@ fn end_words(why: Why) -> &'static [u8]
         Why::InputEnded => b"standard input ended",
         Why::Failed => b"a loop could not begin",
         Why::Unwritten => b"a line could not be written to standard output",
+        Why::Unrecorded => b"a record could not be written",
     }
 }
 

@@ -22,6 +22,8 @@ pub enum Why {
     Failed,
     /// A line could not be written to standard output.
     Unwritten,
+    /// A record could not be written.
+    Unrecorded,
 }
 
 // The number that stands for a reason, from 1.
@@ -33,6 +35,7 @@ fn number_of(why: Why) -> u64 {
         Why::InputEnded => 4,
         Why::Failed => 5,
         Why::Unwritten => 6,
+        Why::Unrecorded => 7,
     }
 }
 
@@ -45,6 +48,7 @@ fn why_of(number: u64) -> Option<Why> {
         4 => Some(Why::InputEnded),
         5 => Some(Why::Failed),
         6 => Some(Why::Unwritten),
+        7 => Some(Why::Unrecorded),
         _ => None,
     }
 }
@@ -60,6 +64,7 @@ pub struct Signals {
     why: AtomicU64,
     have_left: AtomicBool,
     has_failed: AtomicBool,
+    lacks_record: AtomicBool,
     board: Board,
 }
 
@@ -75,6 +80,7 @@ impl Signals {
             why: AtomicU64::new(0),
             have_left: AtomicBool::new(false),
             has_failed: AtomicBool::new(false),
+            lacks_record: AtomicBool::new(false),
             board,
         })
     }
@@ -109,6 +115,17 @@ impl Signals {
     /// Returns true if the threads of all loops have ended.
     pub fn have_left(&self) -> bool {
         self.have_left.load(Ordering::SeqCst)
+    }
+
+    /// A record could not be written: the loops end.
+    pub fn miss_record(&self) {
+        self.lacks_record.store(true, Ordering::SeqCst);
+        self.end(Why::Unrecorded);
+    }
+
+    /// Returns true if a record could not be written.
+    pub fn lacks_record(&self) -> bool {
+        self.lacks_record.load(Ordering::SeqCst)
     }
 
     /// Where the loops put their figures.

@@ -1,20 +1,38 @@
 //! What the thread of a node does. It owns its seat, and gives it back.
+ghost use Rattle.std.specs.Prelude.{◌≡◌, []};
+
 use crate::gates::wait_to_begin;
+use crate::recorded::{LeftLog, NodeLog, Settling};
 use crate::signals::Signals;
 use crate::sockets::Sockets;
 use gb_host::host::Host;
 use gb_host::names::Tapes;
+use gb_host::pasts::NodePast;
 use gb_host::seat::Seat;
 use gb_loop::mail::Parts;
 use gb_loop::node_loop::{LoopSockets, run_loop};
 use gb_loop::options::LoopOptions;
+use gb_loop::settle::Unsettled;
+use gb_past::past::Past;
+use gb_record::name::RecordName;
+use gb_record::recording::Recording;
+use gb_record::shared::SharedRecording;
+use gb_record::written_first::WrittenFirst;
 use std::alloc::Global;
+use std::marker::Brand;
 use std::net::{Net, TcpListener, TcpStream};
 use std::sync::Wait;
 use std::time::Clock;
 
-/// Runs the loop of a node until the server is over.
-pub fn run_node<L: Tapes, H: Net<Listener = TcpListener, Stream = TcpStream> + Wait + Clock>(
+/// What is left of a node when its loop has ended: its seat, and what it recorded by.
+#[derive(Drop)]
+pub struct LeftNode<L: Tapes> {
+    pub seat: Seat<L>,
+    pub log: Option<LeftLog<L>>,
+}
+
+// Runs the loop of a node that keeps no record.
+fn run_unrecorded<L: Tapes, H: Net<Listener = TcpListener, Stream = TcpStream> + Wait + Clock>(
     rt: &H,
     alloc: Global,
     host: &Host<L>,
@@ -22,18 +40,91 @@ pub fn run_node<L: Tapes, H: Net<Listener = TcpListener, Stream = TcpStream> + W
     sockets: Sockets,
     options: LoopOptions,
     signals: &Signals,
-) -> Seat<L> {
+) -> LeftNode<L> {
     let Sockets {
         node,
         port,
         listener,
     } = sockets;
-    wait_to_begin(rt, signals);
     let fd = port.raw_fd();
     let listener = mio::net::TcpListener::from_std(listener);
     let sockets = LoopSockets { fd, listener };
+    let settle = Unsettled;
     let Parts { seat, .. } = run_loop(
-        rt, rt, alloc, host, seat, node, port, sockets, options, signals,
+        rt, rt, alloc, host, seat, node, port, sockets, options, &settle, signals,
     );
-    seat
+    LeftNode { seat, log: None }
+}
+
+// Runs the loop of a node that keeps a record, whose written entries are noted in a past.
+fn run_recorded<
+    R: RecordName,
+    L: Tapes,
+    H: Net<Listener = TcpListener, Stream = TcpStream> + Wait + Clock,
+>(
+    rt: &H,
+    alloc: Global,
+    host: &Host<L>,
+    seat: Seat<L>,
+    sockets: Sockets,
+    log: NodeLog<L>,
+    written: NodePast,
+    options: LoopOptions,
+    signals: &Signals,
+) -> LeftNode<L>
+    requires { (written.log ≡ []) × (written.book ≡ R.book) }
+{
+    let Sockets {
+        node,
+        port,
+        listener,
+    } = sockets;
+    let fd = port.raw_fd();
+    let listener = mio::net::TcpListener::from_std(listener);
+    let sockets = LoopSockets { fd, listener };
+    let NodeLog { recorder, file } = log;
+    let seen = written.seen();
+    let recording = Recording::<R, L, _>::new(alloc, recorder, file, written);
+    let shared = SharedRecording::new(recording);
+    let settle = Settling {
+        record: &shared,
+        signals,
+    };
+    let port = WrittenFirst::new(port, &shared, seen);
+    let Parts { seat, port, .. } = run_loop(
+        rt, rt, alloc, host, seat, node, port, sockets, options, &settle, signals,
+    );
+    drop(port.into_port());
+    let (recorder, file) = shared.into_inner().into_parts();
+    let log = Some(LeftLog { recorder, file });
+    LeftNode { seat, log }
+}
+
+/// Runs the loop of a node until the server is over, once all threads have been made. With a log it keeps a record: a packet or a reply leaves
+/// once what led to it was written.
+pub fn run_node<L: Tapes, H: Net<Listener = TcpListener, Stream = TcpStream> + Wait + Clock>(
+    rt: &H,
+    alloc: Global,
+    host: &Host<L>,
+    seat: Seat<L>,
+    sockets: Sockets,
+    log: Option<NodeLog<L>>,
+    options: LoopOptions,
+    signals: &Signals,
+) -> LeftNode<L> {
+    wait_to_begin(rt, signals);
+    match log {
+        None => run_unrecorded(rt, alloc, host, seat, sockets, options, signals),
+        Some(log) => run_recorded::<Brand, L, H>(
+            rt,
+            alloc,
+            host,
+            seat,
+            sockets,
+            log,
+            Past::new(),
+            options,
+            signals,
+        ),
+    }
 }

@@ -4,6 +4,7 @@ use crate::socket_clients::{MALFORMED, address, leaves, told};
 use gb_server::serve_main::serve_main;
 use gb_types::number::read_number;
 use std::alloc::Global;
+use std::fs::{File, Files};
 use std::net::{Net, TcpListener, TcpStream, UdpSocket};
 use std::sync::Wait;
 use std::thread;
@@ -26,12 +27,14 @@ pub struct Run {
 }
 
 /// Returns how a server with these words and this standard input ends.
-pub fn run_of<H: Net<Listener = TcpListener, Stream = TcpStream> + Threads + Wait + Clock + Sync>(
-    rt: &H,
-    alloc: Global,
-    words: &[&str],
-    input: &[u8],
-) -> Run {
+pub fn run_of<
+    H: Net<Listener = TcpListener, Stream = TcpStream>
+        + Threads
+        + Wait
+        + Clock
+        + Sync
+        + Files<File = File>,
+>(rt: &H, alloc: Global, words: &[&str], input: &[u8]) -> Run {
     let mut reader = input;
     let mut lines = Vec::new(alloc);
     let mut errors = Vec::new(alloc);
@@ -52,14 +55,14 @@ pub fn run_of<H: Net<Listener = TcpListener, Stream = TcpStream> + Threads + Wai
 }
 
 /// Returns true if a server with these words and keys ends with this status and prints these lines.
-pub fn prints<H: Net<Listener = TcpListener, Stream = TcpStream> + Threads + Wait + Clock + Sync>(
-    rt: &H,
-    alloc: Global,
-    words: &[&str],
-    keys: &[u8],
-    status: u8,
-    lines: &[u8],
-) -> bool {
+pub fn prints<
+    H: Net<Listener = TcpListener, Stream = TcpStream>
+        + Threads
+        + Wait
+        + Clock
+        + Sync
+        + Files<File = File>,
+>(rt: &H, alloc: Global, words: &[&str], keys: &[u8], status: u8, lines: &[u8]) -> bool {
     let run = run_of(rt, alloc, words, keys);
     run.status == status && run.lines.as_slice() == lines
 }
@@ -195,10 +198,14 @@ static WITH_TAPES: [&str; 8] = [
 ];
 
 // Returns true if a server with tapes ends well, and merged more than two events.
-fn merges<H: Net<Listener = TcpListener, Stream = TcpStream> + Threads + Wait + Clock + Sync>(
-    rt: &H,
-    alloc: Global,
-) -> bool {
+fn merges<
+    H: Net<Listener = TcpListener, Stream = TcpStream>
+        + Threads
+        + Wait
+        + Clock
+        + Sync
+        + Files<File = File>,
+>(rt: &H, alloc: Global) -> bool {
     let run = run_of(rt, alloc, &WITH_TAPES, KEYS);
     let count = merged(&run.lines, b"serving 2 nodes from port 28750\n");
     run.status == 0 && count.unwrap_or(0) > 2

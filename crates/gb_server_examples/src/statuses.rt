@@ -12,6 +12,7 @@ use gb_status::figure::Figure;
 use gb_status::figures::Figures;
 use gb_types::node::{NodeId, NodeSet};
 use std::alloc::Global;
+use std::fs::{File, Files};
 use std::io::{ErrorKind, Read, Write};
 use std::net::{Net, TcpListener, TcpStream, UdpSocket};
 use std::rt::HostRuntime;
@@ -134,7 +135,12 @@ fn is_log(errors: &[u8]) -> bool {
 
 // Returns whether a server that is watched ends in order, with its log.
 fn ends_in_order<
-    H: Net<Listener = TcpListener, Stream = TcpStream> + Threads + Wait + Clock + Sync,
+    H: Net<Listener = TcpListener, Stream = TcpStream>
+        + Threads
+        + Wait
+        + Clock
+        + Sync
+        + Files<File = File>,
 >(rt: &H, alloc: Global) -> bool {
     let run = run_of(rt, alloc, &WATCHED, KEYS);
     run.status == 0 && is_log(&run.errors)

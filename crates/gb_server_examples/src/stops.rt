@@ -5,6 +5,7 @@ use gb_server::input::Input;
 use gb_server::orders::{Heard, KEPT, hear};
 use gb_server::serve_main::serve_main;
 use std::alloc::Global;
+use std::fs::{File, Files};
 use std::io::Read;
 use std::net::{Net, TcpListener, TcpStream};
 use std::sync::Wait;
@@ -38,13 +39,14 @@ impl Input for Later<'_> {
 }
 
 // Returns how a server with these words ends. Its standard input has the keys, and `more` once the flag is set.
-fn run_later<H: Net<Listener = TcpListener, Stream = TcpStream> + Threads + Wait + Clock + Sync>(
-    rt: &H,
-    alloc: Global,
-    words: &[&str],
-    more: &[u8],
-    is_set: &AtomicBool,
-) -> Run {
+fn run_later<
+    H: Net<Listener = TcpListener, Stream = TcpStream>
+        + Threads
+        + Wait
+        + Clock
+        + Sync
+        + Files<File = File>,
+>(rt: &H, alloc: Global, words: &[&str], more: &[u8], is_set: &AtomicBool) -> Run {
     let mut reader = Later {
         keys: KEYS,
         more,

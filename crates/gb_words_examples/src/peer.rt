@@ -34,6 +34,8 @@ fn plain_plan() -> PeerPlan {
         stop_at_end: false,
         status: None,
         quiet: false,
+        records: false,
+        sync: false,
     }
 }
 
@@ -138,6 +140,8 @@ fn words_without_a_value_are_set(rt: HostRuntime) {
             remote_sessions: *remote_sessions,
             stop_at_end: *stop_at_end,
             quiet: *quiet,
+            records: false,
+            sync: false,
             ..plain_plan()
         };
         assert!(rt; is_plan(rt.alloc(), options, want), "{options}");
@@ -164,7 +168,7 @@ fn words_say_where_the_status_of_a_node_is_told(rt: HostRuntime) {
 // All options, each with another value than the one that stands for it.
 static ALL: &str =
     "gb_peer --cluster c.toml --node 2 --dir marks --wait 5 --sessions 6 --connections 7 --idle 8 \
---session-requests 9 --remote-sessions --status 10.0.0.1:9100 --stop-at-end --quiet";
+--session-requests 9 --remote-sessions --status 10.0.0.1:9100 --stop-at-end --quiet --record --sync";
 
 #[test]
 fn all_options_at_once_are_a_plan(rt: HostRuntime) {
@@ -180,6 +184,8 @@ fn all_options_at_once_are_a_plan(rt: HostRuntime) {
         stop_at_end: true,
         status: Some(address),
         quiet: true,
+        records: true,
+        sync: true,
     };
     assert!(rt; is_read(rt.alloc(), ALL, "c.toml", "marks", want));
 }

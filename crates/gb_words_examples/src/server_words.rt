@@ -14,7 +14,10 @@ fn words_of(alloc: Global, line: &str) -> Result<Vec<&str>, AllocError> {
 // What the words of a line are.
 fn read(alloc: Global, line: &str) -> Result<ServePlan, WordFault> {
     let words = words_of(alloc, line)?;
-    read_words(alloc, &words)
+    match read_words(alloc, &words) {
+        Ok(read) => Ok(read.plan),
+        Err(fault) => Err(fault),
+    }
 }
 
 // Lines, and the number of nodes, the version, the base port, the silence and the sessions that they are, and whether there are tapes.
@@ -146,6 +149,8 @@ fn words_are_plans(rt: HostRuntime) {
             stop_at_end: false,
             status: None,
             quiet: false,
+            records: false,
+            sync: false,
         };
         let found = read(rt.alloc(), line);
         assert!(rt; found == Ok(want));
@@ -209,6 +214,8 @@ fn words_say_how_loops_behave(rt: HostRuntime) {
             stop_at_end: false,
             status: None,
             quiet: false,
+            records: false,
+            sync: false,
         };
         let found = read(rt.alloc(), line);
         assert!(rt; found == Ok(want), "{line}");
@@ -271,8 +278,57 @@ fn words_say_where_the_status_is_told(rt: HostRuntime) {
     }
 }
 
+// Lines, and whether they want records, whether these are to be on the disk, and the folder that they name.
+static RECORDS: [(&str, bool, bool, &str); 4] = [
+    (
+        "gb_serve --nodes 1 --base-port 1024 --dir d --record",
+        true,
+        false,
+        "d",
+    ),
+    (
+        "gb_serve --sync --record --dir=/var/lib/r --nodes 1 --base-port 1024",
+        true,
+        true,
+        "/var/lib/r",
+    ),
+    (
+        "gb_serve --nodes 1 --base-port 1024 --dir d --tape",
+        false,
+        false,
+        "d",
+    ),
+    (
+        "gb_serve --nodes 1 --base-port 1024 --sync",
+        false,
+        true,
+        "",
+    ),
+];
+
+// Returns true if the words of a line say this of records.
+fn is_recorded(alloc: Global, line: &str, records: bool, sync: bool, dir: &str) -> bool {
+    let Ok(words) = words_of(alloc, line) else {
+        return false;
+    };
+    match read_words(alloc, &words) {
+        Ok(read) => {
+            let is_plan = read.plan.records == records && read.plan.sync == sync;
+            is_plan && read.dir.unwrap_or("") == dir
+        }
+        Err(_) => false,
+    }
+}
+
+#[test]
+fn words_say_where_records_are_kept(rt: HostRuntime) {
+    for (line, records, sync, dir) in &RECORDS {
+        assert!(rt; is_recorded(rt.alloc(), line, *records, *sync, dir));
+    }
+}
+
 // Each number's first value outside its range, words that are too few, too many, unknown, or given twice.
-static REFUSED: [&str; 52] = [
+static REFUSED: [&str; 58] = [
     "gb_serve ",
     "gb_serve --nodes 2",
     "gb_serve --base-port 42000",
@@ -323,6 +379,12 @@ static REFUSED: [&str; 52] = [
     "gb_serve --nodes 2 --base-port 42000 --status 127.0.0.1:1 --status 127.0.0.1:2",
     "gb_serve --nodes 2 --base-port 42000 --quiet --quiet",
     "gb_serve --nodes 2 --base-port 42000 --quiet=no",
+    "gb_serve --nodes 2 --base-port 42000 --record",
+    "gb_serve --nodes 2 --base-port 42000 --dir d --record --tape",
+    "gb_serve --nodes 2 --base-port 42000 --dir --record",
+    "gb_serve --nodes 2 --base-port 42000 --dir d --dir d",
+    "gb_serve --nodes 2 --base-port 42000 --dir d --record=yes",
+    "gb_serve --nodes 2 --base-port 42000 --sync --sync",
     "gb_serve --nodes 2 --base-port 42000 3",
     "gb_serve --help",
 ];
@@ -335,7 +397,7 @@ fn words_are_refused(rt: HostRuntime) {
     }
 }
 
-static EXPLAINED: [(&str, &str); 8] = [
+static EXPLAINED: [(&str, &str); 11] = [
     (
         "gb_serve --nodes 33 --base-port 42000",
         "error: invalid value '33' for '--nodes <N>': 33 is not in 1..=32\n\nFor more information, try '--help'.\n",
@@ -359,6 +421,18 @@ static EXPLAINED: [(&str, &str); 8] = [
     (
         "gb_serve --nodes 2 --base-port 42000 --status localhost:9100",
         "error: invalid value 'localhost:9100' for '--status <ADDR>': an IP address and a port are wanted, as 127.0.0.1:9100 or [::1]:9100\n\nFor more information, try '--help'.\n",
+    ),
+    (
+        "gb_serve --nodes 2 --base-port 42000 --record",
+        "error: the argument '--record' wants a folder: '--dir <DIR>'\n\nFor more information, try '--help'.\n",
+    ),
+    (
+        "gb_serve --nodes 2 --base-port 42000 --dir d --tape --record",
+        "error: the argument '--record' cannot be used with '--tape'\n\nFor more information, try '--help'.\n",
+    ),
+    (
+        "gb_serve --nodes 2 --base-port 42000 --dir d --record --sync",
+        "",
     ),
     ("gb_serve --nodes 2 --base-port 42000", ""),
     ("gb_serve --nodes 32 --base-port 42000 --version 2", ""),

@@ -37,4 +37,6 @@ returns c =
     let nine = c.in_ok-with_remote.ensures.shape remote_local ∙ ap₂ with_rule eight remote_is in
     let ten = c.in_ok-with_status.ensures.shape c.status_arg.ensures.local ∙ ap₂ with_rule nine c.status_arg.ensures.rule in
     let eleven = c.in_ok-with_stop.ensures.shape c.stop_arg.ensures.local ∙ ap₂ with_rule ten c.stop_arg.ensures.rule in
-    IfOk-weaker c.arg-12.result _ _ (λ made added. added.shape c.quiet_arg.ensures.local ∙ ap₂ with_rule eleven c.quiet_arg.ensures.rule) c.arg-12.ensures
+    let twelve = c.in_ok-with_quiet.ensures.shape c.quiet_arg.ensures.local ∙ ap₂ with_rule eleven c.quiet_arg.ensures.rule in
+    let thirteen = c.in_ok-with_record.ensures.shape c.record_arg.ensures.local ∙ ap₂ with_rule twelve c.record_arg.ensures.rule in
+    IfOk-weaker c.arg-14.result _ _ (λ made added. added.shape c.sync_arg.ensures.local ∙ ap₂ with_rule thirteen c.sync_arg.ensures.rule) c.arg-14.ensures

@@ -1,0 +1,191 @@
+//! The file of a node's record.
+ghost use Rattle.std.specs.Prelude.{◌≡◌, IfOk};
+ghost use Rattle.gb_types.specs.Version.{version_at};
+
+use gb_host::plan::HostPlan;
+use gb_record::recording::write_head;
+use gb_record_text::head::RecordHead;
+use gb_types::memory::{OutOfMemory, put_bytes};
+use gb_types::node::NodeId;
+use gb_types::number::put_number;
+use std::alloc::Global;
+use std::fs::{File, Files, OpenOptions};
+use std::io::{ErrorKind, Write};
+use std::os::unix::fs::OpenOptionsExt;
+use std::{fs, io, str};
+
+/// What became of a record.
+#[derive(Clone, Copy, Debug, PartialEq, Eq)]
+pub enum RecordTrouble {
+    /// It was there before: the node has begun in this run.
+    There,
+    /// It could not be made.
+    Unmade,
+    /// It could not be written to.
+    Unwritten,
+}
+
+/// Why there are no records.
+#[derive(Clone, Copy, Debug, PartialEq, Eq)]
+pub enum RecordFault {
+    Trouble(RecordTrouble),
+    OutOfMemory,
+}
+
+impl From<OutOfMemory> for RecordFault {
+    fn from(_fault: OutOfMemory) -> RecordFault {
+        RecordFault::OutOfMemory
+    }
+}
+
+/// Where records are kept, and how.
+#[derive(Clone, Copy)]
+pub struct RecordPlace<'a> {
+    /// The path of the folder.
+    pub dir: &'a str,
+    /// The number of the run.
+    pub run: u64,
+    /// What was written is on the disk before the flush returns.
+    pub syncs: bool,
+}
+
+/// The file of a record, which its owner alone may read.
+#[derive(Drop)]
+pub struct RecordFile {
+    /// The node whose record it is.
+    pub node: NodeId,
+    file: File,
+    syncs: bool,
+    // Something was written since it was last seen that all is on the disk.
+    is_dirty: bool,
+}
+
+impl Write for RecordFile {
+    fn write(&mut self, buf: &[u8]) -> io::Result<usize> {
+        self.is_dirty = true;
+        self.file.write(buf)
+    }
+
+    fn flush(&mut self) -> io::Result<()> {
+        if self.syncs && self.is_dirty {
+            self.file.sync_data()?;
+            self.is_dirty = false;
+        }
+        Ok(())
+    }
+}
+
+/// Returns the name of the record of a node in a run, in a folder: `DIR/run-R-node-I.record`.
+pub fn record_name(
+    alloc: Global,
+    dir: &str,
+    run: u64,
+    node: NodeId,
+) -> Result<Vec<u8>, OutOfMemory> {
+    let mut name = Vec::new(alloc);
+    put_bytes(&mut name, dir.as_bytes())?;
+    put_bytes(&mut name, b"/run-")?;
+    put_number(&mut name, run)?;
+    put_bytes(&mut name, b"-node-")?;
+    put_number(&mut name, u64::from(node.number))?;
+    put_bytes(&mut name, b".record")?;
+    Ok(name)
+}
+
+// Makes a file that was not there, which its owner alone may read.
+fn make<F: Files<File = File>>(files: &F, name: &str) -> Result<File, RecordTrouble> {
+    let mut options = OpenOptions::new();
+    options.write(true).create_new(true).mode(0o600);
+    match options.open(files, name) {
+        Ok(file) => Ok(file),
+        Err(error) => match error.kind() {
+            ErrorKind::AlreadyExists => Err(RecordTrouble::There),
+            _ => Err(RecordTrouble::Unmade),
+        },
+    }
+}
+
+// Returns what the first line of a node's record says.
+fn head_of(plan: &HostPlan, node: NodeId) -> RecordHead
+    ensures { result ≡ record { node = node; nodes = plan.now.cluster.nodes; silence = plan.now.cluster.silence; places = plan.now.cluster.places; version = version_at plan.now.cluster.versions node.number; room = plan.now.cluster.room } }
+{
+    RecordHead {
+        node,
+        nodes: plan.cluster.nodes,
+        silence: plan.cluster.silence,
+        places: plan.cluster.places,
+        version: plan.cluster.bounds().version_of(node),
+        room: plan.cluster.room,
+    }
+}
+
+// Writes the first line, and sees that it is on the disk.
+fn begin(alloc: Global, file: &mut RecordFile, head: &RecordHead) -> bool
+    ensures { file.new.node ≡ file.old.node }
+{
+    write_head(alloc, file, head).is_ok() && file.file.sync_all().is_ok()
+}
+
+/// Makes the record of a node, in a folder that is made if it was not there, and writes its first line.
+pub fn open_record<F: Files<File = File>>(
+    files: &F,
+    alloc: Global,
+    place: RecordPlace<'_>,
+    plan: &HostPlan,
+    node: NodeId,
+) -> Result<RecordFile, RecordFault>
+    ensures { IfOk result (λ made. made.node ≡ node) }
+{
+    let bytes = record_name(alloc, place.dir, place.run, node)?;
+    let Ok(name) = str::from_utf8(&bytes) else {
+        return Err(RecordFault::Trouble(RecordTrouble::Unmade));
+    };
+    let _ = fs::create_dir_all(files, place.dir);
+    let file = match make(files, name) {
+        Ok(file) => file,
+        Err(trouble) => return Err(RecordFault::Trouble(trouble)),
+    };
+    let mut made = RecordFile {
+        node,
+        file,
+        syncs: place.syncs,
+        is_dirty: false,
+    };
+    if !begin(alloc, &mut made, &head_of(plan, node)) {
+        return Err(RecordFault::Trouble(RecordTrouble::Unwritten));
+    }
+    Ok(made)
+}
+
+/// Makes the records of this number of nodes from the first on, where they are wanted.
+pub fn open_records<F: Files<File = File>>(
+    files: &F,
+    alloc: Global,
+    place: Option<RecordPlace<'_>>,
+    plan: &HostPlan,
+    first: NodeId,
+    nodes: u8,
+) -> Result<Vec<RecordFile>, RecordFault> {
+    let mut records = Vec::new(alloc);
+    let Some(place) = place else {
+        return Ok(records);
+    };
+    for above in 0..nodes {
+        let Some(node) = NodeId::from_number(first.number.saturating_add(above)) else {
+            return Err(RecordFault::Trouble(RecordTrouble::Unmade));
+        };
+        let made = open_record(files, alloc, place, plan, node)?;
+        if records.push(made).is_err() {
+            return Err(RecordFault::OutOfMemory);
+        }
+    }
+    settle_folder(files, place.dir);
+    Ok(records)
+}
+
+// Sees that the names in a folder are on the disk. A system that does not do so for folders is passed over.
+fn settle_folder<F: Files<File = File>>(files: &F, dir: &str) {
+    if let Ok(folder) = OpenOptions::new().read(true).open(files, dir) {
+        let _ = folder.sync_all();
+    }
+}

@@ -1,0 +1,116 @@
+//! What the loop of a node records by, and what is left of it.
+ghost use Rattle.std.specs.Prelude.{◌≡◌, [], false, vec_len};
+ghost use Rattle.gb_host.specs.HostValue.{AreOpened};
+
+use crate::record_file::RecordFile;
+use crate::signals::Signals;
+use gb_host::host::Host;
+use gb_host::names::Tapes;
+use gb_host::plan::HostPlan;
+use gb_host::recorder::Recorder;
+use gb_loop::settle::Settle;
+use gb_record::name::RecordName;
+use gb_record::recording::write_rest;
+use gb_record::shared::SharedRecording;
+use gb_types::memory::OutOfMemory;
+use gb_types::node::{NodeId, NodeSet};
+use std::alloc::Global;
+use std::io::Write;
+use std::sync::Wait;
+
+/// A node's recorder that has taken nothing, and the file of the node's record.
+#[derive(Drop)]
+pub struct NodeLog<L: Tapes> {
+    pub recorder: Recorder<L>,
+    pub file: RecordFile,
+    pub ghost fresh: { (recorder.entries ≡ []) × (recorder.is_whole ≡ false) },
+}
+
+/// What is left of them when the node's loop has ended.
+#[derive(Drop)]
+pub struct LeftLog<L: Tapes> {
+    pub recorder: Recorder<L>,
+    pub file: RecordFile,
+}
+
+/// Keeps what happens at a node in its record. Once that cannot be written the server ends.
+#[derive(Drop)]
+pub struct Settling<'a, R: RecordName, L: Tapes, W: Write> {
+    pub record: &'a SharedRecording<R, L, W>,
+    pub signals: &'a Signals,
+}
+
+impl<R: RecordName, L: Tapes, W: Write> Settle for Settling<'_, R, L, W> {
+    fn settle(&self) -> bool {
+        if self.record.settle() {
+            return true;
+        }
+        self.signals.miss_record();
+        false
+    }
+}
+
+// Returns a recorder that has taken nothing with the file of its node's record. `None` if there is no file, or it is another node's.
+fn log_of<L: Tapes>(recorder: Recorder<L>, file: Option<RecordFile>) -> Option<NodeLog<L>>
+    requires { (recorder.entries ≡ []) × (recorder.is_whole ≡ false) }
+{
+    let file = file?;
+    if file.node != recorder.node() {
+        return None;
+    }
+    Some(NodeLog { recorder, file })
+}
+
+/// Returns the recorders of a host that was just opened, with the files of their nodes' records, which are in the order of the nodes. A
+/// recorder without its file is left out.
+pub fn logs_of<L: Tapes>(
+    alloc: Global,
+    plan: &HostPlan,
+    here: &NodeSet,
+    recorders: Vec<Option<Recorder<L>>>,
+    files: Vec<RecordFile>,
+) -> Result<Vec<NodeLog<L>>, OutOfMemory>
+    requires count { vec_len recorders ≡ plan.now.cluster.nodes }
+    requires opened { AreOpened plan.now here.now plan.now.cluster.nodes recorders.items }
+{
+    let mut files = files.into_iter();
+    let mut logs = Vec::with_capacity(alloc, recorders.len())?;
+    for place in recorders {
+        if let Some(recorder) = place
+            && let Some(log) = log_of(recorder, files.next())
+        {
+            logs.push(log)?;
+        }
+    }
+    Ok(logs)
+}
+
+/// Takes the log of a node out of a list. `None` if none is there.
+pub fn take_log<L: Tapes>(logs: &mut Vec<NodeLog<L>>, node: NodeId) -> Option<NodeLog<L>> {
+    let at = logs.iter().position(|log| log.file.node == node)?;
+    Some(logs.swap_remove(at))
+}
+
+// Writes what a recorder still has. Returns true if the record is whole.
+fn end_log<L: Tapes>(alloc: Global, log: LeftLog<L>) -> bool {
+    let LeftLog {
+        mut recorder,
+        mut file,
+    } = log;
+    write_rest(alloc, &mut recorder, &mut file).is_ok() && recorder.into_past().is_some()
+}
+
+/// Gives up a host, and writes what its recorders still have, and the ends of their records. Returns true if all records are whole.
+pub fn end_records<L: Tapes, H: Wait>(
+    rt: &H,
+    alloc: Global,
+    host: Host<L>,
+    logs: Vec<LeftLog<L>>,
+) -> bool {
+    host.finish(rt);
+    let mut are_whole = true;
+    for log in logs {
+        are_whole = end_log(alloc, log) && are_whole;
+    }
+    are_whole
+}
