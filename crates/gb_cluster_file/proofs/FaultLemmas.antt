@@ -102,6 +102,7 @@ no_document document (NoNumber number.Run) file h some says within = h.2 file.ru
 no_document document (NoNumber number.Tick) file h some says within = h.2 file.tick within.tick (subst (λ o. IsNumber o 64 file.tick) h.1 says.tick)
 no_document document (NoNumber number.Silence) file h some says within = h.2 file.silence within.silence (subst (λ o. IsNumber o (usual_silence file.tick) file.silence) h.1 says.silence)
 no_document document (NoNumber number.Version) file h some says within = h.2 says.version.0 (ap is_some says.version.2) (subst (λ o. IsNumber o 1 says.version.0) h.1 says.version.1)
+no_document document (NoNumber number.Room) file h some says within = h.2 file.room within.room (subst (λ o. IsNumber o 1400 file.room) h.1 says.room)
 no_document document NoArray file h some says within =
     let same = same_Some _ _ (sym h.1 ∙ says.node) in
     none-some says.items (sym h.2 ∙ ap as_array same)
@@ -187,6 +188,7 @@ taken_bounds number.Run n taken = taken
 taken_bounds number.Tick n taken = taken
 taken_bounds number.Silence n taken = taken
 taken_bounds number.Version n taken = version_bounds n taken
+taken_bounds number.Room n taken = taken
 
 -- a value that is no number in range
 pub no_number : (field : Field) (document : Members) (value : Data) → get_member (name_of field) document ≡ Some value → ((n : ℕ) → value ≡ integer (pos n) → least_of field ≤ n → n ≤ most_of field → ⊥)
