@@ -140,10 +140,10 @@ fn plan_of(matches: &ArgMatches<'_>) -> Option<ServePlan>
 }
 
 // Returns false if a plan wants records beside tapes or without a folder.
-fn may_record(plan: &ServePlan, dir: Option<&str>) -> bool
-    ensures { result ≡ may_record plan.now.records plan.now.tape (is_some dir) }
+fn may_record(plan: &ServePlan, has_dir: bool) -> bool
+    ensures { result ≡ may_record plan.now.records plan.now.tape has_dir }
 {
-    !plan.records || !plan.tape && dir.is_some()
+    !plan.records || !plan.tape && has_dir
 }
 
 // Returns what words name and tell that `clap` took. `None` if they are no plan, or want records beside tapes or without a folder.
@@ -155,7 +155,7 @@ fn words_of<'a>(matches: &ArgMatches<'a>) -> Option<ServeWords<'a>>
 {
     let plan = plan_of(matches)?;
     let dir = matches.get_str("dir");
-    if !may_record(&plan, dir) {
+    if !may_record(&plan, dir.is_some()) {
         return None;
     }
     Some(ServeWords { dir, plan })

@@ -3,7 +3,6 @@ use Rattle.std.specs.Borrow.{Bor}
 use Rattle.clap.specs.Words.{Text, first_of, found_of, rows_of}
 use Rattle.clap.proofs.WalkLemmas.{first_value-rows}
 use Rattle.gb_serve_words.specs.Words.{may_record}
-use Rattle.gb_serve_words.proofs.OptionLemmas.{has_text}
 use Rattle.gb_serve_words.proofs.words.words_of.Goals as goal
 
 pub returns-clause-read : goal.returns-clause-read
@@ -16,3 +15,6 @@ returns-clause-read c =
 
 pub returns-in_err-plan-clause-none : goal.returns-in_err-plan-clause-none
 returns-in_err-plan-clause-none c = rw c.from_residual.ensures c.in_err-plan.ensures.none
+
+pub returns-then-not-may_record-clause-none : goal.returns-then-not-may_record-clause-none
+returns-then-not-may_record-clause-none c = ?
