@@ -1,4 +1,4 @@
-use Rattle.std.proofs.Common.{◌≡◌, ◌∙◌, Bool, Option, true, ap, codes, is_some, option_map, sym, true≢false}
+use Rattle.std.proofs.Common.{◌≡◌, ◌∙◌, Option, Some, None, ap, codes, is_some, option_map, refl, sym, true≢false}
 use Rattle.std.specs.Borrow.{Bor}
 use Rattle.clap.specs.Words.{Text, first_of, found_of, rows_of}
 use Rattle.clap.proofs.WalkLemmas.{first_value-rows}
@@ -16,5 +16,15 @@ returns-clause-read c =
 pub returns-in_err-plan-clause-none : goal.returns-in_err-plan-clause-none
 returns-in_err-plan-clause-none c = rw c.from_residual.ensures c.in_err-plan.ensures.none
 
+-- an option stays one when its value is mapped
+some_mapped : {A B : Type 0} (f : A → B) (o : Option A) → is_some (option_map f o) ≡ is_some o
+some_mapped f None = refl
+some_mapped f (Some x) = refl
+
 pub returns-then-not-may_record-clause-none : goal.returns-then-not-may_record-clause-none
-returns-then-not-may_record-clause-none c = ?
+returns-then-not-may_record-clause-none c = λ can.
+    let f = found_of c.args.matches.now in
+    let plan = c.in_ok-plan.ensures.read in
+    let dir : first_of (codes "dir") (rows_of f) ≡ option_map (λ (s : Bor Text). s.now) c.get_str-dir.result = sym (c.get_str-dir.ensures ∙ first_value-rows f (codes "dir")) in
+    let has_dir : is_some (first_of (codes "dir") (rows_of f)) ≡ c.is_some.result = ap is_some dir ∙ (some_mapped (λ (s : Bor Text). s.now) c.get_str-dir.result ∙ sym c.is_some.ensures) in
+    true≢false (sym can.records ∙ ((λ i. may_record (sym plan.records i) (sym plan.tape i) (has_dir i)) ∙ (sym c.may_record.ensures ∙ c.if-not-may_record.true)))
