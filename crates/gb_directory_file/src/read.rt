@@ -186,7 +186,6 @@ fn find(file: &Value, tenant: u16, node: NodeId) -> Result<PlaceParts<'_>, Direc
 }
 
 /// Returns where the sessions of a node of a tenant's cluster are.
-#[tactic(auto, using(crate::proofs::ListedLemmas::not_listed))]
 pub fn sessions_of(
     file: &Value,
     tenant: u16,
