@@ -141,7 +141,7 @@ fn plan_of(matches: &ArgMatches<'_>) -> Option<ServePlan>
 
 // Returns false if a plan wants records beside tapes or without a folder.
 fn may_record(plan: &ServePlan, dir: Option<&str>) -> bool
-    ensures { result ≡ may_record plan.now.records plan.now.tape (is_some dir) }
+    ensures { result ≡ may_record plan.now.records plan.now.tape (is_some dir.entry) }
 {
     !plan.records || !plan.tape && dir.is_some()
 }

@@ -1,9 +1,6 @@
-use Rattle.std.proofs.Common.{◌≡◌, ◌∙◌, Bool, Option, true, ap, codes, is_some, option_map, sym, true≢false}
-use Rattle.std.specs.Borrow.{Bor}
-use Rattle.clap.specs.Words.{Text, first_of, found_of, rows_of}
+use Rattle.std.proofs.Common.{◌∙◌, codes, sym}
+use Rattle.clap.specs.Words.{found_of}
 use Rattle.clap.proofs.WalkLemmas.{first_value-rows}
-use Rattle.gb_serve_words.specs.Words.{may_record}
-use Rattle.gb_serve_words.proofs.OptionLemmas.{has_text}
 use Rattle.gb_serve_words.proofs.words.words_of.Goals as goal
 
 pub returns-clause-read : goal.returns-clause-read
