@@ -1,5 +1,5 @@
 //! What the loop of a node records by, and what is left of it.
-ghost use Rattle.std.specs.Prelude.{◌≡◌, [], false, vec_len};
+ghost use Rattle.std.specs.Prelude.{◌≡◌, [], false, IfSome, vec_len};
 ghost use Rattle.gb_host.specs.HostValue.{AreOpened};
 
 use crate::record_file::RecordFile;
@@ -50,11 +50,21 @@ impl<R: RecordName, L: Tapes, W: Write> Settle for Settling<'_, R, L, W> {
     }
 }
 
-// Returns a recorder that has taken nothing with the file of its node's record. `None` if there is no file, or it is another node's.
-fn log_of<L: Tapes>(recorder: Recorder<L>, file: Option<RecordFile>) -> Option<NodeLog<L>>
-    requires { (recorder.entries ≡ []) × (recorder.is_whole ≡ false) }
+// Takes the first of these files.
+fn next_file(files: &mut Vec<RecordFile>) -> Option<RecordFile> {
+    if files.is_empty() {
+        None
+    } else {
+        Some(files.remove(0))
+    }
+}
+
+// Returns a recorder that has taken nothing with the next file. `None` if there is no recorder or no file, or it is another node's.
+fn log_of<L: Tapes>(place: Option<Recorder<L>>, files: &mut Vec<RecordFile>) -> Option<NodeLog<L>>
+    requires { IfSome place (λ recorder. (recorder.entries ≡ []) × (recorder.is_whole ≡ false)) }
 {
-    let file = file?;
+    let recorder = place?;
+    let file = next_file(files)?;
     if file.node != recorder.node() {
         return None;
     }
@@ -73,12 +83,10 @@ pub fn logs_of<L: Tapes>(
     requires count { vec_len recorders ≡ plan.now.cluster.nodes }
     requires opened { AreOpened plan.now here.now plan.now.cluster.nodes recorders.items }
 {
-    let mut files = files.into_iter();
+    let mut files = files;
     let mut logs = Vec::with_capacity(alloc, recorders.len())?;
     for place in recorders {
-        if let Some(recorder) = place
-            && let Some(log) = log_of(recorder, files.next())
-        {
+        if let Some(log) = log_of(place, &mut files) {
             logs.push(log)?;
         }
     }
