@@ -69,7 +69,7 @@ pub trait Ending {
 /// A node's loop: its sockets, its clients and its links.
 pub struct NodeLoop<'a, L: Tapes, H, P: Port, S> {
     pub(crate) rt: &'a H,
-    pub(crate) settle: &'a S,
+    pub(crate) settle: S,
     pub(crate) alloc: Global,
     pub(crate) mail: Mail<'a, L, H, P>,
     pub(crate) nodes: u8,
@@ -118,11 +118,11 @@ pub struct LoopSockets {
     pub listener: TcpListener,
 }
 
-impl<'a, L: Tapes, H: Wait + Clock, P: Port, S: Settle> NodeLoop<'a, L, H, P, S> {
+impl<'a, L: Tapes, H: Wait + Clock, P: Port, S: Settle + Copy> NodeLoop<'a, L, H, P, S> {
     // A loop that has not begun. Without memory the node's parts are given back.
     fn new(
         rt: &'a H,
-        settle: &'a S,
+        settle: S,
         alloc: Global,
         mail: Mail<'a, L, H, P>,
         nodes: u8,
@@ -332,7 +332,7 @@ impl<'a, L: Tapes, H: Wait + Clock, P: Port, S: Settle> NodeLoop<'a, L, H, P, S>
 /// Runs the loop of a node until its end is told: carries the packets of its port, answers the clients of its listener, and makes
 /// its time tick. Gives node, seat and port back. Each call of the seat is one at the node; what travelled at the port is what
 /// these calls say. What happened is settled before a reply is written, after the turn of each client, and once a round.
-pub fn run_loop<L: Tapes, H: Wait + Clock, N: Net, P: Port, S: Settle, E: Ending>(
+pub fn run_loop<L: Tapes, H: Wait + Clock, N: Net, P: Port, S: Settle + Copy, E: Ending>(
     rt: &H,
     net: &N,
     alloc: Global,
@@ -342,7 +342,7 @@ pub fn run_loop<L: Tapes, H: Wait + Clock, N: Net, P: Port, S: Settle, E: Ending
     port: P,
     sockets: LoopSockets,
     options: LoopOptions,
-    settle: &S,
+    settle: S,
     ending: &E,
 ) -> Parts<L, P>
     ensures node { result.node ≡ node }

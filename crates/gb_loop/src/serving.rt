@@ -97,7 +97,7 @@ fn groups_of(alloc: Global, awaited: &Awaited) -> Option<Vec<Addr>> {
     Some(groups)
 }
 
-impl<'a, L: Tapes, H: Wait + Clock, P: Port, S: Settle> NodeLoop<'a, L, H, P, S> {
+impl<'a, L: Tapes, H: Wait + Clock, P: Port, S: Settle + Copy> NodeLoop<'a, L, H, P, S> {
     // Lists a connection to be looked at in this round.
     pub(crate) fn list(&mut self, key: usize)
         ensures origin { self.new.mail.origin ≡ self.old.mail.origin }

@@ -1,4 +1,6 @@
 //! What is done before replies leave a node.
+ghost use Rattle.std.specs.Prelude.{◌≡◌};
+
 use std::io;
 use std::io::{ErrorKind, Write};
 
@@ -18,23 +20,29 @@ impl Settle for Unsettled {
     }
 }
 
+impl<S: Settle> Settle for &S {
+    fn settle(&self) -> bool {
+        (**self).settle()
+    }
+}
+
 /// A writer to which nothing is written until it is kept what happened. Where it cannot be kept each write fails.
 #[derive(Drop)]
-pub struct SettledFirst<'a, S, W> {
-    settle: &'a S,
+pub struct SettledFirst<S, W> {
+    settle: S,
     writer: W,
 }
 
-impl<'a, S: Settle, W: Write> SettledFirst<'a, S, W> {
-    /// A writer round another one.
-    pub fn new(settle: &'a S, writer: W) -> SettledFirst<'a, S, W>
+impl<S: Settle, W: Write> SettledFirst<S, W> {
+    /// Returns a writer round another one.
+    pub fn new(settle: S, writer: W) -> SettledFirst<S, W>
         ensures { result.writer ≡ writer }
     {
         SettledFirst { settle, writer }
     }
 }
 
-impl<S: Settle, W: Write> Write for SettledFirst<'_, S, W> {
+impl<S: Settle, W: Write> Write for SettledFirst<S, W> {
     ghost contents = { λ w. W.contents w.writer };
 
     fn write(&mut self, buf: &[u8]) -> io::Result<usize> {
