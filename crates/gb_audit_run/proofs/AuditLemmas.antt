@@ -152,14 +152,14 @@ sum_past tapes i tape lt is =
 
 -- the first lines say the same of the cluster as the first of them
 pub like_first : (heads : List RecordHead) (first : RecordHead) (k : ℕ) (d : RecordHead) → first ≡ get_or heads 0 first → AllPairs AreOfOne heads → k < length heads
-    → ((get_or heads k d).nodes ≡ first.nodes) × (((get_or heads k d).silence ≡ first.silence) × ((get_or heads k d).places ≡ first.places))
+    → ((get_or heads k d).nodes ≡ first.nodes) × (((get_or heads k d).silence ≡ first.silence) × (((get_or heads k d).places ≡ first.places) × ((get_or heads k d).room ≡ first.room)))
 like_first heads first zero d is one lt =
-    let here = get_or_default heads 0 d first lt ∙ sym is in (ap (λ (h : RecordHead). h.nodes) here, (ap (λ (h : RecordHead). h.silence) here, ap (λ (h : RecordHead). h.places) here))
+    let here = get_or_default heads 0 d first lt ∙ sym is in (ap (λ (h : RecordHead). h.nodes) here, (ap (λ (h : RecordHead). h.silence) here, (ap (λ (h : RecordHead). h.places) here, ap (λ (h : RecordHead). h.room) here)))
 like_first heads first (suc k) d is one lt =
     let pair = one 0 (suc k) d (omega arith) lt in
     let here : get_or heads 0 d ≡ first = get_or_default heads 0 d first (omega (arith, lt)) ∙ sym is in (
       sym pair.nodes ∙ ap (λ (h : RecordHead). h.nodes) here,
-      (sym pair.silence ∙ ap (λ (h : RecordHead). h.silence) here, sym pair.places ∙ ap (λ (h : RecordHead). h.places) here),
+      (sym pair.silence ∙ ap (λ (h : RecordHead). h.silence) here, (sym pair.places ∙ ap (λ (h : RecordHead). h.places) here, sym pair.room ∙ ap (λ (h : RecordHead). h.room) here)),
     )
 
 -- a list from which nothing can be popped

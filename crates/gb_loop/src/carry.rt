@@ -22,7 +22,7 @@ pub const FRAMES: usize = 64;
 
 const _: () = prove!(FRAMES == 64 && PACKETS == 64);
 
-impl<'a, L: Tapes, H: Wait + Clock, P: Port, S: Settle> NodeLoop<'a, L, H, P, S> {
+impl<'a, L: Tapes, H: Wait + Clock, P: Port, S: Settle + Copy> NodeLoop<'a, L, H, P, S> {
     // Returns the node with this number, if it is another one.
     fn other(&self, number: u8) -> Option<NodeId> {
         if number == self.mail.origin.node.number || usize::from(number) >= NODES {

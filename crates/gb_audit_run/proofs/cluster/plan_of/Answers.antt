@@ -8,6 +8,7 @@ returns-then-is_plan-clause-fit c = λ k d lt.
       here = (c.are_below.ensures.0 c.if-not-are_below.false) k d lt;
       nodes = like.0;
       silence = like.1.0;
-      places = like.1.1;
+      places = like.1.1.0;
+      room = like.1.1.1;
       version = c.versions_of-versions.ensures k d lt;
     }
