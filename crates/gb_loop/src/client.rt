@@ -4,6 +4,7 @@ ghost use Rattle.std.specs.Io.KnownBytes.{Appends, Keeps};
 ghost use Rattle.gb_session.specs.Runs.{HasAsked};
 ghost use Rattle.gb_loop.specs.Turned.{HasCome, HasAnswered, HasSent, HasStopped, HasTurned, is_end};
 
+use crate::settle::Settle;
 use gb_session::answers::Answers;
 use gb_session::session::{Session, Step};
 use gb_types::memory::OutOfMemory;
@@ -122,6 +123,22 @@ fn write_some<'a, W: Write>(writer: &mut W, bytes: &'a [u8]) -> Option<&'a [u8]>
     Some(rest)
 }
 
+// Settles what happened, and then writes what the stream takes now. Returns the bytes that it did not take, or None if it failed or what
+// happened cannot be kept.
+fn send<'a, S: Settle, W: Write>(settle: &S, writer: &mut W, bytes: &'a [u8]) -> Option<&'a [u8]>
+    ensures some { IfSome result (λ rest. (sent : List ℕ) × Appends (W.contents writer.old) (W.contents writer.new) sent
+        × (bytes.now ≡ sent ++ rest.now)) }
+    ensures none { IfNone result (HasSent (W.contents writer.old) (W.contents writer.new) bytes.now) }
+{
+    if bytes.is_empty() {
+        return Some(bytes);
+    }
+    if !settle.settle() {
+        return None;
+    }
+    write_some(writer, bytes)
+}
+
 impl Client {
     /// A client that has asked nothing, and may ask so much.
     pub fn new(alloc: Global, requests: u64) -> Client
@@ -137,7 +154,7 @@ impl Client {
     }
 
     // Sends what the stream takes of the replies that wait. Returns false if it failed, or there was no memory.
-    fn flush<W: Write>(&mut self, alloc: Global, writer: &mut W) -> bool
+    fn flush<S: Settle, W: Write>(&mut self, alloc: Global, settle: &S, writer: &mut W) -> bool
         ensures sent { result ≡ true → (sent : List ℕ) × Appends (W.contents writer.old) (W.contents writer.new) sent
             × (self.old.unsent.items ≡ sent ++ self.new.unsent.items) }
         ensures failed { HasSent (W.contents writer.old) (W.contents writer.new) self.old.unsent.items }
@@ -146,7 +163,7 @@ impl Client {
         if self.unsent.is_empty() {
             return true;
         }
-        let Some(rest) = write_some(writer, &self.unsent) else {
+        let Some(rest) = send(settle, writer, &self.unsent) else {
             return false;
         };
         let Ok(unsent) = Vec::from_slice(alloc, rest) else {
@@ -157,10 +174,11 @@ impl Client {
     }
 
     // Answers a piece, and sends what the stream takes of the replies. Returns None if it failed, or there was no memory.
-    fn answer<A: Answers, W: Write>(
+    fn answer<A: Answers, S: Settle, W: Write>(
         &mut self,
         alloc: Global,
         answers: &mut A,
+        settle: &S,
         writer: &mut W,
         piece: &[u8],
         way: Way,
@@ -180,7 +198,7 @@ impl Client {
             Ok(step) => step,
             Err(OutOfMemory) => return None,
         };
-        let Some(rest) = write_some(writer, out) else {
+        let Some(rest) = send(settle, writer, out) else {
             return None;
         };
         let Ok(unsent) = Vec::from_slice(alloc, rest) else {
@@ -192,11 +210,12 @@ impl Client {
     }
 
     /// One turn: sends the replies that wait; if all are sent reads a piece, answers what is whole, and sends what the stream takes of
-    /// the replies. `space` is where a read puts its bytes, and `out` where replies are put.
-    pub fn turn<A: Answers, R: Read, W: Write>(
+    /// the replies. What happened is settled before anything is sent; the turn fails if it cannot be kept. `space` is where a read puts its bytes, and `out` where replies are put.
+    pub fn turn<A: Answers, S: Settle, R: Read, W: Write>(
         &mut self,
         alloc: Global,
         answers: &mut A,
+        settle: &S,
         reader: &mut R,
         writer: &mut W,
         way: Way,
@@ -208,7 +227,7 @@ impl Client {
         ensures over { self.old.is_over ≡ true → answers.new ≡ answers.old }
         ensures asked { HasAsked A.answers answers.old answers.new }
     {
-        if !self.flush(alloc, writer) {
+        if !self.flush(alloc, settle, writer) {
             return Turn::Failed;
         }
         if !self.unsent.is_empty() {
@@ -224,7 +243,7 @@ impl Client {
             Came::Closed => return Turn::Closed,
             Came::Failed => return Turn::Failed,
         };
-        match self.answer(alloc, answers, writer, &space[..count], way, out) {
+        match self.answer(alloc, answers, settle, writer, &space[..count], way, out) {
             Some(step) => Turn::Took(step, count),
             None => Turn::Failed,
         }

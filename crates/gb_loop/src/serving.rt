@@ -4,7 +4,7 @@ ghost use Rattle.std.specs.Prelude.{◌≡◌};
 use crate::client::{Turn, Way};
 use crate::connection::Connection;
 use crate::node_loop::NodeLoop;
-use crate::settle::{Settle, SettledFirst};
+use crate::settle::Settle;
 use gb_host::names::Tapes;
 use gb_node::answer::{NodeAnswer, Ticked};
 use gb_node::event::NodeEvent;
@@ -201,11 +201,11 @@ impl<'a, L: Tapes, H: Wait + Clock, P: Port, S: Settle + Copy> NodeLoop<'a, L, H
             ..
         } = self;
         let connection = connections.get_mut(key)?;
-        let mut reader = &connection.stream;
-        let mut writer = SettledFirst::new(*settle, &connection.stream);
+        let (mut reader, mut writer) = (&connection.stream, &connection.stream);
         let turn = connection.client.turn(
             *alloc,
             mail,
+            settle,
             &mut reader,
             &mut writer,
             way,

@@ -11,7 +11,6 @@ use gb_host::pasts::{NodePast, new_pasts};
 use gb_host::plan::HostPlan;
 use gb_host::recorder::Recorder;
 use gb_host::seat::Seat;
-use gb_loop::settle::SettledFirst;
 use gb_node::answer::{NodeAnswer, Sent};
 use gb_node::event::NodeEvent;
 use gb_past::past::Past;
@@ -252,24 +251,4 @@ fn nothing_leaves_after_a_write_failed(rt: HostRuntime) {
         assert!(rt; ended == Some(((left, false, false), 0, false)));
         assert!(rt; desk.right.get() == left && desk.early.get() == 0);
     }
-}
-
-#[test]
-fn a_reply_is_written_when_all_is_kept(rt: HostRuntime) {
-    let desk = Desk::new(rt.alloc());
-    let asked = Asked {
-        times: Cell::new(0),
-        most: 2,
-    };
-    let pen = Pen {
-        desk: &desk,
-        fails_at: 0,
-        writes: 0,
-    };
-    let mut writer = SettledFirst::new(&asked, pen);
-    let first = writer.write(b"said 1").is_ok();
-    let second = writer.write(b"ok").is_ok();
-    let third = writer.write(b"said 2").is_ok();
-    let length = desk.len();
-    assert!(rt; first && second && !third && length == 8 && asked.times.get() == 3);
 }

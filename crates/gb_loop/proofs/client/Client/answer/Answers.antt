@@ -14,7 +14,7 @@ returns-in-Err-clause-asked g c = in_turn_asked (fails_in_turn _ _ _ _ _ _ _ _ _
 pub returns-in_default-clause-none : goal.returns-in_default-clause-none
 returns-in_default-clause-none g c =
     stopped_behind _ _ _ _ _ _ _ _ _ _ _ _ _ _ c.in-Ok.ensures.ok c.clear.ensures.items
-    (subst (λ b. HasSent (g.W.Write.contents c.args.writer.now) (g.W.Write.contents c.write_some.new.writer) b) c.deref.ensures.value c.in_default.ensures.none)
+    (subst (λ b. HasSent (g.W.Write.contents c.args.writer.now) (g.W.Write.contents c.send.new.writer) b) c.deref.ensures.value c.in_default.ensures.none)
 
 pub returns-in_default-clause-asked : goal.returns-in_default-clause-asked
 returns-in_default-clause-asked g c = took_asked c.in-Ok.ensures.ok
