@@ -1,9 +1,14 @@
 //! A writer and a port that look at one text.
 use gb_loop::settle::Settle;
 use gb_port::port::{Port, PortFault};
+use gb_session::answers::Answers;
+use gb_session::operation::Operation;
 use gb_types::memory::{OutOfMemory, put_bytes};
 use gb_types::node::NodeId;
 use gb_types::payload_word::put_payload;
+use gb_types::refusal::Refusal;
+use gb_types::reply::Reply;
+use gb_types::request::Request;
 use std::alloc::Global;
 use std::cell::{Cell, RefCell};
 use std::io;
@@ -120,6 +125,22 @@ impl Port for Gate<'_> {
 
     fn failures(&self) -> u64 {
         0
+    }
+}
+
+/// Answers nothing.
+#[derive(Drop)]
+pub struct Nobody;
+
+impl Answers for Nobody {
+    ghost answers = { record { replies = λ s request reply t. Unit {0}; tells = λ operation text. Unit {0} } };
+
+    fn answer(&mut self, _request: Request) -> Reply {
+        Reply::Refused(Refusal::Stopped)
+    }
+
+    fn operate(&self, _operation: Operation, _out: &mut Vec<u8>) -> Result<(), OutOfMemory> {
+        Err(OutOfMemory)
     }
 }
 

@@ -3,7 +3,7 @@ ghost use Rattle.std.specs.Prelude.{◌≡◌, [], vec_len};
 ghost use Rattle.gb_host.specs.Pasts.{AreBlank, books_of};
 ghost use Rattle.gb_host.specs.Plans.{IsPlan};
 
-use crate::desk::{Asked, Desk, Gate, Pen};
+use crate::desk::{Asked, Desk, Gate, Nobody, Pen};
 use gb_host::here::only;
 use gb_host::host::Host;
 use gb_host::names::Tapes;
@@ -11,6 +11,7 @@ use gb_host::pasts::{NodePast, new_pasts};
 use gb_host::plan::HostPlan;
 use gb_host::recorder::Recorder;
 use gb_host::seat::Seat;
+use gb_loop::client::{Client, Turn, Way};
 use gb_node::answer::{NodeAnswer, Sent};
 use gb_node::event::NodeEvent;
 use gb_past::past::Past;
@@ -27,7 +28,6 @@ use gb_types::plan::Plan;
 use gb_types::version::Version;
 use std::alloc::Global;
 use std::cell::Cell;
-use std::io::Write;
 use std::marker::Brand;
 use std::rt::HostRuntime;
 use std::sync::Wait;
@@ -251,4 +251,49 @@ fn nothing_leaves_after_a_write_failed(rt: HostRuntime) {
         assert!(rt; ended == Some(((left, false, false), 0, false)));
         assert!(rt; desk.right.get() == left && desk.early.get() == 0);
     }
+}
+
+// Returns whether a client's turn failed, by what may be asked so often whether all is kept, and how many bytes were written.
+fn turn_of(alloc: Global, most: u32) -> (bool, usize) {
+    let desk = Desk::new(alloc);
+    let asked = Asked {
+        times: Cell::new(0),
+        most,
+    };
+    let mut pen = Pen {
+        desk: &desk,
+        fails_at: 0,
+        writes: 0,
+    };
+    let mut client = Client::new(alloc, 1);
+    let way = Way {
+        reads: false,
+        is_late: false,
+        room: 1,
+    };
+    let mut space = [0u8; 4];
+    let mut out = Vec::new(alloc);
+    let mut unread: &[u8] = b"";
+    if client.unsent.extend_from_slice(b"said 1").is_err() {
+        return (false, 0);
+    }
+    let turn = client.turn(
+        alloc,
+        &mut Nobody,
+        &asked,
+        &mut unread,
+        &mut pen,
+        way,
+        &mut space,
+        &mut out,
+    );
+    (matches!(turn, Turn::Failed), desk.len())
+}
+
+#[test]
+fn a_reply_is_written_when_all_is_kept(rt: HostRuntime) {
+    let alloc = rt.alloc();
+    let kept = turn_of(alloc, 1);
+    let lost = turn_of(alloc, 0);
+    assert!(rt; kept == (false, 6) && lost == (true, 0));
 }
