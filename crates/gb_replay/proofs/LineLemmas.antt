@@ -1,0 +1,67 @@
+-- How a request, and the versions of nodes, are written.
+use Rattle.std.proofs.Common.{◌≡◌, ℕ, List, [], ◌∷◌, ◌++◌, length, take, refl, sym, ap, subst, ◌∙◌, append_assoc, arith}
+use Rattle.std.proofs.lemmas.List.{append-nil, length-append}
+use Rattle.std.proofs.Math.Seq.{take-append_seam}
+use Rattle.std.specs.List.{join_with_byte}
+use Rattle.std.specs.Prelude.{codes, decimal, map}
+use Rattle.hex.proofs.HexLemmas.{length-encode_with}
+use Rattle.hex.specs.Hex.{encode_lower, lower_digits}
+use Rattle.gb_types.specs.declared.node.NodeId.{NodeId}
+use Rattle.gb_types.specs.declared.request.Request.{Request}
+use Rattle.gb_types.specs.declared.request.Request.TheVariants.{AddTenant, Make, OpenGroup, ShutGroup, DropGroup, Say, Fetch}
+use Rattle.gb_types.specs.declared.version.Version.{Version}
+use Rattle.gb_record_text.specs.RecordText.{each_after_comma, request_text, token_text}
+use Rattle.gb_schedule.specs.Versions.{versions_word}
+use Rattle.gb_replay.specs.ScheduleText.{request_line, secret_text, version_byte}
+
+length_after : (word bytes : List ℕ) → length (word ++ encode_lower bytes) ≡ length word + 2 * length bytes
+length_after word bytes = length-append word (encode_lower bytes) ∙ ap (λ n. length word + n) (length-encode_with lower_digits bytes)
+
+-- how long what is cut off is
+pub length_token : (token : List ℕ) → length (token_text token) ≡ 4 + 2 * length token
+length_token token = length_after (codes " by ") token
+
+pub length_secrets : (key token : List ℕ) → length ((codes " key " ++ encode_lower key) ++ token_text token) ≡ 5 + 2 * length key + 4 + 2 * length token
+length_secrets key token =
+    let both = length-append (codes " key " ++ encode_lower key) (token_text token) in
+    let front : length (codes " key " ++ encode_lower key) ≡ 5 + 2 * length key = length_after (codes " key ") key in
+    let behind = length_token token in
+    omega (arith, both, front, behind)
+
+-- a request in a record is its line in a schedule, with what is secret behind it
+pub parted : (b : NodeId) (request : Request) → request_text b request ≡ request_line b request ++ secret_text request
+parted b (AddTenant token row) = simp (append_assoc)
+parted b (Make token addr spec) = refl
+parted b (OpenGroup token addr) = refl
+parted b (ShutGroup token addr) = refl
+parted b (DropGroup token addr) = refl
+parted b (Say token addr message) = refl
+parted b (Fetch token addr from most) = refl
+
+cut : (old text front behind all : List ℕ) → all ≡ old ++ text → text ≡ front ++ behind → take (length all - length behind) all ≡ old ++ front
+cut old text front behind all is split =
+    let whole : all ≡ (old ++ front) ++ behind = is ∙ (ap (λ t. old ++ t) split ∙ sym (append_assoc old front behind)) in
+    let long : length all ≡ length (old ++ front) + length behind = ap length whole ∙ length-append (old ++ front) behind in
+    let count : length all - length behind ≡ length (old ++ front) = omega (arith, long) in
+    ap (λ n. take n all) count ∙ (ap (λ t. take (length (old ++ front)) t) whole ∙ take-append_seam (old ++ front) behind)
+
+-- what is left of a request that was written behind some text, once its secrets are cut off
+pub cut_off : (b : NodeId) (request : Request) (old all : List ℕ) (n : ℕ) → all ≡ old ++ request_text b request → n ≡ length all - length (secret_text request) → take n all ≡ old ++ request_line b request
+cut_off b request old all n is count = ap (λ k. take k all) count ∙ cut old (request_text b request) (request_line b request) (secret_text request) all is (parted b request)
+
+-- one number more, each after a comma
+pub comma_more : (ns : List ℕ) (n : ℕ) → each_after_comma (ns ++ n ∷ []) ≡ each_after_comma ns ++ (codes "," ++ decimal n)
+comma_more [] n = append-nil (codes "," ++ decimal n)
+comma_more (m ∷ ns) n = ap (λ t. codes "," ++ decimal m ++ t) (comma_more ns n) ∙ sym (append_assoc (codes "," ++ decimal m) (each_after_comma ns) (codes "," ++ decimal n))
+
+joined_by_commas : (n : ℕ) (rest : List ℕ) → join_with_byte 44 (decimal n ∷ map decimal rest) ≡ decimal n ++ each_after_comma rest
+joined_by_commas n [] = sym (append-nil (decimal n))
+joined_by_commas n (m ∷ rest) = ap (λ behind. decimal n ++ (44 ∷ behind)) (joined_by_commas m rest)
+
+bytes_of : (versions : List Version) → map (λ version. decimal (version_byte version)) versions ≡ map decimal (map version_byte versions)
+bytes_of [] = refl
+bytes_of (v ∷ versions) = ap (λ q. decimal (version_byte v) ∷ q) (bytes_of versions)
+
+-- the first version, and the others each after a comma
+pub versions_so : (first : Version) (more : List Version) → versions_word (first ∷ more) ≡ decimal (version_byte first) ++ each_after_comma (map version_byte more)
+versions_so first more = ap (λ q. join_with_byte 44 (decimal (version_byte first) ∷ q)) (bytes_of more) ∙ joined_by_commas (version_byte first) (map version_byte more)
