@@ -1,5 +1,5 @@
 -- How a request, and the versions of nodes, are written.
-use Rattle.std.proofs.Common.{◌≡◌, ℕ, List, [], ◌∷◌, ◌++◌, length, take, refl, sym, ap, subst, ◌∙◌, append_assoc, arith}
+use Rattle.std.proofs.Common.{◌≡◌, ℕ, ◌+◌, ◌-◌, ◌*◌, List, [], ◌∷◌, ◌++◌, length, take, refl, sym, ap, subst, ◌∙◌, append_assoc, arith}
 use Rattle.std.proofs.lemmas.List.{append-nil, length-append}
 use Rattle.std.proofs.Math.Seq.{take-append_seam}
 use Rattle.std.specs.List.{join_with_byte}
@@ -10,9 +10,9 @@ use Rattle.gb_types.specs.declared.node.NodeId.{NodeId}
 use Rattle.gb_types.specs.declared.request.Request.{Request}
 use Rattle.gb_types.specs.declared.request.Request.TheVariants.{AddTenant, Make, OpenGroup, ShutGroup, DropGroup, Say, Fetch}
 use Rattle.gb_types.specs.declared.version.Version.{Version}
-use Rattle.gb_record_text.specs.RecordText.{each_after_comma, request_text, token_text}
+use Rattle.gb_record_text.specs.RecordText.{after_space, limits_text, each_after_comma, request_text, token_text}
 use Rattle.gb_schedule.specs.Versions.{versions_word}
-use Rattle.gb_replay.specs.ScheduleText.{request_line, secret_text, version_byte}
+use Rattle.gb_replay.specs.ScheduleText.{request_line, key_text, secret_text, version_byte}
 
 length_after : (word bytes : List ℕ) → length (word ++ encode_lower bytes) ≡ length word + 2 * length bytes
 length_after word bytes = length-append word (encode_lower bytes) ∙ ap (λ n. length word + n) (length-encode_with lower_digits bytes)
@@ -21,16 +21,19 @@ length_after word bytes = length-append word (encode_lower bytes) ∙ ap (λ n. 
 pub length_token : (token : List ℕ) → length (token_text token) ≡ 4 + 2 * length token
 length_token token = length_after (codes " by ") token
 
-pub length_secrets : (key token : List ℕ) → length ((codes " key " ++ encode_lower key) ++ token_text token) ≡ 5 + 2 * length key + 4 + 2 * length token
-length_secrets key token =
-    let both = length-append (codes " key " ++ encode_lower key) (token_text token) in
-    let front : length (codes " key " ++ encode_lower key) ≡ 5 + 2 * length key = length_after (codes " key ") key in
-    let behind = length_token token in
-    omega (arith, both, front, behind)
+pub length_key : (key : List ℕ) → length (key_text key) ≡ 5 + 2 * length key
+length_key key = length_after (codes " key ") key
+
+pub length_both : (key token : List ℕ) → length (key_text key ++ token_text token) ≡ length (key_text key) + length (token_text token)
+length_both key token = length-append (key_text key) (token_text token)
+
+moved : (head row word key token : List ℕ) → (head ++ ((row ++ word) ++ key)) ++ token ≡ (head ++ row) ++ ((word ++ key) ++ token)
+moved head row word key token =
+    ap (λ q. (head ++ q) ++ token) (append_assoc row word key) ∙ (ap (λ q. q ++ token) (sym (append_assoc head row (word ++ key))) ∙ append_assoc (head ++ row) (word ++ key) token)
 
 -- a request in a record is its line in a schedule, with what is secret behind it
 pub parted : (b : NodeId) (request : Request) → request_text b request ≡ request_line b request ++ secret_text request
-parted b (AddTenant token row) = simp (append_assoc)
+parted b (AddTenant token row) = moved (codes "tenant") (after_space (decimal b.number) ++ after_space (decimal row.tenant) ++ after_space (decimal row.groups) ++ limits_text row.msgs row.bytes row.window) (codes " key ") (encode_lower row.key) (token_text token)
 parted b (Make token addr spec) = refl
 parted b (OpenGroup token addr) = refl
 parted b (ShutGroup token addr) = refl

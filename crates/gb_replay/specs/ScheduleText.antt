@@ -33,9 +33,13 @@ request_line b (DropGroup token addr) = codes "drop" ++ address_text b addr
 request_line b (Say token addr message) = codes "say" ++ address_text b addr ++ message_text message
 request_line b (Fetch token addr from most) = codes "fetch" ++ address_text b addr ++ after_space (decimal from) ++ after_space (decimal most)
 
+-- ` key KEY`
+abbrev pub key_text : List ℕ → List ℕ
+key_text key = codes " key " ++ encode_lower key
+
 -- what a record has behind that
 abbrev pub secret_text : Request → List ℕ
-secret_text (AddTenant token row) = (codes " key " ++ encode_lower row.key) ++ token_text token
+secret_text (AddTenant token row) = key_text row.key ++ token_text token
 secret_text (Make token addr spec) = token_text token
 secret_text (OpenGroup token addr) = token_text token
 secret_text (ShutGroup token addr) = token_text token

@@ -2,8 +2,8 @@
 ghost use Rattle.std.specs.Prelude.{◌≡◌, ◌≤◌, ◌++◌, decimal, length, map, OnOk};
 ghost use Rattle.gb_types.specs.declared.limits.TheConstants.{NODES as MOST};
 ghost use Rattle.gb_schedule.specs.Versions.{versions_word};
-ghost use Rattle.gb_record_text.specs.RecordText.{after_space, each_after_comma};
-ghost use Rattle.gb_replay.specs.ScheduleText.{request_line, secret_text, event_line, line_of, first_line, version_byte};
+ghost use Rattle.gb_record_text.specs.RecordText.{after_space, each_after_comma, token_text};
+ghost use Rattle.gb_replay.specs.ScheduleText.{request_line, key_text, secret_text, event_line, line_of, first_line, version_byte};
 
 use gb_cluster::event::Event;
 use gb_node::event::NodeEvent;
@@ -24,20 +24,37 @@ fn put_after(out: &mut Vec<u8>, number: u64) -> Result<(), OutOfMemory>
     put_number(out, number)
 }
 
-// Returns how many bytes of a request in a record are its token's and, where it adds a tenant, the tenant's key's, each with the word before it.
+// Returns how many bytes ` by TOKEN` has.
+#[tactic(auto, using(crate::proofs::LineLemmas::length_token))]
+fn token_length(token: &[u8; 32]) -> usize
+    ensures value { result ≡ length (token_text token.now) }
+    ensures count { result ≡ 68 }
+{
+    68
+}
+
+// Returns how many bytes ` key KEY` has.
+#[tactic(auto, using(crate::proofs::LineLemmas::length_key))]
+fn key_length(key: &[u8; 32]) -> usize
+    ensures value { result ≡ length (key_text key.now) }
+    ensures count { result ≡ 69 }
+{
+    69
+}
+
+// Returns how many bytes of a request in a record are its token's and, where it adds a tenant, the key's, each with the word before it.
+#[tactic(auto, using(crate::proofs::LineLemmas::length_both))]
 fn secret_length(request: &Request) -> usize
     ensures { result ≡ length (secret_text request.now) }
 {
     match request {
-        Request::AddTenant(token, row) => {
-            b" key ".len() + 2 * row.key.len() + b" by ".len() + 2 * token.len()
-        }
-        Request::Make(token, _, _) => b" by ".len() + 2 * token.len(),
-        Request::OpenGroup(token, _) => b" by ".len() + 2 * token.len(),
-        Request::ShutGroup(token, _) => b" by ".len() + 2 * token.len(),
-        Request::DropGroup(token, _) => b" by ".len() + 2 * token.len(),
-        Request::Say(token, _, _) => b" by ".len() + 2 * token.len(),
-        Request::Fetch(token, _, _, _) => b" by ".len() + 2 * token.len(),
+        Request::AddTenant(token, row) => key_length(&row.key) + token_length(token),
+        Request::Make(token, _, _) => token_length(token),
+        Request::OpenGroup(token, _) => token_length(token),
+        Request::ShutGroup(token, _) => token_length(token),
+        Request::DropGroup(token, _) => token_length(token),
+        Request::Say(token, _, _) => token_length(token),
+        Request::Fetch(token, _, _, _) => token_length(token),
     }
 }
 
