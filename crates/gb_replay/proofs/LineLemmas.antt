@@ -1,9 +1,9 @@
 -- How a request, and the versions of nodes, are written.
-use Rattle.std.proofs.Common.{◌≡◌, ℕ, ◌+◌, ◌-◌, ◌*◌, List, [], ◌∷◌, ◌++◌, length, take, refl, sym, ap, subst, ◌∙◌, append_assoc, arith}
-use Rattle.std.proofs.lemmas.List.{append-nil, length-append}
+use Rattle.std.proofs.Common.{◌≡◌, ℕ, ◌+◌, ◌-◌, ◌*◌, ◌<◌, List, [], ◌∷◌, ◌++◌, length, take, refl, sym, ap, subst, ◌∙◌, append_assoc, arith}
+use Rattle.std.proofs.lemmas.List.{append-nil, length-append, take_more}
 use Rattle.std.proofs.Math.Seq.{take-append_seam}
 use Rattle.std.specs.List.{join_with_byte}
-use Rattle.std.specs.Prelude.{codes, decimal, map}
+use Rattle.std.specs.Prelude.{codes, decimal, map, get_or, Result, Ok, Err, OnOk}
 use Rattle.hex.proofs.HexLemmas.{length-encode_with}
 use Rattle.hex.specs.Hex.{encode_lower, lower_digits}
 use Rattle.gb_types.specs.declared.node.NodeId.{NodeId}
@@ -68,3 +68,27 @@ bytes_of (v ∷ versions) = ap (λ q. decimal (version_byte v) ∷ q) (bytes_of 
 -- the first version, and the others each after a comma
 pub versions_so : (first : Version) (more : List Version) → versions_word (first ∷ more) ≡ decimal (version_byte first) ++ each_after_comma (map version_byte more)
 versions_so first more = ap (λ q. join_with_byte 44 (decimal (version_byte first) ∷ q)) (bytes_of more) ∙ joined_by_commas (version_byte first) (map version_byte more)
+
+mapped : (vs : List Version) (v : Version) → map version_byte (vs ++ v ∷ []) ≡ map version_byte vs ++ version_byte v ∷ []
+mapped [] v = refl
+mapped (x ∷ vs) v = ap (λ q. version_byte x ∷ q) (mapped vs v)
+
+-- one version more, each after a comma
+pub versions_more : (old now new : List ℕ) (vs : List Version) (i : ℕ) (v : Version) → i < length vs → v ≡ get_or vs i v → now ≡ old ++ each_after_comma (map version_byte (take i vs))
+    → new ≡ now ++ (codes "," ++ decimal (version_byte v)) → new ≡ old ++ each_after_comma (map version_byte (take (i + 1) vs))
+versions_more old now new vs i v below is written goes =
+    let ns = map version_byte (take i vs) in
+    let behind = codes "," ++ decimal (version_byte v) in
+    let longer : map version_byte (take (i + 1) vs) ≡ ns ++ version_byte v ∷ [] = ap (map version_byte) (take_more vs i v below ∙ ap (λ x. take i vs ++ x ∷ []) (sym is)) ∙ mapped (take i vs) v in
+    goes ∙ (ap (λ q. q ++ behind) written ∙ (append_assoc old (each_after_comma ns) behind ∙ ap (λ q. old ++ q) (sym (ap each_after_comma longer ∙ comma_more ns (version_byte v)))))
+
+on_ok : {T E : Type 0} {A B : Type 0} (r : Result T E) → (A → B) → OnOk r A → OnOk r B
+on_ok (Ok v) f h = f h
+on_ok (Err e) f h = h
+
+-- the versions are written, the first one and then the others
+pub versions_both : {T E : Type 0} (r : Result T E) (old now new : List ℕ) (vs : List Version) (first : Version) (more : List Version) → vs ≡ first ∷ more
+    → now ≡ old ++ decimal (version_byte first) → OnOk r (new ≡ now ++ each_after_comma (map version_byte more)) → OnOk r (new ≡ old ++ versions_word vs)
+versions_both r old now new vs first more is front behind =
+    let others = each_after_comma (map version_byte more) in
+    on_ok r (λ goes. goes ∙ (ap (λ q. q ++ others) front ∙ (append_assoc old (decimal (version_byte first)) others ∙ ap (λ q. old ++ q) (sym (ap versions_word is ∙ versions_so first more))))) behind

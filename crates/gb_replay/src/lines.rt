@@ -1,5 +1,5 @@
 //! How an event is written as a line of a schedule. Without memory a part of the line may stand behind what was there.
-ghost use Rattle.std.specs.Prelude.{◌≡◌, ◌≤◌, ◌++◌, decimal, length, map, OnOk};
+ghost use Rattle.std.specs.Prelude.{◌≡◌, ◌≤◌, ◌++◌, codes, decimal, length, map, OnOk};
 ghost use Rattle.gb_types.specs.declared.limits.TheConstants.{NODES as MOST};
 ghost use Rattle.gb_schedule.specs.Versions.{versions_word};
 ghost use Rattle.gb_record_text.specs.RecordText.{after_space, each_after_comma, token_text};
@@ -97,24 +97,32 @@ pub fn put_line(out: &mut Vec<u8>, event: &Event) -> Result<(), OutOfMemory>
     }
 }
 
+// Appends the byte for a version after a comma.
+fn put_comma(out: &mut Vec<u8>, version: &Version) -> Result<(), OutOfMemory>
+    ensures { OnOk result (out.new.items ≡ out.old.items ++ (codes "," ++ decimal (version_byte version.now))) }
+{
+    put_bytes(out, b",")?;
+    put_number(out, u64::from(version.limits().byte))
+}
+
 // Appends the versions' bytes, each after a comma.
 fn put_more(out: &mut Vec<u8>, versions: &[Version]) -> Result<(), OutOfMemory>
     ensures { OnOk result (out.new.items ≡ out.old.items ++ each_after_comma (map version_byte versions.now)) }
 {
     for version in versions {
-        put_bytes(out, b",")?;
-        put_number(out, u64::from(version.limits().byte))?;
+        put_comma(out, version)?;
     }
     Ok(())
 }
 
 // Appends the versions' bytes, parted by commas.
+#[tactic(auto, using(crate::proofs::LineLemmas::versions_so))]
 fn put_versions(out: &mut Vec<u8>, versions: &[Version]) -> Result<(), OutOfMemory>
     ensures { OnOk result (out.new.items ≡ out.old.items ++ versions_word versions.now) }
 {
-    match versions {
-        [] => Ok(()),
-        [first, more @ ..] => {
+    match versions.split_first() {
+        None => Ok(()),
+        Some((first, more)) => {
             put_number(out, u64::from(first.limits().byte))?;
             put_more(out, more)
         }
