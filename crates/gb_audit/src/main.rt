@@ -2,6 +2,8 @@
 //! name, and prints what it finds, a line each. Where its words ask for it, it writes the run as a schedule for gb_sim.
 #![tactic(auto)]
 
+ghost use Rattle.gb_cluster.specs.ClusterValue.{IsClusterPlan};
+
 use clap::error::ErrorKind;
 use clap::{Arg, ArgAction, Command};
 use gb_audit_run::audit::{Audited, Source, audit};
@@ -151,7 +153,9 @@ fn write_replay(
     names: &Names<'_>,
     run: &Audited,
     status: u8,
-) -> Result<u8, Trouble> {
+) -> Result<u8, Trouble>
+    requires { IsClusterPlan run.now.plan }
+{
     let alloc = rt.alloc();
     let text = match replay(alloc, &run.plan, &run.events) {
         Ok(text) => text,
@@ -163,15 +167,15 @@ fn write_replay(
             return Ok(1);
         }
     };
-    for (name, bytes) in [
-        (names.schedule, &text.schedule),
-        (names.answers, &text.answers),
-    ] {
-        if let Some(name) = name
-            && !write_new(rt, name, bytes)?
-        {
-            return Ok(2);
-        }
+    if let Some(name) = names.schedule
+        && !write_new(rt, name, &text.schedule)?
+    {
+        return Ok(2);
+    }
+    if let Some(name) = names.answers
+        && !write_new(rt, name, &text.answers)?
+    {
+        return Ok(2);
     }
     Ok(status)
 }

@@ -3,13 +3,14 @@ use Rattle.std.proofs.Common.{◌≡◌, ℕ, ◌+◌, ◌-◌, ◌*◌, ◌<◌
 use Rattle.std.proofs.lemmas.List.{append-nil, length-append, take_more}
 use Rattle.std.proofs.Math.Seq.{take-append_seam}
 use Rattle.std.specs.List.{join_with_byte}
-use Rattle.std.specs.Prelude.{codes, decimal, map, get_or, Result, Ok, Err, OnOk}
+use Rattle.std.specs.Prelude.{codes, decimal, map, get_or, Result, OnOk}
 use Rattle.hex.proofs.HexLemmas.{length-encode_with}
 use Rattle.hex.specs.Hex.{encode_lower, lower_digits}
 use Rattle.gb_types.specs.declared.node.NodeId.{NodeId}
 use Rattle.gb_types.specs.declared.request.Request.{Request}
 use Rattle.gb_types.specs.declared.request.Request.TheVariants.{AddTenant, Make, OpenGroup, ShutGroup, DropGroup, Say, Fetch}
 use Rattle.gb_types.specs.declared.version.Version.{Version}
+use Rattle.gb_record_text.proofs.TextLemmas.{on_ok}
 use Rattle.gb_record_text.specs.RecordText.{after_space, limits_text, each_after_comma, request_text, token_text}
 use Rattle.gb_schedule.specs.Versions.{versions_word}
 use Rattle.gb_replay.specs.ScheduleText.{request_line, key_text, secret_text, version_byte}
@@ -74,17 +75,13 @@ mapped [] v = refl
 mapped (x ∷ vs) v = ap (λ q. version_byte x ∷ q) (mapped vs v)
 
 -- one version more, each after a comma
-pub versions_more : (old now new : List ℕ) (vs : List Version) (i : ℕ) (v : Version) → i < length vs → v ≡ get_or vs i v → now ≡ old ++ each_after_comma (map version_byte (take i vs))
+pub versions_more : (old now new : List ℕ) (vs : List Version) (i : ℕ) (v d : Version) → i < length vs → v ≡ get_or vs i d → now ≡ old ++ each_after_comma (map version_byte (take i vs))
     → new ≡ now ++ (codes "," ++ decimal (version_byte v)) → new ≡ old ++ each_after_comma (map version_byte (take (i + 1) vs))
-versions_more old now new vs i v below is written goes =
+versions_more old now new vs i v d below is written goes =
     let ns = map version_byte (take i vs) in
     let behind = codes "," ++ decimal (version_byte v) in
-    let longer : map version_byte (take (i + 1) vs) ≡ ns ++ version_byte v ∷ [] = ap (map version_byte) (take_more vs i v below ∙ ap (λ x. take i vs ++ x ∷ []) (sym is)) ∙ mapped (take i vs) v in
+    let longer : map version_byte (take (i + 1) vs) ≡ ns ++ version_byte v ∷ [] = ap (map version_byte) (take_more vs i d below ∙ ap (λ x. take i vs ++ x ∷ []) (sym is)) ∙ mapped (take i vs) v in
     goes ∙ (ap (λ q. q ++ behind) written ∙ (append_assoc old (each_after_comma ns) behind ∙ ap (λ q. old ++ q) (sym (ap each_after_comma longer ∙ comma_more ns (version_byte v)))))
-
-on_ok : {T E : Type 0} {A B : Type 0} (r : Result T E) → (A → B) → OnOk r A → OnOk r B
-on_ok (Ok v) f h = f h
-on_ok (Err e) f h = h
 
 -- the versions are written, the first one and then the others
 pub versions_both : {T E : Type 0} (r : Result T E) (old now new : List ℕ) (vs : List Version) (first : Version) (more : List Version) → vs ≡ first ∷ more

@@ -1,8 +1,8 @@
 -- Events that were run and written, one after the other.
-use Rattle.std.proofs.Common.{◌≡◌, ℕ, List, [], ◌∷◌, ◌++◌, map, reverse, refl, sym, ap, subst, ◌∙◌, append_assoc}
-use Rattle.std.proofs.lemmas.List.{append-nil, reverse-append}
+use Rattle.std.proofs.Common.{◌≡◌, ℕ, ◌+◌, ◌<◌, length, take, List, [], ◌∷◌, ◌++◌, map, reverse, refl, sym, ap, subst, ◌∙◌, append_assoc}
+use Rattle.std.proofs.lemmas.List.{append-nil, reverse-append, take_more}
 use Rattle.std.proofs.lemmas.List.Elements.{All-cons, All-nil}
-use Rattle.std.specs.Prelude.{false, codes, All}
+use Rattle.std.specs.Prelude.{false, codes, get_or, All, Result, Ok, Err, IsErrAnd}
 use Rattle.gb_types.specs.declared.plan.Plan.{Plan}
 use Rattle.gb_cluster.specs.ClusterValue.{ClusterValue, new_cluster}
 use Rattle.gb_cluster.specs.ClusterStep.{IsStep}
@@ -88,3 +88,17 @@ pub more : (plan : Plan) (events : List Event) (e : Event) (v new : ClusterValue
     → IsAt plan events v schedule answers → TakesStep v e new schedule schedule' answers answers' → IsAt plan (events ++ e ∷ []) new schedule' answers'
 more plan events e v new schedule schedule' answers answers' (r, is) t =
     step_more plan events e new schedule schedule' answers answers' r (subst (λ w. TakesStep w e new schedule schedule' answers answers') (sym is) t)
+
+-- one event more of those that are run
+pub goes_on : (plan : Plan) (events : List Event) (i : ℕ) (e d : Event) (v new : ClusterValue) (schedule schedule' answers answers' : List ℕ) → i < length events → e ≡ get_or events i d
+    → IsAt plan (take i events) v schedule answers → TakesStep v e new schedule schedule' answers answers' → IsAt plan (take (i + 1) events) new schedule' answers'
+goes_on plan events i e d v new schedule schedule' answers answers' below is at t =
+    subst (λ es. IsAt plan es new schedule' answers') (sym (take_more events i d below ∙ ap (λ x. take i events ++ x ∷ []) (sym is))) (more plan (take i events) e v new schedule schedule' answers answers' at t)
+
+-- what is passed on is what was told
+pub why_is : {T E : Type 0} (r : Result T E) (told why : E) → IsErrAnd r (λ x. x ≡ told) → r ≡ Err why → told ≡ why
+why_is (Ok v) told why is same = absurd is
+why_is (Err x) told why is same = sym is ∙ err_same x why same
+  where
+    err_same : (x y : E) → Err {T} x ≡ Err y → x ≡ y
+    err_same x y e = cc
