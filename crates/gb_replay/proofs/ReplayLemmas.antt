@@ -98,7 +98,4 @@ goes_on plan events i e d v new schedule schedule' answers answers' below is at 
 -- what is passed on is what was told
 pub why_is : {T E : Type 0} (r : Result T E) (told why : E) → IsErrAnd r (λ x. x ≡ told) → r ≡ Err why → told ≡ why
 why_is (Ok v) told why is same = absurd is
-why_is (Err x) told why is same = sym is ∙ err_same x why same
-  where
-    err_same : (x y : E) → Err {T} x ≡ Err y → x ≡ y
-    err_same x y e = cc
+why_is (Err x) told why is same = let e : x ≡ why = cc in sym is ∙ e

@@ -97,12 +97,19 @@ pub fn put_line(out: &mut Vec<u8>, event: &Event) -> Result<(), OutOfMemory>
     }
 }
 
+// Appends the byte for a version.
+fn put_version(out: &mut Vec<u8>, version: &Version) -> Result<(), OutOfMemory>
+    ensures { OnOk result (out.new.items ≡ out.old.items ++ decimal (version_byte version.now)) }
+{
+    put_number(out, u64::from(version.limits().byte))
+}
+
 // Appends the byte for a version after a comma.
 fn put_comma(out: &mut Vec<u8>, version: &Version) -> Result<(), OutOfMemory>
     ensures { OnOk result (out.new.items ≡ out.old.items ++ (codes "," ++ decimal (version_byte version.now))) }
 {
     put_bytes(out, b",")?;
-    put_number(out, u64::from(version.limits().byte))
+    put_version(out, version)
 }
 
 // Appends the versions' bytes, each after a comma.
@@ -116,14 +123,13 @@ fn put_more(out: &mut Vec<u8>, versions: &[Version]) -> Result<(), OutOfMemory>
 }
 
 // Appends the versions' bytes, parted by commas.
-#[tactic(auto, using(crate::proofs::LineLemmas::versions_so))]
 fn put_versions(out: &mut Vec<u8>, versions: &[Version]) -> Result<(), OutOfMemory>
     ensures { OnOk result (out.new.items ≡ out.old.items ++ versions_word versions.now) }
 {
     match versions.split_first() {
         None => Ok(()),
         Some((first, more)) => {
-            put_number(out, u64::from(first.limits().byte))?;
+            put_version(out, first)?;
             put_more(out, more)
         }
     }
