@@ -1,2 +1,3 @@
+mod ComplaintLemmas
 mod RefusedLemmas
 mod ServedLemmas

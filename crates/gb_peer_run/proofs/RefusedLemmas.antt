@@ -1,54 +1,21 @@
 -- Which faults of a node have which status.
 use Rattle.std.proofs.Common.{◌≡◌, ◌∙◌, ◌⊎◌, ℕ, Result, Ok, Err, arith, inl, inr, refl, subst, sym}
+use Rattle.std.specs.Prelude.{IsErrAnd, List}
 use Rattle.std.specs.Result.{IfErr}
-use Rattle.gb_host.specs.declared.fault.HostFault.{HostFault}
-use Rattle.gb_host.specs.declared.fault.HostFault.TheVariants as host
+use Rattle.clap.specs.Words.{Text, matches_of}
 use Rattle.gb_peer_words.specs.declared.plan.PeerWords.{PeerWords}
-use Rattle.gb_server.specs.Faults.{of_host, of_records, of_run, of_sockets}
+use Rattle.gb_peer_words.specs.Words.{IsReadOf, peer_app}
+use Rattle.gb_serve_words.specs.declared.fault.WordFault.{WordFault}
+use Rattle.gb_serve_words.specs.declared.fault.WordFault.TheVariants as words
+use Rattle.gb_server.specs.Faults.{of_words}
 use Rattle.gb_server.specs.declared.fault.ServeFault.TheVariants.{RefusedWords}
-use Rattle.gb_server.specs.declared.record_file.RecordFault.{RecordFault}
-use Rattle.gb_server.specs.declared.record_file.RecordFault.TheVariants as records
-use Rattle.gb_server.specs.declared.run.RunFault.{RunFault}
-use Rattle.gb_server.specs.declared.run.RunFault.TheVariants as run
-use Rattle.gb_server.specs.declared.sockets.SocketFault.{SocketFault}
-use Rattle.gb_server.specs.declared.sockets.SocketFault.TheVariants as sockets
-use Rattle.gb_peer_run.specs.Refused.{IsFileRefused, IsMarkFault, IsNodeRefused, IsPlaceFault}
+use Rattle.gb_peer_run.specs.Refused.{AreRefused, IsFileRefused, IsNodeRefused, IsRefused}
 use Rattle.gb_peer_run.specs.Told.{fault_status}
 use Rattle.gb_peer_run.specs.declared.fault.PeerFault.{PeerFault}
 use Rattle.gb_peer_run.specs.declared.fault.PeerFault.TheVariants.{RefusedFile, Serve}
 
-pub run_status : (fault : RunFault) → fault_status (Serve (of_run fault)) ≡ 1
-run_status run.OutOfMemory = refl
-run_status run.Write = refl
-run_status run.Unrecorded = refl
-
-pub records_status : (fault : RecordFault) → fault_status (Serve (of_records fault)) ≡ 1
-records_status (records.Trouble trouble) = refl
-records_status records.OutOfMemory = refl
-
-pub sockets_status : (fault : SocketFault) → fault_status (Serve (of_sockets fault)) ≡ 1
-sockets_status (sockets.Port port) = refl
-sockets_status sockets.OutOfMemory = refl
-
-pub host_status : (fault : HostFault) → fault_status (Serve (of_host fault)) ≡ 1
-host_status host.NoNode = refl
-host_status host.ForeignSeat = refl
-host_status (host.Differs difference) = refl
-host_status host.OutOfMemory = refl
-host_status host.Full = refl
-host_status host.Behind = refl
-
 pub same_status : (fault other : PeerFault) (n : ℕ) → fault ≡ other → fault_status other ≡ n → fault_status fault ≡ n
 same_status fault other n is e = subst (λ (f : PeerFault). fault_status f ≡ n) (sym is) e
-
-pub mark_status : (node run : ℕ) (fault : PeerFault) → IsMarkFault node run fault → fault_status fault ≡ 1
-mark_status node run fault (inl is) = same_status fault _ 1 is refl
-mark_status node run fault (inr (inl is)) = same_status fault _ 1 is refl
-mark_status node run fault (inr (inr is)) = same_status fault _ 1 is refl
-
-pub place_status : (nodes : ℕ) (fault : PeerFault) → IsPlaceFault nodes fault → fault_status fault ≡ 1
-place_status nodes fault (inl is) = same_status fault _ 1 is refl
-place_status nodes fault (inr place) = same_status fault _ 1 place.2 refl
 
 -- a fault has one status
 pub not_both : {A : Type 0} (fault : PeerFault) → fault_status fault ≡ 1 → fault_status fault ≡ 2 → A
@@ -63,3 +30,21 @@ on_error A B (Err e) f a = f e a
 pub not_words : (read : PeerWords) (fault : PeerFault) → IsFileRefused read fault → fault ≡ Serve RefusedWords → ⊥
 not_words read fault (inl is) words = absurd (let e : RefusedFile ≡ Serve RefusedWords = sym is ∙ words in cc)
 not_words read fault (inr (text, file, filed, refused)) words = subst (λ (f : PeerFault). IsNodeRefused read.plan file f) words refused
+
+-- words that are taken do not end as words that are refused
+pub no_words : {T : Type 0} (read : PeerWords) (r : Result T PeerFault) → IfErr r (λ fault. fault_status fault ≡ 2 → IsFileRefused read fault) → r ≡ Err (Serve RefusedWords) → ⊥
+no_words read (Ok v) known is = absurd (let e : Ok v ≡ Err (Serve RefusedWords) = is in cc)
+no_words read (Err fault) known is = let same : fault ≡ Serve RefusedWords = cc in not_words read fault (known (same_status fault _ 2 same refl)) same
+
+-- words that are refused are so for what refuses them
+pub words_error : {T : Type 0} (spelt : List Text) (r : Result T PeerFault) (fault : WordFault) → IsErrAnd r (λ x. x ≡ Serve (of_words fault)) → (fault ≡ words.Refused → AreRefused spelt)
+    → IfErr r (λ x. fault_status x ≡ 2 → IsRefused spelt x)
+words_error spelt (Ok v) fault is refused = tt
+words_error spelt (Err x) words.Refused is refused = λ two. inl (is, refused refl)
+words_error spelt (Err x) words.OutOfMemory is refused = λ two. not_both x (same_status x _ 1 is refl) two
+
+-- where the words are taken it is their file that is refused
+pub taken_file : (spelt : List Text) (fault : PeerFault) → IsRefused spelt fault → (fault ≡ Serve RefusedWords → ⊥)
+    → (read : PeerWords) × IsReadOf (matches_of peer_app spelt) read × IsFileRefused read fault
+taken_file spelt fault (inl refused) taken = absurd (taken refused.0)
+taken_file spelt fault (inr named) taken = named

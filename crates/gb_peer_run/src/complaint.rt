@@ -6,7 +6,7 @@ ghost use Rattle.gb_peer_run.specs.Complaint.{complaint, fault_words};
 ghost use Rattle.gb_server.specs.Told.{lined};
 
 use crate::fault::PeerFault;
-use crate::mark::put_mark_name;
+use crate::mark::mark_name;
 use gb_server::complaint::complain as complain_of_server;
 use gb_server::fault::ServeFault;
 use gb_server::server_log::put_address;
@@ -43,36 +43,52 @@ fn put_with_address(
     put_bytes(text, back)
 }
 
-// Appends that a file does not have a node.
-fn put_no_node(text: &mut Vec<u8>, node: u8, nodes: u8) -> Result<(), OutOfMemory>
-    ensures { OnOk result (text.new.items ≡ text.old.items ++ (codes "the cluster file has no node " ++ decimal node ++ codes ": it has " ++ decimal nodes ++ codes ", from 0 on")) }
+// Appends two numbers, with words before, between and behind them.
+fn put_two(
+    text: &mut Vec<u8>,
+    front: &[u8],
+    first: u64,
+    middle: &[u8],
+    second: u64,
+    back: &[u8],
+) -> Result<(), OutOfMemory>
+    ensures { OnOk result (text.new.items ≡ text.old.items ++ (front.now ++ decimal first ++ middle.now ++ decimal second ++ back.now)) }
 {
-    put_bytes(text, b"the cluster file has no node ")?;
-    put_number(text, u64::from(node))?;
-    put_with(text, b": it has ", u64::from(nodes), b", from 0 on")
+    put_bytes(text, front)?;
+    put_number(text, first)?;
+    put_with(text, middle, second, back)
 }
 
-// Appends that a node has begun in a run already, and where its mark is.
+// Appends a name, with words before it and behind it.
+fn put_name(text: &mut Vec<u8>, front: &[u8], name: &[u8], back: &[u8]) -> Result<(), OutOfMemory>
+    ensures { OnOk result (text.new.items ≡ text.old.items ++ (front.now ++ name.now ++ back.now)) }
+{
+    put_bytes(text, front)?;
+    put_bytes(text, name)?;
+    put_bytes(text, back)
+}
+
+// Appends that a node has begun in a run already, where its mark is, and what to do about it.
 fn put_begun(text: &mut Vec<u8>, node: u8, run: u64, dir: &str) -> Result<(), OutOfMemory>
     ensures { OnOk result (text.new.items ≡ text.old.items ++ fault_words dir.now (PeerFault.Begun node run)) }
 {
-    put_bytes(text, b"node ")?;
-    put_number(text, u64::from(node))?;
-    put_with(text, b" has begun in run ", run, b" already: ")?;
-    put_mark_name(text, dir, run, node)?;
-    put_bytes(
-        text,
+    let alloc = *text.allocator();
+    let name = mark_name(alloc, dir, run, node)?;
+    let mut behind = Vec::new(alloc);
+    put_name(
+        &mut behind,
+        b" already: ",
+        &name,
         b" is there. A node speaks once in a run: let a spare node take its place, or start all nodes in the next run",
+    )?;
+    put_two(
+        text,
+        b"node ",
+        u64::from(node),
+        b" has begun in run ",
+        run,
+        &behind,
     )
-}
-
-// Appends that a mark could not be written.
-fn put_unmarked(text: &mut Vec<u8>, dir: &str) -> Result<(), OutOfMemory>
-    ensures { OnOk result (text.new.items ≡ text.old.items ++ fault_words dir.now PeerFault.Unmarked) }
-{
-    put_bytes(text, b"a mark could not be written to ")?;
-    put_bytes(text, dir.as_bytes())?;
-    put_bytes(text, b": it must be a folder that can be written to")
 }
 
 // Appends why a node does not serve to its end, where that is not told elsewhere.
@@ -81,7 +97,14 @@ fn put_words(text: &mut Vec<u8>, fault: PeerFault, dir: &str) -> Result<(), OutO
 {
     match fault {
         PeerFault::RefusedFile => Ok(()),
-        PeerFault::NoNode { node, nodes } => put_no_node(text, node, nodes),
+        PeerFault::NoNode { node, nodes } => put_two(
+            text,
+            b"the cluster file has no node ",
+            u64::from(node),
+            b": it has ",
+            u64::from(nodes),
+            b", from 0 on",
+        ),
         PeerFault::Remote(address) => put_with_address(
             text,
             b"sessions at ",
@@ -95,7 +118,12 @@ fn put_words(text: &mut Vec<u8>, fault: PeerFault, dir: &str) -> Result<(), OutO
             b" is not found, or is not of the family, IPv4 or IPv6, of this node's packets",
         ),
         PeerFault::Begun { node, run } => put_begun(text, node, run, dir),
-        PeerFault::Unmarked => put_unmarked(text, dir),
+        PeerFault::Unmarked => put_name(
+            text,
+            b"a mark could not be written to ",
+            dir.as_bytes(),
+            b": it must be a folder that can be written to",
+        ),
         PeerFault::Packets(address) => put_with_address(
             text,
             b"the address ",

@@ -239,7 +239,9 @@ fn open_files<F: Files<File = File>>(
     run: u64,
     plan: &HostPlan,
     me: NodeId,
-) -> Result<Vec<RecordFile>, PeerFault> {
+) -> Result<Vec<RecordFile>, PeerFault>
+    ensures { IfErr result (λ fault. fault_status fault ≡ 1) }
+{
     match open_records(files, alloc, place_of(words, run), plan, me, 1) {
         Ok(records) => Ok(records),
         Err(fault) => Err(PeerFault::Serve(ServeFault::from(fault))),

@@ -1,5 +1,5 @@
 //! Where the nodes of a cluster are reached, once their names are resolved.
-ghost use Rattle.std.specs.Prelude.{◌≡◌, ◌<◌, IfErr, IfOk, IfSome, length, vec_len};
+ghost use Rattle.std.specs.Prelude.{◌≡◌, ◌<◌, IfErr, IfOk, IfSome, true, length, vec_len};
 ghost use Rattle.std.specs.List.{All};
 ghost use Rattle.gb_peer_run.specs.Refused.{AreAlike, IsPlaceFault};
 
@@ -17,15 +17,24 @@ pub struct Places {
     pub sessions: SocketAddr,
 }
 
+// Whether an address is of the family of another one, if there is one.
+fn is_like(like: Option<SocketAddr>, address: SocketAddr) -> bool
+    ensures { result ≡ true → IfSome like (λ one. AreAlike one address) }
+{
+    match like {
+        Some(one) => one.is_ipv4() == address.is_ipv4(),
+        None => true,
+    }
+}
+
 // Returns the first address of a place, or the first of the same family as another address.
 fn resolve<H: Net>(rt: &H, place: &Place, like: Option<SocketAddr>) -> Option<SocketAddr>
     ensures { IfSome result (λ found. IfSome like (λ one. AreAlike one found)) }
 {
     let found = (place.host.as_str(), place.port).to_socket_addrs(rt).ok()?;
     for address in found {
-        match like {
-            Some(like) if like.is_ipv4() != address.is_ipv4() => {}
-            _ => return Some(address),
+        if is_like(like, address) {
+            return Some(address);
         }
     }
     None
