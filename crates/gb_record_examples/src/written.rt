@@ -101,7 +101,7 @@ fn send_all<L: Tapes, H: Wait, P: Port>(
     (count, port.send(OTHER, b"a packet of nobody") == Ok(true))
 }
 
-// Makes the node tick 40,000 times, more often than its ring has places, and settles after each 2,000. Returns how many ticks were answered.
+// Makes the node tick 18,000 times, more often than its ring has places, and settles after each 3,000. Returns how many ticks were answered.
 fn tick_long<R: RecordName, L: Tapes, H: Wait>(
     rt: &H,
     host: &Host<L>,
@@ -109,11 +109,11 @@ fn tick_long<R: RecordName, L: Tapes, H: Wait>(
     record: &SharedRecording<R, L, Pen<'_>>,
 ) -> u32 {
     let mut count: u32 = 0;
-    for number in 0..40_000 {
+    for number in 0..18_000 {
         if host.call(rt, seat, ME, NodeEvent::Tick).is_ok() {
             count = count.saturating_add(1);
         }
-        if number % 2_000 == 0 {
+        if number % 3_000 == 0 {
             let _ = record.settle();
         }
     }
@@ -234,10 +234,10 @@ fn packets_leave_when_their_entries_are_written(rt: HostRuntime) {
     let alloc = rt.alloc();
     let desk = Desk::new(alloc);
     let ended = tried(&rt, alloc, &desk, 0, true);
-    assert!(rt; ended == Some(((3, false, true), 40_000, true)));
+    assert!(rt; ended == Some(((3, false, true), 18_000, true)));
     assert!(rt; desk.right.get() == 3 && desk.early.get() == 0);
     let entries = entries_of(alloc, &desk);
-    assert!(rt; entries == Some(40_003));
+    assert!(rt; entries == Some(18_003));
 }
 
 // The first line is the first write. The write of each acknowledgement may be the last one.

@@ -120,10 +120,8 @@ fn head_of(plan: &HostPlan, node: NodeId) -> RecordHead
 }
 
 // Writes the first line, and sees that it is on the disk.
-fn begin(alloc: Global, file: &mut RecordFile, head: &RecordHead) -> bool
-    ensures { file.new.node ≡ file.old.node }
-{
-    write_head(alloc, file, head).is_ok() && file.file.sync_all().is_ok()
+fn begin(alloc: Global, file: &mut File, head: &RecordHead) -> bool {
+    write_head(alloc, file, head).is_ok() && file.sync_all().is_ok()
 }
 
 /// Makes the record of a node, in a folder that is made if it was not there, and writes its first line.
@@ -141,20 +139,19 @@ pub fn open_record<F: Files<File = File>>(
         return Err(RecordFault::Trouble(RecordTrouble::Unmade));
     };
     let _ = fs::create_dir_all(files, place.dir);
-    let file = match make(files, name) {
+    let mut file = match make(files, name) {
         Ok(file) => file,
         Err(trouble) => return Err(RecordFault::Trouble(trouble)),
     };
-    let mut made = RecordFile {
+    if !begin(alloc, &mut file, &head_of(plan, node)) {
+        return Err(RecordFault::Trouble(RecordTrouble::Unwritten));
+    }
+    Ok(RecordFile {
         node,
         file,
         syncs: place.syncs,
         is_dirty: false,
-    };
-    if !begin(alloc, &mut made, &head_of(plan, node)) {
-        return Err(RecordFault::Trouble(RecordTrouble::Unwritten));
-    }
-    Ok(made)
+    })
 }
 
 /// Makes the records of this number of nodes from the first on, where they are wanted.

@@ -35,12 +35,12 @@ pub struct LeftLog<L: Tapes> {
 
 /// Keeps what happens at a node in its record. Once that cannot be written the server ends.
 #[derive(Drop)]
-pub struct Settling<'a, R: RecordName, L: Tapes, W: Write> {
+pub struct Settling<'a, 'b, R: RecordName, L: Tapes, W: Write> {
     pub record: &'a SharedRecording<R, L, W>,
-    pub signals: &'a Signals,
+    pub signals: &'b Signals,
 }
 
-impl<R: RecordName, L: Tapes, W: Write> Settle for Settling<'_, R, L, W> {
+impl<R: RecordName, L: Tapes, W: Write> Settle for Settling<'_, '_, R, L, W> {
     fn settle(&self) -> bool {
         if self.record.settle() {
             return true;
