@@ -23,7 +23,7 @@ use std::sync::Wait;
 pub struct NodeLog<L: Tapes> {
     pub recorder: Recorder<L>,
     pub file: RecordFile,
-    pub ghost fresh: { (recorder.entries ≡ []) × (recorder.is_whole ≡ false) },
+    pub ghost fresh: { ∥ (recorder.entries ≡ []) × (recorder.is_whole ≡ false) ∥₁ },
 }
 
 /// What is left of them when the node's loop has ended.

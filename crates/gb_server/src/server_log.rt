@@ -22,7 +22,7 @@ pub struct ServerLog {
     pub is_quiet: bool,
     alloc: Global,
     // The name of the program, with which each line begins.
-    name: &'static [u8],
+    name: Vec<u8>,
     // The number of the first node, and how many there are.
     first: u8,
     nodes: u8,
@@ -174,7 +174,7 @@ impl ServerLog {
     /// A log of the program with this name that has told nothing of this number of nodes, whose numbers follow on one another from the first.
     pub fn new(
         alloc: Global,
-        name: &'static [u8],
+        name: &[u8],
         first: NodeId,
         nodes: u8,
         is_quiet: bool,
@@ -188,7 +188,7 @@ impl ServerLog {
         Ok(ServerLog {
             is_quiet,
             alloc,
-            name,
+            name: Vec::from_slice(alloc, name)?,
             first: first.number,
             nodes,
             told,
@@ -214,7 +214,7 @@ impl ServerLog {
             if let Some(node) = NodeId::from_number(self.first.saturating_add(place))
                 && let Some(told) = self.told.get_mut(usize::from(place))
             {
-                write(errors, news(self.alloc, self.name, board, node, told));
+                write(errors, news(self.alloc, &self.name, board, node, told));
             }
         }
     }
@@ -227,7 +227,7 @@ impl ServerLog {
             return;
         }
         if let Some(why) = signals.why() {
-            write(errors, end_line(self.alloc, self.name, why));
+            write(errors, end_line(self.alloc, &self.name, why));
             self.is_end_told = true;
         }
     }
