@@ -1,19 +1,20 @@
 -- The recorders of a host that was just opened.
-use Rattle.std.proofs.Common.{◌≡◌, ◌∙◌, ◌<◌, ◌++◌, ◌∷◌, ℕ, Bool, true, false, List, [], length, Option, Some, None, IfSome, arith, refl, subst, sym}
+use Rattle.std.proofs.Common.{◌≡◌, ◌∙◌, ◌<◌, ◌++◌, ◌∷◌, ℕ, Bool, true, false, List, [], length, Option, Some, None, IfSome, ap, arith, refl, subst, sym}
 use Rattle.std.specs.FinSet as set
 use Rattle.std.specs.Ordering.{nat_cmp}
 use Rattle.gb_host.specs.HostValue.{AreOpened, IsOpened}
+use Rattle.gb_node.specs.declared.tape.TapeEntry.{TapeEntry}
 use Rattle.gb_host.specs.RingValues.{RecorderValue}
 use Rattle.gb_host.specs.declared.plan.HostPlan.{HostPlan}
 use Rattle.gb_host.proofs.ReplayLemmas.{placed_next}
 
 -- a recorder that has taken nothing
 abbrev pub IsFresh : RecorderValue → Type 0
-IsFresh r = (r.entries ≡ []) × (r.is_whole ≡ false)
+IsFresh r = (length r.entries ≡ 0) × (r.is_whole ≡ false)
 
 fresh_if : (p : HostPlan) (is_here : Bool) (k : ℕ) (place : Option RecorderValue) → IsOpened p is_here k place → IfSome place IsFresh
 fresh_if p true k None opened = tt
-fresh_if p true k (Some r) opened = (opened.2, opened.3)
+fresh_if p true k (Some r) opened = (ap length opened.2, opened.3)
 fresh_if p false k None opened = tt
 fresh_if p false k (Some r) opened = absurd cc
 
@@ -25,3 +26,8 @@ fresh_at p here n all yielded rest place split len opened =
     let at = placed_next all yielded rest place k split refl in
     let under : k < n = subst (λ m. k < m) len at.0 in
     fresh_if p (set.contains here k) k place (subst (IsOpened p (set.contains here k) k) (at.1 place) (opened k place under))
+
+-- a list without elements
+pub none_of : (es : List TapeEntry) → length es ≡ 0 → es ≡ []
+none_of [] e = refl
+none_of (x ∷ es) e = absurd (omega (arith, e))

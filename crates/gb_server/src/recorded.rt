@@ -1,5 +1,5 @@
 //! What the loop of a node records by, and what is left of it.
-ghost use Rattle.std.specs.Prelude.{◌≡◌, [], false, IfSome, vec_len};
+ghost use Rattle.std.specs.Prelude.{◌≡◌, [], false, IfSome, length, vec_len};
 ghost use Rattle.gb_host.specs.HostValue.{AreOpened};
 
 use crate::record_file::RecordFile;
@@ -21,9 +21,20 @@ use std::sync::Wait;
 /// A node's recorder that has taken nothing, and the file of the node's record.
 #[derive(Drop)]
 pub struct NodeLog<L: Tapes> {
-    pub recorder: Recorder<L>,
-    pub file: RecordFile,
-    pub ghost fresh: { ∥ (recorder.entries ≡ []) × (recorder.is_whole ≡ false) ∥₁ },
+    recorder: Recorder<L>,
+    file: RecordFile,
+    pub ghost fresh: { (length recorder.entries ≡ 0) × (recorder.is_whole ≡ false) },
+}
+
+impl<L: Tapes> NodeLog<L> {
+    /// Gives up both.
+    #[tactic(auto, using(crate::proofs::RecordedLemmas::none_of))]
+    pub fn into_parts(self) -> (Recorder<L>, RecordFile)
+        ensures { (result.0.entries ≡ []) × (result.0.is_whole ≡ false) }
+    {
+        let NodeLog { recorder, file } = self;
+        (recorder, file)
+    }
 }
 
 /// What is left of them when the node's loop has ended.
@@ -61,7 +72,7 @@ fn next_file(files: &mut Vec<RecordFile>) -> Option<RecordFile> {
 
 // Returns a recorder that has taken nothing with the next file. `None` if there is no recorder or no file, or it is another node's.
 fn log_of<L: Tapes>(place: Option<Recorder<L>>, files: &mut Vec<RecordFile>) -> Option<NodeLog<L>>
-    requires { IfSome place (λ recorder. (recorder.entries ≡ []) × (recorder.is_whole ≡ false)) }
+    requires { IfSome place (λ recorder. (length recorder.entries ≡ 0) × (recorder.is_whole ≡ false)) }
 {
     let recorder = place?;
     let file = next_file(files)?;

@@ -82,7 +82,7 @@ fn run_recorded<
     let fd = port.raw_fd();
     let listener = mio::net::TcpListener::from_std(listener);
     let sockets = LoopSockets { fd, listener };
-    let NodeLog { recorder, file } = log;
+    let (recorder, file) = log.into_parts();
     let seen = written.seen();
     let recording = Recording::<R, L, _>::new(alloc, recorder, file, written);
     let shared = SharedRecording::new(recording);
