@@ -4,7 +4,7 @@ use crate::refusals::KEYS;
 use gb_peer_run::peer_main::peer_main;
 use gb_server::input::Input;
 use std::alloc::{AllocGlobal, Global};
-use std::fs::Files;
+use std::fs::{File, Files};
 use std::io::{Read, Write};
 use std::net::{Ipv4Addr, Net, SocketAddr, SocketAddrV4, TcpListener, TcpStream};
 use std::rt::HostRuntime;
@@ -49,7 +49,7 @@ fn serve_until<
         + Wait
         + Clock
         + Sync
-        + Files
+        + Files<File = File>
         + AllocGlobal,
 >(
     rt: &H,
