@@ -11,6 +11,8 @@ use std::str;
 struct Reader<'a> {
     alloc: Global,
     texts: &'a [&'a str],
+    // How many of them were handed over.
+    at: usize,
     told: Vec<u8>,
 }
 
@@ -22,10 +24,10 @@ impl Visitor for Reader<'_> {
     ghost tells = { λ _ _ _. ⊤ };
 
     fn next(&mut self) -> Result<Vec<u8>, Leave> {
-        let Some((first, rest)) = self.texts.split_first() else {
+        let Some(first) = self.texts.get(self.at) else {
             return Err(Leave::Gone);
         };
-        self.texts = rest;
+        self.at = self.at.saturating_add(1);
         if first.len() > BODY {
             return Err(Leave::TooLong);
         }
@@ -90,6 +92,7 @@ fn ends_so(
     let mut visitor = Reader {
         alloc,
         texts,
+        at: 0,
         told: Vec::new(alloc),
     };
     let mut node = Streams {
