@@ -160,6 +160,14 @@ def wait(what, test):
     print(f"seen: {what}", flush=True)
 
 
+def is_loaded(page):
+    """Whether a page is there; before it a tab has an empty one, whose scripts may end in the middle."""
+    try:
+        return page.value("document.readyState === 'complete' && document.getElementById('said') !== null")
+    except RuntimeError:
+        return False
+
+
 def lines(page):
     """What a page shows of the log: who, and what."""
     return page.value("Array.from(document.querySelectorAll('#said li'), (line) => line.querySelector('.who').textContent + line.querySelector('.what, .note').textContent)")
@@ -255,7 +263,7 @@ def main():
         for node, name in enumerate(NAMES):
             page = browser.page(f"http://127.0.0.1:{words.port + 80 + node}/")
             pages.append(page)
-            wait(f"the page of {name}", lambda page=page: page.value("document.readyState") == "complete")
+            wait(f"the page of {name}", lambda page=page: is_loaded(page))
             page.call("Page.bringToFront")
             check_labels(page)
             join(page, name, node)
