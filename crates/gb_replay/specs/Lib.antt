@@ -1,0 +1,3 @@
+pub mod ScheduleText
+pub mod Replay
+pub mod Complaint

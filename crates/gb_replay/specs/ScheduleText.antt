@@ -1,0 +1,99 @@
+-- How a run of a cluster is spelt as a schedule for gb_sim, and what gb_sim answers.
+use Rattle.std.specs.Prelude.{ℕ, Bool, true, false, List, [], ◌∷◌, ◌++◌, codes, decimal, take, if◌then◌else◌}
+use Rattle.hex.specs.Hex.{encode_lower}
+use Rattle.gb_types.specs.PayloadWord.{payload_word}
+use Rattle.gb_types.specs.Version.{limits_of}
+use Rattle.gb_types.specs.declared.node.NodeId.{NodeId}
+use Rattle.gb_types.specs.declared.plan.Plan.{Plan}
+use Rattle.gb_types.specs.declared.refusal.Refusal.TheVariants.{Denied}
+use Rattle.gb_types.specs.declared.reply.Reply.TheVariants.{Refused}
+use Rattle.gb_types.specs.declared.request.Request.{Request}
+use Rattle.gb_types.specs.declared.request.Request.TheVariants.{AddTenant, Make, OpenGroup, ShutGroup, DropGroup, Say, Fetch}
+use Rattle.gb_types.specs.declared.version.Version.{Version}
+use Rattle.gb_node.specs.declared.event.NodeEvent.{NodeEvent}
+use Rattle.gb_node.specs.declared.event.NodeEvent.TheVariants.{Request as Asked, Packet as Came}
+use Rattle.gb_cluster.specs.declared.answer.Answer.{Answer}
+use Rattle.gb_cluster.specs.declared.answer.Answer.TheVariants.{Reply}
+use Rattle.gb_cluster.specs.declared.event.Event.{Event}
+use Rattle.gb_cluster.specs.declared.event.Event.TheVariants.{At, Arrive}
+use Rattle.gb_lines.specs.Lines.{ended}
+use Rattle.gb_schedule.specs.Versions.{versions_word}
+use Rattle.gb_record_text.specs.RecordText.{after_space, address_text, limits_text, spec_text, message_text, token_text, event_text}
+use Rattle.gb_simulate.specs.AnswerText.{answer_spelling}
+use Rattle.gb_simulate.specs.RunTexts.{RunStep}
+
+-- a request, with neither its token nor a tenant's key: gb_sim makes these anew
+abbrev pub request_line : NodeId → Request → List ℕ
+request_line b (AddTenant token row) =
+    codes "tenant" ++ (after_space (decimal b.number) ++ after_space (decimal row.tenant) ++ after_space (decimal row.groups) ++ limits_text row.msgs row.bytes row.window)
+request_line b (Make token addr spec) = codes "make" ++ address_text b addr ++ spec_text spec
+request_line b (OpenGroup token addr) = codes "open" ++ address_text b addr
+request_line b (ShutGroup token addr) = codes "shut" ++ address_text b addr
+request_line b (DropGroup token addr) = codes "drop" ++ address_text b addr
+request_line b (Say token addr message) = codes "say" ++ address_text b addr ++ message_text message
+request_line b (Fetch token addr from most) = codes "fetch" ++ address_text b addr ++ after_space (decimal from) ++ after_space (decimal most)
+
+-- ` key KEY`
+abbrev pub key_text : List ℕ → List ℕ
+key_text key = codes " key " ++ encode_lower key
+
+-- what a record has behind that
+abbrev pub secret_text : Request → List ℕ
+secret_text (AddTenant token row) = key_text row.key ++ token_text token
+secret_text (Make token addr spec) = token_text token
+secret_text (OpenGroup token addr) = token_text token
+secret_text (ShutGroup token addr) = token_text token
+secret_text (DropGroup token addr) = token_text token
+secret_text (Say token addr message) = token_text token
+secret_text (Fetch token addr from most) = token_text token
+
+-- an event at a node
+abbrev pub event_line : NodeId → NodeEvent → List ℕ
+event_line b (Asked request) = request_line b request
+event_line b (Came bytes) = codes "noise " ++ decimal b.number ++ codes " " ++ payload_word bytes
+event_line b event = event_text b event
+
+-- an event of the cluster; packets count from 1 as they are sent
+abbrev pub line_of : Event → List ℕ
+line_of (At b event) = event_line b event
+line_of (Arrive k) = codes "arrive " ++ decimal k
+
+-- No line does the same, and the event changed nothing: the request came without the token that it needs, or the bytes are no packet of the
+-- cluster, and under gb_sim's own key they might be one.
+abbrev pub is_left_out : Event → Answer → Bool
+is_left_out (At b (Asked request)) (Reply (Refused Denied)) = true
+is_left_out (At b (Came bytes)) answer = true
+is_left_out event answer = false
+
+-- the line of an event with its answer: what no line does stands in a comment
+abbrev pub step_line : Event → Answer → List ℕ
+step_line event answer = (if is_left_out event answer then codes "# " else []) ++ line_of event
+
+-- the line of its answer, and none for a comment
+abbrev pub step_answer : Event → Answer → List ℕ
+step_answer event answer = if is_left_out event answer then [] else ended (answer_spelling answer)
+
+-- the lines of steps, which are given with the newest first, and their answers' lines
+unfoldable pub steps_text : List RunStep → List ℕ
+steps_text [] = []
+steps_text (s ∷ earlier) = steps_text earlier ++ ended (step_line s.event s.answer)
+
+unfoldable pub steps_answers : List RunStep → List ℕ
+steps_answers [] = []
+steps_answers (s ∷ earlier) = steps_answers earlier ++ step_answer s.event s.answer
+
+-- the byte for a version
+abbrev pub version_byte : Version → ℕ
+version_byte version = (limits_of version).byte
+
+-- the line that starts the cluster: `cluster2 N S VERS ROOM`
+abbrev pub first_line : Plan → List ℕ
+first_line plan = codes "cluster2" ++ after_space (decimal plan.nodes) ++ after_space (decimal plan.silence) ++ after_space (versions_word (take plan.nodes plan.versions)) ++ after_space (decimal plan.room)
+
+-- the schedule of a run
+abbrev pub schedule_text : Plan → List RunStep → List ℕ
+schedule_text plan steps = ended (first_line plan) ++ steps_text steps
+
+-- its answers
+abbrev pub answers_text : List RunStep → List ℕ
+answers_text steps = ended (codes "ok") ++ steps_answers steps

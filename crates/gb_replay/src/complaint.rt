@@ -1,0 +1,24 @@
+//! The line that says why a run is no schedule for gb_sim.
+ghost use Rattle.std.specs.Prelude.{◌≡◌, ◌++◌, OnOk};
+ghost use Rattle.gb_replay.specs.Complaint.{complaint};
+
+use crate::replay::ReplayFault;
+use gb_types::memory::{OutOfMemory, put_bytes};
+use gb_types::number::put_number;
+
+/// Appends the line of a fault.
+pub fn put_complaint(out: &mut Vec<u8>, fault: ReplayFault) -> Result<(), OutOfMemory>
+    ensures { OnOk result (out.new.items ≡ out.old.items ++ complaint fault) }
+{
+    match fault {
+        ReplayFault::Places => put_bytes(out, b"no schedule: places\n"),
+        ReplayFault::TooMany => put_bytes(out, b"no schedule: too many events\n"),
+        ReplayFault::NoNode => put_bytes(out, b"no schedule: no node\n"),
+        ReplayFault::Differs(line) => {
+            put_bytes(out, b"schedule differs line ")?;
+            put_number(out, line)?;
+            put_bytes(out, b"\n")
+        }
+        ReplayFault::OutOfMemory => put_bytes(out, b"no schedule: out of memory\n"),
+    }
+}

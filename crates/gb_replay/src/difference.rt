@@ -1,0 +1,21 @@
+//! Where two texts differ.
+ghost use Rattle.std.specs.Prelude.{◌≡◌, ◌↔◌, None};
+
+/// Returns the number of the first line, from 1, in which two texts differ. Returns None where they are one text.
+pub fn first_difference(text: &[u8], other: &[u8]) -> Option<u64>
+    ensures none { (result ≡ None) ↔ (text.now ≡ other.now) }
+{
+    if text == other {
+        return None;
+    }
+    let mut line: u64 = 1;
+    for place in 0..text.len().min(other.len()) {
+        if text[place] != other[place] {
+            return Some(line);
+        }
+        if text[place] == b'\n' {
+            line = line.saturating_add(1);
+        }
+    }
+    Some(line)
+}

@@ -1,0 +1,149 @@
+//! How an event is written as a line of a schedule. Without memory a part of the line may stand behind what was there.
+ghost use Rattle.std.specs.Prelude.{◌≡◌, ◌≤◌, ◌++◌, codes, decimal, length, map, OnOk};
+ghost use Rattle.gb_types.specs.declared.limits.TheConstants.{NODES as MOST};
+ghost use Rattle.gb_schedule.specs.Versions.{versions_word};
+ghost use Rattle.gb_record_text.specs.RecordText.{after_space, each_after_comma, token_text};
+ghost use Rattle.gb_replay.specs.ScheduleText.{request_line, key_text, secret_text, event_line, line_of, first_line, version_byte};
+
+use gb_cluster::event::Event;
+use gb_node::event::NodeEvent;
+use gb_record_text::writing::{put_event, put_request};
+use gb_types::memory::{OutOfMemory, put_bytes};
+use gb_types::node::NodeId;
+use gb_types::number::put_number;
+use gb_types::payload_word::put_payload;
+use gb_types::plan::Plan;
+use gb_types::request::Request;
+use gb_types::version::Version;
+
+// Appends a number after a space.
+fn put_after(out: &mut Vec<u8>, number: u64) -> Result<(), OutOfMemory>
+    ensures { OnOk result (out.new.items ≡ out.old.items ++ after_space (decimal number)) }
+{
+    put_bytes(out, b" ")?;
+    put_number(out, number)
+}
+
+// Returns how many bytes ` by TOKEN` has.
+#[tactic(auto, using(crate::proofs::LineLemmas::length_token))]
+fn token_length(token: &[u8; 32]) -> usize
+    ensures value { result ≡ length (token_text token.now) }
+    ensures count { result ≡ 68 }
+{
+    68
+}
+
+// Returns how many bytes ` key KEY` has.
+#[tactic(auto, using(crate::proofs::LineLemmas::length_key))]
+fn key_length(key: &[u8; 32]) -> usize
+    ensures value { result ≡ length (key_text key.now) }
+    ensures count { result ≡ 69 }
+{
+    69
+}
+
+// Returns how many bytes of a request in a record are its token's and, where it adds a tenant, the key's, each with the word before it.
+#[tactic(auto, using(crate::proofs::LineLemmas::length_both))]
+fn secret_length(request: &Request) -> usize
+    ensures { result ≡ length (secret_text request.now) }
+{
+    match request {
+        Request::AddTenant(token, row) => key_length(&row.key) + token_length(token),
+        Request::Make(token, _, _) => token_length(token),
+        Request::OpenGroup(token, _) => token_length(token),
+        Request::ShutGroup(token, _) => token_length(token),
+        Request::DropGroup(token, _) => token_length(token),
+        Request::Say(token, _, _) => token_length(token),
+        Request::Fetch(token, _, _, _) => token_length(token),
+    }
+}
+
+// Appends a request. It is written as in a record, and what a schedule does not have is cut off behind it.
+fn put_request_line(out: &mut Vec<u8>, node: NodeId, request: &Request) -> Result<(), OutOfMemory>
+    ensures { OnOk result (out.new.items ≡ out.old.items ++ request_line node request.now) }
+{
+    put_request(out, node, request)?;
+    let length = out.len().saturating_sub(secret_length(request));
+    out.truncate(length);
+    Ok(())
+}
+
+// Appends an event at a node.
+fn put_event_line(out: &mut Vec<u8>, node: NodeId, event: &NodeEvent) -> Result<(), OutOfMemory>
+    ensures { OnOk result (out.new.items ≡ out.old.items ++ event_line node event.now) }
+{
+    match event {
+        NodeEvent::Request(request) => put_request_line(out, node, request),
+        NodeEvent::Packet(bytes) => {
+            put_bytes(out, b"noise ")?;
+            put_number(out, u64::from(node.number))?;
+            put_bytes(out, b" ")?;
+            put_payload(out, bytes.as_slice())
+        }
+        _ => put_event(out, node, event),
+    }
+}
+
+/// Appends an event.
+pub fn put_line(out: &mut Vec<u8>, event: &Event) -> Result<(), OutOfMemory>
+    ensures { OnOk result (out.new.items ≡ out.old.items ++ line_of event.now) }
+{
+    match event {
+        Event::At(node, event) => put_event_line(out, *node, event),
+        Event::Arrive(packet) => {
+            put_bytes(out, b"arrive ")?;
+            put_number(out, *packet)
+        }
+    }
+}
+
+// Appends the byte for a version.
+fn put_version(out: &mut Vec<u8>, version: &Version) -> Result<(), OutOfMemory>
+    ensures { OnOk result (out.new.items ≡ out.old.items ++ decimal (version_byte version.now)) }
+{
+    put_number(out, u64::from(version.limits().byte))
+}
+
+// Appends the byte for a version after a comma.
+fn put_comma(out: &mut Vec<u8>, version: &Version) -> Result<(), OutOfMemory>
+    ensures { OnOk result (out.new.items ≡ out.old.items ++ (codes "," ++ decimal (version_byte version.now))) }
+{
+    put_bytes(out, b",")?;
+    put_version(out, version)
+}
+
+// Appends the versions' bytes, each after a comma.
+fn put_more(out: &mut Vec<u8>, versions: &[Version]) -> Result<(), OutOfMemory>
+    ensures { OnOk result (out.new.items ≡ out.old.items ++ each_after_comma (map version_byte versions.now)) }
+{
+    for version in versions {
+        put_comma(out, version)?;
+    }
+    Ok(())
+}
+
+// Appends the versions' bytes, parted by commas.
+fn put_versions(out: &mut Vec<u8>, versions: &[Version]) -> Result<(), OutOfMemory>
+    ensures { OnOk result (out.new.items ≡ out.old.items ++ versions_word versions.now) }
+{
+    match versions.split_first() {
+        None => Ok(()),
+        Some((first, more)) => {
+            put_version(out, first)?;
+            put_more(out, more)
+        }
+    }
+}
+
+/// Appends the line that starts a cluster with this plan.
+pub fn put_first_line(out: &mut Vec<u8>, plan: &Plan) -> Result<(), OutOfMemory>
+    requires few { plan.now.nodes ≤ MOST }
+    ensures { OnOk result (out.new.items ≡ out.old.items ++ first_line plan.now) }
+{
+    put_bytes(out, b"cluster2")?;
+    put_after(out, u64::from(plan.nodes))?;
+    put_after(out, u64::from(plan.silence))?;
+    put_bytes(out, b" ")?;
+    put_versions(out, &plan.versions[..usize::from(plan.nodes)])?;
+    put_after(out, u64::from(plan.room))
+}

@@ -1,0 +1,106 @@
+//! A run as a schedule that gb_sim was seen to answer so.
+ghost use Rattle.std.specs.Prelude.{◌≡◌, IfOk, IfErr, OnOk};
+ghost use Rattle.gb_cluster.specs.ClusterValue.{IsClusterPlan};
+ghost use Rattle.gb_simulate.specs.Text.{IsText};
+ghost use Rattle.gb_simulate.specs.declared.outcome.SimEnd.TheVariants as Ends;
+ghost use Rattle.gb_replay.specs.Replay.{IsReplay, IsReplayFault, IsOtherFault};
+
+use crate::difference::first_difference;
+use crate::steps::{Replay, StepFault, schedule_of};
+use gb_cluster::event::Event;
+use gb_simulate::obey::LINES;
+use gb_simulate::outcome::SimEnd;
+use gb_simulate::simulate::simulate;
+use gb_types::memory::OutOfMemory;
+use gb_types::plan::Plan;
+use std::alloc::Global;
+
+/// How many groups the tenants of a node of gb_sim may make in all.
+pub const PLACES: u16 = 1_024;
+
+const _: () = prove!(PLACES == 1_024);
+
+/// Why a run is no schedule for gb_sim.
+#[derive(Clone, Copy, Debug, PartialEq, Eq)]
+pub enum ReplayFault {
+    /// The tenants of a node may make another number of groups in all than gb_sim's, 1,024.
+    Places,
+    /// The run has more events than a schedule may have lines behind its first one.
+    TooMany,
+    /// An event is at a node that the cluster does not have.
+    NoNode,
+    /// gb_sim gives other answers; they differ from this line on, from 1.
+    Differs(u64),
+    /// A request for memory was refused.
+    OutOfMemory,
+}
+
+impl From<OutOfMemory> for ReplayFault {
+    ghost use Rattle.std.specs.Prelude.{◌≡◌};
+    ghost use Rattle.gb_replay.specs.declared.replay.ReplayFault.TheVariants.{OutOfMemory as NoMemory};
+
+    ghost from_gives = { λ _ fault. fault ≡ NoMemory };
+
+    fn from(_error: OutOfMemory) -> ReplayFault {
+        ReplayFault::OutOfMemory
+    }
+}
+
+// What gb_sim does with a schedule.
+#[derive(Drop)]
+struct Simulation {
+    text: Vec<u8>,
+    end: SimEnd,
+}
+
+// Runs a schedule as gb_sim does.
+fn simulated(alloc: Global, schedule: &[u8]) -> Result<Simulation, OutOfMemory>
+    ensures { IfOk result (λ done. IsText schedule.now done.text.items done.end) }
+{
+    let mut reader = schedule;
+    let mut text = Vec::new(alloc);
+    let mut cluster = None;
+    match simulate(alloc, &mut reader, &mut text, &mut cluster) {
+        Ok(end) => Ok(Simulation { text, end }),
+        Err(_) => Err(OutOfMemory),
+    }
+}
+
+// Sees that gb_sim answers a schedule so.
+fn compare(alloc: Global, replay: &Replay) -> Result<(), ReplayFault>
+    ensures ok { OnOk result (IsText replay.now.schedule.items replay.now.answers.items Ends.All) }
+    ensures err { IfErr result (IsOtherFault replay.now.schedule.items replay.now.answers.items) }
+{
+    let done = simulated(alloc, &replay.schedule)?;
+    if let Some(line) = first_difference(&done.text, &replay.answers) {
+        return Err(ReplayFault::Differs(line));
+    }
+    match done.end {
+        SimEnd::All => Ok(()),
+        SimEnd::BadLine(line, _) => Err(ReplayFault::Differs(line)),
+    }
+}
+
+/// Returns the events of a cluster as a schedule, and its answers, which are gb_sim's.
+pub fn replay(alloc: Global, plan: &Plan, events: &[Event]) -> Result<Replay, ReplayFault>
+    requires plan { IsClusterPlan plan.now }
+    ensures ok { IfOk result (λ text. IsReplay plan.now events.now text.schedule.items text.answers.items) }
+    ensures simulated { IfOk result (λ text. IsText text.schedule.items text.answers.items Ends.All) }
+    ensures err { IfErr result (IsReplayFault plan.now events.now) }
+{
+    if plan.places != PLACES {
+        return Err(ReplayFault::Places);
+    }
+    if events.len() as u64 >= LINES {
+        return Err(ReplayFault::TooMany);
+    }
+    let text = match schedule_of(alloc, plan, events) {
+        Ok(text) => text,
+        Err(StepFault::NoNode) => return Err(ReplayFault::NoNode),
+        Err(StepFault::OutOfMemory) => return Err(ReplayFault::OutOfMemory),
+    };
+    match compare(alloc, &text) {
+        Ok(()) => Ok(text),
+        Err(fault) => Err(fault),
+    }
+}
