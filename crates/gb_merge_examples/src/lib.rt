@@ -17,6 +17,8 @@ mod order;
 #[cfg(test)]
 mod records;
 #[cfg(test)]
+mod replayed;
+#[cfg(test)]
 mod requests;
 #[cfg(test)]
 mod steps;

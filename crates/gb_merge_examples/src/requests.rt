@@ -38,6 +38,8 @@ pub enum Asked {
     MakeGroup,
     OpenGroup,
     Say(&'static [u8]),
+    /// A message that must get this number.
+    SayAs(&'static [u8], u32),
     /// The index of the first entry of the log that is fetched, and the most entries.
     Fetch(u32, u32),
 }
@@ -77,6 +79,11 @@ pub fn request(alloc: Global, me: NodeId, asked: Asked) -> Result<Request, OutOf
         Asked::Say(bytes) => {
             let payload = Payload::from_slice(alloc, bytes)?;
             Request::Say(member(me), GROUP, NewMessage::new(payload))
+        }
+        Asked::SayAs(bytes, seq) => {
+            let payload = Payload::from_slice(alloc, bytes)?;
+            let seq = Some(seq);
+            Request::Say(member(me), GROUP, NewMessage { payload, seq })
         }
         Asked::Fetch(from, most) => Request::Fetch(member(me), GROUP, from, most),
     })
