@@ -1,16 +1,23 @@
 //! Audits the records of a cluster's nodes: reads the cluster's keys on standard input and a record from each file that its words
-//! name, and prints what it finds, a line each.
+//! name, and prints what it finds, a line each. Where its words ask for it, it writes the run as a schedule for gb_sim.
 #![tactic(auto)]
+
+ghost use Rattle.gb_cluster.specs.ClusterValue.{IsClusterPlan};
 
 use clap::error::ErrorKind;
 use clap::{Arg, ArgAction, Command};
-use gb_audit_run::audit::{Source, audit};
+use gb_audit_run::audit::{Audited, Source, audit};
 use gb_audit_run::cluster::ClusterKeys;
 use gb_audit_run::verdict::status_of;
+use gb_replay::complaint::put_complaint;
+use gb_replay::replay::{ReplayFault, replay};
 use gb_server::keys::{read_keys, run_key};
+use gb_types::memory::OutOfMemory;
 use gb_version::VERSION;
 use std::alloc::{AllocError, AllocFailed, Global};
-use std::io::Write;
+use std::fs::{OpenFile, OpenOptions};
+use std::io::{ErrorKind as IoKind, Write};
+use std::os::unix::fs::OpenOptionsExt;
 use std::process::ExitCode;
 use std::{fs, io};
 
@@ -18,7 +25,8 @@ static AFTER: &str =
     "Standard input gives the keys of the cluster, as for gb_serve. The records that gb_serve and gb_peer write are of a run: R of their \
 names, run-R-node-I.record, is the number of --run. Without it the cluster's key is taken for that of the packets.\n\n\
 Exit status: 0 when all records are one run of the cluster, 3 when that holds of their first entries alone, 1 when they are not what nodes of \
-one cluster did, 2 for words that are refused, 4 when a file could not be read, a line not be written, or memory was refused.";
+one cluster did, or the run has no schedule that gb_sim answers so, 2 for words that are refused or a file to be made that is there, 4 when a file \
+could not be read or written, a line not be written, or memory was refused.";
 
 /// Why an audit comes to no verdict.
 #[derive(Drop)]
@@ -35,6 +43,12 @@ impl From<io::Error> for Trouble {
     }
 }
 
+impl From<OutOfMemory> for Trouble {
+    fn from(_error: OutOfMemory) -> Trouble {
+        Trouble::OutOfMemory
+    }
+}
+
 impl From<AllocError> for Trouble {
     fn from(_error: AllocError) -> Trouble {
         Trouble::OutOfMemory
@@ -45,6 +59,28 @@ impl<T: Drop> From<AllocFailed<T>> for Trouble {
     fn from(_error: AllocFailed<T>) -> Trouble {
         Trouble::OutOfMemory
     }
+}
+
+/// What the words name.
+#[derive(Clone, Copy)]
+struct Names<'a> {
+    /// The files of the records.
+    records: &'a [&'a str],
+    /// The number of the records' run, if it is given.
+    run: Option<u64>,
+    /// The file to be made for the run's schedule.
+    schedule: Option<&'a str>,
+    /// The file to be made for the schedule's answers.
+    answers: Option<&'a str>,
+}
+
+// Returns an option that names a file to be made.
+fn file_arg<'a>(alloc: Global, name: &'static str, help: &'static str) -> Arg<'a> {
+    Arg::new(alloc, name)
+        .long(name)
+        .action(ArgAction::Set)
+        .value_name("FILE")
+        .help(help)
 }
 
 // Returns the command line.
@@ -68,7 +104,17 @@ fn command<'a>(alloc: Global) -> Result<Command<'a>, AllocError> {
         .version(VERSION)
         .after_help(AFTER)
         .arg(files)?
-        .arg(run)
+        .arg(run)?
+        .arg(file_arg(
+            alloc,
+            "schedule",
+            "write the run to this new file, as a schedule for gb_sim",
+        ))?
+        .arg(file_arg(
+            alloc,
+            "answers",
+            "write what gb_sim answers to that schedule to this new file",
+        ))
 }
 
 // Writes a text and sees that it is written.
@@ -79,14 +125,69 @@ fn print(rt: &HostRuntime, text: &[u8]) -> Result<(), Trouble> {
     Ok(())
 }
 
-// Audits the records in these files, of a run if its number is given. Returns the exit status.
-fn audit_files(rt: &HostRuntime, names: &[&str], run: Option<u64>) -> Result<u8, Trouble> {
+// Writes a file that was not there, which its owner alone may read. Returns false if it was there, after saying so.
+fn write_new(rt: &HostRuntime, name: &str, text: &[u8]) -> Result<bool, Trouble> {
+    let mut options = OpenOptions::new();
+    options.write(true).create_new(true).mode(0o600);
+    match options.open(rt, name) {
+        Ok(file) => {
+            let mut file = file;
+            file.write_all(text)?;
+            file.flush()?;
+            Ok(true)
+        }
+        Err(error) => match error.kind() {
+            IoKind::AlreadyExists => {
+                let alloc = rt.alloc();
+                print(rt, format!(in alloc; "there already: {name}\n")?.as_bytes())?;
+                Ok(false)
+            }
+            _ => Err(Trouble::Io),
+        },
+    }
+}
+
+// Writes a run as a schedule, and its answers, to the files that the words name. Returns the exit status: the audit's, where all went well.
+fn write_replay(
+    rt: &HostRuntime,
+    names: &Names<'_>,
+    run: &Audited,
+    status: u8,
+) -> Result<u8, Trouble>
+    requires { IsClusterPlan run.now.plan }
+{
+    let alloc = rt.alloc();
+    let text = match replay(alloc, &run.plan, &run.events) {
+        Ok(text) => text,
+        Err(ReplayFault::OutOfMemory) => return Err(Trouble::OutOfMemory),
+        Err(fault) => {
+            let mut line = Vec::new(alloc);
+            put_complaint(&mut line, fault)?;
+            print(rt, &line)?;
+            return Ok(1);
+        }
+    };
+    if let Some(name) = names.schedule
+        && !write_new(rt, name, &text.schedule)?
+    {
+        return Ok(2);
+    }
+    if let Some(name) = names.answers
+        && !write_new(rt, name, &text.answers)?
+    {
+        return Ok(2);
+    }
+    Ok(status)
+}
+
+// Audits the records in these files, and writes what the words ask for. Returns the exit status.
+fn audit_files(rt: &HostRuntime, names: &Names<'_>) -> Result<u8, Trouble> {
     let alloc = rt.alloc();
     let Ok(keys) = read_keys(&mut rt.reader()) else {
         print(rt, b"bad keys\n")?;
         return Ok(1);
     };
-    let cluster = match run {
+    let cluster = match names.run {
         Some(run) => run_key(&keys.cluster, run),
         None => keys.cluster,
     };
@@ -95,22 +196,26 @@ fn audit_files(rt: &HostRuntime, names: &[&str], run: Option<u64>) -> Result<u8,
         admin: keys.admin,
     };
     let mut texts: Vec<Vec<u8>> = Vec::new(alloc);
-    for name in names {
+    for name in names.records {
         texts.push(fs::read(rt, *name)?)?;
     }
     let mut sources: Vec<Source<'_>> = Vec::new(alloc);
-    for place in 0..names.len().min(texts.len()) {
+    for place in 0..names.records.len().min(texts.len()) {
         sources.push(Source {
-            name: names[place],
+            name: names.records[place],
             text: texts[place].as_slice(),
         })?;
     }
     let mut lines = Vec::new(alloc);
     let found = audit(alloc, &sources, keys, &mut lines);
     print(rt, &lines)?;
-    match found {
-        Ok(found) => Ok(status_of(&found)),
-        Err(_) => Err(Trouble::OutOfMemory),
+    let found = found?;
+    let status = status_of(&found);
+    match &found {
+        Some(run) if names.schedule.is_some() || names.answers.is_some() => {
+            write_replay(rt, names, run, status)
+        }
+        _ => Ok(status),
     }
 }
 
@@ -133,7 +238,6 @@ fn run(rt: &HostRuntime) -> Result<u8, Trouble> {
             });
         }
     };
-    let names = matches.get_raw("FILE").unwrap_or(&[]);
     let run = match matches.get_str("run") {
         Some(word) => match word.parse::<u64>() {
             Ok(run) => Some(run),
@@ -146,7 +250,13 @@ fn run(rt: &HostRuntime) -> Result<u8, Trouble> {
         },
         None => None,
     };
-    audit_files(rt, names, run)
+    let names = Names {
+        records: matches.get_raw("FILE").unwrap_or(&[]),
+        run,
+        schedule: matches.get_str("schedule"),
+        answers: matches.get_str("answers"),
+    };
+    audit_files(rt, &names)
 }
 
 fn main(rt: HostRuntime) -> ExitCode {
@@ -154,7 +264,7 @@ fn main(rt: HostRuntime) -> ExitCode {
         Ok(status) => ExitCode::from(status),
         Err(Trouble::Io) => {
             let _ = rt.stderr().write_all(
-                b"gb_audit: a file could not be read, or a line not be written\n",
+                b"gb_audit: a file could not be read or written, or a line not be written\n",
             );
             ExitCode::from(4)
         }
