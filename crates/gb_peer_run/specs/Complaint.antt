@@ -1,9 +1,7 @@
 -- What is told on standard error of a node that did not serve to its end.
 use Rattle.std.specs.Prelude.{ℕ, List, [], ◌++◌, codes, decimal}
 use Rattle.std.specs.Net.Text.{socket_text}
-use Rattle.gb_server.specs.Complaint.{complaint as server_complaint}
 use Rattle.gb_server.specs.Told.{lined}
-use Rattle.gb_server.specs.declared.fault.ServeFault.TheVariants.{RefusedWords}
 use Rattle.gb_peer_run.specs.Marks.{mark_name}
 use Rattle.gb_peer_run.specs.declared.fault.PeerFault.{PeerFault}
 use Rattle.gb_peer_run.specs.declared.fault.PeerFault.TheVariants.{RefusedFile, NoNode, Remote, NotFound, Begun, Unmarked, Packets, Sessions, Serve}
@@ -24,9 +22,8 @@ fault_words dir (Packets address) = codes "the address " ++ socket_text address 
 fault_words dir (Sessions address) = codes "the address " ++ socket_text address ++ codes " for sessions could not be bound"
 fault_words dir (Serve fault) = []
 
--- the line that tells it; none where it was told when the words or the file were read
+-- the line that tells it; none if it is told elsewhere: when the words or the file are read, or as a server's own fault
 abbrev pub complaint : List ℕ → PeerFault → List ℕ
 complaint dir RefusedFile = []
-complaint dir (Serve RefusedWords) = []
-complaint dir (Serve fault) = server_complaint (codes "gb_peer") fault
+complaint dir (Serve fault) = []
 complaint dir fault = lined (codes "gb_peer: " ++ fault_words dir fault)

@@ -7,8 +7,6 @@ ghost use Rattle.gb_server.specs.Told.{lined};
 
 use crate::fault::PeerFault;
 use crate::mark::mark_name;
-use gb_server::complaint::complain as complain_of_server;
-use gb_server::fault::ServeFault;
 use gb_server::server_log::put_address;
 use gb_server::told::tell;
 use gb_types::memory::{OutOfMemory, put_bytes};
@@ -152,13 +150,12 @@ fn line_of(alloc: Global, fault: PeerFault, dir: &str) -> Result<Vec<u8>, OutOfM
 }
 
 /// Writes the line that tells why a node does not serve to its end, and what to do about it. Why words or a file are refused is told where they
-/// were read. False: it could not be written, or there was no memory for it.
+/// were read, and a server's own fault by gb_server. Returns false if it could not be written, or there was no memory for it.
 pub fn complain<E: Write>(alloc: Global, fault: PeerFault, dir: &str, errors: &mut E) -> bool
     ensures { result ≡ true → Appends (E.contents errors.old) (E.contents errors.new) (complaint dir.now fault) }
 {
     match fault {
-        PeerFault::RefusedFile | PeerFault::Serve(ServeFault::RefusedWords) => true,
-        PeerFault::Serve(fault) => complain_of_server(alloc, NAME.as_bytes(), fault, errors),
+        PeerFault::RefusedFile | PeerFault::Serve(_) => true,
         _ => match line_of(alloc, fault, dir) {
             Ok(line) => tell(errors, &line),
             Err(OutOfMemory) => false,

@@ -28,6 +28,7 @@ use gb_host::plan::HostPlan;
 use gb_loop::options::LoopOptions;
 use gb_peer_words::plan::{PeerPlan, PeerWords};
 use gb_peer_words::words::read_words;
+use gb_server::complaint::complain as complain_of_server;
 use gb_server::crew::Held;
 use gb_server::descriptors::{connections_of, descriptor_limit};
 use gb_server::ending::end_recorded;
@@ -349,8 +350,14 @@ fn serve_file<
 
 // Tells why a node did not serve to its end, if it did not.
 fn explain<E: Write>(alloc: Global, outcome: Result<(), PeerFault>, dir: &str, errors: &mut E) {
-    if let Err(fault) = outcome {
-        let _ = complain(alloc, fault, dir, errors);
+    match outcome {
+        Ok(()) | Err(PeerFault::Serve(ServeFault::RefusedWords)) => (),
+        Err(PeerFault::Serve(fault)) => {
+            let _ = complain_of_server(alloc, NAME.as_bytes(), fault, errors);
+        }
+        Err(fault) => {
+            let _ = complain(alloc, fault, dir, errors);
+        }
     }
 }
 
