@@ -1,4 +1,5 @@
 //! What merging the tapes of steps returns.
+ghost use Rattle.std.specs.Prelude.{◌≤◌};
 ghost use Rattle.gb_cluster.specs.ClusterValue.{IsClusterPlan};
 
 use crate::requests::ADMIN_KEY;
@@ -33,13 +34,21 @@ pub struct Case {
 pub fn plan(nodes: u8) -> Plan
     ensures { IsClusterPlan result }
 {
+    plan_with(nodes, 4)
+}
+
+/// Returns the same plan with this number of places.
+pub fn plan_with(nodes: u8, places: u16) -> Plan
+    requires { places ≤ 4096 }
+    ensures { IsClusterPlan result }
+{
     let mut versions = [Version::One; NODES];
     versions[1] = Version::Two;
     Plan {
         nodes: nodes.clamp(1, 3),
         versions,
         silence: 3,
-        places: 4,
+        places,
         room: 16_345,
         cluster_key: [3; 32],
         admin_key: ADMIN_KEY,

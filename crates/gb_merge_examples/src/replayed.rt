@@ -1,5 +1,7 @@
 // A run of two nodes as a schedule for gb_sim, and its answers there.
-use crate::merged::plan;
+ghost use Rattle.gb_cluster.specs.ClusterValue.{IsClusterPlan};
+
+use crate::merged::{plan, plan_with};
 use crate::requests::Asked;
 use crate::steps::{At, Step, Taped, hand_over, start, take_all};
 use gb_cluster::event::Event;
@@ -95,17 +97,24 @@ ok
 ";
 
 // Returns the run of the nodes, as it is merged from their tapes.
-fn run(alloc: Global, plan: &Plan) -> Option<Vec<Event>> {
+fn run(alloc: Global, plan: &Plan) -> Option<Vec<Event>>
+    requires { IsClusterPlan plan.now }
+{
     let mut nodes: Vec<Taped> = Vec::new(alloc);
     start(alloc, plan, &mut nodes).ok()?;
     take_all(alloc, &mut nodes, &STEPS).ok()?;
     let mut tapes: Vec<Tape> = Vec::new(alloc);
     hand_over(alloc, &mut nodes, &mut tapes).ok()?;
+    if tapes.len() != usize::from(plan.nodes) {
+        return None;
+    }
     merge_front(alloc, plan, &tapes).ok()
 }
 
 // Returns true if a run is replayed so.
-fn is_replayed(alloc: Global, plan: &Plan, events: &[Event]) -> bool {
+fn is_replayed(alloc: Global, plan: &Plan, events: &[Event]) -> bool
+    requires { IsClusterPlan plan.now }
+{
     match replay(alloc, plan, events) {
         Ok(text) => text.schedule.as_slice() == SCHEDULE && text.answers.as_slice() == ANSWERS,
         Err(_) => false,
@@ -113,7 +122,9 @@ fn is_replayed(alloc: Global, plan: &Plan, events: &[Event]) -> bool {
 }
 
 // Returns true if nodes with another number of places have no schedule, and the line says so.
-fn is_refused(alloc: Global, plan: &Plan, events: &[Event]) -> bool {
+fn is_refused(alloc: Global, plan: &Plan, events: &[Event]) -> bool
+    requires { IsClusterPlan plan.now }
+{
     let Err(fault) = replay(alloc, plan, events) else {
         return false;
     };
@@ -127,8 +138,7 @@ fn is_refused(alloc: Global, plan: &Plan, events: &[Event]) -> bool {
 fn a_run_is_a_schedule(rt: HostRuntime) {
     let alloc = rt.alloc();
     let few = plan(2);
-    let mut plan = few;
-    plan.places = 1_024;
+    let plan = plan_with(2, 1_024);
     let events = run(alloc, &plan);
     let replayed = match &events {
         Some(events) => { is_replayed(alloc, &plan, events) && is_refused(alloc, &few, events) }

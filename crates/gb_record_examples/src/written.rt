@@ -1,5 +1,5 @@
 // A node that is recorded: what is written when a packet leaves, when a write fails, and at the end.
-ghost use Rattle.std.specs.Prelude.{◌≡◌, [], vec_len};
+ghost use Rattle.std.specs.Prelude.{◌≡◌, [], false, vec_len};
 ghost use Rattle.gb_host.specs.Pasts.{AreBlank, books_of};
 ghost use Rattle.gb_host.specs.Plans.{IsPlan};
 
