@@ -6,12 +6,10 @@ use crate::loops::{Alone, Watch, runs};
 use gb_client::fault::ClientFault;
 use gb_types::node::NodeId;
 use std::alloc::Global;
-use std::fs::{File, Files};
 use std::net::{Net, TcpListener, TcpStream};
 use std::rt::HostRuntime;
 use std::sync::Wait;
 use std::sync::atomic::{AtomicU64, Ordering};
-use std::thread::Threads;
 use std::time::{Clock, Duration, Instant};
 use std::{io, thread};
 
@@ -167,14 +165,14 @@ fn count_ticks<H: Net<Stream = TcpStream> + Clock>(
 
 // Whether the last node of a server ticks each twenty milliseconds, as its words say, or less often by far where the machine has
 // much to do, but never more often.
-fn ticks_by_the_clock<
-    H: Net<Listener = TcpListener, Stream = TcpStream>
-        + Threads
-        + Wait
-        + Clock
-        + Sync
-        + Files<File = File>,
->(rt: &H, alloc: Global, words: &[&str], lines: &[u8], base_port: u16, node: NodeId) -> bool {
+fn ticks_by_the_clock(
+    rt: &HostRuntime,
+    alloc: Global,
+    words: &[&str],
+    lines: &[u8],
+    base_port: u16,
+    node: NodeId,
+) -> bool {
     let (is_served, (counted, is_over)) = thread::join(
         rt,
         || serves(rt, alloc, words, lines),
