@@ -163,28 +163,20 @@ fn count_ticks<H: Net<Stream = TcpStream> + Clock>(
     Ok((after.saturating_sub(before), took.as_millis()))
 }
 
-// Whether the last node of a server ticks each twenty milliseconds, as its words say, or less often by far where the machine has
-// much to do, but never more often.
-fn ticks_by_the_clock(
-    rt: &HostRuntime,
+// Ends a server. Returns true if its last node ticked each twenty milliseconds before, as the server's words say, or less often by far
+// where the machine has much to do, but never more often.
+fn ticked_by_the_clock<H: Net<Stream = TcpStream> + Clock>(
+    rt: &H,
     alloc: Global,
-    words: &[&str],
-    lines: &[u8],
     base_port: u16,
     node: NodeId,
 ) -> bool {
-    let (is_served, (counted, is_over)) = thread::join(
-        rt,
-        || serves(rt, alloc, words, lines),
-        || (
-            count_ticks(rt, alloc, base_port, node),
-            end_server(rt, alloc, base_port),
-        ),
-    );
+    let counted = count_ticks(rt, alloc, base_port, node);
+    let is_over = end_server(rt, alloc, base_port);
     let Ok((ticks, millis)) = counted else {
         return false;
     };
-    is_served && is_over && ticks >= 5 && u128::from(ticks) * 20 <= millis.saturating_add(40)
+    is_over && ticks >= 5 && u128::from(ticks) * 20 <= millis.saturating_add(40)
 }
 
 #[test]
@@ -192,22 +184,26 @@ fn servers_tick_by_the_clock(rt: HostRuntime) {
     let alloc = rt.alloc();
     let (two, eight) = thread::join(
         &rt,
-        || ticks_by_the_clock(
+        || thread::join(
             &rt,
-            alloc,
-            &TWO,
-            b"serving 2 nodes from port 26400\nclosed\n",
-            26_400,
-            NodeId::new(1),
+            || serves(
+                &rt,
+                alloc,
+                &TWO,
+                b"serving 2 nodes from port 26400\nclosed\n",
+            ),
+            || ticked_by_the_clock(&rt, alloc, 26_400, NodeId::new(1)),
         ),
-        || ticks_by_the_clock(
+        || thread::join(
             &rt,
-            alloc,
-            &EIGHT,
-            b"serving 8 nodes from port 26500\nclosed\n",
-            26_500,
-            NodeId::new(7),
+            || serves(
+                &rt,
+                alloc,
+                &EIGHT,
+                b"serving 8 nodes from port 26500\nclosed\n",
+            ),
+            || ticked_by_the_clock(&rt, alloc, 26_500, NodeId::new(7)),
         ),
     );
-    assert!(rt; two && eight);
+    assert!(rt; two.0 && two.1 && eight.0 && eight.1);
 }
