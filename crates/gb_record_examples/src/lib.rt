@@ -1,5 +1,5 @@
-//! Worked records, as tests: what is written before a packet leaves, writers that fail, and servers whose records are audited. There is nothing here
-//! but tests.
+//! Worked records, as tests: replies that leave only once what happened is kept, and servers whose records are audited. There is nothing
+//! here but tests.
 #![tactic(auto)]
 
 #[cfg(test)]
