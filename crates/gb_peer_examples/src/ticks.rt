@@ -107,7 +107,7 @@ fn ticks_soon<H: Net<Stream = TcpStream> + Clock>(
     port: u16,
     none: &[u8],
 ) -> bool {
-    for _ in 0..200 {
+    for _ in 0..3_000 {
         if let Some(text) = figures(rt, alloc, port)
             && has(&text, b"\nfoqradesh_ticks_total{")
             && !has(&text, none)
