@@ -43,8 +43,8 @@ fn echo_each(alloc: Global, listener: &TcpListener, times: u64) {
 // Waits that a test can wait for.
 fn short_limits() -> Limits {
     Limits {
-        head: Duration::from_millis(1_000),
-        silence: Duration::from_millis(300),
+        head: Duration::from_millis(3_000),
+        silence: Duration::from_millis(1_500),
         write: Duration::from_millis(1_000),
         reply: Duration::from_millis(5_000),
         close: Duration::from_millis(200),
@@ -251,7 +251,7 @@ fn clients_disturb_nobody(rt: HostRuntime) {
 // Whether somebody is served at last.
 fn is_served_at_last<H: Net<Stream = TcpStream> + Clock>(rt: &H, alloc: Global, port: u16) -> bool {
     let (sent, front) = HEADS[0];
-    for _ in 0..100 {
+    for _ in 0..3_000 {
         if is_answered(rt, alloc, port, sent, front) {
             return true;
         }
