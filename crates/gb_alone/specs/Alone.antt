@@ -1,5 +1,5 @@
 -- One group, by itself: no links, frames, packets or other groups. Histories have the newest first.
-use Rattle.std.specs.Prelude.{ℕ, zero, suc, ◌+◌, ◌-◌, ◌≡◌, ◌≤◌, ◌<◌, ◌&&◌, ◌||◌, not, Bool, true, false, List, [], ◌∷◌, ◌++◌, length, fold, take, Option, Some, None, is_some, option_map, slice_get, nat_eq, if◌then◌else◌}
+use Rattle.std.specs.Prelude.{ℕ, zero, suc, ◌+◌, ◌-◌, ◌≡◌, ◌≤◌, ◌<◌, ◌&&◌, ◌||◌, not, Bool, true, false, List, [], ◌∷◌, ◌++◌, length, fold, take, Option, Some, None, is_some, option_map, slice_get, nat_eq, nat_lt, if◌then◌else◌}
 use Rattle.std.specs.List.{list_all, list_any, range_with_len}
 use Rattle.std.specs.Option.{option_map_or}
 use Rattle.gb_types.specs.Rising.{rising}
@@ -22,7 +22,7 @@ use Rattle.gb_rules.specs.declared.phase.Phase.TheVariants.{Made, Opened, Shut, 
 use Rattle.gb_rules.specs.declared.usage.Usage.{Usage}
 use Rattle.gb_rules.specs.Tenant.{make_answer, by_tenant}
 use Rattle.gb_alone.specs.declared.event.GroupEvent.{GroupEvent}
-use Rattle.gb_alone.specs.declared.event.GroupEvent.TheVariants.{Tenant, Make as AskMake, Open as AskOpen, Shut as AskShut, Drop as AskDrop, Say as AskSay, Fetch as AskFetch, Took, Came, Done as Acknowledged, Notice, Stop}
+use Rattle.gb_alone.specs.declared.event.GroupEvent.TheVariants.{Tenant, Make as AskMake, Open as AskOpen, Shut as AskShut, Drop as AskDrop, Say as AskSay, Fetch as AskFetch, OtherMade, OtherDropped, Took, Came, Done as Acknowledged, Notice, Stop}
 use Rattle.gb_alone.specs.declared.event.GroupStep.{GroupStep}
 use Rattle.gb_rules.specs.declared.reserve.Reserve.{Reserve}
 use Rattle.gb_types.specs.declared.address.Addr.{Addr}
@@ -33,6 +33,10 @@ pub record Member : Type 0 where
   pub reserve : Option Reserve
   -- None until the group is made
   pub spec : Option Spec
+  -- a later generation of the group's room was made
+  pub passed : Bool
+  -- the number of other generations of the room that live
+  pub others : ℕ
   pub phase : Phase
   -- all that the group was told here, until it was dropped
   pub told : List GroupCall
@@ -98,11 +102,11 @@ shown me m = option_map (shown_in me m.phase m.told m.put m.done) m.spec
 
 -- the reply to a command on a group that may have been made
 abbrev pub on_group : (Shown → Reply) → ℕ → Member → Reply
-on_group answer me m = by_tenant (λ _. on_made answer (shown me m)) m.reserve
+on_group answer me m = by_tenant (λ _. on_made m.passed answer (shown me m)) m.reserve
 
 -- the reply to a command on the group with this address, at a running node of a cluster with these bounds
 abbrev pub running_reply : Bounds → Addr → ℕ → GroupEvent → Member → Reply
-running_reply bounds addr me (AskMake spec) m = by_tenant (make_answer bounds.nodes me addr (is_some m.spec) spec) m.reserve
+running_reply bounds addr me (AskMake spec) m = by_tenant (make_answer (version_at bounds.versions me) bounds.nodes me addr (is_some m.spec || m.passed) m.others spec) m.reserve
 running_reply bounds addr me AskOpen m = on_group open_answer me m
 running_reply bounds addr me AskShut m = on_group shut_answer me m
 running_reply bounds addr me AskDrop m = on_group drop_answer me m
@@ -168,9 +172,18 @@ took_notice me q (Some spec) m = if is_other spec me q.number then called me (Cr
 abbrev pub node_noticed : ℕ → NodeId → Member → Member
 node_noticed me q m = let next = took_notice me q (held_spec m.phase m.spec) m in record next { noticed = q.number ∷ m.noticed }
 
+-- another generation of the group's room is made, and one is dropped
+abbrev pub other_made : Addr → ℕ → Member → Member
+other_made addr generation m = record m { passed = m.passed || nat_lt addr.generation generation; others = m.others + 1 }
+
+abbrev pub other_dropped : Member → Member
+other_dropped m = record m { others = m.others - 1 }
+
 -- the group at a node after an event there
 abbrev pub member_after : Bounds → Addr → NodeId → GroupEvent → Group → Member
 member_after bounds addr me (Tenant reserve) group = let m = group me.number in record m { reserve = Some reserve }
+member_after bounds addr me (OtherMade generation) group = other_made addr generation (group me.number)
+member_after bounds addr me OtherDropped group = other_dropped (group me.number)
 member_after bounds addr me (Took b count) group = let m = group me.number in record m { taken = λ x. if nat_eq x b.number then m.taken x + count else m.taken x }
 member_after bounds addr me (Came from place) group = taken_in (version_at bounds.versions me.number) me.number from place (slice_get ((group from.number).put me.number) (place - 1)) (group me.number)
 member_after bounds addr me (Acknowledged b place count) group = item_done b place count (group me.number)
@@ -184,7 +197,7 @@ after bounds addr group step x = if nat_eq x step.node.number then member_after 
 
 -- the group before anything has happened
 abbrev pub nobody : Group
-nobody x = record { reserve = None; spec = None; phase = Made; told = []; replies = []; put = λ b. []; taken = λ b. 0; come = λ b. []; done = λ b. []; noticed = []; stopped = false }
+nobody x = record { reserve = None; spec = None; passed = false; others = 0; phase = Made; told = []; replies = []; put = λ b. []; taken = λ b. 0; come = λ b. []; done = λ b. []; noticed = []; stopped = false }
 
 -- the group with this address, in a cluster with these bounds, after these events
 abbrev pub alone : Bounds → Addr → List GroupStep → Group
@@ -195,7 +208,7 @@ abbrev pub alone_from : Bounds → Addr → Group → List GroupStep → Group
 alone_from bounds addr group steps = fold (after bounds addr) group steps
 
 -- What may happen next: items that wait are taken, a carried item comes once, an item that came is acknowledged once, and a node is noticed once at another.
--- None of these happens at a stopped node. Commands, tenants and stops may happen always.
+-- None of these happens at a stopped node. Commands, tenants, stops, and makes and drops of other generations may happen always.
 abbrev pub MayHappen : NodeId → GroupEvent → Group → Type 0
 MayHappen me (Took b count) group = ((group me.number).stopped ≡ false) × (0 < count) × ((group me.number).taken b.number + count ≤ length ((group me.number).put b.number))
 MayHappen me (Came from place) group =

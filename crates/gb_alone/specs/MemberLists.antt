@@ -1,5 +1,5 @@
 -- A group alone, kept in lists as the plain program keeps it. Each change does what its counterpart in Alone.antt does.
-use Rattle.std.specs.Prelude.{ℕ, ◌+◌, ◌-◌, ◌≡◌, ◌<◌, ◌&&◌, ◌||◌, not, Bool, false, true, List, [], ◌∷◌, ◌++◌, length, map, replicate, take, slice_get, slice_index_or, slice_set, Option, Some, None, if◌then◌else◌}
+use Rattle.std.specs.Prelude.{ℕ, ◌+◌, ◌-◌, ◌≡◌, ◌<◌, ◌&&◌, ◌||◌, not, Bool, false, true, List, [], ◌∷◌, ◌++◌, length, map, replicate, take, slice_get, slice_index_or, slice_set, nat_lt, Option, Some, None, if◌then◌else◌}
 use Rattle.std.specs.List.{range_with_len}
 use Rattle.gb_types.specs.declared.entry.Entry.{Entry}
 use Rattle.gb_types.specs.declared.limits.TheConstants.{NODES}
@@ -19,7 +19,7 @@ use Rattle.gb_rules.specs.declared.phase.Phase.TheVariants.{Made, Opened, Shut, 
 use Rattle.gb_rules.specs.declared.phase.Phase.{Phase}
 use Rattle.gb_alone.specs.Alone.{Group, Member, held_spec, falls, reply_to}
 use Rattle.gb_alone.specs.Observation.{numbers_below}
-use Rattle.gb_alone.specs.declared.event.GroupEvent.TheVariants.{Tenant, Make as AskMake, Open as AskOpen, Shut as AskShut, Drop as AskDrop, Say as AskSay, Took, Came, Done as Acknowledged, Notice, Stop}
+use Rattle.gb_alone.specs.declared.event.GroupEvent.TheVariants.{Tenant, Make as AskMake, Open as AskOpen, Shut as AskShut, Drop as AskDrop, Say as AskSay, OtherMade, OtherDropped, Took, Came, Done as Acknowledged, Notice, Stop}
 use Rattle.gb_alone.specs.declared.event.GroupEvent.{GroupEvent}
 use Rattle.gb_alone.specs.declared.event.GroupStep.{GroupStep}
 use Rattle.gb_rules.specs.declared.reserve.Reserve.{Reserve}
@@ -29,6 +29,8 @@ use Rattle.gb_types.specs.declared.address.Addr.{Addr}
 pub record MemberValue : Type 0 where
   pub reserve : Option Reserve
   pub spec : Option Spec
+  pub passed : Bool
+  pub others : ℕ
   pub phase : Phase
   pub told : List GroupCall
   pub replies : List Reply
@@ -39,13 +41,15 @@ pub record MemberValue : Type 0 where
   pub stopped : Bool
 
 abbrev pub new_member : MemberValue
-new_member = record { reserve = None; spec = None; phase = Made; told = []; replies = []; put = []; taken = replicate NODES 0; done = replicate NODES []; stopped = false }
+new_member = record { reserve = None; spec = None; passed = false; others = 0; phase = Made; told = []; replies = []; put = []; taken = replicate NODES 0; done = replicate NODES []; stopped = false }
 
 -- the member that these lists hold
 abbrev pub member_of : MemberValue → Member
 member_of v = record {
   reserve = v.reserve;
   spec = v.spec;
+  passed = v.passed;
+  others = v.others;
   phase = v.phase;
   told = v.told;
   replies = v.replies;
@@ -113,6 +117,8 @@ value_at vs a = slice_index_or vs a new_member
 
 abbrev pub value_after : Bounds → Addr → NodeId → GroupEvent → List MemberValue → MemberValue
 value_after bounds addr me (Tenant reserve) vs = let v = value_at vs me.number in record v { reserve = Some reserve }
+value_after bounds addr me (OtherMade generation) vs = let v = value_at vs me.number in record v { passed = v.passed || nat_lt addr.generation generation; others = v.others + 1 }
+value_after bounds addr me OtherDropped vs = let v = value_at vs me.number in record v { others = v.others - 1 }
 value_after bounds addr me (Took b count) vs = value_took b.number count (value_at vs me.number)
 value_after bounds addr me (Came from place) vs =
     value_taken_in (version_at bounds.versions me.number) me.number from (slice_get (slice_index_or (value_at vs from.number).put me.number []) (place - 1)) (value_at vs me.number)
@@ -128,6 +134,8 @@ values_after bounds addr vs step = slice_set vs step.node.number (value_after bo
 pub record StandsForMember (v : MemberValue) (m : Member) : Type 0 where
   pub reserve : v.reserve ≡ m.reserve
   pub spec : v.spec ≡ m.spec
+  pub passed : v.passed ≡ m.passed
+  pub others : v.others ≡ m.others
   pub phase : v.phase ≡ m.phase
   pub told : v.told ≡ m.told
   pub replies : v.replies ≡ m.replies

@@ -21,6 +21,10 @@ pub enum GroupEvent {
     Say(NewMessage),
     /// A command to fetch the log: the place of the first entry, and how many entries at most.
     Fetch(u32, u32),
+    /// Another generation of the group's room is made: its number.
+    OtherMade(u32),
+    /// Another generation of the group's room is dropped.
+    OtherDropped,
     /// Further items put out to the node are carried: the node, and how many items.
     Took(NodeId, u64),
     /// An item comes: the node that put it out, and the item's place among those that it put out to this node.

@@ -6,7 +6,8 @@ ghost use Rattle.gb_cluster.specs.ClusterValue.{IsClusterPlan};
 ghost use Rattle.gb_audit_run.specs.Audits.{AreOfOne, IsOfPlan};
 
 use gb_record_text::head::RecordHead;
-use gb_types::limits::{NODES, PLACES, SILENCE_MAX, SILENCE_MIN};
+use gb_rules::room::ROOMS;
+use gb_types::limits::{NODES, SILENCE_MAX, SILENCE_MIN};
 use gb_types::plan::Plan;
 use gb_types::version::Version;
 
@@ -40,7 +41,7 @@ fn is_plan(plan: &Plan) -> bool
     1 <= plan.nodes
         && usize::from(plan.nodes) <= NODES
         && is_named(plan)
-        && plan.places <= PLACES
+        && plan.places <= ROOMS
         && SILENCE_MIN <= plan.silence
         && plan.silence <= SILENCE_MAX
 }

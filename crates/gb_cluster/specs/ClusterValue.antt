@@ -1,7 +1,8 @@
 -- A cluster as contracts see it.
 use Rattle.std.specs.Prelude.{ℕ, ◌<◌, ◌≤◌, List, [], false, map, slice_index_or}
 use Rattle.std.specs.List.{range_with_len}
-use Rattle.gb_types.specs.declared.limits.TheConstants.{NODES, PLACES, SILENCE_MIN, SILENCE_MAX}
+use Rattle.gb_types.specs.declared.limits.TheConstants.{NODES, SILENCE_MIN, SILENCE_MAX}
+use Rattle.gb_rules.specs.declared.room.TheConstants.{ROOMS}
 use Rattle.gb_types.specs.declared.node.NodeId.{NodeId}
 use Rattle.gb_types.specs.Version.{limits_of, version_at}
 use Rattle.gb_node.specs.NodeStep.{node_numbered}
@@ -37,6 +38,6 @@ pub record IsClusterPlan (plan : Plan) : Type 0 where
   pub few : plan.nodes ≤ NODES
   -- the version that each node sends can name them all
   pub named : (a : ℕ) → a < plan.nodes → plan.nodes ≤ (limits_of (version_at plan.versions a)).nodes
-  pub places : plan.places ≤ PLACES
+  pub places : plan.places ≤ ROOMS
   pub least : SILENCE_MIN ≤ plan.silence
   pub most : plan.silence ≤ SILENCE_MAX

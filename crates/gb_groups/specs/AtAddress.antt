@@ -1,21 +1,18 @@
 -- A step at one address.
-use Rattle.std.specs.Prelude.{ℕ, ◌≡◌, ◌&&◌, not, false, List, Option, Some, None, option_map, position, nat_lt, slice_set, if◌then◌else◌}
+use Rattle.std.specs.Prelude.{ℕ, ◌≡◌, ◌&&◌, not, false, List, Option, Some, None, is_some, option_map, position, nat_lt, slice_set, if◌then◌else◌}
 use Rattle.gb_types.specs.declared.address.Addr.{Addr}
 use Rattle.gb_types.specs.declared.limits.TheConstants.{NODES}
 use Rattle.gb_types.specs.declared.node.NodeId.{NodeId}
 use Rattle.gb_frame.specs.declared.item.Item.{Item}
 use Rattle.gb_frame.specs.Items.{address_of, entry_of}
-use Rattle.gb_types.specs.declared.refusal.Refusal.TheVariants.{NoGroup}
-use Rattle.gb_types.specs.declared.reply.Reply.{Reply}
-use Rattle.gb_types.specs.declared.reply.Reply.TheVariants.{Refused}
 use Rattle.gb_types.specs.declared.version.Version.{Version}
-use Rattle.gb_rules.specs.Group.{Shown, is_too_long}
+use Rattle.gb_rules.specs.Group.{is_too_long}
 use Rattle.gb_rules.specs.Address.{is_addr}
 use Rattle.gb_slot.specs.Slot.{slot_came}
 use Rattle.gb_slot.specs.SlotState.{SlotState}
-use Rattle.gb_groups.specs.SlotsValue.{Row, row_at, on_slot, gone, unless_gone}
+use Rattle.gb_groups.specs.SlotsValue.{Row, row_at, on_slot, gone}
 
--- the place of an address among the groups
+-- the place of the group that was last made with an address
 abbrev pub place_of : Addr → List Row → Option ℕ
 place_of addr rows = position (λ row. is_addr addr row.addr) rows
 
@@ -48,10 +45,11 @@ pub record OthersKept (addr : Addr) (old new : List Row) : Type 0 where
 abbrev pub item_came : Version → NodeId → Item → List Row → List Row
 item_came version from i rows = if nat_lt i.origin NODES && not (is_too_long version i.payload) then on_address (address_of i) (slot_came from (entry_of i)) rows else rows
 
--- the reply to a command on the group with an address
-abbrev pub reply_at : (Shown → Reply) → List Row → Option ℕ → Reply
-reply_at answer rows None = Refused NoGroup
-reply_at answer rows (Some p) = unless_gone answer (row_at rows p).slot
+-- the place, if a group lives there
+abbrev pub if_living : List Row → Option ℕ → Option ℕ
+if_living rows None = None
+if_living rows (Some p) = if is_some (row_at rows p).slot then Some p else None
 
-abbrev pub group_reply : (Shown → Reply) → Addr → List Row → Reply
-group_reply answer addr rows = reply_at answer rows (place_of addr rows)
+-- the place where the group with an address lives
+abbrev pub living_place : Addr → List Row → Option ℕ
+living_place addr rows = if_living rows (place_of addr rows)

@@ -1,20 +1,34 @@
 -- All groups of a node, with the places where packing continues, as contracts see them.
-use Rattle.std.specs.Prelude.{ℕ, ◌≡◌, ◌≢◌, ◌≤◌, ◌<◌, min, List, [], length, replicate, slice_index_or, slice_set}
+use Rattle.std.specs.Prelude.{ℕ, ◌≡◌, ◌≢◌, ◌≤◌, ◌<◌, min, List, [], length, replicate, slice_index_or, slice_set, Some}
 use Rattle.gb_types.specs.declared.limits.TheConstants.{NODES, PLACES}
 use Rattle.gb_types.specs.declared.version.Version.{Version}
-use Rattle.gb_groups.specs.SlotsValue.{Row}
+use Rattle.gb_types.specs.declared.address.Addr.{Addr}
+use Rattle.gb_slot.specs.SlotState.{SlotState}
+use Rattle.gb_groups.specs.SlotsValue.{Row, with_room}
+use Rattle.gb_groups.specs.Rooms.{rank_of, free_place, with_made}
 use Rattle.gb_groups.specs.Packing.{Visit, queues, walk, fit, gave, new_cursor}
 use Rattle.gb_groups.specs.PlaceSet.{has}
 use Rattle.gb_groups.specs.Busy.{IsBusy}
 
--- the groups in the order in which they were made, and for each node the place where packing continues
+-- the rooms, their places, and for each node the place where packing continues
 pub record GroupsValue : Type 0 where
+  -- each room's name, and the greatest generation that was made of it here, in the order in which they were begun
+  pub rooms : List (Addr × ℕ)
   pub rows : List Row
   pub cursors : List ℕ
 
 -- no group
 abbrev pub no_groups : GroupsValue
-no_groups = record { rows = []; cursors = replicate NODES 0 }
+no_groups = record { rooms = []; rows = []; cursors = replicate NODES 0 }
+
+-- the groups after one with this address and slot was made
+abbrev pub made : Addr → SlotState → GroupsValue → GroupsValue
+made addr s t =
+    let place = free_place (rank_of addr t.rooms) t.rows in
+    record t {
+      rooms = with_made addr t.rooms;
+      rows = slice_set (with_room place t.rows) place (record { addr = addr; slot = Some s });
+    }
 
 -- the place where packing for a node continues
 abbrev pub cursor_for : ℕ → GroupsValue → ℕ

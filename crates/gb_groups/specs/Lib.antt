@@ -7,6 +7,7 @@ pub mod Members
 pub mod Covered
 pub mod Ahead
 pub mod Slots
+pub mod Rooms
 pub mod GroupsValue
 pub mod Fair
 pub mod AtAddress

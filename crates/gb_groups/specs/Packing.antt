@@ -1,5 +1,5 @@
 -- The items that one packing takes: the walk round the groups, the batch, and where the next walk begins.
-use Rattle.std.specs.Prelude.{ℕ, suc, ◌+◌, ◌-◌, ◌==◌, Bool, if◌then◌else◌, List, [], ◌∷◌, ◌++◌, length, take, drop, map, Option, Some, None, option_map, slice_get, slice_index_or, count_by, ltb}
+use Rattle.std.specs.Prelude.{ℕ, suc, ◌+◌, ◌-◌, ◌*◌, ◌/◌, ◌==◌, nat_lt, Bool, if◌then◌else◌, List, [], ◌∷◌, ◌++◌, length, take, drop, map, Option, Some, None, option_map, slice_get, slice_index_or, count_by, ltb}
 use Rattle.gb_types.specs.Version.{limits_of}
 use Rattle.gb_types.specs.declared.entry.Entry.{Entry}
 use Rattle.gb_types.specs.declared.version.Version.{Version}
@@ -8,6 +8,7 @@ use Rattle.gb_frame.specs.Items.{item_for}
 use Rattle.gb_slot.specs.Slot.{waiting, slot_took}
 use Rattle.gb_slot.specs.SlotState.{SlotState}
 use Rattle.gb_groups.specs.SlotsValue.{Row, row_at, no_entry}
+use Rattle.gb_rules.specs.declared.room.TheConstants.{GENERATIONS}
 use Rattle.gb_groups.specs.Turns.{in_turns}
 
 -- an item of the group at a place
@@ -40,14 +41,14 @@ unfoldable pub fit : Version → ℕ → List Visit → List Visit
 fit version room [] = []
 fit version room (v ∷ vs) = if ltb room (size version v) then [] else v ∷ fit version (room - size version v) vs
 
--- the place after a given one, of `count` places; place 0 comes after the last
-abbrev pub place_after : ℕ → ℕ → ℕ
-place_after places p = if p + 1 == places then 0 else p + 1
+-- the first place of the room after that of a place, of this number of places; the first room comes after the last
+abbrev pub room_after : ℕ → ℕ → ℕ
+room_after places p = let next = GENERATIONS * (p / GENERATIONS + 1) in if nat_lt next places then next else 0
 
--- the place of the next item of the walk after the first n; if there is no such item, the place after that of the last item taken
+-- the place of the next item of the walk after the first n; if there is no such item, the first place of the room after that of the last item taken
 abbrev pub after_last : ℕ → ℕ → Option Visit → ℕ
 after_last places cursor None = cursor
-after_last places cursor (Some v) = place_after places v.place
+after_last places cursor (Some v) = room_after places v.place
 
 abbrev pub next_place : ℕ → ℕ → List Visit → Option Visit → ℕ
 next_place places cursor vs (Some v) = v.place

@@ -1,5 +1,5 @@
 -- The representation of the groups of a node: a map from addresses to keys, in order, and slots under keys.
-use Rattle.std.specs.Prelude.{ℕ, ◌≡◌, List, map, Option, None, Some, IsSome, slice_index_or}
+use Rattle.std.specs.Prelude.{ℕ, ◌+◌, ◌≡◌, ◌<◌, false, List, [], ◌∷◌, ◌++◌, length, map, nat_lt, Option, None, Some, IsSome, slice_index_or, if◌then◌else◌}
 use Rattle.slab.specs.Slab.{Slab, get}
 use Rattle.gb_types.specs.declared.address.Addr.{Addr}
 use Rattle.gb_types.specs.declared.limits.TheConstants.{PAYLOAD}
@@ -8,7 +8,8 @@ use Rattle.gb_slot.specs.Effects.{AreReady, IsEmpty}
 use Rattle.gb_slot.specs.SlotState.{SlotState}
 use Rattle.gb_groups.specs.declared.slots.Place.{Place}
 use Rattle.gb_groups.specs.declared.slots.Place.TheVariants.{Key, Gone}
-use Rattle.gb_groups.specs.SlotsValue.{Row, SlotsValue, HaveCounters, AreShort, AreApart, AreFirst}
+use Rattle.gb_rules.specs.Address.{is_addr}
+use Rattle.gb_groups.specs.SlotsValue.{Row, SlotsValue, vacant, HaveCounters, AreShort, AreApart, AreVacant}
 
 -- the slot that a group's place names
 abbrev pub slot_under : Slab SlotState → Place → Option SlotState
@@ -25,6 +26,28 @@ slots_of entries slots = record { rows = map (row_of slots) entries }
 abbrev pub place_at : List (Addr × Place) → ℕ → Place
 place_at entries p = (slice_index_or entries p (record { 0 = record { tenant = 0; group = 0; generation = 0 }; 1 = Gone })).1
 
+-- what is at a place where no group was made
+abbrev pub vacant_entry : ℕ → Addr × Place
+vacant_entry p = ((vacant p).addr, Gone)
+
+-- the entries, with those of one room more if place p is behind the last
+abbrev pub entries_with_room : ℕ → List (Addr × Place) → List (Addr × Place)
+entries_with_room p entries =
+    if nat_lt p (length entries) then entries
+    else entries ++ vacant_entry (length entries) ∷ vacant_entry (length entries + 1) ∷ vacant_entry (length entries + 2) ∷ vacant_entry (length entries + 3) ∷ []
+
+-- the address at a place
+abbrev pub addr_at : List (Addr × Place) → ℕ → Addr
+addr_at entries p = (slice_index_or entries p (record { 0 = record { tenant = 0; group = 0; generation = 0 }; 1 = Gone })).0
+
+-- each address of no tenant is that of its vacant place
+abbrev pub AreVacantEntries : List (Addr × Place) → Type 0
+AreVacantEntries entries = (p : ℕ) → p < length entries → (addr_at entries p).tenant ≡ 0 → addr_at entries p ≡ (vacant p).addr
+
+-- no place has the address
+abbrev pub AreOthers : Addr → List (Addr × Place) → Type 0
+AreOthers addr entries = (p : ℕ) → p < length entries → is_addr addr (addr_at entries p) ≡ false
+
 -- each key has a slot, no two places have one key, and each slot is named by some place; the messages of the slots are within the limits
 pub record AreKept (entries : List (Addr × Place)) (slots : Slab SlotState) : Type 0 where
   pub there : (p k : ℕ) → place_at entries p ≡ Key k → IsSome (get slots k)
@@ -33,7 +56,7 @@ pub record AreKept (entries : List (Addr × Place)) (slots : Slab SlotState) : T
   pub counters : HaveCounters (map (row_of slots) entries)
   pub short : AreShort PAYLOAD (map (row_of slots) entries)
   pub apart : AreApart (map (row_of slots) entries)
-  pub first : AreFirst (map (row_of slots) entries)
+  pub vacant : AreVacant (map (row_of slots) entries)
 
 -- the lists that are lent are empty, and have the memory that each slot needs
 pub record AreLent (slots : Slab SlotState) (out : Effects) : Type 0 where

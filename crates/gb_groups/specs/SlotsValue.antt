@@ -1,6 +1,6 @@
 -- The slots of a node's groups, as contracts see them.
 use Rattle.std.proofs.Common.{arith}
-use Rattle.std.specs.Prelude.{ℕ, ◌≡◌, ◌<◌, ◌≤◌, List, [], length, Option, Some, None, option_map, slice_index_or}
+use Rattle.std.specs.Prelude.{ℕ, ◌+◌, ◌≡◌, ◌<◌, ◌≤◌, Bool, true, List, [], ◌∷◌, ◌++◌, length, nat_lt, Option, Some, None, option_map, slice_index_or, if◌then◌else◌}
 use Rattle.gb_types.specs.declared.address.Addr.{Addr}
 use Rattle.gb_types.specs.declared.entry.Entry.{Entry}
 use Rattle.gb_types.specs.declared.limits.TheConstants.{NODES}
@@ -8,17 +8,20 @@ use Rattle.gb_types.specs.declared.message.MsgId.{MsgId}
 use Rattle.gb_types.specs.declared.refusal.Refusal.TheVariants.{Spent}
 use Rattle.gb_types.specs.declared.reply.Reply.{Reply}
 use Rattle.gb_types.specs.declared.reply.Reply.TheVariants.{Refused}
+use Rattle.gb_types.specs.declared.version.Version.{Version}
 use Rattle.gb_history.specs.Messages.{payload_in}
+use Rattle.gb_rules.specs.Room.{can_name}
 use Rattle.gb_rules.specs.Group.{Shown}
 use Rattle.gb_slot.specs.Slot.{shown}
 use Rattle.gb_slot.specs.SlotState.{SlotState}
 
--- a group at its place: its address, and its slot unless it was dropped
+-- A place of a room: the address of the group that was last made there, and its slot unless it was dropped. A place where no group was made has no slot, and the
+-- address of no tenant.
 pub record Row : Type 0 where
   pub addr : Addr
   pub slot : Option SlotState
 
--- the groups in the order in which they were made
+-- the places of all rooms, four a room, in the order in which the rooms were begun
 pub record SlotsValue : Type 0 where
   pub rows : List Row
 
@@ -31,6 +34,22 @@ no_entry = record { origin = record { number = 0; below = zero_is_node }; seq = 
 
 abbrev pub no_row : Row
 no_row = record { addr = record { tenant = 0; group = 0; generation = 0 }; slot = None }
+
+-- a place where no group was made; the number of the place stands as the generation, so that no two places have one address
+abbrev pub vacant : ℕ → Row
+vacant p = record { addr = record { tenant = 0; group = 0; generation = p }; slot = None }
+
+-- the places of a new room, which begins at place p
+abbrev pub vacant_room : ℕ → List Row
+vacant_room p = vacant p ∷ vacant (p + 1) ∷ vacant (p + 2) ∷ vacant (p + 3) ∷ []
+
+-- the places, with those of one room more if place p is behind the last
+abbrev pub with_room : ℕ → List Row → List Row
+with_room p rows = if nat_lt p (length rows) then rows else rows ++ vacant_room (length rows)
+
+-- a group was made at the place
+abbrev pub is_used : Row → Bool
+is_used row = nat_lt 0 row.addr.tenant
 
 -- the group at a place
 abbrev pub row_at : List Row → ℕ → Row
@@ -68,9 +87,17 @@ pub record AreShort (limit : ℕ) (rows : List Row) : Type 0 where
 pub record AreApart (rows : List Row) : Type 0 where
   pub apart : (p q : ℕ) → p < length rows → q < length rows → (row_at rows p).addr ≡ (row_at rows q).addr → p ≡ q
 
--- each group is the first generation of its number
-pub record AreFirst (rows : List Row) : Type 0 where
-  pub each : (p : ℕ) → (row_at rows p).addr.generation ≡ 0
+-- each place with the address of no tenant is vacant
+pub record AreVacant (rows : List Row) : Type 0 where
+  pub each : (p : ℕ) → p < length rows → (row_at rows p).addr.tenant ≡ 0 → (row_at rows p).addr ≡ (vacant p).addr
+
+-- packets of the version name the group; a group that was dropped is in none
+abbrev pub IsNamed : Version → Addr → Option SlotState → Type 0
+IsNamed version addr None = Unit {0}
+IsNamed version addr (Some s) = can_name version addr ≡ true
+
+pub record AreNamed (version : Version) (rows : List Row) : Type 0 where
+  pub each : (p : ℕ) → IsNamed version (row_at rows p).addr (row_at rows p).slot
 
 -- the answer to a command on a group that may have been dropped
 abbrev pub unless_gone : (Shown → Reply) → Option SlotState → Reply

@@ -1,24 +1,26 @@
 //! All groups of a node, with an index of the groups where something waits.
-ghost use Rattle.std.specs.Prelude.{min, false, ◌≢◌, ◌≡◌, ◌==◌, ◌≤◌, ◌<◌, ◌+◌, ◌*◌, ◌++◌, ◌∷◌, [], true, map, slice_index_or, slice_set, ℕ, Some, None, length, sum_by, All, OnOk, OnErr, IfOk, MatchOption, vec_len, vec_capacity};
+ghost use Rattle.std.specs.Prelude.{min, false, ◌≢◌, ◌≡◌, ◌≤◌, ◌<◌, ◌+◌, ◌*◌, ◌++◌, [], true, map, slice_index_or, slice_set, ℕ, Some, None, is_some, length, sum_by, All, OnOk, OnErr, IfOk, IfSome, MatchOption, vec_len, vec_capacity};
 ghost use Rattle.gb_groups.specs.Fair.{IsFront, IsLongest};
 ghost use Rattle.gb_frame.specs.Packet.{item_of as view_item};
 ghost use Rattle.gb_types.specs.declared.limits.TheConstants.{NODES, PLACES};
-ghost use Rattle.gb_rules.specs.Group.{is_member, open_answer, shut_answer, drop_answer, say_answer, fetch_answer};
+ghost use Rattle.gb_rules.specs.Group.{is_member, open_answer, shut_answer, drop_answer, say_answer, fetch_answer, absent_answer};
+ghost use Rattle.gb_rules.specs.declared.room.TheConstants.{ROOMS};
 ghost use Rattle.gb_rules.specs.Replied.{IsReply};
 ghost use Rattle.gb_rules.specs.declared.phase.Phase.TheVariants as Phase;
 ghost use Rattle.gb_slot.specs.Slot.{IsWithinLimits, new_slot, slot_done, slot_moved, slot_noticed, slot_said};
-ghost use Rattle.gb_groups.specs.SlotsValue.{row_at, on_slot, AreApart};
+ghost use Rattle.gb_groups.specs.SlotsValue.{row_at, on_slot, AreApart, AreNamed};
+ghost use Rattle.gb_groups.specs.Rooms.{rank_of, is_passed, with_made, free_place, others_living};
 ghost use Rattle.gb_frame.specs.Items.{address_of};
-ghost use Rattle.gb_groups.specs.AtAddress.{group_reply, reply_at, drop_at, place_of, on_address, item_came, OthersKept};
-ghost use Rattle.gb_groups.specs.GroupsValue.{no_groups, walk_to, batch, packed, IsIndex, IsIndexBut};
+ghost use Rattle.gb_groups.specs.AtAddress.{drop_at, place_of, living_place, on_address, item_came, OthersKept};
+ghost use Rattle.gb_groups.specs.GroupsValue.{no_groups, made, walk_to, batch, packed, IsIndex, IsIndexBut};
 ghost use Rattle.gb_groups.specs.Busy.{members_of, is_reached, IsPutOut, IsNoted, IsPlaced};
 ghost use Rattle.gb_groups.specs.PlaceSet.{has};
 ghost use Rattle.std.specs.FinSet as set;
 ghost use Rattle.gb_groups.specs.Members.{has_member, IsEnrolled, IsNextMember};
 ghost use Rattle.gb_groups.specs.Covered.{HaveWord, HaveGrown};
 ghost use Rattle.gb_groups.specs.Packing.{items, size};
-ghost use Rattle.gb_groups.specs.OneGroup.{longest_item, NothingWaits};
-ghost use Rattle.gb_groups.specs.Listing.{listed_from};
+ghost use Rattle.gb_groups.specs.OneGroup.{group_in, group_reply, longest_item, NothingWaits, CanBeMade};
+ghost use Rattle.gb_groups.specs.Listing.{listed_from, used};
 ghost use Rattle.gb_frame.specs.Spelling.{items_text, IsItem};
 
 use crate::listing::GroupRow;
@@ -27,6 +29,7 @@ use crate::place_set::PlaceSet;
 use crate::slots::Slots;
 use gb_frame::item::ItemView;
 use gb_rules::group::is_too_long;
+use gb_rules::room::{GENERATIONS, name_of};
 use gb_slot::slot::Slot;
 use gb_types::address::Addr;
 use gb_types::limits::NODES;
@@ -37,12 +40,15 @@ use gb_types::refusal::Refusal;
 use gb_types::reply::Reply;
 use gb_types::spec::Spec;
 use gb_types::version::Version;
+use indexmap::IndexMap;
 use std::alloc::Global;
 use std::marker::Model;
 
 /// All groups of a node.
 pub struct Groups {
     alloc: Global,
+    /// The name of each room, and the greatest generation that was made of it here, in the order in which the rooms were begun.
+    rooms: IndexMap<Addr, u32>,
     slots: Slots,
     /// For each node, the places of the groups where something waits for it. The set has words for the places of all groups that
     /// have the node among their members. So only `make` takes memory for it.
@@ -58,6 +64,7 @@ impl Drop for Groups {
     fn drop(self) {
         let Groups {
             alloc: _,
+            rooms: _,
             slots: _,
             busy: _,
             cursors: _,
@@ -71,6 +78,7 @@ impl Model for Groups {
     ghost use Rattle.gb_groups.specs.PlaceSet.{has};
     ghost use Rattle.gb_groups.specs.Members.{AreMemberships};
     ghost use Rattle.gb_groups.specs.Covered.{AreCovered};
+    ghost use Rattle.gb_groups.specs.Rooms.{AreInRooms};
     ghost use Rattle.std.specs.Coded.{codes, coded_ℕ};
     ghost use Rattle.std.specs.Ordering.{nat_cmp};
     ghost use Rattle.std.specs.FinSet as set;
@@ -79,9 +87,9 @@ impl Model for Groups {
 
     ghost coded = { Prim.hlevel (codes, set.code {R = nat_cmp} coded_ℕ) };
 
-    ghost view = { λ h. record { rows = h.slots.rows; cursors = h.cursors } };
+    ghost view = { λ h. record { rooms = h.rooms.entries; rows = h.slots.rows; cursors = h.cursors } };
 
-    ghost invariant = { λ h. ArePlaces h.slots.rows h.cursors × IsIndex h.slots.rows h.busy × AreMemberships h.slots.rows h.memberships × AreCovered h.memberships h.busy };
+    ghost invariant = { λ h. ArePlaces h.slots.rows h.cursors × IsIndex h.slots.rows h.busy × AreMemberships h.slots.rows h.memberships × AreCovered h.memberships h.busy × AreInRooms h.rooms.entries h.slots.rows };
 }
 
 /// Inserts `place` into `set` if `waiting > 0`, otherwise removes it.
@@ -206,6 +214,7 @@ impl Groups {
     {
         Groups {
             alloc,
+            rooms: IndexMap::new(alloc),
             slots: Slots::new(alloc),
             busy: no_places(alloc),
             cursors: [0; NODES],
@@ -213,32 +222,72 @@ impl Groups {
         }
     }
 
-    /// Returns the number of groups that were made, dropped ones included.
-    pub fn len(&self) -> usize
-        ensures { result ≡ length self.now.rows }
+    /// Returns the number of groups that a list has: those that live here, and those that were dropped and whose places were not
+    /// taken since.
+    pub fn used(&self) -> usize
+        ensures { result ≡ length (used self.now.rows) }
     {
-        self.slots.len()
+        self.slots.used()
     }
 
-    /// Returns true if no group was made.
-    pub fn is_empty(&self) -> bool
-        ensures { result ≡ (length self.now.rows == 0) }
-    {
-        self.slots.len() == 0
-    }
-
-    /// Returns the place of the group with this address. `None` if it was never made.
+    /// Returns the place where the group with this address lives. `None` if it does not live here.
     pub fn find(&self, addr: Addr) -> Option<usize>
-        ensures place { result ≡ place_of addr self.now.rows }
+        ensures place { result ≡ living_place addr self.now.rows }
+        ensures at { IfSome result (λ place. Some place ≡ place_of addr self.now.rows) }
         ensures apart { AreApart self.now.rows }
     {
-        self.slots.find(addr)
+        let place = self.slots.find(addr)?;
+        if self.slots.is_living(place) {
+            Some(place)
+        } else {
+            None
+        }
+    }
+
+    /// Returns true if the group, or a later generation of its room, was made here.
+    pub fn is_passed(&self, addr: Addr) -> bool
+        ensures { result ≡ is_passed addr self.now.rooms }
+    {
+        match self.rooms.get(&name_of(addr)) {
+            Some(greatest) => addr.generation <= *greatest,
+            None => false,
+        }
+    }
+
+    /// Returns true if the group lives here, or can be made here no more.
+    pub fn was_made(&self, addr: Addr) -> bool
+        ensures { result ≡ is_some (group_in addr self.now) }
+    {
+        self.find(addr).is_some() || self.is_passed(addr)
+    }
+
+    /// Returns the number of other generations of the group's room that live here.
+    pub fn others_living(&self, addr: Addr) -> usize
+        ensures { result ≡ others_living addr self.now.rows }
+    {
+        match self.rooms.get_index_of(&name_of(addr)) {
+            Some(rank) => self.slots.living_from(GENERATIONS * rank, addr),
+            None => 0,
+        }
+    }
+
+    /// Returns the answer to a command on a group that does not live here: Spent if it was dropped or can be made no more, else
+    /// NoGroup.
+    fn absent(&self, addr: Addr) -> Reply
+        ensures { result ≡ absent_answer (is_passed addr self.now.rooms) }
+    {
+        if self.is_passed(addr) {
+            Reply::Refused(Refusal::Spent)
+        } else {
+            Reply::Refused(Refusal::NoGroup)
+        }
     }
 
     /// Receives an item from a node, at a node that sends this version of the packet text. The item is let fall if it is longer
     /// than a message may be here, if its group is not here, or by the group's rules.
     pub fn item(&mut self, version: Version, from: NodeId, item: ItemView<'_>)
         ensures rows { self.new.rows ≡ item_came version from (view_item item.entry) self.old.rows }
+        ensures rooms { self.new.rooms ≡ self.old.rooms }
         ensures cursors { self.new.cursors ≡ self.old.cursors }
         ensures others { OthersKept (address_of (view_item item.entry)) self.old.rows self.new.rows }
     {
@@ -253,7 +302,7 @@ impl Groups {
             group: item.group,
             generation: item.generation,
         };
-        if let Some(place) = self.slots.find(addr) {
+        if let Some(place) = self.find(addr) {
             if self.slots.came(place, from, origin, item.seq, item.payload) {
                 note_put_out(&mut self.busy, &self.slots, place);
             }
@@ -263,17 +312,18 @@ impl Groups {
     /// Records that a node acknowledged a message of a group.
     pub fn done(&mut self, dest: NodeId, addr: Addr, m: MsgId)
         ensures rows { self.new.rows ≡ on_address addr (slot_done dest m) self.old.rows }
+        ensures rooms { self.new.rooms ≡ self.old.rooms }
         ensures cursors { self.new.cursors ≡ self.old.cursors }
         ensures others { OthersKept addr self.old.rows self.new.rows }
     {
-        if let Some(place) = self.slots.find(addr) {
+        if let Some(place) = self.find(addr) {
             self.slots.done(place, dest, m);
         }
     }
 
-    /// Makes a group, last in the order, at the node `me`, which has noticed these nodes. Besides the group's own memory it takes
-    /// memory for two sets of each member: in each 8 bytes for every 64 groups that were made here, in a `Vec`, which doubles its
-    /// capacity as it grows. No other call takes memory for the sets.
+    /// Makes a group, at the lowest free place of its room, at the node `me`, which has noticed these nodes. Its first group begins a
+    /// room, behind the others. Besides the group's own memory it takes memory for the room, and for two sets of each member: in each
+    /// 8 bytes for every 64 places, in a `Vec`, which doubles its capacity as it grows. No other call takes memory for the sets.
     pub fn make(
         &mut self,
         addr: Addr,
@@ -281,64 +331,78 @@ impl Groups {
         me: NodeId,
         noticed: &NodeSet,
     ) -> Result<(), OutOfMemory>
-        requires first { addr.generation ≡ 0 }
         requires limits { IsWithinLimits spec.now }
         requires member { is_member spec.now me.number ≡ true }
-        requires fresh { place_of addr self.old.rows ≡ None }
-        requires few { length self.old.rows < PLACES }
-        ensures rows { OnOk result (self.new.rows ≡ self.old.rows ++ record { addr = addr; slot = Some (new_slot spec.now me noticed.now) } ∷ []) }
-        ensures cursors { self.new.cursors ≡ self.old.cursors }
+        requires can { CanBeMade addr self.old }
+        requires few { length (with_made addr self.old.rooms) ≤ ROOMS }
+        ensures made { OnOk result (self.new ≡ made addr (new_slot spec.now me noticed.now) self.old) }
         ensures err { OnErr result (self.new ≡ self.old) }
     {
-        let place = self.slots.len();
+        let place = self.free_place(addr);
+        self.rooms.reserve(1)?;
         cover(&mut self.busy, place, &spec.members)?;
         cover(&mut self.memberships, place, &spec.members)?;
-        self.slots.add(self.alloc, addr, spec, me, noticed)?;
+        self.slots.add(self.alloc, place, addr, spec, me, noticed)?;
+        self.rooms.insert(name_of(addr), addr.generation).unwrap();
         enrol(&mut self.memberships, place, &spec.members);
         Ok(())
     }
 
+    /// Returns the place that the next group of the room takes: the lowest one of the room where no group lives, or the first one of
+    /// a new room.
+    fn free_place(&self, addr: Addr) -> usize
+        ensures { result ≡ free_place (rank_of addr self.now.rooms) self.now.rows }
+    {
+        match self.rooms.get_index_of(&name_of(addr)) {
+            Some(rank) => self.slots.first_free(GENERATIONS * rank),
+            None => self.slots.len(),
+        }
+    }
+
     /// Opens the group with this address.
     pub fn open_group(&mut self, addr: Addr) -> Reply
-        ensures reply { result ≡ group_reply open_answer addr self.old.rows }
+        ensures reply { result ≡ group_reply open_answer addr self.old }
+        ensures rooms { self.new.rooms ≡ self.old.rooms }
         ensures rows { self.new.rows ≡ on_address addr (slot_moved Phase.Opened result) self.old.rows }
         ensures cursors { self.new.cursors ≡ self.old.cursors }
         ensures others { OthersKept addr self.old.rows self.new.rows }
     {
-        match self.slots.find(addr) {
+        match self.find(addr) {
             Some(place) => self.slots.open_group(place),
-            None => Reply::Refused(Refusal::NoGroup),
+            None => self.absent(addr),
         }
     }
 
     /// Shuts the group with this address.
     pub fn shut_group(&mut self, addr: Addr) -> Reply
-        ensures reply { result ≡ group_reply shut_answer addr self.old.rows }
+        ensures reply { result ≡ group_reply shut_answer addr self.old }
+        ensures rooms { self.new.rooms ≡ self.old.rooms }
         ensures rows { self.new.rows ≡ on_address addr (slot_moved Phase.Shut result) self.old.rows }
         ensures cursors { self.new.cursors ≡ self.old.cursors }
         ensures others { OthersKept addr self.old.rows self.new.rows }
     {
-        match self.slots.find(addr) {
+        match self.find(addr) {
             Some(place) => self.slots.shut_group(place),
-            None => Reply::Refused(Refusal::NoGroup),
+            None => self.absent(addr),
         }
     }
 
-    /// Drops the group with this address. What waits in it is discarded, and it keeps its place.
+    /// Drops the group with this address. What waits in it is discarded, and its place is free for another generation of its room.
     pub fn drop_group(&mut self, addr: Addr) -> Reply
-        ensures reply { result ≡ group_reply drop_answer addr self.old.rows }
+        ensures reply { result ≡ group_reply drop_answer addr self.old }
+        ensures rooms { self.new.rooms ≡ self.old.rooms }
         ensures rows { self.new.rows ≡ drop_at addr self.old.rows }
         ensures cursors { self.new.cursors ≡ self.old.cursors }
         ensures others { OthersKept addr self.old.rows self.new.rows }
     {
-        match self.slots.find(addr) {
+        match self.find(addr) {
             Some(place) => {
                 let reply = self.slots.remove(place);
                 enrol(&mut self.busy, place, &NodeSet::new());
                 enrol(&mut self.memberships, place, &NodeSet::new());
                 reply
             }
-            None => Reply::Refused(Refusal::NoGroup),
+            None => self.absent(addr),
         }
     }
 
@@ -352,8 +416,9 @@ impl Groups {
         seq: Option<u32>,
         payload: &[u8],
     ) -> Reply
-        requires { place ≡ place_of addr self.old.rows }
-        ensures reply { result ≡ group_reply (λ s. say_answer version s (record { payload = payload.now; seq = seq })) addr self.old.rows }
+        requires { place ≡ living_place addr self.old.rows }
+        ensures reply { result ≡ group_reply (λ s. say_answer version s (record { payload = payload.now; seq = seq })) addr self.old }
+        ensures rooms { self.new.rooms ≡ self.old.rooms }
         ensures rows { self.new.rows ≡ on_address addr (slot_said payload.now result) self.old.rows }
         ensures cursors { self.new.cursors ≡ self.old.cursors }
         ensures others { OthersKept addr self.old.rows self.new.rows }
@@ -366,21 +431,22 @@ impl Groups {
                 }
                 reply
             }
-            None => Reply::Refused(Refusal::NoGroup),
+            None => self.absent(addr),
         }
     }
 
-    /// Reads the log of the group at the place that `find` returned, if it returned one.
-    pub fn fetch(&self, place: Option<usize>, from: u32, most: u32) -> Reply
-        ensures { IsReply (reply_at (λ s. fetch_answer s from most) self.now.rows place) result }
+    /// Reads the log of the group with this address, at the place that `find` returned.
+    pub fn fetch(&self, addr: Addr, place: Option<usize>, from: u32, most: u32) -> Reply
+        requires { place ≡ living_place addr self.now.rows }
+        ensures { IsReply (group_reply (λ s. fetch_answer s from most) addr self.now) result }
     {
         match place {
             Some(place) => self.slots.fetch(place, from, most),
-            None => Reply::Refused(Refusal::NoGroup),
+            None => self.absent(addr),
         }
     }
 
-    /// Returns up to `most` groups from a place on, in the order in which they were made.
+    /// Returns up to `most` of the groups that live here or were dropped, from the `from`-th on, in the order of their places.
     pub fn list(&self, from: usize, most: usize) -> Result<Vec<GroupRow>, OutOfMemory>
         ensures { IfOk result (λ rows. rows.items ≡ listed_from self.now.rows from most) }
     {
@@ -391,6 +457,7 @@ impl Groups {
     fn notice_at(&mut self, place: usize, who: NodeId)
         requires { place < length self.old.rows }
         ensures rows { self.new.rows ≡ slice_set self.old.rows place (on_slot (slot_noticed who) (row_at self.old.rows place)) }
+        ensures rooms { self.new.rooms ≡ self.old.rooms }
         ensures cursors { self.new.cursors ≡ self.old.cursors }
     {
         self.slots.notice(place, who);
@@ -407,6 +474,7 @@ impl Groups {
     /// Records in each group that a node is noticed. Groups that do not have it among their members take no time.
     pub fn notice(&mut self, who: NodeId)
         ensures rows { self.new.rows ≡ map (on_slot (slot_noticed who)) self.old.rows }
+        ensures rooms { self.new.rooms ≡ self.old.rooms }
         ensures cursors { self.new.cursors ≡ self.old.cursors }
     {
         let mut from = 0;
@@ -423,7 +491,7 @@ impl Groups {
         ensures count { result.0 ≡ length (batch version dest.number room self.now) }
         ensures bytes { result.1 ≡ sum_by (size version) (batch version dest.number room self.now) }
         ensures most { result.1 ≤ room }
-        ensures none { result.0 ≡ 0 → longest_item version ≤ room → NothingWaits dest.number self.now.rows }
+        ensures none { result.0 ≡ 0 → longest_item version ≤ room → NothingWaits dest.number self.now }
     {
         // The proof reads that no message is longer than one may be.
         let _places = self.slots.len();
@@ -450,6 +518,7 @@ impl Groups {
         out: &mut Vec<u8>,
     )
         requires room { room ≤ 65535 }
+        requires named { AreNamed version self.old.rows }
         requires count { count ≡ length (batch version dest.number room self.old) }
         requires capacity { vec_len out.old + sum_by (size version) (batch version dest.number room self.old) ≤ vec_capacity out.old }
         ensures written { out.new.items ≡ out.old.items ++ items_text version (items self.old.rows (batch version dest.number room self.old)) }

@@ -1,5 +1,5 @@
-//! All groups at one node: groups under their addresses, in the order in which they were made, and the packing of waiting items
-//! into batches. There are no tokens, tenants or links here. Read `groups::Groups` first. `packing` has the walk, and `slots` keeps
+//! All groups at one node: rooms with four places each, groups under their addresses at these places, and the packing of waiting
+//! items into batches. There are no tokens, tenants or links here. Read `groups::Groups` first. `packing` has the walk, and `slots` keeps
 //! the slots.
 #![tactic(auto)]
 

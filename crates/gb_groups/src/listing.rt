@@ -3,7 +3,8 @@ use gb_rules::phase::Phase;
 use gb_types::address::Addr;
 use gb_types::spec::Spec;
 
-/// A group that was made at a node. A dropped group has only its address and the phase `Gone`.
+/// A group that was made at a node and lives there, or was dropped and its place was not taken since. A dropped group has only its
+/// address and the phase `Gone`.
 #[derive(Drop)]
 pub struct GroupRow {
     pub address: Addr,

@@ -4,11 +4,13 @@ ghost use Rattle.gb_frame.specs.Spelling.{items_text, IsItem};
 ghost use Rattle.gb_groups.specs.Ahead.{ahead, IsActive, IsTurn};
 ghost use Rattle.gb_groups.specs.Busy.{IsBusy};
 ghost use Rattle.gb_groups.specs.PlaceSet.{IsSummary};
-ghost use Rattle.gb_groups.specs.SlotsValue.{HaveCounters, AreApart};
-ghost use Rattle.gb_groups.specs.Packing.{queues, walk, size, fit, gave, new_cursor, items, first_place};
+ghost use Rattle.gb_groups.specs.SlotsValue.{HaveCounters, AreApart, AreNamed};
+ghost use Rattle.gb_types.specs.declared.limits.TheConstants.{PLACES};
+ghost use Rattle.gb_groups.specs.Packing.{queues, walk, size, fit, gave, new_cursor, room_after, items, first_place};
 
 use crate::place_set::{PlaceSet, next_of, remove_of};
 use crate::slots::Slots;
+use gb_rules::room::GENERATIONS;
 use gb_types::node::NodeId;
 use gb_types::version::Version;
 
@@ -46,6 +48,7 @@ pub fn advance(
 ) -> usize
     requires from { from ≤ length slots.old.rows }
     requires index { IsBusy dest.number busy.old slots.old.rows }
+    requires named { AreNamed version slots.old.rows }
     requires there { count ≤ length (walk from (queues dest.number slots.old.rows)) }
     requires capacity { vec_len out.old + sum_by (size version) (take count (walk from (queues dest.number slots.old.rows))) ≤ vec_capacity out.old }
     ensures within { result ≤ length slots.old.rows }
@@ -72,9 +75,18 @@ pub fn advance(
             if count == 0 {
                 return from;
             }
-            if at == slots.len() { 0 } else { at }
+            room_after(slots.len(), at - 1)
         }
     }
+}
+
+/// Returns the first place of the room after that of a place, of `places` places in all. The first room comes after the last.
+fn room_after(places: usize, place: usize) -> usize
+    requires { place < PLACES }
+    ensures { result ≡ room_after places place }
+{
+    let next = GENERATIONS * (place / GENERATIONS + 1);
+    if next < places { next } else { 0 }
 }
 
 /// Returns the round and the place of the next visit, if there is one. The walk is at place `at` after `lap` rounds.

@@ -1,23 +1,29 @@
-//! The slots of a node's groups, in the order in which they were made.
-ghost use Rattle.std.specs.Prelude.{◌≡◌, ◌<◌, ◌≤◌, ◌+◌, [], ℕ, Some, None, length, slice_get, slice_index_or, slice_set, position, ◌++◌, ◌∷◌, OnOk, OnErr, IfOk, true, false, IfSome, MatchOption, vec_len, vec_capacity};
-ghost use Rattle.gb_types.specs.declared.limits.TheConstants.{PAYLOAD};
+//! The places of a node's rooms, and the slots of the groups that live there.
+ghost use Rattle.std.specs.Prelude.{◌≡◌, ◌<◌, ◌≤◌, ◌+◌, ◌&&◌, not, [], ℕ, Some, None, is_some, count_by, take, drop, length, slice_get, slice_index_or, slice_set, position, ◌++◌, ◌∷◌, OnOk, OnErr, IfOk, true, false, IfSome, MatchOption, vec_len, vec_capacity};
+ghost use Rattle.gb_types.specs.declared.limits.TheConstants.{PAYLOAD, PLACES};
 ghost use Rattle.gb_rules.specs.Address.{is_addr};
 ghost use Rattle.gb_rules.specs.Group.{is_member, open_answer, shut_answer, drop_answer, say_answer, fetch_answer};
 ghost use Rattle.gb_rules.specs.Replied.{done_reply, said_reply, IsReply};
 ghost use Rattle.gb_rules.specs.declared.phase.Phase.TheVariants as Phase;
 ghost use Rattle.gb_slot.specs.Slot.{IsWithinLimits, new_slot, waiting, slot_came, slot_done, slot_noticed, slot_moved, slot_said};
-ghost use Rattle.gb_groups.specs.SlotsValue.{no_entry, row_at, on_slot, HaveCounters, IsShort, AreShort, AreApart, unless_gone, gone};
+ghost use Rattle.gb_groups.specs.SlotsValue.{no_entry, row_at, on_slot, HaveCounters, IsShort, AreShort, AreApart, AreVacant, AreNamed, unless_gone, gone, is_used, with_room};
+ghost use Rattle.gb_groups.specs.Rooms.{first_free};
+ghost use Rattle.gb_rules.specs.Room.{can_name};
+ghost use Rattle.gb_rules.specs.declared.room.TheConstants.{GENERATIONS};
+ghost use Rattle.indexmap.specs.IndexMap.{spare};
 ghost use Rattle.gb_frame.specs.Spelling.{item_text, IsItem};
 ghost use Rattle.gb_types.specs.Version.{limits_of};
 ghost use Rattle.gb_groups.specs.Packing.{queue, first_entry, took, item_of};
-ghost use Rattle.gb_groups.specs.Slots.{place_at};
+ghost use Rattle.gb_groups.specs.Slots.{place_at, vacant_entry, AreVacantEntries, entries_with_room, AreOthers};
 ghost use Rattle.gb_groups.specs.Busy.{IsPutOut};
-ghost use Rattle.gb_groups.specs.Listing.{listed, listed_from};
+ghost use Rattle.gb_groups.specs.Listing.{listed, listed_from, used};
 
 use crate::listing::GroupRow;
 use gb_frame::item::{ItemView, put_item};
 use gb_layer::effects::Effects;
+use gb_rules::address::is_same;
 use gb_rules::phase::Phase;
+use gb_rules::room::GENERATIONS;
 use gb_slot::slot::Slot;
 use gb_types::address::Addr;
 use gb_types::entry::Entries;
@@ -33,16 +39,18 @@ use slab::Slab;
 use std::alloc::Global;
 use std::marker::Model;
 
-/// Where a group's slot is: under a key, or nowhere after the group was dropped.
+/// What is at a place: the key of a group's slot, or nothing, if no group was made there or the group was dropped.
 #[derive(Clone, Copy, Drop)]
 enum Place {
     Key(usize),
     Gone,
 }
 
-/// The slots of a node's groups, in the order in which they were made. A dropped group keeps its place.
+/// The places of a node's rooms, four a room, in the order in which the rooms were begun, and the slots of the groups that live
+/// there. A dropped group keeps its address at its place until another generation of its room takes the place.
 #[derive(Drop)]
 pub struct Slots {
+    /// The address of each place. A place where no group was made has the address of no tenant.
     places: IndexMap<Addr, Place>,
     slots: Slab<Slot>,
     /// The place of the last group that was said something in, or that received an item or an acknowledgement. It only saves a
@@ -102,17 +110,55 @@ impl Slots {
         }
     }
 
-    /// Returns the number of groups, dropped ones included.
+    /// Returns the number of places.
     pub fn len(&self) -> usize
         ensures len { result ≡ length self.now.rows }
         ensures counters { HaveCounters self.now.rows }
         ensures apart { AreApart self.now.rows }
+        ensures vacant { AreVacant self.now.rows }
         ensures short { AreShort PAYLOAD self.now.rows }
     {
         self.places.len()
     }
 
-    /// Returns the place of the group with this address. The place that was last used and the one made next after it are compared
+    /// Returns true if a group lives at the place.
+    pub fn is_living(&self, place: usize) -> bool
+        ensures { result ≡ is_some (row_at self.now.rows place).slot }
+    {
+        match self.slot(place) {
+            Some(_) => true,
+            None => false,
+        }
+    }
+
+    /// Returns the first place from `from` on where no group lives. The number of places if groups live at all of them.
+    #[tactic(auto, using(crate::proofs::RoomLemmas::next_free, crate::proofs::RoomLemmas::none_free))]
+    pub fn first_free(&self, from: usize) -> usize
+        requires { from ≤ length self.now.rows }
+        ensures { result ≡ first_free from self.now.rows }
+    {
+        let mut place = from;
+        while place < self.len() && self.is_living(place) {
+            place += 1;
+        }
+        place
+    }
+
+    /// Returns the number of groups that live at the four places from `from` on, other than the one with this address.
+    pub fn living_from(&self, from: usize, addr: Addr) -> usize
+        ensures { result ≡ count_by (λ row. is_some row.slot && not (is_addr addr row.addr)) (take GENERATIONS (drop from self.now.rows)) }
+    {
+        let mut living = 0;
+        for nth in 0..GENERATIONS {
+            let place = from + nth;
+            if self.is_living(place) && !is_same(addr, self.addr(place)) {
+                living += 1;
+            }
+        }
+        living
+    }
+
+    /// Returns the place of the group that was last made with this address. The place that was last used and the one made next after it are compared
     /// first, since the items of a frame are mostly in that order.
     pub fn find(&self, addr: Addr) -> Option<usize>
         ensures place { result ≡ position (λ row. is_addr addr row.addr) self.now.rows }
@@ -169,6 +215,7 @@ impl Slots {
     /// the number of items that wait afterwards. Takes no memory.
     pub fn give(&mut self, version: Version, place: usize, dest: NodeId, out: &mut Vec<u8>) -> usize
         requires place { place < length self.old.rows }
+        requires named { AreNamed version self.old.rows }
         requires item { 0 < length (queue dest.number (row_at self.old.rows place)) }
         requires room { vec_len out.old + (limits_of version).item_header + length (first_entry dest.number (row_at self.old.rows place)).payload ≤ vec_capacity out.old }
         ensures rows { self.new.rows ≡ slice_set self.old.rows place (took dest.number 1 (row_at self.old.rows place)) }
@@ -315,8 +362,28 @@ impl Slots {
         }
     }
 
-    /// Returns up to `most` groups from a place on, in the order in which they were made.
-    #[tactic(auto, using(crate::proofs::ListingLemmas::next_listed, crate::proofs::ListingLemmas::all_listed))]
+    /// Returns true if a group was made at the place.
+    fn is_used(&self, place: usize) -> bool
+        requires { place < length self.now.rows }
+        ensures { result ≡ is_used (row_at self.now.rows place) }
+    {
+        self.addr(place).tenant != 0
+    }
+
+    /// Returns the number of places where a group was made.
+    pub fn used(&self) -> usize
+        ensures { result ≡ length (used self.now.rows) }
+    {
+        let mut count = 0;
+        for place in 0..self.len() {
+            if self.is_used(place) {
+                count += 1;
+            }
+        }
+        count
+    }
+
+    /// Returns up to `most` of the places where a group was made, from the `from`-th on, in the order of the places.
     pub fn list(
         &self,
         alloc: Global,
@@ -325,10 +392,18 @@ impl Slots {
     ) -> Result<Vec<GroupRow>, OutOfMemory>
         ensures { IfOk result (λ rows. rows.items ≡ listed_from self.now.rows from most) }
     {
-        let count = most.min(self.len().saturating_sub(from));
-        let mut rows = Vec::with_capacity(alloc, count)?;
-        for index in 0..count {
-            rows.push_reserved(self.listed(from + index));
+        let mut rows = Vec::with_capacity(alloc, most.min(self.len()))?;
+        let mut before = from;
+        let mut left = most.min(self.len());
+        for place in 0..self.len() {
+            if left > 0 && self.is_used(place) {
+                if before > 0 {
+                    before -= 1;
+                } else {
+                    rows.push_reserved(self.listed(place));
+                    left -= 1;
+                }
+            }
         }
         Ok(rows)
     }
@@ -348,36 +423,86 @@ impl Slots {
         Reply::Done
     }
 
-    /// Adds a group behind the others, at the node `me`, which has noticed these nodes.
+    /// Makes a group at a place where none lives, or at the first place of a new room, at the node `me`, which has noticed these
+    /// nodes.
     pub fn add(
         &mut self,
         alloc: Global,
+        place: usize,
         addr: Addr,
         spec: &Spec,
         me: NodeId,
         noticed: &NodeSet,
     ) -> Result<(), OutOfMemory>
-        requires first { addr.generation ≡ 0 }
+        requires tenant { 0 < addr.tenant }
         requires limits { IsWithinLimits spec.now }
         requires member { is_member spec.now me.number ≡ true }
         requires fresh { position (λ row. is_addr addr row.addr) self.old.rows ≡ None }
-        ensures rows { OnOk result (self.new.rows ≡ self.old.rows ++ record { addr = addr; slot = Some (new_slot spec.now me noticed.now) } ∷ []) }
+        requires within { place ≤ length self.old.rows }
+        requires free { (row_at self.old.rows place).slot ≡ None }
+        requires few { length (with_room place self.old.rows) ≤ PLACES }
+        ensures rows { OnOk result (self.new.rows ≡ slice_set (with_room place self.old.rows) place (record { addr = addr; slot = Some (new_slot spec.now me noticed.now) })) }
         ensures err { OnErr result (self.new ≡ self.old) }
     {
-        self.places.reserve(1)?;
+        self.places.reserve(GENERATIONS + 1)?;
         self.slots.reserve(1)?;
         let Ok(slot) = Slot::new(alloc, spec.duplicate(), me, noticed, &mut self.effects) else {
             return Err(OutOfMemory);
         };
         let key = self.slots.insert_reserved(slot);
-        self.places.insert(addr, Place::Key(key)).unwrap();
+        add_room(&mut self.places, place);
+        put_at(&mut self.places, place, addr, key);
         Ok(())
     }
 }
 
+/// Adds a vacant place behind the others.
+fn add_vacant(places: &mut IndexMap<Addr, Place>)
+    requires vacant { AreVacantEntries places.old.entries }
+    requires few { length places.old.entries < PLACES }
+    requires spare { 0 < spare places.old }
+    ensures entries { places.new.entries ≡ places.old.entries ++ vacant_entry (length places.old.entries) ∷ [] }
+    ensures spare { spare places.old ≤ spare places.new + 1 }
+{
+    let addr = Addr {
+        tenant: 0,
+        group: 0,
+        generation: places.len() as u32,
+    };
+    places.insert(addr, Place::Gone).unwrap();
+}
+
+/// Adds the places of a new room if `place` is behind the last one.
+fn add_room(places: &mut IndexMap<Addr, Place>, place: usize)
+    requires vacant { AreVacantEntries places.old.entries }
+    requires few { length (entries_with_room place places.old.entries) ≤ PLACES }
+    requires spare { GENERATIONS < spare places.old }
+    ensures entries { places.new.entries ≡ entries_with_room place places.old.entries }
+    ensures spare { 0 < spare places.new }
+{
+    if place < places.len() {
+        return;
+    }
+    add_vacant(places);
+    add_vacant(places);
+    add_vacant(places);
+    add_vacant(places);
+}
+
+/// Puts an address and a key in the place of what is there.
+fn put_at(places: &mut IndexMap<Addr, Place>, place: usize, addr: Addr, key: usize)
+    requires within { place < length places.old.entries }
+    requires fresh { AreOthers addr places.old.entries }
+    requires spare { 0 < spare places.old }
+    ensures { places.new.entries ≡ slice_set places.old.entries place (addr, Place.Key key) }
+{
+    places.insert(addr, Place::Key(key)).unwrap();
+    places.swap_remove_index(place);
+}
+
 /// Appends the first item that waits for `dest` in a group, as text of this version. Takes no memory.
 fn put_first(version: Version, addr: Addr, slot: &Slot, dest: NodeId, out: &mut Vec<u8>)
-    requires first { addr.generation ≡ 0 }
+    requires named { can_name version addr ≡ true }
     requires short { IsShort PAYLOAD (Some slot.now) }
     requires item { 0 < length (waiting slot.now dest.number) }
     requires room { vec_len out.old + (limits_of version).item_header + length (slice_index_or (waiting slot.now dest.number) 0 no_entry).payload ≤ vec_capacity out.old }

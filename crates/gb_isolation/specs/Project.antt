@@ -19,9 +19,10 @@ use Rattle.gb_link.specs.Ack.{covers}
 use Rattle.gb_detect.specs.Silence.{is_noticed}
 use Rattle.gb_rules.specs.Address.{is_addr}
 use Rattle.gb_rules.specs.Group.{is_other}
+use Rattle.gb_rules.specs.Room.{is_other_generation}
 use Rattle.gb_rules.specs.Tenant.{reserve_of}
 use Rattle.gb_alone.specs.declared.event.GroupEvent.{GroupEvent}
-use Rattle.gb_alone.specs.declared.event.GroupEvent.TheVariants.{Tenant, Make as AskMake, Open as AskOpen, Shut as AskShut, Drop as AskDrop, Say as AskSay, Fetch as AskFetch, Took, Came, Done as Acknowledged, Notice, Stop as Ends}
+use Rattle.gb_alone.specs.declared.event.GroupEvent.TheVariants.{Tenant, Make as AskMake, Open as AskOpen, Shut as AskShut, Drop as AskDrop, Say as AskSay, Fetch as AskFetch, OtherMade, OtherDropped, Took, Came, Done as Acknowledged, Notice, Stop as Ends}
 use Rattle.gb_alone.specs.declared.event.GroupStep.{GroupStep}
 use Rattle.gb_frame.specs.Items.{entry_of, items_for}
 use Rattle.gb_node.specs.StepLaw.{has_group_token}
@@ -105,6 +106,12 @@ abbrev pub tenant_given : Addr → NodeId → Request → Reply → List GroupSt
 tenant_given g a (AddTenant token row) Done = if nat_eq row.tenant g.tenant then record { node = a; event = Tenant (reserve_of row) } ∷ [] else []
 tenant_given g a request reply = []
 
+-- another generation of the group's room is made or dropped
+abbrev pub other_given : Addr → NodeId → Request → Reply → List GroupStep
+other_given g a (Make token addr spec) Done = if is_other_generation g addr then record { node = a; event = OtherMade addr.generation } ∷ [] else []
+other_given g a (DropGroup token addr) Done = if is_other_generation g addr then record { node = a; event = OtherDropped } ∷ [] else []
+other_given g a request reply = []
+
 -- the event is a request of the group at a node that has stopped
 abbrev pub is_met_by : NodeId → Addr → List Happened → NodeEvent → NodeAnswer → Bool
 is_met_by a g past (Asked request) (Replied reply) = is_stopped past && is_own_request a g past request
@@ -121,11 +128,12 @@ with_stop a met [] = []
 with_stop a met (c ∷ commands) = if met then c ∷ commands else record { node = a; event = Ends } ∷ c ∷ commands
 
 -- At a node that has stopped, a request of the group adds only its command. At a running node, a request that makes the group
--- also adds the notices of the members that are noticed there.
+-- also adds the notices of the members that are noticed there, and one that makes or drops another generation of its room adds that.
 abbrev pub asked : NodeId → Addr → (ℕ → Bool) → List Happened → Request → Reply → List GroupStep
 asked a g noticed past request reply =
     if is_stopped past then (if is_own_request a g past request then with_stop a (is_met a g past) (command_for a request) else [])
     else tenant_given g a request reply
+    ++ other_given g a request reply
     ++ (if is_own_request a g past request then command_for a request ++ ticked a noticed (made_by g (Asked request) (Replied reply)) else [])
 
 -- Links.

@@ -7,10 +7,10 @@ use Rattle.gb_slot.specs.Slot.{shown}
 use Rattle.gb_groups.specs.OneGroup.{group_in, waiting_in}
 use Rattle.gb_node.specs.NodeValue.{NodeValue}
 
--- what the rules read of a group: None if it was never made, Some None if it was dropped
+-- what the rules read of a group: None if it may still be made, Some None if it was dropped or can be made no more
 abbrev pub shown_at : NodeValue → Addr → Option (Option Shown)
-shown_at v g = option_map (option_map shown) (group_in g v.table.groups.rows)
+shown_at v g = option_map (option_map shown) (group_in g v.table.groups)
 
 -- the items of the group that wait for a node, in order
 abbrev pub waiting_at : NodeValue → Addr → ℕ → List Entry
-waiting_at v g b = waiting_in (group_in g v.table.groups.rows) b
+waiting_at v g b = waiting_in (group_in g v.table.groups) b

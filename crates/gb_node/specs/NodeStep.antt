@@ -290,5 +290,5 @@ IsSpelt v event answer = Unit {0}
 
 -- A pack answers Nothing only if the node is not reached, the link has no room, or nothing waits.
 abbrev pub IsForReason : NodeValue → NodeEvent → NodeAnswer → Type 0
-IsForReason v (Pack b) (Sent Nothing) = (is_reached v b && has_room (window_to v b.number)) ≡ true → NothingWaits b.number v.table.groups.rows
+IsForReason v (Pack b) (Sent Nothing) = (is_reached v b && has_room (window_to v b.number)) ≡ true → NothingWaits b.number v.table.groups
 IsForReason v event answer = Unit {0}

@@ -1,7 +1,8 @@
 -- A node as contracts see it.
 use Rattle.std.specs.Prelude.{ℕ, ◌<◌, ◌≤◌, Bool, false, List, replicate}
 use Rattle.std.specs.FinSet as set
-use Rattle.gb_types.specs.declared.limits.TheConstants.{NODES, PLACES, SILENCE_MIN, SILENCE_MAX}
+use Rattle.gb_types.specs.declared.limits.TheConstants.{NODES, SILENCE_MIN, SILENCE_MAX}
+use Rattle.gb_rules.specs.declared.room.TheConstants.{ROOMS}
 use Rattle.gb_types.specs.Version.{limits_of}
 use Rattle.gb_frame.specs.declared.item.Item.{Item}
 use Rattle.gb_link.specs.Received.{Received}
@@ -42,6 +43,6 @@ pub record IsNodePlan (p : NodePlan) : Type 0 where
   -- the version that the node sends can name all nodes
   pub cluster : p.nodes ≤ (limits_of p.version).nodes
   pub member : p.me.number < p.nodes
-  pub places : p.places ≤ PLACES
+  pub places : p.places ≤ ROOMS
   pub least : SILENCE_MIN ≤ p.silence
   pub most : p.silence ≤ SILENCE_MAX

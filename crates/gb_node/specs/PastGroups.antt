@@ -29,7 +29,8 @@ use Rattle.gb_history.specs.declared.call.GroupCall.{GroupCall}
 use Rattle.gb_history.specs.declared.call.GroupCall.TheVariants.{Own, Other, Crashed}
 use Rattle.gb_history.specs.History.{said_in, bytes_in, log_of, puts_of, falls_after, has_noticed}
 use Rattle.gb_frame.specs.Items.{entry_of, items_for}
-use Rattle.gb_rules.specs.Lifetime.{stepped, dropped, or_added, where_so}
+use Rattle.gb_rules.specs.Lifetime.{stepped, dropped, or_added, passed, where_so}
+use Rattle.gb_rules.specs.Room.{is_reached_by, one_more, one_less}
 use Rattle.gb_node.specs.NodeStep.{node_numbered}
 use Rattle.gb_node.specs.declared.plan.NodePlan.{NodePlan}
 use Rattle.gb_node.specs.declared.answer.NodeAnswer.{NodeAnswer}
@@ -139,7 +140,7 @@ told_first spec me noticed = record { spec = spec; phase = Made; calls = crashed
 
 -- the group after a request with this reply
 abbrev pub asked_told : Addr → NodeId → set.FinSet nat_cmp → Request → Reply → Option (Option Told) → Option (Option Told)
-asked_told g me noticed (Make token addr spec) Done o = or_added o (if is_addr g addr then Some (Some (told_first spec me noticed)) else None)
+asked_told g me noticed (Make token addr spec) Done o = if is_addr g addr then or_added o (Some (Some (told_first spec me noticed))) else where_so (is_reached_by g addr) passed o
 asked_told g me noticed (OpenGroup token addr) Done o = where_so (is_addr g addr) (stepped (moved_to Opened)) o
 asked_told g me noticed (ShutGroup token addr) Done o = where_so (is_addr g addr) (stepped (moved_to Shut)) o
 asked_told g me noticed (DropGroup token addr) Done o = where_so (is_addr g addr) dropped o
@@ -183,7 +184,18 @@ told_after plan g past (Pack b) (Sent (SentPacket text)) o = fold (packed_told g
 told_after plan g past Tick (Ticked (Noticed found)) o = fold (noticed_told plan.me) o (rising found)
 told_after plan g past event answer o = o
 
--- the group at the node: None if it was never made, Some None if it was dropped
+-- the group at the node: None if it may still be made, Some None if it was dropped, or if a later generation of its room was made
 unfoldable pub told_of : NodePlan → Addr → List Happened → Option (Option Told)
 told_of plan g [] = None
 told_of plan g (h ∷ past) = told_after plan g past h.event h.answer (told_of plan g past)
+
+-- what an event with its answer changes in the number of other generations of the group's room that live at the node
+abbrev pub living_after : Addr → NodeEvent → NodeAnswer → ℕ → ℕ
+living_after g (Asked (Make token addr spec)) (Replied Done) n = one_more g addr n
+living_after g (Asked (DropGroup token addr)) (Replied Done) n = one_less g addr n
+living_after g event answer n = n
+
+-- the number of other generations of the group's room that live at the node
+unfoldable pub living_of : Addr → List Happened → ℕ
+living_of g [] = 0
+living_of g (h ∷ past) = living_after g h.event h.answer (living_of g past)

@@ -9,7 +9,8 @@ use Rattle.gb_node.specs.NodeStep.{window_to, receiver_from}
 use Rattle.gb_node.specs.declared.plan.NodePlan.{NodePlan}
 use Rattle.gb_node.specs.Past.{Happened, ComesTo, frames_to, numbered, is_acked, is_taken, watched, tenants_in, is_stopped}
 use Rattle.gb_node.specs.NodeGroups.{shown_at, waiting_at}
-use Rattle.gb_node.specs.PastGroups.{shown_in, waiting_of, told_of}
+use Rattle.gb_groups.specs.Rooms.{others_living}
+use Rattle.gb_node.specs.PastGroups.{shown_in, waiting_of, told_of, living_of}
 
 -- The state of a node beside its groups is determined by its past.
 pub record IsOfPastBesideGroups (plan : NodePlan) (past : List Happened) (v : NodeValue) : Type 0 where
@@ -35,6 +36,8 @@ pub record IsOfPast (plan : NodePlan) (past : List Happened) (v : NodeValue) : T
   -- each group: what the rules read of it, and what waits in it
   pub shown : (g : Addr) → shown_at v g ≡ shown_in plan.me.number (told_of plan g past)
   pub waiting : (g : Addr) (b : ℕ) → waiting_at v g b ≡ waiting_of (told_of plan g past) b
+  -- the number of other generations of its room that live
+  pub living : (g : Addr) → others_living g v.table.groups.rows ≡ living_of g past
 
 -- every node is what its past says
 abbrev pub PastsSay : Type 0

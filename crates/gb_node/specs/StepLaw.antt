@@ -4,13 +4,13 @@ use Rattle.std.specs.FinSet as set
 use Rattle.std.specs.Ordering.{nat_cmp}
 use Rattle.gb_types.specs.declared.address.Addr.{Addr}
 use Rattle.gb_types.specs.declared.node.NodeId.{NodeId}
-use Rattle.gb_types.specs.declared.refusal.Refusal.TheVariants.{Stopped, OutOfMemory, Denied, NoGroup, Spent}
+use Rattle.gb_types.specs.declared.refusal.Refusal.TheVariants.{Stopped, OutOfMemory, Denied}
 use Rattle.gb_types.specs.declared.reply.Reply.{Reply}
 use Rattle.gb_types.specs.declared.reply.Reply.TheVariants.{Refused}
 use Rattle.gb_types.specs.declared.request.Request.{Request}
 use Rattle.gb_types.specs.declared.request.Request.TheVariants.{AddTenant, Make, OpenGroup, ShutGroup, DropGroup, Say, Fetch}
 use Rattle.gb_frame.specs.Packet.{Content}
-use Rattle.gb_rules.specs.Group.{Shown, open_answer, shut_answer, drop_answer, say_answer, fetch_answer}
+use Rattle.gb_rules.specs.Group.{Shown, absent_answer, open_answer, shut_answer, drop_answer, say_answer, fetch_answer}
 use Rattle.gb_rules.specs.Tenant.{reserve_of, row_of, reserved, tenant_answer, make_answer, by_tenant}
 use Rattle.gb_frame.specs.Items.{items_for, item_for}
 use Rattle.gb_table.specs.Admission.{has_token}
@@ -18,7 +18,7 @@ pub use Rattle.gb_table.specs.Admission.{has_group_token}
 use Rattle.gb_node.specs.NodeValue.{NodeValue}
 use Rattle.gb_node.specs.NodeStep.{turn, RequestTakesMemory}
 use Rattle.gb_node.specs.Past.{Happened, ComesTo, read, is_first, is_taken, tenants_in, is_stopped}
-use Rattle.gb_node.specs.PastGroups.{noticed_after, shown_in, waiting_of, told_of}
+use Rattle.gb_node.specs.PastGroups.{noticed_after, shown_in, waiting_of, told_of, living_of}
 use Rattle.gb_node.specs.declared.answer.Good.{Good}
 use Rattle.gb_node.specs.declared.answer.NodeAnswer.{NodeAnswer}
 use Rattle.gb_node.specs.declared.answer.NodeAnswer.TheVariants.{Reply as Replied, Taken, Sent, Ticked}
@@ -35,17 +35,17 @@ use Rattle.gb_node.specs.declared.plan.NodePlan.{NodePlan}
 abbrev pub is_admitted_by : NodePlan → List Happened → Request → Bool
 is_admitted_by plan past request = has_token plan.admin_key plan.me (tenants_in past) request
 
--- the reply to a command on a group that may have been made, and dropped since
+-- the reply to a command on a group that may be here
 abbrev pub group_answer : (Shown → Reply) → Option (Option Shown) → Reply
-group_answer answer None = Refused NoGroup
-group_answer answer (Some None) = Refused Spent
+group_answer answer None = absent_answer false
+group_answer answer (Some None) = absent_answer true
 group_answer answer (Some (Some x)) = answer x
 
 -- the reply to a request with the right token
 abbrev pub admitted_answer : NodePlan → List Happened → Request → Reply
 admitted_answer plan past (AddTenant token row) = tenant_answer plan.places (reserved (tenants_in past)) (is_some (row_of row.tenant (tenants_in past))) row
 admitted_answer plan past (Make token addr spec) =
-    by_tenant (make_answer plan.nodes plan.me.number addr (is_some (told_of plan addr past)) spec) (option_map reserve_of (row_of addr.tenant (tenants_in past)))
+    by_tenant (make_answer plan.version plan.nodes plan.me.number addr (is_some (told_of plan addr past)) (living_of addr past) spec) (option_map reserve_of (row_of addr.tenant (tenants_in past)))
 admitted_answer plan past (OpenGroup token addr) = group_answer open_answer (shown_in plan.me.number (told_of plan addr past))
 admitted_answer plan past (ShutGroup token addr) = group_answer shut_answer (shown_in plan.me.number (told_of plan addr past))
 admitted_answer plan past (DropGroup token addr) = group_answer drop_answer (shown_in plan.me.number (told_of plan addr past))

@@ -2,7 +2,8 @@
 ghost use Rattle.std.specs.Prelude.{◌≡◌, ◌≤◌, ◌<◌, ◌+◌, [], IsSome, vec_capacity, List, true, false, length, replicate, sum_by, None, Some, MatchOption, IfOk, OnOk, OnErr, Ok, is_ok};
 ghost use Rattle.std.specs.FinSet as set;
 ghost use Rattle.gb_types.specs.Version.{limits_of};
-ghost use Rattle.gb_types.specs.declared.limits.TheConstants.{NODES as MOST, PLACES, SILENCE_MIN, SILENCE_MAX};
+ghost use Rattle.gb_types.specs.declared.limits.TheConstants.{NODES as MOST, SILENCE_MIN, SILENCE_MAX};
+ghost use Rattle.gb_rules.specs.declared.room.TheConstants.{ROOMS};
 ghost use Rattle.gb_frame.specs.Batch.{batch_in, IsBatch, FitPacket};
 ghost use Rattle.gb_frame.specs.Packet.{packet_of};
 ghost use Rattle.gb_frame.specs.Spelling.{items_text, packet_text, IsPacket};
@@ -41,7 +42,7 @@ use gb_frame::view::PacketView;
 use gb_link::receiver::Receiver;
 use gb_table::listing::Listing;
 use gb_table::table::Table;
-use gb_types::limits::{NODES, PAYLOAD, PLACES, SILENCE_MAX, SILENCE_MIN};
+use gb_types::limits::{NODES, PAYLOAD, SILENCE_MAX, SILENCE_MIN};
 use gb_types::memory::OutOfMemory;
 use gb_types::node::NodeId;
 use gb_types::refusal::Refusal;
@@ -197,7 +198,7 @@ impl Node {
     pub fn start(alloc: Global, plan: &NodePlan) -> Node
         requires cluster { plan.now.nodes ≤ (limits_of plan.now.version).nodes }
         requires member { plan.now.me.number < plan.now.nodes }
-        requires places { plan.now.places ≤ PLACES }
+        requires places { plan.now.places ≤ ROOMS }
         requires least { SILENCE_MIN ≤ plan.now.silence }
         requires most { plan.now.silence ≤ SILENCE_MAX }
         ensures { result ≡ new_node plan.now }

@@ -89,10 +89,14 @@ is_bad_place count from most = nat_lt count from || nat_lt FETCH most
 abbrev pub fetch_answer : Shown → ℕ → ℕ → Reply
 fetch_answer s from most = if is_bad_place (length s.log) from most then Refused BadPlace else Log (take most (drop from s.log))
 
--- the answer to a command on a group that may never have been made here, or was dropped since
-abbrev pub on_made : (Shown → Reply) → Option Shown → Reply
-on_made answer None = Refused NoGroup
-on_made answer (Some s) = if is_gone s.phase then Refused Spent else answer s
+-- the answer to a command on a group that is not here; `passed` says that it, or a later generation of its room, was made here
+abbrev pub absent_answer : Bool → Reply
+absent_answer passed = Refused (if passed then Spent else NoGroup)
+
+-- the answer to a command on a group that may never have been made here, or was dropped since; `passed` says that a later generation of its room was made here
+abbrev pub on_made : Bool → (Shown → Reply) → Option Shown → Reply
+on_made passed answer None = absent_answer passed
+on_made passed answer (Some s) = if is_gone s.phase then Refused Spent else answer s
 
 -- the part of a group that the rules on saying read
 abbrev pub unlogged : Spec → Phase → Usage → Shown

@@ -9,7 +9,10 @@ use Rattle.gb_types.specs.declared.reply.Reply.{Reply}
 use Rattle.gb_types.specs.declared.reply.Reply.TheVariants.{Done, Refused}
 use Rattle.gb_types.specs.declared.spec.Spec.{Spec}
 use Rattle.gb_types.specs.declared.spec.TenantRow.{TenantRow}
+use Rattle.gb_types.specs.declared.version.Version.{Version}
 use Rattle.gb_rules.specs.Group.{is_member}
+use Rattle.gb_rules.specs.Room.{can_name}
+use Rattle.gb_rules.specs.declared.room.TheConstants.{GENERATIONS}
 use Rattle.gb_rules.specs.declared.reserve.Reserve.{Reserve}
 
 -- the limits that a row sets for each of its tenant's groups
@@ -47,14 +50,16 @@ abbrev pub is_over : Reserve → Spec → Bool
 is_over reserve spec =
     nat_eq spec.msgs 0 || (nat_lt reserve.msgs spec.msgs || (nat_lt reserve.bytes spec.bytes || (nat_eq spec.window 0 || nat_lt reserve.window spec.window)))
 
--- the answer to a request to make a group with this address; `made` says that it was made here before; no version of packets has items of a later generation
-abbrev pub make_answer : ℕ → ℕ → Addr → Bool → Spec → Reserve → Reply
-make_answer nodes me addr made spec reserve =
+-- The answer to a request to make a group with this address, at a node that sends this version of the packet text. `made` says that the group, or a later
+-- generation of its room, was made here before, and `living` is the number of other generations of its room that live here.
+abbrev pub make_answer : Version → ℕ → ℕ → Addr → Bool → ℕ → Spec → Reserve → Reply
+make_answer version nodes me addr made living spec reserve =
     if nat_le reserve.groups addr.group then Refused NoGroup
     else (if made then Refused Spent
+    else (if nat_le GENERATIONS living then Refused NoRoom
     else (if is_bad nodes me spec then Refused BadMembers
-    else (if nat_lt 0 addr.generation || is_over reserve spec then Refused OverReserve
-    else Done)))
+    else (if not (can_name version addr) || is_over reserve spec then Refused OverReserve
+    else Done))))
 
 -- the answer to a request of a tenant that may not be here
 abbrev pub by_tenant : (Reserve → Reply) → Option Reserve → Reply

@@ -2,7 +2,7 @@
 //! stands once as a definition, over the few values that it reads, and once as the function that computes it. A slot, a node and a
 //! group by itself all call it.
 //!
-//! There is no state here. Read specs/Group.antt and specs/Tenant.antt first.
+//! There is no state here. Read specs/Group.antt, specs/Tenant.antt and specs/Room.antt first.
 #![tactic(auto)]
 
 pub mod address;
@@ -10,5 +10,6 @@ pub mod group;
 pub mod let_fall;
 pub mod phase;
 pub mod reserve;
+pub mod room;
 pub mod tenant;
 pub mod usage;

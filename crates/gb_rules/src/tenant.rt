@@ -3,12 +3,14 @@ ghost use Rattle.std.specs.Prelude.{◌≡◌};
 ghost use Rattle.gb_rules.specs.Tenant.{is_over_limits, tenant_answer, is_bad, is_over, make_answer};
 
 use crate::reserve::Reserve;
+use crate::room::{GENERATIONS, can_name};
 use gb_types::address::Addr;
 use gb_types::limits::{BYTES, GROUPS, MESSAGES, WINDOW};
 use gb_types::node::NodeId;
 use gb_types::refusal::Refusal;
 use gb_types::reply::Reply;
 use gb_types::spec::{Spec, TenantRow};
+use gb_types::version::Version;
 
 /// Returns true if a row asks for more than the service allows.
 pub fn is_over_limits(row: &TenantRow) -> bool
@@ -58,18 +60,21 @@ fn is_over_reserve(reserve: &Reserve, spec: &Spec) -> bool
     spec.window == 0 || spec.window > reserve.window
 }
 
-/// Returns the answer to a request to make the group with this address; `made` says that it was made here before. Refusals, in this
-/// order: NoGroup if its tenant has no such number, Spent, BadMembers, OverReserve. A generation after the first is OverReserve,
-/// since no version of packets has items of such a group.
+/// Returns the answer to a request to make the group with this address, at a node that sends this version of the packet text.
+/// `made` says that the group, or a later generation of its room, was made here before, and `living` is the number of other
+/// generations of its room that live here. Refusals, in this order: NoGroup if its tenant has no such number, Spent, NoRoom if four
+/// generations live here, BadMembers, OverReserve. A generation that packets of the version cannot name is OverReserve.
 pub fn answer_make(
+    version: Version,
     nodes: usize,
     me: NodeId,
     addr: Addr,
     made: bool,
+    living: usize,
     spec: &Spec,
     reserve: &Reserve,
 ) -> Reply
-    ensures { result ≡ make_answer nodes me.number addr made spec.now reserve.now }
+    ensures { result ≡ make_answer version nodes me.number addr made living spec.now reserve.now }
 {
     if u32::from(addr.group) >= reserve.groups {
         return Reply::Refused(Refusal::NoGroup);
@@ -77,10 +82,13 @@ pub fn answer_make(
     if made {
         return Reply::Refused(Refusal::Spent);
     }
+    if living >= GENERATIONS {
+        return Reply::Refused(Refusal::NoRoom);
+    }
     if is_bad_members(nodes, me, spec) {
         return Reply::Refused(Refusal::BadMembers);
     }
-    if addr.generation > 0 || is_over_reserve(reserve, spec) {
+    if !can_name(version, addr) || is_over_reserve(reserve, spec) {
         return Reply::Refused(Refusal::OverReserve);
     }
     Reply::Done

@@ -20,6 +20,6 @@ AreKeyed entries = All (λ e. e.0 ≡ e.1.tenant) entries
 abbrev pub IsMemberToken : NodeId → List TenantRow → Addr → List ℕ → Type 0
 IsMemberToken me tenants addr token = (row : TenantRow) × (row_of addr.tenant tenants ≡ Some row) × (token ≡ token_of row.key (Member addr.tenant addr.group me))
 
--- each address has the token of its member
+-- each room's name has the token of its groups' member
 abbrev pub AreMemberTokens : NodeId → List TenantRow → List (Addr × List ℕ) → Type 0
 AreMemberTokens me tenants entries = All (λ e. IsMemberToken me tenants e.0 e.1) entries

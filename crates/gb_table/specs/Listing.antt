@@ -3,7 +3,7 @@ use Rattle.std.specs.Prelude.{ℕ, ◌||◌, List, length, nat_lt, Result, Ok, E
 use Rattle.gb_types.specs.declared.refusal.Refusal.{Refusal}
 use Rattle.gb_types.specs.declared.refusal.Refusal.TheVariants.{Denied, BadPlace}
 use Rattle.gb_cap.specs.declared.token.Need.TheVariants.{Admin}
-use Rattle.gb_groups.specs.Listing.{listed_from}
+use Rattle.gb_groups.specs.Listing.{listed_from, used}
 use Rattle.gb_groups.specs.declared.listing.GroupRow.{GroupRow}
 use Rattle.gb_table.specs.Admission.{is_token}
 use Rattle.gb_table.specs.TableValue.{TableValue}
@@ -13,5 +13,5 @@ use Rattle.gb_table.specs.declared.listing.TheConstants.{LISTED}
 abbrev pub list_answer : List ℕ → ℕ → ℕ → TableValue → Result (List GroupRow) Refusal
 list_answer token from most t =
     if is_token t.admin_key Admin token then
-    (if nat_lt (length t.groups.rows) from || nat_lt LISTED most then Err BadPlace else Ok (listed_from t.groups.rows from most))
+    (if nat_lt (length (used t.groups.rows)) from || nat_lt LISTED most then Err BadPlace else Ok (listed_from t.groups.rows from most))
     else Err Denied

@@ -1,22 +1,21 @@
 -- An invariant of a node's table.
 use Rattle.std.specs.Prelude.{ℕ, ◌≡◌, ◌<◌, ◌≤◌, false, List, map, Some, All}
 use Rattle.gb_types.specs.declared.address.Addr.{Addr}
-use Rattle.gb_types.specs.declared.limits.TheConstants.{PLACES}
+use Rattle.gb_rules.specs.declared.room.TheConstants.{ROOMS}
 use Rattle.gb_types.specs.declared.spec.TenantRow.{TenantRow}
 use Rattle.gb_rules.specs.Tenant.{is_over_limits, row_of, reserved}
-use Rattle.gb_groups.specs.SlotsValue.{Row}
 
--- the addresses of groups
-abbrev pub addrs_of : List Row → List Addr
-addrs_of rows = map (λ row. row.addr) rows
+-- the names of rooms
+abbrev pub names_of : List (Addr × ℕ) → List Addr
+names_of rooms = map (λ room. room.0) rooms
 
--- the address's tenant is here, and may make a group with this address
+-- the tenant of a room's name is here, and may make groups in the room
 abbrev pub IsReserved : List TenantRow → Addr → Type 0
 IsReserved tenants addr = (row : TenantRow) × (row_of addr.tenant tenants ≡ Some row) × (addr.group < row.groups) × (addr.generation ≡ 0)
 
--- The tenants are within the limits and there are places for their groups; each group has an address of its tenant's. So there are at most as many groups as places.
-pub record IsWithin (places : ℕ) (tenants : List TenantRow) (addrs : List Addr) : Type 0 where
+-- The tenants are within the limits and there are rooms for their groups; each room has a name of its tenant's. So there are at most as many rooms as the tenants reserve.
+pub record IsWithin (places : ℕ) (tenants : List TenantRow) (names : List Addr) : Type 0 where
   pub limits : All (λ row. is_over_limits row ≡ false) tenants
   pub sum : reserved tenants ≤ places
-  pub most : places ≤ PLACES
-  pub groups : All (IsReserved tenants) addrs
+  pub most : places ≤ ROOMS
+  pub rooms : All (IsReserved tenants) names

@@ -3,16 +3,19 @@ ghost use Rattle.std.specs.Prelude.{◌≡◌, ◌+◌, ◌≤◌, ◌<◌, ◌+
 ghost use Rattle.std.specs.Ordering.{nat_cmp};
 ghost use Rattle.std.specs.FinSet as set;
 ghost use Rattle.gb_types.specs.Version.{limits_of};
-ghost use Rattle.gb_types.specs.declared.limits.TheConstants.{NODES, PLACES};
+ghost use Rattle.gb_types.specs.declared.limits.TheConstants.{NODES};
+ghost use Rattle.gb_rules.specs.declared.room.TheConstants.{ROOMS};
 ghost use Rattle.gb_frame.specs.Packet.{item_of as view_item};
 ghost use Rattle.gb_frame.specs.Spelling.{items_text, IsItem};
 ghost use Rattle.gb_rules.specs.Group.{open_answer, shut_answer, drop_answer, say_answer, fetch_answer};
 ghost use Rattle.gb_rules.specs.Replied.{IsReply};
 ghost use Rattle.gb_rules.specs.Tenant.{row_of, reserved, tenant_answer, make_answer, by_tenant};
 ghost use Rattle.gb_frame.specs.Items.{address_of};
-ghost use Rattle.gb_groups.specs.AtAddress.{place_of, group_reply, OthersKept};
+ghost use Rattle.gb_groups.specs.AtAddress.{living_place, OthersKept};
 ghost use Rattle.gb_groups.specs.Fair.{IsFront, IsLongest};
-ghost use Rattle.gb_groups.specs.OneGroup.{longest_item, NothingWaits};
+ghost use Rattle.gb_groups.specs.OneGroup.{group_in, group_reply, longest_item, NothingWaits};
+ghost use Rattle.gb_groups.specs.Rooms.{others_living};
+ghost use Rattle.gb_groups.specs.Listing.{used};
 ghost use Rattle.gb_groups.specs.GroupsValue.{walk_to, batch};
 ghost use Rattle.gb_groups.specs.Packing.{items, size};
 ghost use Rattle.gb_table.specs.TableValue.{new_table, reserve_for, table_came, table_done, table_noticed, table_packed};
@@ -30,6 +33,7 @@ use gb_cap::token::{Need, Token};
 use gb_frame::item::ItemView;
 use gb_groups::groups::Groups;
 use gb_rules::reserve::Reserve;
+use gb_rules::room::{GENERATIONS, name_of};
 use gb_rules::tenant::{answer_make, answer_tenant};
 use gb_types::address::Addr;
 use gb_types::message::MsgId;
@@ -50,14 +54,14 @@ pub struct Table {
     nodes: u8,
     /// The version of the packet text that the node sends.
     version: Version,
-    /// The number of groups that its tenants may make in all.
+    /// The number of rooms that its tenants may reserve in all.
     places: u16,
     /// The administrator's key, with its pads hashed.
     admin_key: HmacKey,
     tenants: Tenants,
     groups: Groups,
-    /// The token of each group's member at this node, computed when the group was made, if there was memory for it. Contracts
-    /// see nothing of it.
+    /// The token of the member of each room's groups at this node, under the room's name, computed when a group of the room was
+    /// made, if there was memory for it. Contracts see nothing of it.
     member_tokens: IndexMap<Addr, Token>,
 }
 
@@ -84,7 +88,8 @@ impl Model for Table {
     ghost use Rattle.gb_table.specs.TableValue.{TableValue};
     ghost use Rattle.std.specs.Prelude.{◌≡◌};
     ghost use Rattle.gb_table.specs.Kept.{AreMemberTokens};
-    ghost use Rattle.gb_table.specs.Within.{IsWithin, addrs_of};
+    ghost use Rattle.gb_table.specs.Within.{IsWithin, names_of};
+    ghost use Rattle.gb_groups.specs.SlotsValue.{AreNamed};
     ghost use Rattle.gb_table.specs.OwnNode.{AreOwn};
 
     ghost Value = { TableValue };
@@ -93,7 +98,7 @@ impl Model for Table {
 
     ghost view = { λ t. record { me = t.me; nodes = t.nodes; version = t.version; places = t.places; admin_key = t.admin_key; tenants = t.tenants; groups = t.groups } };
 
-    ghost invariant = { λ t. IsWithin t.places t.tenants (addrs_of t.groups.rows) × AreMemberTokens t.me t.tenants t.member_tokens.entries × AreOwn t.me t.version t.groups.rows };
+    ghost invariant = { λ t. IsWithin t.places t.tenants (names_of t.groups.rooms) × AreMemberTokens t.me t.tenants t.member_tokens.entries × AreOwn t.me t.version t.groups.rows × AreNamed t.version t.groups.rows };
 }
 
 /// Returns true if the token is the one that is kept.
@@ -116,7 +121,7 @@ impl Table {
     ) -> Table
         requires cluster { nodes ≤ NODES }
         requires member { me.number < nodes }
-        requires places { places ≤ PLACES }
+        requires places { places ≤ ROOMS }
         ensures { result ≡ new_table me nodes version places admin_key.now }
     {
         Table {
@@ -152,7 +157,7 @@ impl Table {
         self.version
     }
 
-    /// Returns the place of the group that a member's say or fetch is for, or `None` if that group was never made or for other
+    /// Returns the place of the group that a member's say or fetch is for, or `None` if that group does not live here or for other
     /// requests.
     fn place_for(&self, request: &Request) -> Option<usize>
         ensures { result ≡ place_for request.now self.now }
@@ -194,13 +199,13 @@ impl Table {
         Need::Member(addr.tenant, addr.group, self.me)
     }
 
-    /// Returns the token of the address's member at this node, if it is kept at `place`. Tokens are kept in the order in which
-    /// groups were made, so a token's place is its group's place, unless memory was lacking for an earlier token.
+    /// Returns the token of the address's member at this node, if it is kept for the room of `place`. Tokens are kept in the order in
+    /// which rooms were begun, so a token's index is its room's rank, unless memory was lacking for an earlier token.
     fn kept_token(&self, addr: Addr, place: Option<usize>) -> Option<&Token>
         ensures { IfSome result (λ own. IsMemberToken self.now.me self.now.tenants addr own.now) }
     {
-        let (kept, own) = self.member_tokens.get_index(place?)?;
-        if *kept != addr {
+        let (kept, own) = self.member_tokens.get_index(place? / GENERATIONS)?;
+        if *kept != name_of(addr) {
             return None;
         }
         Some(own)
@@ -223,7 +228,7 @@ impl Table {
         ensures { self.new ≡ self.old }
     {
         if let Some(token) = self.tenants.token(addr.tenant, self.as_member(addr)) {
-            let _ = self.member_tokens.insert(addr, token);
+            let _ = self.member_tokens.insert(name_of(addr), token);
         }
     }
 
@@ -246,15 +251,26 @@ impl Table {
     }
 
     fn make_group(&mut self, addr: Addr, spec: &Spec, noticed: &NodeSet) -> Reply
-        ensures reply { IsReply (by_tenant (make_answer self.old.nodes self.old.me.number addr (is_some (place_of addr self.old.groups.rows)) spec.now) (reserve_for addr.tenant self.old)) result }
+        ensures reply { IsReply (by_tenant (make_answer self.old.version self.old.nodes self.old.me.number addr (is_some (group_in addr self.old.groups)) (others_living addr self.old.groups.rows) spec.now) (reserve_for addr.tenant self.old)) result }
         ensures state { (token : List ℕ) → self.new ≡ table_did noticed.now (Request.Make token addr spec.now) result self.old }
     {
         let Some(row) = self.tenants.row(addr.tenant) else {
             return Reply::Refused(Refusal::Denied);
         };
         let reserve = Reserve::of(row);
-        let made = self.groups.find(addr).is_some();
-        match answer_make(usize::from(self.nodes), self.me, addr, made, spec, &reserve) {
+        let made = self.groups.was_made(addr);
+        let living = self.groups.others_living(addr);
+        let nodes = usize::from(self.nodes);
+        match answer_make(
+            self.version,
+            nodes,
+            self.me,
+            addr,
+            made,
+            living,
+            spec,
+            &reserve,
+        ) {
             Reply::Done => {}
             refused => return refused,
         }
@@ -267,7 +283,7 @@ impl Table {
     /// Makes a group and keeps its member's token.
     #[inline(never)]
     fn make(&mut self, addr: Addr, spec: &Spec, noticed: &NodeSet) -> Reply
-        ensures reply { IsReply (by_tenant (make_answer self.old.nodes self.old.me.number addr (is_some (place_of addr self.old.groups.rows)) spec.now) (reserve_for addr.tenant self.old)) result }
+        ensures reply { IsReply (by_tenant (make_answer self.old.version self.old.nodes self.old.me.number addr (is_some (group_in addr self.old.groups)) (others_living addr self.old.groups.rows) spec.now) (reserve_for addr.tenant self.old)) result }
         ensures state { (token : List ℕ) → self.new ≡ table_did noticed.now (Request.Make token addr spec.now) result self.old }
     {
         let reply = self.make_group(addr, spec, noticed);
@@ -279,7 +295,7 @@ impl Table {
 
     #[inline(never)]
     fn open_group(&mut self, addr: Addr) -> Reply
-        ensures reply { result ≡ group_reply open_answer addr self.old.groups.rows }
+        ensures reply { result ≡ group_reply open_answer addr self.old.groups }
         ensures state { (noticed : set.FinSet nat_cmp) (token : List ℕ) → self.new ≡ table_did noticed (Request.OpenGroup token addr) result self.old }
     {
         self.groups.open_group(addr)
@@ -287,7 +303,7 @@ impl Table {
 
     #[inline(never)]
     fn shut_group(&mut self, addr: Addr) -> Reply
-        ensures reply { result ≡ group_reply shut_answer addr self.old.groups.rows }
+        ensures reply { result ≡ group_reply shut_answer addr self.old.groups }
         ensures state { (noticed : set.FinSet nat_cmp) (token : List ℕ) → self.new ≡ table_did noticed (Request.ShutGroup token addr) result self.old }
     {
         self.groups.shut_group(addr)
@@ -295,15 +311,15 @@ impl Table {
 
     #[inline(never)]
     fn drop_group(&mut self, addr: Addr) -> Reply
-        ensures reply { result ≡ group_reply drop_answer addr self.old.groups.rows }
+        ensures reply { result ≡ group_reply drop_answer addr self.old.groups }
         ensures state { (noticed : set.FinSet nat_cmp) (token : List ℕ) → self.new ≡ table_did noticed (Request.DropGroup token addr) result self.old }
     {
         self.groups.drop_group(addr)
     }
 
     fn say(&mut self, addr: Addr, place: Option<usize>, message: &NewMessage) -> Reply
-        requires { place ≡ place_of addr self.old.groups.rows }
-        ensures reply { result ≡ group_reply (λ s. say_answer self.old.version s message.now) addr self.old.groups.rows }
+        requires { place ≡ living_place addr self.old.groups.rows }
+        ensures reply { result ≡ group_reply (λ s. say_answer self.old.version s message.now) addr self.old.groups }
         ensures state { (noticed : set.FinSet nat_cmp) (token : List ℕ) → self.new ≡ table_did noticed (Request.Say token addr message.now) result self.old }
     {
         let payload = message.payload.as_slice();
@@ -330,7 +346,7 @@ impl Table {
             Request::ShutGroup(_, addr) => self.shut_group(*addr),
             Request::DropGroup(_, addr) => self.drop_group(*addr),
             Request::Say(_, addr, message) => self.say(*addr, place, message),
-            Request::Fetch(_, _, from, most) => self.groups.fetch(place, *from, *most),
+            Request::Fetch(_, addr, from, most) => self.groups.fetch(*addr, place, *from, *most),
         }
     }
 
@@ -341,19 +357,19 @@ impl Table {
         self.admin_key.admits(Need::Admin, token)
     }
 
-    /// Returns at most `most` of the node's groups, from the place `from` on, in the order in which they were made, with their
-    /// total number. `Err` with `Denied` if the token is not the administrator's, with `BadPlace` if there are fewer than `from`
+    /// Returns at most `most` of the groups that live at the node or were dropped there, from the `from`-th on, in the order of their
+    /// places, with their total number. `Err` with `Denied` if the token is not the administrator's, with `BadPlace` if there are fewer than `from`
     /// groups or `most` is above 64, and with `OutOfMemory` if there is no memory for the list.
     pub fn list(&self, token: &Token, from: u32, most: u32) -> Result<Listing, Refusal>
         ensures groups { IfOk result (λ listing. list_answer token.now from most self.now ≡ Ok listing.groups.items) }
-        ensures total { IfOk result (λ listing. listing.total ≡ length self.now.groups.rows) }
+        ensures total { IfOk result (λ listing. listing.total ≡ length (used self.now.groups.rows)) }
         ensures refused { IfErr result (λ why. (list_answer token.now from most self.now ≡ Err why)
             ⊎ ((why ≡ Refusal.OutOfMemory) × (is_ok (list_answer token.now from most self.now) ≡ true))) }
     {
         if !self.is_admin(token) {
             return Err(Refusal::Denied);
         }
-        let total = self.groups.len();
+        let total = self.groups.used();
         if total < from as usize || LISTED < most {
             return Err(Refusal::BadPlace);
         }
@@ -399,7 +415,7 @@ impl Table {
         ensures count { result.0 ≡ length (batch self.now.version dest.number room self.now.groups) }
         ensures bytes { result.1 ≡ sum_by (size self.now.version) (batch self.now.version dest.number room self.now.groups) }
         ensures most { result.1 ≤ room }
-        ensures none { result.0 ≡ 0 → longest_item self.now.version ≤ room → NothingWaits dest.number self.now.groups.rows }
+        ensures none { result.0 ≡ 0 → longest_item self.now.version ≤ room → NothingWaits dest.number self.now.groups }
     {
         self.groups.measure(self.version, dest, room)
     }

@@ -1,6 +1,6 @@
 //! The tenants of a node.
 ghost use Rattle.std.specs.Prelude.{◌≡◌, ◌++◌, ◌∷◌, ◌+◌, ◌≤◌, ◌<◌, ◌^◌, [], None, OnOk, OnErr, option_copied, option_map};
-ghost use Rattle.gb_types.specs.declared.limits.TheConstants.{PLACES};
+ghost use Rattle.gb_rules.specs.declared.room.TheConstants.{ROOMS};
 ghost use Rattle.gb_cap.specs.Token.{token_of};
 ghost use Rattle.gb_rules.specs.Tenant.{row_of, reserved};
 ghost use Rattle.gb_table.specs.Admission.{is_token, is_by_row};
@@ -123,7 +123,7 @@ impl Tenants {
     /// Adds a tenant, which is not here yet. `Err` if there is no memory; then nothing has changed.
     pub fn add(&mut self, row: &TenantRow) -> Result<(), OutOfMemory>
         requires fresh { row_of row.now.tenant self.old ≡ None }
-        requires few { reserved self.old + row.now.groups ≤ PLACES }
+        requires few { reserved self.old + row.now.groups ≤ ROOMS }
         ensures ok { OnOk result (self.new ≡ self.old ++ row.now ∷ []) }
         ensures err { OnErr result (self.new ≡ self.old) }
     {

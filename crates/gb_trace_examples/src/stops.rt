@@ -21,7 +21,8 @@ use gb_schedule::keys::{ADMIN_KEY, CLUSTER_KEY, Keys};
 use gb_trace::run::{are_placed, run};
 use gb_trace::trace::Trace;
 use gb_types::address::Addr;
-use gb_types::limits::{NODES, PLACES, SILENCE_MAX, SILENCE_MIN};
+use gb_rules::room::ROOMS;
+use gb_types::limits::{NODES, SILENCE_MAX, SILENCE_MIN};
 use gb_types::memory::OutOfMemory;
 use gb_types::node::{NodeId, NodeSet};
 use gb_types::plan::Plan;
@@ -67,7 +68,7 @@ pub fn is_plan(plan: &Plan) -> bool
     1 <= plan.nodes
         && usize::from(plan.nodes) <= NODES
         && is_named(plan)
-        && plan.places <= PLACES
+        && plan.places <= ROOMS
         && SILENCE_MIN <= plan.silence
         && plan.silence <= SILENCE_MAX
 }

@@ -1,0 +1,59 @@
+//! The rooms of groups. A room is a tenant's number for a group; the groups that are made under it are its generations.
+ghost use Rattle.std.specs.Prelude.{◌≡◌};
+ghost use Rattle.gb_rules.specs.Room.{name_of, is_same_room, is_reached_by, is_other_generation, can_name};
+
+use crate::address::is_same;
+use gb_types::address::Addr;
+use gb_types::limits::PLACES;
+use gb_types::version::Version;
+
+/// The maximum number of generations of one room that live at a node.
+pub const GENERATIONS: usize = 4;
+
+/// The maximum number of rooms that all tenants of a node reserve. Each room has a place for each generation that may live.
+pub const ROOMS: u16 = 1_024;
+
+const _: () = prove!(ROOMS as usize * GENERATIONS == PLACES as usize);
+
+/// Returns the address of the first generation of a group's room, which stands for the room.
+pub fn name_of(addr: Addr) -> Addr
+    ensures { result ≡ name_of addr }
+{
+    Addr {
+        tenant: addr.tenant,
+        group: addr.group,
+        generation: 0,
+    }
+}
+
+/// Returns true if both addresses are in one room.
+pub fn is_same_room(addr: Addr, other: Addr) -> bool
+    ensures { result ≡ is_same_room addr other }
+{
+    addr.tenant == other.tenant && addr.group == other.group
+}
+
+/// Returns true if `other` is in the room of `addr`, at its generation or a later one.
+pub fn is_reached_by(addr: Addr, other: Addr) -> bool
+    ensures { result ≡ is_reached_by addr other }
+{
+    is_same_room(addr, other) && addr.generation <= other.generation
+}
+
+/// Returns true if `other` is another generation of the room of `addr`.
+pub fn is_other_generation(addr: Addr, other: Addr) -> bool
+    ensures { result ≡ is_other_generation addr other }
+{
+    is_same_room(addr, other) && !is_same(addr, other)
+}
+
+/// Returns true if packets of the version name the generation of a group: the first in every version, later ones in version 3.
+pub fn can_name(version: Version, addr: Addr) -> bool
+    ensures { result ≡ can_name version addr }
+{
+    match version {
+        Version::One => addr.generation == 0,
+        Version::Two => addr.generation == 0,
+        Version::Three => true,
+    }
+}
