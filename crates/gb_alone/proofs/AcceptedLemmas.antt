@@ -1,12 +1,12 @@
 -- The messages that a node was told to say are those that were accepted there.
 use Rattle.std.proofs.Common.{◌≡◌, ℕ, ◌+◌, ◌-◌, Bool, true, false, nat_eq, ◌||◌, List, [], ◌∷◌, ◌++◌, length, Option, Some, None, refl, sym, ap, ◌∙◌, subst, length-append}
-use Rattle.std.specs.Prelude.{slice_get, nat_lt, nat_le, if◌then◌else◌}
+use Rattle.std.specs.Prelude.{slice_get, if◌then◌else◌}
 use Rattle.std.proofs.lemmas.Bool.{eqb-true}
 use Rattle.std.proofs.lemmas.List.{append-nil, append_assoc}
 use Rattle.gb_types.specs.declared.entry.Entry.{Entry}
 use Rattle.gb_types.specs.declared.node.NodeId.{NodeId}
 use Rattle.gb_types.specs.declared.plan.Bounds.{Bounds}
-use Rattle.gb_types.specs.declared.refusal.Refusal.TheVariants.{Spent, TooLong, Budget, Bytes, Window, Stopped}
+use Rattle.gb_types.specs.declared.refusal.Refusal.TheVariants.{Spent, Stopped}
 use Rattle.gb_types.specs.declared.reply.Reply.{Reply}
 use Rattle.gb_types.specs.declared.reply.Reply.TheVariants.{Done, Said, Refused}
 use Rattle.gb_types.specs.declared.spec.Spec.{Spec}
@@ -16,14 +16,11 @@ use Rattle.gb_history.specs.History.{said_in}
 use Rattle.gb_rules.specs.Group.{Shown, is_gone, is_other, is_too_long, say_answer, on_made}
 use Rattle.gb_history.specs.declared.call.GroupCall.{GroupCall}
 use Rattle.gb_history.specs.declared.call.GroupCall.TheVariants.{Own, Other, Crashed}
-use Rattle.gb_rules.specs.declared.phase.Phase.{Phase}
-use Rattle.gb_rules.specs.declared.usage.Usage.{Usage}
-use Rattle.gb_rules.specs.declared.phase.Phase.TheVariants.{Made, Opened, Shut, Gone}
 use Rattle.gb_alone.specs.Alone.{Member, Group, reply_to, held_spec, shown_in, called, did, falls, taken_in, cut, took_notice, member_after, after, nobody, alone_from, alone}
 use Rattle.gb_alone.specs.Laws.{Accepted, accepted_in, accepted_at, accepted_from, accepted}
 use Rattle.gb_rules.specs.Tenant.{by_tenant}
 use Rattle.gb_alone.specs.declared.event.GroupEvent.{GroupEvent}
-use Rattle.gb_alone.specs.declared.event.GroupEvent.TheVariants.{Tenant, Make as AskMake, Open as AskOpen, Shut as AskShut, Drop as AskDrop, Say as AskSay, Took, Came, Done as Acknowledged, Notice, Stop}
+use Rattle.gb_alone.specs.declared.event.GroupEvent.TheVariants.{Tenant, Make as AskMake, Open as AskOpen, Shut as AskShut, Drop as AskDrop, Say as AskSay, OtherMade, OtherDropped, Took, Came, Done as Acknowledged, Notice, Stop}
 use Rattle.gb_alone.specs.declared.event.GroupStep.{GroupStep}
 use Rattle.gb_alone.proofs.UsageLemmas.{shown_of}
 use Rattle.gb_rules.specs.declared.reserve.Reserve.{Reserve}
@@ -53,12 +50,12 @@ next_said me m message seq bounds addr = running m.stopped
     present s is true h = cc
     present s is false h = (said_is (version_at bounds.versions me) s message seq h).next ∙ ap (λ n. n + 1) is
 
-    by : (reserve : Option Reserve) (spec : Option Spec) → by_tenant (λ _. on_made (λ s. say_answer (version_at bounds.versions me) s message) (shown_of me m.phase m.told m.put m.done spec)) reserve ≡ Said seq → seq ≡ said_in m.told + 1
+    by : (reserve : Option Reserve) (spec : Option Spec) → by_tenant (λ _. on_made m.passed (λ s. say_answer (version_at bounds.versions me) s message) (shown_of me m.phase m.told m.put m.done spec)) reserve ≡ Said seq → seq ≡ said_in m.told + 1
     by None spec h = cc
     by (Some reserve) None h = cc
     by (Some reserve) (Some spec) h = present (shown_in me m.phase m.told m.put m.done spec) refl (is_gone m.phase) h
 
-    running : (stopped : Bool) → (if stopped then Refused Stopped else by_tenant (λ _. on_made (λ s. say_answer (version_at bounds.versions me) s message) (shown_of me m.phase m.told m.put m.done m.spec)) m.reserve) ≡ Said seq → seq ≡ said_in m.told + 1
+    running : (stopped : Bool) → (if stopped then Refused Stopped else by_tenant (λ _. on_made m.passed (λ s. say_answer (version_at bounds.versions me) s message) (shown_of me m.phase m.told m.put m.done m.spec)) m.reserve) ≡ Said seq → seq ≡ said_in m.told + 1
     running true h = cc
     running false h = by m.reserve m.spec h
 
@@ -84,6 +81,8 @@ noticed_said me q (Some spec) m = elim (is_other spec me q.number) as (λ b. own
 pub event_said : (bounds : Bounds) (addr : Addr) (me : NodeId) (event : GroupEvent) (group : Group)
     → own_said (member_after bounds addr me event group).told ≡ own_said (group me.number).told ++ accepted_in event (reply_to bounds addr me.number event (group me.number))
 event_said bounds addr me (Tenant reserve) group = sym (append-nil (own_said (group me.number).told))
+event_said bounds addr me (OtherMade generation) group = sym (append-nil (own_said (group me.number).told))
+event_said bounds addr me OtherDropped group = sym (append-nil (own_said (group me.number).told))
 event_said bounds addr me (Took b count) group = sym (append-nil (own_said (group me.number).told))
 event_said bounds addr me (Came from place) group = taken_said (version_at bounds.versions me.number) me.number from place (slice_get ((group from.number).put me.number) (place - 1)) (group me.number) ∙ sym (append-nil (own_said (group me.number).told))
 event_said bounds addr me (Acknowledged b place count) group = sym (append-nil (own_said (group me.number).told))

@@ -15,12 +15,14 @@ use Rattle.gb_history.specs.declared.call.GroupCall.TheVariants.{Other, Crashed}
 use Rattle.gb_alone.specs.Alone.{Member, Group, reply_to, held_spec, called, falls, taken_in, cut, took_notice, member_after, after, alone_from}
 use Rattle.gb_alone.specs.Laws.{Accepted, accepted_in, accepted_at, accepted_from}
 use Rattle.gb_alone.specs.declared.event.GroupEvent.{GroupEvent}
-use Rattle.gb_alone.specs.declared.event.GroupEvent.TheVariants.{Tenant, Took, Came, Done as Acknowledged, Notice, Stop}
+use Rattle.gb_alone.specs.declared.event.GroupEvent.TheVariants.{Tenant, OtherMade, OtherDropped, Took, Came, Done as Acknowledged, Notice, Stop}
 use Rattle.gb_alone.specs.declared.event.GroupStep.{GroupStep}
 use Rattle.gb_types.specs.declared.address.Addr.{Addr}
 
 abbrev pub command_in : GroupEvent → List GroupEvent
 command_in (Tenant reserve) = []
+command_in (OtherMade generation) = []
+command_in OtherDropped = []
 command_in (Took b count) = []
 command_in (Came from place) = []
 command_in (Acknowledged b place count) = []
@@ -73,6 +75,8 @@ one_pair e r = record { alike = refl; payloads = append-nil (accepted_in e r) }
 
 abbrev reply_of : GroupEvent → Reply → List Reply
 reply_of (Tenant reserve) reply = []
+reply_of (OtherMade generation) reply = []
+reply_of OtherDropped reply = []
 reply_of (Took b count) reply = []
 reply_of (Came from place) reply = []
 reply_of (Acknowledged b place count) reply = []
@@ -97,6 +101,8 @@ noticed_replies me q (Some spec) m = elim (is_other spec me q.number) as (λ b. 
 
 event_replies : (bounds : Bounds) (addr : Addr) (me : NodeId) (event : GroupEvent) (group : Group) → (member_after bounds addr me event group).replies ≡ (group me.number).replies ++ reply_of event (reply_to bounds addr me.number event (group me.number))
 event_replies bounds addr me (Tenant reserve) group = sym (append-nil (group me.number).replies)
+event_replies bounds addr me (OtherMade generation) group = sym (append-nil (group me.number).replies)
+event_replies bounds addr me OtherDropped group = sym (append-nil (group me.number).replies)
 event_replies bounds addr me (Took b count) group = sym (append-nil (group me.number).replies)
 event_replies bounds addr me (Came from place) group = taken_replies (version_at bounds.versions me.number) me.number from place (slice_get ((group from.number).put me.number) (place - 1)) (group me.number) ∙ sym (append-nil (group me.number).replies)
 event_replies bounds addr me (Acknowledged b place count) group = sym (append-nil (group me.number).replies)
@@ -122,6 +128,8 @@ run_replies bounds addr s (step ∷ steps) group =
 
 event_pairs : (event : GroupEvent) (reply : Reply) → Pairs (command_in event) (reply_of event reply) (accepted_in event reply)
 event_pairs (Tenant reserve) reply = no_pairs
+event_pairs (OtherMade generation) reply = no_pairs
+event_pairs OtherDropped reply = no_pairs
 event_pairs (Took b count) reply = no_pairs
 event_pairs (Came from place) reply = no_pairs
 event_pairs (Acknowledged b place count) reply = no_pairs

@@ -18,7 +18,7 @@ use Rattle.gb_history.specs.declared.call.GroupCall.{GroupCall}
 use Rattle.gb_history.specs.declared.call.GroupCall.TheVariants.{Own, Other, Crashed}
 use Rattle.gb_alone.specs.Alone.{held_spec, Member, Group, reply_to, put_to, called, did, falls, item_came, taken_in, cut, took_notice, member_after}
 use Rattle.gb_alone.specs.declared.event.GroupEvent.{GroupEvent}
-use Rattle.gb_alone.specs.declared.event.GroupEvent.TheVariants.{Tenant, Make as AskMake, Open as AskOpen, Shut as AskShut, Drop as AskDrop, Say as AskSay, Took, Came, Done as Acknowledged, Notice, Stop}
+use Rattle.gb_alone.specs.declared.event.GroupEvent.TheVariants.{Tenant, Make as AskMake, Open as AskOpen, Shut as AskShut, Drop as AskDrop, Say as AskSay, OtherMade, OtherDropped, Took, Came, Done as Acknowledged, Notice, Stop}
 use Rattle.gb_alone.proofs.KnownLemmas.{HoldsOfTold, all_known, all_puts}
 use Rattle.gb_types.specs.declared.new_message.NewMessage.{NewMessage}
 use Rattle.gb_types.specs.declared.address.Addr.{Addr}
@@ -96,6 +96,8 @@ pub holds_after : (P : Entry → Type 0) (bounds : Bounds) (addr : Addr) (me : N
     → ((from : NodeId) (place : ℕ) (x : Entry) → slice_get ((group from.number).put me.number) (place - 1) ≡ Some x → is_too_long (version_at bounds.versions me.number) x.payload ≡ false → P x)
     → HoldsAt P (group me.number) → HoldsAt P (member_after bounds addr me event group)
 holds_after P bounds addr me (Tenant reserve) group says comes holds = record { known = holds.known; put = holds.put }
+holds_after P bounds addr me (OtherMade generation) group says comes holds = record { known = holds.known; put = holds.put }
+holds_after P bounds addr me OtherDropped group says comes holds = record { known = holds.known; put = holds.put }
 holds_after P bounds addr me (Took b count) group says comes holds = record { known = holds.known; put = holds.put }
 holds_after P bounds addr me (Came from place) group says comes holds =
     holds_taken P (version_at bounds.versions me.number) me.number from place (slice_get ((group from.number).put me.number) (place - 1)) (group me.number) (comes from place) holds

@@ -8,7 +8,7 @@ use Rattle.std.proofs.lemmas.Bool.Decides.{nat_tests}
 use Rattle.gb_types.specs.declared.entry.Entry.{Entry}
 use Rattle.gb_types.specs.declared.node.NodeId.{NodeId}
 use Rattle.gb_types.specs.declared.plan.Bounds.{Bounds}
-use Rattle.gb_types.specs.declared.refusal.Refusal.TheVariants.{NoGroup, Spent, BadMembers, OverReserve, Stopped}
+use Rattle.gb_types.specs.declared.refusal.Refusal.TheVariants.{NoGroup, Spent, NoRoom, BadMembers, OverReserve, Stopped}
 use Rattle.gb_types.specs.declared.reply.Reply.{Reply}
 use Rattle.gb_types.specs.declared.reply.Reply.TheVariants.{Done, Said, Refused}
 use Rattle.gb_types.specs.declared.spec.Spec.{Spec}
@@ -20,9 +20,11 @@ use Rattle.gb_rules.specs.Group.{say_answer, is_member, is_other, is_too_long, o
 use Rattle.gb_history.specs.declared.call.GroupCall.TheVariants.{Other, Crashed}
 use Rattle.gb_alone.specs.Alone.{held_spec, Member, Group, reply_to, called, did, falls, taken_in, cut, took_notice, member_after, after, alone_from}
 use Rattle.gb_alone.specs.Laws.{accepted_in, accepted_at, accepted_from}
+use Rattle.gb_rules.specs.Room.{can_name}
+use Rattle.gb_rules.specs.declared.room.TheConstants.{GENERATIONS}
 use Rattle.gb_rules.specs.Tenant.{is_bad, is_over, make_answer, by_tenant}
 use Rattle.gb_alone.specs.declared.event.GroupEvent.{GroupEvent}
-use Rattle.gb_alone.specs.declared.event.GroupEvent.TheVariants.{Tenant, Make as AskMake, Open as AskOpen, Shut as AskShut, Drop as AskDrop, Say as AskSay, Took, Came, Done as Acknowledged, Notice, Stop}
+use Rattle.gb_alone.specs.declared.event.GroupEvent.TheVariants.{Tenant, Make as AskMake, Open as AskOpen, Shut as AskShut, Drop as AskDrop, Say as AskSay, OtherMade, OtherDropped, Took, Came, Done as Acknowledged, Notice, Stop}
 use Rattle.gb_alone.specs.declared.event.GroupStep.{GroupStep}
 use Rattle.gb_alone.proofs.UsageLemmas.{shown_of}
 use Rattle.gb_rules.specs.declared.reserve.Reserve.{Reserve}
@@ -51,18 +53,19 @@ make_inside bounds addr me spec m = running m.stopped
         let parts = fine (is_member spec me) (list_all (λ b. nat_lt b bounds.nodes) (set.items spec.members)) good in
         (below parts.1 me parts.0 (nat_lt me bounds.nodes) refl, λ b there. below parts.1 b there (nat_lt b bounds.nodes) refl)
 
-    admitted : (a b c d : Bool) → is_bad bounds.nodes me spec ≡ c → (if a then Refused NoGroup else (if b then Refused Spent else (if c then Refused BadMembers else (if d then Refused OverReserve else Done)))) ≡ Done → IsWithin bounds.nodes me spec
-    admitted true b c d good h = cc
-    admitted false true c d good h = cc
-    admitted false false true d good h = cc
-    admitted false false false true good h = cc
-    admitted false false false false good h = inside good
+    admitted : (a b c d e : Bool) → is_bad bounds.nodes me spec ≡ d → (if a then Refused NoGroup else (if b then Refused Spent else (if c then Refused NoRoom else (if d then Refused BadMembers else (if e then Refused OverReserve else Done))))) ≡ Done → IsWithin bounds.nodes me spec
+    admitted true b c d e good h = cc
+    admitted false true c d e good h = cc
+    admitted false false true d e good h = cc
+    admitted false false false true e good h = cc
+    admitted false false false false true good h = cc
+    admitted false false false false false good h = inside good
 
-    by : (reserve : Option Reserve) → by_tenant (make_answer bounds.nodes me addr (is_some m.spec) spec) reserve ≡ Done → IsWithin bounds.nodes me spec
+    by : (reserve : Option Reserve) → by_tenant (make_answer (version_at bounds.versions me) bounds.nodes me addr (is_some m.spec || m.passed) m.others spec) reserve ≡ Done → IsWithin bounds.nodes me spec
     by None h = cc
-    by (Some reserve) h = admitted (nat_le reserve.groups addr.group) (is_some m.spec) (is_bad bounds.nodes me spec) (nat_lt 0 addr.generation || is_over reserve spec) refl h
+    by (Some reserve) h = admitted (nat_le reserve.groups addr.group) (is_some m.spec || m.passed) (nat_le GENERATIONS m.others) (is_bad bounds.nodes me spec) (not (can_name (version_at bounds.versions me) addr) || is_over reserve spec) refl h
 
-    running : (stopped : Bool) → (if stopped then Refused Stopped else by_tenant (make_answer bounds.nodes me addr (is_some m.spec) spec) m.reserve) ≡ Done → IsWithin bounds.nodes me spec
+    running : (stopped : Bool) → (if stopped then Refused Stopped else by_tenant (make_answer (version_at bounds.versions me) bounds.nodes me addr (is_some m.spec || m.passed) m.others spec) m.reserve) ≡ Done → IsWithin bounds.nodes me spec
     running true h = cc
     running false h = by m.reserve h
 
@@ -88,6 +91,8 @@ noticed_inside nodes me q (Some made) m old = elim (is_other made me q.number) a
 
 event_inside : (bounds : Bounds) (addr : Addr) (me : NodeId) (event : GroupEvent) (group : Group) → IsInside bounds.nodes me.number (group me.number) → IsInside bounds.nodes me.number (member_after bounds addr me event group)
 event_inside bounds addr me (Tenant reserve) group old = old
+event_inside bounds addr me (OtherMade generation) group old = old
+event_inside bounds addr me OtherDropped group old = old
 event_inside bounds addr me (Took b count) group old = old
 event_inside bounds addr me (Came from place) group old = taken_inside (version_at bounds.versions me.number) bounds.nodes me.number from place (slice_get ((group from.number).put me.number) (place - 1)) (group me.number) old
 event_inside bounds addr me (Acknowledged b place count) group old = old
@@ -110,12 +115,12 @@ step_inside bounds addr group step all x = go (nat_eq x step.node.number) refl
 refused_beyond : (bounds : Bounds) (addr : Addr) (s : ℕ) (event : GroupEvent) (m : Member) → bounds.nodes ≤ s → IsInside bounds.nodes s m → accepted_in event (reply_to bounds addr s event m) ≡ []
 refused_beyond bounds addr s (AskSay message) m beyond inside = running m.stopped
   where
-    by : (reserve : Option Reserve) (o : Option Spec) → m.spec ≡ o → accepted_in (AskSay message) (by_tenant (λ _. on_made (λ x. say_answer (version_at bounds.versions s) x message) (shown_of s m.phase m.told m.put m.done o)) reserve) ≡ []
+    by : (reserve : Option Reserve) (o : Option Spec) → m.spec ≡ o → accepted_in (AskSay message) (by_tenant (λ _. on_made m.passed (λ x. say_answer (version_at bounds.versions s) x message) (shown_of s m.phase m.told m.put m.done o)) reserve) ≡ []
     by None o is = refl
     by (Some reserve) None is = refl
     by (Some reserve) (Some spec) is = let low : s < bounds.nodes = (inside spec is).0 in absurd (omega arith)
 
-    running : (stopped : Bool) → accepted_in (AskSay message) (if stopped then Refused Stopped else by_tenant (λ _. on_made (λ x. say_answer (version_at bounds.versions s) x message) (shown_of s m.phase m.told m.put m.done m.spec)) m.reserve) ≡ []
+    running : (stopped : Bool) → accepted_in (AskSay message) (if stopped then Refused Stopped else by_tenant (λ _. on_made m.passed (λ x. say_answer (version_at bounds.versions s) x message) (shown_of s m.phase m.told m.put m.done m.spec)) m.reserve) ≡ []
     running true = refl
     running false = by m.reserve m.spec refl
 refused_beyond bounds addr s event m beyond inside = refl

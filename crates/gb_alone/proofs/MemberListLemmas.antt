@@ -1,7 +1,7 @@
 -- The plain program's lists stand for the group alone.
 use Rattle.std.proofs.Common.{◌≡◌, ℕ, zero, suc, ◌+◌, ◌-◌, ◌<◌, ◌≤◌, ◌⊎◌, inl, inr, List, [], ◌∷◌, ◌++◌, length, take, get_or, nat_eq, Bool, true, false, not, ◌&&◌, ◌||◌, ◌∙◌, ap, sym, subst, refl, arith, length-append}
 use Rattle.std.specs.List.{range_with_len}
-use Rattle.std.specs.Prelude.{map, fold, replicate, slice_get, slice_index_or, slice_set, Option, Some, None, is_some, if◌then◌else◌}
+use Rattle.std.specs.Prelude.{map, fold, replicate, slice_get, slice_index_or, slice_set, Option, Some, None, is_some, nat_lt, if◌then◌else◌}
 use Rattle.std.proofs.lemmas.List.{get_or-replicate, get_or-set_same, get_or-set_other, get_or_append_left, length-set, length-map, map-append, take_more}
 use Rattle.std.proofs.lemmas.List.Sums.{fold-append}
 use Rattle.std.proofs.Math.Seq.{get_or-append_seam, take-nil}
@@ -30,7 +30,7 @@ use Rattle.gb_alone.specs.Observation.{numbers_below}
 use Rattle.gb_alone.proofs.UsageLemmas.{shown_alike, shown_of}
 use Rattle.gb_rules.specs.Tenant.{make_answer, by_tenant}
 use Rattle.gb_alone.specs.declared.event.GroupEvent.{GroupEvent}
-use Rattle.gb_alone.specs.declared.event.GroupEvent.TheVariants.{Tenant, Make as AskMake, Open as AskOpen, Shut as AskShut, Drop as AskDrop, Say as AskSay, Fetch as AskFetch, Took, Came, Done as Acknowledged, Notice, Stop}
+use Rattle.gb_alone.specs.declared.event.GroupEvent.TheVariants.{Tenant, Make as AskMake, Open as AskOpen, Shut as AskShut, Drop as AskDrop, Say as AskSay, Fetch as AskFetch, OtherMade, OtherDropped, Took, Came, Done as Acknowledged, Notice, Stop}
 use Rattle.gb_alone.specs.declared.event.GroupStep.{GroupStep}
 use Rattle.gb_rules.specs.declared.reserve.Reserve.{Reserve}
 use Rattle.gb_types.specs.declared.address.Addr.{Addr}
@@ -77,18 +77,17 @@ shown_listed me v m h =
     ∙ (ap (λ (s : Option Spec). shown_of me m.phase m.told (member_of v).put (member_of v).done s) h.spec
     ∙ shown_alike me m.phase m.told (member_of v).put m.put (member_of v).done m.done m.spec h.put h.done))
 
-by_both : (answer : Shown → Reply) (r r' : Option Reserve) (s s' : Option Shown) → r ≡ r' → s ≡ s' → by_tenant (λ _. on_made answer s) r ≡ by_tenant (λ _. on_made answer s') r'
-by_both answer r r' s s' e f = ap (λ (x : Option Reserve). by_tenant (λ _. on_made answer s) x) e ∙ ap (λ (x : Option Shown). by_tenant (λ _. on_made answer x) r') f
+by_both : (answer : Shown → Reply) (p p' : Bool) (r r' : Option Reserve) (s s' : Option Shown) → p ≡ p' → r ≡ r' → s ≡ s' → by_tenant (λ _. on_made p answer s) r ≡ by_tenant (λ _. on_made p' answer s') r'
+by_both answer p p' r r' s s' d e f = λ i. by_tenant (λ _. on_made (d i) answer (f i)) (e i)
 
 running_listed : (bounds : Bounds) (addr : Addr) (me : ℕ) (event : GroupEvent) (v : MemberValue) (m : Member) → StandsForMember v m → running_reply bounds addr me event (member_of v) ≡ running_reply bounds addr me event m
 running_listed bounds addr me (AskMake spec) v m h =
-    ap (λ (r : Option Reserve). by_tenant (make_answer bounds.nodes me addr (is_some v.spec) spec) r) h.reserve
-    ∙ ap (λ (s : Option Spec). by_tenant (make_answer bounds.nodes me addr (is_some s) spec) m.reserve) h.spec
-running_listed bounds addr me AskOpen v m h = by_both open_answer v.reserve m.reserve (shown me (member_of v)) (shown me m) h.reserve (shown_listed me v m h)
-running_listed bounds addr me AskShut v m h = by_both shut_answer v.reserve m.reserve (shown me (member_of v)) (shown me m) h.reserve (shown_listed me v m h)
-running_listed bounds addr me AskDrop v m h = by_both drop_answer v.reserve m.reserve (shown me (member_of v)) (shown me m) h.reserve (shown_listed me v m h)
-running_listed bounds addr me (AskSay message) v m h = by_both (λ s. say_answer (version_at bounds.versions me) s message) v.reserve m.reserve (shown me (member_of v)) (shown me m) h.reserve (shown_listed me v m h)
-running_listed bounds addr me (AskFetch from most) v m h = by_both (λ s. fetch_answer s from most) v.reserve m.reserve (shown me (member_of v)) (shown me m) h.reserve (shown_listed me v m h)
+    λ i. by_tenant (make_answer (version_at bounds.versions me) bounds.nodes me addr (is_some (h.spec i) || h.passed i) (h.others i) spec) (h.reserve i)
+running_listed bounds addr me AskOpen v m h = by_both open_answer v.passed m.passed v.reserve m.reserve (shown me (member_of v)) (shown me m) h.passed h.reserve (shown_listed me v m h)
+running_listed bounds addr me AskShut v m h = by_both shut_answer v.passed m.passed v.reserve m.reserve (shown me (member_of v)) (shown me m) h.passed h.reserve (shown_listed me v m h)
+running_listed bounds addr me AskDrop v m h = by_both drop_answer v.passed m.passed v.reserve m.reserve (shown me (member_of v)) (shown me m) h.passed h.reserve (shown_listed me v m h)
+running_listed bounds addr me (AskSay message) v m h = by_both (λ s. say_answer (version_at bounds.versions me) s message) v.passed m.passed v.reserve m.reserve (shown me (member_of v)) (shown me m) h.passed h.reserve (shown_listed me v m h)
+running_listed bounds addr me (AskFetch from most) v m h = by_both (λ s. fetch_answer s from most) v.passed m.passed v.reserve m.reserve (shown me (member_of v)) (shown me m) h.passed h.reserve (shown_listed me v m h)
 running_listed bounds addr me event v m h = refl
 
 reply_listed : (bounds : Bounds) (addr : Addr) (me : ℕ) (event : GroupEvent) (v : MemberValue) (m : Member) → StandsForMember v m → reply_to bounds addr me event (member_of v) ≡ reply_to bounds addr me event m
@@ -107,6 +106,8 @@ called_listed : (me : ℕ) (c : GroupCall) (v : MemberValue) (m : Member) → St
 called_listed me c v m h = record {
   reserve = h.reserve;
   spec = h.spec;
+  passed = h.passed;
+  others = h.others;
   phase = h.phase;
   told = ap (λ (t : List GroupCall). c ∷ t) h.told;
   replies = h.replies;
@@ -125,6 +126,8 @@ dropped_listed : (v : MemberValue) (m : Member) → StandsForMember v m → Stan
 dropped_listed v m h = record {
   reserve = h.reserve;
   spec = h.spec;
+  passed = h.passed;
+  others = h.others;
   phase = refl;
   told = h.told;
   replies = h.replies;
@@ -137,9 +140,9 @@ dropped_listed v m h = record {
 }
 
 did_listed : (me : NodeId) (event : GroupEvent) (reply : Reply) (v : MemberValue) (m : Member) → StandsForMember v m → StandsForMember (value_did me event reply v) (did me event reply m)
-did_listed me (AskMake spec) Done v m h = record { reserve = h.reserve; spec = refl; phase = h.phase; told = h.told; replies = h.replies; put = h.put; taken = h.taken; size = h.size; done = h.done; rows = h.rows; stopped = h.stopped }
-did_listed me AskOpen Done v m h = record { reserve = h.reserve; spec = h.spec; phase = refl; told = h.told; replies = h.replies; put = h.put; taken = h.taken; size = h.size; done = h.done; rows = h.rows; stopped = h.stopped }
-did_listed me AskShut Done v m h = record { reserve = h.reserve; spec = h.spec; phase = refl; told = h.told; replies = h.replies; put = h.put; taken = h.taken; size = h.size; done = h.done; rows = h.rows; stopped = h.stopped }
+did_listed me (AskMake spec) Done v m h = record { reserve = h.reserve; spec = refl; passed = h.passed; others = h.others; phase = h.phase; told = h.told; replies = h.replies; put = h.put; taken = h.taken; size = h.size; done = h.done; rows = h.rows; stopped = h.stopped }
+did_listed me AskOpen Done v m h = record { reserve = h.reserve; spec = h.spec; passed = h.passed; others = h.others; phase = refl; told = h.told; replies = h.replies; put = h.put; taken = h.taken; size = h.size; done = h.done; rows = h.rows; stopped = h.stopped }
+did_listed me AskShut Done v m h = record { reserve = h.reserve; spec = h.spec; passed = h.passed; others = h.others; phase = refl; told = h.told; replies = h.replies; put = h.put; taken = h.taken; size = h.size; done = h.done; rows = h.rows; stopped = h.stopped }
 did_listed me AskDrop Done v m h = dropped_listed v m h
 did_listed me (AskSay message) (Said seq) v m h = called_listed me.number (Own (record { origin = me; seq = seq; payload = message.payload })) v m h
 did_listed me event reply v m h = h
@@ -150,6 +153,8 @@ commanded_listed me event reply v m h =
     record {
       reserve = next.reserve;
       spec = next.spec;
+      passed = next.passed;
+      others = next.others;
       phase = next.phase;
       told = next.told;
       replies = ap (λ (rs : List Reply). rs ++ reply ∷ []) h.replies;
@@ -175,7 +180,7 @@ came_listed version me from x v m h =
     subst P (sym same) (either_listed (is_too_long version x.payload || falls me from.number x m.told (held_spec m.phase m.spec)) v (value_called me (Other from x) v) m (called me (Other from x) m) h (called_listed me (Other from x) v m h))
 
 with_place : (v : MemberValue) (m : Member) (come : ℕ → List ℕ) → StandsForMember v m → StandsForMember v (record m { come = come })
-with_place v m come h = record { reserve = h.reserve; spec = h.spec; phase = h.phase; told = h.told; replies = h.replies; put = h.put; taken = h.taken; size = h.size; done = h.done; rows = h.rows; stopped = h.stopped }
+with_place v m come h = record { reserve = h.reserve; spec = h.spec; passed = h.passed; others = h.others; phase = h.phase; told = h.told; replies = h.replies; put = h.put; taken = h.taken; size = h.size; done = h.done; rows = h.rows; stopped = h.stopped }
 
 taken_in_listed : (version : Version) (me : ℕ) (from : NodeId) (place : ℕ) (item : Option Entry) (v : MemberValue) (m : Member) → StandsForMember v m → StandsForMember (value_taken_in version me from item v) (taken_in version me from place item m)
 taken_in_listed version me from place None v m h = h
@@ -187,6 +192,8 @@ took_listed : (b count : ℕ) (v : MemberValue) (m : Member) → b < NODES → S
 took_listed b count v m lt h = record {
   reserve = h.reserve;
   spec = h.spec;
+  passed = h.passed;
+  others = h.others;
   phase = h.phase;
   told = h.told;
   replies = h.replies;
@@ -215,6 +222,8 @@ done_listed : (b : NodeId) (place count : ℕ) (v : MemberValue) (m : Member) �
 done_listed b place count v m h = record {
   reserve = h.reserve;
   spec = h.spec;
+  passed = h.passed;
+  others = h.others;
   phase = h.phase;
   told = h.told;
   replies = h.replies;
@@ -253,6 +262,8 @@ cut_listed : (q : NodeId) (v : MemberValue) (m : Member) → StandsForMember v m
 cut_listed q v m h = record {
   reserve = h.reserve;
   spec = h.spec;
+  passed = h.passed;
+  others = h.others;
   phase = h.phase;
   told = h.told;
   replies = h.replies;
@@ -277,7 +288,27 @@ command_listed bounds addr me event v m h =
 member_listed : (bounds : Bounds) (addr : Addr) (me : NodeId) (event : GroupEvent) (vs : List MemberValue) (group : Group) → StandForMembers vs group → StandsForMember (value_after bounds addr me event vs) (member_after bounds addr me event group)
 member_listed bounds addr me (Tenant reserve) vs group h =
     let here = h.members me.number me.below in
-    record { reserve = refl; spec = here.spec; phase = here.phase; told = here.told; replies = here.replies; put = here.put; taken = here.taken; size = here.size; done = here.done; rows = here.rows; stopped = here.stopped }
+    record { reserve = refl; spec = here.spec; passed = here.passed; others = here.others; phase = here.phase; told = here.told; replies = here.replies; put = here.put; taken = here.taken; size = here.size; done = here.done; rows = here.rows; stopped = here.stopped }
+member_listed bounds addr me (OtherMade generation) vs group h =
+    let here = h.members me.number me.below in
+    record {
+      reserve = here.reserve;
+      spec = here.spec;
+      passed = λ i. here.passed i || nat_lt addr.generation generation;
+      others = ap (λ n. n + 1) here.others;
+      phase = here.phase;
+      told = here.told;
+      replies = here.replies;
+      put = here.put;
+      taken = here.taken;
+      size = here.size;
+      done = here.done;
+      rows = here.rows;
+      stopped = here.stopped;
+    }
+member_listed bounds addr me OtherDropped vs group h =
+    let here = h.members me.number me.below in
+    record { reserve = here.reserve; spec = here.spec; passed = here.passed; others = ap (λ n. n - 1) here.others; phase = here.phase; told = here.told; replies = here.replies; put = here.put; taken = here.taken; size = here.size; done = here.done; rows = here.rows; stopped = here.stopped }
 member_listed bounds addr me (Took b count) vs group h = took_listed b.number count (value_at vs me.number) (group me.number) b.below (h.members me.number me.below)
 member_listed bounds addr me (Came from place) vs group h =
     let P : List Entry → Type 0 = λ row. StandsForMember (value_taken_in (version_at bounds.versions me.number) me.number from (slice_get row (place - 1)) (value_at vs me.number)) (member_after bounds addr me (Came from place) group) in
@@ -289,10 +320,10 @@ member_listed bounds addr me (Notice q) vs group h =
     let m : Member = group me.number in
     let next = subst (λ (o : Option Spec). StandsForMember (value_noticed me.number q o v) (took_notice me.number q (held_spec m.phase m.spec) m)) (sym (held_listed v m (h.members me.number me.below)))
     (notice_listed me.number q (held_spec m.phase m.spec) v m (h.members me.number me.below)) in
-    record { reserve = next.reserve; spec = next.spec; phase = next.phase; told = next.told; replies = next.replies; put = next.put; taken = next.taken; size = next.size; done = next.done; rows = next.rows; stopped = next.stopped }
+    record { reserve = next.reserve; spec = next.spec; passed = next.passed; others = next.others; phase = next.phase; told = next.told; replies = next.replies; put = next.put; taken = next.taken; size = next.size; done = next.done; rows = next.rows; stopped = next.stopped }
 member_listed bounds addr me Stop vs group h =
     let here = h.members me.number me.below in
-    record { reserve = here.reserve; spec = here.spec; phase = here.phase; told = here.told; replies = here.replies; put = here.put; taken = here.taken; size = here.size; done = here.done; rows = here.rows; stopped = refl }
+    record { reserve = here.reserve; spec = here.spec; passed = here.passed; others = here.others; phase = here.phase; told = here.told; replies = here.replies; put = here.put; taken = here.taken; size = here.size; done = here.done; rows = here.rows; stopped = refl }
 member_listed bounds addr me (AskMake spec) vs group h = command_listed bounds addr me (AskMake spec) (value_at vs me.number) (group me.number) (h.members me.number me.below)
 member_listed bounds addr me AskOpen vs group h = command_listed bounds addr me AskOpen (value_at vs me.number) (group me.number) (h.members me.number me.below)
 member_listed bounds addr me AskShut vs group h = command_listed bounds addr me AskShut (value_at vs me.number) (group me.number) (h.members me.number me.below)
@@ -328,6 +359,8 @@ new_listed : (x : ℕ) → StandsForMember new_member (nobody x)
 new_listed x = record {
   reserve = refl;
   spec = refl;
+  passed = refl;
+  others = refl;
   phase = refl;
   told = refl;
   replies = refl;

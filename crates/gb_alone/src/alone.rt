@@ -80,6 +80,11 @@ fn step_at(
             group[me.index()].take_tenant(*reserve);
             Ok(())
         }
+        GroupEvent::OtherMade(generation) => group[me.index()].other_made(address, *generation),
+        GroupEvent::OtherDropped => {
+            group[me.index()].other_dropped();
+            Ok(())
+        }
         GroupEvent::Took(b, count) => group[me.index()].took(*b, *count),
         GroupEvent::Done(b, place, count) => group[me.index()].mark_done(*b, *place, *count),
         GroupEvent::Notice(q) => group[me.index()].notice(alloc, me, *q),
@@ -143,7 +148,7 @@ fn seen_alone(
 }
 
 /// Returns what is seen of the group alone after these steps, in a cluster of this plan. `Err` also if a node says more than
-/// 65,535 messages or more than 2^64 - 1 items are carried, since there are no numbers for more.
+/// 65,535 messages or more than 2^64 - 1 items are carried, or more other generations of the group's room live, since there are no numbers for more.
 pub fn alone(
     alloc: Global,
     plan: &Plan,

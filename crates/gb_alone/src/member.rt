@@ -1,12 +1,12 @@
 //! A group at one node, as the plain program keeps it.
-ghost use Rattle.std.specs.Prelude.{ℕ, ◌≡◌, ◌||◌, nat_eq, ◌+◌, ◌-◌, ◌<◌, ◌≤◌, [], IfOk, OnOk, true, None, Some, MatchOption, MatchResult, length, replicate, take, drop, slice_get, slice_index_or};
+ghost use Rattle.std.specs.Prelude.{ℕ, ◌≡◌, ◌||◌, nat_eq, nat_lt, ◌+◌, ◌-◌, ◌<◌, ◌≤◌, [], IfOk, OnOk, true, None, Some, MatchOption, MatchResult, length, replicate, take, drop, slice_get, slice_index_or};
 ghost use Rattle.gb_types.specs.declared.limits.TheConstants.{NODES as MOST};
 ghost use Rattle.gb_alone.specs.Alone as one_group;
 ghost use Rattle.gb_layer.specs.Machine.{was_noticed};
 ghost use Rattle.gb_alone.specs.Alone.{Member as Prior, held_spec, is_acknowledged, is_finished_alone, count_unfinished, usage_of, shown_in};
 ghost use Rattle.gb_alone.specs.MemberLists.{member_of, StandsForMember};
 ghost use Rattle.gb_history.specs.History.{calls_of};
-ghost use Rattle.gb_rules.specs.Group.{Shown, fetch_answer};
+ghost use Rattle.gb_rules.specs.Group.{Shown, absent_answer, fetch_answer};
 ghost use Rattle.gb_types.specs.declared.address.Addr.{Addr as AnyAddress};
 ghost use Rattle.gb_types.specs.declared.reply.Reply.{Reply as Answer};
 
@@ -70,6 +70,10 @@ fn no_marks(alloc: Global) -> [Marks; NODES]
 pub(crate) struct Member {
     reserve: Option<Reserve>,
     spec: Option<Spec>,
+    /// A later generation of the group's room was made.
+    passed: bool,
+    /// The number of other generations of the group's room that live.
+    others: usize,
     phase: Phase,
     /// What the group was told, the newest first.
     told: Vec<GroupCall>,
@@ -93,7 +97,7 @@ impl Model for Member {
 
     ghost coded = { Prim.hlevel (codes, set.code {R = nat_cmp} coded_ℕ) };
 
-    ghost view = { λ m. record { reserve = m.reserve; spec = m.spec; phase = m.phase; told = m.told.items; replies = m.replies.items; put = m.put.items; taken = m.taken; done = m.done; stopped = m.stopped } };
+    ghost view = { λ m. record { reserve = m.reserve; spec = m.spec; passed = m.passed; others = m.others; phase = m.phase; told = m.told.items; replies = m.replies.items; put = m.put.items; taken = m.taken; done = m.done; stopped = m.stopped } };
 }
 
 impl Member {
@@ -106,6 +110,8 @@ impl Member {
         Member {
             reserve: None,
             spec: None,
+            passed: false,
+            others: 0,
             phase: Phase::Made,
             told: Vec::new(alloc),
             replies: Vec::new(alloc),
@@ -123,6 +129,26 @@ impl Member {
         self.reserve = Some(reserve);
     }
 
+    /// Takes in that another generation of the room of the group with this address was made. `Err` if the number of other
+    /// generations that live would be above 2^64 - 1.
+    pub(crate) fn other_made(&mut self, address: Addr, generation: u32) -> Result<(), OutOfMemory>
+        ensures { OnOk result (self.new ≡ record self.old { passed = self.old.passed || nat_lt address.generation generation; others = self.old.others + 1 }) }
+    {
+        let Some(others) = self.others.checked_add(1) else {
+            return Err(OutOfMemory);
+        };
+        self.others = others;
+        self.passed = self.passed || address.generation < generation;
+        Ok(())
+    }
+
+    /// Takes in that another generation of the group's room was dropped.
+    pub(crate) fn other_dropped(&mut self)
+        ensures { self.new ≡ record self.old { others = self.old.others - 1 } }
+    {
+        self.others = self.others.saturating_sub(1);
+    }
+
     /// Returns the spec of the group, or `None` if the group was not made or was dropped.
     fn held_spec(&self) -> Option<&Spec>
         ensures { MatchOption result (held_spec self.entry.now.phase self.entry.now.spec ≡ None) (λ spec. held_spec self.entry.now.phase self.entry.now.spec ≡ Some spec.now) }
@@ -133,8 +159,19 @@ impl Member {
         self.spec.as_ref()
     }
 
-    /// Returns the spec of the group, or why a command on the group is refused: `Denied` if its tenant was not taken in,
-    /// `NoGroup` if the group was not made, `Spent` if it was dropped.
+    /// Returns why a command on a group that was not made is refused: `Spent` if a later generation of its room was made.
+    fn absent(&self) -> Refusal
+        ensures { absent_answer self.now.passed ≡ Answer.Refused result }
+    {
+        if self.passed {
+            Refusal::Spent
+        } else {
+            Refusal::NoGroup
+        }
+    }
+
+    /// Returns the spec of the group, or why a command on the group is refused: `Denied` if its tenant was not taken in, `Spent`
+    /// if it was dropped, or was not made although a later generation of its room was, and `NoGroup` if neither was made.
     fn made_spec(&self) -> Result<&Spec, Refusal>
         ensures { MatchResult result
             (λ spec. (answer : Shown → Answer) (me : ℕ) → one_group.on_group answer me (member_of self.entry.now) ≡ answer (shown_in me self.entry.now.phase self.entry.now.told (member_of self.entry.now).put (member_of self.entry.now).done spec.now))
@@ -144,7 +181,7 @@ impl Member {
             return Err(Refusal::Denied);
         }
         let Some(spec) = &self.spec else {
-            return Err(Refusal::NoGroup);
+            return Err(self.absent());
         };
         if self.phase == Phase::Gone {
             return Err(Refusal::Spent);
@@ -302,10 +339,12 @@ impl Member {
         match &self.reserve {
             None => Reply::Refused(Refusal::Denied),
             Some(reserve) => answer_make(
+                bounds.version_of(me),
                 usize::from(bounds.nodes),
                 me,
                 address,
-                self.spec.is_some(),
+                self.spec.is_some() || self.passed,
+                self.others,
                 spec,
                 reserve,
             ),
@@ -331,6 +370,8 @@ impl Member {
             GroupEvent::Say(message) => self.say_reply(alloc, bounds, me, message),
             GroupEvent::Fetch(from, max) => self.fetch_reply(alloc, me, *from, *max),
             GroupEvent::Tenant(_)
+            | GroupEvent::OtherMade(_)
+            | GroupEvent::OtherDropped
             | GroupEvent::Took(_, _)
             | GroupEvent::Came(_, _)
             | GroupEvent::Done(_, _, _)
