@@ -25,7 +25,7 @@ use Rattle.gb_history.specs.declared.call.GroupCall.TheVariants.{Other, Crashed}
 use Rattle.gb_alone.specs.Alone.{Member, Group, held_spec, reply_to, called, did, falls, taken_in, cut, took_notice, member_after, after, nobody, alone_from, alone}
 use Rattle.gb_alone.specs.Laws.{Accepted, accepted_in, accepted_at, accepted_from, accepted}
 use Rattle.gb_alone.specs.declared.event.GroupEvent.{GroupEvent}
-use Rattle.gb_alone.specs.declared.event.GroupEvent.TheVariants.{Tenant, Make as AskMake, Open as AskOpen, Shut as AskShut, Drop as AskDrop, Say as AskSay, Took, Came, Done as Acknowledged, Notice, Stop}
+use Rattle.gb_alone.specs.declared.event.GroupEvent.TheVariants.{Tenant, Make as AskMake, Open as AskOpen, Shut as AskShut, Drop as AskDrop, Say as AskSay, OtherMade, OtherDropped, Took, Came, Done as Acknowledged, Notice, Stop}
 use Rattle.gb_alone.specs.declared.event.GroupStep.{GroupStep}
 use Rattle.gb_duties.proofs.InvariantLemmas.{Later}
 use Rattle.gb_duties.proofs.StepLemmas.{calls_in, AllFit, step_fits, nobody_fits}
@@ -48,6 +48,8 @@ did_said me event reply m = tt
 
 event_said : (bounds : Bounds) (addr : Addr) (me : NodeId) (event : GroupEvent) (group : Group) → AllByRecursion (IsSaidBy me (member_after bounds addr me event group).told) (accepted_in event (reply_to bounds addr me.number event (group me.number)))
 event_said bounds addr me (Tenant reserve) group = tt
+event_said bounds addr me (OtherMade generation) group = tt
+event_said bounds addr me OtherDropped group = tt
 event_said bounds addr me (Took b count) group = tt
 event_said bounds addr me (Came from place) group = tt
 event_said bounds addr me (Acknowledged b place count) group = tt
@@ -120,6 +122,8 @@ notice_silent a q (Some spec) m x h = go (is_other spec a q.number) h
 event_silent : (bounds : Bounds) (addr : Addr) (me : NodeId) (event : GroupEvent) (group : Group) → accepted_in event (reply_to bounds addr me.number event (group me.number)) ≡ [] → (x : MsgId)
     → was_said (calls_of (member_after bounds addr me event group).told) x ≡ true → was_said (calls_of (group me.number).told) x ≡ true
 event_silent bounds addr me (Tenant reserve) group none x h = h
+event_silent bounds addr me (OtherMade generation) group none x h = h
+event_silent bounds addr me OtherDropped group none x h = h
 event_silent bounds addr me (Took b count) group none x h = h
 event_silent bounds addr me (Came from place) group none x h = taken_silent (version_at bounds.versions me.number) me.number from place (slice_get ((group from.number).put me.number) (place - 1)) (group me.number) x h
 event_silent bounds addr me (Acknowledged b place count) group none x h = h

@@ -12,13 +12,16 @@ use Rattle.gb_types.specs.declared.kind.Kind.TheVariants as kinds
 use Rattle.gb_types.specs.declared.node.NodeId.{NodeId}
 use Rattle.gb_types.specs.declared.reply.Reply.TheVariants.{Done, Said}
 use Rattle.gb_types.specs.declared.spec.Spec.{Spec}
+use Rattle.gb_types.specs.declared.version.Version.{Version}
 use Rattle.gb_types.specs.declared.version.Version.TheVariants as texts
+use Rattle.gb_types.specs.Version.{version_at}
 use Rattle.gb_types.specs.Places.{has_majority}
 use Rattle.gb_types.proofs.CoverLemmas.{all_members, not_all_members}
 use Rattle.gb_types.proofs.MajorityLemmas.{listed}
 use Rattle.gb_types.proofs.BoolLemmas.{and_both, and_left, and_right, both_ways, or_cases}
 use Rattle.gb_layer.specs.Machine.{mentions, was_noticed}
 use Rattle.gb_rules.specs.Group.{is_other}
+use Rattle.gb_rules.specs.Room.{can_name}
 use Rattle.gb_rules.specs.declared.phase.Phase.TheVariants.{Opened}
 use Rattle.gb_rules.specs.declared.reserve.Reserve.{Reserve}
 use Rattle.gb_history.specs.History.{calls_of, known, said_in, puts_of, falls_after}
@@ -114,7 +117,13 @@ row = record { groups = 4; msgs = 8; bytes = 64; window = 4 }
 
 -- a node that has opened the group
 abbrev pub ready : Kind → Member
-ready kind = record { reserve = Some row; spec = Some (spec_of kind); phase = Opened; told = []; replies = Done ∷ Done ∷ []; put = λ b. []; taken = λ b. 0; come = λ b. []; done = λ b. []; noticed = []; stopped = false }
+ready kind = record { reserve = Some row; spec = Some (spec_of kind); passed = false; others = 0; phase = Opened; told = []; replies = Done ∷ Done ∷ []; put = λ b. []; taken = λ b. 0; come = λ b. []; done = λ b. []; noticed = []; stopped = false }
+
+-- packets of each version name the group
+is_named : (version : Version) → can_name version address ≡ true
+is_named texts.One = refl
+is_named texts.Two = refl
+is_named texts.Three = refl
 
 node_opens : (kind : Kind) (g : Group) (a : NodeId) → set.contains members a.number ≡ true → g a.number ≡ nobody a.number → alone_from bounds address g (opened_at kind a) ≡ with_at g a.number (ready kind)
 unfolding said_in calls_of known
@@ -122,7 +131,7 @@ node_opens kind g a inside fresh =
     let m1 : Member = record (nobody 0) { reserve = Some row } in
     let m2 : Member = record m1 { spec = Some (spec_of kind); replies = Done ∷ [] } in
     let one = step_is g (at a (Tenant row)) m1 (ap (λ (m : Member). record m { reserve = Some row }) fresh) in
-    let two = step_is (with_at g a.number m1) (at a (Make (spec_of kind))) m2 (simp (eq-eqb a.number a.number refl, inside, all_of) refl) in
+    let two = step_is (with_at g a.number m1) (at a (Make (spec_of kind))) m2 (simp (eq-eqb a.number a.number refl, inside, all_of, is_named (version_at bounds.versions a.number)) refl) in
     let three = step_is (with_at (with_at g a.number m1) a.number m2) (at a Open) (ready kind) (simp (eq-eqb a.number a.number refl) refl) in
     ap (λ (h : Group). alone_from bounds address h (at a (Make (spec_of kind)) ∷ at a Open ∷ [])) one
     ∙ (ap (λ (h : Group). alone_from bounds address h (at a Open ∷ [])) two

@@ -29,7 +29,7 @@ use Rattle.gb_duties.proofs.BytesLemmas.{In, in_has, of_in, bytes_most, once_kno
 use Rattle.gb_history.specs.declared.call.GroupCall.TheVariants.{Other, Crashed}
 use Rattle.gb_alone.specs.Alone.{Member, Group, held_spec, reply_to, called, did, falls, item_came, taken_in, cut, took_notice, member_after, after, nobody, alone_from, is_marked, MayHappen, IsLegalFrom}
 use Rattle.gb_alone.specs.declared.event.GroupEvent.{GroupEvent}
-use Rattle.gb_alone.specs.declared.event.GroupEvent.TheVariants.{Tenant, Make as AskMake, Open as AskOpen, Shut as AskShut, Drop as AskDrop, Say as AskSay, Took, Came, Done as Acknowledged, Notice, Stop}
+use Rattle.gb_alone.specs.declared.event.GroupEvent.TheVariants.{Tenant, Make as AskMake, Open as AskOpen, Shut as AskShut, Drop as AskDrop, Say as AskSay, OtherMade, OtherDropped, Took, Came, Done as Acknowledged, Notice, Stop}
 use Rattle.gb_alone.specs.declared.event.GroupStep.{GroupStep}
 use Rattle.gb_duties.proofs.WordLemmas.{has-get}
 use Rattle.gb_duties.proofs.ReplyLemmas.{IsFair, fall_why}
@@ -86,6 +86,8 @@ taken_come version a from place (Some x) m y k h = go (nat_eq y from.number) ref
 
 event_come : (bounds : Bounds) (addr : Addr) (group : Group) (me : NodeId) (event : GroupEvent) (y k : ℕ) → is_marked k ((member_after bounds addr me event group).come y) ≡ true → (is_marked k ((group me.number).come y) ≡ true) ⊎ IsArrival event y k
 event_come bounds addr group me (Tenant reserve) y k h = inl h
+event_come bounds addr group me (OtherMade generation) y k h = inl h
+event_come bounds addr group me OtherDropped y k h = inl h
 event_come bounds addr group me (Took b count) y k h = inl h
 event_come bounds addr group me (Came from place) y k h = taken_come (version_at bounds.versions me.number) me.number from place (slice_get ((group from.number).put me.number) (place - 1)) (group me.number) y k h
 event_come bounds addr group me (Acknowledged b place count) y k h = inl h

@@ -19,7 +19,7 @@ use Rattle.gb_history.specs.declared.call.GroupCall.{GroupCall}
 use Rattle.gb_history.specs.declared.call.GroupCall.TheVariants.{Own, Other, Crashed}
 use Rattle.gb_alone.specs.Alone.{Member, Group, held_spec, reply_to, put_to, called, did, falls, item_came, taken_in, cut, took_notice, member_after, MayHappen}
 use Rattle.gb_alone.specs.declared.event.GroupEvent.{GroupEvent}
-use Rattle.gb_alone.specs.declared.event.GroupEvent.TheVariants.{Tenant, Make as AskMake, Open as AskOpen, Shut as AskShut, Drop as AskDrop, Say as AskSay, Took, Came, Done as Acknowledged, Notice, Stop}
+use Rattle.gb_alone.specs.declared.event.GroupEvent.TheVariants.{Tenant, Make as AskMake, Open as AskOpen, Shut as AskShut, Drop as AskDrop, Say as AskSay, OtherMade, OtherDropped, Took, Came, Done as Acknowledged, Notice, Stop}
 use Rattle.gb_duties.proofs.ReplyLemmas.{open_accepts, shut_accepts, make_accepts}
 use Rattle.gb_stack.proofs.DeliveryLemmas.{came_stays}
 use Rattle.gb_types.specs.declared.address.Addr.{Addr}
@@ -153,6 +153,8 @@ took_moves a b count m room bounded = record { spec = λ s is. is; here = λ h. 
 
 pub event_moves : (bounds : Bounds) (addr : Addr) (group : Group) (me : NodeId) (event : GroupEvent) → MayHappen me event group → Bounded (group me.number) → Goes me.number (group me.number) (member_after bounds addr me event group)
 event_moves bounds addr group me (Tenant reserve) may bounded = record { spec = λ s is. is; here = λ h. h; from = λ p x h. h; stable = λ b i lt. refl; taken = λ b. omega arith; bounded = bounded }
+event_moves bounds addr group me (OtherMade generation) may bounded = record { spec = λ s is. is; here = λ h. h; from = λ p x h. h; stable = λ b i lt. refl; taken = λ b. omega arith; bounded = bounded }
+event_moves bounds addr group me OtherDropped may bounded = record { spec = λ s is. is; here = λ h. h; from = λ p x h. h; stable = λ b i lt. refl; taken = λ b. omega arith; bounded = bounded }
 event_moves bounds addr group me (Took b count) may bounded = took_moves me.number b count (group me.number) may.2 bounded
 event_moves bounds addr group me (Came from place) may bounded = taken_moves (version_at bounds.versions me.number) me.number from place (slice_get ((group from.number).put me.number) (place - 1)) (group me.number) bounded
 event_moves bounds addr group me (Acknowledged b place count) may bounded = record { spec = λ s is. is; here = λ h. h; from = λ p x h. h; stable = λ b i lt. refl; taken = λ b. omega arith; bounded = bounded }

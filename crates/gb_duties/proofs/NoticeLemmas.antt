@@ -17,7 +17,7 @@ use Rattle.gb_history.specs.History.{calls_of}
 use Rattle.gb_history.specs.declared.call.GroupCall.TheVariants.{Other, Crashed}
 use Rattle.gb_alone.specs.Alone.{Member, Group, held_spec, reply_to, called, did, falls, taken_in, cut, took_notice, node_noticed, member_after, after, nobody, alone_from, is_marked}
 use Rattle.gb_alone.specs.declared.event.GroupEvent.{GroupEvent}
-use Rattle.gb_alone.specs.declared.event.GroupEvent.TheVariants.{Tenant, Make as AskMake, Open as AskOpen, Shut as AskShut, Drop as AskDrop, Say as AskSay, Took, Came, Done as Acknowledged, Notice, Stop}
+use Rattle.gb_alone.specs.declared.event.GroupEvent.TheVariants.{Tenant, Make as AskMake, Open as AskOpen, Shut as AskShut, Drop as AskDrop, Say as AskSay, OtherMade, OtherDropped, Took, Came, Done as Acknowledged, Notice, Stop}
 use Rattle.gb_alone.specs.declared.event.GroupStep.{GroupStep}
 use Rattle.gb_duties.proofs.ReplyLemmas.{open_accepts, shut_accepts, make_accepts}
 use Rattle.gb_types.specs.declared.address.Addr.{Addr}
@@ -107,6 +107,8 @@ notice_marked a q m due old = by (is_gone m.phase) refl m.spec refl
 
 event_marked : (bounds : Bounds) (addr : Addr) (me : NodeId) (event : GroupEvent) (group : Group) → IsDue event (group me.number) → Marked me.number (group me.number) → Marked me.number (member_after bounds addr me event group)
 event_marked bounds addr me (Tenant reserve) group due old = record { told = old.told; unmade = old.unmade; here = old.here }
+event_marked bounds addr me (OtherMade generation) group due old = record { told = old.told; unmade = old.unmade; here = old.here }
+event_marked bounds addr me OtherDropped group due old = record { told = old.told; unmade = old.unmade; here = old.here }
 event_marked bounds addr me (Took b count) group due old = record { told = old.told; unmade = old.unmade; here = old.here }
 event_marked bounds addr me (Came from place) group due old = taken_marked (version_at bounds.versions me.number) me.number from place (slice_get ((group from.number).put me.number) (place - 1)) (group me.number) old
 event_marked bounds addr me (Acknowledged b place count) group due old = record { told = old.told; unmade = old.unmade; here = old.here }

@@ -6,7 +6,7 @@ use Rattle.std.proofs.lemmas.Bool.Decides.{nat_tests}
 use Rattle.gb_types.specs.Entry.{message_of}
 use Rattle.gb_types.specs.declared.entry.Entry.{Entry}
 use Rattle.gb_types.specs.declared.message.MsgId.{MsgId}
-use Rattle.gb_types.specs.declared.refusal.Refusal.TheVariants.{NoGroup, Spent, BadMembers, OverReserve, Stopped}
+use Rattle.gb_types.specs.declared.refusal.Refusal.TheVariants.{NoGroup, Spent, NoRoom, BadMembers, OverReserve, Stopped}
 use Rattle.gb_types.specs.declared.reply.Reply.{Reply}
 use Rattle.gb_types.specs.declared.reply.Reply.TheVariants.{Done, Said, Refused}
 use Rattle.gb_types.specs.declared.plan.Bounds.{Bounds}
@@ -17,6 +17,8 @@ use Rattle.gb_types.proofs.BoolLemmas.{not_false, or_left, or_right}
 use Rattle.gb_history.specs.History.{said_in, bytes_in}
 use Rattle.gb_rules.specs.Group.{Shown, is_gone, open_answer, shut_answer, is_too_long, say_answer, is_member, on_made}
 use Rattle.gb_rules.specs.LetFall.{is_let_fall}
+use Rattle.gb_rules.specs.Room.{can_name}
+use Rattle.gb_rules.specs.declared.room.TheConstants.{GENERATIONS}
 use Rattle.gb_rules.specs.Tenant.{is_bad, is_over, make_answer, by_tenant}
 use Rattle.gb_rules.specs.declared.phase.Phase.{Phase}
 use Rattle.gb_rules.specs.declared.reserve.Reserve.{Reserve}
@@ -43,7 +45,7 @@ awake answer me m = by m.reserve m.spec
     present s true h = absurd (cc)
     present s false h = refl
 
-    by : (reserve : Option Reserve) (o : Option Spec) → by_tenant (λ _. on_made answer (shown_of me m.phase m.told m.put m.done o)) reserve ≡ Done → is_gone m.phase ≡ false
+    by : (reserve : Option Reserve) (o : Option Spec) → by_tenant (λ _. on_made m.passed answer (shown_of me m.phase m.told m.put m.done o)) reserve ≡ Done → is_gone m.phase ≡ false
     by None o h = absurd (cc)
     by (Some reserve) None h = absurd (cc)
     by (Some reserve) (Some spec) h = present (shown_in me m.phase m.told m.put m.done spec) (is_gone m.phase) h
@@ -85,12 +87,12 @@ say_accepts bounds addr me message seq m = running m.stopped
         let light = said.light in
         record { spec = spec; made = made; next = said.next; within = grind (arith, nat_tests, few); light = grind (arith, nat_tests, light); short = said.short }
 
-    by : (reserve : Option Reserve) (o : Option Spec) → m.spec ≡ o → by_tenant (λ _. on_made (λ s. say_answer version s message) (shown_of me m.phase m.told m.put m.done o)) reserve ≡ Said seq → Accepts version me message.payload m seq
+    by : (reserve : Option Reserve) (o : Option Spec) → m.spec ≡ o → by_tenant (λ _. on_made m.passed (λ s. say_answer version s message) (shown_of me m.phase m.told m.put m.done o)) reserve ≡ Said seq → Accepts version me message.payload m seq
     by None o is h = absurd (cc)
     by (Some reserve) None is h = absurd (cc)
     by (Some reserve) (Some spec) is h = present spec is (is_gone m.phase) h
 
-    running : (stopped : Bool) → (if stopped then Refused Stopped else by_tenant (λ _. on_made (λ s. say_answer version s message) (shown_of me m.phase m.told m.put m.done m.spec)) m.reserve) ≡ Said seq → Accepts version me message.payload m seq
+    running : (stopped : Bool) → (if stopped then Refused Stopped else by_tenant (λ _. on_made m.passed (λ s. say_answer version s message) (shown_of me m.phase m.told m.put m.done m.spec)) m.reserve) ≡ Said seq → Accepts version me message.payload m seq
     running true h = absurd (cc)
     running false h = by m.reserve m.spec refl h
 
@@ -106,18 +108,19 @@ make_accepts bounds addr me spec m = running m.stopped
     unmade None e = refl
     unmade (Some s) e = absurd (cc)
 
-    admitted : (a b c d : Bool) → is_some m.spec ≡ b → is_bad bounds.nodes me spec ≡ c → (if a then Refused NoGroup else (if b then Refused Spent else (if c then Refused BadMembers else (if d then Refused OverReserve else Done)))) ≡ Done → Makes me spec m
-    admitted true b c d new good h = absurd (cc)
-    admitted false true c d new good h = absurd (cc)
-    admitted false false true d new good h = absurd (cc)
-    admitted false false false true new good h = absurd (cc)
-    admitted false false false false new good h = record { new = unmade m.spec new; inside = not_false (is_member spec me) (or_left (not (is_member spec me)) _ good) }
+    admitted : (a b c d e : Bool) → (is_some m.spec || m.passed) ≡ b → is_bad bounds.nodes me spec ≡ d → (if a then Refused NoGroup else (if b then Refused Spent else (if c then Refused NoRoom else (if d then Refused BadMembers else (if e then Refused OverReserve else Done))))) ≡ Done → Makes me spec m
+    admitted true b c d e new good h = absurd (cc)
+    admitted false true c d e new good h = absurd (cc)
+    admitted false false true d e new good h = absurd (cc)
+    admitted false false false true e new good h = absurd (cc)
+    admitted false false false false true new good h = absurd (cc)
+    admitted false false false false false new good h = record { new = unmade m.spec (or_left (is_some m.spec) m.passed new); inside = not_false (is_member spec me) (or_left (not (is_member spec me)) _ good) }
 
-    by : (reserve : Option Reserve) → by_tenant (make_answer bounds.nodes me addr (is_some m.spec) spec) reserve ≡ Done → Makes me spec m
+    by : (reserve : Option Reserve) → by_tenant (make_answer (version_at bounds.versions me) bounds.nodes me addr (is_some m.spec || m.passed) m.others spec) reserve ≡ Done → Makes me spec m
     by None h = absurd (cc)
-    by (Some reserve) h = admitted (nat_le reserve.groups addr.group) (is_some m.spec) (is_bad bounds.nodes me spec) (nat_lt 0 addr.generation || is_over reserve spec) refl refl h
+    by (Some reserve) h = admitted (nat_le reserve.groups addr.group) (is_some m.spec || m.passed) (nat_le GENERATIONS m.others) (is_bad bounds.nodes me spec) (not (can_name (version_at bounds.versions me) addr) || is_over reserve spec) refl refl h
 
-    running : (stopped : Bool) → (if stopped then Refused Stopped else by_tenant (make_answer bounds.nodes me addr (is_some m.spec) spec) m.reserve) ≡ Done → Makes me spec m
+    running : (stopped : Bool) → (if stopped then Refused Stopped else by_tenant (make_answer (version_at bounds.versions me) bounds.nodes me addr (is_some m.spec || m.passed) m.others spec) m.reserve) ≡ Done → Makes me spec m
     running true h = absurd (cc)
     running false h = by m.reserve h
 

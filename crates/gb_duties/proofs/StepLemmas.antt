@@ -30,7 +30,7 @@ use Rattle.gb_history.specs.declared.call.GroupCall.{GroupCall}
 use Rattle.gb_history.specs.declared.call.GroupCall.TheVariants.{Own, Other, Crashed}
 use Rattle.gb_alone.specs.Alone.{Member, Group, held_spec, reply_to, put_to, called, did, falls, item_came, taken_in, cut, took_notice, node_noticed, commanded, member_after, after, nobody, alone_from, alone}
 use Rattle.gb_alone.specs.declared.event.GroupEvent.{GroupEvent}
-use Rattle.gb_alone.specs.declared.event.GroupEvent.TheVariants.{Tenant, Make as AskMake, Open as AskOpen, Shut as AskShut, Drop as AskDrop, Say as AskSay, Took, Came, Done as Acknowledged, Notice, Stop}
+use Rattle.gb_alone.specs.declared.event.GroupEvent.TheVariants.{Tenant, Make as AskMake, Open as AskOpen, Shut as AskShut, Drop as AskDrop, Say as AskSay, OtherMade, OtherDropped, Took, Came, Done as Acknowledged, Notice, Stop}
 use Rattle.gb_alone.specs.declared.event.GroupStep.{GroupStep}
 use Rattle.gb_duties.proofs.WordLemmas.{has-take, has-get, said_stays}
 use Rattle.gb_duties.proofs.ReplyLemmas.{held_made, open_accepts, shut_accepts, say_accepts, Makes, make_accepts, fair_item}
@@ -214,6 +214,8 @@ commanded_result bounds addr group me event all =
 
 pub event_result : (bounds : Bounds) (addr : Addr) (group : Group) (me : NodeId) (event : GroupEvent) → AllFit group → Result group me.number (member_after bounds addr me event group)
 event_result bounds addr group me (Tenant reserve) all = kept group me.number (member_after bounds addr me (Tenant reserve) group) all refl (λ calls fits. fits)
+event_result bounds addr group me (OtherMade generation) all = kept group me.number (member_after bounds addr me (OtherMade generation) group) all refl (λ calls fits. fits)
+event_result bounds addr group me OtherDropped all = kept group me.number (member_after bounds addr me OtherDropped group) all refl (λ calls fits. fits)
 event_result bounds addr group me (Took b count) all = kept group me.number (member_after bounds addr me (Took b count) group) all refl (λ calls fits. fits)
 event_result bounds addr group me (Came from place) all = taken_result (version_at bounds.versions me.number) group me.number from place (slice_get ((group from.number).put me.number) (place - 1)) refl all
 event_result bounds addr group me (Acknowledged b place count) all = kept group me.number (member_after bounds addr me (Acknowledged b place count) group) all refl (λ calls fits. fits)
