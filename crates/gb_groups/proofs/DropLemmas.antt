@@ -13,7 +13,7 @@ use Rattle.gb_slot.specs.SlotState.{SlotState}
 use Rattle.gb_types.specs.declared.limits.TheConstants.{PAYLOAD}
 use Rattle.gb_groups.specs.declared.slots.Place.{Place}
 use Rattle.gb_groups.specs.declared.slots.Place.TheVariants.{Key, Gone}
-use Rattle.gb_groups.specs.SlotsValue.{Row, row_at, gone, unless_gone, HaveCounters, AreShort, AreApart, no_row, AreFirst}
+use Rattle.gb_groups.specs.SlotsValue.{Row, row_at, gone, unless_gone, HaveCounters, AreShort, AreApart, AreVacant, no_row}
 use Rattle.gb_groups.specs.Slots.{slot_under, row_of, place_at, AreKept}
 use Rattle.gb_groups.proofs.SlotsLemmas.{no_entry_at, made_of, row_made, row_is, counters_changed, short_changed}
 use Rattle.gb_groups.proofs.AddLemmas.{map-same, same_under, key_same, not_free}
@@ -59,15 +59,15 @@ apart_changed rows p row ok e =
     ] in
     record { apart = λ q r hq hr same. ok.apart q r (omega arith) (omega arith) (sym (addr q (omega arith)) ∙ same ∙ addr r (omega arith)) }
 
-first_changed : (rows : List Row) (p : ℕ) (row : Row) → AreFirst rows → row.addr.generation ≡ 0 → AreFirst (set rows p row)
-first_changed rows p row all h = record {
-  each = λ q. elim (cases_eq q p) [
-    | inl e ↦ elim (cases_lt p (length rows)) [
-      | inl l ↦ ap (λ n. (row_at (set rows p row) n).addr.generation) e ∙ ap (λ (r : Row). r.addr.generation) (get_or-set_same rows p row no_row l) ∙ h
-      | inr l ↦ ap (λ (r : Row). r.addr.generation) (get_or_past (set rows p row) q no_row (let n = length-set rows p row in omega arith))
-    ]
-    | inr ne ↦ ap (λ (r : Row). r.addr.generation) (get_or-set_other rows p q row no_row ne) ∙ all.each q
-  ];
+vacant_changed : (rows : List Row) (p : ℕ) (row : Row) → AreVacant rows → row.addr ≡ (row_at rows p).addr → AreVacant (set rows p row)
+vacant_changed rows p row all e = record {
+  each = λ q h none.
+      let n = length-set rows p row in
+      let at : (row_at (set rows p row) q).addr ≡ (row_at rows q).addr = elim (cases_eq q p) [
+        | inl s ↦ ap (λ i. (row_at (set rows p row) i).addr) s ∙ ap (λ (r : Row). r.addr) (get_or-set_same rows p row no_row (omega arith)) ∙ e ∙ ap (λ i. (row_at rows i).addr) (sym s)
+        | inr ne ↦ ap (λ (r : Row). r.addr) (get_or-set_other rows p q row no_row ne)
+      ] in
+      at ∙ all.each q (omega arith) (sym (ap (λ (a : Addr). a.tenant) at) ∙ none);
 }
 
 pub record Dropped (es : List (Addr × Place)) (old new : Slab SlotState) (p : ℕ) : Type 0 where
@@ -102,7 +102,7 @@ dropped es old new p key w kept here =
         counters = subst HaveCounters (sym rows) (counters_changed (map (row_of old) es) p (gone row) kept.counters refl);
         short = subst (AreShort PAYLOAD) (sym rows) (short_changed (map (row_of old) es) p (gone row) kept.short tt);
         apart = subst AreApart (sym rows) (apart_changed (map (row_of old) es) p (gone row) kept.apart refl);
-        first = subst AreFirst (sym rows) (first_changed (map (row_of old) es) p (gone row) kept.first (kept.first.each p));
+        vacant = subst AreVacant (sym rows) (vacant_changed (map (row_of old) es) p (gone row) kept.vacant refl);
       };
       rows = rows;
     }

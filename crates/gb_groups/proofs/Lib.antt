@@ -20,5 +20,10 @@ pub mod DropLemmas
 pub mod FindLemmas
 pub mod LentLemmas
 pub mod OneGroupLemmas
+pub mod RoomLemmas
+pub mod InRoomsLemmas
+pub mod OthersLemmas
+pub mod MadeLemmas
+pub mod GroupLemmas
 pub mod ShortLemmas
 pub mod ListingLemmas

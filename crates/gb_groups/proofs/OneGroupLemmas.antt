@@ -1,4 +1,4 @@
--- The effect of each call on each group by itself.
+-- The effect of each step on the slot that was last at an address.
 use Rattle.std.proofs.Common.{◌≡◌, ℕ, suc, zero, ◌+◌, ◌<◌, inl, inr, List, [], ◌∷◌, ◌++◌, length, map, take, get_or, refl, sym, ap, ◌∙◌, arith, zero-add}
 use Rattle.std.specs.Prelude.{Bool, true, false, not, cond, ltb, ◌&&◌, nat_lt, fold, is_some, Option, Some, None, option_map, slice_set, if◌then◌else◌}
 use Rattle.std.specs.List.{position_or_len}
@@ -21,9 +21,8 @@ use Rattle.gb_groups.specs.Packing.{Visit, visit, share, is_at, items, item_at, 
 use Rattle.gb_groups.specs.Fair.{is_of}
 use Rattle.gb_frame.specs.Items.{address_of, entry_of, names, items_for, item_for}
 use Rattle.gb_groups.specs.AtAddress.{place_of, step_at, on_address, gone_at, drop_at, item_came}
-use Rattle.gb_rules.specs.Lifetime.{stepped, dropped, or_added, where_so}
-use Rattle.gb_groups.specs.OneGroup.{group_in, came_for, waiting_in, EachGroup, StayApart}
-use Rattle.gb_groups.proofs.AddLemmas.{end_apart}
+use Rattle.gb_rules.specs.Lifetime.{stepped, dropped, where_so}
+use Rattle.gb_groups.specs.OneGroup.{slot_for, came_for, waiting_in}
 use Rattle.gb_groups.proofs.AddressLemmas.{place_is, addr_through}
 use Rattle.gb_groups.proofs.BatchLemmas.{get_or-gave}
 use Rattle.gb_groups.proofs.FrontLemmas.{is_below, agree, filter-map, batch_below, batch_of, items_front}
@@ -32,7 +31,7 @@ use Rattle.gb_layer.specs.Lists.{same_filter, filter-never}
 
 -- The group with an address is the first that has it.
 
-abbrev first_with : Addr → List Row → Option (Option SlotState)
+abbrev pub first_with : Addr → List Row → Option (Option SlotState)
 first_with g [] = None
 first_with g (r ∷ rows) = if is_addr g r.addr then Some r.slot else first_with g rows
 
@@ -58,7 +57,7 @@ slot_later : (r : Row) (rows : List Row) (o : Option ℕ) → option_map (λ (ro
 slot_later r rows None = refl
 slot_later r rows (Some p) = refl
 
-pub group_first : (g : Addr) (rows : List Row) → group_in g rows ≡ first_with g rows
+pub group_first : (g : Addr) (rows : List Row) → slot_for g rows ≡ first_with g rows
 group_first g [] = refl
 group_first g (r ∷ rows) =
     elim (cases_Bool (is_addr g r.addr)) [
@@ -72,7 +71,7 @@ group_first g (r ∷ rows) =
 
 -- A change of the group with an address.
 
-abbrev changed : Addr → (Row → Row) → List Row → List Row
+abbrev pub changed : Addr → (Row → Row) → List Row → List Row
 changed addr change [] = []
 changed addr change (r ∷ rows) = if is_addr addr r.addr then change r ∷ rows else r ∷ changed addr change rows
 
@@ -84,7 +83,7 @@ change_later : (change : Row → Row) (r : Row) (rows : List Row) (o : Option �
 change_later change r rows None = refl
 change_later change r rows (Some p) = refl
 
-change_first : (addr : Addr) (change : Row → Row) (rows : List Row) → change_at change rows (place_of addr rows) ≡ changed addr change rows
+pub change_first : (addr : Addr) (change : Row → Row) (rows : List Row) → change_at change rows (place_of addr rows) ≡ changed addr change rows
 change_first addr change [] = refl
 change_first addr change (r ∷ rows) =
     elim (cases_Bool (is_addr addr r.addr)) [
@@ -96,11 +95,11 @@ change_first addr change (r ∷ rows) =
           ∙ sym (ap (λ b. if b then change r ∷ rows else r ∷ changed addr change rows) e)))
     ]
 
-step_is : (step : SlotState → SlotState) (rows : List Row) (o : Option ℕ) → step_at step rows o ≡ change_at (on_slot step) rows o
+pub step_is : (step : SlotState → SlotState) (rows : List Row) (o : Option ℕ) → step_at step rows o ≡ change_at (on_slot step) rows o
 step_is step rows None = refl
 step_is step rows (Some p) = refl
 
-gone_is : (rows : List Row) (o : Option ℕ) → gone_at rows o ≡ change_at gone rows o
+pub gone_is : (rows : List Row) (o : Option ℕ) → gone_at rows o ≡ change_at gone rows o
 gone_is rows None = refl
 gone_is rows (Some p) = refl
 
@@ -144,36 +143,24 @@ module _ (g addr : Addr) (change : Row → Row) (slot : Option SlotState → Opt
             ∙ ap (λ o. if is_addr g r.addr then Some r.slot else o) (other off rows)
       ]
 
-  each : (rows : List Row) → group_in g (changed addr change rows) ≡ where_so (is_addr g addr) (option_map slot) (group_in g rows)
+  each : (rows : List Row) → slot_for g (changed addr change rows) ≡ where_so (is_addr g addr) (option_map slot) (slot_for g rows)
   each rows =
       elim (cases_Bool (is_addr g addr)) [
-        | inl e ↦ group_first g (changed addr change rows) ∙ (own e rows ∙ (ap (option_map slot) (sym (group_first g rows)) ∙ sym (ap (λ b. where_so b (option_map slot) (group_in g rows)) e)))
-        | inr e ↦ group_first g (changed addr change rows) ∙ (other e rows ∙ (sym (group_first g rows) ∙ sym (ap (λ b. where_so b (option_map slot) (group_in g rows)) e)))
+        | inl e ↦ group_first g (changed addr change rows) ∙ (own e rows ∙ (ap (option_map slot) (sym (group_first g rows)) ∙ sym (ap (λ b. where_so b (option_map slot) (slot_for g rows)) e)))
+        | inr e ↦ group_first g (changed addr change rows) ∙ (other e rows ∙ (sym (group_first g rows) ∙ sym (ap (λ b. where_so b (option_map slot) (slot_for g rows)) e)))
       ]
 
-stepped_in : (g addr : Addr) (step : SlotState → SlotState) (rows : List Row) → group_in g (on_address addr step rows) ≡ where_so (is_addr g addr) (stepped step) (group_in g rows)
+pub stepped_in : (g addr : Addr) (step : SlotState → SlotState) (rows : List Row) → slot_for g (on_address addr step rows) ≡ where_so (is_addr g addr) (stepped step) (slot_for g rows)
 stepped_in g addr step rows =
-    ap (group_in g) (step_is step rows (place_of addr rows) ∙ change_first addr (on_slot step) rows)
+    ap (slot_for g) (step_is step rows (place_of addr rows) ∙ change_first addr (on_slot step) rows)
     ∙ each g addr (on_slot step) (option_map step) (λ r. refl) (λ r. refl) rows
 
-dropped_in : (g addr : Addr) (rows : List Row) → group_in g (drop_at addr rows) ≡ where_so (is_addr g addr) dropped (group_in g rows)
+pub dropped_in : (g addr : Addr) (rows : List Row) → slot_for g (drop_at addr rows) ≡ where_so (is_addr g addr) dropped (slot_for g rows)
 dropped_in g addr rows =
-    ap (group_in g) (gone_is rows (place_of addr rows) ∙ change_first addr gone rows)
+    ap (slot_for g) (gone_is rows (place_of addr rows) ∙ change_first addr gone rows)
     ∙ each g addr gone (λ s. None) (λ r. refl) (λ r. refl) rows
 
--- A group that is added, and a step of all.
-
-first_added : (g : Addr) (rows : List Row) (row : Row) → first_with g (rows ++ row ∷ []) ≡ or_added (first_with g rows) (if is_addr g row.addr then Some row.slot else None)
-first_added g [] row = refl
-first_added g (r ∷ rows) row =
-    elim (cases_Bool (is_addr g r.addr)) [
-      | inl e ↦ rw e refl
-      | inr e ↦ rw e (first_added g rows row)
-    ]
-
-added_in : (g : Addr) (rows : List Row) (row : Row) → group_in g (rows ++ row ∷ []) ≡ or_added (group_in g rows) (if is_addr g row.addr then Some row.slot else None)
-added_in g rows row =
-    group_first g (rows ++ row ∷ []) ∙ (first_added g rows row ∙ ap (λ o. or_added o (if is_addr g row.addr then Some row.slot else None)) (sym (group_first g rows)))
+-- A step of all.
 
 first_all : (g : Addr) (step : SlotState → SlotState) (rows : List Row) → first_with g (map (on_slot step) rows) ≡ stepped step (first_with g rows)
 first_all g step [] = refl
@@ -183,42 +170,42 @@ first_all g step (r ∷ rows) =
       | inr e ↦ rw e (first_all g step rows)
     ]
 
-all_in : (g : Addr) (step : SlotState → SlotState) (rows : List Row) → group_in g (map (on_slot step) rows) ≡ stepped step (group_in g rows)
+pub all_in : (g : Addr) (step : SlotState → SlotState) (rows : List Row) → slot_for g (map (on_slot step) rows) ≡ stepped step (slot_for g rows)
 all_in g step rows = group_first g (map (on_slot step) rows) ∙ (first_all g step rows ∙ ap (stepped step) (sym (group_first g rows)))
 
 -- Items of a frame.
 
-item_in : (version : Version) (g : Addr) (from : NodeId) (i : Item) (rows : List Row) → group_in g (item_came version from i rows) ≡ where_so (names g i) (λ o. came_for version from o i) (group_in g rows)
+item_in : (version : Version) (g : Addr) (from : NodeId) (i : Item) (rows : List Row) → slot_for g (item_came version from i rows) ≡ where_so (names g i) (λ o. came_for version from o i) (slot_for g rows)
 item_in version g from i rows =
     let b = nat_lt i.origin NODES && not (is_too_long version i.payload) in
     let came = on_address (address_of i) (slot_came from (entry_of i)) rows in
     elim (cases_Bool b) [
       | inl e ↦
-          ap (λ c. group_in g (if c then came else rows)) e
+          ap (λ c. slot_for g (if c then came else rows)) e
           ∙ (stepped_in g (address_of i) (slot_came from (entry_of i)) rows
-          ∙ sym (ap (λ c. where_so (names g i) (where_so c (stepped (slot_came from (entry_of i)))) (group_in g rows)) e))
+          ∙ sym (ap (λ c. where_so (names g i) (where_so c (stepped (slot_came from (entry_of i)))) (slot_for g rows)) e))
       | inr e ↦
-          ap (λ c. group_in g (if c then came else rows)) e
-          ∙ (sym (same_either (names g i) (group_in g rows))
-          ∙ sym (ap (λ c. where_so (names g i) (where_so c (stepped (slot_came from (entry_of i)))) (group_in g rows)) e))
+          ap (λ c. slot_for g (if c then came else rows)) e
+          ∙ (sym (same_either (names g i) (slot_for g rows))
+          ∙ sym (ap (λ c. where_so (names g i) (where_so c (stepped (slot_came from (entry_of i)))) (slot_for g rows)) e))
     ]
   where
     same_either : (b : Bool) (o : Option (Option SlotState)) → where_so b (λ o. o) o ≡ o
     same_either true o = refl
     same_either false o = refl
 
-came_in : (version : Version) (g : Addr) (from : NodeId) (is : List Item) (rows : List Row) → group_in g (fold (λ rows i. item_came version from i rows) rows is) ≡ fold (came_for version from) (group_in g rows) (items_for g is)
+pub came_in : (version : Version) (g : Addr) (from : NodeId) (is : List Item) (rows : List Row) → slot_for g (fold (λ rows i. item_came version from i rows) rows is) ≡ fold (came_for version from) (slot_for g rows) (items_for g is)
 came_in version g from [] rows = refl
 came_in version g from (i ∷ is) rows =
     elim (cases_Bool (names g i)) [
       | inl e ↦
           came_in version g from is (item_came version from i rows)
-          ∙ (ap (λ o. fold (came_for version from) o (items_for g is)) (item_in version g from i rows ∙ ap (λ b. where_so b (λ o. came_for version from o i) (group_in g rows)) e)
-          ∙ sym (ap (λ b. fold (came_for version from) (group_in g rows) (cond b (i ∷ items_for g is) (items_for g is))) e))
+          ∙ (ap (λ o. fold (came_for version from) o (items_for g is)) (item_in version g from i rows ∙ ap (λ b. where_so b (λ o. came_for version from o i) (slot_for g rows)) e)
+          ∙ sym (ap (λ b. fold (came_for version from) (slot_for g rows) (cond b (i ∷ items_for g is) (items_for g is))) e))
       | inr e ↦
           came_in version g from is (item_came version from i rows)
-          ∙ (ap (λ o. fold (came_for version from) o (items_for g is)) (item_in version g from i rows ∙ ap (λ b. where_so b (λ o. came_for version from o i) (group_in g rows)) e)
-          ∙ sym (ap (λ b. fold (came_for version from) (group_in g rows) (cond b (i ∷ items_for g is) (items_for g is))) e))
+          ∙ (ap (λ o. fold (came_for version from) o (items_for g is)) (item_in version g from i rows ∙ ap (λ b. where_so b (λ o. came_for version from o i) (slot_for g rows)) e)
+          ∙ sym (ap (λ b. fold (came_for version from) (slot_for g rows) (cond b (i ∷ items_for g is) (items_for g is))) e))
     ]
 
 -- A batch.
@@ -286,7 +273,7 @@ module _ (g : Addr) (version : Version) (dest room : ℕ) (t : GroupsValue) (apa
       let f = length-filter (is_at p) vs in
       omega (arith, a, b, c, d, f)
 
-  front_at : (o : Option ℕ) → o ≡ place_of g t.rows → items_for g is ≡ map (item_for g) (take (length (items_for g is)) (waiting_in (option_map (λ (row : Row). row.slot) (option_map (row_at t.rows) o)) dest))
+  pub front_at : (o : Option ℕ) → o ≡ place_of g t.rows → items_for g is ≡ map (item_for g) (take (length (items_for g is)) (waiting_in (option_map (λ (row : Row). row.slot) (option_map (row_at t.rows) o)) dest))
   front_at None e = let m = missing (sym e) in m ∙ sym (ap (λ xs. map (item_for g) (take (length xs) [])) m)
   front_at (Some p) e = present p e ∙ ap (λ n. map (item_for g) (take n (queue dest (row_at t.rows p)))) (sym (share_is p e))
 
@@ -296,19 +283,8 @@ module _ (g : Addr) (version : Version) (dest room : ℕ) (t : GroupsValue) (apa
       let new = get_or-gave dest 0 p vs t.rows no_row (place_is g t.rows p e).0 in
       ap (λ (row : Row). Some row.slot) new ∙ ap (λ n. Some (option_map (slot_took dest n) (row_at t.rows p).slot)) (ap (λ q. share q vs) (zero-add p) ∙ sym (share_is p e))
 
-  packed_in : group_in g (packed version dest room t).rows ≡ stepped (slot_took dest (length (items_for g is))) (group_in g t.rows)
+  pub packed_in : slot_for g (packed version dest room t).rows ≡ stepped (slot_took dest (length (items_for g is))) (slot_for g t.rows)
   packed_in = ap (λ o. option_map (λ (row : Row). row.slot) (option_map (row_at (packed version dest room t).rows) o)) (place_gave g dest 0 vs t.rows) ∙ packed_at (place_of g t.rows) refl
-
-pub each_group : EachGroup
-each_group = record {
-  addressed = stepped_in;
-  erased = dropped_in;
-  appended = added_in;
-  every = all_in;
-  arrived = came_in;
-  front = λ g version dest room t apart. front_at g version dest room t apart (place_of g t.rows) refl;
-  taken = packed_in;
-}
 
 -- Addresses.
 
@@ -345,15 +321,20 @@ unfolding gave
 addrs_gave dest b visits [] = refl
 addrs_gave dest b visits (r ∷ rows) = ap (λ (addresses : List Addr). r.addr ∷ addresses) (addrs_gave dest (suc b) visits rows)
 
-pub stay_apart : StayApart
-stay_apart = record {
-  addressed = λ addr step rows ok.
-      let is = step_is step rows (place_of addr rows) ∙ change_first addr (on_slot step) rows in
-      apart_same rows (on_address addr step rows) (ap addrs is ∙ addrs_changed addr (on_slot step) (λ r. refl) rows) ok;
-  erased = λ addr rows ok.
-      let is = gone_is rows (place_of addr rows) ∙ change_first addr gone rows in
-      apart_same rows (drop_at addr rows) (ap addrs is ∙ addrs_changed addr gone (λ r. refl) rows) ok;
-  appended = end_apart;
-  every = λ step rows ok. apart_same rows (map (on_slot step) rows) (addrs_all step rows) ok;
-  taken = λ version dest room t ok. apart_same t.rows (packed version dest room t).rows (addrs_gave dest 0 (batch version dest room t) t.rows) ok;
-}
+-- No two places have one address after a step.
+
+pub apart_stepped : (addr : Addr) (step : SlotState → SlotState) (rows : List Row) → AreApart rows → AreApart (on_address addr step rows)
+apart_stepped addr step rows ok =
+    let is = step_is step rows (place_of addr rows) ∙ change_first addr (on_slot step) rows in
+    apart_same rows (on_address addr step rows) (ap addrs is ∙ addrs_changed addr (on_slot step) (λ r. refl) rows) ok
+
+pub apart_dropped : (addr : Addr) (rows : List Row) → AreApart rows → AreApart (drop_at addr rows)
+apart_dropped addr rows ok =
+    let is = gone_is rows (place_of addr rows) ∙ change_first addr gone rows in
+    apart_same rows (drop_at addr rows) (ap addrs is ∙ addrs_changed addr gone (λ r. refl) rows) ok
+
+pub apart_all : (step : SlotState → SlotState) (rows : List Row) → AreApart rows → AreApart (map (on_slot step) rows)
+apart_all step rows ok = apart_same rows (map (on_slot step) rows) (addrs_all step rows) ok
+
+pub apart_packed : (version : Version) (dest room : ℕ) (t : GroupsValue) → AreApart t.rows → AreApart (packed version dest room t).rows
+apart_packed version dest room t ok = apart_same t.rows (packed version dest room t).rows (addrs_gave dest 0 (batch version dest room t) t.rows) ok

@@ -140,7 +140,7 @@ changed f es slots p k v new kept here at is size stays =
         counters = subst HaveCounters (sym rows) (counters_changed (map (row_of slots) es) p (on_slot f (row_at (map (row_of slots) es) p)) kept.counters count);
         short = subst (AreShort PAYLOAD) (sym rows) (short_changed (map (row_of slots) es) p (on_slot f (row_at (map (row_of slots) es) p)) kept.short short);
         apart = record { apart = λ q r hq hr same. kept.apart.apart q r (omega arith) (omega arith) (sym (addr q) ∙ same ∙ addr r) };
-        first = record { each = λ q. ap (λ (a : Addr). a.generation) (addr q) ∙ kept.first.each q };
+        vacant = record { each = λ q h none. addr q ∙ kept.vacant.each q (omega arith) (sym (ap (λ (a : Addr). a.tenant) (addr q)) ∙ none) };
       };
       rows = rows;
     }

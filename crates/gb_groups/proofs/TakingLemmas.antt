@@ -13,7 +13,7 @@ use Rattle.std.proofs.lemmas.Option.{slice_get-get_or, slice_get_past}
 use Rattle.std.proofs.lemmas.Bool.{cases_lt, ne_eqb}
 use Rattle.gb_types.specs.declared.entry.Entry.{Entry}
 use Rattle.gb_groups.specs.SlotsValue.{Row, counters, counters_of, no_entry}
-use Rattle.gb_groups.specs.Packing.{Visit, visit, walk, queue, queue_of, queues, took, gave, first_place, is_at, share, next_place, after_last, new_cursor}
+use Rattle.gb_groups.specs.Packing.{Visit, visit, walk, queue, queue_of, queues, took, gave, first_place, is_at, share, next_place, after_last, new_cursor, room_after}
 use Rattle.gb_groups.proofs.WalkLemmas.{nowhere, walk_gives, length-queues, queues_at}
 
 pub has_next : (k : ℕ) (vs : List Visit) → k < length vs → first_place (drop k vs) ≡ Some (get_or vs k nowhere).place
@@ -194,19 +194,19 @@ unfolding new_cursor
 cursor_idle n from [] e = refl
 cursor_idle n from (v ∷ vs) e = absurd (cc)
 
--- where none is left, the cursor is the place after the last
-pub cursor_last : (n from k at : ℕ) (vs : List Visit) → None ≡ first_place (drop k vs) → k ≤ length vs → 0 < k → (0 < k → at ≡ suc (get_or vs (k - 1) nowhere).place) → new_cursor n from k vs ≡ (if at == n then 0 else at)
+-- where none is left, the cursor is the first place of the room after the last item's
+pub cursor_last : (n from k at : ℕ) (vs : List Visit) → None ≡ first_place (drop k vs) → k ≤ length vs → 0 < k → (0 < k → at ≡ suc (get_or vs (k - 1) nowhere).place) → new_cursor n from k vs ≡ room_after n (at - 1)
 unfolding new_cursor
 cursor_last n from k at vs e l hk h =
     let past = none_is_past k vs e in
     let whole : k ≡ length vs = omega arith in
     let hat = h hk in
-    let before : (get_or vs (k - 1) nowhere).place + 1 ≡ at = omega (arith, hat) in
-    let at_is : (get_or vs (length vs - 1) nowhere).place + 1 ≡ at = ap (λ m. (get_or vs (m - 1) nowhere).place + 1) (sym whole) ∙ before in
+    let before : (get_or vs (k - 1) nowhere).place ≡ at - 1 = omega (arith, hat) in
+    let at_is : (get_or vs (length vs - 1) nowhere).place ≡ at - 1 = ap (λ m. (get_or vs (m - 1) nowhere).place) (sym whole) ∙ before in
     let inside : length vs - 1 < length vs = omega arith in
     ap (next_place n from vs) (slice_get_past vs k past)
     ∙ ap (after_last n from) (slice_get-get_or vs (length vs - 1) nowhere inside)
-    ∙ ap (λ m. if m == n then 0 else m) at_is
+    ∙ ap (room_after n) at_is
 
 -- nor does a batch change what waits for other nodes
 pub queues-gave : (dest e b : ℕ) (vs : List Visit) (rows : List Row) → e ≢ dest → queues e (gave dest b vs rows) ≡ queues e rows

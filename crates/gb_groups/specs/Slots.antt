@@ -1,5 +1,5 @@
 -- The representation of the groups of a node: a map from addresses to keys, in order, and slots under keys.
-use Rattle.std.specs.Prelude.{ℕ, ◌+◌, ◌≡◌, ◌<◌, false, List, [], ◌∷◌, ◌++◌, length, map, nat_lt, Option, None, Some, IsSome, slice_index_or, if◌then◌else◌}
+use Rattle.std.specs.Prelude.{ℕ, ◌≡◌, ◌<◌, false, List, [], ◌∷◌, ◌++◌, length, map, nat_lt, Option, None, Some, IsSome, slice_index_or, if◌then◌else◌}
 use Rattle.slab.specs.Slab.{Slab, get}
 use Rattle.gb_types.specs.declared.address.Addr.{Addr}
 use Rattle.gb_types.specs.declared.limits.TheConstants.{PAYLOAD}
@@ -30,11 +30,13 @@ place_at entries p = (slice_index_or entries p (record { 0 = record { tenant = 0
 abbrev pub vacant_entry : ℕ → Addr × Place
 vacant_entry p = ((vacant p).addr, Gone)
 
--- the entries, with those of one room more if place p is behind the last
+-- the entries, with a vacant one more
+abbrev pub with_vacant_entry : List (Addr × Place) → List (Addr × Place)
+with_vacant_entry entries = entries ++ vacant_entry (length entries) ∷ []
+
+-- the entries, with the four of a new room if place p is behind the last
 abbrev pub entries_with_room : ℕ → List (Addr × Place) → List (Addr × Place)
-entries_with_room p entries =
-    if nat_lt p (length entries) then entries
-    else entries ++ vacant_entry (length entries) ∷ vacant_entry (length entries + 1) ∷ vacant_entry (length entries + 2) ∷ vacant_entry (length entries + 3) ∷ []
+entries_with_room p entries = if nat_lt p (length entries) then entries else with_vacant_entry (with_vacant_entry (with_vacant_entry (with_vacant_entry entries)))
 
 -- the address at a place
 abbrev pub addr_at : List (Addr × Place) → ℕ → Addr

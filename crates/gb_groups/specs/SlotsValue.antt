@@ -1,6 +1,6 @@
 -- The slots of a node's groups, as contracts see them.
 use Rattle.std.proofs.Common.{arith}
-use Rattle.std.specs.Prelude.{ℕ, ◌+◌, ◌≡◌, ◌<◌, ◌≤◌, Bool, true, List, [], ◌∷◌, ◌++◌, length, nat_lt, Option, Some, None, option_map, slice_index_or, if◌then◌else◌}
+use Rattle.std.specs.Prelude.{ℕ, ◌≡◌, ◌<◌, ◌≤◌, Bool, true, List, [], ◌∷◌, ◌++◌, length, nat_lt, Option, Some, None, option_map, slice_index_or, if◌then◌else◌}
 use Rattle.gb_types.specs.declared.address.Addr.{Addr}
 use Rattle.gb_types.specs.declared.entry.Entry.{Entry}
 use Rattle.gb_types.specs.declared.limits.TheConstants.{NODES}
@@ -39,13 +39,13 @@ no_row = record { addr = record { tenant = 0; group = 0; generation = 0 }; slot 
 abbrev pub vacant : ℕ → Row
 vacant p = record { addr = record { tenant = 0; group = 0; generation = p }; slot = None }
 
--- the places of a new room, which begins at place p
-abbrev pub vacant_room : ℕ → List Row
-vacant_room p = vacant p ∷ vacant (p + 1) ∷ vacant (p + 2) ∷ vacant (p + 3) ∷ []
+-- the places, with a vacant one more
+abbrev pub with_vacant : List Row → List Row
+with_vacant rows = rows ++ vacant (length rows) ∷ []
 
--- the places, with those of one room more if place p is behind the last
+-- the places, with the four of a new room if place p is behind the last
 abbrev pub with_room : ℕ → List Row → List Row
-with_room p rows = if nat_lt p (length rows) then rows else rows ++ vacant_room (length rows)
+with_room p rows = if nat_lt p (length rows) then rows else with_vacant (with_vacant (with_vacant (with_vacant rows)))
 
 -- a group was made at the place
 abbrev pub is_used : Row → Bool

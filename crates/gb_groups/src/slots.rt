@@ -14,7 +14,7 @@ ghost use Rattle.indexmap.specs.IndexMap.{spare};
 ghost use Rattle.gb_frame.specs.Spelling.{item_text, IsItem};
 ghost use Rattle.gb_types.specs.Version.{limits_of};
 ghost use Rattle.gb_groups.specs.Packing.{queue, first_entry, took, item_of};
-ghost use Rattle.gb_groups.specs.Slots.{place_at, vacant_entry, AreVacantEntries, entries_with_room, AreOthers};
+ghost use Rattle.gb_groups.specs.Slots.{place_at, with_vacant_entry, AreVacantEntries, entries_with_room, AreOthers};
 ghost use Rattle.gb_groups.specs.Busy.{IsPutOut};
 ghost use Rattle.gb_groups.specs.Listing.{listed, listed_from, used};
 
@@ -461,7 +461,7 @@ fn add_vacant(places: &mut IndexMap<Addr, Place>)
     requires vacant { AreVacantEntries places.old.entries }
     requires few { length places.old.entries < PLACES }
     requires spare { 0 < spare places.old }
-    ensures entries { places.new.entries ≡ places.old.entries ++ vacant_entry (length places.old.entries) ∷ [] }
+    ensures entries { places.new.entries ≡ with_vacant_entry places.old.entries }
     ensures spare { spare places.old ≤ spare places.new + 1 }
 {
     let addr = Addr {
