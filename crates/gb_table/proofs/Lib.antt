@@ -1,5 +1,7 @@
 pub mod CountLemmas
-pub mod AddrLemmas
+pub mod MadeLemmas
 pub mod TenantLemmas
 pub mod RequestLemmas
+pub mod EachLemmas
 pub mod OwnNodeLemmas
+pub mod NamedLemmas

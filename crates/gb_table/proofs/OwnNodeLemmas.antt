@@ -1,21 +1,18 @@
 -- What steps leave unchanged: the node at which groups are, and the limit on the length of the messages that they know.
-use Rattle.std.proofs.Common.{◌≡◌, ◌≤◌, ℕ, zero, suc, List, [], ◌∷◌, ◌++◌, map, refl, ap, sym, subst, ◌∙◌, true, false, inl, inr, arith}
-use Rattle.std.specs.Prelude.{Bool, not, ◌&&◌, length, nat_lt, nat_eq, Option, Some, None, option_map, if◌then◌else◌}
+use Rattle.std.proofs.Common.{◌≡◌, ◌≤◌, ℕ, List, map, refl, ap, sym, ◌∙◌, true, false, arith}
+use Rattle.std.specs.Prelude.{Bool, not, length, nat_eq, Option, Some, None, option_map, if◌then◌else◌}
 use Rattle.std.specs.FinSet as nodes
 use Rattle.std.specs.Ordering.{nat_cmp}
 use Rattle.std.proofs.Math.ListN.{set}
-use Rattle.std.proofs.lemmas.Bool.{cases_Bool, not-true}
 use Rattle.std.proofs.lemmas.List.{set-get_or}
 use Rattle.gb_types.specs.Entry.{message_of}
 use Rattle.gb_types.specs.declared.address.Addr.{Addr}
 use Rattle.gb_types.specs.declared.entry.Entry.{Entry}
-use Rattle.gb_types.specs.declared.limits.TheConstants.{NODES}
 use Rattle.gb_types.specs.declared.message.MsgId.{MsgId}
 use Rattle.gb_types.specs.declared.node.NodeId.{NodeId}
 use Rattle.gb_types.specs.declared.spec.Spec.{Spec}
 use Rattle.gb_types.specs.declared.version.Version.{Version}
 use Rattle.gb_types.specs.Version.{limits_of}
-use Rattle.gb_types.proofs.BoolLemmas.{and_right}
 use Rattle.gb_types.specs.declared.reply.Reply.{Reply}
 use Rattle.gb_types.specs.declared.reply.Reply.TheVariants.{Done, Said, Log, Refused}
 use Rattle.gb_frame.specs.declared.item.Item.{Item}
@@ -26,13 +23,16 @@ use Rattle.gb_rules.proofs.LengthLemmas.{within_limit}
 use Rattle.gb_rules.specs.declared.phase.Phase.{Phase}
 use Rattle.gb_slot.specs.Slot.{falls, shown, slot_called, slot_moved, slot_said, slot_came, slot_noticed, slot_took, slot_done, new_slot, with_acknowledgement}
 use Rattle.gb_slot.specs.SlotState.{SlotState}
-use Rattle.gb_groups.specs.SlotsValue.{Row, row_at, on_slot, gone, no_row, unless_gone, IsShort, AreShort}
+use Rattle.gb_groups.specs.SlotsValue.{Row, row_at, on_slot, no_row, IsShort, AreShort}
 use Rattle.gb_groups.proofs.StepLemmas.{short-moved, short-came, short-noticed, short-done, short-took, short-own, said_fits}
-use Rattle.gb_groups.specs.Packing.{Visit, gave, share}
-use Rattle.gb_frame.specs.Items.{address_of, entry_of}
-use Rattle.gb_groups.specs.AtAddress.{place_of, step_at, on_address, gone_at, drop_at, item_came, reply_at, group_reply}
+use Rattle.gb_groups.specs.GroupsValue.{GroupsValue, made}
+use Rattle.gb_groups.specs.Packing.{Visit, gave}
+use Rattle.gb_frame.specs.Items.{entry_of}
+use Rattle.gb_groups.specs.AtAddress.{place_of, step_at, on_address, drop_at, item_came}
+use Rattle.gb_groups.specs.OneGroup.{group_in, answer_in, group_reply}
 use Rattle.gb_table.specs.TableValue.{TableValue, with_rows, table_done}
 use Rattle.gb_table.specs.OwnNode.{IsOwn, AreOwn}
+use Rattle.gb_table.proofs.EachLemmas.{KeptBy, each_address, each_dropped, each_came, each_stepped, each_gave, each_made}
 use Rattle.gb_types.specs.declared.new_message.NewMessage.{NewMessage}
 
 -- what steps leave of a slot's node
@@ -64,16 +64,13 @@ own-said me version payload (Said seq) fits s own = (own.0, short-own (limits_of
 own-said me version payload (Log entries) fits s own = own
 own-said me version payload (Refused why) fits s own = own
 
-answered_short : (version : Version) (message : NewMessage) (o : Option SlotState) (seq : ℕ) → Said seq ≡ unless_gone (λ s. say_answer version s message) o → length message.payload ≤ (limits_of version).payload
+answered_short : (version : Version) (message : NewMessage) (o : Option (Option SlotState)) (seq : ℕ) → Said seq ≡ answer_in (λ s. say_answer version s message) o → length message.payload ≤ (limits_of version).payload
 answered_short version message None seq e = absurd (cc)
-answered_short version message (Some s) seq e = said_fits version (shown s) message seq e
+answered_short version message (Some None) seq e = absurd (cc)
+answered_short version message (Some (Some s)) seq e = said_fits version (shown s) message seq e
 
-replied_short : (version : Version) (message : NewMessage) (rows : List Row) (place : Option ℕ) (seq : ℕ) → Said seq ≡ reply_at (λ s. say_answer version s message) rows place → length message.payload ≤ (limits_of version).payload
-replied_short version message rows None seq e = absurd (cc)
-replied_short version message rows (Some p) seq e = answered_short version message (row_at rows p).slot seq e
-
-pub said_short : (version : Version) (message : NewMessage) (addr : Addr) (rows : List Row) (reply : Reply) → reply ≡ group_reply (λ s. say_answer version s message) addr rows → (seq : ℕ) → reply ≡ Said seq → length message.payload ≤ (limits_of version).payload
-said_short version message addr rows reply is seq said = replied_short version message rows (place_of addr rows) seq (sym said ∙ is)
+pub said_short : (version : Version) (message : NewMessage) (addr : Addr) (t : GroupsValue) (reply : Reply) → reply ≡ group_reply (λ s. say_answer version s message) addr t → (seq : ℕ) → reply ≡ Said seq → length message.payload ≤ (limits_of version).payload
+said_short version message addr t reply is seq said = answered_short version message (group_in addr t) seq (sym said ∙ is)
 
 own-came : (me : NodeId) (version : Version) (from : NodeId) (x : Entry) → is_too_long version x.payload ≡ false → Keeps me version (slot_came from x)
 own-came me version from x short s own = (me-came from x s ∙ own.0, short-came (limits_of version).payload from x s (within_limit version x.payload short) own.1)
@@ -88,71 +85,37 @@ own-took : (me : NodeId) (version : Version) (dest count : ℕ) → Keeps me ver
 own-took me version dest count s own = (own.0, short-took (limits_of version).payload dest count s own.1)
 
 -- a group that was just made
-pub own_new : (me : NodeId) (version : Version) (spec : Spec) (noticed : nodes.FinSet nat_cmp) → IsOwn me version (Some (new_slot spec me noticed))
+own_new : (me : NodeId) (version : Version) (spec : Spec) (noticed : nodes.FinSet nat_cmp) → IsOwn me version (Some (new_slot spec me noticed))
 own_new me version spec noticed = (refl, λ m. omega arith)
 
-is_at_after : (me : NodeId) (version : Version) (f : SlotState → SlotState) (slot : Option SlotState) → Keeps me version f → IsOwn me version slot → IsOwn me version (option_map f slot)
-is_at_after me version f None same at = tt
-is_at_after me version f (Some s) same at = same s at
+-- what holds of a place
+abbrev IsOwnRow : NodeId → Version → Row → Type 0
+IsOwnRow me version row = IsOwn me version row.slot
 
-at_written : (me : NodeId) (version : Version) (rows : List Row) (place : ℕ) (row : Row) → ((p : ℕ) → IsOwn me version (row_at rows p).slot) → IsOwn me version row.slot → (p : ℕ) → IsOwn me version (row_at (set rows place row) p).slot
-at_written me version [] place row are at p = are p
-at_written me version (r ∷ rows) zero row are at zero = at
-at_written me version (r ∷ rows) zero row are at (suc p) = are (suc p)
-at_written me version (r ∷ rows) (suc place) row are at zero = are zero
-at_written me version (r ∷ rows) (suc place) row are at (suc p) = at_written me version rows place row (λ q. are (suc q)) at p
-
-at_step : (me : NodeId) (version : Version) (f : SlotState → SlotState) (rows : List Row) (place : Option ℕ) → Keeps me version f → AreOwn me version rows → AreOwn me version (step_at f rows place)
-at_step me version f rows None same are = are
-at_step me version f rows (Some p) same are = record { each = at_written me version rows p (on_slot f (row_at rows p)) are.each (is_at_after me version f (row_at rows p).slot same (are.each p)) }
+own_kept : (me : NodeId) (version : Version) (f : SlotState → SlotState) → Keeps me version f → KeptBy (IsOwnRow me version) f
+own_kept me version f keeps row = by row.slot
+  where
+    by : (slot : Option SlotState) → IsOwn me version slot → IsOwn me version (option_map f slot)
+    by None own = tt
+    by (Some s) own = keeps s own
 
 pub at_address : (me : NodeId) (version : Version) (addr : Addr) (f : SlotState → SlotState) (rows : List Row) → Keeps me version f → AreOwn me version rows → AreOwn me version (on_address addr f rows)
-at_address me version addr f rows same are = at_step me version f rows (place_of addr rows) same are
-
-at_gone : (me : NodeId) (version : Version) (rows : List Row) (place : Option ℕ) → AreOwn me version rows → AreOwn me version (gone_at rows place)
-at_gone me version rows None are = are
-at_gone me version rows (Some p) are = record { each = at_written me version rows p (gone (row_at rows p)) are.each tt }
+at_address me version addr f rows keeps are = record { each = each_address (IsOwnRow me version) addr f rows (own_kept me version f keeps) are.each }
 
 pub at_dropped : (me : NodeId) (version : Version) (addr : Addr) (rows : List Row) → AreOwn me version rows → AreOwn me version (drop_at addr rows)
-at_dropped me version addr rows are = at_gone me version rows (place_of addr rows) are
+at_dropped me version addr rows are = record { each = each_dropped (IsOwnRow me version) addr rows (λ row. tt) are.each }
 
 pub at_came : (me : NodeId) (version : Version) (from : NodeId) (i : Item) (rows : List Row) → AreOwn me version rows → AreOwn me version (item_came version from i rows)
-at_came me version from i rows are =
-    elim (cases_Bool (nat_lt i.origin NODES && not (is_too_long version i.payload))) [
-      | inl e ↦
-          let short = not-true (is_too_long version i.payload) (and_right (nat_lt i.origin NODES) (not (is_too_long version i.payload)) e) in
-          subst (λ b. AreOwn me version (if b then came else rows)) (sym e) (at_address me version (address_of i) (slot_came from (entry_of i)) rows (own-came me version from (entry_of i) short) are)
-      | inr e ↦ subst (λ b. AreOwn me version (if b then came else rows)) (sym e) are
-    ]
-  where
-    came : List Row
-    came = on_address (address_of i) (slot_came from (entry_of i)) rows
-
-each_noticed : (me : NodeId) (version : Version) (who : NodeId) (rows : List Row) → ((p : ℕ) → IsOwn me version (row_at rows p).slot) → (p : ℕ) → IsOwn me version (row_at (map (on_slot (slot_noticed who)) rows) p).slot
-each_noticed me version who [] are p = are p
-each_noticed me version who (row ∷ rows) are zero = is_at_after me version (slot_noticed who) row.slot (own-noticed me version who) (are zero)
-each_noticed me version who (row ∷ rows) are (suc p) = each_noticed me version who rows (λ q. are (suc q)) p
+at_came me version from i rows are = record { each = each_came (IsOwnRow me version) version from i rows (λ short. own_kept me version (slot_came from (entry_of i)) (own-came me version from (entry_of i) short)) are.each }
 
 pub at_noticed : (me : NodeId) (version : Version) (who : NodeId) (rows : List Row) → AreOwn me version rows → AreOwn me version (map (on_slot (slot_noticed who)) rows)
-at_noticed me version who rows are = record { each = each_noticed me version who rows are.each }
-
-each_gave : (me : NodeId) (version : Version) (dest b : ℕ) (vs : List Visit) (rows : List Row) → ((p : ℕ) → IsOwn me version (row_at rows p).slot) → (p : ℕ) → IsOwn me version (row_at (gave dest b vs rows) p).slot
-unfolding gave
-each_gave me version dest b vs [] are p = are p
-each_gave me version dest b vs (row ∷ rows) are zero = is_at_after me version (slot_took dest (share b vs)) row.slot (own-took me version dest (share b vs)) (are zero)
-each_gave me version dest b vs (row ∷ rows) are (suc p) = each_gave me version dest (suc b) vs rows (λ q. are (suc q)) p
+at_noticed me version who rows are = record { each = each_stepped (IsOwnRow me version) (slot_noticed who) rows (own_kept me version (slot_noticed who) (own-noticed me version who)) are.each }
 
 pub at_gave : (me : NodeId) (version : Version) (dest b : ℕ) (vs : List Visit) (rows : List Row) → AreOwn me version rows → AreOwn me version (gave dest b vs rows)
-at_gave me version dest b vs rows are = record { each = each_gave me version dest b vs rows are.each }
+at_gave me version dest b vs rows are = record { each = each_gave (IsOwnRow me version) dest b vs rows (λ count. own_kept me version (slot_took dest count) (own-took me version dest count)) are.each }
 
-each_more : (me : NodeId) (version : Version) (rows : List Row) (row : Row) → ((p : ℕ) → IsOwn me version (row_at rows p).slot) → IsOwn me version row.slot → (p : ℕ) → IsOwn me version (row_at (rows ++ row ∷ []) p).slot
-each_more me version [] row are at zero = at
-each_more me version [] row are at (suc p) = are p
-each_more me version (r ∷ rows) row are at zero = are zero
-each_more me version (r ∷ rows) row are at (suc p) = each_more me version rows row (λ q. are (suc q)) at p
-
-pub at_more : (me : NodeId) (version : Version) (rows : List Row) (row : Row) → AreOwn me version rows → IsOwn me version row.slot → AreOwn me version (rows ++ row ∷ [])
-at_more me version rows row are at = record { each = each_more me version rows row are.each at }
+pub at_made : (me : NodeId) (version : Version) (addr : Addr) (spec : Spec) (noticed : nodes.FinSet nat_cmp) (t : GroupsValue) → AreOwn me version t.rows → AreOwn me version (made addr (new_slot spec me noticed) t).rows
+at_made me version addr spec noticed t are = record { each = each_made (IsOwnRow me version) addr (new_slot spec me noticed) t (λ p. tt) (own_new me version spec noticed) are.each }
 
 -- An acknowledgement of a message that another node said changes nothing.
 

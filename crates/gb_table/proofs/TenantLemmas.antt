@@ -1,8 +1,10 @@
 -- The rows of tenants, in their map and in the rules.
-use Rattle.std.proofs.Common.{◌≡◌, ℕ, zero, suc, ◌+◌, ◌≤◌, ◌<◌, List, [], ◌∷◌, ◌++◌, get_or, refl, ap, sym, ◌∙◌, subst, true, false, arith, inl, inr, eq-eqb}
-use Rattle.std.specs.Prelude.{Bool, cond, ◌||◌, nat_lt, nat_le, nat_eq, Option, Some, None, All, bytes_eq, option_map, if◌then◌else◌}
+use Rattle.std.proofs.Common.{◌≡◌, ℕ, zero, suc, ◌+◌, ◌≤◌, ◌<◌, List, [], ◌∷◌, ◌++◌, get_or, refl, ap, sym, ◌∙◌, subst, true, false, arith, inl, inr, eq-eqb, eqb-true}
+use Rattle.std.specs.Prelude.{Bool, cond, not, ◌||◌, nat_lt, nat_le, nat_eq, Option, Some, None, All, bytes_eq, option_map, if◌then◌else◌}
+use Rattle.std.specs.List.{list_all}
+use Rattle.std.specs.FinSet as set
 use Rattle.std.specs.Map.{lookup}
-use Rattle.std.proofs.lemmas.Bool.{cases_eq, ltb-false, leb-false, ne_eqb}
+use Rattle.std.proofs.lemmas.Bool.{cases_Bool, cases_eq, ltb-false, leb-false, ne_eqb}
 use Rattle.std.proofs.lemmas.List.{map-append}
 use Rattle.std.proofs.lemmas.List.Elements.{All-push}
 use Rattle.std.proofs.lemmas.List.Sums.{sum_by-append}
@@ -13,7 +15,11 @@ use Rattle.gb_types.specs.declared.refusal.Refusal.TheVariants.{OverReserve, Ten
 use Rattle.gb_types.specs.declared.reply.Reply.TheVariants.{Done, Refused}
 use Rattle.gb_types.specs.declared.spec.Spec.{Spec}
 use Rattle.gb_types.specs.declared.spec.TenantRow.{TenantRow}
-use Rattle.gb_rules.specs.Tenant.{is_over_limits, is_bad, is_over, row_of, reserve_of, reserved, tenant_answer, make_answer}
+use Rattle.gb_types.specs.declared.version.Version.{Version}
+use Rattle.gb_rules.specs.Group.{is_member}
+use Rattle.gb_rules.specs.Room.{can_name}
+use Rattle.gb_rules.specs.Tenant.{is_over_limits, is_over, row_of, reserve_of, reserved, tenant_answer, make_answer}
+use Rattle.gb_rules.specs.declared.room.TheConstants.{GENERATIONS}
 use Rattle.gb_rules.specs.declared.reserve.Reserve.{Reserve}
 use Rattle.gb_slot.specs.Slot.{IsWithinLimits}
 use Rattle.gb_types.specs.declared.node.NodeId.{NodeId}
@@ -93,29 +99,62 @@ tenant_done places before there row e =
     let h = tenant_by (is_over_limits row) there (nat_lt places (before + row.groups)) e in
     (h.0, (h.1.0, ltb-false places (before + row.groups) h.1.1))
 
-pub within_added : (places : ℕ) (tenants : List TenantRow) (addrs : List Addr) (row : TenantRow) → IsWithin places tenants addrs → is_over_limits row ≡ false → reserved tenants + row.groups ≤ places → IsWithin places (tenants ++ row ∷ []) addrs
-within_added places tenants addrs row w over room = record {
+pub within_added : (places : ℕ) (tenants : List TenantRow) (names : List Addr) (row : TenantRow) → IsWithin places tenants names → is_over_limits row ≡ false → reserved tenants + row.groups ≤ places → IsWithin places (tenants ++ row ∷ []) names
+within_added places tenants names row w over room = record {
   limits = All-push (λ r. is_over_limits r ≡ false) tenants row w.limits over;
   sum = let n = reserved-more tenants row in omega arith;
   most = w.most;
-  groups = λ k d l. let h = w.groups k d l in (h.0, found-more (get_or addrs k d).tenant tenants row h.0 h.1, h.2, h.3);
+  rooms = λ k d l. let h = w.rooms k d l in (h.0, found-more (get_or names k d).tenant tenants row h.0 h.1, h.2, h.3);
+  alone = w.alone;
 }
 
 -- what a group that is made is like
-make_by : (past made bad over : Bool) → Done ≡ (if past then Refused NoGroup else (if made then Refused Spent else (if bad then Refused BadMembers else (if over then Refused OverReserve else Done)))) → (past ≡ false) × ((made ≡ false) × ((bad ≡ false) × (over ≡ false)))
-make_by false false false false e = (refl, (refl, (refl, refl)))
-make_by true made bad over e = absurd (cc)
-make_by false true bad over e = absurd (cc)
-make_by false false true over e = absurd (cc)
-make_by false false false true e = absurd (cc)
+pub record IsMade (version : Version) (me : ℕ) (addr : Addr) (made : Bool) (living : ℕ) (spec : Spec) (reserve : Reserve) : Type 0 where
+  pub below : addr.group < reserve.groups
+  pub fresh : made ≡ false
+  pub few : living < GENERATIONS
+  pub member : is_member spec me ≡ true
+  pub named : can_name version addr ≡ true
+  pub within : is_over reserve spec ≡ false
 
-pub make_done : (nodes me : ℕ) (addr : Addr) (made : Bool) (spec : Spec) (reserve : Reserve) → Done ≡ make_answer nodes me addr made spec reserve
-    → (addr.group < reserve.groups) × ((made ≡ false) × ((is_bad nodes me spec ≡ false) × ((is_over reserve spec ≡ false) × (addr.generation ≡ 0))))
-make_done nodes me addr made spec reserve e =
-    let h = make_by (nat_le reserve.groups addr.group) made (is_bad nodes me spec) (nat_lt 0 addr.generation || is_over reserve spec) e in
-    let within = or_sides (nat_lt 0 addr.generation) (is_over reserve spec) h.1.1.1 in
-    let first = ltb-false 0 addr.generation within.0 in
-    (leb-false reserve.groups addr.group h.0, (h.1.0, (h.1.1.0, (within.1, omega (arith, first)))))
+pub make_done : (version : Version) (nodes me : ℕ) (addr : Addr) (made : Bool) (living : ℕ) (spec : Spec) (reserve : Reserve) → Done ≡ make_answer version nodes me addr made living spec reserve
+    → IsMade version me addr made living spec reserve
+make_done version nodes me addr made living spec reserve =
+    by (nat_le reserve.groups addr.group) made (nat_le GENERATIONS living) (is_member spec me) (not (list_all (λ b. nat_lt b nodes) (set.items spec.members))) (can_name version addr) (is_over reserve spec) refl refl refl refl refl refl
+  where
+    by : (beyond past full member strange named over : Bool) → nat_le reserve.groups addr.group ≡ beyond → made ≡ past → nat_le GENERATIONS living ≡ full → is_member spec me ≡ member → can_name version addr ≡ named → is_over reserve spec ≡ over
+        → Done ≡ (if beyond then Refused NoGroup else (if past then Refused Spent else (if full then Refused NoRoom else (if not member || strange then Refused BadMembers else (if not named || over then Refused OverReserve else Done)))))
+        → IsMade version me addr made living spec reserve
+    by true past full member strange named over b p f m n o e = absurd (cc)
+    by false true full member strange named over b p f m n o e = absurd (cc)
+    by false false true member strange named over b p f m n o e = absurd (cc)
+    by false false false false strange named over b p f m n o e = absurd (cc)
+    by false false false true true named over b p f m n o e = absurd (cc)
+    by false false false true false false over b p f m n o e = absurd (cc)
+    by false false false true false true true b p f m n o e = absurd (cc)
+    by false false false true false true false b p f m n o e = record {
+      below = leb-false reserve.groups addr.group b;
+      fresh = p;
+      few = leb-false GENERATIONS living f;
+      member = m;
+      named = n;
+      within = o;
+    }
+
+-- the number of a tenant that is here is above 0
+pub tenant_above : (tenants : List TenantRow) (tenant : ℕ) (row : TenantRow) → All (λ r. is_over_limits r ≡ false) tenants → row_of tenant tenants ≡ Some row → 0 < tenant
+tenant_above [] tenant row all e = absurd (cc)
+tenant_above (r ∷ rs) tenant row all e =
+    elim (cases_Bool (nat_eq r.tenant tenant)) [
+      | inl t ↦
+          let same = eqb-true r.tenant tenant t in
+          let ne = (or_sides (nat_eq r.tenant 0) (nat_eq r.groups 0 || (nat_lt GROUPS r.groups || (nat_eq r.msgs 0 || (nat_lt MESSAGES r.msgs || (nat_lt BYTES r.bytes || (nat_eq r.window 0 || nat_lt WINDOW r.window)))))) (all zero r (omega arith))).0 in
+          elim (cases_eq r.tenant 0) [
+            | inl z ↦ let f : true ≡ false = sym (eq-eqb r.tenant 0 z) ∙ ne in absurd (cc)
+            | inr nz ↦ omega arith
+          ]
+      | inr f ↦ tenant_above rs tenant row (λ k d l. all (suc k) d (omega arith)) (sym (ap (λ b. cond b (Some r) (row_of tenant rs)) f) ∙ e)
+    ]
 
 over_limits_by : (a b c d f g h i : Bool) → (a || (b || (c || (d || (f || (g || (h || i))))))) ≡ false → (f ≡ false) × ((g ≡ false) × (i ≡ false))
 over_limits_by a b c d f g h i e =

@@ -1,5 +1,5 @@
 -- How the tenants of a node are kept: a map from their numbers to their rows, in the order in which they were added. The tokens of the groups'
--- members are kept in a map from the groups' addresses.
+-- members are kept in a map from the names of the groups' rooms.
 use Rattle.std.specs.Prelude.{ℕ, ◌≡◌, List, map, All, Some}
 use Rattle.gb_types.specs.declared.address.Addr.{Addr}
 use Rattle.gb_types.specs.declared.node.NodeId.{NodeId}

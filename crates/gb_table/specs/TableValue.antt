@@ -13,8 +13,8 @@ use Rattle.gb_groups.specs.SlotsValue.{Row, on_slot}
 use Rattle.gb_groups.specs.AtAddress.{on_address, item_came}
 use Rattle.gb_groups.specs.GroupsValue.{GroupsValue, no_groups, packed}
 
--- The table of a node in a cluster of `nodes` nodes: the administrator's key, the tenants in the order in which they were added, which may make `places`
--- groups in all, and the groups.
+-- The table of a node in a cluster of `nodes` nodes: the administrator's key, the tenants in the order in which they were added, which may reserve `places`
+-- rooms in all, and the groups.
 pub record TableValue : Type 0 where
   pub me : NodeId
   pub nodes : ℕ

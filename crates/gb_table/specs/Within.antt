@@ -1,8 +1,9 @@
 -- An invariant of a node's table.
-use Rattle.std.specs.Prelude.{ℕ, ◌≡◌, ◌<◌, ◌≤◌, false, List, map, Some, All}
+use Rattle.std.specs.Prelude.{ℕ, ◌≡◌, ◌<◌, ◌≤◌, false, List, map, count_by, Some, All}
 use Rattle.gb_types.specs.declared.address.Addr.{Addr}
 use Rattle.gb_rules.specs.declared.room.TheConstants.{ROOMS}
 use Rattle.gb_types.specs.declared.spec.TenantRow.{TenantRow}
+use Rattle.gb_rules.specs.Address.{is_addr}
 use Rattle.gb_rules.specs.Tenant.{is_over_limits, row_of, reserved}
 
 -- the names of rooms
@@ -13,9 +14,10 @@ names_of rooms = map (λ room. room.0) rooms
 abbrev pub IsReserved : List TenantRow → Addr → Type 0
 IsReserved tenants addr = (row : TenantRow) × (row_of addr.tenant tenants ≡ Some row) × (addr.group < row.groups) × (addr.generation ≡ 0)
 
--- The tenants are within the limits and there are rooms for their groups; each room has a name of its tenant's. So there are at most as many rooms as the tenants reserve.
+-- The tenants are within the limits and there are rooms for their groups; each room has a name of its tenant's, and no other room has it. So there are at most as many rooms as the tenants reserve.
 pub record IsWithin (places : ℕ) (tenants : List TenantRow) (names : List Addr) : Type 0 where
   pub limits : All (λ row. is_over_limits row ≡ false) tenants
   pub sum : reserved tenants ≤ places
   pub most : places ≤ ROOMS
   pub rooms : All (IsReserved tenants) names
+  pub alone : (name : Addr) → count_by (is_addr name) names ≤ 1

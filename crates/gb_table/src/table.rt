@@ -110,7 +110,7 @@ fn is_kept(token: &Token, kept: &Token) -> bool
 
 impl Table {
     /// Returns a table with no tenant and no group, at node `me` of `nodes` nodes. The node sends packets of this version. Its
-    /// tenants may make `places` groups in all. Who holds the administrator's key may add tenants.
+    /// tenants may reserve `places` rooms in all. Who holds the administrator's key may add tenants.
     pub fn new(
         alloc: Global,
         me: NodeId,
@@ -358,8 +358,8 @@ impl Table {
     }
 
     /// Returns at most `most` of the groups that live at the node or were dropped there, from the `from`-th on, in the order of their
-    /// places, with their total number. `Err` with `Denied` if the token is not the administrator's, with `BadPlace` if there are fewer than `from`
-    /// groups or `most` is above 64, and with `OutOfMemory` if there is no memory for the list.
+    /// places, with their total number. `Err` with `Denied` if the token is not the administrator's, with `BadPlace` if there are
+    /// fewer than `from` groups or `most` is above 64, and with `OutOfMemory` if there is no memory for the list.
     pub fn list(&self, token: &Token, from: u32, most: u32) -> Result<Listing, Refusal>
         ensures groups { IfOk result (λ listing. list_answer token.now from most self.now ≡ Ok listing.groups.items) }
         ensures total { IfOk result (λ listing. listing.total ≡ length (used self.now.groups.rows)) }

@@ -68,7 +68,7 @@ impl Tenant {
 #[derive(Drop)]
 pub struct Tenants {
     rows: IndexMap<TenantId, Tenant>,
-    /// The number of groups that the tenants may make in all.
+    /// The number of rooms that the tenants reserve in all.
     reserved: u32,
 }
 
@@ -113,7 +113,7 @@ impl Tenants {
         }
     }
 
-    /// Returns the number of groups that the tenants may make in all.
+    /// Returns the number of rooms that the tenants reserve in all.
     pub fn reserved(&self) -> u32
         ensures { result ≡ reserved self.now }
     {

@@ -1,19 +1,21 @@
-use Rattle.std.proofs.Common.{◌≡◌, ap, sym, subst, ◌∙◌}
+use Rattle.std.proofs.Common.{◌≡◌, sym, subst, ◌∙◌}
 use Rattle.gb_slot.specs.Slot.{slot_done}
+use Rattle.gb_groups.specs.SlotsValue.{AreNamed}
 use Rattle.gb_table.specs.TableValue.{TableValue, table_done}
 use Rattle.gb_table.specs.OwnNode.{AreOwn}
-use Rattle.gb_table.specs.Within.{addrs_of}
-use Rattle.gb_table.proofs.AddrLemmas.{addrs-address}
+use Rattle.gb_table.proofs.NamedLemmas.{named_address}
 use Rattle.gb_table.proofs.OwnNodeLemmas.{at_address, own-done, table_unchanged}
 use Rattle.gb_table.proofs.RequestLemmas.{within_step}
 use Rattle.gb_table.proofs.table.Table.done.Goals as goal
 
 pub invariant_of-self : goal.invariant_of-self
-invariant_of-self c = (
-  within_step c.self.inside.places c.self.inside.tenants c.self.inside.groups.rows _ (ap addrs_of c.done.ensures.rows ∙ addrs-address c.args.addr (slot_done c.args.dest c.args.m) c.self.inside.groups.rows) c.self.invariant.0,
-  c.self.invariant.1,
-  subst (AreOwn c.self.inside.me c.self.inside.version) (sym c.done.ensures.rows) (at_address c.self.inside.me c.self.inside.version c.args.addr (slot_done c.args.dest c.args.m) c.self.inside.groups.rows (own-done c.self.inside.me c.self.inside.version c.args.dest c.args.m) c.self.invariant.2),
-)
+invariant_of-self c =
+    let step = slot_done c.args.dest c.args.m in (
+      within_step c.self.inside.places c.self.inside.tenants c.self.inside.groups.rooms _ c.done.ensures.rooms c.self.invariant.0,
+      c.self.invariant.1,
+      subst (AreOwn c.self.inside.me c.self.inside.version) (sym c.done.ensures.rows) (at_address c.self.inside.me c.self.inside.version c.args.addr step c.self.inside.groups.rows (own-done c.self.inside.me c.self.inside.version c.args.dest c.args.m) c.self.invariant.2),
+      subst (AreNamed c.self.inside.version) (sym c.done.ensures.rows) (named_address c.self.inside.version c.args.addr step c.self.inside.groups.rows c.self.invariant.3),
+    )
 
 pub returns-then-ne-clause-state : goal.returns-then-ne-clause-state
 returns-then-ne-clause-state c =

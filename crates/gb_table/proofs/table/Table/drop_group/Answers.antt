@@ -1,17 +1,18 @@
 use Rattle.std.proofs.lemmas.Grind.{common_steps}
-use Rattle.std.proofs.Common.{ap, sym, subst, ◌∙◌, arith}
+use Rattle.std.proofs.Common.{sym, subst, arith}
+use Rattle.gb_groups.specs.SlotsValue.{AreNamed}
 use Rattle.gb_table.specs.OwnNode.{AreOwn}
-use Rattle.gb_table.specs.Within.{addrs_of}
-use Rattle.gb_table.proofs.AddrLemmas.{addrs-drop}
+use Rattle.gb_table.proofs.NamedLemmas.{named_dropped}
 use Rattle.gb_table.proofs.OwnNodeLemmas.{at_dropped}
 use Rattle.gb_table.proofs.RequestLemmas.{within_step}
 use Rattle.gb_table.proofs.table.Table.drop_group.Goals as goal
 
 pub invariant_of-self : goal.invariant_of-self
 invariant_of-self c = (
-  within_step c.self.inside.places c.self.inside.tenants c.self.inside.groups.rows _ (ap addrs_of c.drop_group.ensures.rows ∙ addrs-drop c.args.addr c.self.inside.groups.rows) c.self.invariant.0,
+  within_step c.self.inside.places c.self.inside.tenants c.self.inside.groups.rooms _ c.drop_group.ensures.rooms c.self.invariant.0,
   c.self.invariant.1,
   subst (AreOwn c.self.inside.me c.self.inside.version) (sym c.drop_group.ensures.rows) (at_dropped c.self.inside.me c.self.inside.version c.args.addr c.self.inside.groups.rows c.self.invariant.2),
+  subst (AreNamed c.self.inside.version) (sym c.drop_group.ensures.rows) (named_dropped c.self.inside.version c.args.addr c.self.inside.groups.rows c.self.invariant.3),
 )
 
 pub returns-clause-state : goal.returns-clause-state

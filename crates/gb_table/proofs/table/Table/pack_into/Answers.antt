@@ -1,24 +1,30 @@
-use Rattle.std.proofs.Common.{ap, sym, subst, ◌∙◌, ◌≤◌, length}
+use Rattle.std.proofs.Common.{ap, sym, subst, ◌≤◌, length}
 use Rattle.std.specs.List.{All}
 use Rattle.gb_types.specs.Version.{limits_of}
 use Rattle.gb_frame.specs.declared.item.Item.{Item}
+use Rattle.gb_groups.specs.GroupsValue.{GroupsValue, batch}
 use Rattle.gb_groups.specs.Packing.{items}
+use Rattle.gb_groups.specs.SlotsValue.{AreNamed}
 use Rattle.gb_groups.proofs.ShortLemmas.{batch_short}
 use Rattle.gb_table.specs.TableValue.{TableValue}
-use Rattle.gb_groups.specs.GroupsValue.{GroupsValue, batch}
 use Rattle.gb_table.specs.OwnNode.{AreOwn}
-use Rattle.gb_table.specs.Within.{addrs_of}
-use Rattle.gb_table.proofs.AddrLemmas.{addrs-gave}
+use Rattle.gb_table.proofs.NamedLemmas.{named_gave}
 use Rattle.gb_table.proofs.OwnNodeLemmas.{at_gave, short_rows}
 use Rattle.gb_table.proofs.RequestLemmas.{within_step}
 use Rattle.gb_table.proofs.table.Table.pack_into.Goals as goal
 
+pub pack_into-requires-clause-named : goal.pack_into-requires-clause-named
+pack_into-requires-clause-named c = c.self.invariant.3
+
 pub invariant_of-self : goal.invariant_of-self
-invariant_of-self c = (
-  within_step c.self.inside.places c.self.inside.tenants c.self.inside.groups.rows _ (ap (λ (v : GroupsValue). addrs_of v.rows) c.pack_into.ensures.state ∙ addrs-gave c.args.dest.number 0 (batch c.self.inside.version c.args.dest.number c.args.room c.self.inside.groups) c.self.inside.groups.rows) c.self.invariant.0,
-  c.self.invariant.1,
-  subst (AreOwn c.self.inside.me c.self.inside.version) (sym (ap (λ (v : GroupsValue). v.rows) c.pack_into.ensures.state)) (at_gave c.self.inside.me c.self.inside.version c.args.dest.number 0 (batch c.self.inside.version c.args.dest.number c.args.room c.self.inside.groups) c.self.inside.groups.rows c.self.invariant.2),
-)
+invariant_of-self c =
+    let taken = batch c.self.inside.version c.args.dest.number c.args.room c.self.inside.groups in
+    let rows = ap (λ (v : GroupsValue). v.rows) c.pack_into.ensures.state in (
+      within_step c.self.inside.places c.self.inside.tenants c.self.inside.groups.rooms _ (ap (λ (v : GroupsValue). v.rooms) c.pack_into.ensures.state) c.self.invariant.0,
+      c.self.invariant.1,
+      subst (AreOwn c.self.inside.me c.self.inside.version) (sym rows) (at_gave c.self.inside.me c.self.inside.version c.args.dest.number 0 taken c.self.inside.groups.rows c.self.invariant.2),
+      subst (AreNamed c.self.inside.version) (sym rows) (named_gave c.self.inside.version c.args.dest.number 0 taken c.self.inside.groups.rows c.self.invariant.3),
+    )
 
 pub returns-clause-payloads : goal.returns-clause-payloads
 returns-clause-payloads c =

@@ -1,9 +1,6 @@
 use Rattle.std.proofs.Common.{◌≡◌, ◌∙◌, ap, subst, sym, true}
 use Rattle.gb_types.specs.declared.request.Request.{Request}
 use Rattle.gb_types.specs.declared.request.Request.TheVariants.{Make, Say, Fetch}
-use Rattle.gb_rules.specs.Group.{Shown, fetch_answer}
-use Rattle.gb_rules.specs.Replied.{IsReply}
-use Rattle.gb_groups.specs.AtAddress.{reply_at}
 use Rattle.gb_table.specs.Requests.{is_admitted, admitted_reply, place_for, table_reply, IsReplyTo, table_did}
 use Rattle.gb_table.specs.TableValue.{TableValue}
 use Rattle.gb_table.proofs.RequestLemmas.{admitted}
@@ -39,13 +36,13 @@ returns-in-Say-clause-reply c =
 pub returns-in-Say-clause-state : goal.returns-in-Say-clause-state
 returns-in-Say-clause-state c = c.say.ensures.state c.args.noticed.now c.in-Say.field-0 ∙ ap (λ (r : Request). table_did c.args.noticed.now r c.say.result c.args.self.now) (sym c.in-Say.is)
 
+pub fetch-requires : goal.fetch-requires
+fetch-requires c = c.place_for-place.ensures ∙ ap (λ (q : Request). place_for q c.args.self.now) c.in-Fetch.is ∙ ap (λ (v : TableValue). place_for (Fetch c.in-Fetch.field-0 c.in-Fetch.addr c.in-Fetch.from c.in-Fetch.most) v) (sym c.self.view_is)
+
 pub returns-in-Fetch-clause-reply : goal.returns-in-Fetch-clause-reply
 returns-in-Fetch-clause-reply c =
-    let request = Fetch c.in-Fetch.field-0 c.in-Fetch.field-1 c.in-Fetch.from c.in-Fetch.most in
-    let answer = λ (s : Shown). fetch_answer s c.in-Fetch.from c.in-Fetch.most in
+    let request = Fetch c.in-Fetch.field-0 c.in-Fetch.addr c.in-Fetch.from c.in-Fetch.most in
     let right : is_admitted c.args.request.now c.args.self.now ≡ true = sym c.is_admitted.ensures ∙ c.if-not-is_admitted.false in
-    let place : c.place_for-place.result ≡ place_for request c.args.self.now = c.place_for-place.ensures ∙ ap (λ (q : Request). place_for q c.args.self.now) c.in-Fetch.is in
-    let here : IsReply (reply_at answer c.args.self.now.groups.rows c.place_for-place.result) c.fetch.result = subst (λ (v : TableValue). IsReply (reply_at answer v.groups.rows c.place_for-place.result) c.fetch.result) c.self.view_is c.fetch.ensures in
-    let reply : IsReplyTo request (admitted_reply request c.args.self.now) c.fetch.result = subst (λ p. IsReply (reply_at answer c.args.self.now.groups.rows p) c.fetch.result) place here in
+    let reply : IsReplyTo request (admitted_reply request c.args.self.now) c.fetch.result = subst (λ (v : TableValue). IsReplyTo request (admitted_reply request v) c.fetch.result) c.self.view_is c.fetch.ensures in
     subst (λ (q : Request). IsReplyTo q (table_reply q c.args.self.now) c.fetch.result) (sym c.in-Fetch.is)
     (admitted request c.args.self.now c.fetch.result (ap (λ (q : Request). is_admitted q c.args.self.now) (sym c.in-Fetch.is) ∙ right) reply)
