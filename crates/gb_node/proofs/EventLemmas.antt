@@ -24,7 +24,7 @@ use Rattle.gb_table.specs.Requests.{table_did}
 use Rattle.gb_node.specs.NodeValue.{NodeValue}
 use Rattle.gb_node.specs.NodeStep.{window_to, receiver_from, node_did, stopped_answer, IsStarved}
 use Rattle.gb_node.specs.Past.{Happened, came, packed_for, numbered, is_ack, is_taken_by, ticks, added, stops}
-use Rattle.gb_node.specs.PastGroups.{Told, noticed_after, asked_told, told_after}
+use Rattle.gb_node.specs.PastGroups.{Told, noticed_after, asked_told, told_after, living_after}
 use Rattle.gb_node.specs.SendLaw.{StarvedSays}
 use Rattle.gb_node.specs.declared.plan.NodePlan.{NodePlan}
 use Rattle.gb_node.specs.declared.answer.NodeAnswer.{NodeAnswer}
@@ -276,28 +276,47 @@ asked_untold g me noticed (DropGroup token addr) why t = refl
 asked_untold g me noticed (Say token addr message) why t = refl
 asked_untold g me noticed (Fetch token addr from most) why t = refl
 
--- nothing is made of a group, and nothing is told to it
+-- and as many of its room live
+living_refused : (g : Addr) (r : Request) (why : Refusal) (n : ℕ) → living_after g (Asked r) (Replied (Refused why)) n ≡ n
+living_refused g (AddTenant token row) why n = refl
+living_refused g (Make token addr spec) why n = refl
+living_refused g (OpenGroup token addr) why n = refl
+living_refused g (ShutGroup token addr) why n = refl
+living_refused g (DropGroup token addr) why n = refl
+living_refused g (Say token addr message) why n = refl
+living_refused g (Fetch token addr from most) why n = refl
+
+living_unsent : (g : Addr) (r : Request) (n : ℕ) → living_after g (Asked r) (Sent (SentRefused OutOfMemory)) n ≡ n
+living_unsent g (AddTenant token row) n = refl
+living_unsent g (Make token addr spec) n = refl
+living_unsent g (OpenGroup token addr) n = refl
+living_unsent g (ShutGroup token addr) n = refl
+living_unsent g (DropGroup token addr) n = refl
+living_unsent g (Say token addr message) n = refl
+living_unsent g (Fetch token addr from most) n = refl
+
+-- nothing is made of a group, nothing is told to it, and as many of its room live
 abbrev pub LeavesGroup : NodePlan → Addr → List Happened → NodeEvent → NodeAnswer → Type 0
-LeavesGroup plan g past e a = ((o : Option (Option SlotState)) → o ≡ group_after plan g past e a o) × ((t : Option (Option Told)) → t ≡ told_after plan g past e a t)
+LeavesGroup plan g past e a = ((o : Option (Option SlotState)) → o ≡ group_after plan g past e a o) × ((t : Option (Option Told)) → t ≡ told_after plan g past e a t) × ((n : ℕ) → n ≡ living_after g e a n)
 
 -- so by a stopped node
 pub stopped_group : (plan : NodePlan) (g : Addr) (past : List Happened) (e : NodeEvent) → LeavesGroup plan g past e (stopped_answer e)
-stopped_group plan g past (Asked r) = (λ o. sym (asked_refused g plan.me (noticed_after plan past) r Stopped o), λ t. sym (asked_untold g plan.me (noticed_after plan past) r Stopped t))
-stopped_group plan g past (Came bytes) = (λ o. refl, λ t. refl)
-stopped_group plan g past (Pack x) = (λ o. refl, λ t. refl)
-stopped_group plan g past (Again x n) = (λ o. refl, λ t. refl)
-stopped_group plan g past (Ack x) = (λ o. refl, λ t. refl)
-stopped_group plan g past Tick = (λ o. refl, λ t. refl)
-stopped_group plan g past Stop = (λ o. refl, λ t. refl)
+stopped_group plan g past (Asked r) = (λ o. sym (asked_refused g plan.me (noticed_after plan past) r Stopped o), λ t. sym (asked_untold g plan.me (noticed_after plan past) r Stopped t), λ n. sym (living_refused g r Stopped n))
+stopped_group plan g past (Came bytes) = (λ o. refl, λ t. refl, λ n. refl)
+stopped_group plan g past (Pack x) = (λ o. refl, λ t. refl, λ n. refl)
+stopped_group plan g past (Again x n) = (λ o. refl, λ t. refl, λ n. refl)
+stopped_group plan g past (Ack x) = (λ o. refl, λ t. refl, λ n. refl)
+stopped_group plan g past Tick = (λ o. refl, λ t. refl, λ n. refl)
+stopped_group plan g past Stop = (λ o. refl, λ t. refl, λ n. refl)
 
 unsent_group : (plan : NodePlan) (g : Addr) (past : List Happened) (e : NodeEvent) → LeavesGroup plan g past e (Sent (SentRefused OutOfMemory))
-unsent_group plan g past (Asked r) = (λ o. refl, λ t. refl)
-unsent_group plan g past (Came bytes) = (λ o. refl, λ t. refl)
-unsent_group plan g past (Pack x) = (λ o. refl, λ t. refl)
-unsent_group plan g past (Again x n) = (λ o. refl, λ t. refl)
-unsent_group plan g past (Ack x) = (λ o. refl, λ t. refl)
-unsent_group plan g past Tick = (λ o. refl, λ t. refl)
-unsent_group plan g past Stop = (λ o. refl, λ t. refl)
+unsent_group plan g past (Asked r) = (λ o. refl, λ t. refl, λ n. sym (living_unsent g r n))
+unsent_group plan g past (Came bytes) = (λ o. refl, λ t. refl, λ n. refl)
+unsent_group plan g past (Pack x) = (λ o. refl, λ t. refl, λ n. refl)
+unsent_group plan g past (Again x n) = (λ o. refl, λ t. refl, λ n. refl)
+unsent_group plan g past (Ack x) = (λ o. refl, λ t. refl, λ n. refl)
+unsent_group plan g past Tick = (λ o. refl, λ t. refl, λ n. refl)
+unsent_group plan g past Stop = (λ o. refl, λ t. refl, λ n. refl)
 
 -- and for want of memory
 pub starved_group : (plan : NodePlan) (g : Addr) (past : List Happened) (e : NodeEvent) (should answer : NodeAnswer) → IsStarved e should answer → LeavesGroup plan g past e answer
@@ -307,4 +326,4 @@ starved_group plan g past e should answer starved = by (starved_says e should an
     by (inl is) = subst (LeavesGroup plan g past e) (sym is) (unsent_group plan g past e)
     by (inr is) =
         subst (λ x. LeavesGroup plan g past x answer) (sym is.1) (subst (LeavesGroup plan g past (Asked is.0)) (sym is.2)
-        (λ o. sym (asked_refused g plan.me (noticed_after plan past) is.0 OutOfMemory o), λ t. sym (asked_untold g plan.me (noticed_after plan past) is.0 OutOfMemory t)))
+        (λ o. sym (asked_refused g plan.me (noticed_after plan past) is.0 OutOfMemory o), λ t. sym (asked_untold g plan.me (noticed_after plan past) is.0 OutOfMemory t), λ n. sym (living_refused g is.0 OutOfMemory n)))

@@ -1,6 +1,6 @@
 -- What each event changes in each group of a node.
 use Rattle.std.proofs.Common.{◌≡◌, ℕ, inl, inr, List, [], ◌∷◌, ◌++◌, length, map, take, Option, Some, None, Ok, refl, sym, ap, subst, ◌∙◌, ◌≤◌, arith}
-use Rattle.std.specs.Prelude.{Bool, true, false, not, cond, ◌&&◌, filter, fold, is_some, nat_eq, nat_le, nat_lt, if◌then◌else◌}
+use Rattle.std.specs.Prelude.{Bool, true, false, not, cond, ◌&&◌, filter, fold, nat_eq, nat_lt, if◌then◌else◌}
 use Rattle.std.specs.FinSet as set
 use Rattle.std.specs.Ordering.{nat_cmp}
 use Rattle.std.proofs.lemmas.Bool.{cases_Bool, cases_lt}
@@ -13,13 +13,10 @@ use Rattle.gb_types.specs.Rising.{rising}
 use Rattle.gb_types.specs.declared.address.Addr.{Addr}
 use Rattle.gb_types.specs.declared.limits.TheConstants.{NODES}
 use Rattle.gb_types.specs.declared.node.NodeId.{NodeId}
-use Rattle.gb_rules.specs.Group.{is_too_long}
-use Rattle.gb_types.specs.declared.refusal.Refusal.TheVariants.{Denied, NoGroup, Spent}
 use Rattle.gb_types.specs.declared.reply.Reply.{Reply}
 use Rattle.gb_types.specs.declared.reply.Reply.TheVariants.{Done, Said, Log, Refused}
 use Rattle.gb_types.specs.declared.request.Request.{Request}
 use Rattle.gb_types.specs.declared.request.Request.TheVariants.{AddTenant, Make, OpenGroup, ShutGroup, DropGroup, Say, Fetch}
-use Rattle.gb_types.specs.declared.spec.Spec.{Spec}
 use Rattle.gb_rules.specs.declared.phase.Phase.TheVariants.{Opened, Shut}
 use Rattle.gb_frame.specs.declared.item.Item.{Item}
 use Rattle.gb_frame.specs.Packet.{Content}
@@ -36,13 +33,15 @@ use Rattle.gb_slot.specs.SlotState.{SlotState}
 use Rattle.gb_slot.specs.Slot.{new_slot, slot_moved, slot_said, slot_noticed, slot_came, slot_done, slot_took}
 use Rattle.gb_groups.specs.SlotsValue.{AreApart}
 use Rattle.gb_frame.specs.Items.{address_of, entry_of, names, items_for, item_for}
-use Rattle.gb_groups.specs.AtAddress.{item_came, place_of}
-use Rattle.gb_rules.specs.Lifetime.{stepped, where_so}
-use Rattle.gb_groups.specs.OneGroup.{group_in, waiting_in, came_for, EachGroup, StayApart}
-use Rattle.gb_rules.specs.Tenant.{make_answer, by_tenant}
-use Rattle.gb_rules.specs.declared.reserve.Reserve.{Reserve}
-use Rattle.gb_table.specs.TableValue.{TableValue, reserve_for, table_noticed, table_packed}
-use Rattle.gb_table.specs.Requests.{is_admitted, table_did, table_reply}
+use Rattle.gb_groups.specs.AtAddress.{item_came}
+use Rattle.gb_groups.specs.GroupsValue.{GroupsValue}
+use Rattle.gb_rules.specs.Address.{is_addr}
+use Rattle.gb_rules.specs.Lifetime.{stepped, or_added, passed, where_so}
+use Rattle.gb_rules.specs.Room.{is_reached_by}
+use Rattle.gb_rules.proofs.AddressLemmas.{addr_is}
+use Rattle.gb_groups.specs.OneGroup.{group_in, waiting_in, came_for, with_rows, AreInOrder, EachGroup}
+use Rattle.gb_table.specs.TableValue.{TableValue, table_noticed, table_packed}
+use Rattle.gb_table.specs.Requests.{table_did, table_reply}
 use Rattle.gb_node.specs.NodeValue.{NodeValue}
 use Rattle.gb_node.specs.NodeStep.{node_numbered, window_to, receiver_from, is_reached, content_to, batch_to, room_to, unless_empty, next_batch, sent_batch, newly_done, took_ack, heard, good_of, node_took, node_ticked, node_did, item_done, frame_done, item_comes, items_come, fate, kind_of, frame_comes, notice_each}
 use Rattle.gb_node.proofs.PacketLemmas.{read_one}
@@ -58,88 +57,64 @@ use Rattle.gb_node.specs.declared.answer.Ticked.TheVariants.{Noticed}
 use Rattle.gb_node.specs.declared.event.NodeEvent.{NodeEvent}
 use Rattle.gb_node.specs.declared.event.NodeEvent.TheVariants.{Request as Asked, Packet as Came, Pack, Again, Ack, Tick, Stop}
 use Rattle.gb_node.proofs.LinkLemmas.{told, keeps_all, keeps_frame}
+use Rattle.gb_node.proofs.AskedLemmas.{AreWithinLimits, can_make}
 
 -- Requests.
 
-pub did_for : EachGroup → (noticed : set.FinSet nat_cmp) (g : Addr) (r : Request) (reply : Reply) (t : TableValue) → group_in g (table_did noticed r reply t).groups.rows ≡ asked_for g t.me noticed r reply (group_in g t.groups.rows)
-did_for law noticed g (AddTenant token row) Done t = refl
-did_for law noticed g (AddTenant token row) (Said seq) t = refl
-did_for law noticed g (AddTenant token row) (Log entries) t = refl
-did_for law noticed g (AddTenant token row) (Refused why) t = refl
-did_for law noticed g (Make token addr spec) Done t = law.appended g t.groups.rows (record { addr = addr; slot = Some (new_slot spec t.me noticed) })
-did_for law noticed g (Make token addr spec) (Said seq) t = refl
-did_for law noticed g (Make token addr spec) (Log entries) t = refl
-did_for law noticed g (Make token addr spec) (Refused why) t = refl
-did_for law noticed g (OpenGroup token addr) Done t = law.addressed g addr (slot_moved Opened Done) t.groups.rows
-did_for law noticed g (OpenGroup token addr) (Said seq) t = refl
-did_for law noticed g (OpenGroup token addr) (Log entries) t = refl
-did_for law noticed g (OpenGroup token addr) (Refused why) t = refl
-did_for law noticed g (ShutGroup token addr) Done t = law.addressed g addr (slot_moved Shut Done) t.groups.rows
-did_for law noticed g (ShutGroup token addr) (Said seq) t = refl
-did_for law noticed g (ShutGroup token addr) (Log entries) t = refl
-did_for law noticed g (ShutGroup token addr) (Refused why) t = refl
-did_for law noticed g (DropGroup token addr) Done t = law.erased g addr t.groups.rows
-did_for law noticed g (DropGroup token addr) (Said seq) t = refl
-did_for law noticed g (DropGroup token addr) (Log entries) t = refl
-did_for law noticed g (DropGroup token addr) (Refused why) t = refl
-did_for law noticed g (Say token addr message) Done t = refl
-did_for law noticed g (Say token addr message) (Said seq) t = law.addressed g addr (slot_said message.payload (Said seq)) t.groups.rows
-did_for law noticed g (Say token addr message) (Log entries) t = refl
-did_for law noticed g (Say token addr message) (Refused why) t = refl
-did_for law noticed g (Fetch token addr from most) Done t = refl
-did_for law noticed g (Fetch token addr from most) (Said seq) t = refl
-did_for law noticed g (Fetch token addr from most) (Log entries) t = refl
-did_for law noticed g (Fetch token addr from most) (Refused why) t = refl
-
--- a group is made only under an address that was never used
-free : (nodes me : ℕ) (addr : Addr) (spec : Spec) (place : Option ℕ) (admitted : Bool) (reserve : Option Reserve)
-    → Done ≡ (if admitted then by_tenant (make_answer nodes me addr (is_some place) spec) reserve else Refused Denied) → place ≡ None
-free nodes me addr spec place false reserve e = absurd (cc)
-free nodes me addr spec place true None e = absurd (cc)
-free nodes me addr spec None true (Some reserve) e = refl
-free nodes me addr spec (Some p) true (Some reserve) e = absurd (by (nat_le reserve.groups addr.group) e)
+-- a group that is made was not there
+added_fresh : (g addr : Addr) (s : SlotState) (t : GroupsValue) → group_in addr t ≡ None
+    → (if is_addr g addr then Some (Some s) else where_so (is_reached_by g addr) passed (group_in g t)) ≡ (if is_addr g addr then or_added (group_in g t) (Some (Some s)) else where_so (is_reached_by g addr) passed (group_in g t))
+added_fresh g addr s t fresh =
+    elim (cases_Bool (is_addr g addr)) [
+      | inl e ↦ by (group_in g t) (is_addr g addr) (λ _. ap (λ a. group_in a t) (addr_is g addr e) ∙ fresh)
+      | inr e ↦ by (group_in g t) (is_addr g addr) (λ on. let no : true ≡ false = sym on ∙ e in absurd (cc))
+    ]
   where
-    by : (a : Bool) → Done ≡ (if a then Refused NoGroup else Refused Spent) → ⊥
-    by true e = cc
-    by false e = cc
+    by : (o : Option (Option SlotState)) (b : Bool) → (b ≡ true → o ≡ None) → (if b then Some (Some s) else where_so (is_reached_by g addr) passed o) ≡ (if b then or_added o (Some (Some s)) else where_so (is_reached_by g addr) passed o)
+    by None true none = refl
+    by (Some o) true none = let no = none refl in absurd (cc)
+    by o false none = refl
 
-pub did_apart : StayApart → (noticed : set.FinSet nat_cmp) (r : Request) (reply : Reply) (t : TableValue) → reply ≡ table_reply r t → AreApart t.groups.rows → AreApart (table_did noticed r reply t).groups.rows
-did_apart law noticed (AddTenant token row) Done t is ok = ok
-did_apart law noticed (AddTenant token row) (Said seq) t is ok = ok
-did_apart law noticed (AddTenant token row) (Log entries) t is ok = ok
-did_apart law noticed (AddTenant token row) (Refused why) t is ok = ok
-did_apart law noticed (Make token addr spec) Done t is ok = law.appended t.groups.rows (record { addr = addr; slot = Some (new_slot spec t.me noticed) }) ok (free t.nodes t.me.number addr spec (place_of addr t.groups.rows) (is_admitted (Make token addr spec) t) (reserve_for addr.tenant t) is)
-did_apart law noticed (Make token addr spec) (Said seq) t is ok = ok
-did_apart law noticed (Make token addr spec) (Log entries) t is ok = ok
-did_apart law noticed (Make token addr spec) (Refused why) t is ok = ok
-did_apart law noticed (OpenGroup token addr) Done t is ok = law.addressed addr (slot_moved Opened Done) t.groups.rows ok
-did_apart law noticed (OpenGroup token addr) (Said seq) t is ok = ok
-did_apart law noticed (OpenGroup token addr) (Log entries) t is ok = ok
-did_apart law noticed (OpenGroup token addr) (Refused why) t is ok = ok
-did_apart law noticed (ShutGroup token addr) Done t is ok = law.addressed addr (slot_moved Shut Done) t.groups.rows ok
-did_apart law noticed (ShutGroup token addr) (Said seq) t is ok = ok
-did_apart law noticed (ShutGroup token addr) (Log entries) t is ok = ok
-did_apart law noticed (ShutGroup token addr) (Refused why) t is ok = ok
-did_apart law noticed (DropGroup token addr) Done t is ok = law.erased addr t.groups.rows ok
-did_apart law noticed (DropGroup token addr) (Said seq) t is ok = ok
-did_apart law noticed (DropGroup token addr) (Log entries) t is ok = ok
-did_apart law noticed (DropGroup token addr) (Refused why) t is ok = ok
-did_apart law noticed (Say token addr message) Done t is ok = ok
-did_apart law noticed (Say token addr message) (Said seq) t is ok = law.addressed addr (slot_said message.payload (Said seq)) t.groups.rows ok
-did_apart law noticed (Say token addr message) (Log entries) t is ok = ok
-did_apart law noticed (Say token addr message) (Refused why) t is ok = ok
-did_apart law noticed (Fetch token addr from most) Done t is ok = ok
-did_apart law noticed (Fetch token addr from most) (Said seq) t is ok = ok
-did_apart law noticed (Fetch token addr from most) (Log entries) t is ok = ok
-did_apart law noticed (Fetch token addr from most) (Refused why) t is ok = ok
+pub did_for : EachGroup → (noticed : set.FinSet nat_cmp) (g : Addr) (r : Request) (reply : Reply) (t : TableValue) → AreInOrder t.groups → AreWithinLimits t.tenants → reply ≡ table_reply r t
+    → group_in g (table_did noticed r reply t).groups ≡ asked_for g t.me noticed r reply (group_in g t.groups)
+did_for law noticed g (AddTenant token row) Done t order limits is = refl
+did_for law noticed g (AddTenant token row) (Said seq) t order limits is = refl
+did_for law noticed g (AddTenant token row) (Log entries) t order limits is = refl
+did_for law noticed g (AddTenant token row) (Refused why) t order limits is = refl
+did_for law noticed g (Make token addr spec) Done t order limits is =
+    let can = can_make t token addr spec limits is in
+    law.added g addr (new_slot spec t.me noticed) t.groups order can ∙ added_fresh g addr (new_slot spec t.me noticed) t.groups can.fresh
+did_for law noticed g (Make token addr spec) (Said seq) t order limits is = refl
+did_for law noticed g (Make token addr spec) (Log entries) t order limits is = refl
+did_for law noticed g (Make token addr spec) (Refused why) t order limits is = refl
+did_for law noticed g (OpenGroup token addr) Done t order limits is = law.addressed g addr (slot_moved Opened Done) t.groups
+did_for law noticed g (OpenGroup token addr) (Said seq) t order limits is = refl
+did_for law noticed g (OpenGroup token addr) (Log entries) t order limits is = refl
+did_for law noticed g (OpenGroup token addr) (Refused why) t order limits is = refl
+did_for law noticed g (ShutGroup token addr) Done t order limits is = law.addressed g addr (slot_moved Shut Done) t.groups
+did_for law noticed g (ShutGroup token addr) (Said seq) t order limits is = refl
+did_for law noticed g (ShutGroup token addr) (Log entries) t order limits is = refl
+did_for law noticed g (ShutGroup token addr) (Refused why) t order limits is = refl
+did_for law noticed g (DropGroup token addr) Done t order limits is = law.erased g addr t.groups order
+did_for law noticed g (DropGroup token addr) (Said seq) t order limits is = refl
+did_for law noticed g (DropGroup token addr) (Log entries) t order limits is = refl
+did_for law noticed g (DropGroup token addr) (Refused why) t order limits is = refl
+did_for law noticed g (Say token addr message) Done t order limits is = refl
+did_for law noticed g (Say token addr message) (Said seq) t order limits is = law.addressed g addr (slot_said message.payload (Said seq)) t.groups
+did_for law noticed g (Say token addr message) (Log entries) t order limits is = refl
+did_for law noticed g (Say token addr message) (Refused why) t order limits is = refl
+did_for law noticed g (Fetch token addr from most) Done t order limits is = refl
+did_for law noticed g (Fetch token addr from most) (Said seq) t order limits is = refl
+did_for law noticed g (Fetch token addr from most) (Log entries) t order limits is = refl
+did_for law noticed g (Fetch token addr from most) (Refused why) t order limits is = refl
 
 -- Items that are acknowledged.
 
-item_done_in : EachGroup → (g : Addr) (from : NodeId) (t : TableValue) (i : Item) → group_in g (item_done from t i).groups.rows ≡ where_so (names g i) (λ o. done_for from o i) (group_in g t.groups.rows)
+item_done_in : EachGroup → (g : Addr) (from : NodeId) (t : TableValue) (i : Item) → group_in g (item_done from t i).groups ≡ where_so (names g i) (λ o. done_for from o i) (group_in g t.groups)
 item_done_in law g from t i =
     elim (cases_Bool (nat_lt i.origin NODES)) [
-      | inl h ↦ rw h (law.addressed g (address_of i) (slot_done from (message_of (entry_of i))) t.groups.rows)
-      | inr h ↦ rw h (sym (either (names g i) (group_in g t.groups.rows)))
+      | inl h ↦ rw h (law.addressed g (address_of i) (slot_done from (message_of (entry_of i))) t.groups)
+      | inr h ↦ rw h (sym (either (names g i) (group_in g t.groups)))
     ]
   where
     either : (b : Bool) (o : Option (Option SlotState)) → where_so b (λ o. o) o ≡ o
@@ -148,109 +123,73 @@ item_done_in law g from t i =
 
 -- a fold over all items, of which each item changes a group that it names
 module _ (g : Addr) (step : TableValue → Item → TableValue) (own : Option (Option SlotState) → Item → Option (Option SlotState))
-    (one : (t : TableValue) (i : Item) → group_in g (step t i).groups.rows ≡ where_so (names g i) (λ o. own o i) (group_in g t.groups.rows)) where
-  all_items : (t : TableValue) (is : List Item) → group_in g (fold step t is).groups.rows ≡ fold own (group_in g t.groups.rows) (items_for g is)
+    (one : (t : TableValue) (i : Item) → group_in g (step t i).groups ≡ where_so (names g i) (λ o. own o i) (group_in g t.groups)) where
+  all_items : (t : TableValue) (is : List Item) → group_in g (fold step t is).groups ≡ fold own (group_in g t.groups) (items_for g is)
   all_items t [] = refl
   all_items t (i ∷ is) =
       elim (cases_Bool (names g i)) [
         | inl e ↦
             all_items (step t i) is
-            ∙ (ap (λ o. fold own o (items_for g is)) (one t i ∙ ap (λ b. where_so b (λ o. own o i) (group_in g t.groups.rows)) e)
-            ∙ sym (ap (λ b. fold own (group_in g t.groups.rows) (cond b (i ∷ items_for g is) (items_for g is))) e))
+            ∙ (ap (λ o. fold own o (items_for g is)) (one t i ∙ ap (λ b. where_so b (λ o. own o i) (group_in g t.groups)) e)
+            ∙ sym (ap (λ b. fold own (group_in g t.groups) (cond b (i ∷ items_for g is) (items_for g is))) e))
         | inr e ↦
             all_items (step t i) is
-            ∙ (ap (λ o. fold own o (items_for g is)) (one t i ∙ ap (λ b. where_so b (λ o. own o i) (group_in g t.groups.rows)) e)
-            ∙ sym (ap (λ b. fold own (group_in g t.groups.rows) (cond b (i ∷ items_for g is) (items_for g is))) e))
+            ∙ (ap (λ o. fold own o (items_for g is)) (one t i ∙ ap (λ b. where_so b (λ o. own o i) (group_in g t.groups)) e)
+            ∙ sym (ap (λ b. fold own (group_in g t.groups) (cond b (i ∷ items_for g is) (items_for g is))) e))
       ]
 
-pub frames_done_in : EachGroup → (g : Addr) (from : NodeId) (t : TableValue) (us : List (ℕ × List Item)) → group_in g (fold (frame_done from) t us).groups.rows ≡ fold (done_for from) (group_in g t.groups.rows) (items_for g (items_freed us))
+pub frames_done_in : EachGroup → (g : Addr) (from : NodeId) (t : TableValue) (us : List (ℕ × List Item)) → group_in g (fold (frame_done from) t us).groups ≡ fold (done_for from) (group_in g t.groups) (items_for g (items_freed us))
 frames_done_in law g from t [] = refl
 frames_done_in law g from t (u ∷ us) =
     frames_done_in law g from (frame_done from t u) us
     ∙ (ap (λ o. fold (done_for from) o (items_for g (items_freed us))) (all_items g (item_done from) (done_for from) (item_done_in law g from) t u.1)
-    ∙ (sym (fold-append (done_for from) (group_in g t.groups.rows) (items_for g u.1) (items_for g (items_freed us)))
-    ∙ ap (fold (done_for from) (group_in g t.groups.rows)) (sym (filter-append (names g) u.1 (items_freed us)))))
+    ∙ (sym (fold-append (done_for from) (group_in g t.groups) (items_for g u.1) (items_for g (items_freed us)))
+    ∙ ap (fold (done_for from) (group_in g t.groups)) (sym (filter-append (names g) u.1 (items_freed us)))))
 
 -- Items that come.
 
-item_comes_in : EachGroup → (g : Addr) (from : NodeId) (t : TableValue) (is : List Item) → group_in g (fold (item_comes from) t is).groups.rows ≡ fold (came_for t.version from) (group_in g t.groups.rows) (items_for g is)
-item_comes_in law g from t is = ap (group_in g) (rows_of t is) ∙ law.arrived t.version g from is t.groups.rows
+item_comes_in : EachGroup → (g : Addr) (from : NodeId) (t : TableValue) (is : List Item) → group_in g (fold (item_comes from) t is).groups ≡ fold (came_for t.version from) (group_in g t.groups) (items_for g is)
+item_comes_in law g from t is = ap (group_in g) (groups_are t is) ∙ law.arrived t.version g from is t.groups
   where
-    rows_of : (t : TableValue) (is : List Item) → (fold (item_comes from) t is).groups.rows ≡ fold (λ rows i. item_came t.version from i rows) t.groups.rows is
-    rows_of t [] = refl
-    rows_of t (i ∷ is) = rows_of (item_comes from t i) is
+    groups_are : (t : TableValue) (is : List Item) → (fold (item_comes from) t is).groups ≡ with_rows (fold (λ rows i. item_came t.version from i rows) t.groups.rows is) t.groups
+    groups_are t [] = refl
+    groups_are t (i ∷ is) = groups_are (item_comes from t i) is
 
 pub frame_comes_in : EachGroup → (g : Addr) (from : NodeId) (n : ℕ) (is : List Item) (r : Received) (t : TableValue)
-    → group_in g (frame_comes from n is r t).groups.rows ≡ (if is_first (fate n r) then fold (came_for t.version from) (group_in g t.groups.rows) (items_for g is) else group_in g t.groups.rows)
+    → group_in g (frame_comes from n is r t).groups ≡ (if is_first (fate n r) then fold (came_for t.version from) (group_in g t.groups) (items_for g is) else group_in g t.groups)
 frame_comes_in law g from n is r t =
     elim (cases_Bool (nat_eq n 0)) [
       | inl h ↦ rw h refl
       | inr h ↦ rw h (by (admission r n))
     ]
   where
-    by : (a : Admission) → group_in g (items_come from is a t).groups.rows ≡ (if is_first (kind_of a) then fold (came_for t.version from) (group_in g t.groups.rows) (items_for g is) else group_in g t.groups.rows)
+    by : (a : Admission) → group_in g (items_come from is a t).groups ≡ (if is_first (kind_of a) then fold (came_for t.version from) (group_in g t.groups) (items_for g is) else group_in g t.groups)
     by First = item_comes_in law g from t is
     by Seen = refl
     by Outside = refl
 
 -- Notices.
 
-pub notices_in : EachGroup → (g : Addr) (t : TableValue) (found : List ℕ) → group_in g (notice_each t found).groups.rows ≡ fold noticed_for (group_in g t.groups.rows) found
+pub notices_in : EachGroup → (g : Addr) (t : TableValue) (found : List ℕ) → group_in g (notice_each t found).groups ≡ fold noticed_for (group_in g t.groups) found
 notices_in law g t [] = refl
 notices_in law g t (b ∷ found) =
     notices_in law g (table_noticed (node_numbered b) t) found
-    ∙ ap (λ o. fold noticed_for o found) (law.every g (slot_noticed (node_numbered b)) t.groups.rows)
+    ∙ ap (λ o. fold noticed_for o found) (law.every g (slot_noticed (node_numbered b)) t.groups)
 
 -- Batches.
 
 pub packed_in : EachGroup → (g : Addr) (b : NodeId) (room : ℕ) (items : List Item) (t : TableValue) → AreApart t.groups.rows → items ≡ batch_to room t b
-    → group_in g (table_packed b.number room t).groups.rows ≡ stepped (slot_took b.number (length (items_for g items))) (group_in g t.groups.rows)
+    → group_in g (table_packed b.number room t).groups ≡ stepped (slot_took b.number (length (items_for g items))) (group_in g t.groups)
 packed_in law g b room items t apart is =
-    law.taken g t.version b.number room t.groups apart ∙ ap (λ xs. stepped (slot_took b.number (length (items_for g xs))) (group_in g t.groups.rows)) (sym is)
-
--- No two groups have one address.
-
-module _ (law : StayApart) where
-  apart_all : {X : Type 0} (step : TableValue → X → TableValue) → ((t : TableValue) (x : X) → AreApart t.groups.rows → AreApart (step t x).groups.rows) → (t : TableValue) (xs : List X) → AreApart t.groups.rows → AreApart (fold step t xs).groups.rows
-  apart_all step one t [] ok = ok
-  apart_all step one t (x ∷ xs) ok = apart_all step one (step t x) xs (one t x ok)
-
-  item_done_apart : (from : NodeId) (t : TableValue) (i : Item) → AreApart t.groups.rows → AreApart (item_done from t i).groups.rows
-  item_done_apart from t i ok = elim (cases_Bool (nat_lt i.origin NODES)) [
-    | inl h ↦ rw h (law.addressed (address_of i) (slot_done from (message_of (entry_of i))) t.groups.rows ok)
-    | inr h ↦ rw h ok
-  ]
-
-  pub frames_done_apart : (from : NodeId) (t : TableValue) (us : List (ℕ × List Item)) → AreApart t.groups.rows → AreApart (fold (frame_done from) t us).groups.rows
-  frames_done_apart from t us ok = apart_all (frame_done from) (λ t u ok. apart_all (item_done from) (item_done_apart from) t u.1 ok) t us ok
-
-  item_comes_apart : (from : NodeId) (t : TableValue) (i : Item) → AreApart t.groups.rows → AreApart (item_comes from t i).groups.rows
-  item_comes_apart from t i ok = elim (cases_Bool (nat_lt i.origin NODES && not (is_too_long t.version i.payload))) [
-    | inl h ↦ rw h (law.addressed (address_of i) (slot_came from (entry_of i)) t.groups.rows ok)
-    | inr h ↦ rw h ok
-  ]
-
-  pub frame_comes_apart : (from : NodeId) (n : ℕ) (is : List Item) (r : Received) (t : TableValue) → AreApart t.groups.rows → AreApart (frame_comes from n is r t).groups.rows
-  frame_comes_apart from n is r t ok = elim (cases_Bool (nat_eq n 0)) [
-    | inl h ↦ rw h ok
-    | inr h ↦ rw h (by (admission r n))
-  ]
-    where
-      by : (a : Admission) → AreApart (items_come from is a t).groups.rows
-      by First = apart_all (item_comes from) (item_comes_apart from) t is ok
-      by Seen = ok
-      by Outside = ok
-
-  pub notices_apart : (t : TableValue) (found : List ℕ) → AreApart t.groups.rows → AreApart (notice_each t found).groups.rows
-  notices_apart t found ok = apart_all (λ t b. table_noticed (node_numbered b) t) (λ t b ok. law.every (slot_noticed (node_numbered b)) t.groups.rows ok) t found ok
+    law.taken g t.version b.number room t.groups apart ∙ ap (λ xs. stepped (slot_took b.number (length (items_for g xs))) (group_in g t.groups)) (sym is)
 
 -- What each event makes of each group, in the words of the past.
 module _ (each : EachGroup) (plan : NodePlan) (past : List Happened) (v : NodeValue) (was : StandsForPast plan past v) (g : Addr) where
-  pub asked_groups : (r : Request) (reply : Reply) → group_in g (node_did r reply v).table.groups.rows ≡ group_after plan g past (Asked r) (Replied reply) (group_in g v.table.groups.rows)
-  asked_groups r reply =
-      did_for each v.watch.noticed g r reply v.table
-      ∙ (ap (λ m. asked_for g m v.watch.noticed r reply (group_in g v.table.groups.rows)) was.beside.me
-      ∙ ap (λ (w : Watch). asked_for g plan.me w.noticed r reply (group_in g v.table.groups.rows)) was.beside.watch)
+  pub asked_groups : (r : Request) (reply : Reply) → AreInOrder v.table.groups → AreWithinLimits v.table.tenants → reply ≡ table_reply r v.table → group_in g (node_did r reply v).table.groups ≡ group_after plan g past (Asked r) (Replied reply) (group_in g v.table.groups)
+  asked_groups r reply order limits is =
+      did_for each v.watch.noticed g r reply v.table order limits is
+      ∙ (ap (λ m. asked_for g m v.watch.noticed r reply (group_in g v.table.groups)) was.beside.me
+      ∙ ap (λ (w : Watch). asked_for g plan.me w.noticed r reply (group_in g v.table.groups)) was.beside.watch)
 
   -- a node with a number beyond all has no frames
   no_frames : (key : List ℕ) (n : ℕ) (hs : List Happened) → NODES ≤ n → frames_to key n hs ≡ []
@@ -287,30 +226,30 @@ module _ (each : EachGroup) (plan : NodePlan) (past : List Happened) (v : NodeVa
       ]
 
   pub took_groups : (bytes : List ℕ) (c : Content) → reading v.key bytes ≡ Ok c → length v.windows ≡ NODES
-      → group_in g (node_took c v).table.groups.rows ≡ group_after plan g past (Came bytes) (Taken (TakenGood (good_of c v))) (group_in g v.table.groups.rows)
+      → group_in g (node_took c v).table.groups ≡ group_after plan g past (Came bytes) (Taken (TakenGood (good_of c v))) (group_in g v.table.groups)
   took_groups bytes c is size =
       let key = plan.cluster_key in
       let from = node_numbered c.from in
-      let o = group_in g v.table.groups.rows in
+      let o = group_in g v.table.groups in
       let acked = took_ack c (heard c v) in
       let first = is_first (fate c.frame (receiver_from v c.from)) in
       let frees : newly_done c v ≡ freed_by key past c = ap (filter (λ u. covers c.base c.mask u.0)) (undone_is size c.from) in
       let freed = keeps_all (frame_done from) (keeps_frame from) v.table (newly_done c v) in
       let one : read key bytes ≡ c ∷ [] = ap (λ k. read k bytes) (sym was.beside.key) ∙ read_one v.key bytes c is in
       frame_comes_in each g from c.frame c.items (receiver_from v c.from) acked.table
-      ∙ (ap (λ version. if first then fold (came_for version from) (group_in g acked.table.groups.rows) (items_for g c.items) else group_in g acked.table.groups.rows) (freed.version ∙ was.beside.version)
+      ∙ (ap (λ version. if first then fold (came_for version from) (group_in g acked.table.groups) (items_for g c.items) else group_in g acked.table.groups) (freed.version ∙ was.beside.version)
       ∙ (ap (λ x. if first then fold (came_for plan.version from) x (items_for g c.items) else x) (frames_done_in each g from v.table (newly_done c v) ∙ ap (λ us. fold (done_for from) o (items_for g (items_freed us))) frees)
       ∙ sym (ap (λ cs. fold (taken_for plan.version key g past (fate c.frame (receiver_from v c.from))) o cs) one)))
 
   pub packed_groups : (b : NodeId) (items : List Item) (law : WhatIsWrittenIsRead) → IsPacket (content_to v b (window_to v b.number).next items) → length v.windows ≡ NODES → AreApart v.table.groups.rows → items ≡ batch_to (room_to v b) v.table b
-      → group_in g (sent_batch b (Some items) v).table.groups.rows ≡ group_after plan g past (Pack b) (Sent (SentPacket (packet_text v.key (content_to v b (window_to v b.number).next items)))) (group_in g v.table.groups.rows)
+      → group_in g (sent_batch b (Some items) v).table.groups ≡ group_after plan g past (Pack b) (Sent (SentPacket (packet_text v.key (content_to v b (window_to v b.number).next items)))) (group_in g v.table.groups)
   packed_groups b items law fit size apart is =
       let c = content_to v b (window_to v b.number).next items in
       let one : read plan.cluster_key (packet_text v.key c) ≡ c ∷ [] = ap (λ k. read k (packet_text v.key c)) (sym was.beside.key) ∙ told v b items law fit size in
       packed_in each g b (room_to v b) items v.table apart is
-      ∙ sym (ap (λ cs. fold (packed_from g b) (group_in g v.table.groups.rows) cs) one)
+      ∙ sym (ap (λ cs. fold (packed_from g b) (group_in g v.table.groups) cs) one)
 
-  pub ticked_groups : group_in g (node_ticked v).table.groups.rows ≡ group_after plan g past Tick (Ticked (Noticed (due v.watch))) (group_in g v.table.groups.rows)
+  pub ticked_groups : group_in g (node_ticked v).table.groups ≡ group_after plan g past Tick (Ticked (Noticed (due v.watch))) (group_in g v.table.groups)
   ticked_groups = notices_in each g v.table (rising (due v.watch))
 
 -- the batch that is sent is the table's
@@ -331,15 +270,15 @@ next_items v b items e = by (is_reached v b && has_room (window_to v b.number)) 
 
 -- a batch has of each group a front of what waits there
 pub front_taken : EachGroup → (v : NodeValue) (b : NodeId) (g : Addr) (items : List Item) → AreApart v.table.groups.rows → items ≡ batch_to (room_to v b) v.table b
-    → items_for g items ≡ map (item_for g) (take (length (items_for g items)) (waiting_in (group_in g v.table.groups.rows) b.number))
+    → items_for g items ≡ map (item_for g) (take (length (items_for g items)) (waiting_in (group_in g v.table.groups) b.number))
 front_taken law v b g items apart is =
-    subst (λ xs. items_for g xs ≡ map (item_for g) (take (length (items_for g xs)) (waiting_in (group_in g v.table.groups.rows) b.number))) (sym is) (law.front g v.table.version b.number (room_to v b) v.table.groups apart)
+    subst (λ xs. items_for g xs ≡ map (item_for g) (take (length (items_for g xs)) (waiting_in (group_in g v.table.groups) b.number))) (sym is) (law.front g v.table.version b.number (room_to v b) v.table.groups apart)
 
 -- a batch takes no more of a group than waits there
-pub waiting_enough : EachGroup → (v : NodeValue) (b : NodeId) (g : Addr) (items : List Item) → AreApart v.table.groups.rows → items ≡ batch_to (room_to v b) v.table b → length (items_for g items) ≤ length (waiting_in (group_in g v.table.groups.rows) b.number)
+pub waiting_enough : EachGroup → (v : NodeValue) (b : NodeId) (g : Addr) (items : List Item) → AreApart v.table.groups.rows → items ≡ batch_to (room_to v b) v.table b → length (items_for g items) ≤ length (waiting_in (group_in g v.table.groups) b.number)
 waiting_enough law v b g items apart is =
     let n = length (items_for g items) in
-    let there = waiting_in (group_in g v.table.groups.rows) b.number in
+    let there = waiting_in (group_in g v.table.groups) b.number in
     let all : n ≡ length (take n there) = ap length (front_taken law v b g items apart is) ∙ length-map (take n there) (item_for g) in
     let most = length-take n there in
     omega (arith, all, most)

@@ -1,5 +1,6 @@
 pub mod AckLemmas
 pub mod AcknowledgedLemmas
+pub mod AskedLemmas
 pub mod EventLemmas
 pub mod FrameLemmas
 pub mod FreshLemmas
@@ -9,6 +10,7 @@ pub mod KeptLemmas
 pub mod KnownLemmas
 pub mod LinkLemmas
 pub mod NodeLemmas
+pub mod OrderLemmas
 pub mod PackLemmas
 pub mod PacketLemmas
 pub mod PastLemmas

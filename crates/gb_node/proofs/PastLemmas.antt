@@ -13,10 +13,11 @@ use Rattle.gb_detect.specs.Watch.{Watch, start, replay, after}
 use Rattle.gb_frame.specs.declared.item.Item.{Item}
 use Rattle.gb_frame.specs.Packet.{Content}
 use Rattle.gb_groups.specs.OneGroup.{group_in}
+use Rattle.gb_groups.specs.Rooms.{others_living}
 use Rattle.gb_node.specs.NodeValue.{NodeValue}
 use Rattle.gb_node.specs.NodeStep.{window_to, receiver_from}
 use Rattle.gb_node.specs.Past.{Happened, came, packed_for, frames_to, numbered, is_ack, is_acked, is_taken_by, is_taken, ticks, watched, added, tenants_in, stops, is_stopped}
-use Rattle.gb_node.specs.PastGroups.{told_after, told_of}
+use Rattle.gb_node.specs.PastGroups.{told_after, told_of, living_after, living_of}
 use Rattle.gb_node.proofs.SlotGroups.{group_after, group_of, IsTold, StandsForPast}
 use Rattle.gb_node.specs.declared.plan.NodePlan.{NodePlan}
 use Rattle.gb_node.specs.declared.answer.NodeAnswer.{NodeAnswer}
@@ -113,10 +114,11 @@ pub record Moved (key : List ℕ) (e : NodeEvent) (a : NodeAnswer) (v w : NodeVa
 
 -- so the past says what the node is then
 pub moved_says : (plan : NodePlan) (past : List Happened) (e : NodeEvent) (a : NodeAnswer) (v w : NodeValue) → StandsForPast plan past v → Moved plan.cluster_key e a v w
-    → ((g : Addr) → group_in g w.table.groups.rows ≡ group_after plan g past e a (group_in g v.table.groups.rows))
-    → ((g : Addr) → IsTold plan.me (group_after plan g past e a (group_of plan g past)) (told_after plan g past e a (told_of plan g past))) → StandsForPast plan (record { event = e; answer = a } ∷ past) w
-unfolding frames_to is_taken watched tenants_in is_stopped group_of told_of
-moved_says plan past e a v w was step groups told =
+    → ((g : Addr) → group_in g w.table.groups ≡ group_after plan g past e a (group_in g v.table.groups))
+    → ((g : Addr) → IsTold plan.me (group_after plan g past e a (group_of plan g past)) (told_after plan g past e a (told_of plan g past)))
+    → ((g : Addr) → others_living g w.table.groups.rows ≡ living_after g e a (others_living g v.table.groups.rows)) → StandsForPast plan (record { event = e; answer = a } ∷ past) w
+unfolding frames_to is_taken watched tenants_in is_stopped group_of told_of living_of
+moved_says plan past e a v w was step groups told living =
     let key = plan.cluster_key in
     let h : Happened = record { event = e; answer = a } in
     let beside = was.beside in
@@ -142,4 +144,5 @@ moved_says plan past e a v w was step groups told =
       };
       groups = λ g. groups g ∙ ap (group_after plan g past e a) (was.groups g);
       told = told;
+      living = λ g. living g ∙ ap (living_after g e a) (was.living g);
     }

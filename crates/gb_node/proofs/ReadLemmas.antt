@@ -1,6 +1,6 @@
 -- Events that only read, and how much memory the answers to other events hold.
 use Rattle.std.proofs.Common.{◌≡◌, ℕ, ◌≤◌, ◌⊎◌, inl, inr, Bool, true, false, List, length, Option, Some, None, refl, sym, ap, subst, ◌∙◌, arith}
-use Rattle.std.specs.Prelude.{◌+◌, nat_lt, nat_le, option_map, if◌then◌else◌, IfSome, ◌||◌}
+use Rattle.std.specs.Prelude.{◌+◌, not, is_some, nat_lt, nat_le, option_map, if◌then◌else◌, IfSome, ◌||◌}
 use Rattle.std.specs.FinSet as set
 use Rattle.std.specs.Ordering.{nat_cmp}
 use Rattle.std.proofs.lemmas.Bool.{true≢false, false≢true}
@@ -23,14 +23,16 @@ use Rattle.gb_frame.proofs.VersionLemmas.{shortest_fits}
 use Rattle.gb_frame.proofs.TextLemmas.{length-tag_of}
 use Rattle.gb_frame.specs.Spelling.{tagged_text, header_text, tag_of, packet_text, IsPacket}
 use Rattle.gb_rules.specs.Group.{is_out_of_turn, Shown, is_too_long, open_in, open_answer, shut_in, shut_answer, drop_answer, say_answer}
+use Rattle.gb_rules.specs.Room.{can_name}
+use Rattle.gb_rules.specs.declared.room.TheConstants.{GENERATIONS}
 use Rattle.gb_rules.specs.Tenant.{is_over_limits, is_bad, is_over, tenant_answer, make_answer, by_tenant}
 use Rattle.gb_rules.specs.declared.phase.Phase.{Phase}
 use Rattle.gb_rules.specs.declared.phase.Phase.TheVariants.{Made, Opened, Shut, Gone}
 use Rattle.gb_rules.specs.declared.reserve.Reserve.{Reserve}
 use Rattle.gb_rules.specs.declared.usage.Usage.{Usage}
 use Rattle.gb_slot.specs.SlotState.{SlotState}
-use Rattle.gb_groups.specs.AtAddress.{place_of, reply_at}
-use Rattle.gb_groups.specs.SlotsValue.{Row, row_at, unless_gone}
+use Rattle.gb_groups.specs.OneGroup.{group_in, answer_in}
+use Rattle.gb_groups.specs.Rooms.{others_living}
 use Rattle.gb_table.specs.TableValue.{TableValue, reserve_for}
 use Rattle.gb_table.specs.Requests.{is_admitted, admitted_reply, table_reply, table_did}
 use Rattle.gb_node.specs.NodeValue.{NodeValue}
@@ -86,24 +88,23 @@ tenant_within places before there row =
     let fresh : Reply = if there then Refused TenantThere else room in
     within_if (is_over_limits row) (Refused OverReserve) fresh tt (within_if there (Refused TenantThere) room tt (within_if (nat_lt places (before + row.groups)) (Refused NoRoom) Done tt tt))
 
-make_within : (nodes me : ℕ) (addr : Addr) (made : Bool) (spec : Spec) (reserve : Reserve) → IsReplyWithin (make_answer nodes me addr made spec reserve)
-make_within nodes me addr made spec reserve =
-    let enough : Reply = if nat_lt 0 addr.generation || is_over reserve spec then Refused OverReserve else Done in
+make_within : (version : Version) (nodes me : ℕ) (addr : Addr) (made : Bool) (living : ℕ) (spec : Spec) (reserve : Reserve) → IsReplyWithin (make_answer version nodes me addr made living spec reserve)
+make_within version nodes me addr made living spec reserve =
+    let enough : Reply = if not (can_name version addr) || is_over reserve spec then Refused OverReserve else Done in
     let good : Reply = if is_bad nodes me spec then Refused BadMembers else enough in
-    let fresh : Reply = if made then Refused Spent else good in
-    within_if (nat_le reserve.groups addr.group) (Refused NoGroup) fresh tt (within_if made (Refused Spent) good tt (within_if (is_bad nodes me spec) (Refused BadMembers) enough tt (within_if (nat_lt 0 addr.generation || is_over reserve spec) (Refused OverReserve) Done tt tt)))
+    let free : Reply = if nat_le GENERATIONS living then Refused NoRoom else good in
+    let fresh : Reply = if made then Refused Spent else free in
+    within_if (nat_le reserve.groups addr.group) (Refused NoGroup) fresh tt (within_if made (Refused Spent) free tt (within_if (nat_le GENERATIONS living) (Refused NoRoom) good tt
+    (within_if (is_bad nodes me spec) (Refused BadMembers) enough tt (within_if (not (can_name version addr) || is_over reserve spec) (Refused OverReserve) Done tt tt))))
 
 by_within : (answer : Reserve → Reply) (o : Option Reserve) → ((r : Reserve) → IsReplyWithin (answer r)) → IsReplyWithin (by_tenant answer o)
 by_within answer None h = tt
 by_within answer (Some r) h = h r
 
-gone_within : (answer : Shown → Reply) (s : Option SlotState) → ((s : Shown) → IsReplyWithin (answer s)) → IsReplyWithin (unless_gone answer s)
-gone_within answer None h = tt
-gone_within answer (Some s) h = h _
-
-at_within : (answer : Shown → Reply) (rows : List Row) (p : Option ℕ) → ((s : Shown) → IsReplyWithin (answer s)) → IsReplyWithin (reply_at answer rows p)
-at_within answer rows None h = tt
-at_within answer rows (Some p) h = gone_within answer (row_at rows p).slot h
+at_within : (answer : Shown → Reply) (o : Option (Option SlotState)) → ((s : Shown) → IsReplyWithin (answer s)) → IsReplyWithin (answer_in answer o)
+at_within answer None h = tt
+at_within answer (Some None) h = tt
+at_within answer (Some (Some s)) h = h _
 
 open_within : (phase : Phase) → IsReplyWithin (open_in phase)
 open_within Made = tt
@@ -132,11 +133,11 @@ say_within version spec Gone usage log message = tt
 
 admitted_within : (r : Request) (t : TableValue) → is_read (Asked r) ≡ false → IsReplyWithin (admitted_reply r t)
 admitted_within (AddTenant token row) t h = tenant_within _ _ _ row
-admitted_within (Make token addr spec) t h = by_within _ (reserve_for addr.tenant t) (λ r. make_within _ _ addr _ spec r)
-admitted_within (OpenGroup token addr) t h = at_within open_answer t.groups.rows (place_of addr t.groups.rows) (λ s. open_within s.phase)
-admitted_within (ShutGroup token addr) t h = at_within shut_answer t.groups.rows (place_of addr t.groups.rows) (λ s. shut_within s.phase)
-admitted_within (DropGroup token addr) t h = at_within drop_answer t.groups.rows (place_of addr t.groups.rows) (λ s. tt)
-admitted_within (Say token addr message) t h = at_within (λ s. say_answer t.version s message) t.groups.rows (place_of addr t.groups.rows) (λ s. say_within t.version s.spec s.phase s.usage s.log message)
+admitted_within (Make token addr spec) t h = by_within _ (reserve_for addr.tenant t) (λ r. make_within t.version t.nodes t.me.number addr (is_some (group_in addr t.groups)) (others_living addr t.groups.rows) spec r)
+admitted_within (OpenGroup token addr) t h = at_within open_answer (group_in addr t.groups) (λ s. open_within s.phase)
+admitted_within (ShutGroup token addr) t h = at_within shut_answer (group_in addr t.groups) (λ s. shut_within s.phase)
+admitted_within (DropGroup token addr) t h = at_within drop_answer (group_in addr t.groups) (λ s. tt)
+admitted_within (Say token addr message) t h = at_within (λ s. say_answer t.version s message) (group_in addr t.groups) (λ s. say_within t.version s.spec s.phase s.usage s.log message)
 admitted_within (Fetch token addr from most) t h = absurd (true≢false h)
 
 asked_within : (r : Request) (t : TableValue) → is_read (Asked r) ≡ false → IsReplyWithin (table_reply r t)

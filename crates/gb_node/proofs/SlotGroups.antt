@@ -20,8 +20,10 @@ use Rattle.gb_slot.specs.SlotState.{SlotState}
 use Rattle.gb_slot.specs.Slot.{new_slot, slot_moved, slot_said, slot_done, slot_took, slot_noticed, waiting}
 use Rattle.gb_slot.specs.StandsFor.{StandsFor}
 use Rattle.gb_frame.specs.Items.{entry_of, items_for}
-use Rattle.gb_rules.specs.Lifetime.{stepped, dropped, or_added, where_so}
+use Rattle.gb_rules.specs.Lifetime.{stepped, dropped, or_added, passed, where_so}
+use Rattle.gb_rules.specs.Room.{is_reached_by}
 use Rattle.gb_groups.specs.OneGroup.{group_in, came_for}
+use Rattle.gb_groups.specs.Rooms.{others_living}
 use Rattle.gb_node.specs.NodeValue.{NodeValue}
 use Rattle.gb_node.specs.NodeStep.{node_numbered}
 use Rattle.gb_node.specs.declared.plan.NodePlan.{NodePlan}
@@ -34,14 +36,14 @@ use Rattle.gb_node.specs.declared.answer.Ticked.TheVariants.{Noticed}
 use Rattle.gb_node.specs.declared.event.NodeEvent.{NodeEvent}
 use Rattle.gb_node.specs.declared.event.NodeEvent.TheVariants.{Request as Asked, Packet as Came, Pack, Tick}
 use Rattle.gb_node.specs.Past.{Happened, read, is_first}
-use Rattle.gb_node.specs.PastGroups.{Told, noticed_after, freed_by, items_freed, told_of}
+use Rattle.gb_node.specs.PastGroups.{Told, noticed_after, freed_by, items_freed, told_of, living_of}
 use Rattle.gb_node.specs.PastLaw.{IsOfPastBesideGroups}
 
 -- What each event makes of a group's slot.
 
 -- a request of the group, where it is answered so: made, it knows which nodes are noticed
 abbrev pub asked_for : Addr → NodeId → set.FinSet nat_cmp → Request → Reply → Option (Option SlotState) → Option (Option SlotState)
-asked_for g me noticed (Make token addr spec) Done o = or_added o (if is_addr g addr then Some (Some (new_slot spec me noticed)) else None)
+asked_for g me noticed (Make token addr spec) Done o = if is_addr g addr then or_added o (Some (Some (new_slot spec me noticed))) else where_so (is_reached_by g addr) passed o
 asked_for g me noticed (OpenGroup token addr) Done o = where_so (is_addr g addr) (stepped (slot_moved Opened Done)) o
 asked_for g me noticed (ShutGroup token addr) Done o = where_so (is_addr g addr) (stepped (slot_moved Shut Done)) o
 asked_for g me noticed (DropGroup token addr) Done o = where_so (is_addr g addr) dropped o
@@ -98,5 +100,6 @@ IsTold me o p = ⊥
 -- What a node is its past says, and each group's slot stands for what the past tells of the group.
 pub record StandsForPast (plan : NodePlan) (past : List Happened) (v : NodeValue) : Type 0 where
   pub beside : IsOfPastBesideGroups plan past v
-  pub groups : (g : Addr) → group_in g v.table.groups.rows ≡ group_of plan g past
+  pub groups : (g : Addr) → group_in g v.table.groups ≡ group_of plan g past
   pub told : (g : Addr) → IsTold plan.me (group_of plan g past) (told_of plan g past)
+  pub living : (g : Addr) → others_living g v.table.groups.rows ≡ living_of g past

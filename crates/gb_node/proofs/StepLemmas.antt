@@ -28,10 +28,10 @@ use Rattle.gb_detect.proofs.SetLemmas.{contains-either, contains-nodes_where}
 use Rattle.gb_rules.specs.Group.{Shown, open_answer, shut_answer, drop_answer, say_answer, fetch_answer}
 use Rattle.gb_rules.specs.Tenant.{reserve_of, row_of, make_answer, by_tenant}
 use Rattle.gb_slot.specs.Slot.{shown}
-use Rattle.gb_groups.specs.SlotsValue.{Row, row_at, AreApart}
-use Rattle.gb_groups.specs.AtAddress.{place_of, group_reply}
+use Rattle.gb_slot.specs.SlotState.{SlotState}
+use Rattle.gb_groups.specs.SlotsValue.{AreApart}
 use Rattle.gb_frame.specs.Items.{items_for, item_for}
-use Rattle.gb_groups.specs.OneGroup.{EachGroup, StayApart}
+use Rattle.gb_groups.specs.OneGroup.{group_in, group_reply, EachGroup, EachCount, StayInOrder}
 use Rattle.gb_table.specs.TableValue.{TableValue, new_table}
 use Rattle.gb_table.specs.Requests.{is_admitted, admitted_reply, table_reply}
 use Rattle.gb_node.specs.NodeValue.{NodeValue, IsNodePlan}
@@ -68,18 +68,18 @@ module _ (plan : NodePlan) (past : List Happened) (v : NodeValue) (was : IsOfPas
   table_is : v.table ≡ record (past_table plan past) { groups = v.table.groups }
   table_is = λ i. record { me = was.beside.me i; nodes = was.beside.nodes i; version = was.beside.version i; places = was.beside.places i; admin_key = was.beside.admin_key i; tenants = was.beside.tenants i; groups = v.table.groups }
 
-  at_group : (answer : Shown → Reply) (addr : Addr) → group_reply answer addr v.table.groups.rows ≡ group_answer answer (shown_in plan.me.number (told_of plan addr past))
-  at_group answer addr = reply_is answer v.table.groups.rows (place_of addr v.table.groups.rows) ∙ ap (group_answer answer) (was.shown addr)
+  at_group : (answer : Shown → Reply) (addr : Addr) → group_reply answer addr v.table.groups ≡ group_answer answer (shown_in plan.me.number (told_of plan addr past))
+  at_group answer addr = reply_is answer (group_in addr v.table.groups) ∙ ap (group_answer answer) (was.shown addr)
 
-  -- an address was used where its group was made
-  made_is : (addr : Addr) → is_some (place_of addr v.table.groups.rows) ≡ is_some (told_of plan addr past)
-  made_is addr = there (place_of addr v.table.groups.rows) ∙ (ap is_some (was.shown addr) ∙ same (told_of plan addr past))
+  -- a group can be made no more where it was told of, or a later generation of its room was
+  made_is : (addr : Addr) → is_some (group_in addr v.table.groups) ≡ is_some (told_of plan addr past)
+  made_is addr = there (group_in addr v.table.groups) ∙ (ap is_some (was.shown addr) ∙ same (told_of plan addr past))
     where
       same : (o : Option (Option Told)) → is_some (shown_in plan.me.number o) ≡ is_some o
       same None = refl
       same (Some t) = refl
 
-      there : (o : Option ℕ) → is_some o ≡ is_some (option_map (option_map shown) (option_map (λ (row : Row). row.slot) (option_map (row_at v.table.groups.rows) o)))
+      there : (o : Option (Option SlotState)) → is_some o ≡ is_some (option_map (option_map shown) o)
       there None = refl
       there (Some p) = refl
 
@@ -88,7 +88,7 @@ module _ (plan : NodePlan) (past : List Happened) (v : NodeValue) (was : IsOfPas
 
   admitted_is : (r : Request) → admitted_reply r (record (past_table plan past) { groups = v.table.groups }) ≡ admitted_answer plan past r
   admitted_is (AddTenant token row) = refl
-  admitted_is (Make token addr spec) = ap (λ made. by_tenant (make_answer plan.nodes plan.me.number addr made spec) (option_map reserve_of (row_of addr.tenant (tenants_in past)))) (made_is addr)
+  admitted_is (Make token addr spec) = λ i. by_tenant (make_answer plan.version plan.nodes plan.me.number addr (made_is addr i) (was.living addr i) spec) (option_map reserve_of (row_of addr.tenant (tenants_in past)))
   admitted_is (OpenGroup token addr) = at_group open_answer addr
   admitted_is (ShutGroup token addr) = at_group shut_answer addr
   admitted_is (DropGroup token addr) = at_group drop_answer addr
@@ -293,12 +293,12 @@ module _ (law : WhatIsWrittenIsRead) (each : EachGroup) (few : NoticedByCalls) (
   answered (Ack b) x turned spelt = tt
   answered Stop x turned spelt = tt
 
-pub answers_say : WhatIsWrittenIsRead → EachGroup → StayApart → SlotLaws → NoticedByCalls → AnswersSay
+pub answers_say : WhatIsWrittenIsRead → EachGroup → EachCount → StayInOrder → SlotLaws → NoticedByCalls → AnswersSay
 unfolding ComesTo
-answers_say law each stay slots few = record {
+answers_say law each count stay slots few = record {
   each = λ plan past event answer v comes.
-      let before = stands law each stay slots few plan past comes.0 comes.1 in
-      answered law each few plan (started plan past comes.0 comes.1) past comes.0 (of_past slots plan past comes.0 before.says) before.apart v event answer comes.2 comes.3;
-  due = λ plan past v request comes. let now = stands law each stay slots few plan past v comes in should_reply plan past v (of_past slots plan past v now.says) request;
+      let before = stands law each count stay slots few plan past comes.0 comes.1 in
+      answered law each few plan (started plan past comes.0 comes.1) past comes.0 (of_past slots plan past comes.0 before.says) before.order.apart v event answer comes.2 comes.3;
+  due = λ plan past v request comes. let now = stands law each count stay slots few plan past v comes in should_reply plan past v (of_past slots plan past v now.says) request;
   noticed = λ plan past v b comes there. noticed_inside few plan (started plan past v comes) past b there;
 }

@@ -32,11 +32,10 @@ use Rattle.gb_slot.specs.SlotState.{SlotState}
 use Rattle.gb_slot.specs.Slot.{new_slot, slot_moved, slot_said, slot_came, slot_noticed, slot_done, slot_took, shown, falls, waiting, own_entry}
 use Rattle.gb_slot.specs.StandsFor.{StandsFor, reaches}
 use Rattle.gb_slot.specs.HistoryLaws.{FreshStands, MovedStands, SaidStands, CameStands, NoticedStands, DoneStands, TookStands, LogIs, FallsIs, WaitingSaid, WaitingCame, WaitingNoticed, WaitingTook, WaitingElsewhere}
-use Rattle.gb_groups.specs.SlotsValue.{Row, row_at, unless_gone}
 use Rattle.gb_frame.specs.Items.{entry_of, items_for}
-use Rattle.gb_groups.specs.AtAddress.{place_of, reply_at, group_reply}
-use Rattle.gb_rules.specs.Lifetime.{stepped, dropped, or_added, where_so}
-use Rattle.gb_groups.specs.OneGroup.{group_in, came_for}
+use Rattle.gb_rules.specs.Lifetime.{stepped, dropped, or_added, passed, where_so}
+use Rattle.gb_rules.specs.Room.{is_reached_by}
+use Rattle.gb_groups.specs.OneGroup.{group_in, answer_in, group_reply, came_for}
 use Rattle.gb_table.specs.TableValue.{TableValue}
 use Rattle.gb_table.specs.Requests.{is_admitted, table_reply}
 use Rattle.gb_node.specs.NodeStep.{node_numbered}
@@ -88,6 +87,13 @@ told_dropped me None (Some t) h = absurd h
 told_dropped me (Some None) None h = absurd h
 told_dropped me (Some (Some s)) None h = absurd h
 
+told_passed : (me : NodeId) (o : Option (Option SlotState)) (t : Option (Option Told)) → IsTold me o t → IsTold me (passed o) (passed t)
+told_passed me None None h = tt
+told_passed me (Some o) (Some t) h = h
+told_passed me None (Some t) h = absurd h
+told_passed me (Some None) None h = absurd h
+told_passed me (Some (Some s)) None h = absurd h
+
 told_added : (me : NodeId) (o : Option (Option SlotState)) (t : Option (Option Told)) (new : Option (Option SlotState)) (first : Option (Option Told)) → IsTold me o t → IsTold me new first → IsTold me (or_added o new) (or_added t first)
 told_added me None None new first h n = n
 told_added me (Some None) (Some None) new first h n = tt
@@ -107,21 +113,18 @@ both_where me false f k o t goes h = h
 -- A message that is said.
 
 -- the reply to a command is read of the group
-pub reply_is : (answer : Shown → Reply) (rows : List Row) (place : Option ℕ) → reply_at answer rows place ≡ group_answer answer (option_map (option_map shown) (option_map (λ (row : Row). row.slot) (option_map (row_at rows) place)))
-reply_is answer rows None = refl
-reply_is answer rows (Some p) = by (row_at rows p).slot
-  where
-    by : (o : Option SlotState) → unless_gone answer o ≡ group_answer answer (Some (option_map shown o))
-    by None = refl
-    by (Some s) = refl
+pub reply_is : (answer : Shown → Reply) (o : Option (Option SlotState)) → answer_in answer o ≡ group_answer answer (option_map (option_map shown) o)
+reply_is answer None = refl
+reply_is answer (Some None) = refl
+reply_is answer (Some (Some s)) = refl
 
-said_seq : (t : TableValue) (token : List ℕ) (message : NewMessage) (addr : Addr) (seq : ℕ) (s : SlotState) → Said seq ≡ table_reply (Say token addr message) t → group_in addr t.groups.rows ≡ Some (Some s) → seq ≡ s.said + 1
+said_seq : (t : TableValue) (token : List ℕ) (message : NewMessage) (addr : Addr) (seq : ℕ) (s : SlotState) → Said seq ≡ table_reply (Say token addr message) t → group_in addr t.groups ≡ Some (Some s) → seq ≡ s.said + 1
 said_seq t token message addr seq s e here = by (is_admitted (Say token addr message) t) e
   where
-    reply : group_reply (λ x. say_answer t.version x message) addr t.groups.rows ≡ say_answer t.version (shown s) message
-    reply = reply_is (λ x. say_answer t.version x message) t.groups.rows (place_of addr t.groups.rows) ∙ ap (λ o. group_answer (λ x. say_answer t.version x message) (option_map (option_map shown) o)) here
+    reply : group_reply (λ x. say_answer t.version x message) addr t.groups ≡ say_answer t.version (shown s) message
+    reply = ap (answer_in (λ x. say_answer t.version x message)) here
 
-    by : (admitted : Bool) → Said seq ≡ (if admitted then group_reply (λ x. say_answer t.version x message) addr t.groups.rows else Refused Denied) → seq ≡ s.said + 1
+    by : (admitted : Bool) → Said seq ≡ (if admitted then group_reply (λ x. say_answer t.version x message) addr t.groups else Refused Denied) → seq ≡ s.said + 1
     by true e = (said_is t.version (shown s) message seq (sym (e ∙ reply))).next
     by false e = absurd (cc)
 
@@ -149,17 +152,17 @@ moved_told law me phase s t h = record { spec = h.spec; here = h.here; phase = r
 
 -- Requests.
 
-module _ (law : SlotLaws) (me : NodeId) (noticed : set.FinSet nat_cmp) (few : (b : ℕ) → NODES ≤ b → set.contains noticed b ≡ false) (t : TableValue) (g : Addr) (o : Option (Option SlotState)) (is : o ≡ group_in g t.groups.rows) (x : Option (Option Told)) (h : IsTold me o x) where
-  made_where : (b : Bool) (spec : Spec) → IsTold me (if b then Some (Some (new_slot spec me noticed)) else None) (if b then Some (Some (told_first spec me noticed)) else None)
-  made_where true spec = made_told law.fresh spec me noticed few
-  made_where false spec = tt
+module _ (law : SlotLaws) (me : NodeId) (noticed : set.FinSet nat_cmp) (few : (b : ℕ) → NODES ≤ b → set.contains noticed b ≡ false) (t : TableValue) (g : Addr) (o : Option (Option SlotState)) (is : o ≡ group_in g t.groups) (x : Option (Option Told)) (h : IsTold me o x) where
+  made_where : (b reached : Bool) (spec : Spec) → IsTold me (if b then or_added o (Some (Some (new_slot spec me noticed))) else where_so reached passed o) (if b then or_added x (Some (Some (told_first spec me noticed))) else where_so reached passed x)
+  made_where true reached spec = told_added me o x (Some (Some (new_slot spec me noticed))) (Some (Some (told_first spec me noticed))) h (made_told law.fresh spec me noticed few)
+  made_where false reached spec = both_where me reached passed passed o x (λ _. told_passed me o x h) h
 
   pub asked_stands : (r : Request) (reply : Reply) → reply ≡ table_reply r t → IsTold me (asked_for g me noticed r reply o) (asked_told g me noticed r reply x)
   asked_stands (AddTenant token row) Done e = h
   asked_stands (AddTenant token row) (Said seq) e = h
   asked_stands (AddTenant token row) (Log entries) e = h
   asked_stands (AddTenant token row) (Refused why) e = h
-  asked_stands (Make token addr spec) Done e = told_added me o x _ _ h (made_where (is_addr g addr) spec)
+  asked_stands (Make token addr spec) Done e = made_where (is_addr g addr) (is_reached_by g addr) spec
   asked_stands (Make token addr spec) (Said seq) e = h
   asked_stands (Make token addr spec) (Log entries) e = h
   asked_stands (Make token addr spec) (Refused why) e = h
@@ -181,7 +184,7 @@ module _ (law : SlotLaws) (me : NodeId) (noticed : set.FinSet nat_cmp) (few : (b
   asked_stands (Say token addr message) (Said seq) e =
       let call = with_call me (Own (record { origin = me; seq = seq; payload = message.payload })) in
       both_where me (is_addr g addr) (stepped (slot_said message.payload (Said seq))) (stepped call) o x
-      (λ own. told_step me (slot_said message.payload (Said seq)) call o x (λ s y there st. said_told law me s y message.payload seq (said_seq t token message addr seq s e (ap (λ a. group_in a t.groups.rows) (sym (addr_is g addr own)) ∙ (sym is ∙ there))) st) h)
+      (λ own. told_step me (slot_said message.payload (Said seq)) call o x (λ s y there st. said_told law me s y message.payload seq (said_seq t token message addr seq s e (ap (λ a. group_in a t.groups) (sym (addr_is g addr own)) ∙ (sym is ∙ there))) st) h)
       h
   asked_stands (Say token addr message) (Log entries) e = h
   asked_stands (Say token addr message) (Refused why) e = h

@@ -243,9 +243,9 @@ impl Node {
         self.table.is_admin(token)
     }
 
-    /// Lists the groups from a place on, at most `most` of them, in the order in which they were made, for who has the
-    /// administrator's token. It is no event: nothing changes. Stopped: the node has stopped. Denied: the token is another.
-    /// BadPlace: there are fewer than `from` groups, or `most` is above 64.
+    /// Lists at most `most` of the groups that live at the node or were dropped there, from the `from`-th on, in the order of their
+    /// places, for who has the administrator's token. It is no event: nothing changes. Stopped: the node has stopped. Denied: the
+    /// token is another. BadPlace: there are fewer than `from` groups, or `most` is above 64.
     pub fn list(&self, token: &Token, from: u32, most: u32) -> Result<Listing, Refusal>
         ensures { Lists self.now token.now from most result }
     {
@@ -303,7 +303,7 @@ impl Node {
         ensures count { result.count ≡ length (batch self.now.table.version to.number (room_to self.now to) self.now.table.groups) }
         ensures bytes { result.bytes ≡ sum_by (size self.now.table.version) (batch self.now.table.version to.number (room_to self.now to) self.now.table.groups) }
         ensures fits { result.bytes ≤ result.most }
-        ensures none { result.count ≡ 0 → NothingWaits to.number self.now.table.groups.rows }
+        ensures none { result.count ≡ 0 → NothingWaits to.number self.now.table.groups }
     {
         let version = self.table.version();
         let most = self.room.min(room(version));

@@ -13,7 +13,7 @@ pub struct NodePlan {
     pub version: Version,
     /// After how many ticks without a good packet a node is noticed: 2 to 1,000.
     pub silence: u16,
-    /// How many groups its tenants may make in all: 4,096 at most.
+    /// How many rooms its tenants may reserve in all: 1,024 at most.
     pub places: u16,
     /// The most bytes of the items of a packet; no more than a packet of the version has room for. An item that is longer than this is
     /// sent all the same.

@@ -3,6 +3,7 @@ use Rattle.std.proofs.Common.{◌≡◌, ℕ, zero, suc, ◌+◌, ◌≤◌, ◌
 use Rattle.std.specs.Prelude.{Bool, cond, Some, count_by, All, if◌then◌else◌}
 use Rattle.std.proofs.lemmas.Bool.{cases_Bool}
 use Rattle.std.proofs.lemmas.List.{length-map}
+use Rattle.std.proofs.lemmas.List.Elements.{All-cons}
 use Rattle.std.proofs.lemmas.List.Sums.{sum_by-cons}
 use Rattle.gb_types.specs.declared.address.Addr.{Addr}
 use Rattle.gb_types.specs.declared.spec.TenantRow.{TenantRow}
@@ -55,16 +56,12 @@ distinct_made addr rooms alone name =
       | inr e ↦ let same = count_other addr name rooms e in let h = alone name in omega arith
     ]
 
-All-first : {A : Type 0} (P : A → Type 0) (x : A) (xs : List A) → P x → All P xs → All P (x ∷ xs)
-All-first P x xs here all zero d l = here
-All-first P x xs here all (suc k) d l = all k d (omega arith)
-
 reserved_made : (tenants : List TenantRow) (addr : Addr) (rooms : List (Addr × ℕ)) → All (IsReserved tenants) (names_of rooms) → IsReserved tenants (name_of addr) → All (IsReserved tenants) (names_of (with_made addr rooms))
-reserved_made tenants addr [] all here = All-first (IsReserved tenants) (name_of addr) [] here all
+reserved_made tenants addr [] all here = All-cons (IsReserved tenants) (name_of addr) [] here all
 reserved_made tenants addr (room ∷ rooms) all here =
     elim (is_addr (name_of addr) room.0) as (λ b. All (IsReserved tenants) (names_of (if b then (room.0, addr.generation) ∷ rooms else room ∷ with_made addr rooms))) [
       | true ↦ all
-      | false ↦ All-first (IsReserved tenants) room.0 (names_of (with_made addr rooms)) (all zero room.0 (omega arith)) (reserved_made tenants addr rooms (λ k d l. all (suc k) d (omega arith)) here)
+      | false ↦ All-cons (IsReserved tenants) room.0 (names_of (with_made addr rooms)) (all zero room.0 (omega arith)) (reserved_made tenants addr rooms (λ k d l. all (suc k) d (omega arith)) here)
     ]
 
 -- the rooms after a group was made that its tenant may make are within the limits, and at most as many as there may be
