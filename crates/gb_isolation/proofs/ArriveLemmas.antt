@@ -19,7 +19,7 @@ use Rattle.gb_alone.specs.Alone.{Member, Group, alone_from}
 use Rattle.gb_frame.specs.Items.{items_for}
 use Rattle.gb_node.specs.NodeStep.{node_numbered}
 use Rattle.gb_node.specs.Past.{Happened, read, frames_to, is_ack, is_acked, is_frame, is_first, is_taken, is_stopped, tenants_in, watched}
-use Rattle.gb_node.specs.PastGroups.{waiting_of, came_told, taken_told, told_of}
+use Rattle.gb_node.specs.PastGroups.{waiting_of, came_told, taken_told, told_of, living_of}
 use Rattle.gb_node.specs.StepLaw.{IsTakenIn}
 use Rattle.gb_node.specs.declared.answer.Good.{Good}
 use Rattle.gb_node.specs.declared.answer.NodeAnswer.TheVariants.{Taken}
@@ -33,6 +33,7 @@ use Rattle.gb_types.specs.declared.plan.Plan.{Plan}
 use Rattle.gb_types.specs.declared.version.Version.{Version}
 use Rattle.gb_types.specs.Version.{bounds_of, version_at}
 use Rattle.gb_isolation.specs.Project.{group_items_of, group_items, offset, made_with, replies_in, is_met, comes, all_acknowledged, acknowledges, brings, arrived, is_new_frame}
+use Rattle.gb_isolation.specs.RunLaws.{is_dropped}
 use Rattle.gb_isolation.proofs.View.{View, view_of, Fits, Goes, AreMarked, frames_for, view_at, AllFit}
 use Rattle.gb_isolation.proofs.GoesLemmas.{goes_on}
 use Rattle.gb_isolation.proofs.DoneLemmas.{IsOfNode, with_acks, acks_goes}
@@ -52,11 +53,13 @@ with_packet version g me c first v =
 
 packet_view : (plan : NodePlan) (g : Addr) (past : List Happened) (bytes : List ℕ) (good : Good) (c : Content) → read plan.cluster_key bytes ≡ c ∷ []
     → view_of plan g (record { event = Brought bytes; answer = Taken (TakenGood good) } ∷ past) ≡ with_packet plan.version g plan.me c (is_first good.frame) (view_of plan g past)
-unfolding frames_to is_acked is_taken watched tenants_in told_of made_with replies_in is_met
+unfolding frames_to is_acked is_taken watched tenants_in told_of living_of made_with is_dropped replies_in is_met
 packet_view plan g past bytes good c is = λ i. record {
   reserve = option_map reserve_of (row_of g.tenant (append-nil (tenants_in past) i));
   told = fold (taken_told plan.version plan.me plan.cluster_key g past good.frame) (told_of plan g past) (is i);
+  living = living_of g past;
   made = made_with g past;
+  dropped = is_dropped g past;
   noticed = set.contains (replay (start plan.me.number plan.nodes plan.silence) (map (λ (x : Content). Heard x.from) (is i) ++ watched plan.cluster_key past)).noticed;
   replies = append-nil (replies_in plan.me g past) i;
   met = is_met plan.me g past;

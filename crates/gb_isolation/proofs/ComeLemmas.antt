@@ -13,7 +13,7 @@ use Rattle.gb_types.specs.declared.plan.Bounds.{Bounds}
 use Rattle.gb_types.specs.declared.version.Version.{Version}
 use Rattle.gb_types.specs.Version.{version_at}
 use Rattle.gb_frame.specs.declared.item.Item.{Item}
-use Rattle.gb_rules.specs.Group.{is_too_long}
+use Rattle.gb_rules.specs.Group.{is_gone, is_too_long}
 use Rattle.gb_history.specs.declared.call.GroupCall.TheVariants.{Other}
 use Rattle.gb_history.specs.History.{said_in, falls_after}
 use Rattle.gb_alone.specs.declared.event.GroupEvent.TheVariants.{Came}
@@ -75,6 +75,8 @@ pub record Coming (bounds : Bounds) (g : Addr) (from me : NodeId) (carried : ℕ
   pub same_acks : acknowledged_of next_told ≡ acknowledged_of o
   pub reserve : (next me.number).reserve ≡ (group me.number).reserve
   pub made : (next me.number).spec ≡ (group me.number).spec
+  pub living : (next me.number).others ≡ (group me.number).others
+  pub phase : (next me.number).phase ≡ (group me.number).phase
   pub replies : (next me.number).replies ≡ (group me.number).replies
   pub taken : (next me.number).taken ≡ (group me.number).taken
   pub done : (next me.number).done ≡ (group me.number).done
@@ -95,6 +97,8 @@ nothing_comes bounds g from me carried place o group st puts = record {
   same_acks = refl;
   reserve = refl;
   made = refl;
+  living = refl;
+  phase = refl;
   replies = refl;
   taken = refl;
   done = refl;
@@ -134,6 +138,8 @@ come_next bounds g from me carried place i xs o group apart fit running there mo
   same_acks = later.same_acks ∙ (ap acknowledged_of came ∙ came-acks long me from e o);
   reserve = later.reserve ∙ (ap (λ (m : Member). m.reserve) here ∙ rest.reserve);
   made = later.made ∙ (ap (λ (m : Member). m.spec) here ∙ rest.spec);
+  living = later.living ∙ (ap (λ (m : Member). m.others) here ∙ rest.others);
+  phase = later.phase ∙ (ap (λ (m : Member). m.phase) here ∙ rest.phase);
   replies = later.replies ∙ (ap (λ (m : Member). m.replies) here ∙ rest.replies);
   taken = later.taken ∙ (ap (λ (m : Member). m.taken) here ∙ rest.taken);
   done = later.done ∙ (ap (λ (m : Member). m.done) here ∙ rest.done);
@@ -180,7 +186,7 @@ come_next bounds g from me carried place i xs o group apart fit running there mo
 
     told_then : MemberIs (came_told version me from o i) (mid me.number)
     told_then = subst (λ (m : Member). MemberIs (came_told version me from o i) m) (sym here) (subst (λ k. MemberIs k (taken_in version me.number from (place + 1) (Some e) (group me.number))) (sym came)
-        (same_member (came_in long me from e o) (item_came version me.number from e (group me.number)) (taken_in version me.number from (place + 1) (Some e) (group me.number)) refl refl refl (told-came version me from e o (group me.number) st)))
+        (same_member (came_in long me from e o) (item_came version me.number from e (group me.number)) (taken_in version me.number from (place + 1) (Some e) (group me.number)) refl refl refl refl (told-came version me from e o (group me.number) st)))
 
     put_then : (b : ℕ) → b < bounds.nodes → (mid me.number).put b ≡ carried b ++ waiting_of (came_told version me from o i) b
     put_then b in_b = ap (λ (m : Member). m.put b) here ∙ (put-item_came version me from e o (group me.number) b (carried b) st (puts b in_b) ∙ ap (λ k. carried b ++ waiting_of k b) (sym came))
@@ -313,11 +319,13 @@ module _ (bounds : Bounds) (g : Addr) (a s : NodeId) (frames_from : ℕ → List
     there = record {
       reserve = coming.reserve ∙ fits.reserve;
       told = coming.told;
+      others = coming.living ∙ fits.others;
       inside = inside_too bounds.nodes v.told later.told coming.same_spec fits.inside;
       put = coming.put;
       taken = λ b in_b. ap (λ (t : ℕ → ℕ). t b) coming.taken ∙ fits.taken b in_b;
       replies = coming.replies ∙ fits.replies;
       spec = coming.made ∙ fits.spec;
+      gone = ap is_gone coming.phase ∙ fits.gone;
       noticed = λ b. ap (is_marked b) coming.noticed ∙ fits.noticed b;
       stopped = coming.stopped ∙ fits.stopped;
       come = λ b in_b. come_there b in_b (cases_eq b s.number);

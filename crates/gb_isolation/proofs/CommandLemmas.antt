@@ -1,5 +1,5 @@
 -- What opening, shutting, dropping, saying and fetching do to a group at a running node.
-use Rattle.std.proofs.Common.{◌≡◌, ◌≢◌, ℕ, ◌+◌, ◌<◌, ◌≤◌, List, [], ◌∷◌, ◌++◌, length, take, Option, Some, None, Bool, true, false, ◌⊎◌, inl, inr, refl, sym, ◌∙◌, ap, subst, arith}
+use Rattle.std.proofs.Common.{◌≡◌, ◌≢◌, ℕ, ◌+◌, ◌<◌, ◌≤◌, List, [], ◌∷◌, ◌++◌, length, take, Option, Some, None, Bool, true, false, ◌||◌, ◌⊎◌, inl, inr, refl, sym, ◌∙◌, ap, subst, arith}
 use Rattle.std.specs.Option.{option_or}
 use Rattle.std.specs.Prelude.{if◌then◌else◌, is_some, option_map}
 use Rattle.std.specs.FinSet as set
@@ -45,12 +45,14 @@ use Rattle.gb_node.specs.declared.answer.NodeAnswer.TheVariants.{Reply as Replie
 use Rattle.gb_node.specs.declared.event.NodeEvent.TheVariants.{Request as Asked}
 use Rattle.gb_node.specs.declared.plan.NodePlan.{NodePlan}
 use Rattle.gb_rules.proofs.AddressLemmas.{addr_is}
-use Rattle.gb_isolation.specs.Project.{is_named, is_own_request, made_by, made_with, tenant_given}
+use Rattle.gb_isolation.specs.Project.{is_named, is_own_request, made_by, made_with, tenant_given, other_given}
+use Rattle.gb_isolation.specs.RunLaws.{is_dropped, is_dropped_by}
 use Rattle.gb_isolation.proofs.AskLemmas.{MemberFits, asking, carried_in, commands, member_fits, view_own}
 use Rattle.gb_isolation.proofs.FinishedLemmas.{counts_fit, unknown_acknowledged}
 use Rattle.gb_isolation.proofs.MemberLemmas.{answered-is, called_there, called_put}
 use Rattle.gb_isolation.proofs.PastLemmas.{running_unmet}
-use Rattle.gb_isolation.proofs.View.{View, view_of, IsThere, IsInside, Fits, Goes, bounds_with, asked_by, own_requested_by, requested_by}
+use Rattle.gb_isolation.proofs.RoomLemmas.{own_given}
+use Rattle.gb_isolation.proofs.View.{View, view_of, MemberIs, IsThere, IsInside, Fits, Goes, bounds_with, asked_by, own_requested_by, requested_by}
 use Rattle.gb_types.specs.declared.new_message.NewMessage.{NewMessage}
 
 -- A request that names a group comes with the token that it needs where it comes with the group's.
@@ -105,7 +107,10 @@ module _ (plan : NodePlan) (versions : List Version) (g : Addr) (past : List Hap
 
   -- what the group's own request gives it at a running node
   pub given_own : is_stopped past ≡ false → is_own_request plan.me g past request ≡ true → asked_by plan g past request reply ≡ tenant_given g plan.me request reply ++ own_requested_by plan g past request reply
-  given_own running own = by ∙ ap (λ b. tenant_given g plan.me request reply ++ (if b then own_requested_by plan g past request reply else [])) own
+  given_own running own =
+      by
+      ∙ (ap (λ b. tenant_given g plan.me request reply ++ other_given g plan.me request reply ++ (if b then own_requested_by plan g past request reply else [])) own
+      ∙ ap (λ es. es ++ own_requested_by plan g past request reply) (own_given g plan.me request reply (and_parts (is_named g request) (has_group_token plan.me (tenants_in past) request) own).0))
     where
       by : asked_by plan g past request reply ≡ requested_by plan g past request reply
       by = rw running refl
@@ -120,19 +125,20 @@ module _ (plan : NodePlan) (versions : List Version) (g : Addr) (past : List Hap
       → member_after (bounds_with plan versions) g plan.me e group ≡ commanded plan.me e (reply_to (bounds_with plan versions) g plan.me.number e (group plan.me.number)) (group plan.me.number)
       → running_reply (bounds_with plan versions) g plan.me.number e (group plan.me.number) ≡ reply
       → (did plan.me e reply (group plan.me.number)).spec ≡ (group plan.me.number).spec
+      → is_gone (did plan.me e reply (group plan.me.number)).phase ≡ (is_dropped_by g (Asked request) (Replied reply) || is_dropped g past)
       → Fits plan.nodes g plan.me.number frames_from (view_of plan g past) (group plan.me.number)
       → MemberFits plan.nodes plan.me.number (carried_in g (view_of plan g past)) o (did plan.me e reply (group plan.me.number))
       → AskedGoes
-  own_command e o running own rows told unmade one may is same spec fits tells =
+  own_command e o running own rows told unmade one may is same spec gone fits tells =
       subst (λ es. Goes (bounds_with plan versions) g plan.me frames_from (view_of plan g (asking request reply ∷ past)) group es) (sym (given_own running own ∙ one))
-      (subst (λ (v : View). Goes (bounds_with plan versions) g plan.me frames_from v group (record { node = plan.me; event = e } ∷ [])) (sym (view_own plan g past request reply o (made_with g past) running own rows told (ap (λ x. option_or x (made_with g past)) unmade)))
-      (commands (bounds_with plan versions) g plan.me frames_from (view_of plan g past) group e reply o fits may (is ∙ ap (λ r. commanded plan.me e r (group plan.me.number)) (replies_running e running fits ∙ same)) spec tells))
+      (subst (λ (v : View). Goes (bounds_with plan versions) g plan.me frames_from v group (record { node = plan.me; event = e } ∷ [])) (sym (view_own plan g past request reply o (made_with g past) (is_dropped_by g (Asked request) (Replied reply) || is_dropped g past) running own rows told (ap (λ x. option_or x (made_with g past)) unmade) refl))
+      (commands (bounds_with plan versions) g plan.me frames_from (view_of plan g past) group e reply o (is_dropped_by g (Asked request) (Replied reply) || is_dropped g past) fits may (is ∙ ap (λ r. commanded plan.me e r (group plan.me.number)) (replies_running e running fits ∙ same)) spec gone tells))
 
 -- the rules answer the same for the group alone
 pub answers_alike : (plan : NodePlan) (g : Addr) (past : List Happened) (request : Request) (frames_from : ℕ → List (List Item)) (group : Group) (answer : Shown → Reply) → plan.nodes ≤ NODES → is_own_request plan.me g past request ≡ true
     → Fits plan.nodes g plan.me.number frames_from (view_of plan g past) (group plan.me.number) → on_group answer plan.me.number (group plan.me.number) ≡ group_answer answer (shown_in plan.me.number (told_of plan g past))
 answers_alike plan g past request frames_from group answer few own fits =
-    by_some (on_made answer (alone.shown plan.me.number (group plan.me.number))) (group plan.me.number).reserve (ap (λ (x : Option Reserve). is_some x) fits.reserve ∙ tenant_here plan g past request own)
+    by_some (on_made (group plan.me.number).passed answer (alone.shown plan.me.number (group plan.me.number))) (group plan.me.number).reserve (ap (λ (x : Option Reserve). is_some x) fits.reserve ∙ tenant_here plan g past request own)
     ∙ answered-is answer plan.me.number (told_of plan g past) (group plan.me.number) fits.told (counts_fit plan.nodes g plan.me.number frames_from (view_of plan g past) (group plan.me.number) few fits)
 
 -- What a command finds.
@@ -192,6 +198,14 @@ moved_spec : (phase : Phase) (r : Reply) (m : Member) → (member_moved phase r 
 moved_spec phase Done m = refl
 moved_spec phase r m = refl
 
+-- a group that moves had not been dropped
+moved_gone : (answer : Shown → Reply) (phase : Phase) → is_gone phase ≡ false → (me : ℕ) (o : Option (Option Told)) (m : Member) (r : Reply) → group_answer answer (shown_in me o) ≡ r → MemberIs o m → is_gone (member_moved phase r m).phase ≡ is_gone m.phase
+moved_gone answer phase live me o m Done is st =
+    let made = found_from answer me Done done_accepted o is in
+    let there : IsThere made.0 m = subst (λ x. MemberIs x m) made.1 st in
+    live ∙ sym (ap is_gone there.phase ∙ there.present)
+moved_gone answer phase live me o m r is st = refl
+
 did_opened : (a : NodeId) (r : Reply) (m : Member) → did a AskOpen r m ≡ member_moved Opened r m
 did_opened a Done m = refl
 did_opened a r m = refl
@@ -222,7 +236,7 @@ dropped_fits : (nodes me : ℕ) (carried : ℕ → List Entry) (t : Told) (m : M
 dropped_fits nodes me carried t m fits =
     let st : IsThere t m = fits.told in
     record {
-      told = record { gone = refl; made = ap (λ (x : Option Spec). is_some x) st.spec };
+      told = record { held = refl; spent = ap (λ (x : Option Spec). is_some x || m.passed) st.spec };
       inside = λ u is. absurd (cc);
       put = λ b low.
           ap (λ n. take n (m.put b)) (fits.taken b low)
@@ -240,6 +254,11 @@ drops nodes me carried o m r is fits = fits
 dropped_spec : (r : Reply) (m : Member) → (member_dropped r m).spec ≡ m.spec
 dropped_spec Done m = refl
 dropped_spec r m = refl
+
+dropped_gone : (g : Addr) (past : List Happened) (token : List ℕ) (addr : Addr) (r : Reply) (m : Member) → is_addr g addr ≡ true → is_gone m.phase ≡ is_dropped g past
+    → is_gone (member_dropped r m).phase ≡ (is_dropped_by g (Asked (DropGroup token addr)) (Replied r) || is_dropped g past)
+dropped_gone g past token addr Done m here was = sym (ap (λ b. b || is_dropped g past) here)
+dropped_gone g past token addr r m here was = was
 
 did_dropped : (a : NodeId) (r : Reply) (m : Member) → did a AskDrop r m ≡ member_dropped r m
 did_dropped a Done m = refl
@@ -295,6 +314,10 @@ said_spec : (a : NodeId) (message : NewMessage) (r : Reply) (m : Member) → (di
 said_spec a message (Said seq) m = refl
 said_spec a message r m = refl
 
+said_gone : (a : NodeId) (message : NewMessage) (r : Reply) (m : Member) → is_gone (did a (AskSay message) r m).phase ≡ is_gone m.phase
+said_gone a message (Said seq) m = refl
+said_gone a message r m = refl
+
 said_for : (g : Addr) (me : NodeId) (noticed : set.FinSet nat_cmp) (token : List ℕ) (addr : Addr) (message : NewMessage) (r : Reply) (o : Option (Option Told)) → is_addr g addr ≡ true → asked_told g me noticed (Say token addr message) r o ≡ said_after me message.payload r o
 said_for g me noticed token addr message (Said seq) o here = ap (λ b. where_so b (stepped (with_call me (saying me message.payload seq))) o) here
 said_for g me noticed token addr message r o here = refl
@@ -319,7 +342,8 @@ module _ (plan : NodePlan) (versions : List Version) (g : Addr) (past : List Hap
       let same = same_answer open_answer named is in
       own_command plan versions g past (OpenGroup token addr) reply frames_from group AskOpen (moved_after Opened reply (told_of plan g past)) running own refl (opened_for g plan.me (noticed_after plan past) token addr reply (told_of plan g past) named) refl refl tt refl
       (answers_alike plan g past (OpenGroup token addr) frames_from group open_answer few own fits ∙ same)
-      (ap (λ (n : Member). n.spec) (did_opened plan.me reply m) ∙ moved_spec Opened reply m) fits
+      (ap (λ (n : Member). n.spec) (did_opened plan.me reply m) ∙ moved_spec Opened reply m)
+      (ap (λ (n : Member). is_gone n.phase) (did_opened plan.me reply m) ∙ (moved_gone open_answer Opened refl plan.me.number (told_of plan g past) m reply same fits.told ∙ fits.gone)) fits
       (subst (λ (n : Member). MemberFits plan.nodes plan.me.number (carried_in g before) (moved_after Opened reply (told_of plan g past)) n) (sym (did_opened plan.me reply m))
       (moves open_answer Opened refl plan.nodes plan.me.number (carried_in g before) (told_of plan g past) m reply same (member_fits plan.nodes g plan.me.number frames_from before m fits)))
 
@@ -330,7 +354,8 @@ module _ (plan : NodePlan) (versions : List Version) (g : Addr) (past : List Hap
       let same = same_answer shut_answer named is in
       own_command plan versions g past (ShutGroup token addr) reply frames_from group AskShut (moved_after Shut reply (told_of plan g past)) running own refl (shut_for g plan.me (noticed_after plan past) token addr reply (told_of plan g past) named) refl refl tt refl
       (answers_alike plan g past (ShutGroup token addr) frames_from group shut_answer few own fits ∙ same)
-      (ap (λ (n : Member). n.spec) (did_shut plan.me reply m) ∙ moved_spec Shut reply m) fits
+      (ap (λ (n : Member). n.spec) (did_shut plan.me reply m) ∙ moved_spec Shut reply m)
+      (ap (λ (n : Member). is_gone n.phase) (did_shut plan.me reply m) ∙ (moved_gone shut_answer Shut refl plan.me.number (told_of plan g past) m reply same fits.told ∙ fits.gone)) fits
       (subst (λ (n : Member). MemberFits plan.nodes plan.me.number (carried_in g before) (moved_after Shut reply (told_of plan g past)) n) (sym (did_shut plan.me reply m))
       (moves shut_answer Shut refl plan.nodes plan.me.number (carried_in g before) (told_of plan g past) m reply same (member_fits plan.nodes g plan.me.number frames_from before m fits)))
 
@@ -341,7 +366,8 @@ module _ (plan : NodePlan) (versions : List Version) (g : Addr) (past : List Hap
       let same = same_answer drop_answer named is in
       own_command plan versions g past (DropGroup token addr) reply frames_from group AskDrop (dropped_after reply (told_of plan g past)) running own refl (dropped_for g plan.me (noticed_after plan past) token addr reply (told_of plan g past) named) refl refl tt refl
       (answers_alike plan g past (DropGroup token addr) frames_from group drop_answer few own fits ∙ same)
-      (ap (λ (n : Member). n.spec) (did_dropped plan.me reply m) ∙ dropped_spec reply m) fits
+      (ap (λ (n : Member). n.spec) (did_dropped plan.me reply m) ∙ dropped_spec reply m)
+      (ap (λ (n : Member). is_gone n.phase) (did_dropped plan.me reply m) ∙ dropped_gone g past token addr reply m named fits.gone) fits
       (subst (λ (n : Member). MemberFits plan.nodes plan.me.number (carried_in g before) (dropped_after reply (told_of plan g past)) n) (sym (did_dropped plan.me reply m))
       (drops plan.nodes plan.me.number (carried_in g before) (told_of plan g past) m reply same (member_fits plan.nodes g plan.me.number frames_from before m fits)))
 
@@ -353,7 +379,7 @@ module _ (plan : NodePlan) (versions : List Version) (g : Addr) (past : List Hap
       let same = same_answer (λ s. say_answer plan.version s message) named is in
       own_command plan versions g past (Say token addr message) reply frames_from group (AskSay message) (said_after plan.me message.payload reply (told_of plan g past)) running own refl (said_for g plan.me (noticed_after plan past) token addr message reply (told_of plan g past) named) refl refl tt refl
       (ap (λ version. on_group (λ s. say_answer version s message) plan.me.number m) right ∙ (answers_alike plan g past (Say token addr message) frames_from group (λ s. say_answer plan.version s message) few own fits ∙ same))
-      (said_spec plan.me message reply m) fits
+      (said_spec plan.me message reply m) (said_gone plan.me message reply m ∙ fits.gone) fits
       (says plan.version plan.nodes plan.me (carried_in g before) message (told_of plan g past) m reply same fresh (member_fits plan.nodes g plan.me.number frames_from before m fits))
 
   pub at_fetch : (from most : ℕ) → plan.nodes ≤ NODES → is_stopped past ≡ false → is_own_request plan.me g past (Fetch token addr from most) ≡ true → reply ≡ admitted_answer plan past (Fetch token addr from most)
@@ -362,4 +388,4 @@ module _ (plan : NodePlan) (versions : List Version) (g : Addr) (past : List Hap
       let named = (and_parts (is_addr g addr) (has_group_token plan.me (tenants_in past) (Fetch token addr from most)) own).0 in
       own_command plan versions g past (Fetch token addr from most) reply frames_from group (AskFetch from most) (told_of plan g past) running own refl refl refl refl tt refl
       (answers_alike plan g past (Fetch token addr from most) frames_from group (λ s. fetch_answer s from most) few own fits ∙ same_answer (λ s. fetch_answer s from most) named is)
-      refl fits (member_fits plan.nodes g plan.me.number frames_from before m fits)
+      refl fits.gone fits (member_fits plan.nodes g plan.me.number frames_from before m fits)

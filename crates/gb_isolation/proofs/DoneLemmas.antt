@@ -20,7 +20,7 @@ use Rattle.gb_types.specs.declared.spec.Spec.{Spec}
 use Rattle.gb_types.specs.declared.plan.Bounds.{Bounds}
 use Rattle.gb_frame.specs.declared.item.Item.{Item}
 use Rattle.gb_history.specs.History.{said_in}
-use Rattle.gb_rules.specs.Group.{is_member}
+use Rattle.gb_rules.specs.Group.{is_gone, is_member}
 use Rattle.gb_alone.specs.declared.event.GroupEvent.TheVariants.{Done as Acknowledged}
 use Rattle.gb_alone.specs.declared.event.GroupStep.{GroupStep}
 use Rattle.gb_alone.specs.Alone.{Member, Group, after, alone_from, is_marked, is_message, is_acknowledged, IsLegalFrom}
@@ -522,12 +522,14 @@ module _ (bounds : Bounds) (g : Addr) (a s : NodeId) (frames_from : ℕ → List
     elsewhere = acked.others;
     there = record {
       reserve = ap (λ (m : Member). m.reserve) acked.member ∙ fits.reserve;
-      told = same_member later.told (group a.number) (mid a.number) (ap (λ (m : Member). m.spec) acked.member) (ap (λ (m : Member). m.phase) acked.member) (ap (λ (m : Member). m.told) acked.member) (same.stands (group a.number) fits.told);
+      told = same_member later.told (group a.number) (mid a.number) (ap (λ (m : Member). m.spec) acked.member) (ap (λ (m : Member). m.passed) acked.member) (ap (λ (m : Member). m.phase) acked.member) (ap (λ (m : Member). m.told) acked.member) (same.stands (group a.number) fits.told);
+      others = ap (λ (m : Member). m.others) acked.member ∙ fits.others;
       inside = inside_too bounds.nodes v.told later.told same.spec fits.inside;
       put = λ b in_b. ap (λ (m : Member). m.put b) acked.member ∙ (fits.put b in_b ∙ ap (λ xs. carried b ++ xs) (sym (same.waiting b)));
       taken = λ b in_b. ap (λ (m : Member). m.taken b) acked.member ∙ fits.taken b in_b;
       replies = ap (λ (m : Member). m.replies) acked.member ∙ fits.replies;
       spec = ap (λ (m : Member). m.spec) acked.member ∙ fits.spec;
+      gone = ap (λ (m : Member). is_gone m.phase) acked.member ∙ fits.gone;
       noticed = λ b. ap (λ (m : Member). is_marked b m.noticed) acked.member ∙ fits.noticed b;
       stopped = ap (λ (m : Member). m.stopped) acked.member ∙ fits.stopped;
       come = λ b in_b. subst (λ marks. AreMarked g (frames_from b) (v.taken b) marks) (sym (ap (λ (m : Member). m.come b) acked.member)) (fits.come b in_b);

@@ -16,10 +16,11 @@ use Rattle.gb_types.specs.declared.spec.Spec.{Spec}
 use Rattle.gb_frame.specs.declared.item.Item.{Item}
 use Rattle.gb_frame.specs.Packet.{Content}
 use Rattle.gb_rules.specs.Group.{is_other}
+use Rattle.gb_rules.specs.Room.{is_other_generation}
 use Rattle.gb_rules.specs.Tenant.{reserve_of}
 use Rattle.gb_alone.specs.Alone.{Group, after, alone_from}
 use Rattle.gb_alone.specs.declared.event.GroupEvent.{GroupEvent}
-use Rattle.gb_alone.specs.declared.event.GroupEvent.TheVariants.{Tenant, Make as AskMake, Took, Came, Done as Acknowledged, Notice, Stop as Ends}
+use Rattle.gb_alone.specs.declared.event.GroupEvent.TheVariants.{Tenant, Make as AskMake, OtherMade, OtherDropped, Took, Came, Done as Acknowledged, Notice, Stop as Ends}
 use Rattle.gb_alone.specs.declared.event.GroupStep.{GroupStep}
 use Rattle.gb_alone.proofs.CommandLemmas.{command_in, commands_at, commands}
 use Rattle.gb_duties.proofs.NoticeLemmas.{IsDue, AreDue}
@@ -39,9 +40,10 @@ use Rattle.gb_cluster.specs.Run.{Did, past_at}
 use Rattle.gb_types.specs.declared.plan.Plan.{Plan}
 use Rattle.gb_types.specs.declared.plan.Bounds.{Bounds}
 use Rattle.gb_types.specs.Version.{bounds_of}
-use Rattle.gb_isolation.specs.Project.{group_items, group_items_of, offset, is_named, is_own_request, command_for, made_by, made_with, notices, tenant_given, is_met, with_stop, if_any, comes, all_acknowledged, is_new_ack, is_new_frame, acknowledges, brings, arrived, ticked, gives}
+use Rattle.gb_isolation.specs.Project.{group_items, group_items_of, offset, is_named, is_own_request, command_for, made_by, made_with, notices, tenant_given, other_given, is_met, with_stop, if_any, comes, all_acknowledged, is_new_ack, is_new_frame, acknowledges, brings, arrived, ticked, gives}
 use Rattle.gb_isolation.proofs.NoticeLemmas.{notices_of, notices_there, notices_keep}
 use Rattle.gb_isolation.proofs.GoesLemmas.{after_there}
+use Rattle.gb_isolation.proofs.RoomLemmas.{own_given}
 use Rattle.gb_isolation.proofs.View.{asked_by, is_noticed_after, own_requested_by}
 
 -- each of these events is so
@@ -137,6 +139,11 @@ at_tenant : (g : Addr) (a : NodeId) (request : Request) (reply : Reply) → AllA
 at_tenant g a (AddTenant token row) Done = elim (nat_eq row.tenant g.tenant) as (λ t. AllAre (IsAt a) (if t then record { node = a; event = Tenant (reserve_of row) } ∷ [] else [])) [ true ↦ (refl, tt) | false ↦ tt ]
 at_tenant g a request reply = tt
 
+at_other : (g : Addr) (a : NodeId) (request : Request) (reply : Reply) → AllAre (IsAt a) (other_given g a request reply)
+at_other g a (Make token addr spec) Done = elim (is_other_generation g addr) as (λ t. AllAre (IsAt a) (if t then record { node = a; event = OtherMade addr.generation } ∷ [] else [])) [ true ↦ (refl, tt) | false ↦ tt ]
+at_other g a (DropGroup token addr) Done = elim (is_other_generation g addr) as (λ t. AllAre (IsAt a) (if t then record { node = a; event = OtherDropped } ∷ [] else [])) [ true ↦ (refl, tt) | false ↦ tt ]
+at_other g a request reply = tt
+
 at_ticked : (a : NodeId) (found : ℕ → Bool) (o : Option Spec) → AllAre (IsAt a) (ticked a found o)
 at_ticked a found None = tt
 at_ticked a found (Some spec) = at_notices a spec found
@@ -149,12 +156,17 @@ at_requested plan g past request reply =
 at_asked : (plan : NodePlan) (g : Addr) (past : List Happened) (request : Request) (reply : Reply) → AllAre (IsAt plan.me) (asked_by plan g past request reply)
 at_asked plan g past request reply = by (is_stopped past) (is_own_request plan.me g past request)
   where
+    beside : (xs : List GroupStep) → AllAre (IsAt plan.me) xs → AllAre (IsAt plan.me) (tenant_given g plan.me request reply ++ other_given g plan.me request reply ++ xs)
+    beside xs at =
+        all_both (IsAt plan.me) (tenant_given g plan.me request reply ++ other_given g plan.me request reply) xs
+        (all_both (IsAt plan.me) (tenant_given g plan.me request reply) (other_given g plan.me request reply) (at_tenant g plan.me request reply) (at_other g plan.me request reply)) at
+
     by : (stopped own : Bool)
-        → AllAre (IsAt plan.me) (if stopped then (if own then with_stop plan.me (is_met plan.me g past) (command_for plan.me request) else []) else tenant_given g plan.me request reply ++ (if own then own_requested_by plan g past request reply else []))
+        → AllAre (IsAt plan.me) (if stopped then (if own then with_stop plan.me (is_met plan.me g past) (command_for plan.me request) else []) else tenant_given g plan.me request reply ++ other_given g plan.me request reply ++ (if own then own_requested_by plan g past request reply else []))
     by true true = at_stop plan.me (is_met plan.me g past) (command_for plan.me request) (at_command g plan.me request)
     by true false = tt
-    by false true = all_both (IsAt plan.me) (tenant_given g plan.me request reply) (own_requested_by plan g past request reply) (at_tenant g plan.me request reply) (at_requested plan g past request reply)
-    by false false = all_both (IsAt plan.me) (tenant_given g plan.me request reply) [] (at_tenant g plan.me request reply) tt
+    by false true = beside (own_requested_by plan g past request reply) (at_requested plan g past request reply)
+    by false false = beside [] tt
 
 -- what an event gives happens where the event does
 pub given_at : (plan : Plan) (g : Addr) (run : List Did) (a : NodeId) (e : NodeEvent) (x : NodeAnswer) → AllAre (IsAt a) (gives plan g run a e x)
@@ -208,6 +220,11 @@ plain_tenant : (g : Addr) (a : NodeId) (request : Request) (reply : Reply) → A
 plain_tenant g a (AddTenant token row) Done = elim (nat_eq row.tenant g.tenant) as (λ t. AllAre IsPlain (if t then record { node = a; event = Tenant (reserve_of row) } ∷ [] else [])) [ true ↦ (refl, tt) | false ↦ tt ]
 plain_tenant g a request reply = tt
 
+plain_other : (g : Addr) (a : NodeId) (request : Request) (reply : Reply) → AllAre IsPlain (other_given g a request reply)
+plain_other g a (Make token addr spec) Done = elim (is_other_generation g addr) as (λ t. AllAre IsPlain (if t then record { node = a; event = OtherMade addr.generation } ∷ [] else [])) [ true ↦ (refl, tt) | false ↦ tt ]
+plain_other g a (DropGroup token addr) Done = elim (is_other_generation g addr) as (λ t. AllAre IsPlain (if t then record { node = a; event = OtherDropped } ∷ [] else [])) [ true ↦ (refl, tt) | false ↦ tt ]
+plain_other g a request reply = tt
+
 notices_due : (bounds : Bounds) (addr : Addr) (a : NodeId) (bs : List ℕ) (group : Group) → is_some (group a.number).spec ≡ true → AreDue bounds addr group (notices_of a bs)
 notices_due bounds addr a [] group made = tt
 notices_due bounds addr a (b ∷ bs) group made =
@@ -243,12 +260,19 @@ module _ (bounds : Bounds) (plan : NodePlan) (g : Addr) (past : List Happened) (
   asked_due request reply = by (is_stopped past) (is_own_request plan.me g past request) refl
     where
       by : (stopped own : Bool) → is_own_request plan.me g past request ≡ own
-          → (alone_from bounds g group (if stopped then (if own then with_stop plan.me (is_met plan.me g past) (command_for plan.me request) else []) else tenant_given g plan.me request reply ++ (if own then own_requested_by plan g past request reply else [])) plan.me.number).spec ≡ made_with g (record { event = Asked request; answer = Replied reply } ∷ past)
-          → AreDue bounds g group (if stopped then (if own then with_stop plan.me (is_met plan.me g past) (command_for plan.me request) else []) else tenant_given g plan.me request reply ++ (if own then own_requested_by plan g past request reply else []))
+          → (alone_from bounds g group (if stopped then (if own then with_stop plan.me (is_met plan.me g past) (command_for plan.me request) else []) else tenant_given g plan.me request reply ++ other_given g plan.me request reply ++ (if own then own_requested_by plan g past request reply else [])) plan.me.number).spec ≡ made_with g (record { event = Asked request; answer = Replied reply } ∷ past)
+          → AreDue bounds g group (if stopped then (if own then with_stop plan.me (is_met plan.me g past) (command_for plan.me request) else []) else tenant_given g plan.me request reply ++ other_given g plan.me request reply ++ (if own then own_requested_by plan g past request reply else []))
       by true true is made = all_due bounds g (with_stop plan.me (is_met plan.me g past) (command_for plan.me request)) group (plain_stop plan.me (is_met plan.me g past) (command_for plan.me request) (plain_command g plan.me request))
       by true false is made = tt
-      by false true is made = own_due request reply (and_parts (is_named g request) (has_group_token plan.me (tenants_in past) request) is).0 made
-      by false false is made = all_due bounds g (tenant_given g plan.me request reply ++ []) group (all_both IsPlain (tenant_given g plan.me request reply) [] (plain_tenant g plan.me request reply) tt)
+      by false true is made =
+          let named = (and_parts (is_named g request) (has_group_token plan.me (tenants_in past) request) is).0 in
+          let alone : tenant_given g plan.me request reply ++ other_given g plan.me request reply ≡ tenant_given g plan.me request reply = own_given g plan.me request reply named in
+          subst (λ es. AreDue bounds g group (es ++ own_requested_by plan g past request reply)) (sym alone)
+          (own_due request reply named (ap (λ es. (alone_from bounds g group (es ++ own_requested_by plan g past request reply) plan.me.number).spec) (sym alone) ∙ made))
+      by false false is made =
+          all_due bounds g (tenant_given g plan.me request reply ++ other_given g plan.me request reply ++ []) group
+          (all_both IsPlain (tenant_given g plan.me request reply ++ other_given g plan.me request reply) []
+          (all_both IsPlain (tenant_given g plan.me request reply) (other_given g plan.me request reply) (plain_tenant g plan.me request reply) (plain_other g plan.me request reply)) tt)
 
 ticked_due : (bounds : Bounds) (addr : Addr) (a : NodeId) (found : ℕ → Bool) (o : Option Spec) (group : Group) → (group a.number).spec ≡ o → AreDue bounds addr group (ticked a found o)
 ticked_due bounds addr a found None group made = tt
@@ -311,6 +335,18 @@ no_commands_tenant s g a (AddTenant token row) Done = elim (nat_eq row.tenant g.
   | false ↦ refl
 ]
 no_commands_tenant s g a request reply = refl
+
+pub no_commands_other : (s : ℕ) (g : Addr) (a : NodeId) (request : Request) (reply : Reply) → commands s (other_given g a request reply) ≡ []
+unfolding commands
+no_commands_other s g a (Make token addr spec) Done = elim (is_other_generation g addr) as (λ (t : Bool). commands s (if t then record { node = a; event = OtherMade addr.generation } ∷ [] else []) ≡ []) [
+  | true ↦ ap (λ es. es ++ []) (no_commands_step s (record { node = a; event = OtherMade addr.generation }) refl)
+  | false ↦ refl
+]
+no_commands_other s g a (DropGroup token addr) Done = elim (is_other_generation g addr) as (λ (t : Bool). commands s (if t then record { node = a; event = OtherDropped } ∷ [] else []) ≡ []) [
+  | true ↦ ap (λ es. es ++ []) (no_commands_step s (record { node = a; event = OtherDropped }) refl)
+  | false ↦ refl
+]
+no_commands_other s g a request reply = refl
 
 -- a stop that is shown is no command
 pub commands_stopped : (s : ℕ) (a : NodeId) (met : Bool) (cs : List GroupStep) → commands s (with_stop a met cs) ≡ commands s cs

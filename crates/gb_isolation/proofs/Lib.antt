@@ -16,6 +16,7 @@ pub mod StoppedLemmas
 pub mod CommandLemmas
 pub mod MakeLemmas
 pub mod RequestLemmas
+pub mod RoomLemmas
 pub mod DoneLemmas
 pub mod ComeLemmas
 pub mod ArriveLemmas
@@ -26,7 +27,6 @@ pub mod FirstLemmas
 pub mod AmpleLemmas
 pub mod GivenLemmas
 pub mod RunCommandLemmas
-pub mod DroppedLemmas
 pub mod MomentLemmas
 pub mod RunIntegrityLemmas
 pub mod TwoRunLemmas

@@ -18,6 +18,7 @@ use Rattle.gb_types.specs.declared.request.Request.TheVariants.{Make}
 use Rattle.gb_types.specs.declared.spec.Spec.{Spec}
 use Rattle.gb_types.specs.declared.plan.Bounds.{Bounds}
 use Rattle.gb_types.specs.declared.version.Version.{Version}
+use Rattle.gb_types.specs.Version.{version_at}
 use Rattle.gb_frame.specs.declared.item.Item.{Item}
 use Rattle.gb_history.specs.declared.call.GroupCall.{GroupCall}
 use Rattle.gb_history.specs.declared.call.GroupCall.TheVariants.{Crashed}
@@ -29,14 +30,16 @@ use Rattle.gb_rules.specs.declared.reserve.Reserve.{Reserve}
 use Rattle.gb_alone.proofs.InsideLemmas.{step_inside}
 use Rattle.gb_alone.specs.declared.event.GroupEvent.TheVariants.{Make as AskMake}
 use Rattle.gb_alone.specs.Alone.{Member, Group, after, commanded, is_marked, reply_to, running_reply}
-use Rattle.gb_rules.specs.Lifetime.{or_added}
+use Rattle.gb_rules.specs.Lifetime.{or_added, passed, where_so}
+use Rattle.gb_rules.specs.Room.{is_reached_by}
 use Rattle.gb_node.specs.NodeStep.{node_numbered}
 use Rattle.gb_node.specs.Past.{Happened, is_stopped, tenants_in}
-use Rattle.gb_node.specs.PastGroups.{Told, noticed_after, waiting_of, noticed_members, crashed_onto, told_first, told_of}
+use Rattle.gb_node.specs.PastGroups.{Told, noticed_after, waiting_of, noticed_members, crashed_onto, told_first, told_of, living_of}
 use Rattle.gb_node.specs.StepLaw.{admitted_answer, has_group_token}
 use Rattle.gb_node.specs.declared.plan.NodePlan.{NodePlan}
 use Rattle.gb_rules.proofs.AddressLemmas.{addr_is}
 use Rattle.gb_isolation.specs.Project.{is_met, is_own_request, made_with, replies_in}
+use Rattle.gb_isolation.specs.RunLaws.{is_dropped}
 use Rattle.gb_isolation.proofs.AskLemmas.{asking, carried_in, member_fits, view_own}
 use Rattle.gb_isolation.proofs.CommandLemmas.{AskedGoes, given_own, inside_some, own_command, replies_running}
 use Rattle.gb_isolation.proofs.FreshLemmas.{before_rising, marked_before, fresh_there, fresh_put}
@@ -89,12 +92,14 @@ module _ (bounds : Bounds) (g : Addr) (a : NodeId) (frames_from : ℕ → List (
       → Fits bounds.nodes g a.number frames_from (record v { told = Some (Some (told_first spec a noticed)); made = Some spec; replies = v.replies ++ Done ∷ [] }) next
   made_fits noticed noticed_is below free unmade answered fits = record {
     reserve = keeps.reserve ∙ fits.reserve;
+    others = keeps.others ∙ fits.others;
     told = subst (λ (new : ℕ → Bool). IsThere (told_first spec a noticed) (all_noticed a.number (noticed_members spec a.number new) made)) (sym noticed_is) (fresh_there a spec noticed made refl absent.phase absent.told);
     inside = inside_some bounds.nodes (told_first spec a noticed) (members_inside unmade answered);
     put = λ b low. fresh_put a.number spec v.noticed made b refl (ap is_gone absent.phase) absent.told (count b low) ∙ (fits.put b low ∙ ap (λ o. carried_in g v b ++ waiting_of o b) free);
     taken = λ b low. ap (λ (f : ℕ → ℕ). f b) keeps.taken ∙ fits.taken b low;
     replies = keeps.replies ∙ ap (λ rs. rs ++ Done ∷ []) fits.replies;
     spec = keeps.spec;
+    gone = ap is_gone keeps.phase ∙ fits.gone;
     noticed = λ b. notices_mark a.number 0 noticed_now made b (before_rising spec a.number v.noticed) ∙ (ap (λ c. c || is_marked b (group a.number).noticed) (marked_before spec a.number v.noticed below b)
         ∙ (ap (λ c. (is_concerned a.number b (Some spec) && v.noticed b) || c) (unmarked b) ∙ or-false (is_concerned a.number b (Some spec) && v.noticed b)));
     stopped = keeps.stopped ∙ fits.stopped;
@@ -153,10 +158,10 @@ module _ (plan : NodePlan) (versions : List Version) (g : Addr) (past : List Hap
 
   -- what the rules answer for the group
   abbrev rule : Reply
-  rule = by_tenant (make_answer plan.nodes plan.me.number g (is_some (told_of plan g past)) spec) before.reserve
+  rule = by_tenant (make_answer plan.version plan.nodes plan.me.number g (is_some (told_of plan g past)) (living_of g past) spec) before.reserve
 
-  -- a group that is made was not made before
-  not_made : (o : Option (Option Told)) (reserve : Option Reserve) → by_tenant (make_answer plan.nodes plan.me.number g (is_some o) spec) reserve ≡ Done → o ≡ None
+  -- a group that is made was not made before, and no later generation of its room was
+  not_made : (o : Option (Option Told)) (reserve : Option Reserve) → by_tenant (make_answer plan.version plan.nodes plan.me.number g (is_some o) (living_of g past) spec) reserve ≡ Done → o ≡ None
   not_made None reserve is = refl
   not_made (Some s) None is = absurd (cc)
   not_made (Some s) (Some reserve) is = absurd (go (nat_le reserve.groups g.group) is)
@@ -166,32 +171,31 @@ module _ (plan : NodePlan) (versions : List Version) (g : Addr) (past : List Hap
       go false e = cc
 
   -- the group alone answers the same
-  alone_rule : (r : Reply) → Fits plan.nodes g plan.me.number frames_from before m → rule ≡ r → running_reply (bounds_with plan versions) g plan.me.number (AskMake spec) m ≡ r
-  alone_rule r fits is =
-      ap (λ (b : Bool). by_tenant (make_answer plan.nodes plan.me.number g b spec) m.reserve) (made-is (told_of plan g past) m fits.told)
-      ∙ (ap (by_tenant (make_answer plan.nodes plan.me.number g (is_some (told_of plan g past)) spec)) fits.reserve ∙ is)
+  alone_rule : (r : Reply) → version_at versions plan.me.number ≡ plan.version → Fits plan.nodes g plan.me.number frames_from before m → rule ≡ r → running_reply (bounds_with plan versions) g plan.me.number (AskMake spec) m ≡ r
+  alone_rule r right fits is = (λ i. by_tenant (make_answer (right i) plan.nodes plan.me.number g (made-is (told_of plan g past) m fits.told i) (fits.others i) spec) (fits.reserve i)) ∙ is
 
-  made_by_reply : (r : Reply) → is_stopped past ≡ false → is_own_request plan.me g past (Make token addr spec) ≡ true → is_addr g addr ≡ true → rule ≡ r → is_noticed_after plan past ≡ set.contains noticed → ((b : ℕ) → set.contains noticed b ≡ true → b < NODES)
+  made_by_reply : (r : Reply) → version_at versions plan.me.number ≡ plan.version → is_stopped past ≡ false → is_own_request plan.me g past (Make token addr spec) ≡ true → is_addr g addr ≡ true → rule ≡ r → is_noticed_after plan past ≡ set.contains noticed → ((b : ℕ) → set.contains noticed b ≡ true → b < NODES)
       → Fits plan.nodes g plan.me.number frames_from before m → AskedGoes plan versions g past (Make token addr spec) r frames_from group
-  made_by_reply Done running own named is silent below fits =
+  made_by_reply Done right running own named is silent below fits =
       let free : told_of plan g past ≡ None = not_made (told_of plan g past) before.reserve is in
       let unmet_here : is_met plan.me g past ≡ false = running_unmet plan g past running in
-      let answered : reply_to (bounds_with plan versions) g plan.me.number (AskMake spec) m ≡ Done = replies_running plan versions g past (Make token addr spec) Done frames_from group (AskMake spec) running fits ∙ alone_rule Done fits is in
+      let answered : reply_to (bounds_with plan versions) g plan.me.number (AskMake spec) m ≡ Done = replies_running plan versions g past (Make token addr spec) Done frames_from group (AskMake spec) running fits ∙ alone_rule Done right fits is in
       let later : view_of plan g (asking (Make token addr spec) Done ∷ past) ≡ record before { told = Some (Some (told_first spec plan.me noticed)); made = Some spec; replies = replies_in plan.me g past ++ Done ∷ [] } =
-      view_own plan g past (Make token addr spec) Done (Some (Some (told_first spec plan.me noticed))) (Some spec) running own refl
-      (ap (λ o. or_added o (if is_addr g addr then Some (Some (told_first spec plan.me noticed)) else None)) free ∙ ap (λ b. if b then Some (Some (told_first spec plan.me noticed)) else None) named)
-      (ap (λ b. option_or (if b then Some spec else None) (made_with g past)) named) in
+      view_own plan g past (Make token addr spec) Done (Some (Some (told_first spec plan.me noticed))) (Some spec) (is_dropped g past) running own refl
+      (ap (λ b. if b then or_added (told_of plan g past) (Some (Some (told_first spec plan.me noticed))) else where_so (is_reached_by g addr) passed (told_of plan g past)) named
+      ∙ ap (λ o. or_added o (Some (Some (told_first spec plan.me noticed)))) free)
+      (ap (λ b. option_or (if b then Some spec else None) (made_with g past)) named) refl in
       subst (λ es. Goes (bounds_with plan versions) g plan.me frames_from (view_of plan g (asking (Make token addr spec) Done ∷ past)) group es) (sym (given_own plan versions g past (Make token addr spec) Done frames_from group running own
       ∙ (ap (λ (t : Bool). record { node = plan.me; event = AskMake spec } ∷ ticked plan.me (is_noticed_after plan past) (if t then Some spec else None)) named
       ∙ ap (λ (new : ℕ → Bool). record { node = plan.me; event = AskMake spec } ∷ notices plan.me spec new) silent)))
       (subst (λ (v : View). Goes (bounds_with plan versions) g plan.me frames_from v group (record { node = plan.me; event = AskMake spec } ∷ notices_of plan.me (noticed_members spec plan.me.number before.noticed))) (sym later)
       (made_goes (bounds_with plan versions) g plan.me frames_from before group spec noticed refl below free unmet_here answered fits))
-  made_by_reply r running own named is silent below fits =
+  made_by_reply r right running own named is silent below fits =
       own_command plan versions g past (Make token addr spec) r frames_from group (AskMake spec) (told_of plan g past) running own refl refl refl refl tt refl
-      (alone_rule r fits is) refl fits (member_fits plan.nodes g plan.me.number frames_from before m fits)
+      (alone_rule r right fits is) refl fits.gone fits (member_fits plan.nodes g plan.me.number frames_from before m fits)
 
-  pub at_make : (reply : Reply) → is_stopped past ≡ false → is_own_request plan.me g past (Make token addr spec) ≡ true → reply ≡ admitted_answer plan past (Make token addr spec) → is_noticed_after plan past ≡ set.contains noticed → ((b : ℕ) → set.contains noticed b ≡ true → b < NODES)
+  pub at_make : (reply : Reply) → version_at versions plan.me.number ≡ plan.version → is_stopped past ≡ false → is_own_request plan.me g past (Make token addr spec) ≡ true → reply ≡ admitted_answer plan past (Make token addr spec) → is_noticed_after plan past ≡ set.contains noticed → ((b : ℕ) → set.contains noticed b ≡ true → b < NODES)
       → Fits plan.nodes g plan.me.number frames_from before m → AskedGoes plan versions g past (Make token addr spec) reply frames_from group
-  at_make reply running own is silent below fits =
+  at_make reply right running own is silent below fits =
       let named = (and_parts (is_addr g addr) (has_group_token plan.me (tenants_in past) (Make token addr spec)) own).0 in
-      made_by_reply reply running own named (sym (is ∙ ap (λ (x : Addr). by_tenant (make_answer plan.nodes plan.me.number x (is_some (told_of plan x past)) spec) (option_map reserve_of (row_of x.tenant (tenants_in past)))) (sym (addr_is g addr named)))) silent below fits
+      made_by_reply reply right running own named (sym (is ∙ ap (λ (x : Addr). by_tenant (make_answer plan.version plan.nodes plan.me.number x (is_some (told_of plan x past)) (living_of x past) spec) (option_map reserve_of (row_of x.tenant (tenants_in past)))) (sym (addr_is g addr named)))) silent below fits

@@ -3,6 +3,7 @@ use Rattle.std.proofs.Common.{◌≡◌, ℕ, List, [], ◌∷◌, ◌++◌, len
 use Rattle.std.specs.Prelude.{if◌then◌else◌, is_some, nat_eq}
 use Rattle.std.proofs.Math.Seq.{take-length}
 use Rattle.std.proofs.lemmas.List.{append-nil, append_assoc, take-append-le}
+use Rattle.std.proofs.Math.Bool.{or-false}
 use Rattle.gb_types.specs.declared.entry.Entry.{Entry}
 use Rattle.gb_types.specs.declared.node.NodeId.{NodeId}
 use Rattle.gb_types.specs.declared.refusal.Refusal.TheVariants.{Spent}
@@ -14,18 +15,18 @@ use Rattle.gb_history.specs.History.{said_in, bytes_in, log_of, puts_of, falls_a
 use Rattle.gb_history.specs.declared.call.GroupCall.{GroupCall}
 use Rattle.gb_history.specs.declared.call.GroupCall.TheVariants.{Other, Crashed}
 use Rattle.gb_rules.specs.declared.phase.Phase.{Phase}
-use Rattle.gb_rules.specs.Group.{Shown, is_gone, is_other, is_too_long, on_made}
+use Rattle.gb_rules.specs.Group.{Shown, absent_answer, is_gone, is_other, is_too_long, on_made}
 use Rattle.gb_alone.specs.Alone.{Member, held_spec, is_finished_alone, count_unfinished, called, item_came, put_to, cut, took_notice, node_noticed}
 use Rattle.gb_alone.specs.Alone as alone
 use Rattle.gb_alone.proofs.UsageLemmas.{shown_of}
-use Rattle.gb_rules.specs.Lifetime.{stepped}
+use Rattle.gb_rules.specs.Lifetime.{stepped, passed, where_so}
 use Rattle.gb_node.specs.PastGroups.{Told, waiting_of, unfinished_in, shown_in, with_call, cut_off, unless_falls, if_other}
 use Rattle.gb_node.specs.StepLaw.{group_answer}
-use Rattle.gb_isolation.proofs.View.{MemberIs, IsThere, NotMade, WasDropped}
+use Rattle.gb_isolation.proofs.View.{MemberIs, IsThere, NotMade, IsSpent}
 
 -- Where the group is not there.
 
--- a group that was not made, or was dropped, has no spec any more
+-- a group that was not made has no spec
 pub unmade_held : (m : Member) → NotMade m → held_spec m.phase m.spec ≡ None
 unmade_held m st = ap (held_spec m.phase) st.spec ∙ by (is_gone m.phase)
   where
@@ -36,11 +37,16 @@ unmade_held m st = ap (held_spec m.phase) st.spec ∙ by (is_gone m.phase)
     by true = refl
     by false = refl
 
-pub dropped_held : (m : Member) → WasDropped m → held_spec m.phase m.spec ≡ None
-dropped_held m st = ap (λ (p : Phase). held_spec p m.spec) st.gone
-
 pub there_held : (t : Told) (m : Member) → IsThere t m → held_spec m.phase m.spec ≡ Some t.spec
 there_held t m st = ap (λ (p : Phase). held_spec p m.spec) st.phase ∙ (ap (λ (b : Bool). if b then None else m.spec) st.present ∙ st.spec)
+
+-- a group that was made, and is not there, was dropped
+made_gone : (x : Spec) (phase : Phase) → held_spec phase (Some x) ≡ None → is_gone phase ≡ true
+made_gone x phase none = by (is_gone phase) none
+  where
+    by : (b : Bool) → (if b then None else Some x) ≡ None → b ≡ true
+    by true e = refl
+    by false e = absurd (cc)
 
 -- Replies.
 
@@ -49,38 +55,51 @@ abbrev pub CountsAlike : ℕ → Option (Option Told) → Member → Type 0
 CountsAlike me o m = (t : Told) → o ≡ Some (Some t) → IsThere t m → count_unfinished (is_finished_alone t.spec me m.told m.put m.done) 1 (said_in m.told) ≡ unfinished_in me t
 
 -- the rules answer the same for what the past tells and for the group alone
-pub answered-is : (answer : Shown → Reply) (me : ℕ) (o : Option (Option Told)) (m : Member) → MemberIs o m → CountsAlike me o m → on_made answer (alone.shown me m) ≡ group_answer answer (shown_in me o)
-answered-is answer me None m st counts = ap (λ (x : Option Spec). on_made answer (shown_of me m.phase m.told m.put m.done x)) st.spec
+pub answered-is : (answer : Shown → Reply) (me : ℕ) (o : Option (Option Told)) (m : Member) → MemberIs o m → CountsAlike me o m → on_made m.passed answer (alone.shown me m) ≡ group_answer answer (shown_in me o)
+answered-is answer me None m st counts = ap (λ (x : Option Spec). on_made m.passed answer (shown_of me m.phase m.told m.put m.done x)) st.spec ∙ ap absent_answer st.passed
 answered-is answer me (Some (Some t)) m st counts =
     let same = counts t refl st in
-    ap (λ (x : Option Spec). on_made answer (shown_of me m.phase m.told m.put m.done x)) st.spec
-    ∙ ((λ i. on_made answer (Some (record { spec = t.spec; phase = st.phase i; usage = record { said = said_in (st.calls i); bytes = bytes_in (st.calls i) me; unfinished = same i }; log = log_of t.spec me (st.calls i) })))
+    ap (λ (x : Option Spec). on_made m.passed answer (shown_of me m.phase m.told m.put m.done x)) st.spec
+    ∙ ((λ i. on_made m.passed answer (Some (record { spec = t.spec; phase = st.phase i; usage = record { said = said_in (st.calls i); bytes = bytes_in (st.calls i) me; unfinished = same i }; log = log_of t.spec me (st.calls i) })))
     ∙ ap (λ (b : Bool). if b then Refused Spent else answer (node_shown t)) st.present)
   where
     node_shown : Told → Shown
     node_shown t = record { spec = t.spec; phase = t.phase; usage = record { said = said_in t.calls; bytes = bytes_in t.calls me; unfinished = unfinished_in me t }; log = log_of t.spec me t.calls }
 answered-is answer me (Some None) m st counts = by m.spec refl
   where
-    spent : (x : Spec) → on_made answer (shown_of me m.phase m.told m.put m.done (Some x)) ≡ Refused Spent
-    spent x = ap (λ (p : Phase). on_made answer (shown_of me p m.told m.put m.done (Some x))) st.gone
+    by : (o : Option Spec) → m.spec ≡ o → on_made m.passed answer (shown_of me m.phase m.told m.put m.done m.spec) ≡ Refused Spent
+    by None is =
+        ap (λ (y : Option Spec). on_made m.passed answer (shown_of me m.phase m.told m.put m.done y)) is
+        ∙ ap absent_answer (ap (λ (y : Option Spec). is_some y || m.passed) (sym is) ∙ st.spent)
+    by (Some x) is =
+        ap (λ (y : Option Spec). on_made m.passed answer (shown_of me m.phase m.told m.put m.done y)) is
+        ∙ ap (λ (b : Bool). if b then Refused Spent else answer (alone.shown_in me m.phase m.told m.put m.done x)) (made_gone x m.phase (ap (held_spec m.phase) (sym is) ∙ st.held))
 
-    by : (o : Option Spec) → m.spec ≡ o → on_made answer (shown_of me m.phase m.told m.put m.done m.spec) ≡ Refused Spent
-    by None is = absurd (clash (sym (ap (λ (x : Option Spec). is_some x) is) ∙ st.made))
-      where
-        clash : false ≡ true → ⊥
-        clash e = cc
-    by (Some x) is = ap (λ (y : Option Spec). on_made answer (shown_of me m.phase m.told m.put m.done y)) is ∙ spent x
-
-pub made-is : (o : Option (Option Told)) (m : Member) → MemberIs o m → is_some m.spec ≡ is_some o
-made-is None m st = ap (λ (x : Option Spec). is_some x) st.spec
-made-is (Some (Some t)) m st = ap (λ (x : Option Spec). is_some x) st.spec
-made-is (Some None) m st = st.made
+-- the group was made, or a later generation of its room was
+pub made-is : (o : Option (Option Told)) (m : Member) → MemberIs o m → (is_some m.spec || m.passed) ≡ is_some o
+made-is None m st = λ i. is_some (st.spec i) || st.passed i
+made-is (Some (Some t)) m st = ap (λ (x : Option Spec). is_some x || m.passed) st.spec
+made-is (Some None) m st = st.spent
 
 -- nothing else of the group matters
-pub same_member : (o : Option (Option Told)) (m n : Member) → n.spec ≡ m.spec → n.phase ≡ m.phase → n.told ≡ m.told → MemberIs o m → MemberIs o n
-same_member None m n spec phase told st = record { spec = spec ∙ st.spec; phase = phase ∙ st.phase; told = told ∙ st.told }
-same_member (Some (Some t)) m n spec phase told st = record { spec = spec ∙ st.spec; phase = phase ∙ st.phase; present = st.present; calls = told ∙ st.calls }
-same_member (Some None) m n spec phase told st = record { gone = phase ∙ st.gone; made = ap (λ (x : Option Spec). is_some x) spec ∙ st.made }
+pub same_member : (o : Option (Option Told)) (m n : Member) → n.spec ≡ m.spec → n.passed ≡ m.passed → n.phase ≡ m.phase → n.told ≡ m.told → MemberIs o m → MemberIs o n
+same_member None m n spec is_passed phase told st = record { spec = spec ∙ st.spec; passed = is_passed ∙ st.passed; phase = phase ∙ st.phase; told = told ∙ st.told }
+same_member (Some (Some t)) m n spec is_passed phase told st = record { spec = spec ∙ st.spec; phase = phase ∙ st.phase; present = st.present; calls = told ∙ st.calls }
+same_member (Some None) m n spec is_passed phase told st = record { held = (λ i. held_spec (phase i) (spec i)) ∙ st.held; spent = (λ i. is_some (spec i) || is_passed i) ∙ st.spent }
+
+-- Another generation of the room is made.
+
+or_more : (a b c : Bool) → (a || b) ≡ true → (a || (b || c)) ≡ true
+or_more true b c is = refl
+or_more false true c is = refl
+or_more false false c is = absurd (cc)
+
+-- where it is a later one the group can be made no more
+pub told-passed : (later : Bool) (others : ℕ) (o : Option (Option Told)) (m : Member) → MemberIs o m → MemberIs (where_so later passed o) (record m { passed = m.passed || later; others = others })
+told-passed false others o m st = same_member o m (record m { passed = m.passed || false; others = others }) refl (or-false m.passed) refl refl st
+told-passed true others None m st = record { held = unmade_held m st; spent = λ i. is_some (st.spec i) || (st.passed i || true) }
+told-passed true others (Some None) m st = record { held = st.held; spent = or_more (is_some m.spec) m.passed true st.spent }
+told-passed true others (Some (Some t)) m st = record { spec = st.spec; phase = st.phase; present = st.present; calls = st.calls }
 
 -- The group is told of something.
 
@@ -134,12 +153,12 @@ handed_there me from e t m st = by (falls_after t.spec me.number t.calls from.nu
 
 told-handed : (me from : NodeId) (e : Entry) (o : Option (Option Told)) (m : Member) → MemberIs o m → MemberIs (stepped (unless_falls me from e) o) (handed me.number from e m)
 told-handed me from e None m st = subst NotMade (sym (absent_falls me.number from e m (unmade_held m st))) st
-told-handed me from e (Some None) m st = subst WasDropped (sym (absent_falls me.number from e m (dropped_held m st))) st
+told-handed me from e (Some None) m st = subst IsSpent (sym (absent_falls me.number from e m st.held)) st
 told-handed me from e (Some (Some t)) m st = (handed_there me from e t m st).0
 
 put-handed : (me from : NodeId) (e : Entry) (o : Option (Option Told)) (m : Member) (b : ℕ) (carried : List Entry) → MemberIs o m → m.put b ≡ carried ++ waiting_of o b → (handed me.number from e m).put b ≡ carried ++ waiting_of (stepped (unless_falls me from e) o) b
 put-handed me from e None m b carried st was = ap (λ (x : Member). x.put b) (absent_falls me.number from e m (unmade_held m st)) ∙ was
-put-handed me from e (Some None) m b carried st was = ap (λ (x : Member). x.put b) (absent_falls me.number from e m (dropped_held m st)) ∙ was
+put-handed me from e (Some None) m b carried st was = ap (λ (x : Member). x.put b) (absent_falls me.number from e m st.held) ∙ was
 put-handed me from e (Some (Some t)) m b carried st was = (handed_there me from e t m st).1 b carried was
 
 -- what an item leaves of what is told: one that is too long leaves all
@@ -165,6 +184,7 @@ put-item_came version me from e o m b carried st was = by (is_too_long version e
 pub record KeepsRest (m n : Member) : Type 0 where
   pub reserve : n.reserve ≡ m.reserve
   pub spec : n.spec ≡ m.spec
+  pub others : n.others ≡ m.others
   pub phase : n.phase ≡ m.phase
   pub replies : n.replies ≡ m.replies
   pub taken : n.taken ≡ m.taken
@@ -176,8 +196,8 @@ pub item_came-rest : (version : Version) (me : ℕ) (from : NodeId) (e : Entry) 
 item_came-rest version me from e m = go (is_too_long version e.payload || alone.falls me from.number e m.told (held_spec m.phase m.spec))
   where
     go : (b : Bool) → KeepsRest m (if b then m else called me (Other from e) m)
-    go true = record { reserve = refl; spec = refl; phase = refl; replies = refl; taken = refl; come = refl; done = refl; stopped = refl }
-    go false = record { reserve = refl; spec = refl; phase = refl; replies = refl; taken = refl; come = refl; done = refl; stopped = refl }
+    go true = record { reserve = refl; spec = refl; others = refl; phase = refl; replies = refl; taken = refl; come = refl; done = refl; stopped = refl }
+    go false = record { reserve = refl; spec = refl; others = refl; phase = refl; replies = refl; taken = refl; come = refl; done = refl; stopped = refl }
 
 -- an item leaves the notices too
 pub item_came-noticed : (version : Version) (me : ℕ) (from : NodeId) (e : Entry) (m : Member) → (item_came version me from e m).noticed ≡ m.noticed
@@ -198,10 +218,10 @@ noticed_is me q t m st = ap (λ (x : Option Spec). took_notice me q x m) (there_
 pub told-noticed : (me q : NodeId) (o : Option (Option Told)) (m : Member) → MemberIs o m → MemberIs (stepped (if_other me q) o) (node_noticed me.number q m)
 told-noticed me q None m st =
     let same = absent_noticed me.number q m (unmade_held m st) in
-    same_member None m (node_noticed me.number q m) (ap (λ (x : Member). x.spec) same) (ap (λ (x : Member). x.phase) same) (ap (λ (x : Member). x.told) same) st
+    same_member None m (node_noticed me.number q m) (ap (λ (x : Member). x.spec) same) (ap (λ (x : Member). x.passed) same) (ap (λ (x : Member). x.phase) same) (ap (λ (x : Member). x.told) same) st
 told-noticed me q (Some None) m st =
-    let same = absent_noticed me.number q m (dropped_held m st) in
-    same_member (Some None) m (node_noticed me.number q m) (ap (λ (x : Member). x.spec) same) (ap (λ (x : Member). x.phase) same) (ap (λ (x : Member). x.told) same) st
+    let same = absent_noticed me.number q m st.held in
+    same_member (Some None) m (node_noticed me.number q m) (ap (λ (x : Member). x.spec) same) (ap (λ (x : Member). x.passed) same) (ap (λ (x : Member). x.phase) same) (ap (λ (x : Member). x.told) same) st
 told-noticed me q (Some (Some t)) m st = by (is_other t.spec me.number q.number) (noticed_is me.number q t m st)
   where
     by : (other : Bool) → took_notice me.number q (held_spec m.phase m.spec) m ≡ (if other then called me.number (Crashed q) (cut q m) else m) → IsThere (if other then with_call me (Crashed q) (cut_off q.number t) else t) (node_noticed me.number q m)
@@ -211,7 +231,7 @@ told-noticed me q (Some (Some t)) m st = by (is_other t.spec me.number q.number)
 -- what is put out then: to the node only what is carried
 pub put-noticed : (me q : NodeId) (o : Option (Option Told)) (m : Member) (b : ℕ) (carried : List Entry) → MemberIs o m → m.put b ≡ carried ++ waiting_of o b → m.taken b ≡ length carried → (node_noticed me.number q m).put b ≡ carried ++ waiting_of (stepped (if_other me q) o) b
 put-noticed me q None m b carried st was count = ap (λ (x : Member). x.put b) (absent_noticed me.number q m (unmade_held m st)) ∙ was
-put-noticed me q (Some None) m b carried st was count = ap (λ (x : Member). x.put b) (absent_noticed me.number q m (dropped_held m st)) ∙ was
+put-noticed me q (Some None) m b carried st was count = ap (λ (x : Member). x.put b) (absent_noticed me.number q m st.held) ∙ was
 put-noticed me q (Some (Some t)) m b carried st was count = by (is_other t.spec me.number q.number) (noticed_is me.number q t m st)
   where
     -- what is put out once what waits for the node is given up

@@ -111,21 +111,22 @@ pub notice_keeps : (me : ℕ) (q : NodeId) (m : Member) → KeepsRest m (node_no
 notice_keeps me q m = go (held_spec m.phase m.spec)
   where
     by : (spec : Spec) (b : Bool) → KeepsRest m (let next = (if b then called me (Crashed q) (cut q m) else m) in record next { noticed = q.number ∷ m.noticed })
-    by spec true = record { reserve = refl; spec = refl; phase = refl; replies = refl; taken = refl; come = refl; done = refl; stopped = refl }
-    by spec false = record { reserve = refl; spec = refl; phase = refl; replies = refl; taken = refl; come = refl; done = refl; stopped = refl }
+    by spec true = record { reserve = refl; spec = refl; others = refl; phase = refl; replies = refl; taken = refl; come = refl; done = refl; stopped = refl }
+    by spec false = record { reserve = refl; spec = refl; others = refl; phase = refl; replies = refl; taken = refl; come = refl; done = refl; stopped = refl }
 
     go : (o : Option Spec) → KeepsRest m (let next = took_notice me q o m in record next { noticed = q.number ∷ m.noticed })
-    go None = record { reserve = refl; spec = refl; phase = refl; replies = refl; taken = refl; come = refl; done = refl; stopped = refl }
+    go None = record { reserve = refl; spec = refl; others = refl; phase = refl; replies = refl; taken = refl; come = refl; done = refl; stopped = refl }
     go (Some spec) = by spec (is_other spec me q.number)
 
 pub notices_keep : (me : ℕ) (bs : List ℕ) (m : Member) → KeepsRest m (all_noticed me bs m)
-notices_keep me [] m = record { reserve = refl; spec = refl; phase = refl; replies = refl; taken = refl; come = refl; done = refl; stopped = refl }
+notices_keep me [] m = record { reserve = refl; spec = refl; others = refl; phase = refl; replies = refl; taken = refl; come = refl; done = refl; stopped = refl }
 notices_keep me (b ∷ bs) m =
     let one = notice_keeps me (node_numbered b) m in
     let rest = notices_keep me bs (node_noticed me (node_numbered b) m) in
     record {
       reserve = rest.reserve ∙ one.reserve;
       spec = rest.spec ∙ one.spec;
+      others = rest.others ∙ one.others;
       phase = rest.phase ∙ one.phase;
       replies = rest.replies ∙ one.replies;
       taken = rest.taken ∙ one.taken;

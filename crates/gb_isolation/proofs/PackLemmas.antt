@@ -22,13 +22,14 @@ use Rattle.gb_alone.specs.declared.event.GroupEvent.TheVariants.{Took}
 use Rattle.gb_frame.specs.Items.{entry_of, items_for}
 use Rattle.gb_rules.specs.Lifetime.{stepped}
 use Rattle.gb_node.specs.Past.{Happened, read, frames_to, is_acked, is_taken, watched, tenants_in}
-use Rattle.gb_node.specs.PastGroups.{Told, noticed_after, waiting_of, took_from, packed_told, told_of}
+use Rattle.gb_node.specs.PastGroups.{Told, noticed_after, waiting_of, took_from, packed_told, told_of, living_of}
 use Rattle.gb_node.specs.StepLaw.{IsPacked}
 use Rattle.gb_node.specs.declared.answer.NodeAnswer.TheVariants.{Sent}
 use Rattle.gb_node.specs.declared.answer.Sent.TheVariants.{Packet as SentPacket}
 use Rattle.gb_node.specs.declared.event.NodeEvent.TheVariants.{Pack}
 use Rattle.gb_node.specs.declared.plan.NodePlan.{NodePlan}
 use Rattle.gb_isolation.specs.Project.{group_items, group_items_of, made_with, replies_in, is_met, if_any}
+use Rattle.gb_isolation.specs.RunLaws.{is_dropped}
 use Rattle.gb_isolation.proofs.View.{View, view_of, Fits, Goes, MemberIs, AreMarked, KeepsAcks, IsInside, said_of, acknowledged_of, bounds_with}
 use Rattle.gb_isolation.proofs.AcknowledgedLemmas.{none_acknowledged, acknowledged-append}
 use Rattle.gb_isolation.proofs.GoesLemmas.{goes_none, goes_one}
@@ -49,11 +50,13 @@ view_packed b f k v = record v { told = stepped (took_from b.number k) v.told; f
 
 packed_view : (plan : NodePlan) (g : Addr) (past : List Happened) (b : NodeId) (text : List ℕ) (c : Content) → read plan.cluster_key text ≡ c ∷ []
     → view_of plan g (packing b text ∷ past) ≡ view_packed b c.items (length (items_for g c.items)) (view_of plan g past)
-unfolding frames_to is_acked is_taken watched tenants_in told_of made_with replies_in is_met
+unfolding frames_to is_acked is_taken watched tenants_in told_of living_of made_with is_dropped replies_in is_met
 packed_view plan g past b text c one = λ i. record {
   reserve = option_map reserve_of (row_of g.tenant (append-nil (tenants_in past) i));
   told = fold (packed_told g b) (told_of plan g past) (one i);
+  living = living_of g past;
   made = made_with g past;
+  dropped = is_dropped g past;
   noticed = set.contains (noticed_after plan past);
   replies = append-nil (replies_in plan.me g past) i;
   met = is_met plan.me g past;
@@ -68,8 +71,8 @@ abbrev member_took : NodeId → ℕ → Member → Member
 member_took b k m = record m { taken = λ x. if nat_eq x b.number then m.taken x + k else m.taken x }
 
 told_took : (b : NodeId) (k : ℕ) (o : Option (Option Told)) (m : Member) → MemberIs o m → MemberIs (stepped (took_from b.number k) o) (member_took b k m)
-told_took b k None m st = record { spec = st.spec; phase = st.phase; told = st.told }
-told_took b k (Some None) m st = record { gone = st.gone; made = st.made }
+told_took b k None m st = record { spec = st.spec; passed = st.passed; phase = st.phase; told = st.told }
+told_took b k (Some None) m st = record { held = st.held; spent = st.spent }
 told_took b k (Some (Some t)) m st = record { spec = st.spec; phase = st.phase; present = st.present; calls = st.calls }
 
 took_waits : (b k : ℕ) (o : Option (Option Told)) → waiting_of (stepped (took_from b k) o) b ≡ drop k (waiting_of o b)
@@ -189,11 +192,13 @@ module _ (plan : NodePlan) (versions : List Version) (g : Addr) (past : List Hap
   fits_took = record {
     reserve = was.reserve;
     told = told_took b k v.told m was.told;
+    others = was.others;
     inside = inside_stepped plan.nodes (took_from b.number k) v.told (λ s. refl) was.inside;
     put = put_took;
     taken = count_took;
     replies = was.replies;
     spec = was.spec;
+    gone = was.gone;
     noticed = was.noticed;
     stopped = was.stopped;
     come = was.come;

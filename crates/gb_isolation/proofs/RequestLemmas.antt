@@ -1,5 +1,6 @@
 -- A request at a node does to each group what it does to the group alone.
-use Rattle.std.proofs.Common.{◌≡◌, ◌≢◌, ℕ, ◌+◌, ◌<◌, ◌≤◌, List, [], ◌∷◌, ◌++◌, Option, Some, None, Bool, true, false, ◌&&◌, ◌||◌, ◌⊎◌, inl, inr, refl, sym, ◌∙◌, ap, subst, arith}
+use Rattle.std.proofs.Common.{◌≡◌, ◌≢◌, ℕ, ◌+◌, ◌-◌, ◌<◌, ◌≤◌, List, [], ◌∷◌, ◌++◌, Option, Some, None, Bool, true, false, ◌&&◌, ◌||◌, ◌⊎◌, inl, inr, refl, sym, ◌∙◌, ap, subst, arith}
+use Rattle.std.specs.Option.{option_or}
 use Rattle.std.specs.Prelude.{if◌then◌else◌, is_some, nat_eq, nat_lt, option_map}
 use Rattle.std.specs.FinSet as set
 use Rattle.std.specs.List.{list_any}
@@ -15,29 +16,36 @@ use Rattle.gb_types.specs.declared.reply.Reply.{Reply}
 use Rattle.gb_types.specs.declared.reply.Reply.TheVariants.{Done, Said, Refused}
 use Rattle.gb_types.specs.declared.request.Request.{Request}
 use Rattle.gb_types.specs.declared.request.Request.TheVariants.{AddTenant, Make, OpenGroup, ShutGroup, DropGroup, Say, Fetch}
+use Rattle.gb_types.specs.declared.new_message.NewMessage.{NewMessage}
+use Rattle.gb_types.specs.declared.spec.Spec.{Spec}
 use Rattle.gb_types.specs.declared.spec.TenantRow.{TenantRow}
 use Rattle.gb_types.specs.declared.version.Version.{Version}
 use Rattle.gb_types.specs.Version.{version_at}
 use Rattle.gb_frame.specs.declared.item.Item.{Item}
 use Rattle.gb_history.specs.History.{said_in}
 use Rattle.gb_rules.specs.Tenant.{is_over_limits, reserve_of, reserved, row_of, tenant_answer}
-use Rattle.gb_alone.specs.Alone.{Group, member_after}
+use Rattle.gb_rules.specs.Address.{is_addr}
+use Rattle.gb_rules.specs.Room.{is_reached_by, is_other_generation}
+use Rattle.gb_alone.specs.Alone.{Group, MayHappen, member_after}
 use Rattle.gb_alone.specs.Alone as alone
-use Rattle.gb_alone.specs.declared.event.GroupEvent.TheVariants.{Tenant}
-use Rattle.gb_rules.specs.Lifetime.{or_added}
+use Rattle.gb_alone.specs.declared.event.GroupEvent.{GroupEvent}
+use Rattle.gb_alone.specs.declared.event.GroupEvent.TheVariants.{Tenant, OtherMade, OtherDropped}
+use Rattle.gb_rules.specs.Lifetime.{dropped, or_added, passed, where_so}
 use Rattle.gb_node.specs.NodeStep.{RequestTakesMemory}
 use Rattle.gb_node.specs.Past.{Happened, added, frames_to, is_stopped, tenants_in}
-use Rattle.gb_node.specs.PastGroups.{Told, noticed_after, told_first, asked_told, told_of}
+use Rattle.gb_node.specs.PastGroups.{Told, noticed_after, told_first, asked_told, told_of, living_after, living_of}
 use Rattle.gb_node.specs.StepLaw.{IsAsked, admitted_answer, is_admitted_by, past_answer, has_group_token}
 use Rattle.gb_node.specs.declared.answer.NodeAnswer.TheVariants.{Reply as Replied}
 use Rattle.gb_node.specs.declared.event.NodeEvent.TheVariants.{Request as Asked}
 use Rattle.gb_node.specs.declared.plan.NodePlan.{NodePlan}
-use Rattle.gb_isolation.specs.Project.{is_met, is_named, is_own_request, is_starved_by, group_items_of, made_by, made_with, replies_in, tenant_given}
-use Rattle.gb_isolation.proofs.AskLemmas.{asking, unrelated_request, refused_unrelated, view_asked}
+use Rattle.gb_isolation.specs.Project.{is_met, is_named, is_own_request, is_starved_by, group_items_of, made_by, made_with, replies_in, tenant_given, other_given}
+use Rattle.gb_isolation.specs.RunLaws.{is_dropped, is_dropped_by}
+use Rattle.gb_isolation.proofs.AskLemmas.{MemberFits, asking, carried_in, member_fits, passed_fits, rows_kept, unrelated_request, refused_unrelated, view_asked}
 use Rattle.gb_isolation.proofs.CommandLemmas.{AskedGoes, group_token_is, at_open, at_shut, at_drop, at_say, at_fetch}
 use Rattle.gb_isolation.proofs.GoesLemmas.{goes_none, goes_one}
 use Rattle.gb_isolation.proofs.MakeLemmas.{at_make}
 use Rattle.gb_isolation.proofs.MemberLemmas.{same_member}
+use Rattle.gb_isolation.proofs.RoomLemmas.{other_address, reached_later, unreached}
 use Rattle.gb_isolation.proofs.StoppedLemmas.{stopped_goes}
 use Rattle.gb_isolation.proofs.View.{View, view_of, Fits, Goes, bounds_with, asked_by, is_noticed_after, own_requested_by, requested_by}
 
@@ -81,29 +89,43 @@ module _ (plan : NodePlan) (versions : List Version) (g : Addr) (past : List Hap
   -- Requests that make nothing of the group.
 
   -- what is given then
-  given_unrelated : (request : Request) (reply : Reply) → is_stopped past ≡ false → is_own_request plan.me g past request ≡ false → tenant_given g plan.me request reply ≡ [] → asked_by plan g past request reply ≡ []
-  given_unrelated request reply running other none = by ∙ (ap (λ b. tenant_given g plan.me request reply ++ (if b then own_requested_by plan g past request reply else [])) other ∙ ap (λ es. es ++ []) none)
+  given_beside : (request : Request) (reply : Reply) → is_stopped past ≡ false → is_own_request plan.me g past request ≡ false → asked_by plan g past request reply ≡ tenant_given g plan.me request reply ++ other_given g plan.me request reply
+  given_beside request reply running other =
+      by
+      ∙ (ap (λ b. tenant_given g plan.me request reply ++ other_given g plan.me request reply ++ (if b then own_requested_by plan g past request reply else [])) other
+      ∙ append-nil (tenant_given g plan.me request reply ++ other_given g plan.me request reply))
     where
       by : asked_by plan g past request reply ≡ requested_by plan g past request reply
       by = rw running refl
 
+  given_unrelated : (request : Request) (reply : Reply) → is_stopped past ≡ false → is_own_request plan.me g past request ≡ false → tenant_given g plan.me request reply ≡ [] → other_given g plan.me request reply ≡ [] → asked_by plan g past request reply ≡ []
+  given_unrelated request reply running other no_tenant none = given_beside request reply running other ∙ (λ i. no_tenant i ++ none i)
+
   passes : (request : Request) (reply : Reply) → is_stopped past ≡ false → is_own_request plan.me g past request ≡ false
       → added (Asked request) (Replied reply) ≡ []
       → asked_told g plan.me (noticed_after plan past) request reply (told_of plan g past) ≡ told_of plan g past
+      → living_after g (Asked request) (Replied reply) (living_of g past) ≡ living_of g past
       → made_by g (Asked request) (Replied reply) ≡ None
+      → is_dropped_by g (Asked request) (Replied reply) ≡ false
       → tenant_given g plan.me request reply ≡ []
+      → other_given g plan.me request reply ≡ []
       → FitsBefore → AskedGoes plan versions g past request reply frames_from group
-  passes request reply running other rows told unmade none fits =
-      subst (λ es. Goes (bounds_with plan versions) g plan.me frames_from (view_of plan g (asking request reply ∷ past)) group es) (sym (given_unrelated request reply running other none))
-      (unrelated_request plan versions g past request reply frames_from group other rows told unmade fits)
+  passes request reply running other rows told living unmade undropped no_tenant none fits =
+      subst (λ es. Goes (bounds_with plan versions) g plan.me frames_from (view_of plan g (asking request reply ∷ past)) group es) (sym (given_unrelated request reply running other no_tenant none))
+      (unrelated_request plan versions g past request reply frames_from group other rows told living unmade undropped fits)
 
   refusal_passes : (request : Request) (why : Refusal) → is_stopped past ≡ false → is_own_request plan.me g past request ≡ false → FitsBefore → AskedGoes plan versions g past request (Refused why) frames_from group
   refusal_passes request why running other fits =
-      subst (λ es. Goes (bounds_with plan versions) g plan.me frames_from (view_of plan g (asking request (Refused why) ∷ past)) group es) (sym (given_unrelated request (Refused why) running other (none request)))
+      subst (λ es. Goes (bounds_with plan versions) g plan.me frames_from (view_of plan g (asking request (Refused why) ∷ past)) group es) (sym (given_unrelated request (Refused why) running other (no_tenant request) (none request)))
       (refused_unrelated plan versions g past request why frames_from group other fits)
     where
-      none : (request : Request) → tenant_given g plan.me request (Refused why) ≡ []
-      none (AddTenant token row) = refl
+      no_tenant : (request : Request) → tenant_given g plan.me request (Refused why) ≡ []
+      no_tenant (AddTenant token row) = refl
+      no_tenant request = refl
+
+      none : (request : Request) → other_given g plan.me request (Refused why) ≡ []
+      none (Make token addr spec) = refl
+      none (DropGroup token addr) = refl
       none request = refl
 
   -- A tenant is taken in.
@@ -114,12 +136,14 @@ module _ (plan : NodePlan) (versions : List Version) (g : Addr) (past : List Hap
       (subst (λ (v : View). Goes (bounds_with plan versions) g plan.me frames_from v group (record { node = plan.me; event = Tenant (reserve_of row) } ∷ [])) (sym later)
       (goes_one (bounds_with plan versions) g plan.me frames_from (record before { reserve = Some (reserve_of row) }) group (Tenant (reserve_of row)) tt (record {
         reserve = refl;
-        told = same_member before.told (group plan.me.number) (member_after (bounds_with plan versions) g plan.me (Tenant (reserve_of row)) group) refl refl refl fits.told;
+        told = same_member before.told (group plan.me.number) (member_after (bounds_with plan versions) g plan.me (Tenant (reserve_of row)) group) refl refl refl refl fits.told;
+        others = fits.others;
         inside = fits.inside;
         put = fits.put;
         taken = fits.taken;
         replies = fits.replies;
         spec = fits.spec;
+        gone = fits.gone;
         noticed = fits.noticed;
         stopped = fits.stopped;
         come = fits.come;
@@ -134,14 +158,14 @@ module _ (plan : NodePlan) (versions : List Version) (g : Addr) (past : List Hap
       there = row-append g.tenant (tenants_in past) row (ap (λ t. row_of t (tenants_in past)) (sym same) ∙ new) ∙ ap (λ b. if b then Some row else None) own
 
       given : asked_by plan g past (AddTenant token row) Done ≡ record { node = plan.me; event = Tenant (reserve_of row) } ∷ []
-      given = by ∙ ap (λ b. (if b then record { node = plan.me; event = Tenant (reserve_of row) } ∷ [] else []) ++ []) own
+      given = by ∙ ap (λ b. (if b then record { node = plan.me; event = Tenant (reserve_of row) } ∷ [] else []) ++ [] ++ []) own
         where
           by : asked_by plan g past (AddTenant token row) Done ≡ requested_by plan g past (AddTenant token row) Done
           by = rw running refl
 
       later : view_of plan g (asking (AddTenant token row) Done ∷ past) ≡ record before { reserve = Some (reserve_of row) }
-      later = view_asked plan g past (AddTenant token row) Done (Some (reserve_of row)) (told_of plan g past) (made_with g past) (replies_in plan.me g past) (is_met plan.me g past)
-          (ap (option_map reserve_of) there) refl refl (append-nil (replies_in plan.me g past)) (ap (λ b. (b && false) || is_met plan.me g past) running)
+      later = view_asked plan g past (AddTenant token row) Done (Some (reserve_of row)) (told_of plan g past) (living_of g past) (made_with g past) (is_dropped g past) (replies_in plan.me g past) (is_met plan.me g past)
+          (ap (option_map reserve_of) there) refl refl refl refl (append-nil (replies_in plan.me g past)) (ap (λ b. (b && false) || is_met plan.me g past) running)
 
   tenant_other : (token : List ℕ) (row : TenantRow) → is_stopped past ≡ false → nat_eq row.tenant g.tenant ≡ false → FitsBefore → AskedGoes plan versions g past (AddTenant token row) Done frames_from group
   tenant_other token row running other fits =
@@ -149,14 +173,14 @@ module _ (plan : NodePlan) (versions : List Version) (g : Addr) (past : List Hap
       (subst (λ (v : View). Goes (bounds_with plan versions) g plan.me frames_from v group []) (sym later) (goes_none (bounds_with plan versions) g plan.me frames_from before group fits))
     where
       given : asked_by plan g past (AddTenant token row) Done ≡ []
-      given = by ∙ ap (λ b. (if b then record { node = plan.me; event = Tenant (reserve_of row) } ∷ [] else []) ++ []) other
+      given = by ∙ ap (λ b. (if b then record { node = plan.me; event = Tenant (reserve_of row) } ∷ [] else []) ++ [] ++ []) other
         where
           by : asked_by plan g past (AddTenant token row) Done ≡ requested_by plan g past (AddTenant token row) Done
           by = rw running refl
 
       later : view_of plan g (asking (AddTenant token row) Done ∷ past) ≡ before
-      later = view_asked plan g past (AddTenant token row) Done before.reserve (told_of plan g past) (made_with g past) (replies_in plan.me g past) (is_met plan.me g past)
-          (ap (option_map reserve_of) (row-other g.tenant (tenants_in past) row other)) refl refl (append-nil (replies_in plan.me g past)) (ap (λ b. (b && false) || is_met plan.me g past) running)
+      later = view_asked plan g past (AddTenant token row) Done before.reserve (told_of plan g past) (living_of g past) (made_with g past) (is_dropped g past) (replies_in plan.me g past) (is_met plan.me g past)
+          (ap (option_map reserve_of) (row-other g.tenant (tenants_in past) row other)) refl refl refl refl (append-nil (replies_in plan.me g past)) (ap (λ b. (b && false) || is_met plan.me g past) running)
 
   -- by the reply
   at_tenant : (token : List ℕ) (row : TenantRow) (r : Reply) → is_stopped past ≡ false → (r ≡ Done → row_of row.tenant (tenants_in past) ≡ None) → FitsBefore → AskedGoes plan versions g past (AddTenant token row) r frames_from group
@@ -165,35 +189,136 @@ module _ (plan : NodePlan) (versions : List Version) (g : Addr) (past : List Hap
       go : ((nat_eq row.tenant g.tenant ≡ true) ⊎ (nat_eq row.tenant g.tenant ≡ false)) → AskedGoes plan versions g past (AddTenant token row) Done frames_from group
       go (inl own) = tenant_taken token row running (new refl) own fits
       go (inr other) = tenant_other token row running other fits
-  at_tenant token row r running new fits = passes (AddTenant token row) r running refl refl refl refl refl fits
+  at_tenant token row r running new fits = passes (AddTenant token row) r running refl refl refl refl refl refl refl refl fits
+
+  -- Another generation of the group's room is made or dropped.
+
+  -- the request changes what is told and how many live
+  generation_goes : (request : Request) (event : GroupEvent) (told : Option (Option Told)) (living : ℕ) → is_stopped past ≡ false → is_own_request plan.me g past request ≡ false
+      → added (Asked request) (Replied Done) ≡ []
+      → asked_told g plan.me (noticed_after plan past) request Done (told_of plan g past) ≡ told
+      → living_after g (Asked request) (Replied Done) (living_of g past) ≡ living
+      → made_by g (Asked request) (Replied Done) ≡ None
+      → is_dropped_by g (Asked request) (Replied Done) ≡ false
+      → tenant_given g plan.me request Done ≡ []
+      → other_given g plan.me request Done ≡ record { node = plan.me; event = event } ∷ []
+      → MayHappen plan.me event group
+      → Fits plan.nodes g plan.me.number frames_from (record before { told = told; living = living }) (member_after (bounds_with plan versions) g plan.me event group)
+      → AskedGoes plan versions g past request Done frames_from group
+  generation_goes request event told living running foreign rows tells lives unmade undropped no_tenant one may fits =
+      subst (λ es. Goes (bounds_with plan versions) g plan.me frames_from (view_of plan g (asking request Done ∷ past)) group es) (sym (given_beside request Done running foreign ∙ (λ i. no_tenant i ++ one i)))
+      (subst (λ (v : View). Goes (bounds_with plan versions) g plan.me frames_from v group (record { node = plan.me; event = event } ∷ [])) (sym later)
+      (goes_one (bounds_with plan versions) g plan.me frames_from (record before { told = told; living = living }) group event may fits))
+    where
+      later : view_of plan g (asking request Done ∷ past) ≡ record before { told = told; living = living }
+      later = view_asked plan g past request Done before.reserve told living (made_with g past) (is_dropped g past) (replies_in plan.me g past) (is_met plan.me g past)
+          (rows_kept plan g past request Done rows) tells lives (ap (λ o. option_or o (made_with g past)) unmade) (ap (λ b. b || is_dropped g past) undropped)
+          (ap (λ b. replies_in plan.me g past ++ (if b then Done ∷ [] else [])) foreign ∙ append-nil (replies_in plan.me g past))
+          (ap (λ b. (b && is_own_request plan.me g past request) || is_met plan.me g past) running)
+
+  generation_made : (token : List ℕ) (addr : Addr) (spec : Spec) → is_stopped past ≡ false → is_own_request plan.me g past (Make token addr spec) ≡ false → is_other_generation g addr ≡ true → FitsBefore
+      → AskedGoes plan versions g past (Make token addr spec) Done frames_from group
+  generation_made token addr spec running foreign other fits =
+      generation_goes (Make token addr spec) (OtherMade addr.generation) (where_so later passed (told_of plan g past)) (living_of g past + 1) running foreign refl
+      (ap (λ b. if b then or_added (told_of plan g past) (Some (Some (told_first spec plan.me (noticed_after plan past)))) else where_so (is_reached_by g addr) passed (told_of plan g past)) (other_address g addr other)
+      ∙ ap (λ b. where_so b passed (told_of plan g past)) (reached_later g addr other))
+      (ap (λ b. if b then living_of g past + 1 else living_of g past) other)
+      (ap (λ b. if b then Some spec else None) (other_address g addr other)) refl refl
+      (ap (λ b. if b then record { node = plan.me; event = OtherMade addr.generation } ∷ [] else []) other) tt
+      (record {
+        reserve = fits.reserve;
+        told = now.told;
+        others = ap (λ n. n + 1) fits.others;
+        inside = now.inside;
+        put = now.put;
+        taken = now.taken;
+        replies = fits.replies;
+        spec = fits.spec;
+        gone = fits.gone;
+        noticed = fits.noticed;
+        stopped = fits.stopped;
+        come = fits.come;
+        done = fits.done;
+        acks = now.acks;
+      })
+    where
+      later : Bool
+      later = nat_lt g.generation addr.generation
+
+      now : MemberFits plan.nodes plan.me.number (carried_in g before) (where_so later passed (told_of plan g past)) (member_after (bounds_with plan versions) g plan.me (OtherMade addr.generation) group)
+      now = passed_fits plan.nodes plan.me.number (carried_in g before) later ((group plan.me.number).others + 1) (told_of plan g past) (group plan.me.number) (member_fits plan.nodes g plan.me.number frames_from before (group plan.me.number) fits)
+
+  generation_dropped : (token : List ℕ) (addr : Addr) → is_stopped past ≡ false → is_own_request plan.me g past (DropGroup token addr) ≡ false → is_other_generation g addr ≡ true → FitsBefore
+      → AskedGoes plan versions g past (DropGroup token addr) Done frames_from group
+  generation_dropped token addr running foreign other fits =
+      generation_goes (DropGroup token addr) OtherDropped (told_of plan g past) (living_of g past - 1) running foreign refl
+      (ap (λ b. where_so b dropped (told_of plan g past)) (other_address g addr other))
+      (ap (λ b. if b then living_of g past - 1 else living_of g past) other) refl (other_address g addr other) refl
+      (ap (λ b. if b then record { node = plan.me; event = OtherDropped } ∷ [] else []) other) tt
+      (record {
+        reserve = fits.reserve;
+        told = same_member before.told (group plan.me.number) (member_after (bounds_with plan versions) g plan.me OtherDropped group) refl refl refl refl fits.told;
+        others = ap (λ n. n - 1) fits.others;
+        inside = fits.inside;
+        put = fits.put;
+        taken = fits.taken;
+        replies = fits.replies;
+        spec = fits.spec;
+        gone = fits.gone;
+        noticed = fits.noticed;
+        stopped = fits.stopped;
+        come = fits.come;
+        done = fits.done;
+        acks = fits.acks;
+      })
 
   -- Another group's request.
 
-  added_none : (o : Option (Option Told)) → or_added o None ≡ o
-  added_none None = refl
-  added_none (Some s) = refl
+  other_make : (token : List ℕ) (addr : Addr) (spec : Spec) (r : Reply) → is_stopped past ≡ false → is_own_request plan.me g past (Make token addr spec) ≡ false → is_addr g addr ≡ false → FitsBefore → AskedGoes plan versions g past (Make token addr spec) r frames_from group
+  other_make token addr spec Done running foreign unnamed fits = go (cases_Bool (is_other_generation g addr))
+    where
+      go : ((is_other_generation g addr ≡ true) ⊎ (is_other_generation g addr ≡ false)) → AskedGoes plan versions g past (Make token addr spec) Done frames_from group
+      go (inl other) = generation_made token addr spec running foreign other fits
+      go (inr apart) = passes (Make token addr spec) Done running foreign refl
+          (ap (λ b. if b then or_added (told_of plan g past) (Some (Some (told_first spec plan.me (noticed_after plan past)))) else where_so (is_reached_by g addr) passed (told_of plan g past)) unnamed
+          ∙ ap (λ b. where_so b passed (told_of plan g past)) (unreached g addr unnamed apart))
+          (ap (λ b. if b then living_of g past + 1 else living_of g past) apart)
+          (ap (λ b. if b then Some spec else None) unnamed) refl refl
+          (ap (λ b. if b then record { node = plan.me; event = OtherMade addr.generation } ∷ [] else []) apart) fits
+  other_make token addr spec r running foreign unnamed fits = passes (Make token addr spec) r running foreign refl refl refl refl refl refl refl fits
 
-  other_for : (request : Request) (r : Reply) → is_named g request ≡ false → asked_told g plan.me (noticed_after plan past) request r (told_of plan g past) ≡ told_of plan g past
-  other_for (Make token addr spec) Done other = ap (λ b. or_added (told_of plan g past) (if b then Some (Some (told_first spec plan.me (noticed_after plan past))) else None)) other ∙ added_none (told_of plan g past)
-  other_for (OpenGroup token addr) Done other = rw other refl
-  other_for (ShutGroup token addr) Done other = rw other refl
-  other_for (DropGroup token addr) Done other = rw other refl
-  other_for (Say token addr message) (Said seq) other = rw other refl
-  other_for request r other = refl
+  other_drop : (token : List ℕ) (addr : Addr) (r : Reply) → is_stopped past ≡ false → is_own_request plan.me g past (DropGroup token addr) ≡ false → is_addr g addr ≡ false → FitsBefore → AskedGoes plan versions g past (DropGroup token addr) r frames_from group
+  other_drop token addr Done running foreign unnamed fits = go (cases_Bool (is_other_generation g addr))
+    where
+      go : ((is_other_generation g addr ≡ true) ⊎ (is_other_generation g addr ≡ false)) → AskedGoes plan versions g past (DropGroup token addr) Done frames_from group
+      go (inl other) = generation_dropped token addr running foreign other fits
+      go (inr apart) = passes (DropGroup token addr) Done running foreign refl
+          (ap (λ b. where_so b dropped (told_of plan g past)) unnamed)
+          (ap (λ b. if b then living_of g past - 1 else living_of g past) apart) refl unnamed refl
+          (ap (λ b. if b then record { node = plan.me; event = OtherDropped } ∷ [] else []) apart) fits
+  other_drop token addr r running foreign unnamed fits = passes (DropGroup token addr) r running foreign refl refl refl refl refl refl refl fits
 
-  other_made : (request : Request) (r : Reply) → is_named g request ≡ false → made_by g (Asked request) (Replied r) ≡ None
-  other_made (Make token addr spec) Done other = rw other refl
-  other_made request r other = refl
+  other_open : (token : List ℕ) (addr : Addr) (r : Reply) → is_addr g addr ≡ false → asked_told g plan.me (noticed_after plan past) (OpenGroup token addr) r (told_of plan g past) ≡ told_of plan g past
+  other_open token addr Done other = rw other refl
+  other_open token addr r other = refl
+
+  other_shut : (token : List ℕ) (addr : Addr) (r : Reply) → is_addr g addr ≡ false → asked_told g plan.me (noticed_after plan past) (ShutGroup token addr) r (told_of plan g past) ≡ told_of plan g past
+  other_shut token addr Done other = rw other refl
+  other_shut token addr r other = refl
+
+  other_say : (token : List ℕ) (addr : Addr) (message : NewMessage) (r : Reply) → is_addr g addr ≡ false → asked_told g plan.me (noticed_after plan past) (Say token addr message) r (told_of plan g past) ≡ told_of plan g past
+  other_say token addr message (Said seq) other = rw other refl
+  other_say token addr message r other = refl
 
   other_goes : (request : Request) (r : Reply) → is_stopped past ≡ false → is_own_request plan.me g past request ≡ false → is_named g request ≡ false → ((token : List ℕ) (row : TenantRow) → request ≡ AddTenant token row → r ≡ Done → row_of row.tenant (tenants_in past) ≡ None)
       → FitsBefore → AskedGoes plan versions g past request r frames_from group
   other_goes (AddTenant token row) r running own named new fits = at_tenant token row r running (new token row refl) fits
-  other_goes (Make token addr spec) r running own named new fits = passes (Make token addr spec) r running own refl (other_for (Make token addr spec) r named) (other_made (Make token addr spec) r named) refl fits
-  other_goes (OpenGroup token addr) r running own named new fits = passes (OpenGroup token addr) r running own refl (other_for (OpenGroup token addr) r named) refl refl fits
-  other_goes (ShutGroup token addr) r running own named new fits = passes (ShutGroup token addr) r running own refl (other_for (ShutGroup token addr) r named) refl refl fits
-  other_goes (DropGroup token addr) r running own named new fits = passes (DropGroup token addr) r running own refl (other_for (DropGroup token addr) r named) refl refl fits
-  other_goes (Say token addr message) r running own named new fits = passes (Say token addr message) r running own refl (other_for (Say token addr message) r named) refl refl fits
-  other_goes (Fetch token addr from most) r running own named new fits = passes (Fetch token addr from most) r running own refl refl refl refl fits
+  other_goes (Make token addr spec) r running own named new fits = other_make token addr spec r running own named fits
+  other_goes (OpenGroup token addr) r running own named new fits = passes (OpenGroup token addr) r running own refl (other_open token addr r named) refl refl refl refl refl fits
+  other_goes (ShutGroup token addr) r running own named new fits = passes (ShutGroup token addr) r running own refl (other_shut token addr r named) refl refl refl refl refl fits
+  other_goes (DropGroup token addr) r running own named new fits = other_drop token addr r running own named fits
+  other_goes (Say token addr message) r running own named new fits = passes (Say token addr message) r running own refl (other_say token addr message r named) refl refl refl refl refl fits
+  other_goes (Fetch token addr from most) r running own named new fits = passes (Fetch token addr from most) r running own refl refl refl refl refl refl refl fits
 
   -- The group's own request.
 
@@ -206,7 +331,7 @@ module _ (plan : NodePlan) (versions : List Version) (g : Addr) (past : List Hap
     where
       clash : false ≡ true → ⊥
       clash e = cc
-  own_goes (Make token addr spec) reply right few silent below fresh running own is fits = at_make plan versions g past frames_from group token addr spec reply running own is silent below fits
+  own_goes (Make token addr spec) reply right few silent below fresh running own is fits = at_make plan versions g past frames_from group token addr spec reply right running own is silent below fits
   own_goes (OpenGroup token addr) reply right few silent below fresh running own is fits = at_open plan versions g past frames_from group reply token addr few running own is fits
   own_goes (ShutGroup token addr) reply right few silent below fresh running own is fits = at_shut plan versions g past frames_from group reply token addr few running own is fits
   own_goes (DropGroup token addr) reply right few silent below fresh running own is fits = at_drop plan versions g past frames_from group reply token addr few running own is fits

@@ -23,7 +23,7 @@ use Rattle.gb_duties.proofs.SeenLemmas.{noticed_seen, seen_noticed, agreement_se
 use Rattle.gb_node.specs.NodeGroups.{waiting_at}
 use Rattle.gb_node.specs.NodeStep.{node_numbered}
 use Rattle.gb_node.specs.Past.{frames_to, is_taken}
-use Rattle.gb_cluster.specs.ClusterValue.{ClusterValue, node_plan, node_at}
+use Rattle.gb_cluster.specs.ClusterValue.{ClusterValue, node_at}
 use Rattle.gb_cluster.specs.Run.{Did, ComesTo, past_at}
 use Rattle.gb_types.specs.declared.plan.Plan.{Plan}
 use Rattle.gb_types.proofs.BoolLemmas.{and_both}
@@ -34,7 +34,6 @@ use Rattle.gb_isolation.specs.Isolation.{Seen, IsIsolated, GroupsAreIsolated}
 use Rattle.gb_isolation.specs.Project.{project, group_items_of, is_fed}
 use Rattle.gb_isolation.specs.RunLaws.{accepted_there, is_noticed_in, log_seen, made_there, IsSettledIn, SettledGroupsAgree}
 use Rattle.gb_isolation.proofs.View.{AreMarked, BehavesAlone}
-use Rattle.gb_isolation.proofs.DroppedLemmas.{kept_there}
 use Rattle.gb_isolation.proofs.MomentLemmas.{AllBehave, fed_back, back, made_inside, Continues, project_continues, marked, stands_in}
 use Rattle.gb_isolation.proofs.NoticeLemmas.{numbered_is}
 use Rattle.gb_isolation.proofs.RunDutyLemmas.{inside, noticed_is}
@@ -129,7 +128,7 @@ module _ (isolated : GroupsAreIsolated) (behave : AllBehave) (plan : Plan) (run 
   here : (a : ℕ) → IsRunning runs spec a → is_gone (group a).phase ≡ false
   here a run_a =
       ap (λ k. is_gone (group k).phase) (sym (is_number a run_a.0))
-      ∙ kept_there (node_plan plan (node_numbered a)) g (past_at (node_numbered a) run) (group (node_numbered a).number) (behaves.fits (node_numbered a) (there a run_a.0)).told (settled.kept a run_a)
+      ∙ ((behaves.fits (node_numbered a) (there a run_a.0)).gone ∙ settled.kept a run_a)
 
   marks : (a : ℕ) → is_member spec a ≡ true → (b : ℕ) → is_marked b (group a).noticed ≡ (is_other spec a b && is_noticed_in plan run (node_numbered a) b)
   marks a in_a b =

@@ -8,7 +8,7 @@ use Rattle.std.proofs.lemmas.List.{append-nil}
 use Rattle.gb_types.specs.declared.address.Addr.{Addr}
 use Rattle.gb_types.specs.declared.node.NodeId.{NodeId}
 use Rattle.gb_types.specs.declared.reply.Reply.{Reply}
-use Rattle.gb_types.specs.declared.reply.Reply.TheVariants.{Done, Said}
+use Rattle.gb_types.specs.declared.reply.Reply.TheVariants.{Said}
 use Rattle.gb_types.specs.declared.request.Request.{Request}
 use Rattle.gb_types.specs.declared.request.Request.TheVariants.{AddTenant, Make, OpenGroup, ShutGroup, DropGroup, Say, Fetch}
 use Rattle.gb_types.proofs.SameLemmas.{same_number}
@@ -16,7 +16,7 @@ use Rattle.gb_alone.specs.Laws.{accepted_in}
 use Rattle.gb_alone.specs.declared.event.GroupEvent.{GroupEvent}
 use Rattle.gb_alone.specs.declared.event.GroupEvent.TheVariants.{Make as AskMake, Open as AskOpen, Shut as AskShut, Drop as AskDrop, Say as AskSay, Fetch as AskFetch, Took}
 use Rattle.gb_alone.specs.declared.event.GroupStep.{GroupStep}
-use Rattle.gb_alone.proofs.CommandLemmas.{command_in, commands_at, commands, commands-append, Pairs, pairs_append, no_pairs, one_pair}
+use Rattle.gb_alone.proofs.CommandLemmas.{command_in, commands, commands-append, Pairs, pairs_append, no_pairs, one_pair}
 use Rattle.gb_node.specs.StepLaw.{has_group_token}
 use Rattle.gb_node.specs.Past.{Happened, read, is_stopped, tenants_in}
 use Rattle.gb_node.specs.declared.answer.NodeAnswer.{NodeAnswer}
@@ -31,9 +31,9 @@ use Rattle.gb_cluster.specs.ClusterValue.{node_plan}
 use Rattle.gb_cluster.specs.Run.{Did, past_at}
 use Rattle.gb_types.specs.declared.plan.Plan.{Plan}
 use Rattle.gb_cluster.proofs.NodesLemmas.{past_same, past_other}
-use Rattle.gb_isolation.specs.Project.{group_items_of, is_named, is_own_request, command_for, made_by, made_with, tenant_given, is_met, with_stop, if_any, arrived, ticked, gives, project, reply_in, replies_in}
+use Rattle.gb_isolation.specs.Project.{group_items_of, is_named, is_own_request, command_for, made_by, made_with, tenant_given, other_given, is_met, with_stop, if_any, arrived, ticked, gives, project, reply_in, replies_in}
 use Rattle.gb_isolation.specs.RunLaws.{said_by, accepted_by, accepted_in_past}
-use Rattle.gb_isolation.proofs.GivenLemmas.{carried_any, carried_packets, given_at, no_commands_elsewhere, no_commands_carried, no_commands_ticked, no_commands_tenant, commands_stopped}
+use Rattle.gb_isolation.proofs.GivenLemmas.{carried_any, carried_packets, given_at, no_commands_elsewhere, no_commands_carried, no_commands_ticked, no_commands_tenant, no_commands_other, commands_stopped}
 use Rattle.gb_isolation.proofs.View.{asked_by, is_noticed_after, own_requested_by}
 use Rattle.gb_frame.specs.Packet.{Content}
 
@@ -48,16 +48,18 @@ commands_own plan g past s request reply =
 commands_asked : (plan : NodePlan) (g : Addr) (past : List Happened) (s : ℕ) (request : Request) (reply : Reply) → commands s (asked_by plan g past request reply) ≡ commands s (if is_own_request plan.me g past request then command_for plan.me request else [])
 commands_asked plan g past s request reply = by (is_stopped past) (is_own_request plan.me g past request)
   where
-    tenant : (xs : List GroupStep) → commands s (tenant_given g plan.me request reply ++ xs) ≡ commands s xs
-    tenant xs = commands-append s (tenant_given g plan.me request reply) xs ∙ ap (λ es. es ++ commands s xs) (no_commands_tenant s g plan.me request reply)
+    beside : (xs : List GroupStep) → commands s (tenant_given g plan.me request reply ++ other_given g plan.me request reply ++ xs) ≡ commands s xs
+    beside xs =
+        commands-append s (tenant_given g plan.me request reply ++ other_given g plan.me request reply) xs
+        ∙ ap (λ es. es ++ commands s xs) (commands-append s (tenant_given g plan.me request reply) (other_given g plan.me request reply) ∙ (λ i. no_commands_tenant s g plan.me request reply i ++ no_commands_other s g plan.me request reply i))
 
     by : (stopped own : Bool)
-        → commands s (if stopped then (if own then with_stop plan.me (is_met plan.me g past) (command_for plan.me request) else []) else tenant_given g plan.me request reply ++ (if own then own_requested_by plan g past request reply else []))
+        → commands s (if stopped then (if own then with_stop plan.me (is_met plan.me g past) (command_for plan.me request) else []) else tenant_given g plan.me request reply ++ other_given g plan.me request reply ++ (if own then own_requested_by plan g past request reply else []))
         ≡ commands s (if own then command_for plan.me request else [])
     by true true = commands_stopped s plan.me (is_met plan.me g past) (command_for plan.me request)
     by true false = refl
-    by false true = tenant (own_requested_by plan g past request reply) ∙ commands_own plan g past s request reply
-    by false false = tenant []
+    by false true = beside (own_requested_by plan g past request reply) ∙ commands_own plan g past s request reply
+    by false false = beside []
 
 -- a command at its node
 command_pairs : (a : NodeId) (e : GroupEvent) (r : Reply) → command_in e ≡ e ∷ [] → Pairs (commands a.number (record { node = a; event = e } ∷ [])) (r ∷ []) (accepted_in e r)

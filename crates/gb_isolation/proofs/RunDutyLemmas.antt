@@ -26,7 +26,6 @@ use Rattle.gb_isolation.specs.Isolation.{Seen, seen_in, IsIsolated, GroupsAreIso
 use Rattle.gb_isolation.specs.Project.{project, made_with}
 use Rattle.gb_isolation.specs.RunLaws.{is_noticed_in, KeepsRunDuties, RunDuties, GroupsDoTheirDuties}
 use Rattle.gb_isolation.proofs.View.{BehavesAlone, is_concerned}
-use Rattle.gb_isolation.proofs.DroppedLemmas.{kept_there}
 use Rattle.gb_isolation.proofs.MomentLemmas.{AllBehave, marked}
 use Rattle.gb_isolation.proofs.NoticeLemmas.{numbered_is}
 
@@ -81,7 +80,7 @@ module _ (plan : Plan) (run : List Did) (v : ClusterValue) (g : Addr) (few : pla
 
   run_duties : DutyLaws → RunDuties plan run v g
   run_duties laws = record {
-    delivered = λ b spec in_b made_there kept. delivered b in_b spec made_there laws (kept_there (node_plan plan b) g (past_at b run) (group b.number) (behaves.fits b in_b).told kept);
+    delivered = λ b spec in_b made_there kept. delivered b in_b spec made_there laws ((behaves.fits b in_b).gone ∙ kept);
     logged = λ b spec in_b made_there. logged b in_b spec made_there laws;
   }
 

@@ -19,7 +19,7 @@ use Rattle.gb_alone.proofs.AcceptedLemmas.{alone_said, length-own_said}
 use Rattle.gb_alone.proofs.IntegrityLemmas.{is_integral}
 use Rattle.gb_node.specs.NodeStep.{node_numbered}
 use Rattle.gb_node.specs.Past.{Happened, ComesTo as NodeComesTo, read, frames_to, is_acked, is_first, is_taken, is_stopped, packed_for}
-use Rattle.gb_node.specs.PastGroups.{Told, waiting_of, told_of}
+use Rattle.gb_node.specs.PastGroups.{Told, waiting_of, told_of, living_of, living_after}
 use Rattle.gb_node.specs.StepLaw.{IsAnswered, AnswersSay}
 use Rattle.gb_node.specs.declared.answer.Good.{Good}
 use Rattle.gb_node.specs.declared.answer.NodeAnswer.{NodeAnswer}
@@ -37,6 +37,7 @@ use Rattle.gb_cluster.proofs.NodesLemmas.{Stays, stays, have_pasts, past_same, p
 use Rattle.gb_node.specs.declared.plan.NodePlan.{NodePlan}
 use Rattle.gb_node.specs.Past.{added, tenants_in}
 use Rattle.gb_isolation.specs.Project.{made_by, gives, project, group_items_of, is_fed, is_starved_by, is_new_frame, made_with, replies_in, is_met}
+use Rattle.gb_isolation.specs.RunLaws.{is_dropped, is_dropped_by}
 use Rattle.gb_isolation.proofs.View.{View, view_of, view_at, frames_for, AreMarked, MemberIs, IsThere, Fits, Goes, AllFit, BehavesAlone}
 use Rattle.gb_isolation.proofs.NextLemmas.{none_beyond_accepted, none_of_front}
 use Rattle.gb_isolation.proofs.ArriveLemmas.{arrived_goes}
@@ -47,7 +48,7 @@ use Rattle.gb_isolation.proofs.MarkLemmas.{marks_more, offset_none}
 use Rattle.gb_isolation.proofs.PackLemmas.{packed_goes}
 use Rattle.gb_isolation.proofs.PastLemmas.{running_unmet}
 use Rattle.gb_types.specs.declared.request.Request.{Request}
-use Rattle.gb_types.specs.declared.request.Request.TheVariants.{AddTenant, Make}
+use Rattle.gb_types.specs.declared.request.Request.TheVariants.{AddTenant, Make, DropGroup}
 use Rattle.gb_types.proofs.BoolLemmas.{not_true}
 use Rattle.gb_types.specs.Version.{bounds_of}
 use Rattle.gb_isolation.proofs.UnrelatedLemmas.{unrelated_goes}
@@ -60,11 +61,13 @@ fits_frames : (nodes : ℕ) (g : Addr) (me : ℕ) (from later : ℕ → List (Li
 fits_frames nodes g me from later v m more was = record {
   reserve = was.reserve;
   told = was.told;
+  others = was.others;
   inside = was.inside;
   put = was.put;
   taken = was.taken;
   replies = was.replies;
   spec = was.spec;
+  gone = was.gone;
   noticed = was.noticed;
   stopped = was.stopped;
   come = λ b inside. more b inside (was.come b inside);
@@ -82,15 +85,17 @@ none_marked g test = record {
 }
 
 new_fits : (plan : Plan) (g : Addr) → AllFit plan g [] nobody
-unfolding past_at frames_to group_items_of is_acked is_taken tenants_in told_of made_with replies_in is_met
+unfolding past_at frames_to group_items_of is_acked is_taken tenants_in told_of living_of made_with is_dropped replies_in is_met
 new_fits plan g a inside = record {
   reserve = refl;
-  told = record { spec = refl; phase = refl; told = refl };
+  told = record { spec = refl; passed = refl; phase = refl; told = refl };
+  others = refl;
   inside = λ s is. absurd (cc);
   put = λ b in_b. refl;
   taken = λ b in_b. refl;
   replies = refl;
   spec = refl;
+  gone = refl;
   noticed = λ b. refl;
   stopped = refl;
   come = λ b in_b. none_marked g (λ n. false);
@@ -109,12 +114,13 @@ abbrev is_reply : NodeAnswer → Bool
 is_reply (Replied reply) = true
 is_reply x = false
 
--- a request that is answered by no reply adds no tenant and makes no group
-not_replied : (g : Addr) (request : Request) (x : NodeAnswer) → is_reply x ≡ false → (added (Asked request) x ≡ []) × (made_by g (Asked request) x ≡ None)
-not_replied g request (Replied reply) no_reply = absurd (cc)
-not_replied g (AddTenant token row) x no_reply = (refl, refl)
-not_replied g (Make token addr spec) x no_reply = (refl, refl)
-not_replied g request x no_reply = (refl, refl)
+-- a request that is answered by no reply adds no tenant, and makes and drops no group
+not_replied : (g : Addr) (request : Request) (x : NodeAnswer) (n : ℕ) → is_reply x ≡ false → (added (Asked request) x ≡ []) × (made_by g (Asked request) x ≡ None) × (living_after g (Asked request) x n ≡ n) × (is_dropped_by g (Asked request) x ≡ false)
+not_replied g request (Replied reply) n no_reply = absurd (cc)
+not_replied g (AddTenant token row) x n no_reply = (refl, refl, refl, refl)
+not_replied g (Make token addr spec) x n no_reply = (refl, refl, refl, refl)
+not_replied g (DropGroup token addr) x n no_reply = (refl, refl, refl, refl)
+not_replied g request x n no_reply = (refl, refl, refl, refl)
 
 -- The laws of nodes and links that the theorem stands on.
 pub record Laws : Type 0 where
@@ -181,9 +187,11 @@ module _ (laws : Laws) (plan : Plan) (g : Addr) (run : List Did) (before : Clust
     none_came = refl;
     none_taken = λ b n. refl;
     no_tick = refl;
-    none_added = (not_replied g request x refl).0;
+    none_added = (not_replied g request x (living_of g (past_at a run)) refl).0;
     same_group = refl;
-    not_made = (not_replied g request x refl).1;
+    same_living = (not_replied g request x (living_of g (past_at a run)) refl).2;
+    not_made = (not_replied g request x (living_of g (past_at a run)) refl).1;
+    not_dropped = (not_replied g request x (living_of g (past_at a run)) refl).3;
     no_reply = refl;
     unmet = refl;
   }) (was.fits a within)
@@ -194,7 +202,9 @@ module _ (laws : Laws) (plan : Plan) (g : Addr) (run : List Did) (before : Clust
     no_tick = refl;
     none_added = refl;
     same_group = refl;
+    same_living = refl;
     not_made = refl;
+    not_dropped = refl;
     no_reply = refl;
     unmet = refl;
   }) (was.fits a within)

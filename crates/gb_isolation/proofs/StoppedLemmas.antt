@@ -18,11 +18,12 @@ use Rattle.gb_alone.specs.declared.event.GroupEvent.TheVariants.{Make as AskMake
 use Rattle.gb_alone.specs.Alone.{Member, Group, alone_from, commanded, did, member_after, reply_to, running_reply, MayHappen}
 use Rattle.gb_node.specs.StepLaw.{has_group_token}
 use Rattle.gb_node.specs.Past.{Happened, is_stopped, tenants_in}
-use Rattle.gb_node.specs.PastGroups.{noticed_after, told_of}
+use Rattle.gb_node.specs.PastGroups.{noticed_after, told_of, living_of}
 use Rattle.gb_node.specs.declared.plan.NodePlan.{NodePlan}
 use Rattle.gb_isolation.specs.Project.{is_named, is_own_request, is_met, command_for, with_stop, made_with, replies_in}
+use Rattle.gb_isolation.specs.RunLaws.{is_dropped}
 use Rattle.gb_node.proofs.EventLemmas.{added_refused, asked_untold}
-use Rattle.gb_isolation.proofs.AskLemmas.{asking, view_asked, rows_kept, refused_makes, refused_unrelated}
+use Rattle.gb_isolation.proofs.AskLemmas.{asking, view_asked, rows_kept, refused_makes, refused_living, refused_drops, refused_unrelated}
 use Rattle.gb_isolation.proofs.GoesLemmas.{goes_one, goes_on}
 use Rattle.gb_isolation.proofs.MemberLemmas.{same_member}
 use Rattle.gb_isolation.proofs.View.{View, view_of, Fits, Goes, bounds_with, asked_by}
@@ -55,12 +56,14 @@ module _ (bounds : Bounds) (g : Addr) (a : NodeId) (frames_from : ℕ → List (
   stop_goes : (v : View) (group : Group) → Fits bounds.nodes g a.number frames_from v (group a.number) → Goes bounds g a frames_from (record v { met = true }) group (record { node = a; event = Stop } ∷ [])
   stop_goes v group fits = goes_one bounds g a frames_from (record v { met = true }) group Stop tt (record {
     reserve = fits.reserve;
-    told = same_member v.told (group a.number) (member_after bounds g a Stop group) refl refl refl fits.told;
+    told = same_member v.told (group a.number) (member_after bounds g a Stop group) refl refl refl refl fits.told;
+    others = fits.others;
     inside = fits.inside;
     put = fits.put;
     taken = fits.taken;
     replies = fits.replies;
     spec = fits.spec;
+    gone = fits.gone;
     noticed = fits.noticed;
     stopped = refl;
     come = fits.come;
@@ -73,12 +76,14 @@ module _ (bounds : Bounds) (g : Addr) (a : NodeId) (frames_from : ℕ → List (
       → Goes bounds g a frames_from (record v { replies = v.replies ++ refused ∷ [] }) group (record { node = a; event = c.event } ∷ [])
   refused_goes request c v group met fits = goes_one bounds g a frames_from (record v { replies = v.replies ++ refused ∷ [] }) group c.event (c.may group) (subst (Fits bounds.nodes g a.number frames_from (record v { replies = v.replies ++ refused ∷ [] })) (sym left) (record {
     reserve = fits.reserve;
-    told = same_member v.told (group a.number) next refl refl refl fits.told;
+    told = same_member v.told (group a.number) next refl refl refl refl fits.told;
+    others = fits.others;
     inside = fits.inside;
     put = fits.put;
     taken = fits.taken;
     replies = ap (λ rs. rs ++ refused ∷ []) fits.replies;
     spec = fits.spec;
+    gone = fits.gone;
     noticed = fits.noticed;
     stopped = fits.stopped;
     come = fits.come;
@@ -129,10 +134,12 @@ module _ (plan : NodePlan) (versions : List Version) (g : Addr) (past : List Hap
       (subst (λ (v : View). Goes (bounds_with plan versions) g plan.me frames_from v group (with_stop plan.me (is_met plan.me g past) (record { node = plan.me; event = c.event } ∷ []))) (sym later) (meets (bounds_with plan versions) g plan.me frames_from request c (view_of plan g past) group fits (is_met plan.me g past) refl))
     where
       later : view_of plan g (asking request refused ∷ past) ≡ record (view_of plan g past) { replies = replies_in plan.me g past ++ refused ∷ []; met = true }
-      later = view_asked plan g past request refused (view_of plan g past).reserve (told_of plan g past) (made_with g past) (replies_in plan.me g past ++ refused ∷ []) true
+      later = view_asked plan g past request refused (view_of plan g past).reserve (told_of plan g past) (living_of g past) (made_with g past) (is_dropped g past) (replies_in plan.me g past ++ refused ∷ []) true
           (rows_kept plan g past request refused (added_refused request Stopped))
           (asked_untold g plan.me (noticed_after plan past) request Stopped (told_of plan g past))
+          (refused_living g request Stopped (living_of g past))
           (ap (λ o. option_or o (made_with g past)) (refused_makes g request Stopped))
+          (ap (λ b. b || is_dropped g past) (refused_drops g request Stopped))
           (ap (λ b. replies_in plan.me g past ++ (if b then refused ∷ [] else [])) own)
           (ap (λ b. (b && is_own_request plan.me g past request) || is_met plan.me g past) stopped ∙ ap (λ b. b || is_met plan.me g past) own)
 

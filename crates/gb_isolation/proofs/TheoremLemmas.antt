@@ -32,12 +32,12 @@ use Rattle.gb_isolation.specs.Isolation.{log_in, AreSpelt, IsIsolated, GroupsAre
 use Rattle.gb_isolation.specs.Project.{group_items, group_items_of}
 use Rattle.gb_isolation.proofs.View.{MemberIs, BehavesAlone}
 use Rattle.gb_isolation.proofs.PastLemmas.{entries_back}
-use Rattle.gb_isolation.proofs.MemberLemmas.{unmade_held, dropped_held, there_held}
+use Rattle.gb_isolation.proofs.MemberLemmas.{unmade_held, there_held}
 use Rattle.gb_isolation.proofs.RunLemmas.{Laws, behaves}
 
 log_same : (me : ℕ) (o : Option (Option Told)) (m : Member) → MemberIs o m → log_in (shown_in me o) ≡ log_of_member me m
 log_same me None m st = sym (ap (λ (x : Option Spec). log_at me x m.told) (unmade_held m st))
-log_same me (Some None) m st = sym (ap (λ (x : Option Spec). log_at me x m.told) (dropped_held m st))
+log_same me (Some None) m st = sym (ap (λ (x : Option Spec). log_at me x m.told) st.held)
 log_same me (Some (Some t)) m st = ap (log_of t.spec me) (sym st.calls) ∙ sym (ap (λ (x : Option Spec). log_at me x m.told) (there_held t m st))
 
 spelt_append : (g : Addr) (xs ys : List (List Item)) → AllByRecursion (AreSpelt g) xs → AllByRecursion (AreSpelt g) ys → AllByRecursion (AreSpelt g) (xs ++ ys)

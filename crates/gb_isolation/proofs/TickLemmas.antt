@@ -15,7 +15,7 @@ use Rattle.gb_types.specs.declared.node.NodeId.{NodeId}
 use Rattle.gb_types.specs.declared.spec.Spec.{Spec}
 use Rattle.gb_types.specs.declared.version.Version.{Version}
 use Rattle.gb_frame.specs.declared.item.Item.{Item}
-use Rattle.gb_rules.specs.Group.{is_other}
+use Rattle.gb_rules.specs.Group.{is_gone, is_other}
 use Rattle.gb_rules.specs.Tenant.{reserve_of, row_of}
 use Rattle.gb_history.specs.declared.call.GroupCall.TheVariants.{Crashed}
 use Rattle.gb_history.specs.History.{said_in}
@@ -23,13 +23,14 @@ use Rattle.gb_alone.specs.Alone.{Member, Group, node_noticed, is_marked, is_ackn
 use Rattle.gb_rules.specs.Lifetime.{stepped}
 use Rattle.gb_node.specs.NodeStep.{node_numbered}
 use Rattle.gb_node.specs.Past.{Happened, frames_to, is_acked, is_taken, tenants_in}
-use Rattle.gb_node.specs.PastGroups.{Told, waiting_of, with_call, cut_off, if_other, noticed_told, told_of}
+use Rattle.gb_node.specs.PastGroups.{Told, waiting_of, with_call, cut_off, if_other, noticed_told, told_of, living_of}
 use Rattle.gb_node.specs.StepLaw.{IsTicked}
 use Rattle.gb_node.specs.declared.answer.NodeAnswer.TheVariants.{Ticked}
 use Rattle.gb_node.specs.declared.answer.Ticked.TheVariants.{Noticed}
 use Rattle.gb_node.specs.declared.event.NodeEvent.TheVariants.{Tick}
 use Rattle.gb_node.specs.declared.plan.NodePlan.{NodePlan}
 use Rattle.gb_isolation.specs.Project.{group_items_of, made_with, replies_in, is_met, ticked}
+use Rattle.gb_isolation.specs.RunLaws.{is_dropped}
 use Rattle.gb_isolation.proofs.View.{View, view_of, Fits, Goes, MemberIs, AreMarked, KeepsAcks, IsInside, is_concerned, said_of, acknowledged_of, bounds_with}
 use Rattle.gb_isolation.proofs.GoesLemmas.{goes_none}
 use Rattle.gb_isolation.proofs.MemberLemmas.{KeepsRest, told-noticed, put-noticed}
@@ -46,11 +47,13 @@ abbrev view_ticked : NodeId → set.FinSet nat_cmp → View → View
 view_ticked me found v = record v { told = fold (noticed_told me) v.told (rising found); noticed = λ b. set.contains found b || v.noticed b }
 
 ticked_view : (plan : NodePlan) (g : Addr) (past : List Happened) (found : set.FinSet nat_cmp) → IsTicked plan past found → view_of plan g (ticking found ∷ past) ≡ view_ticked plan.me found (view_of plan g past)
-unfolding frames_to is_acked is_taken tenants_in told_of made_with replies_in is_met
+unfolding frames_to is_acked is_taken tenants_in told_of living_of made_with is_dropped replies_in is_met
 ticked_view plan g past found right = λ i. record {
   reserve = option_map reserve_of (row_of g.tenant (append-nil (tenants_in past) i));
   told = fold (noticed_told plan.me) (told_of plan g past) (rising found);
+  living = living_of g past;
   made = made_with g past;
+  dropped = is_dropped g past;
   noticed = λ b. right.later b i;
   replies = append-nil (replies_in plan.me g past) i;
   met = is_met plan.me g past;
@@ -126,15 +129,28 @@ fits-all nodes me new low (suc count) spec t m carried few same was =
     by false true is noticed skipped = skipped
     by false false is noticed skipped = skipped
 
--- where the group was dropped no notice changes anything but what is noticed
+-- where the group is spent no notice changes anything but what is noticed
 fits-gone : (nodes : ℕ) (me : NodeId) (found bs : List ℕ) (m : Member) (carried : ℕ → List Entry) → MemberFits nodes me.number (Some None) m carried → MemberFits nodes me.number (fold (noticed_told me) (Some None) found) (all_noticed me.number bs m) carried
 fits-gone nodes me [] [] m carried was = was
 fits-gone nodes me [] (b ∷ bs) m carried was = fits-gone nodes me [] bs (node_noticed me.number (node_numbered b) m) carried (fits-noticed nodes me (node_numbered b) (Some None) m carried was)
 fits-gone nodes me (x ∷ found) bs m carried was = fits-gone nodes me found bs m carried was
 
+-- where the group is not there no notice is told
 none_noticed : (me : NodeId) (found : List ℕ) → fold (noticed_told me) None found ≡ None
 none_noticed me [] = refl
 none_noticed me (b ∷ found) = none_noticed me found
+
+spent_unnoticed : (me : NodeId) (found : List ℕ) → fold (noticed_told me) (Some None) found ≡ Some None
+spent_unnoticed me [] = refl
+spent_unnoticed me (b ∷ found) = spent_unnoticed me found
+
+unmade_unnoticed : (me : NodeId) (found : List ℕ) (o : Option (Option Told)) (m : Member) → m.spec ≡ None → MemberIs o m → fold (noticed_told me) o found ≡ o
+unmade_unnoticed me found None m none st = none_noticed me found
+unmade_unnoticed me found (Some None) m none st = spent_unnoticed me found
+unmade_unnoticed me found (Some (Some s)) m none st = absurd (clash (sym st.spec ∙ none))
+  where
+    clash : Some s.spec ≡ None → ⊥
+    clash e = cc
 
 -- The group.
 
@@ -185,11 +201,13 @@ module _ (plan : NodePlan) (versions : List Version) (g : Addr) (past : List Hap
     there = subst (Fits plan.nodes g plan.me.number frames_from (view_ticked plan.me found v)) (sym (notices_there (bounds_with plan versions) g plan.me (bs spec) group)) (record {
       reserve = keeps.reserve ∙ was.reserve;
       told = now.told;
+      others = keeps.others ∙ was.others;
       inside = now.inside;
       put = now.put;
       taken = now.taken;
       replies = keeps.replies ∙ was.replies;
       spec = keeps.spec ∙ was.spec;
+      gone = ap is_gone keeps.phase ∙ was.gone;
       noticed = noticed_now;
       stopped = keeps.stopped ∙ was.stopped;
       come = λ b inside. subst (λ (c : ℕ → List ℕ). AreMarked g (frames_from b) (v.taken b) (c b)) (sym keeps.come) (was.come b inside);
@@ -226,11 +244,13 @@ module _ (plan : NodePlan) (versions : List Version) (g : Addr) (past : List Hap
   goes_unmade none = goes_none (bounds_with plan versions) g plan.me frames_from (view_ticked plan.me found v) group (record {
     reserve = was.reserve;
     told = subst (λ o. MemberIs o m) (sym later) was.told;
+    others = was.others;
     inside = subst (IsInside plan.nodes) (sym later) was.inside;
     put = λ b inside. was.put b inside ∙ ap (λ o. carried b ++ waiting_of o b) (sym later);
     taken = was.taken;
     replies = was.replies;
     spec = was.spec;
+    gone = was.gone;
     noticed = λ b. was.noticed b ∙ ((λ i. is_concerned plan.me.number b (none i) && v.noticed b) ∙ ap (λ o. is_concerned plan.me.number b o && (set.contains found b || v.noticed b)) (sym none));
     stopped = was.stopped;
     come = was.come;
@@ -238,23 +258,8 @@ module _ (plan : NodePlan) (versions : List Version) (g : Addr) (past : List Hap
     acks = subst (λ o. KeepsAcks plan.nodes plan.me.number o carried m.done) (sym later) was.acks;
   })
     where
-      absent : (o : Option (Option Told)) → MemberIs o m → o ≡ None
-      absent None st = refl
-      absent (Some None) st = absurd (clash (sym st.made ∙ ap is_there (was.spec ∙ none)))
-        where
-          is_there : Option Spec → Bool
-          is_there None = false
-          is_there (Some s) = true
-
-          clash : true ≡ false → ⊥
-          clash e = cc
-      absent (Some (Some s)) st = absurd (clash (sym st.spec ∙ (was.spec ∙ none)))
-        where
-          clash : Some s.spec ≡ None → ⊥
-          clash e = cc
-
       later : fold (noticed_told plan.me) v.told (rising found) ≡ v.told
-      later = ap (λ o. fold (noticed_told plan.me) o (rising found)) (absent v.told was.told) ∙ (none_noticed plan.me (rising found) ∙ sym (absent v.told was.told))
+      later = unmade_unnoticed plan.me (rising found) v.told m (was.spec ∙ none) was.told
 
   -- time passes, and nodes are noticed
   pub ticked_goes : Goes (bounds_with plan versions) g plan.me frames_from (view_of plan g (ticking found ∷ past)) group (ticked plan.me (set.contains found) (made_with g past))

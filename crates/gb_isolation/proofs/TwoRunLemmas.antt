@@ -1,6 +1,6 @@
 -- Two runs in which the same happened to a group show the same of it.
 use Rattle.std.proofs.Common.{◌≡◌, ℕ, ◌<◌, List, [], ◌∷◌, nat_eq, ◌-◌, slice_get, refl, sym, ap, subst, ◌∙◌}
-use Rattle.std.specs.Prelude.{is_some, if◌then◌else◌}
+use Rattle.std.specs.Prelude.{◌||◌, is_some, if◌then◌else◌}
 use Rattle.gb_types.specs.Version.{bounds_of, version_at}
 use Rattle.gb_types.specs.declared.address.Addr.{Addr}
 use Rattle.gb_types.specs.declared.node.NodeId.{NodeId}
@@ -12,7 +12,7 @@ use Rattle.gb_rules.specs.Group.{say_answer}
 use Rattle.gb_rules.specs.Tenant.{make_answer, by_tenant}
 use Rattle.gb_alone.specs.Alone.{Member, Group, after, alone, alone_from, commanded, member_after, nobody, on_group, running_reply, taken_in}
 use Rattle.gb_alone.specs.declared.event.GroupEvent.{GroupEvent}
-use Rattle.gb_alone.specs.declared.event.GroupEvent.TheVariants.{Tenant, Make as AskMake, Say as AskSay, Took, Came, Done as Acknowledged, Notice, Stop}
+use Rattle.gb_alone.specs.declared.event.GroupEvent.TheVariants.{Tenant, Make as AskMake, Say as AskSay, OtherMade, OtherDropped, Took, Came, Done as Acknowledged, Notice, Stop}
 use Rattle.gb_alone.specs.declared.event.GroupStep.{GroupStep}
 use Rattle.gb_cluster.specs.ClusterValue.{ClusterValue}
 use Rattle.gb_cluster.specs.Run.{Did, ComesTo}
@@ -29,12 +29,14 @@ module _ (bounds other : Bounds) (addr : Addr) (size : bounds.nodes ≡ other.no
   IsSameAt a = version_at bounds.versions a ≡ version_at other.versions a
 
   same_reply : (me : ℕ) → IsSameAt me → (e : GroupEvent) (m : Member) → running_reply bounds addr me e m ≡ running_reply other addr me e m
-  same_reply me same (AskMake spec) m = ap (λ nodes. by_tenant (make_answer nodes me addr (is_some m.spec) spec) m.reserve) size
+  same_reply me same (AskMake spec) m = λ i. by_tenant (make_answer (same i) (size i) me addr (is_some m.spec || m.passed) m.others spec) m.reserve
   same_reply me same (AskSay message) m = ap (λ version. on_group (λ s. say_answer version s message) me m) same
   same_reply me same e m = refl
 
   same_member : (me : NodeId) → IsSameAt me.number → (e : GroupEvent) (group : Group) → member_after bounds addr me e group ≡ member_after other addr me e group
   same_member me same (Tenant reserve) group = refl
+  same_member me same (OtherMade generation) group = refl
+  same_member me same OtherDropped group = refl
   same_member me same (Took b count) group = refl
   same_member me same (Came from place) group = let m : Member = group me.number in let item = slice_get ((group from.number).put me.number) (place - 1) in ap (λ version. taken_in version me.number from place item m) same
   same_member me same (Acknowledged b place count) group = refl

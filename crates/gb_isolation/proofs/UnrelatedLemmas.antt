@@ -18,11 +18,12 @@ use Rattle.gb_detect.specs.Watch.{start, replay}
 use Rattle.gb_rules.specs.Tenant.{reserve_of, row_of}
 use Rattle.gb_alone.specs.Alone.{Group}
 use Rattle.gb_node.specs.Past.{Happened, added, came, frames_to, is_ack, is_acked, is_taken, is_taken_by, packed_for, tenants_in, ticks, watched}
-use Rattle.gb_node.specs.PastGroups.{told_after, told_of}
+use Rattle.gb_node.specs.PastGroups.{told_after, told_of, living_after, living_of}
 use Rattle.gb_node.specs.declared.answer.NodeAnswer.{NodeAnswer}
 use Rattle.gb_node.specs.declared.event.NodeEvent.{NodeEvent}
 use Rattle.gb_node.specs.declared.plan.NodePlan.{NodePlan}
 use Rattle.gb_isolation.specs.Project.{made_with, made_by, replies_in, reply_in, is_met, is_met_by}
+use Rattle.gb_isolation.specs.RunLaws.{is_dropped, is_dropped_by}
 use Rattle.gb_isolation.proofs.View.{view_of, Fits, Goes, bounds_with}
 use Rattle.gb_isolation.proofs.GoesLemmas.{goes_none}
 
@@ -34,16 +35,20 @@ pub record IsUnrelated (plan : NodePlan) (g : Addr) (past : List Happened) (e : 
   pub no_tick : ticks e x ≡ []
   pub none_added : added e x ≡ []
   pub same_group : told_after plan g past e x (told_of plan g past) ≡ told_of plan g past
+  pub same_living : living_after g e x (living_of g past) ≡ living_of g past
   pub not_made : made_by g e x ≡ None
+  pub not_dropped : is_dropped_by g e x ≡ false
   pub no_reply : reply_in plan.me g past e x ≡ []
   pub unmet : is_met_by plan.me g past e x ≡ false
 
 unrelated_view : (plan : NodePlan) (g : Addr) (past : List Happened) (e : NodeEvent) (x : NodeAnswer) → IsUnrelated plan g past e x → view_of plan g (record { event = e; answer = x } ∷ past) ≡ view_of plan g past
-unfolding frames_to is_acked is_taken watched tenants_in told_of made_with replies_in is_met
+unfolding frames_to is_acked is_taken watched tenants_in told_of living_of made_with is_dropped replies_in is_met
 unrelated_view plan g past e x q = λ i. record {
   reserve = option_map reserve_of (row_of g.tenant ((ap (λ (rows : List TenantRow). tenants_in past ++ rows) q.none_added ∙ append-nil (tenants_in past)) i));
   told = q.same_group i;
+  living = q.same_living i;
   made = option_or (q.not_made i) (made_with g past);
+  dropped = q.not_dropped i || is_dropped g past;
   noticed = set.contains (replay (start plan.me.number plan.nodes plan.silence) (q.no_tick i ++ map (λ (c : Content). Heard c.from) (q.none_came i) ++ watched plan.cluster_key past)).noticed;
   replies = (ap (λ (rs : List Reply). replies_in plan.me g past ++ rs) q.no_reply ∙ append-nil (replies_in plan.me g past)) i;
   met = q.unmet i || is_met plan.me g past;

@@ -1,5 +1,5 @@
 -- What a group has at a node, read from the node's past, and how this agrees with the group alone.
-use Rattle.std.specs.Prelude.{ℕ, ◌+◌, ◌≡◌, ◌≢◌, ◌≤◌, ◌<◌, ◌&&◌, not, nat_eq, nat_lt, Bool, true, false, List, [], ◌++◌, length, Option, Some, None, is_some, option_map, if◌then◌else◌}
+use Rattle.std.specs.Prelude.{ℕ, ◌+◌, ◌≡◌, ◌≢◌, ◌≤◌, ◌<◌, ◌&&◌, not, nat_eq, nat_lt, Bool, true, false, ◌||◌, List, [], ◌++◌, length, Option, Some, None, is_some, option_map, if◌then◌else◌}
 use Rattle.std.specs.FinSet as set
 use Rattle.gb_types.specs.declared.address.Addr.{Addr}
 use Rattle.gb_types.specs.declared.entry.Entry.{Entry}
@@ -12,15 +12,15 @@ use Rattle.gb_detect.specs.Silence.{is_noticed}
 use Rattle.gb_history.specs.History.{said_in}
 use Rattle.gb_rules.specs.Group.{is_gone, is_other, is_member}
 use Rattle.gb_rules.specs.Tenant.{reserve_of, row_of}
-use Rattle.gb_rules.specs.declared.phase.Phase.TheVariants.{Made, Gone}
+use Rattle.gb_rules.specs.declared.phase.Phase.TheVariants.{Made}
 use Rattle.gb_rules.specs.declared.reserve.Reserve.{Reserve}
-use Rattle.gb_alone.specs.Alone.{Member, Group, alone, alone_from, is_marked, is_acknowledged, IsLegal, IsLegalFrom}
+use Rattle.gb_alone.specs.Alone.{Member, Group, alone, alone_from, held_spec, is_marked, is_acknowledged, IsLegal, IsLegalFrom}
 use Rattle.gb_alone.specs.declared.event.GroupStep.{GroupStep}
 use Rattle.gb_node.specs.NodeStep.{node_numbered}
 use Rattle.gb_node.specs.Past.{Happened, frames_to, is_acked, is_taken, tenants_in, watched}
 use Rattle.gb_node.specs.declared.answer.NodeAnswer.TheVariants.{Reply as Replied}
 use Rattle.gb_node.specs.declared.event.NodeEvent.TheVariants.{Request as Asked}
-use Rattle.gb_node.specs.PastGroups.{Told, noticed_after, waiting_of, told_of}
+use Rattle.gb_node.specs.PastGroups.{Told, noticed_after, waiting_of, told_of, living_of}
 use Rattle.gb_node.specs.declared.plan.NodePlan.{NodePlan}
 use Rattle.gb_cluster.specs.ClusterValue.{node_plan}
 use Rattle.gb_cluster.specs.Run.{Did, past_at}
@@ -28,7 +28,8 @@ use Rattle.gb_types.specs.declared.plan.Plan.{Plan}
 use Rattle.gb_types.specs.declared.plan.Bounds.{Bounds}
 use Rattle.gb_types.specs.declared.version.Version.{Version}
 use Rattle.gb_types.specs.Version.{bounds_of}
-use Rattle.gb_isolation.specs.Project.{project, asked, is_own_request, command_for, tenant_given, ticked, group_items_of, offset, made_by, made_with, replies_in, is_met}
+use Rattle.gb_isolation.specs.Project.{project, asked, is_own_request, command_for, tenant_given, other_given, ticked, group_items_of, offset, made_by, made_with, replies_in, is_met}
+use Rattle.gb_isolation.specs.RunLaws.{is_dropped}
 
 -- What a group has at a node.
 pub record View : Type 0 where
@@ -36,8 +37,12 @@ pub record View : Type 0 where
   pub reserve : Option Reserve
   -- what the past tells of it
   pub told : Option (Option Told)
+  -- how many other generations of its room live
+  pub living : ℕ
   -- what it was made with
   pub made : Option Spec
+  -- whether it was dropped
+  pub dropped : Bool
   -- whether a node is noticed there
   pub noticed : ℕ → Bool
   pub replies : List Reply
@@ -53,7 +58,9 @@ abbrev pub view_of : NodePlan → Addr → List Happened → View
 view_of plan g past = record {
   reserve = option_map reserve_of (row_of g.tenant (tenants_in past));
   told = told_of plan g past;
+  living = living_of g past;
   made = made_with g past;
+  dropped = is_dropped g past;
   noticed = set.contains (noticed_after plan past);
   replies = replies_in plan.me g past;
   met = is_met plan.me g past;
@@ -64,16 +71,17 @@ view_of plan g past = record {
 
 -- The group alone at a node.
 
--- the group was not made there
+-- the group may still be made there
 pub record NotMade (m : Member) : Type 0 where
   pub spec : m.spec ≡ None
+  pub passed : m.passed ≡ false
   pub phase : m.phase ≡ Made
   pub told : m.told ≡ []
 
--- the group was dropped there
-pub record WasDropped (m : Member) : Type 0 where
-  pub gone : m.phase ≡ Gone
-  pub made : is_some m.spec ≡ true
+-- the group was dropped there, or a later generation of its room was made, so that it can be made no more
+pub record IsSpent (m : Member) : Type 0 where
+  pub held : held_spec m.phase m.spec ≡ None
+  pub spent : (is_some m.spec || m.passed) ≡ true
 
 -- the group is there as it is told of
 pub record IsThere (t : Told) (m : Member) : Type 0 where
@@ -84,7 +92,7 @@ pub record IsThere (t : Told) (m : Member) : Type 0 where
 
 abbrev pub MemberIs : Option (Option Told) → Member → Type 0
 MemberIs None m = NotMade m
-MemberIs (Some None) m = WasDropped m
+MemberIs (Some None) m = IsSpent m
 MemberIs (Some (Some t)) m = IsThere t m
 
 -- of these frames' items those of the frames whose numbers pass the test are marked
@@ -122,11 +130,13 @@ is_concerned me b (Some spec) = is_other spec me b
 pub record Fits (nodes : ℕ) (g : Addr) (me : ℕ) (frames_from : ℕ → List (List Item)) (v : View) (m : Member) : Type 0 where
   pub reserve : m.reserve ≡ v.reserve
   pub told : MemberIs v.told m
+  pub others : m.others ≡ v.living
   pub inside : IsInside nodes v.told
   pub put : (b : ℕ) → b < nodes → m.put b ≡ group_items_of g (v.frames b) ++ waiting_of v.told b
   pub taken : (b : ℕ) → b < nodes → m.taken b ≡ length (group_items_of g (v.frames b))
   pub replies : m.replies ≡ v.replies
   pub spec : m.spec ≡ v.made
+  pub gone : is_gone m.phase ≡ v.dropped
   pub noticed : (b : ℕ) → is_marked b m.noticed ≡ (is_concerned me b v.made && v.noticed b)
   pub stopped : m.stopped ≡ v.met
   -- the items of the frames that were taken have come, and those of the frames that were acknowledged are done
@@ -170,7 +180,8 @@ abbrev pub own_requested_by : NodePlan → Addr → List Happened → Request �
 own_requested_by plan g past request reply = command_for plan.me request ++ ticked plan.me (is_noticed_after plan past) (made_by g (Asked request) (Replied reply))
 
 abbrev pub requested_by : NodePlan → Addr → List Happened → Request → Reply → List GroupStep
-requested_by plan g past request reply = tenant_given g plan.me request reply ++ (if is_own_request plan.me g past request then own_requested_by plan g past request reply else [])
+requested_by plan g past request reply =
+    tenant_given g plan.me request reply ++ other_given g plan.me request reply ++ (if is_own_request plan.me g past request then own_requested_by plan g past request reply else [])
 
 abbrev pub asked_by : NodePlan → Addr → List Happened → Request → Reply → List GroupStep
 asked_by plan g past request reply = asked plan.me g (is_noticed_after plan past) past request reply
