@@ -4,7 +4,7 @@ ghost use Rattle.std.specs.Option.{option_to_list};
 ghost use Rattle.gb_types.specs.declared.limits.TheConstants.{SILENCE_MIN as LEAST};
 ghost use Rattle.gb_types.specs.declared.address.Addr.{Addr as AnyAddr};
 ghost use Rattle.gb_alone.specs.declared.event.GroupEvent.TheVariants.{Stop as Ends};
-ghost use Rattle.gb_isolation.specs.Project.{command_for, made_by, is_own_request as is_own, is_noticed_at, ticked, tenant_given, with_stop, is_met, asked};
+ghost use Rattle.gb_isolation.specs.Project.{command_for, made_by, is_own_request as is_own, is_noticed_at, ticked, tenant_given, other_given, with_stop, is_met, asked};
 ghost use Rattle.gb_node.specs.declared.answer.NodeAnswer.TheVariants.{Reply as Replied};
 ghost use Rattle.gb_node.specs.declared.event.NodeEvent.TheVariants.{Request as Asked};
 ghost use Rattle.gb_trace.specs.Deeds.{past_in};
@@ -16,6 +16,7 @@ use crate::steps::{add, at};
 use gb_alone::event::{GroupEvent, GroupStep};
 use gb_cap::hmac::HmacKey;
 use gb_rules::reserve::Reserve;
+use gb_rules::room::is_other_generation;
 use gb_types::address::Addr;
 use gb_types::memory::OutOfMemory;
 use gb_types::node::NodeId;
@@ -82,6 +83,25 @@ fn tenant(addr: Addr, a: NodeId, request: &Request, reply: &Reply) -> Option<Gro
     }
 }
 
+/// Returns the step that tells the group of another generation of its room, or `None` if the request with its reply neither makes
+/// nor drops one.
+fn other(addr: Addr, a: NodeId, request: &Request, reply: &Reply) -> Option<GroupStep>
+    ensures { option_to_list result ≡ other_given addr a request.now reply.now }
+{
+    let Reply::Done = reply else {
+        return None;
+    };
+    match request {
+        Request::Make(_, named, _) if is_other_generation(addr, *named) => {
+            Some(at(a, GroupEvent::OtherMade(named.generation)))
+        }
+        Request::DropGroup(_, named) if is_other_generation(addr, *named) => {
+            Some(at(a, GroupEvent::OtherDropped))
+        }
+        _ => None,
+    }
+}
+
 /// Adds the group's steps from a request, with its reply, at a running node.
 fn of_running(
     alloc: Global,
@@ -96,9 +116,10 @@ fn of_running(
 ) -> Result<(), OutOfMemory>
     requires least { LEAST ≤ plan.now.silence }
     requires key { key.now ≡ plan.now.cluster_key }
-    ensures { OnOk result (steps.new.items ≡ steps.old.items ++ (tenant_given addr a request.now reply.now ++ (if is_own a addr (past_in a before.now) request.now then command_for a request.now ++ ticked a (is_noticed_at plan.now a (past_in a before.now)) (made_by addr (Asked request.now) (Replied reply.now)) else []))) }
+    ensures { OnOk result (steps.new.items ≡ steps.old.items ++ (tenant_given addr a request.now reply.now ++ (other_given addr a request.now reply.now ++ (if is_own a addr (past_in a before.now) request.now then command_for a request.now ++ ticked a (is_noticed_at plan.now a (past_in a before.now)) (made_by addr (Asked request.now) (Replied reply.now)) else [])))) }
 {
     add(tenant(addr, a, request, reply), steps)?;
+    add(other(addr, a, request, reply), steps)?;
     if is_own_request(addr, a, before, request) {
         of_own(alloc, plan, addr, key, before, a, request, reply, steps)?;
     }
