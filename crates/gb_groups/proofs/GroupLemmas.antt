@@ -39,7 +39,7 @@ or_came p version from (i ∷ is) o =
     or_came p version from is (came_for version from o i)
     ∙ ap (λ x. fold (came_for version from) x is) (or_stepped p (nat_lt i.origin NODES && not (is_too_long version i.payload)) (slot_came from (entry_of i)) o)
 
-or_waiting : (p : Bool) (o : Option (Option SlotState)) (dest : ℕ) → waiting_in (or_passed p o) dest ≡ waiting_in o dest
+pub or_waiting : (p : Bool) (o : Option (Option SlotState)) (dest : ℕ) → waiting_in (or_passed p o) dest ≡ waiting_in o dest
 or_waiting true None dest = refl
 or_waiting false None dest = refl
 or_waiting true (Some None) dest = refl

@@ -1,10 +1,10 @@
 -- Each place is one of its room.
 use Rattle.std.proofs.Common.{◌≡◌, ◌≢◌, ℕ, zero, suc, ◌+◌, ◌*◌, ◌<◌, ◌≤◌, List, [], ◌∷◌, ◌++◌, length, map, get_or, refl, ap, sym, ◌∙◌, subst, true, false, arith, inl, inr, length-append}
-use Rattle.std.specs.Prelude.{◌⊎◌, ◌/◌, Bool, cond, not, nat_lt, nat_le, Option, Some, None, is_some, option_map, if◌then◌else◌}
+use Rattle.std.specs.Prelude.{◌⊎◌, ◌/◌, ◌&&◌, Bool, cond, count_by, take, drop, not, nat_lt, nat_le, Option, Some, None, is_some, option_map, if◌then◌else◌}
 use Rattle.std.proofs.Math.ListN.{set, get_or-map}
 use Rattle.std.proofs.lemmas.Bool.{cases_Bool, cases_eq, cases_lt, lt-ltb, le-ltb, ltb-true}
 use Rattle.std.proofs.lemmas.Bool.Decides.{nat_tests}
-use Rattle.std.proofs.lemmas.List.{get_or-set_same, get_or-set_other, get_or_past, length-set, length-map}
+use Rattle.std.proofs.lemmas.List.{get_or-drop, get_or-take, get_or-set_same, get_or-set_other, length-drop, length-take, length-set, length-map}
 use Rattle.gb_types.specs.declared.address.Addr.{Addr}
 use Rattle.gb_types.specs.declared.version.Version.{Version}
 use Rattle.gb_rules.specs.Address.{is_addr}
@@ -24,7 +24,8 @@ use Rattle.gb_groups.proofs.AddressLemmas.{place_is}
 use Rattle.gb_groups.proofs.BatchLemmas.{get_or-gave}
 use Rattle.gb_groups.proofs.TakingLemmas.{length-gave}
 use Rattle.gb_groups.proofs.OneGroupLemmas.{changed, change_first, step_is, gone_is}
-use Rattle.gb_groups.proofs.RoomLemmas.{rank_below, same_rank, rank_kept, rank_new, size_new, size_kept, passed_own, passed_same, passed_other, passed_before, free_hit}
+use Rattle.gb_groups.proofs.OthersLemmas.{count_block, count_none, count_same}
+use Rattle.gb_groups.proofs.RoomLemmas.{rank_below, rank_as, same_rank}
 
 -- A step that keeps addresses and what is vacant.
 
@@ -160,3 +161,63 @@ living_passed g s rooms rows ok e = at (place_of g rows) refl e
           | inl w ↦ ap (λ a. is_passed a rooms) (addr_is g (row_at rows p).addr there.1) ∙ w.2
           | inr w ↦ let no : Some s ≡ None = sym slot ∙ ap (λ (r : Row). r.slot) w in absurd (cc)
         ]
+
+-- Those who live in a room.
+
+-- a place that counts is one of the room
+counted_rank : (addr : Addr) (rooms : List (Addr × ℕ)) (rows : List Row) (p : ℕ) → AreInRooms rooms rows → p < length rows → is_living_other addr (row_at rows p) ≡ true → rank_of addr rooms ≡ Some (p / GENERATIONS)
+counted_rank addr rooms rows p ok l e =
+    let row = row_at rows p in
+    elim (ok.each p l) [
+      | inl w ↦ rank_as 0 addr row.addr rooms (in_room_of (is_some row.slot) (is_same_room addr row.addr) (not (is_addr addr row.addr)) e) ∙ w.1
+      | inr w ↦ let no : false ≡ true = sym (ap (λ (r : Row). is_living_other addr r) w) ∙ e in absurd (cc)
+    ]
+  where
+    in_room_of : (a b c : Bool) → (a && (b && c)) ≡ true → b ≡ true
+    in_room_of true true c h = refl
+    in_room_of true false c h = absurd (cc)
+    in_room_of false b c h = absurd (cc)
+
+-- the same test, given that the place is one of the room
+room_test : (addr : Addr) (row : Row) → (is_some row.slot ≡ true → is_same_room addr row.addr ≡ true) → is_living_other addr row ≡ (is_some row.slot && not (is_addr addr row.addr))
+room_test addr row h =
+    elim (cases_Bool (is_some row.slot)) [
+      | inl e ↦ ap (λ b. b && is_other_generation addr row.addr) e ∙ (ap (λ b. b && not (is_addr addr row.addr)) (h e) ∙ sym (ap (λ b. b && not (is_addr addr row.addr)) e))
+      | inr e ↦ ap (λ b. b && is_other_generation addr row.addr) e ∙ sym (ap (λ b. b && not (is_addr addr row.addr)) e)
+    ]
+
+-- the other generations that live are those at the room's places
+pub block_counts : (addr : Addr) (r : ℕ) (rooms : List (Addr × ℕ)) (rows : List Row) → AreInRooms rooms rows → rank_of addr rooms ≡ Some r → others_living addr rows ≡ count_by (λ (row : Row). is_some row.slot && not (is_addr addr row.addr)) (take GENERATIONS (drop (GENERATIONS * r) rows))
+block_counts addr r rooms rows ok e =
+    let t = is_living_other addr in
+    let u = λ (row : Row). is_some row.slot && not (is_addr addr row.addr) in
+    let below = rank_below r addr rooms e in
+    let size = ok.size in
+    let off : (k : ℕ) → k < length rows → (k < GENERATIONS * r) ⊎ (GENERATIONS * r + GENERATIONS ≤ k) → t (row_at rows k) ≡ false = λ k l h. elim (cases_Bool (t (row_at rows k))) [
+      | inl m ↦
+          let rank : Some r ≡ Some (k / GENERATIONS) = sym e ∙ counted_rank addr rooms rows k ok l m in
+          let s : r ≡ k / GENERATIONS = cc in
+          elim h [ | inl a ↦ absurd (omega arith) | inr a ↦ absurd (omega arith) ]
+      | inr m ↦ m
+    ] in
+    let same : (k : ℕ) → k < GENERATIONS → t (row_at rows (GENERATIONS * r + k)) ≡ u (row_at rows (GENERATIONS * r + k)) = λ k l.
+    let p = GENERATIONS * r + k in
+    let row = row_at rows p in
+    room_test addr row (λ some. elim (ok.each p (omega arith)) [
+      | inl w ↦ let q : p / GENERATIONS ≡ r = omega arith in same_rank 0 r addr row.addr rooms e (w.1 ∙ ap Some q)
+      | inr w ↦ let no : false ≡ true = sym (ap (λ (x : Row). is_some x.slot) w) ∙ some in absurd (cc)
+    ]) in
+    count_block t rows (GENERATIONS * r) GENERATIONS no_row off
+    ∙ count_same t u (take GENERATIONS (drop (GENERATIONS * r) rows)) no_row (λ k l.
+        let n = length-drop (GENERATIONS * r) rows in
+        let m = length-take GENERATIONS (drop (GENERATIONS * r) rows) in
+        let at = get_or-take GENERATIONS (drop (GENERATIONS * r) rows) k no_row (omega arith) ∙ get_or-drop (GENERATIONS * r) rows k no_row in
+        ap t at ∙ (same k (omega arith) ∙ sym (ap u at)))
+
+-- nobody lives in a room that was not begun
+pub none_counts : (addr : Addr) (rooms : List (Addr × ℕ)) (rows : List Row) → AreInRooms rooms rows → rank_of addr rooms ≡ None → others_living addr rows ≡ 0
+none_counts addr rooms rows ok e =
+    count_none (is_living_other addr) rows no_row (λ k l. elim (cases_Bool (is_living_other addr (row_at rows k))) [
+      | inl m ↦ let no : None ≡ Some (k / GENERATIONS) = sym e ∙ counted_rank addr rooms rows k ok l m in absurd (cc)
+      | inr m ↦ m
+    ])

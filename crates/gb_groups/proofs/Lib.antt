@@ -25,5 +25,7 @@ pub mod InRoomsLemmas
 pub mod OthersLemmas
 pub mod MadeLemmas
 pub mod GroupLemmas
+pub mod LivingLemmas
+pub mod RoomedLemmas
 pub mod ShortLemmas
 pub mod ListingLemmas

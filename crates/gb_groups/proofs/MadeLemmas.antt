@@ -25,7 +25,7 @@ use Rattle.gb_groups.proofs.RoomLemmas.{rank_below, rank_as, same_rank, rank_kep
 -- The places with those of a new room.
 
 -- what the places are after a vacant one was added behind them
-abbrev Extends : List Row → List Row → Type 0
+abbrev pub Extends : List Row → List Row → Type 0
 Extends rows more = (length rows ≤ length more) × ((p : ℕ) → p < length rows → row_at more p ≡ row_at rows p) × ((p : ℕ) → length rows ≤ p → p < length more → row_at more p ≡ vacant p)
 
 extends_one : (rows more : List Row) → Extends rows more → Extends rows (with_vacant more)
@@ -52,7 +52,7 @@ pub record WithRoom (place : ℕ) (rows : List Row) : Type 0 where
   pub extends : Extends rows (with_room place rows)
   pub size : length (with_room place rows) ≡ (if nat_lt place (length rows) then length rows else length rows + 4)
 
-with_room_is : (place : ℕ) (rows : List Row) → WithRoom place rows
+pub with_room_is : (place : ℕ) (rows : List Row) → WithRoom place rows
 with_room_is place rows =
     let all : Extends rows rows = (omega arith, λ p h. refl, λ p h m. absurd (omega arith)) in
     let one = extends_one rows rows all in
@@ -158,7 +158,7 @@ free_or_all rows from =
     each (suc (suc (suc zero))) h a b c d = d
     each (suc (suc (suc (suc k)))) h a b c d = absurd (omega arith)
 
-none_with_room : (addr : Addr) (t : GroupsValue) (place : ℕ) → AreInRooms t.rooms t.rows → CanBeMade addr t → (p : ℕ) → p < length (with_room place t.rows) → is_addr addr (row_at (with_room place t.rows) p).addr ≡ false
+pub none_with_room : (addr : Addr) (t : GroupsValue) (place : ℕ) → AreInRooms t.rooms t.rows → CanBeMade addr t → (p : ℕ) → p < length (with_room place t.rows) → is_addr addr (row_at (with_room place t.rows) p).addr ≡ false
 none_with_room addr t place ok can p l =
     let w = with_room_is place t.rows in
     elim (cases_lt p (length t.rows)) [
@@ -237,30 +237,36 @@ zeros_are rooms rows ok p l none =
       | inr w ↦ ap (λ (r : Row). r.addr) w
     ]
 
-pub stay_made : (addr : Addr) (s : SlotState) (t : GroupsValue) → AreInOrder t → CanBeMade addr t → AreInOrder (made addr s t)
-stay_made addr s t ok can =
+pub rooms_made : (addr : Addr) (s : SlotState) (t : GroupsValue) → AreInRooms t.rooms t.rows → CanBeMade addr t → AreInRooms (made addr s t).rooms (made addr s t).rows
+rooms_made addr s t ok can =
     let place = free_place (rank_of addr t.rooms) t.rows in
     let rows = with_room place t.rows in
     let row : Row = record { addr = addr; slot = Some s } in
-    let takes = takes_place addr t ok.rooms can in
+    let takes = takes_place addr t ok can in
     let room = with_room_is place t.rows in
     let n = length-set rows place row in
     record {
-      apart = apart_put rows place row (vacant_apart t.rows place ok.apart (zeros_are t.rooms t.rows ok.rooms)) takes.within takes.none;
-      rooms = record {
-        size = n ∙ takes.size;
-        each = λ p l. elim (cases_eq p place) [
-          | inl e ↦
-              let at : row_at (set rows place row) p ≡ row = ap (row_at (set rows place row)) e ∙ get_or-set_same rows place row no_row takes.within in
-              subst (IsInRoom (with_made addr t.rooms) p) (sym at) (inl (lt-ltb 0 addr.tenant can.tenant, takes.rank ∙ ap (λ i. Some (i / GENERATIONS)) (sym e), passed_own addr t.rooms))
-          | inr ne ↦
-              let at = get_or-set_other rows place p row no_row ne in
-              elim (cases_lt p (length t.rows)) [
-                | inl h ↦ subst (IsInRoom (with_made addr t.rooms) p) (sym (at ∙ room.extends.1 p h)) (kept_in_room addr t.rooms p (row_at t.rows p) (fresh_passed addr t can) (ok.rooms.each p h))
-                | inr h ↦ subst (IsInRoom (with_made addr t.rooms) p) (sym (at ∙ room.extends.2 p h (omega arith))) (inr refl)
-              ]
-        ];
-      };
+      size = n ∙ takes.size;
+      each = λ p l. elim (cases_eq p place) [
+        | inl e ↦
+            let at : row_at (set rows place row) p ≡ row = ap (row_at (set rows place row)) e ∙ get_or-set_same rows place row no_row takes.within in
+            subst (IsInRoom (with_made addr t.rooms) p) (sym at) (inl (lt-ltb 0 addr.tenant can.tenant, takes.rank ∙ ap (λ i. Some (i / GENERATIONS)) (sym e), passed_own addr t.rooms))
+        | inr ne ↦
+            let at = get_or-set_other rows place p row no_row ne in
+            elim (cases_lt p (length t.rows)) [
+              | inl h ↦ subst (IsInRoom (with_made addr t.rooms) p) (sym (at ∙ room.extends.1 p h)) (kept_in_room addr t.rooms p (row_at t.rows p) (fresh_passed addr t can) (ok.each p h))
+              | inr h ↦ subst (IsInRoom (with_made addr t.rooms) p) (sym (at ∙ room.extends.2 p h (omega arith))) (inr refl)
+            ]
+      ];
+    }
+
+pub stay_made : (addr : Addr) (s : SlotState) (t : GroupsValue) → AreInOrder t → CanBeMade addr t → AreInOrder (made addr s t)
+stay_made addr s t ok can =
+    let place = free_place (rank_of addr t.rooms) t.rows in
+    let takes = takes_place addr t ok.rooms can in
+    record {
+      apart = apart_put (with_room place t.rows) place (record { addr = addr; slot = Some s }) (vacant_apart t.rows place ok.apart (zeros_are t.rooms t.rows ok.rooms)) takes.within takes.none;
+      rooms = rooms_made addr s t ok.rooms can;
     }
 
 pub count_made : (g addr : Addr) (s : SlotState) (t : GroupsValue) → AreInOrder t → CanBeMade addr t → others_living g (made addr s t).rows ≡ one_more g addr (others_living g t.rows)

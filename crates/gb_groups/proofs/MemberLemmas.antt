@@ -71,40 +71,25 @@ enrolled to place members old sets words other l ok others here n =
       ];
     }
 
--- a group is made behind the others
-
-row-grown : (rows : List Row) (row : Row) (p : ℕ) → p ≢ length rows → row_at (rows ++ row ∷ []) p ≡ row_at rows p
-row-grown [] row zero ne = absurd (ne refl)
-row-grown [] row (suc p) ne = refl
-row-grown (r ∷ rows) row zero ne = refl
-row-grown (r ∷ rows) row (suc p) ne = row-grown rows row p (λ e. ne (ap suc e))
-
-row-new : (rows : List Row) (row : Row) → row_at (rows ++ row ∷ []) (length rows) ≡ row
-row-new [] row = refl
-row-new (r ∷ rows) row = row-new rows row
-
-pub memberships_grown : (rows : List Row) (old new : List (List ℕ)) (place : ℕ) (row : Row) (members : nodes.FinSet nat_cmp) → AreMemberships rows old → place ≡ length rows → IsEnrolled NODES place members old new → ((who : ℕ) → (if nodes.contains members who then 1 else 0) ≡ member_in who row) → AreMemberships (rows ++ row ∷ []) new
-memberships_grown rows old new place row members ok e w is = record {
+-- what is at a place was changed
+pub memberships_put : (rows : List Row) (old new : List (List ℕ)) (place : ℕ) (row : Row) (members : nodes.FinSet nat_cmp) → AreMemberships rows old → place < length rows → IsEnrolled NODES place members old new → ((who : ℕ) → (if nodes.contains members who then 1 else 0) ≡ member_in who row) → AreMemberships (set rows place row) new
+memberships_put rows old new place row members ok l w is = record {
   size = w.size ∙ ok.size;
   each = λ who p h. elim (cases_eq p place) [
     | inl s ↦
         ap (has (get_or new who [])) s ∙ w.here who h ∙ is who
-        ∙ sym (ap (λ (n : ℕ). member_in who (row_at (rows ++ row ∷ []) n)) (s ∙ e) ∙ ap (member_in who) (row-new rows row))
-    | inr ne ↦ w.others who p ne ∙ ok.each who p h ∙ sym (ap (member_in who) (row-grown rows row p (λ s. ne (s ∙ sym e))))
+        ∙ sym (ap (λ (n : ℕ). member_in who (row_at (set rows place row) n)) s ∙ ap (member_in who) (get_or-set_same rows place row no_row l))
+    | inr ne ↦ w.others who p ne ∙ ok.each who p h ∙ sym (ap (member_in who) (get_or-set_other rows place p row no_row ne))
   ];
 }
 
 -- a group is dropped
 pub memberships_dropped : (rows : List Row) (old new : List (List ℕ)) (place : ℕ) → AreMemberships rows old → place < length rows → IsEnrolled NODES place nodes.empty old new → AreMemberships (set rows place (gone (row_at rows place))) new
-memberships_dropped rows old new place ok l w = record {
-  size = w.size ∙ ok.size;
-  each = λ who p h. elim (cases_eq p place) [
-    | inl s ↦
-        ap (has (get_or new who [])) s ∙ w.here who h ∙ ap (λ b. if b then 1 else 0) (nodes.contains-empty nat_cmp who)
-        ∙ sym (ap (λ (n : ℕ). member_in who (row_at (set rows place (gone (row_at rows place))) n)) s ∙ ap (member_in who) (get_or-set_same rows place (gone (row_at rows place)) no_row l))
-    | inr ne ↦ w.others who p ne ∙ ok.each who p h ∙ sym (ap (member_in who) (get_or-set_other rows place p (gone (row_at rows place)) no_row ne))
-  ];
-}
+memberships_dropped rows old new place ok l w = memberships_put rows old new place (gone (row_at rows place)) nodes.empty ok l w (λ who. ap (λ b. if b then 1 else 0) (nodes.contains-empty nat_cmp who))
+
+-- vacant places have no members
+pub memberships_vacant : (rows more : List Row) (sets : List (List ℕ)) → ((p : ℕ) → (row_at more p).slot ≡ (row_at rows p).slot) → AreMemberships rows sets → AreMemberships more sets
+memberships_vacant rows more sets same ok = record { size = ok.size; each = λ who p h. ok.each who p h ∙ sym (ap (has_member who) (same p)) }
 
 -- the set of a node
 members_at : (rows : List Row) (sets : List (List ℕ)) (to who : ℕ) (words other : List ℕ) → AreMemberships rows sets → to ≡ who → who < NODES → words ≡ get_or sets to other → (p : ℕ) → has words p ≡ has_member who (row_at rows p).slot

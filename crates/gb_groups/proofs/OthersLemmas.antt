@@ -169,7 +169,7 @@ count_run t (x ∷ xs) (suc p) (suc n) d l all =
     let first = count_by-cons t x xs in
     omega arith
 
-count_none : {X : Type 0} (t : X → Bool) (xs : List X) (d : X) → ((k : ℕ) → k < length xs → t (get_or xs k d) ≡ false) → count_by t xs ≡ 0
+pub count_none : {X : Type 0} (t : X → Bool) (xs : List X) (d : X) → ((k : ℕ) → k < length xs → t (get_or xs k d) ≡ false) → count_by t xs ≡ 0
 count_none t [] d none = refl
 count_none t (x ∷ xs) d none = count_by-cons t x xs ∙ (ap (λ b. flag b + count_by t xs) (none 0 (omega arith)) ∙ zero-add (count_by t xs) ∙ count_none t xs d (λ k l. none (suc k) (omega arith)))
 
@@ -188,3 +188,8 @@ count_block t (x ∷ xs) (suc from) n d off =
     count_by-cons t x xs
     ∙ (ap (λ b. flag b + count_by t xs) (off 0 (omega arith) (inl (omega arith))) ∙ zero-add (count_by t xs)
     ∙ count_block t xs from n d (λ k l h. off (suc k) (omega arith) (elim h [ | inl a ↦ inl (omega arith) | inr a ↦ inr (omega arith) ])))
+
+-- two tests that agree on the elements count the same
+pub count_same : {X : Type 0} (t u : X → Bool) (xs : List X) (d : X) → ((k : ℕ) → k < length xs → t (get_or xs k d) ≡ u (get_or xs k d)) → count_by t xs ≡ count_by u xs
+count_same t u [] d same = refl
+count_same t u (x ∷ xs) d same = count_by-cons t x xs ∙ (ap (λ b. flag b + count_by t xs) (same 0 (omega arith)) ∙ (ap (λ n. flag (u x) + n) (count_same t u xs d (λ k l. same (suc k) (omega arith))) ∙ sym (count_by-cons u x xs)))

@@ -21,7 +21,9 @@ use Rattle.gb_groups.specs.SlotsValue.{Row, row_at, no_row, IsShort, AreShort}
 use Rattle.gb_groups.specs.GroupsValue.{GroupsValue, cursor_for, walk_to, batch}
 use Rattle.gb_groups.specs.Packing.{Visit, visit, placed, fit, size, is_at, queue, queue_of, queues, items}
 use Rattle.gb_groups.specs.AtAddress.{place_of}
-use Rattle.gb_groups.specs.OneGroup.{longest_item, NothingWaits, waiting_in}
+use Rattle.gb_groups.specs.Rooms.{is_passed}
+use Rattle.gb_groups.proofs.GroupLemmas.{or_waiting}
+use Rattle.gb_groups.specs.OneGroup.{slot_for, longest_item, NothingWaits, waiting_in}
 use Rattle.gb_groups.proofs.AddressLemmas.{place_is}
 use Rattle.gb_groups.proofs.StepLemmas.{waiting_fits}
 use Rattle.gb_groups.proofs.WalkLemmas.{length-queues, queues_at}
@@ -70,8 +72,8 @@ module _ (version : Version) (dest room : ℕ) (t : GroupsValue) (short : AreSho
       by [] e = e
       by (v ∷ vs) e = absurd (some_fit v vs e none)
 
-  pub nothing_waits : length (batch version dest room t) ≡ 0 → NothingWaits dest t.rows
-  nothing_waits none g = by (place_of g t.rows) refl
+  pub nothing_waits : length (batch version dest room t) ≡ 0 → NothingWaits dest t
+  nothing_waits none g = or_waiting (is_passed g t.rooms) (slot_for g t.rows) dest ∙ by (place_of g t.rows) refl
     where
       by : (o : Option ℕ) → o ≡ place_of g t.rows → waiting_in (option_map (λ (row : Row). row.slot) (option_map (row_at t.rows) o)) dest ≡ []
       by None e = refl

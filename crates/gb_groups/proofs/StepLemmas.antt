@@ -1,8 +1,12 @@
 -- Steps keep the counters of a slot and the limit on its payloads.
-use Rattle.std.proofs.Common.{◌≡◌, ℕ, zero, suc, ◌≤◌, map, drop, subst, List, [], ◌∷◌, ◌++◌, length, get_or, true, false, refl, ap, sym, ◌∙◌, arith}
+use Rattle.std.proofs.Common.{◌≡◌, ℕ, zero, suc, ◌≤◌, map, drop, subst, List, [], ◌∷◌, ◌++◌, length, get_or, true, false, refl, ap, sym, ◌∙◌, arith, inl, inr}
+use Rattle.std.proofs.Math.ListN.{set}
+use Rattle.std.proofs.lemmas.Bool.{cases_eq, cases_lt}
+use Rattle.std.proofs.lemmas.List.{get_or_past, get_or-set_same, get_or-set_other, length-set}
 use Rattle.std.proofs.lemmas.Option.{get_or_from_slice_get}
 use Rattle.std.specs.FinSet as nodes
 use Rattle.std.specs.Prelude.{Option, if◌then◌else◌, ◌&&◌, not, Some, None, option_map, slice_get, Result, Ok, Err, OnOk}
+use Rattle.gb_types.specs.declared.address.Addr.{Addr}
 use Rattle.gb_types.specs.Entry.{message_of}
 use Rattle.gb_types.specs.declared.entry.Entry.{Entry}
 use Rattle.gb_types.specs.Message.{same}
@@ -21,7 +25,7 @@ use Rattle.gb_rules.specs.declared.phase.Phase.{Phase}
 use Rattle.gb_slot.specs.Slot.{falls, own_entry, shown, waiting, taken_for, slot_called, slot_moved, slot_said, slot_came, slot_noticed, slot_done, slot_took}
 use Rattle.gb_slot.specs.SlotState.{SlotState}
 use Rattle.gb_groups.specs.Packing.{queue, queue_of}
-use Rattle.gb_groups.specs.SlotsValue.{Row, IsShort, on_slot}
+use Rattle.gb_groups.specs.SlotsValue.{Row, row_at, no_row, IsShort, IsNamed, AreNamed, on_slot}
 use Rattle.gb_types.specs.declared.new_message.NewMessage.{NewMessage}
 use Rattle.gb_rules.proofs.LengthLemmas.{within_limit}
 use Rattle.gb_rules.proofs.SayLemmas.{said_is}
@@ -125,3 +129,21 @@ many-came from x row s t d is new same =
 pub where_said : {T : Type 0} (said : Result ℕ Refusal) (seq : ℕ) → said_reply said ≡ Said seq → OnOk said T → T
 where_said (Ok n) seq e t = t
 where_said (Err why) seq e t = absurd (cc)
+
+named_slot : (version : Version) (addr : Addr) (f : SlotState → SlotState) (o : Option SlotState) → IsNamed version addr o → IsNamed version addr (option_map f o)
+named_slot version addr f None h = h
+named_slot version addr f (Some s) h = h
+
+-- a step of a slot keeps which groups live
+pub named_set : (version : Version) (rows : List Row) (p : ℕ) (f : SlotState → SlotState) → AreNamed version rows → AreNamed version (set rows p (on_slot f (row_at rows p)))
+named_set version rows p f all = record {
+  each = λ q. elim (cases_eq q p) [
+    | inl e ↦ elim (cases_lt p (length rows)) [
+      | inl l ↦
+          subst (λ (r : Row). IsNamed version r.addr r.slot) (sym (ap (row_at (set rows p (on_slot f (row_at rows p)))) e ∙ get_or-set_same rows p (on_slot f (row_at rows p)) no_row l))
+          (named_slot version (row_at rows p).addr f (row_at rows p).slot (all.each p))
+      | inr l ↦ subst (λ (r : Row). IsNamed version r.addr r.slot) (sym (get_or_past (set rows p (on_slot f (row_at rows p))) q no_row (let n = length-set rows p (on_slot f (row_at rows p)) in omega arith))) tt
+    ]
+    | inr ne ↦ subst (λ (r : Row). IsNamed version r.addr r.slot) (sym (get_or-set_other rows p q (on_slot f (row_at rows p)) no_row ne)) (all.each q)
+  ];
+}

@@ -236,12 +236,7 @@ impl Groups {
         ensures at { IfSome result (λ place. Some place ≡ place_of addr self.now.rows) }
         ensures apart { AreApart self.now.rows }
     {
-        let place = self.slots.find(addr)?;
-        if self.slots.is_living(place) {
-            Some(place)
-        } else {
-            None
-        }
+        self.slots.living(addr)
     }
 
     /// Returns true if the group, or a later generation of its room, was made here.
@@ -302,7 +297,7 @@ impl Groups {
             group: item.group,
             generation: item.generation,
         };
-        if let Some(place) = self.find(addr) {
+        if let Some(place) = self.slots.find(addr) {
             if self.slots.came(place, from, origin, item.seq, item.payload) {
                 note_put_out(&mut self.busy, &self.slots, place);
             }
@@ -316,7 +311,7 @@ impl Groups {
         ensures cursors { self.new.cursors ≡ self.old.cursors }
         ensures others { OthersKept addr self.old.rows self.new.rows }
     {
-        if let Some(place) = self.find(addr) {
+        if let Some(place) = self.slots.find(addr) {
             self.slots.done(place, dest, m);
         }
     }
@@ -367,7 +362,7 @@ impl Groups {
         ensures cursors { self.new.cursors ≡ self.old.cursors }
         ensures others { OthersKept addr self.old.rows self.new.rows }
     {
-        match self.find(addr) {
+        match self.slots.living(addr) {
             Some(place) => self.slots.open_group(place),
             None => self.absent(addr),
         }
@@ -381,7 +376,7 @@ impl Groups {
         ensures cursors { self.new.cursors ≡ self.old.cursors }
         ensures others { OthersKept addr self.old.rows self.new.rows }
     {
-        match self.find(addr) {
+        match self.slots.living(addr) {
             Some(place) => self.slots.shut_group(place),
             None => self.absent(addr),
         }
@@ -395,7 +390,7 @@ impl Groups {
         ensures cursors { self.new.cursors ≡ self.old.cursors }
         ensures others { OthersKept addr self.old.rows self.new.rows }
     {
-        match self.find(addr) {
+        match self.slots.living(addr) {
             Some(place) => {
                 let reply = self.slots.remove(place);
                 enrol(&mut self.busy, place, &NodeSet::new());

@@ -1,5 +1,5 @@
 //! The places of a node's rooms, and the slots of the groups that live there.
-ghost use Rattle.std.specs.Prelude.{◌≡◌, ◌<◌, ◌≤◌, ◌+◌, ◌&&◌, not, [], ℕ, Some, None, is_some, count_by, take, drop, length, slice_get, slice_index_or, slice_set, position, ◌++◌, ◌∷◌, OnOk, OnErr, IfOk, true, false, IfSome, MatchOption, vec_len, vec_capacity};
+ghost use Rattle.std.specs.Prelude.{◌≡◌, ◌<◌, ◌≤◌, ◌+◌, ◌&&◌, not, [], ℕ, Some, None, is_some, count_by, take, drop, length, slice_get, slice_index_or, slice_set, position, ◌++◌, OnOk, if◌then◌else◌, OnErr, IfOk, true, false, IfSome, MatchOption, vec_len, vec_capacity};
 ghost use Rattle.gb_types.specs.declared.limits.TheConstants.{PAYLOAD, PLACES};
 ghost use Rattle.gb_rules.specs.Address.{is_addr};
 ghost use Rattle.gb_rules.specs.Group.{is_member, open_answer, shut_answer, drop_answer, say_answer, fetch_answer};
@@ -8,6 +8,7 @@ ghost use Rattle.gb_rules.specs.declared.phase.Phase.TheVariants as Phase;
 ghost use Rattle.gb_slot.specs.Slot.{IsWithinLimits, new_slot, waiting, slot_came, slot_done, slot_noticed, slot_moved, slot_said};
 ghost use Rattle.gb_groups.specs.SlotsValue.{no_entry, row_at, on_slot, HaveCounters, IsShort, AreShort, AreApart, AreVacant, AreNamed, unless_gone, gone, is_used, with_room};
 ghost use Rattle.gb_groups.specs.Rooms.{first_free};
+ghost use Rattle.gb_groups.specs.AtAddress.{place_of, living_place};
 ghost use Rattle.gb_rules.specs.Room.{can_name};
 ghost use Rattle.gb_rules.specs.declared.room.TheConstants.{GENERATIONS};
 ghost use Rattle.indexmap.specs.IndexMap.{spare};
@@ -132,7 +133,6 @@ impl Slots {
     }
 
     /// Returns the first place from `from` on where no group lives. The number of places if groups live at all of them.
-    #[tactic(auto, using(crate::proofs::RoomLemmas::next_free, crate::proofs::RoomLemmas::none_free))]
     pub fn first_free(&self, from: usize) -> usize
         requires { from ≤ length self.now.rows }
         ensures { result ≡ first_free from self.now.rows }
@@ -146,16 +146,27 @@ impl Slots {
 
     /// Returns the number of groups that live at the four places from `from` on, other than the one with this address.
     pub fn living_from(&self, from: usize, addr: Addr) -> usize
+        requires within { from + GENERATIONS ≤ length self.now.rows }
+        requires few { length self.now.rows ≤ PLACES }
         ensures { result ≡ count_by (λ row. is_some row.slot && not (is_addr addr row.addr)) (take GENERATIONS (drop from self.now.rows)) }
     {
         let mut living = 0;
         for nth in 0..GENERATIONS {
-            let place = from + nth;
-            if self.is_living(place) && !is_same(addr, self.addr(place)) {
-                living += 1;
-            }
+            living += self.count_other(from + nth, addr);
         }
         living
+    }
+
+    /// Returns 1 if another group than the one with this address lives at the place, else 0.
+    fn count_other(&self, place: usize, addr: Addr) -> usize
+        requires { place < length self.now.rows }
+        ensures { result ≡ (if is_some (row_at self.now.rows place).slot && not (is_addr addr (row_at self.now.rows place).addr) then 1 else 0) }
+    {
+        if self.is_living(place) && !is_same(addr, self.addr(place)) {
+            1
+        } else {
+            0
+        }
     }
 
     /// Returns the place of the group that was last made with this address. The place that was last used and the one made next after it are compared
@@ -173,6 +184,20 @@ impl Slots {
             return Some(next);
         }
         self.places.get_index_of(&addr)
+    }
+
+    /// Returns the place where the group with this address lives. `None` if it does not live here.
+    pub fn living(&self, addr: Addr) -> Option<usize>
+        ensures place { result ≡ living_place addr self.now.rows }
+        ensures at { IfSome result (λ place. Some place ≡ place_of addr self.now.rows) }
+        ensures apart { AreApart self.now.rows }
+    {
+        let place = self.find(addr)?;
+        if self.is_living(place) {
+            Some(place)
+        } else {
+            None
+        }
     }
 
     /// Returns the slot of the group at a place. `None` if the group was dropped.
@@ -367,7 +392,15 @@ impl Slots {
         requires { place < length self.now.rows }
         ensures { result ≡ is_used (row_at self.now.rows place) }
     {
-        self.addr(place).tenant != 0
+        self.addr(place).tenant > 0
+    }
+
+    /// Returns 1 if a group was made at the place, else 0.
+    fn count_used(&self, place: usize) -> usize
+        requires { place < length self.now.rows }
+        ensures { result ≡ (if is_used (row_at self.now.rows place) then 1 else 0) }
+    {
+        if self.is_used(place) { 1 } else { 0 }
     }
 
     /// Returns the number of places where a group was made.
@@ -376,9 +409,7 @@ impl Slots {
     {
         let mut count = 0;
         for place in 0..self.len() {
-            if self.is_used(place) {
-                count += 1;
-            }
+            count += self.count_used(place);
         }
         count
     }
@@ -394,16 +425,20 @@ impl Slots {
     {
         let mut rows = Vec::with_capacity(alloc, most.min(self.len()))?;
         let mut before = from;
-        let mut left = most.min(self.len());
+        let mut left = most;
         for place in 0..self.len() {
-            if left > 0 && self.is_used(place) {
-                if before > 0 {
-                    before -= 1;
-                } else {
-                    rows.push_reserved(self.listed(place));
-                    left -= 1;
-                }
+            if !self.is_used(place) {
+                continue;
             }
+            if before > 0 {
+                before -= 1;
+                continue;
+            }
+            if left == 0 {
+                return Ok(rows);
+            }
+            rows.push_reserved(self.listed(place));
+            left -= 1;
         }
         Ok(rows)
     }
@@ -437,7 +472,7 @@ impl Slots {
         requires tenant { 0 < addr.tenant }
         requires limits { IsWithinLimits spec.now }
         requires member { is_member spec.now me.number ≡ true }
-        requires fresh { position (λ row. is_addr addr row.addr) self.old.rows ≡ None }
+        requires fresh { (p : ℕ) → p < length self.old.rows → is_addr addr (row_at self.old.rows p).addr ≡ false }
         requires within { place ≤ length self.old.rows }
         requires free { (row_at self.old.rows place).slot ≡ None }
         requires few { length (with_room place self.old.rows) ≤ PLACES }
@@ -497,7 +532,7 @@ fn put_at(places: &mut IndexMap<Addr, Place>, place: usize, addr: Addr, key: usi
     ensures { places.new.entries ≡ slice_set places.old.entries place (addr, Place.Key key) }
 {
     places.insert(addr, Place::Key(key)).unwrap();
-    places.swap_remove_index(place);
+    places.swap_remove_index(place).unwrap();
 }
 
 /// Appends the first item that waits for `dest` in a group, as text of this version. Takes no memory.

@@ -7,7 +7,9 @@ use Rattle.gb_groups.specs.SlotsValue.{row_at, counters, no_row}
 use Rattle.gb_groups.specs.Busy.{IsBusy}
 use Rattle.gb_groups.proofs.BusyLemmas.{index_cleared, index_kept}
 use Rattle.gb_frame.specs.declared.item.Item.{Item}
-use Rattle.gb_groups.specs.Packing.{Visit, queue, first_entry, item_of, took, queues, walk, first_place, new_cursor}
+use Rattle.gb_groups.specs.Packing.{Visit, queue, first_entry, item_of, took, queues, walk, first_place, new_cursor, room_after}
+use Rattle.gb_slot.specs.Slot.{slot_took}
+use Rattle.gb_groups.proofs.StepLemmas.{named_set}
 use Rattle.gb_groups.proofs.WalkLemmas.{nowhere, queues_at}
 use Rattle.gb_groups.proofs.TakingLemmas.{has_next, first_visit, gives_one, gave_step, gave-none, cursor_next, cursor_last, cursor_idle}
 use Rattle.gb_groups.proofs.WriteLemmas.{wrote_none, wrote_more, item_here, sum-more, sum-fewer}
@@ -15,7 +17,7 @@ use Rattle.gb_groups.proofs.packing.advance.Goals as goal
 use Rattle.gb_groups.proofs.packing.advance.Goals.{then-give-eq0, else-give-eq0}
 
 pub loop-step-init : goal.loop-step-init
-loop-step-init c = record { index = c.requires.index; words = refl; size = refl; within = c.requires.from; rows = sym (gave-none c.args.dest.number 0 c.args.slots.now.rows); rest = refl; wrote = wrote_none c.args.version c.args.slots.now.rows (walk c.args.from (queues c.args.dest.number c.args.slots.now.rows)) _ _; capacity = omega arith; last = λ h. absurd (omega arith) }
+loop-step-init c = record { index = c.requires.index; named = c.requires.named; words = refl; size = refl; within = c.requires.from; rows = sym (gave-none c.args.dest.number 0 c.args.slots.now.rows); rest = refl; wrote = wrote_none c.args.version c.args.slots.now.rows (walk c.args.from (queues c.args.dest.number c.args.slots.now.rows)) _ _; capacity = omega arith; last = λ h. absurd (omega arith) }
 
 -- the first place of the walk is that of the next visit
 next_is : (r : Option ℕ) (here vs : List Visit) (k : ℕ) → r ≡ first_place here → here ≡ drop k vs → r ≡ first_place (drop k vs)
@@ -45,6 +47,9 @@ give-requires-clause-item c =
     let busy : 0 < length (get_or (queues dest rows) p []) = (rw c.unwrap-place.ensures at c.next_place.ensures.busy) in
     let here : row ≡ get_or rows p row = get_or_default rows p no_row row within in
     rw (queues_at dest rows p row within here) at busy
+
+pub give-requires-clause-named : goal.give-requires-clause-named
+give-requires-clause-named c = c.loop-step.invariant.named
 
 pub give-requires-clause-room : goal.give-requires-clause-room
 give-requires-clause-room c =
@@ -99,6 +104,7 @@ loop-step-preserved c =
       index = index;
       words = words;
       size = length-set rows p (took dest 1 row) ∙ c.loop-step.invariant.size;
+      named = named_set c.args.version rows p (slot_took dest 1) c.loop-step.invariant.named;
       within = rw length-set (omega arith);
       rows = gave_step dest p k rows c.args.slots.now.rows row vs c.loop-step.invariant.rows within here l one.place;
       rest = one.rest;
@@ -115,26 +121,15 @@ returns-in-Some-clause-cursor c =
     cursor_next n c.args.from c.loop-step._step c.in-Some.place vs (sym c.in-Some.is ∙ next_is c.next_place-2.result (walk c.loop-step.at (queues c.args.dest.number c.loop-step.slots.rows)) vs c.loop-step._step c.next_place-2.ensures.place c.loop-step.invariant.rest)
     ∙ ap (λ k. new_cursor n c.args.from k vs) e
 
-pub returns-then-at-len-clause-cursor : goal.returns-then-at-len-clause-cursor
-returns-then-at-len-clause-cursor c =
+pub returns-else-count-eq0-clause-cursor : goal.returns-else-count-eq0-clause-cursor
+returns-else-count-eq0-clause-cursor c =
     let vs = walk c.args.from (queues c.args.dest.number c.args.slots.now.rows) in
     let n = length c.args.slots.now.rows in
     let e : c.loop-step._step ≡ c.args.count = omega arith in
-    let t : c.loop-step.at == n ≡ true = eq-eqb c.loop-step.at n (omega arith) in
-    sym (ap (λ k. new_cursor n c.args.from k vs) (sym e)
-    ∙ cursor_last n c.args.from c.loop-step._step c.loop-step.at vs (sym c.in-None.is ∙ next_is c.next_place-2.result (walk c.loop-step.at (queues c.args.dest.number c.loop-step.slots.rows)) vs c.loop-step._step c.next_place-2.ensures.place c.loop-step.invariant.rest) (omega (arith, c.requires.there)) (omega arith) c.loop-step.invariant.last
-    ∙ ap (λ b. if b then 0 else c.loop-step.at) t)
-
-pub returns-else-at-len-clause-cursor : goal.returns-else-at-len-clause-cursor
-returns-else-at-len-clause-cursor c =
-    let vs = walk c.args.from (queues c.args.dest.number c.args.slots.now.rows) in
-    let n = length c.args.slots.now.rows in
-    let e : c.loop-step._step ≡ c.args.count = omega arith in
-    let ne : c.loop-step.at ≡ n → ⊥ = λ h. absurd (omega arith) in
-    let t : c.loop-step.at == n ≡ false = ne_eqb c.loop-step.at n ne in
-    sym (ap (λ k. new_cursor n c.args.from k vs) (sym e)
-    ∙ cursor_last n c.args.from c.loop-step._step c.loop-step.at vs (sym c.in-None.is ∙ next_is c.next_place-2.result (walk c.loop-step.at (queues c.args.dest.number c.loop-step.slots.rows)) vs c.loop-step._step c.next_place-2.ensures.place c.loop-step.invariant.rest) (omega (arith, c.requires.there)) (omega arith) c.loop-step.invariant.last
-    ∙ ap (λ b. if b then 0 else c.loop-step.at) t)
+    let size : c.len.result ≡ n = c.len.ensures.len ∙ c.loop-step.invariant.size in
+    c.room_after.ensures ∙ (ap (λ m. room_after m (c.loop-step.at - 1)) size
+    ∙ sym (ap (λ k. new_cursor n c.args.from k vs) (sym e)
+    ∙ cursor_last n c.args.from c.loop-step._step c.loop-step.at vs (sym c.in-None.is ∙ next_is c.next_place-2.result (walk c.loop-step.at (queues c.args.dest.number c.loop-step.slots.rows)) vs c.loop-step._step c.next_place-2.ensures.place c.loop-step.invariant.rest) (omega (arith, c.requires.there)) (omega arith) c.loop-step.invariant.last))
 
 pub returns-then-count-eq0-clause-cursor : goal.returns-then-count-eq0-clause-cursor
 returns-then-count-eq0-clause-cursor c =
@@ -185,38 +180,21 @@ returns-then-count-eq0-clause-index c = c.loop-step.invariant.index
 pub returns-then-count-eq0-clause-capacity : goal.returns-then-count-eq0-clause-capacity
 returns-then-count-eq0-clause-capacity c = c.loop-step.invariant.capacity
 
-pub returns-then-at-len-clause-rows : goal.returns-then-at-len-clause-rows
-returns-then-at-len-clause-rows c = rw (← same_count c.loop-step.auto._step-end c.loop-step-test.false) c.loop-step.invariant.rows
+pub returns-else-count-eq0-clause-rows : goal.returns-else-count-eq0-clause-rows
+returns-else-count-eq0-clause-rows c = rw (← same_count c.loop-step.auto._step-end c.loop-step-test.false) c.loop-step.invariant.rows
 
-pub returns-then-at-len-clause-written : goal.returns-then-at-len-clause-written
-returns-then-at-len-clause-written c = rw (← same_count c.loop-step.auto._step-end c.loop-step-test.false) c.loop-step.invariant.wrote.written
+pub returns-else-count-eq0-clause-written : goal.returns-else-count-eq0-clause-written
+returns-else-count-eq0-clause-written c = rw (← same_count c.loop-step.auto._step-end c.loop-step-test.false) c.loop-step.invariant.wrote.written
 
-pub returns-then-at-len-clause-fit : goal.returns-then-at-len-clause-fit
-returns-then-at-len-clause-fit c = rw (← same_count c.loop-step.auto._step-end c.loop-step-test.false) c.loop-step.invariant.wrote.fit
+pub returns-else-count-eq0-clause-fit : goal.returns-else-count-eq0-clause-fit
+returns-else-count-eq0-clause-fit c = rw (← same_count c.loop-step.auto._step-end c.loop-step-test.false) c.loop-step.invariant.wrote.fit
 
-pub returns-then-at-len-clause-len : goal.returns-then-at-len-clause-len
-returns-then-at-len-clause-len c = rw (← same_count c.loop-step.auto._step-end c.loop-step-test.false) c.loop-step.invariant.wrote.size
+pub returns-else-count-eq0-clause-len : goal.returns-else-count-eq0-clause-len
+returns-else-count-eq0-clause-len c = rw (← same_count c.loop-step.auto._step-end c.loop-step-test.false) c.loop-step.invariant.wrote.size
 
-pub returns-then-at-len-clause-index : goal.returns-then-at-len-clause-index
-returns-then-at-len-clause-index c = c.loop-step.invariant.index
+pub returns-else-count-eq0-clause-index : goal.returns-else-count-eq0-clause-index
+returns-else-count-eq0-clause-index c = c.loop-step.invariant.index
 
-pub returns-then-at-len-clause-capacity : goal.returns-then-at-len-clause-capacity
-returns-then-at-len-clause-capacity c = c.loop-step.invariant.capacity
+pub returns-else-count-eq0-clause-capacity : goal.returns-else-count-eq0-clause-capacity
+returns-else-count-eq0-clause-capacity c = c.loop-step.invariant.capacity
 
-pub returns-else-at-len-clause-rows : goal.returns-else-at-len-clause-rows
-returns-else-at-len-clause-rows c = rw (← same_count c.loop-step.auto._step-end c.loop-step-test.false) c.loop-step.invariant.rows
-
-pub returns-else-at-len-clause-written : goal.returns-else-at-len-clause-written
-returns-else-at-len-clause-written c = rw (← same_count c.loop-step.auto._step-end c.loop-step-test.false) c.loop-step.invariant.wrote.written
-
-pub returns-else-at-len-clause-fit : goal.returns-else-at-len-clause-fit
-returns-else-at-len-clause-fit c = rw (← same_count c.loop-step.auto._step-end c.loop-step-test.false) c.loop-step.invariant.wrote.fit
-
-pub returns-else-at-len-clause-len : goal.returns-else-at-len-clause-len
-returns-else-at-len-clause-len c = rw (← same_count c.loop-step.auto._step-end c.loop-step-test.false) c.loop-step.invariant.wrote.size
-
-pub returns-else-at-len-clause-index : goal.returns-else-at-len-clause-index
-returns-else-at-len-clause-index c = c.loop-step.invariant.index
-
-pub returns-else-at-len-clause-capacity : goal.returns-else-at-len-clause-capacity
-returns-else-at-len-clause-capacity c = c.loop-step.invariant.capacity

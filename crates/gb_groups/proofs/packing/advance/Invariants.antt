@@ -1,6 +1,7 @@
 use Rattle.std.proofs.Common.{◌≡◌, suc, ◌-◌, ◌<◌, ◌≤◌, length, get_or, take, drop, vec_len}
 use Rattle.std.specs.Prelude.{vec_capacity}
 use Rattle.gb_groups.specs.Packing.{queues, walk, gave}
+use Rattle.gb_groups.specs.SlotsValue.{AreNamed}
 use Rattle.gb_groups.specs.Busy.{IsBusy}
 use Rattle.gb_groups.proofs.WalkLemmas.{nowhere}
 use Rattle.gb_groups.proofs.WriteLemmas.{Wrote}
@@ -13,6 +14,7 @@ invariant-loop-step l =
       index : IsBusy l.dest.number l.busy l.slots.rows;
       words : length l.busy ≡ length l.fn.busy;
       size : length l.slots.rows ≡ length l.fn.slots.rows;
+      named : AreNamed l.version l.slots.rows;
       within : l.at ≤ length l.slots.rows;
       rows : l.slots.rows ≡ gave l.dest.number 0 (take l._step vs) l.fn.slots.rows;
       rest : walk l.at (queues l.dest.number l.slots.rows) ≡ drop l._step vs;

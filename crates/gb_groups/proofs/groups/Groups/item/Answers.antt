@@ -8,6 +8,7 @@ use Rattle.gb_frame.specs.Items.{address_of}
 use Rattle.gb_groups.specs.AtAddress.{item_came, OthersKept}
 use Rattle.gb_groups.specs.GroupsValue.{GroupsValue}
 use Rattle.gb_groups.proofs.AddressLemmas.{others_kept, item_is, place_is}
+use Rattle.gb_groups.proofs.InRoomsLemmas.{on_slot_is, rooms_set}
 use Rattle.gb_groups.proofs.IndexLemmas.{index_but, index_as_many, places_unchanged}
 use Rattle.gb_groups.proofs.MemberLemmas.{memberships_step}
 use Rattle.gb_slot.proofs.SpecLemmas.{spec-came, reaches-came}
@@ -50,6 +51,7 @@ invariant_of-self c =
       c.note_put_out.ensures.index,
       rw c.came.ensures.rows (memberships_step step rows c.self.inside.memberships p (spec-came c.args.from x) c.self.invariant.2),
       covered_kept c.self.inside.memberships c.self.inside.busy c.note_put_out.new.busy c.self.invariant.3 c.note_put_out.ensures.words,
+      rw c.came.ensures.rows (rooms_set c.self.inside.rooms.entries rows p (on_slot step) (on_slot_is step) c.self.invariant.4),
     )
 
 pub invariant_of-self-else-came : goal.invariant_of-self-else-came
@@ -59,7 +61,7 @@ invariant_of-self-else-came c =
     let x : Entry = record { origin = c.in-Some.origin; seq = c.args.item.seq; payload = c.args.item.payload.now } in
     let row = on_slot (slot_came c.args.from x) (row_at rows p) in
     let within = (place_is (address_of (view_item c.args.item)) rows p c.in-Some-find.ensures.place).0 in
-    rw c.came.ensures.rows (places_unchanged rows c.self.inside.cursors p row c.self.invariant.0, index_as_many rows c.self.inside.busy p row within c.self.invariant.1 (c.came.ensures.unchanged c.if-came.false), memberships_step (slot_came c.args.from x) rows c.self.inside.memberships p (spec-came c.args.from x) c.self.invariant.2, c.self.invariant.3)
+    rw c.came.ensures.rows (places_unchanged rows c.self.inside.cursors p row c.self.invariant.0, index_as_many rows c.self.inside.busy p row within c.self.invariant.1 (c.came.ensures.unchanged c.if-came.false), memberships_step (slot_came c.args.from x) rows c.self.inside.memberships p (spec-came c.args.from x) c.self.invariant.2, c.self.invariant.3, rooms_set c.self.inside.rooms.entries rows p (on_slot (slot_came c.args.from x)) (on_slot_is (slot_came c.args.from x)) c.self.invariant.4)
 
 pub returns-else-came-clause-rows : goal.returns-else-came-clause-rows
 returns-else-came-clause-rows c =

@@ -14,11 +14,11 @@ measure-requires-clause-index c =
 
 pub returns-clause-count : goal.returns-clause-count
 returns-clause-count c =
-    count_is c.args.version c.args.dest.number c.index-to.result c.args.room _ (record { rows = c.self.inside.slots.rows; cursors = c.self.inside.cursors }) c.args.self.now c.index-to.ensures.value c.measure.ensures.count c.self.view_is
+    count_is c.args.version c.args.dest.number c.index-to.result c.args.room _ (record { rooms = c.self.inside.rooms.entries; rows = c.self.inside.slots.rows; cursors = c.self.inside.cursors }) c.args.self.now c.index-to.ensures.value c.measure.ensures.count c.self.view_is
 
 pub returns-clause-bytes : goal.returns-clause-bytes
 returns-clause-bytes c =
-    bytes_is c.args.version c.args.dest.number c.index-to.result c.args.room _ (record { rows = c.self.inside.slots.rows; cursors = c.self.inside.cursors }) c.args.self.now c.index-to.ensures.value c.measure.ensures.bytes c.self.view_is
+    bytes_is c.args.version c.args.dest.number c.index-to.result c.args.room _ (record { rooms = c.self.inside.rooms.entries; rows = c.self.inside.slots.rows; cursors = c.self.inside.cursors }) c.args.self.now c.index-to.ensures.value c.measure.ensures.bytes c.self.view_is
 
 pub returns-clause-most : goal.returns-clause-most
 returns-clause-most c =

@@ -7,7 +7,7 @@ use Rattle.gb_groups.proofs.MemberLemmas.{member_in, unnoticed, noticed_all}
 use Rattle.gb_groups.proofs.groups.Groups.notice.Goals as goal
 
 pub loop-place-init : goal.loop-place-init
-loop-place-init c = record { length = refl; before = λ p h. absurd (omega arith); later = λ p h. refl; cursors = refl }
+loop-place-init c = record { length = refl; before = λ p h. absurd (omega arith); later = λ p h. refl; rooms = refl; cursors = refl }
 
 pub loop-place-preserved : goal.loop-place-preserved
 loop-place-preserved c =
@@ -34,6 +34,7 @@ loop-place-preserved c =
         ]
       ];
       later = λ p h. let ne : p ≢ place = omega arith in let a = next.after in other p ne ∙ i.later p (omega arith);
+      rooms = c.notice_at.ensures.rooms ∙ i.rooms;
       cursors = c.notice_at.ensures.cursors ∙ i.cursors;
     }
 

@@ -8,6 +8,7 @@ invariant-loop-place l = record {
   length : length l.self.rows ≡ length l.fn.self.rows;
   before : (p : ℕ) → p < l.from → row_at l.self.rows p ≡ on_slot (slot_noticed l.who) (row_at l.fn.self.rows p);
   later : (p : ℕ) → l.from ≤ p → row_at l.self.rows p ≡ row_at l.fn.self.rows p;
+  rooms : l.self.rooms ≡ l.fn.self.rooms;
   cursors : l.self.cursors ≡ l.fn.self.cursors;
 }
 

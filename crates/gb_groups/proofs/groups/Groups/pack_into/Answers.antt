@@ -9,6 +9,8 @@ use Rattle.gb_groups.proofs.TakingLemmas.{length-gave, queues-gave}
 use Rattle.gb_groups.proofs.BatchLemmas.{is_longest, packed_at, taken_is, count_from, places-kept, fit-front}
 use Rattle.gb_groups.proofs.FrontLemmas.{is_front}
 use Rattle.gb_groups.proofs.CoveredLemmas.{covered_written}
+use Rattle.gb_groups.specs.Rooms.{AreInRooms}
+use Rattle.gb_groups.proofs.InRoomsLemmas.{rooms_gave}
 use Rattle.gb_groups.proofs.IndexLemmas.{index_at, index_changed}
 use Rattle.gb_groups.proofs.MemberLemmas.{memberships_gave}
 use Rattle.gb_groups.proofs.groups.Groups.pack_into.Goals as goal
@@ -20,13 +22,13 @@ advance-requires-clause-index c =
 pub advance-requires-clause-there : goal.advance-requires-clause-there
 advance-requires-clause-there c =
     let W = walk (get_or c.self.inside.cursors c.index-to.result 0) (queues c.args.dest.number c.self.inside.slots.rows) in
-    let k = count_from c.args.version c.args.dest.number c.index-to.result c.args.room c.args.count (record { rows = c.self.inside.slots.rows; cursors = c.self.inside.cursors }) c.args.self.now c.index-to.ensures.value c.self.view_is c.requires.count in
+    let k = count_from c.args.version c.args.dest.number c.index-to.result c.args.room c.args.count (record { rooms = c.self.inside.rooms.entries; rows = c.self.inside.slots.rows; cursors = c.self.inside.cursors }) c.args.self.now c.index-to.ensures.value c.self.view_is c.requires.count in
     omega (arith, k, (fit-front c.args.version c.args.room W).0)
 
 pub advance-requires-clause-capacity : goal.advance-requires-clause-capacity
 advance-requires-clause-capacity c =
     let dest = c.args.dest.number in
-    let T : GroupsValue = record { rows = c.self.inside.slots.rows; cursors = c.self.inside.cursors } in
+    let T : GroupsValue = record { rooms = c.self.inside.rooms.entries; rows = c.self.inside.slots.rows; cursors = c.self.inside.cursors } in
     let k = count_from c.args.version dest c.index-to.result c.args.room c.args.count T c.args.self.now c.index-to.ensures.value c.self.view_is c.requires.count in
     let taken = taken_is c.args.version dest c.index-to.result c.args.room c.args.count T c.args.self.now c.index-to.ensures.value k c.self.view_is in
     let sum = ap (λ (us : List Visit). sum_by (size c.args.version) us) taken in
@@ -44,12 +46,13 @@ invariant_of-self c =
       index_changed rows new c.self.inside.busy c.index-to.result dest c.advance.new.busy c.self.invariant.1 c.index-to.ensures.value c.advance.ensures.index size others c.args.dest.below,
       subst (λ (rs : List Row). AreMemberships rs c.self.inside.memberships) (sym c.advance.ensures.rows) (memberships_gave dest vs rows c.self.inside.memberships c.self.invariant.2),
       covered_written c.self.inside.memberships c.self.inside.busy c.index-to.result c.advance.new.busy c.index-self-to.result (let n = c.self.invariant.1.size in omega (arith, c.index-to.ensures.bound)) c.self.invariant.3 c.advance.ensures.words,
+      subst (AreInRooms c.self.inside.rooms.entries) (sym c.advance.ensures.rows) (rooms_gave c.self.inside.rooms.entries dest vs rows c.self.invariant.4),
     )
 
 pub returns-clause-written : goal.returns-clause-written
 returns-clause-written c =
     let dest = c.args.dest.number in
-    let T : GroupsValue = record { rows = c.self.inside.slots.rows; cursors = c.self.inside.cursors } in
+    let T : GroupsValue = record { rooms = c.self.inside.rooms.entries; rows = c.self.inside.slots.rows; cursors = c.self.inside.cursors } in
     let k = count_from c.args.version dest c.index-to.result c.args.room c.args.count T c.args.self.now c.index-to.ensures.value c.self.view_is c.requires.count in
     let taken = taken_is c.args.version dest c.index-to.result c.args.room c.args.count T c.args.self.now c.index-to.ensures.value k c.self.view_is in
     c.advance.ensures.written ∙ ap (λ (us : List Visit). c.args.out.now.items ++ items_text c.args.version (items T.rows us)) taken
@@ -58,7 +61,7 @@ returns-clause-written c =
 pub returns-clause-fit : goal.returns-clause-fit
 returns-clause-fit c =
     let dest = c.args.dest.number in
-    let T : GroupsValue = record { rows = c.self.inside.slots.rows; cursors = c.self.inside.cursors } in
+    let T : GroupsValue = record { rooms = c.self.inside.rooms.entries; rows = c.self.inside.slots.rows; cursors = c.self.inside.cursors } in
     let k = count_from c.args.version dest c.index-to.result c.args.room c.args.count T c.args.self.now c.index-to.ensures.value c.self.view_is c.requires.count in
     let taken = taken_is c.args.version dest c.index-to.result c.args.room c.args.count T c.args.self.now c.index-to.ensures.value k c.self.view_is in
     subst (λ (v : GroupsValue). All (IsItem c.args.version) (items v.rows (batch c.args.version dest c.args.room c.args.self.now))) c.self.view_is
@@ -67,7 +70,7 @@ returns-clause-fit c =
 pub returns-clause-len : goal.returns-clause-len
 returns-clause-len c =
     let dest = c.args.dest.number in
-    let T : GroupsValue = record { rows = c.self.inside.slots.rows; cursors = c.self.inside.cursors } in
+    let T : GroupsValue = record { rooms = c.self.inside.rooms.entries; rows = c.self.inside.slots.rows; cursors = c.self.inside.cursors } in
     let k = count_from c.args.version dest c.index-to.result c.args.room c.args.count T c.args.self.now c.index-to.ensures.value c.self.view_is c.requires.count in
     let taken = taken_is c.args.version dest c.index-to.result c.args.room c.args.count T c.args.self.now c.index-to.ensures.value k c.self.view_is in
     let sum = ap (λ (us : List Visit). sum_by (size c.args.version) us) taken in
@@ -75,7 +78,7 @@ returns-clause-len c =
 
 pub returns-clause-state : goal.returns-clause-state
 returns-clause-state c =
-    let T : GroupsValue = record { rows = c.self.inside.slots.rows; cursors = c.self.inside.cursors } in
+    let T : GroupsValue = record { rooms = c.self.inside.rooms.entries; rows = c.self.inside.slots.rows; cursors = c.self.inside.cursors } in
     let k = count_from c.args.version c.args.dest.number c.index-to.result c.args.room c.args.count T c.args.self.now c.index-to.ensures.value c.self.view_is c.requires.count in
     packed_at c.args.version c.args.dest.number c.index-to.result c.args.room c.args.count c.advance.result T c.advance.new.slots.rows c.index-to.ensures.value k c.advance.ensures.rows c.advance.ensures.cursor
     ∙ ap (packed c.args.version c.args.dest.number c.args.room) c.self.view_is
