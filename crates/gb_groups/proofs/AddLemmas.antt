@@ -213,8 +213,8 @@ roomed p es slots kept =
       | inr e ↦ record {
         kept = subst (λ b. AreKept (cond b es (with_vacant_entry three)) slots) (sym e) (kept_vacant three slots kept_three);
         rows = ap (λ b. map (row_of slots) (cond b es (with_vacant_entry three))) e
-        ∙ (rows_vacant slots three ∙ ap with_vacant (rows_vacant slots two ∙ ap with_vacant (rows_vacant slots one ∙ ap with_vacant (rows_vacant slots es))))
-        ∙ sym (ap (λ b. cond b rows (with_vacant (with_vacant (with_vacant (with_vacant rows))))) (sym same ∙ e));
+            ∙ (rows_vacant slots three ∙ ap with_vacant (rows_vacant slots two ∙ ap with_vacant (rows_vacant slots one ∙ ap with_vacant (rows_vacant slots es))))
+            ∙ sym (ap (λ b. cond b rows (with_vacant (with_vacant (with_vacant (with_vacant rows))))) (sym same ∙ e));
       }
     ]
 

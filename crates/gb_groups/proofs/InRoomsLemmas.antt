@@ -57,7 +57,7 @@ row_changed addr change (r ∷ rows) (suc p) =
       | inl e ↦ inl (ap (λ b. row_at (if b then change r ∷ rows else r ∷ changed addr change rows) (suc p)) e)
       | inr e ↦
           let at = ap (λ b. row_at (if b then change r ∷ rows else r ∷ changed addr change rows) (suc p)) e in
-          elim (row_changed addr change rows p) [ | inl w ↦ inl (at ∙ w) | inr w ↦ inr (at ∙ w) ]
+          elim (row_changed addr change rows p) [ inl w ↦ inl (at ∙ w) | inr w ↦ inr (at ∙ w) ]
     ]
 
 length-changed : (addr : Addr) (change : Row → Row) (rows : List Row) → length (changed addr change rows) ≡ length rows
@@ -197,7 +197,7 @@ block_counts addr r rooms rows ok e =
       | inl m ↦
           let rank : Some r ≡ Some (k / GENERATIONS) = sym e ∙ counted_rank addr rooms rows k ok l m in
           let s : r ≡ k / GENERATIONS = cc in
-          elim h [ | inl a ↦ absurd (omega arith) | inr a ↦ absurd (omega arith) ]
+          elim h [ inl a ↦ absurd (omega arith) | inr a ↦ absurd (omega arith) ]
       | inr m ↦ m
     ] in
     let same : (k : ℕ) → k < GENERATIONS → t (row_at rows (GENERATIONS * r + k)) ≡ u (row_at rows (GENERATIONS * r + k)) = λ k l.
@@ -209,10 +209,10 @@ block_counts addr r rooms rows ok e =
     ]) in
     count_block t rows (GENERATIONS * r) GENERATIONS no_row off
     ∙ count_same t u (take GENERATIONS (drop (GENERATIONS * r) rows)) no_row (λ k l.
-        let n = length-drop (GENERATIONS * r) rows in
-        let m = length-take GENERATIONS (drop (GENERATIONS * r) rows) in
-        let at = get_or-take GENERATIONS (drop (GENERATIONS * r) rows) k no_row (omega arith) ∙ get_or-drop (GENERATIONS * r) rows k no_row in
-        ap t at ∙ (same k (omega arith) ∙ sym (ap u at)))
+    let n = length-drop (GENERATIONS * r) rows in
+    let m = length-take GENERATIONS (drop (GENERATIONS * r) rows) in
+    let at = get_or-take GENERATIONS (drop (GENERATIONS * r) rows) k no_row (omega arith) ∙ get_or-drop (GENERATIONS * r) rows k no_row in
+    ap t at ∙ (same k (omega arith) ∙ sym (ap u at)))
 
 -- nobody lives in a room that was not begun
 pub none_counts : (addr : Addr) (rooms : List (Addr × ℕ)) (rows : List Row) → AreInRooms rooms rows → rank_of addr rooms ≡ None → others_living addr rows ≡ 0

@@ -32,8 +32,7 @@ extends_one : (rows more : List Row) → Extends rows more → Extends rows (wit
 unfolding AtEnd
 extends_one rows more w =
     let n = length-append more (vacant (length more) ∷ []) in
-    let l = w.0 in
-    (
+    let l = w.0 in (
       omega arith,
       λ p h. elim (at_end more (vacant (length more)) no_row p) [
         | inl x ↦ x.1 ∙ w.1 p h
@@ -136,7 +135,7 @@ some_not (Some s) e = absurd (cc)
 -- one of four places is free, or all are taken
 free_or_all : (rows : List Row) (from : ℕ) → ((k : ℕ) × (k < GENERATIONS) × ((row_at rows (from + k)).slot ≡ None)) ⊎ ((k : ℕ) → k < GENERATIONS → is_some (row_at rows (from + k)).slot ≡ true)
 free_or_all rows from =
-    let test : (k : ℕ) → ((row_at rows (from + k)).slot ≡ None) ⊎ (is_some (row_at rows (from + k)).slot ≡ true) = λ k. elim (cases_Bool (is_some (row_at rows (from + k)).slot)) [ | inl e ↦ inr e | inr e ↦ inl (some_not (row_at rows (from + k)).slot e) ] in
+    let test : (k : ℕ) → ((row_at rows (from + k)).slot ≡ None) ⊎ (is_some (row_at rows (from + k)).slot ≡ true) = λ k. elim (cases_Bool (is_some (row_at rows (from + k)).slot)) [ inl e ↦ inr e | inr e ↦ inl (some_not (row_at rows (from + k)).slot e) ] in
     elim (test 0) [
       | inl e ↦ inl (0, omega arith, e)
       | inr a ↦ elim (test 1) [
@@ -225,10 +224,14 @@ takes_place addr t ok can = by (rank_of addr t.rooms) refl
 
 kept_in_room : (addr : Addr) (rooms : List (Addr × ℕ)) (p : ℕ) (row : Row) → is_passed addr rooms ≡ false → IsInRoom rooms p row → IsInRoom (with_made addr rooms) p row
 kept_in_room addr rooms p row fresh (inr w) = inr w
-kept_in_room addr rooms p row fresh (inl w) = inl (w.0, rank_kept 0 (p / GENERATIONS) row.addr addr rooms w.1, elim (cases_Bool (is_same_room row.addr addr)) [
-  | inl e ↦ passed_same row.addr addr rooms e ∙ (let l = passed_before row.addr addr rooms e w.2 fresh in grind (arith, nat_tests))
-  | inr e ↦ passed_other row.addr addr rooms e ∙ w.2
-])
+kept_in_room addr rooms p row fresh (inl w) = inl (
+  w.0,
+  rank_kept 0 (p / GENERATIONS) row.addr addr rooms w.1,
+  elim (cases_Bool (is_same_room row.addr addr)) [
+    | inl e ↦ passed_same row.addr addr rooms e ∙ (let l = passed_before row.addr addr rooms e w.2 fresh in grind (arith, nat_tests))
+    | inr e ↦ passed_other row.addr addr rooms e ∙ w.2
+  ],
+)
 
 zeros_are : (rooms : List (Addr × ℕ)) (rows : List Row) → AreInRooms rooms rows → (p : ℕ) → p < length rows → (row_at rows p).addr.tenant ≡ 0 → (row_at rows p).addr ≡ (vacant p).addr
 zeros_are rooms rows ok p l none =

@@ -182,12 +182,12 @@ count_block t [] (suc from) (suc n) d off = refl
 count_block t (x ∷ xs) zero zero d off = count_none t (x ∷ xs) d (λ k l. off k l (inr (omega arith)))
 count_block t (x ∷ xs) zero (suc n) d off =
     count_by-cons t x xs
-    ∙ (ap (λ m. flag (t x) + m) (count_block t xs zero n d (λ k l h. off (suc k) (omega arith) (elim h [ | inl a ↦ absurd (omega arith) | inr a ↦ inr (omega arith) ])))
+    ∙ (ap (λ m. flag (t x) + m) (count_block t xs zero n d (λ k l h. off (suc k) (omega arith) (elim h [ inl a ↦ absurd (omega arith) | inr a ↦ inr (omega arith) ])))
     ∙ sym (count_by-cons t x (take n xs)))
 count_block t (x ∷ xs) (suc from) n d off =
     count_by-cons t x xs
     ∙ (ap (λ b. flag b + count_by t xs) (off 0 (omega arith) (inl (omega arith))) ∙ zero-add (count_by t xs)
-    ∙ count_block t xs from n d (λ k l h. off (suc k) (omega arith) (elim h [ | inl a ↦ inl (omega arith) | inr a ↦ inr (omega arith) ])))
+    ∙ count_block t xs from n d (λ k l h. off (suc k) (omega arith) (elim h [ inl a ↦ inl (omega arith) | inr a ↦ inr (omega arith) ])))
 
 -- two tests that agree on the elements count the same
 pub count_same : {X : Type 0} (t u : X → Bool) (xs : List X) (d : X) → ((k : ℕ) → k < length xs → t (get_or xs k d) ≡ u (get_or xs k d)) → count_by t xs ≡ count_by u xs

@@ -197,4 +197,3 @@ returns-else-count-eq0-clause-index c = c.loop-step.invariant.index
 
 pub returns-else-count-eq0-clause-capacity : goal.returns-else-count-eq0-clause-capacity
 returns-else-count-eq0-clause-capacity c = c.loop-step.invariant.capacity
-
