@@ -1,10 +1,9 @@
 -- A group is made at a place.
-use Rattle.std.proofs.Common.{◌≡◌, ◌≢◌, ℕ, zero, suc, ◌<◌, ◌≤◌, ◌+◌, ◌-◌, List, [], ◌∷◌, ◌++◌, length, map, take, get_or, refl, ap, sym, ◌∙◌, subst, true, false, arith, inl, inr, length-append}
-use Rattle.std.specs.Prelude.{◌⊎◌, Bool, cond, not, nat_lt, swap_remove, Option, Some, None, IsSome, position}
+use Rattle.std.proofs.Common.{◌≡◌, ◌≢◌, ℕ, zero, suc, ◌<◌, ◌-◌, List, [], ◌∷◌, ◌++◌, length, map, take, get_or, refl, ap, sym, ◌∙◌, subst, true, false, arith, inl, inr, length-append}
+use Rattle.std.specs.Prelude.{◌⊎◌, Bool, cond, nat_lt, swap_remove, Option, Some, None, IsSome}
 use Rattle.std.proofs.Math.ListN.{set}
 use Rattle.std.proofs.lemmas.List.{length-map, length-set, map-append, map-set, get_or-set_same, get_or-set_other}
-use Rattle.std.specs.List.{position_or_len}
-use Rattle.std.proofs.lemmas.Bool.{cases_Bool, cases_eq, cases_lt, lt-ltb}
+use Rattle.std.proofs.lemmas.Bool.{cases_Bool, cases_eq}
 use Rattle.indexmap.specs.IndexMap.{insert_entry}
 use Rattle.slab.specs.Slab.{Slab, get}
 use Rattle.gb_types.specs.declared.address.Addr.{Addr}
@@ -57,11 +56,6 @@ pub map-same : {X : Type 0} (f : Addr → Option SlotState → X) (old new : Sla
 map-same f old new [] h = refl
 map-same f old new (e ∷ es) h = rw (same_under old new e.1 (h zero), map-same f old new es (λ q. h (suc q))) refl
 
--- what is made of the groups, with one more
-pub map-grown : {X : Type 0} (f : Addr → Option SlotState → X) (old new : Slab SlotState) (key : ℕ) (v : SlotState) (addr : Addr) (es : List (Addr × Place)) → Grows old new key v → AreKept es old → map (made_of f new) (es ++ (addr, Key key) ∷ []) ≡ map (made_of f old) es ++ f addr (Some v) ∷ []
-map-grown f old new key v addr es g kept =
-    map-append (made_of f new) es ((addr, Key key) ∷ []) ∙ ap (λ xs. xs ++ f addr (get new key) ∷ []) (map-same f old new es (kept_under old new key v es g kept)) ∙ ap (λ o. map (made_of f old) es ++ f addr o ∷ []) g.here
-
 pub key_same : (k j : ℕ) → Key k ≡ Key j → k ≡ j
 key_same k j e = cc
 
@@ -87,26 +81,6 @@ end_short rows row all h = record {
 
 same_test : (addr a : Addr) → a ≡ addr → is_addr addr a ≡ true
 same_test addr a e = addr_same addr a (sym e)
-
-past_end : (n l : ℕ) → cond (nat_lt n l) (Some n) None ≡ None → l ≤ n
-past_end n l e =
-    elim (cases_lt n l) [
-      | inl h ↦ let s : Some n ≡ None = sym (ap (λ b. cond b (Some n) None) (lt-ltb n l h)) ∙ e in absurd (cc)
-      | inr h ↦ h
-    ]
-
-fails_first : (b : Bool) (n l : ℕ) → l + 1 ≤ cond (not b) (1 + n) 0 → (b ≡ false) × (l ≤ n)
-fails_first true n l h = absurd (omega arith)
-fails_first false n l h = (refl, omega arith)
-
-pub none_pass : (t : Row → Bool) (rows : List Row) (p : ℕ) → length rows ≤ position_or_len t rows → p < length rows → t (row_at rows p) ≡ false
-none_pass t [] p h l = absurd (omega arith)
-none_pass t (row ∷ rows) zero h l = (fails_first (t row) (position_or_len t rows) (length rows) (omega (arith, h))).0
-none_pass t (row ∷ rows) (suc p) h l = none_pass t rows p (fails_first (t row) (position_or_len t rows) (length rows) (omega (arith, h))).1 (omega arith)
-
--- no group has an address that has no place
-pub none_has : (addr : Addr) (rows : List Row) (p : ℕ) → position (λ (row : Row). is_addr addr row.addr) rows ≡ None → p < length rows → is_addr addr (row_at rows p).addr ≡ false
-none_has addr rows p none h = none_pass (λ (row : Row). is_addr addr row.addr) rows p (past_end _ _ none) h
 
 -- no place has an address that none of the groups has
 no_such : (addr : Addr) (rows : List Row) (p : ℕ) → ((q : ℕ) → q < length rows → is_addr addr (row_at rows q).addr ≡ false) → p < length rows → (row_at rows p).addr ≡ addr → ⊥
@@ -342,15 +316,6 @@ swap-last es p e d l =
     ∙ (ap (λ x. take (length es) (set (es ++ e ∷ []) p x)) (get_last es e d)
     ∙ (ap (take (length es)) (set_front es p e e l)
     ∙ (ap (λ k. take k (set es p e ++ e ∷ [])) (sym m) ∙ take_front (set es p e) e)))
-
--- the entries with the address of no tenant are vacant after one more was added
-pub vacant_added : (es : List (Addr × Place)) → AreVacantEntries es → AreVacantEntries (with_vacant_entry es)
-unfolding AtEnd
-vacant_added es all q l none = elim (at_end es (vacant_entry (length es)) no_entry_at q) [
-  | inl w ↦ ap (λ (e : Addr × Place). e.0) w.1 ∙ all q w.0 (sym (ap (λ (e : Addr × Place). e.0.tenant) w.1) ∙ none)
-  | inr (inl w) ↦ ap (λ (e : Addr × Place). e.0) w.1 ∙ ap (λ n. (vacant n).addr) (sym w.0)
-  | inr (inr w) ↦ let n = length-append es (vacant_entry (length es) ∷ []) in let h = w.0 in absurd (omega arith)
-]
 
 -- no entry has the address of the next vacant place
 pub vacant_others : (es : List (Addr × Place)) → AreVacantEntries es → AreOthers (vacant (length es)).addr es

@@ -1,8 +1,6 @@
 -- The effect of each step on each group by itself.
-use Rattle.std.proofs.Common.{◌≡◌, ℕ, List, [], ◌∷◌, length, map, take, refl, ap, sym, ◌∙◌, true, false, arith}
-use Rattle.std.specs.Prelude.{Bool, not, ◌&&◌, nat_lt, fold, Option, Some, None, option_map, if◌then◌else◌}
-use Rattle.gb_types.specs.declared.address.Addr.{Addr}
-use Rattle.gb_types.specs.declared.entry.Entry.{Entry}
+use Rattle.std.proofs.Common.{◌≡◌, ℕ, List, [], ◌∷◌, length, map, take, refl, ap, sym, ◌∙◌, true, false}
+use Rattle.std.specs.Prelude.{Bool, not, ◌&&◌, nat_lt, fold, Option, Some, None}
 use Rattle.gb_types.specs.declared.limits.TheConstants.{NODES}
 use Rattle.gb_types.specs.declared.node.NodeId.{NodeId}
 use Rattle.gb_types.specs.declared.version.Version.{Version}
@@ -13,13 +11,12 @@ use Rattle.gb_rules.specs.Group.{is_too_long}
 use Rattle.gb_rules.specs.Lifetime.{stepped, dropped, where_so}
 use Rattle.gb_slot.specs.Slot.{slot_came, slot_took}
 use Rattle.gb_slot.specs.SlotState.{SlotState}
-use Rattle.gb_groups.specs.SlotsValue.{Row, row_at, on_slot, AreApart}
-use Rattle.gb_groups.specs.GroupsValue.{GroupsValue, batch, packed}
+use Rattle.gb_groups.specs.GroupsValue.{batch}
 use Rattle.gb_groups.specs.Packing.{items}
-use Rattle.gb_groups.specs.AtAddress.{place_of, on_address, drop_at, item_came}
-use Rattle.gb_groups.specs.OneGroup.{slot_for, or_passed, group_in, came_for, waiting_in, with_rows, AreInOrder, EachGroup, EachCount, StayInOrder}
-use Rattle.gb_groups.specs.Rooms.{is_passed, AreInRooms}
-use Rattle.gb_groups.proofs.OneGroupLemmas.{first_with, group_first, stepped_in, dropped_in, all_in, came_in, front_at, packed_in, apart_stepped, apart_dropped, apart_all, apart_packed}
+use Rattle.gb_groups.specs.AtAddress.{place_of}
+use Rattle.gb_groups.specs.OneGroup.{slot_for, or_passed, came_for, waiting_in, EachGroup, EachCount, StayInOrder}
+use Rattle.gb_groups.specs.Rooms.{is_passed}
+use Rattle.gb_groups.proofs.OneGroupLemmas.{group_first, stepped_in, dropped_in, all_in, came_in, front_at, packed_in, apart_stepped, apart_dropped, apart_all, apart_packed}
 use Rattle.gb_groups.proofs.InRoomsLemmas.{living_passed, rooms_stepped, rooms_dropped, rooms_all, rooms_gave}
 use Rattle.gb_groups.proofs.OthersLemmas.{others_stepped, others_all, others_gave, others_arrived, others_dropped}
 use Rattle.gb_groups.proofs.MadeLemmas.{group_made, stay_made, count_made}

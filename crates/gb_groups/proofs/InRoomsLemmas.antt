@@ -1,25 +1,21 @@
 -- Each place is one of its room.
-use Rattle.std.proofs.Common.{◌≡◌, ◌≢◌, ℕ, zero, suc, ◌+◌, ◌*◌, ◌<◌, ◌≤◌, List, [], ◌∷◌, ◌++◌, length, map, get_or, refl, ap, sym, ◌∙◌, subst, true, false, arith, inl, inr, length-append}
-use Rattle.std.specs.Prelude.{◌⊎◌, ◌/◌, ◌&&◌, Bool, cond, count_by, take, drop, not, nat_lt, nat_le, Option, Some, None, is_some, option_map, if◌then◌else◌}
+use Rattle.std.proofs.Common.{◌≡◌, ℕ, zero, suc, ◌+◌, ◌*◌, ◌<◌, ◌≤◌, List, [], ◌∷◌, length, map, refl, ap, sym, ◌∙◌, subst, true, false, arith, inl, inr}
+use Rattle.std.specs.Prelude.{◌⊎◌, ◌/◌, ◌&&◌, Bool, count_by, take, drop, not, nat_lt, Option, Some, None, is_some, option_map, if◌then◌else◌}
 use Rattle.std.proofs.Math.ListN.{set, get_or-map}
-use Rattle.std.proofs.lemmas.Bool.{cases_Bool, cases_eq, cases_lt, lt-ltb, le-ltb, ltb-true}
-use Rattle.std.proofs.lemmas.Bool.Decides.{nat_tests}
+use Rattle.std.proofs.lemmas.Bool.{cases_Bool, cases_eq}
 use Rattle.std.proofs.lemmas.List.{get_or-drop, get_or-take, get_or-set_same, get_or-set_other, length-drop, length-take, length-set, length-map}
 use Rattle.gb_types.specs.declared.address.Addr.{Addr}
-use Rattle.gb_types.specs.declared.version.Version.{Version}
 use Rattle.gb_rules.specs.Address.{is_addr}
-use Rattle.gb_rules.specs.Room.{name_of, is_same_room, is_other_generation}
+use Rattle.gb_rules.specs.Room.{is_same_room, is_other_generation}
 use Rattle.gb_rules.specs.declared.room.TheConstants.{GENERATIONS}
-use Rattle.gb_rules.proofs.AddressLemmas.{addr_is, addr_same}
-use Rattle.gb_slot.specs.Slot.{slot_took}
+use Rattle.gb_rules.proofs.AddressLemmas.{addr_is}
 use Rattle.gb_slot.specs.SlotState.{SlotState}
-use Rattle.gb_groups.specs.SlotsValue.{Row, row_at, no_row, vacant, is_used, with_vacant, with_room, on_slot, gone, AreApart}
-use Rattle.gb_groups.specs.GroupsValue.{GroupsValue, made, batch, packed}
+use Rattle.gb_groups.specs.SlotsValue.{Row, row_at, no_row, vacant, on_slot, gone}
+use Rattle.gb_groups.specs.GroupsValue.{GroupsValue}
 use Rattle.gb_groups.specs.Packing.{Visit, gave, share, took}
 use Rattle.gb_groups.specs.AtAddress.{place_of, on_address, drop_at}
-use Rattle.gb_groups.specs.OneGroup.{slot_for, or_passed, group_in, AreInOrder, CanBeMade}
-use Rattle.gb_groups.specs.Rooms.{rank_from, rank_of, is_passed, with_made, first_free, free_place, is_living_other, others_living, IsInRoom, AreInRooms}
-use Rattle.gb_groups.proofs.AddLemmas.{at_end, AtEnd}
+use Rattle.gb_groups.specs.OneGroup.{slot_for, or_passed, CanBeMade}
+use Rattle.gb_groups.specs.Rooms.{rank_of, is_passed, is_living_other, others_living, IsInRoom, AreInRooms}
 use Rattle.gb_groups.proofs.AddressLemmas.{place_is}
 use Rattle.gb_groups.proofs.BatchLemmas.{get_or-gave}
 use Rattle.gb_groups.proofs.TakingLemmas.{length-gave}

@@ -117,6 +117,3 @@ index_grown rows busy row ok few none = record {
     each = λ p. (ok.each d h).each p ∙ sym (ap (λ (qs : List (List Entry)). min 1 (length (get_or qs p []))) (map-append (queue d) rows (row ∷ [])) ∙ ap (λ (q : List Entry). min 1 (length (get_or (queues d rows ++ q ∷ []) p []))) (none d) ∙ ap (λ (q : List Entry). min 1 (length q)) (get_or-none (queues d rows) p));
   };
 }
-
-pub places_grown : (rows : List Row) (cursors : List ℕ) (row : Row) → ArePlaces rows cursors → ArePlaces (rows ++ row ∷ []) cursors
-places_grown rows cursors row ok = record { size = ok.size; within = λ d. let n = length-append rows (row ∷ []) in let h = ok.within d in omega arith }

@@ -1,5 +1,5 @@
 -- Groups that live at a place, and those that do not live here.
-use Rattle.std.proofs.Common.{◌≡◌, ℕ, zero, suc, ◌+◌, ◌<◌, List, [], ◌∷◌, length, get_or, refl, ap, sym, ◌∙◌, true, false, arith, inl, inr}
+use Rattle.std.proofs.Common.{◌≡◌, ℕ, suc, ◌+◌, List, [], ◌∷◌, length, refl, ap, sym, ◌∙◌, true, false, arith, inl, inr}
 use Rattle.std.specs.Prelude.{Bool, cond, not, nat_lt, nat_le, Option, Some, None, is_some, option_map, position, if◌then◌else◌}
 use Rattle.std.specs.List.{position_or_len}
 use Rattle.std.specs.Map.{keys_of, lookup}
@@ -12,11 +12,11 @@ use Rattle.gb_rules.specs.Address.{is_addr}
 use Rattle.gb_rules.specs.Group.{Shown, absent_answer}
 use Rattle.gb_rules.specs.Room.{name_of}
 use Rattle.gb_slot.specs.SlotState.{SlotState}
-use Rattle.gb_groups.specs.SlotsValue.{Row, row_at, on_slot, gone, unless_gone, no_row}
+use Rattle.gb_groups.specs.SlotsValue.{Row, row_at, unless_gone, no_row}
 use Rattle.gb_groups.specs.AtAddress.{place_of, if_living, living_place, step_at, on_address, gone_at, drop_at}
 use Rattle.gb_groups.specs.GroupsValue.{GroupsValue}
-use Rattle.gb_groups.specs.OneGroup.{slot_for, or_passed, group_in, answer_in, group_reply}
-use Rattle.gb_groups.specs.Rooms.{rank_from, rank_of, is_passed, with_made}
+use Rattle.gb_groups.specs.OneGroup.{slot_for, or_passed, answer_in, group_reply}
+use Rattle.gb_groups.specs.Rooms.{rank_from, rank_of, is_passed}
 
 -- a place where a group lives is that of its address
 pub lives_at : (addr : Addr) (rows : List Row) (p : ℕ) → Some p ≡ living_place addr rows → (Some p ≡ place_of addr rows) × (is_some (row_at rows p).slot ≡ true)
@@ -29,12 +29,6 @@ lives_at addr rows p e = by (place_of addr rows) e
           | inl k ↦ let a : Some p ≡ Some q = h ∙ ap (λ b. if b then Some q else None) k in let s : p ≡ q = cc in (a, ap (λ n. is_some (row_at rows n).slot) s ∙ k)
           | inr k ↦ let a : Some p ≡ None = h ∙ ap (λ b. if b then Some q else None) k in absurd (cc)
         ]
-
-pub living_at : (addr : Addr) (rows : List Row) (p : ℕ) → Some p ≡ place_of addr rows → is_some (row_at rows p).slot ≡ true → Some p ≡ living_place addr rows
-living_at addr rows p e k = sym (ap (λ b. if b then Some p else None) k) ∙ ap (if_living rows) e
-
-pub not_living_at : (addr : Addr) (rows : List Row) (p : ℕ) → Some p ≡ place_of addr rows → is_some (row_at rows p).slot ≡ false → None ≡ living_place addr rows
-not_living_at addr rows p e k = sym (ap (λ b. if b then Some p else None) k) ∙ ap (if_living rows) e
 
 none_slot : (o : Option SlotState) → is_some o ≡ false → o ≡ None
 none_slot None e = refl
@@ -90,22 +84,6 @@ reply_living answer addr t p e =
     let w = lives_at addr t.rows p e in
     some_reply answer (is_passed addr t.rooms) (row_at t.rows p).slot w.1
     ∙ ap (λ o. answer_in answer (or_passed (is_passed addr t.rooms) (option_map (λ (row : Row). row.slot) (option_map (row_at t.rows) o)))) w.0
-
-some_made : (b : Bool) (o : Option SlotState) → is_some o ≡ true → is_some (or_passed b (Some o)) ≡ true
-some_made b None e = absurd (cc)
-some_made b (Some s) e = refl
-
-if_some : (b : Bool) (o : Option (Option SlotState)) → o ≡ (if b then Some None else None) → is_some o ≡ b
-if_some true o e = ap is_some e
-if_some false o e = ap is_some e
-
-pub made_living : (addr : Addr) (t : GroupsValue) (p : ℕ) → Some p ≡ living_place addr t.rows → is_some (group_in addr t) ≡ true
-made_living addr t p e =
-    let w = lives_at addr t.rows p e in
-    ap (λ o. is_some (or_passed (is_passed addr t.rooms) (option_map (λ (row : Row). row.slot) (option_map (row_at t.rows) o)))) (sym w.0) ∙ some_made (is_passed addr t.rooms) (row_at t.rows p).slot w.1
-
-pub made_absent : (addr : Addr) (t : GroupsValue) → None ≡ living_place addr t.rows → is_some (group_in addr t) ≡ is_passed addr t.rooms
-made_absent addr t e = if_some (is_passed addr t.rooms) (group_in addr t) (absent_group addr t.rows (is_passed addr t.rooms) e)
 
 -- What the map of rooms answers.
 

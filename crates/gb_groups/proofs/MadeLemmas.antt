@@ -1,26 +1,26 @@
 -- A group is made in a free place of its room.
-use Rattle.std.proofs.Common.{◌≡◌, ◌≢◌, ℕ, zero, suc, ◌+◌, ◌*◌, ◌<◌, ◌≤◌, List, [], ◌∷◌, ◌++◌, length, get_or, refl, ap, sym, ◌∙◌, subst, true, false, arith, inl, inr, length-append}
+use Rattle.std.proofs.Common.{◌≡◌, ℕ, zero, suc, ◌+◌, ◌*◌, ◌<◌, ◌≤◌, List, [], ◌∷◌, ◌++◌, length, refl, ap, sym, ◌∙◌, subst, true, false, arith, inl, inr, length-append}
 use Rattle.std.specs.Prelude.{◌⊎◌, ◌/◌, ◌&&◌, Bool, not, nat_lt, nat_le, Option, Some, None, is_some, if◌then◌else◌}
 use Rattle.std.proofs.Math.ListN.{set}
 use Rattle.std.proofs.lemmas.Bool.{cases_Bool, cases_eq, cases_lt, lt-ltb, le-ltb, ltb-true}
 use Rattle.std.proofs.lemmas.Bool.Decides.{nat_tests}
-use Rattle.std.proofs.lemmas.List.{get_or-set_same, get_or-set_other, get_or_past, length-set}
+use Rattle.std.proofs.lemmas.List.{get_or-set_same, get_or-set_other, length-set}
 use Rattle.gb_types.specs.declared.address.Addr.{Addr}
 use Rattle.gb_rules.specs.Address.{is_addr}
 use Rattle.gb_rules.specs.Lifetime.{passed, where_so}
 use Rattle.gb_rules.specs.Room.{is_same_room, is_reached_by, is_other_generation, one_more}
 use Rattle.gb_rules.specs.declared.room.TheConstants.{GENERATIONS}
-use Rattle.gb_rules.proofs.AddressLemmas.{addr_is, addr_same}
+use Rattle.gb_rules.proofs.AddressLemmas.{addr_is}
 use Rattle.gb_slot.specs.SlotState.{SlotState}
-use Rattle.gb_groups.specs.SlotsValue.{Row, row_at, no_row, vacant, is_used, with_vacant, with_room, AreApart}
+use Rattle.gb_groups.specs.SlotsValue.{Row, row_at, no_row, vacant, with_vacant, with_room, AreApart}
 use Rattle.gb_groups.specs.GroupsValue.{GroupsValue, made}
-use Rattle.gb_groups.specs.OneGroup.{slot_for, or_passed, group_in, AreInOrder, CanBeMade}
+use Rattle.gb_groups.specs.OneGroup.{or_passed, group_in, AreInOrder, CanBeMade}
 use Rattle.gb_groups.specs.Rooms.{rank_of, is_passed, with_made, first_free, free_place, is_living_other, others_living, IsInRoom, AreInRooms}
-use Rattle.gb_groups.proofs.AddLemmas.{at_end, AtEnd, apart_put, none_vacant, end_apart}
+use Rattle.gb_groups.proofs.AddLemmas.{at_end, AtEnd, apart_put}
 use Rattle.gb_groups.proofs.OneGroupLemmas.{first_with, group_first}
 use Rattle.gb_groups.proofs.InRoomsLemmas.{fresh_passed, none_here}
 use Rattle.gb_groups.proofs.OthersLemmas.{count_run, others_made}
-use Rattle.gb_groups.proofs.RoomLemmas.{rank_below, rank_as, same_rank, rank_kept, rank_new, size_new, size_kept, passed_own, passed_same, passed_other, passed_before, free_hit}
+use Rattle.gb_groups.proofs.RoomLemmas.{rank_below, same_rank, rank_kept, rank_new, size_new, size_kept, passed_own, passed_same, passed_other, passed_before, free_hit}
 
 -- The places with those of a new room.
 

@@ -1,8 +1,8 @@
 -- The number of other generations of a group's room that live.
-use Rattle.std.proofs.Common.{◌≡◌, ◌≢◌, ℕ, zero, suc, ◌+◌, ◌-◌, ◌*◌, ◌<◌, ◌≤◌, List, [], ◌∷◌, ◌++◌, length, map, drop, take, get_or, refl, ap, sym, ◌∙◌, subst, true, false, arith, inl, inr, zero-add}
-use Rattle.std.specs.Prelude.{◌⊎◌, ◌/◌, ◌&&◌, Bool, cond, not, nat_lt, fold, count_by, Option, Some, None, is_some, option_map, if◌then◌else◌}
+use Rattle.std.proofs.Common.{◌≡◌, ℕ, zero, suc, ◌+◌, ◌-◌, ◌<◌, ◌≤◌, List, [], ◌∷◌, ◌++◌, length, map, drop, take, get_or, refl, ap, sym, ◌∙◌, true, false, arith, inl, inr, zero-add}
+use Rattle.std.specs.Prelude.{◌⊎◌, ◌&&◌, Bool, not, nat_lt, fold, count_by, Option, Some, None, is_some, option_map, if◌then◌else◌}
 use Rattle.std.proofs.Math.ListN.{set}
-use Rattle.std.proofs.lemmas.Bool.{cases_Bool, cases_eq, cases_lt}
+use Rattle.std.proofs.lemmas.Bool.{cases_Bool}
 use Rattle.gb_types.specs.declared.address.Addr.{Addr}
 use Rattle.gb_types.specs.declared.limits.TheConstants.{NODES}
 use Rattle.gb_types.specs.declared.node.NodeId.{NodeId}
@@ -15,7 +15,7 @@ use Rattle.gb_rules.specs.Room.{is_other_generation, one_more, one_less}
 use Rattle.gb_rules.proofs.AddressLemmas.{addr_is}
 use Rattle.gb_slot.specs.Slot.{slot_came, slot_took}
 use Rattle.gb_slot.specs.SlotState.{SlotState}
-use Rattle.gb_groups.specs.SlotsValue.{Row, row_at, no_row, vacant, with_vacant, with_room, on_slot, gone}
+use Rattle.gb_groups.specs.SlotsValue.{Row, row_at, vacant, with_vacant, with_room, on_slot, gone}
 use Rattle.gb_groups.specs.Packing.{Visit, gave, share, took}
 use Rattle.gb_groups.specs.AtAddress.{place_of, on_address, drop_at, item_came}
 use Rattle.gb_groups.specs.Rooms.{is_living_other, others_living}

@@ -1,19 +1,17 @@
 -- Rooms and their places.
-use Rattle.std.proofs.Common.{◌≡◌, ◌≢◌, ℕ, zero, suc, ◌+◌, ◌*◌, ◌<◌, ◌≤◌, List, [], ◌∷◌, ◌++◌, length, drop, take, get_or, refl, ap, sym, ◌∙◌, subst, true, false, arith, inl, inr}
-use Rattle.std.specs.Prelude.{◌⊎◌, ◌/◌, ◌&&◌, Bool, cond, not, nat_le, nat_lt, nat_eq, count_by, Option, Some, None, is_some, if◌then◌else◌}
+use Rattle.std.proofs.Common.{◌≡◌, ℕ, zero, suc, ◌+◌, ◌<◌, ◌≤◌, List, [], ◌∷◌, length, drop, get_or, refl, ap, sym, ◌∙◌, true, false, arith, inl, inr}
+use Rattle.std.specs.Prelude.{Bool, cond, not, nat_le, Option, Some, None, is_some, if◌then◌else◌}
 use Rattle.std.specs.List.{position_or_len}
-use Rattle.std.proofs.Math.ListN.{set}
-use Rattle.std.proofs.lemmas.Bool.{cases_Bool, cases_eq, cases_lt, lt-ltb, le-ltb, ltb-true}
+use Rattle.std.proofs.lemmas.Bool.{cases_Bool}
 use Rattle.std.proofs.lemmas.Bool.Decides.{nat_tests}
-use Rattle.std.proofs.lemmas.List.{get_or-drop, get_or-set_same, get_or-set_other, get_or_past, length-drop, length-set}
+use Rattle.std.proofs.lemmas.List.{get_or-drop, length-drop}
 use Rattle.gb_types.specs.declared.address.Addr.{Addr}
 use Rattle.gb_rules.specs.Address.{is_addr}
-use Rattle.gb_rules.specs.Room.{name_of, is_same_room, is_reached_by, is_other_generation}
-use Rattle.gb_rules.specs.declared.room.TheConstants.{GENERATIONS}
+use Rattle.gb_rules.specs.Room.{name_of, is_same_room}
 use Rattle.gb_rules.proofs.AddressLemmas.{addr_is, addr_same}
 use Rattle.gb_slot.specs.SlotState.{SlotState}
-use Rattle.gb_groups.specs.SlotsValue.{Row, row_at, no_row, vacant, is_used, with_vacant, with_room}
-use Rattle.gb_groups.specs.Rooms.{rank_from, rank_of, is_passed, with_made, first_free, free_place, is_living_other, others_living, IsInRoom, AreInRooms}
+use Rattle.gb_groups.specs.SlotsValue.{Row, row_at, no_row}
+use Rattle.gb_groups.specs.Rooms.{rank_from, rank_of, is_passed, with_made, first_free}
 
 -- Names.
 

@@ -1,10 +1,9 @@
 -- The places of a new room change nothing for the groups that are here.
-use Rattle.std.proofs.Common.{◌≡◌, ℕ, ◌+◌, ◌<◌, ◌≤◌, List, [], ◌∷◌, ◌++◌, length, get_or, refl, ap, sym, ◌∙◌, subst, true, false, arith, inl, inr, length-append}
-use Rattle.std.specs.Prelude.{Bool, nat_lt, Option, Some, None, map, if◌then◌else◌}
-use Rattle.std.proofs.lemmas.Bool.{cases_Bool, cases_lt, lt-ltb, le-ltb, ltb-true}
+use Rattle.std.proofs.Common.{◌≡◌, ℕ, ◌+◌, ◌<◌, ◌≤◌, List, [], ◌∷◌, length, refl, ap, sym, ◌∙◌, subst, false, arith, inl, inr, length-append}
+use Rattle.std.specs.Prelude.{nat_lt, None, map, if◌then◌else◌}
+use Rattle.std.proofs.lemmas.Bool.{cases_Bool, cases_lt, le-ltb}
 use Rattle.std.proofs.lemmas.List.{get_or_past}
 use Rattle.slab.specs.Slab.{Slab, get}
-use Rattle.std.proofs.lemmas.List.{length-map}
 use Rattle.gb_types.specs.declared.address.Addr.{Addr}
 use Rattle.gb_types.specs.declared.limits.TheConstants.{PLACES}
 use Rattle.gb_rules.specs.Address.{is_addr}
@@ -14,11 +13,10 @@ use Rattle.gb_groups.specs.declared.slots.Place.{Place}
 use Rattle.gb_groups.specs.declared.slots.Place.TheVariants.{Key, Gone}
 use Rattle.gb_groups.specs.GroupsValue.{ArePlaces, IsIndex}
 use Rattle.gb_groups.specs.Members.{AreMemberships}
-use Rattle.gb_groups.specs.Packing.{queue}
-use Rattle.gb_groups.specs.Slots.{row_of, place_at, slot_under, entries_with_room, AreOthers, AreKept}
+use Rattle.gb_groups.specs.Slots.{row_of, place_at, slot_under, AreKept}
 use Rattle.gb_groups.specs.SlotsValue.{Row, row_at, no_row, vacant, with_vacant, with_room}
-use Rattle.gb_groups.proofs.AddLemmas.{Roomed, roomed, addr_is_at, not_free}
-use Rattle.gb_groups.proofs.IndexLemmas.{index_grown, places_grown}
+use Rattle.gb_groups.proofs.AddLemmas.{not_free}
+use Rattle.gb_groups.proofs.IndexLemmas.{index_grown}
 use Rattle.gb_groups.proofs.MadeLemmas.{with_room_is}
 use Rattle.gb_groups.proofs.MemberLemmas.{memberships_vacant}
 use Rattle.gb_groups.proofs.SlotsLemmas.{row_is}

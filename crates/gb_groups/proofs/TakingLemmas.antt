@@ -1,6 +1,6 @@
 -- One item is taken.
 use Rattle.std.proofs.Common.{◌≡◌, ℕ, suc, zero, ◌+◌, ◌-◌, ◌≤◌, ◌<◌, ◌≢◌, List, [], ◌∷◌, ◌++◌, length, take, drop, get_or, refl, ap, sym, ◌∙◌, zero-add, add-zero, eq-eqb, arith, drop-cons, inl, inr}
-use Rattle.std.specs.Prelude.{◌==◌, ◌&&◌, not, true, false, cond, Option, Some, None, option_map, map, if◌then◌else◌}
+use Rattle.std.specs.Prelude.{◌&&◌, not, true, false, cond, Option, Some, None, option_map, map, if◌then◌else◌}
 use Rattle.std.specs.FinSet as nodes
 use Rattle.gb_rules.specs.Group.{is_other}
 use Rattle.gb_history.specs.Messages.{entry_in}

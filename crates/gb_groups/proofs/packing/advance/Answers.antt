@@ -1,6 +1,5 @@
-use Rattle.std.proofs.Common.{◌≡◌, ◌<◌, ◌≤◌, ◌+◌, ◌-◌, List, [], ℕ, length, get_or, drop, Some, None, eq-eqb, ap, sym, refl, ◌∙◌, arith}
-use Rattle.std.specs.Prelude.{Option, IsSome, true, false, ◌==◌, if◌then◌else◌}
-use Rattle.std.proofs.lemmas.Bool.{ne_eqb}
+use Rattle.std.proofs.Common.{◌≡◌, ◌<◌, ◌≤◌, ◌+◌, ◌-◌, List, [], ℕ, length, get_or, drop, Some, None, ap, sym, refl, ◌∙◌, arith}
+use Rattle.std.specs.Prelude.{Option, IsSome}
 use Rattle.std.proofs.lemmas.List.{length-set, get_or_default}
 use Rattle.std.proofs.Math.ListN.{set}
 use Rattle.gb_groups.specs.SlotsValue.{row_at, counters, no_row}

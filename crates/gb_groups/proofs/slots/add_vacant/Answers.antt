@@ -1,4 +1,4 @@
-use Rattle.std.proofs.Common.{◌≡◌, List, ap, refl, ◌∙◌, length}
+use Rattle.std.proofs.Common.{◌≡◌, ap, refl, ◌∙◌, length}
 use Rattle.indexmap.specs.IndexMap.{insert_entry}
 use Rattle.gb_types.specs.contracts.address.AddrPartialEq.TheImpl.{ghosts}
 use Rattle.gb_groups.specs.declared.slots.Place.TheVariants.{Gone}

@@ -1,4 +1,4 @@
-use Rattle.std.proofs.Common.{◌≡◌, Some, None, ap, sym, subst, ◌∙◌, inr}
+use Rattle.std.proofs.Common.{◌≡◌, Some, ap, sym, subst, ◌∙◌, inr}
 use Rattle.gb_types.specs.declared.reply.Reply.{Reply}
 use Rattle.gb_rules.specs.Group.{Shown, fetch_answer}
 use Rattle.gb_rules.specs.Replied.{IsReply}

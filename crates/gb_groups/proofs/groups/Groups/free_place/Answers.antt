@@ -1,5 +1,4 @@
-use Rattle.std.proofs.Common.{◌≡◌, ap, refl, sym, ◌∙◌, arith}
-use Rattle.std.specs.Prelude.{Some, None}
+use Rattle.std.proofs.Common.{ap, sym, ◌∙◌, arith}
 use Rattle.gb_types.specs.declared.address.Addr.{Addr}
 use Rattle.gb_rules.specs.Address.{is_addr}
 use Rattle.gb_groups.specs.GroupsValue.{GroupsValue}

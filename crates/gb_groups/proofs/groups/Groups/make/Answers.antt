@@ -1,7 +1,6 @@
-use Rattle.std.proofs.Common.{◌≡◌, ◌<◌, ◌≤◌, ℕ, List, [], ◌∷◌, length, ap, refl, sym, subst, ◌∙◌, true, false, inl, inr, arith}
-use Rattle.std.specs.Prelude.{Some, None, Bool, cond, if◌then◌else◌}
+use Rattle.std.proofs.Common.{◌≡◌, ◌≤◌, ℕ, List, [], ◌∷◌, length, ap, refl, sym, subst, ◌∙◌, arith}
+use Rattle.std.specs.Prelude.{Some, if◌then◌else◌}
 use Rattle.std.proofs.Math.ListN.{set}
-use Rattle.std.proofs.lemmas.Bool.{cases_Bool}
 use Rattle.indexmap.specs.IndexMap.{insert_entry}
 use Rattle.gb_types.specs.declared.address.Addr.{Addr}
 use Rattle.gb_types.specs.declared.limits.TheConstants.{PLACES}
@@ -10,13 +9,12 @@ use Rattle.gb_rules.specs.Address.{is_addr}
 use Rattle.gb_rules.specs.Room.{name_of}
 use Rattle.gb_rules.specs.declared.room.TheConstants.{ROOMS}
 use Rattle.gb_slot.specs.Slot.{new_slot}
-use Rattle.gb_slot.specs.SlotState.{SlotState}
 use Rattle.gb_groups.specs.Covered.{HaveGrown, AreCovered}
 use Rattle.gb_groups.specs.Members.{AreMemberships}
 use Rattle.gb_groups.specs.OneGroup.{CanBeMade}
 use Rattle.gb_groups.specs.Packing.{queue_of}
 use Rattle.gb_groups.specs.Rooms.{rank_of, free_place, with_made, AreInRooms}
-use Rattle.gb_groups.specs.SlotsValue.{Row, SlotsValue, row_at, with_room}
+use Rattle.gb_groups.specs.SlotsValue.{Row, SlotsValue, with_room}
 use Rattle.gb_groups.specs.GroupsValue.{GroupsValue, made, ArePlaces, IsIndex}
 use Rattle.gb_groups.proofs.CoveredLemmas.{grown_none, index_grown_words, memberships_grown_words, covered_grown, covered_enrolled}
 use Rattle.gb_groups.proofs.IndexLemmas.{index_unchanged, places_unchanged}

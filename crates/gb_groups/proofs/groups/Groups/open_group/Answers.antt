@@ -1,4 +1,4 @@
-use Rattle.std.proofs.Common.{◌≡◌, subst, sym, ap, refl, ◌∙◌}
+use Rattle.std.proofs.Common.{◌≡◌, subst, sym, ap, ◌∙◌}
 use Rattle.std.specs.Prelude.{None}
 use Rattle.gb_rules.specs.Group.{open_answer}
 use Rattle.gb_groups.specs.OneGroup.{group_reply}

@@ -1,5 +1,4 @@
-use Rattle.std.proofs.lemmas.Grind.{common_steps}
-use Rattle.std.proofs.Common.{◌≡◌, Some, None, ap, sym, subst, ◌∙◌, arith}
+use Rattle.std.proofs.Common.{◌≡◌, Some, ap, sym, subst, ◌∙◌}
 use Rattle.gb_rules.specs.Group.{Shown, say_answer}
 use Rattle.gb_slot.specs.Slot.{slot_said}
 use Rattle.gb_groups.specs.SlotsValue.{row_at, on_slot}

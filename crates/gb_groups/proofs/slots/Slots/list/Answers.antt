@@ -1,4 +1,4 @@
-use Rattle.std.proofs.Common.{◌≡◌, suc, ◌++◌, ◌∷◌, [], ap, ◌∙◌, sym, length, map, take, drop, List, arith, inl, inr}
+use Rattle.std.proofs.Common.{◌≡◌, suc, ◌++◌, ◌∷◌, [], ap, ◌∙◌, sym, map, take, drop, List, arith, inl, inr}
 use Rattle.std.proofs.Math.Nat.{eq-zero-or-pos}
 use Rattle.std.specs.Prelude.{◌-◌, ◌+◌, ◌<◌}
 use Rattle.gb_groups.specs.Listing.{listed, used}
