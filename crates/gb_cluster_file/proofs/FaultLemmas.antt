@@ -35,7 +35,7 @@ unsigned _ = 0
 pub number_same : (m n : ℕ) → integer (pos m) ≡ integer (pos n) → m ≡ n
 number_same m n e = ap unsigned (same_Some (pos m) (pos n) (ap as_integer e))
 
-byte_same : (value : Option Data) (m n : ℕ) → IsNumber value 1 m → IsNumber value 1 n → m ≡ n
+byte_same : (value : Option Data) (m n : ℕ) → IsNumber value 3 m → IsNumber value 3 n → m ≡ n
 byte_same None m n first other = first ∙ sym other
 byte_same (Some d) m n first other = number_same m n (sym first ∙ other)
 
@@ -101,7 +101,7 @@ no_document document MissingRun file h some says within = none-some _ (sym h ∙
 no_document document (NoNumber number.Run) file h some says within = h.2 file.run within.run (same_Some _ _ (sym h.1 ∙ says.run))
 no_document document (NoNumber number.Tick) file h some says within = h.2 file.tick within.tick (subst (λ o. IsNumber o 64 file.tick) h.1 says.tick)
 no_document document (NoNumber number.Silence) file h some says within = h.2 file.silence within.silence (subst (λ o. IsNumber o (usual_silence file.tick) file.silence) h.1 says.silence)
-no_document document (NoNumber number.Version) file h some says within = h.2 says.version.0 (ap is_some says.version.2) (subst (λ o. IsNumber o 1 says.version.0) h.1 says.version.1)
+no_document document (NoNumber number.Version) file h some says within = h.2 says.version.0 (ap is_some says.version.2) (subst (λ o. IsNumber o 3 says.version.0) h.1 says.version.1)
 no_document document (NoNumber number.Room) file h some says within = h.2 file.room within.room (subst (λ o. IsNumber o 1400 file.room) h.1 says.room)
 no_document document NoArray file h some says within =
     let same = same_Some _ _ (sym h.1 ∙ says.node) in

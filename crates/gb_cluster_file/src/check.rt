@@ -139,7 +139,7 @@ pub fn room_at(table: &Table) -> Result<u16, FileFault>
     }
 }
 
-// Returns the version of packets.
+// Returns the version of packets: 3 if the file names none.
 pub fn version_at(table: &Table) -> Result<Version, FileFault>
     ensures ok { IfOk result (λ version. IsVersion (table_view table.now) version) }
     ensures err { IfErr result (IsDocumentFault (table_view table.now)) }
@@ -149,7 +149,7 @@ pub fn version_at(table: &Table) -> Result<Version, FileFault>
             Some(version) => Ok(version),
             None => Err(FileFault::NoNumber(Field::Version)),
         },
-        Ok(None) => Ok(Version::One),
+        Ok(None) => Ok(Version::Three),
         Err(fault) => Err(fault),
     }
 }
