@@ -169,8 +169,8 @@ impl Slots {
         }
     }
 
-    /// Returns the place of the group that was last made with this address. The place that was last used and the one made next after it are compared
-    /// first, since the items of a frame are mostly in that order.
+    /// Returns the place of the group that was last made with this address. The place that was last used and the place in the next
+    /// room that answers to it are compared first, since the items of a frame are mostly in that order.
     pub fn find(&self, addr: Addr) -> Option<usize>
         ensures place { result ≡ position (λ row. is_addr addr row.addr) self.now.rows }
         ensures apart { AreApart self.now.rows }
@@ -178,7 +178,7 @@ impl Slots {
         if is_at(&self.places, self.recent, addr) {
             return Some(self.recent);
         }
-        let next = self.recent.wrapping_add(1);
+        let next = self.recent.wrapping_add(GENERATIONS);
         let next = if next == self.places.len() { 0 } else { next };
         if is_at(&self.places, next, addr) {
             return Some(next);
