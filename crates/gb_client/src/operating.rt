@@ -3,9 +3,10 @@ ghost use Rattle.std.specs.Prelude.{◌≡◌, ◌++◌, ◌≤◌, codes, decim
 ghost use Rattle.hex.specs.Hex.{encode_lower};
 ghost use Rattle.gb_session.specs.declared.grammar.TheConstants.{BODY};
 
+use gb_types::address::Addr;
 use gb_types::memory::OutOfMemory;
 use gb_types::number::{put_number, read_number};
-use gb_types::request_words::{read_u16, read_u32};
+use gb_types::request_words::{read_address, read_u32};
 use gb_types::words::split_words;
 use std::alloc::Global;
 
@@ -53,8 +54,7 @@ pub fn list_body(alloc: Global, token: &[u8; 32], from: u32) -> Result<Vec<u8>, 
 /// A group as a node lists it.
 #[derive(Clone, Copy)]
 pub struct Row<'a> {
-    pub tenant: u16,
-    pub group: u16,
+    pub address: Addr,
     /// What it was made with: KIND, MEMBERS, MSGS, BYTES and WINDOW; of a dropped group `-`, `-` and 0.
     pub spec: [&'a [u8]; 5],
     /// `made`, `open`, `shut` or `dropped`.
@@ -63,10 +63,10 @@ pub struct Row<'a> {
     pub text: &'a [u8],
 }
 
-/// Some of the groups that were made at a node.
+/// Some of the groups that a node lists.
 #[derive(Drop)]
 pub struct Page<'a> {
-    /// How many were made there in all.
+    /// The number of groups that it lists in all.
     pub total: u32,
     pub rows: Vec<Row<'a>>,
 }
@@ -93,16 +93,14 @@ pub fn read_row<'a>(alloc: Global, text: &'a [u8]) -> Result<Option<Row<'a>>, Ou
     else {
         return Ok(None);
     };
-    let (Some(tenant), Some(group), Some(_)) = (read_u16(tenant), read_u16(group), read_u32(log))
-    else {
+    let (Some(address), Some(_)) = (read_address(tenant, group), read_u32(log)) else {
         return Ok(None);
     };
     if !is_phase(phase) {
         return Ok(None);
     }
     Ok(Some(Row {
-        tenant,
-        group,
+        address,
         spec: [*kind, *members, *msgs, *bytes, *window],
         phase: *phase,
         text,

@@ -13,6 +13,7 @@ use crate::request::request_text;
 use crate::secrets::Secrets;
 use gb_cap::token::Need;
 use gb_session::head::Head;
+use gb_types::address::Addr;
 use gb_types::memory::OutOfMemory;
 use gb_types::node::NodeId;
 use gb_types::number::put_number;
@@ -89,7 +90,7 @@ pub enum Errand<'a> {
     /// Drop a group at the nodes.
     Drop(Vec<NodeId>, Asked<'a>),
     /// Compare what a group was made with at the nodes.
-    Check(Vec<NodeId>, u16, u16),
+    Check(Vec<NodeId>, Addr),
     /// Print the figures of a node.
     Status(NodeId),
     /// Print the groups that were made at a node.
@@ -111,7 +112,7 @@ impl Errand<'_> {
             | Errand::Status(node)
             | Errand::List(node)
             | Errand::Shutdown(node) => Ok(Vec::from_slice(alloc, &[*node])?),
-            Errand::Group(nodes, _) | Errand::Drop(nodes, _) | Errand::Check(nodes, _, _) => {
+            Errand::Group(nodes, _) | Errand::Drop(nodes, _) | Errand::Check(nodes, _) => {
                 Ok(Vec::from_slice(alloc, nodes.as_slice())?)
             }
         }

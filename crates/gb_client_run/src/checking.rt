@@ -6,6 +6,7 @@ use crate::rows::spec_in;
 use crate::target::Target;
 use gb_cap::token::{Need, Token};
 use gb_client::fault::{ClientFault, fault_status};
+use gb_types::address::Addr;
 use gb_types::node::NodeId;
 use gb_types::number::put_number;
 use std::alloc::Global;
@@ -49,10 +50,10 @@ fn look<N: Nodes, W: Write>(
     target: Target<'_>,
     token: &Token,
     node: NodeId,
-    names: (u16, u16),
+    addr: Addr,
     writer: &mut W,
 ) -> Result<(Found, u8), ClientFault> {
-    match find(alloc, nodes, target, token, node, names.0, names.1) {
+    match find(alloc, nodes, target, token, node, addr) {
         Ok(found) => {
             print_found(alloc, node, &found, writer)?;
             let status = if matches!(found, Found::Row(_)) { 0 } else { 1 };
@@ -73,8 +74,7 @@ pub fn check_group<N: Nodes, W: Write>(
     nodes: &mut N,
     target: Target<'_>,
     members: &[NodeId],
-    tenant: u16,
-    group: u16,
+    addr: Addr,
     writer: &mut W,
 ) -> Result<u8, ClientFault> {
     let token = target.secrets.token_for(Need::Admin)?;
@@ -82,7 +82,7 @@ pub fn check_group<N: Nodes, W: Write>(
     let mut first: Option<Vec<u8>> = None;
     let mut status = 0;
     for node in members {
-        let (found, here) = look(alloc, nodes, target, &token, *node, (tenant, group), writer)?;
+        let (found, here) = look(alloc, nodes, target, &token, *node, addr, writer)?;
         if here != 0 {
             status = here;
         }

@@ -15,11 +15,12 @@ use gb_client::operating::{Row, read_row};
 use gb_client::show::reply_lines;
 use gb_client::task::Asked;
 use gb_session::head::Head;
+use gb_types::address::Addr;
 use gb_types::node::NodeId;
 use gb_types::number::put_number;
 use gb_types::refusal::Refusal;
 use gb_types::reply::Reply;
-use gb_types::request_words::read_u16;
+use gb_types::request_words::read_address;
 use std::alloc::Global;
 use std::io::Write;
 
@@ -53,12 +54,12 @@ fn is_settled(alloc: Global, asked: &Asked<'_>, row: &Row<'_>) -> Result<bool, C
     }
 }
 
-// The tenant and the group that a request names.
-fn names_of(asked: &Asked<'_>) -> Option<(u16, u16)> {
+// Returns the address of the group that a request names.
+fn address_of(asked: &Asked<'_>) -> Option<Addr> {
     let [tenant, group, ..] = asked.words.as_slice() else {
         return None;
     };
-    Some((read_u16(tenant.as_bytes())?, read_u16(group.as_bytes())?))
+    read_address(tenant.as_bytes(), group.as_bytes())
 }
 
 // Returns true if what was found of a group is as a request asks it.
@@ -85,10 +86,10 @@ fn was_done<N: Nodes>(
     let Ok(token) = target.secrets.token_for(Need::Admin) else {
         return Ok(false);
     };
-    let Some((tenant, group)) = names_of(asked) else {
+    let Some(addr) = address_of(asked) else {
         return Ok(false);
     };
-    let found = find(alloc, nodes, target, &token, node, tenant, group)?;
+    let found = find(alloc, nodes, target, &token, node, addr)?;
     is_found(alloc, asked, &found)
 }
 

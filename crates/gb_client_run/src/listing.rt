@@ -10,6 +10,7 @@ use gb_client::answer::{read_reply, status_of};
 use gb_client::fault::ClientFault;
 use gb_client::operating::{Page, is_status, list_body, read_page, status_body, stop_body};
 use gb_client::show::reply_lines;
+use gb_types::address::Addr;
 use gb_types::node::NodeId;
 use gb_types::number::put_number;
 use gb_types::reply::Reply;
@@ -125,16 +126,16 @@ pub fn print_list<N: Nodes, W: Write>(
 pub enum Found {
     /// Its row.
     Row(Vec<u8>),
-    /// No group with this number was made there.
+    /// The node lists no group with this address.
     None,
     /// The node refused, with this reply.
     Refused(Vec<u8>),
 }
 
 // The text of the row of a group in a page.
-fn row_in<'a>(page: &Page<'a>, tenant: u16, group: u16) -> Option<&'a [u8]> {
+fn row_in<'a>(page: &Page<'a>, addr: Addr) -> Option<&'a [u8]> {
     for row in page.rows.as_slice() {
-        if row.tenant == tenant && row.group == group {
+        if row.address == addr {
             return Some(row.text);
         }
     }
@@ -157,14 +158,13 @@ fn look_in(
     alloc: Global,
     text: &[u8],
     from: u32,
-    tenant: u16,
-    group: u16,
+    addr: Addr,
 ) -> Result<(Option<Found>, u32), ClientFault> {
     let Some(page) = read_page(alloc, text)? else {
         let found = refusal_of(alloc, text)?;
         return Ok((Some(found), from));
     };
-    if let Some(row) = row_in(&page, tenant, group) {
+    if let Some(row) = row_in(&page, addr) {
         let kept = Vec::from_slice(alloc, row)?;
         return Ok((Some(Found::Row(kept)), from));
     }
@@ -182,15 +182,14 @@ pub fn find<N: Nodes>(
     target: Target<'_>,
     token: &Token,
     node: NodeId,
-    tenant: u16,
-    group: u16,
+    addr: Addr,
 ) -> Result<Found, ClientFault>
     ensures { IfOk result (λ _. (told : List Exchange) × HasAsked N.asks nodes.old told nodes.new) }
 {
     let mut from: u32 = 0;
     'pages: for _ in 0..u32::MAX {
         let text = page_text(alloc, nodes, target, token, node, from)?;
-        let (found, next) = look_in(alloc, &text, from, tenant, group)?;
+        let (found, next) = look_in(alloc, &text, from, addr)?;
         if let Some(found) = found {
             return Ok(found);
         }

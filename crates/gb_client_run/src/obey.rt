@@ -71,16 +71,8 @@ pub fn obey<N: Nodes, W: Write>(
             asked,
             writer,
         ),
-        Errand::Check(members, tenant, group) => {
-            check_group(
-                alloc,
-                nodes,
-                target,
-                members.as_slice(),
-                *tenant,
-                *group,
-                writer,
-            )
+        Errand::Check(members, addr) => {
+            check_group(alloc, nodes, target, members.as_slice(), *addr, writer)
         }
         Errand::Status(node) => print_status(alloc, nodes, target, *node, writer),
         Errand::List(node) => print_list(alloc, nodes, target, *node, writer),

@@ -8,7 +8,7 @@ use gb_session::head::Head;
 use gb_types::limits::NODES;
 use gb_types::members_word::read_members;
 use gb_types::node::NodeId;
-use gb_types::request_words::{read_u16, read_u32};
+use gb_types::request_words::{read_address, read_u16, read_u32};
 use gb_version::VERSION;
 use std::alloc::{AllocError, Global};
 
@@ -60,7 +60,7 @@ const T: ArgWords = ArgWords {
 
 const G: ArgWords = ArgWords {
     name: "G",
-    help: "the group's number, below the tenant's GROUPS",
+    help: "the group's number, below the tenant's GROUPS, and .N for its generation N",
     form: Form::Word,
 };
 
@@ -553,9 +553,11 @@ fn check_task<'a>(alloc: Global, matches: &ArgMatches<'a>) -> Result<Errand<'a>,
     let nodes = nodes(alloc, matches)?.ok_or(PlanFault::Nodes)?;
     let tenant = matches.get_str("T").ok_or(PlanFault::Tenant)?;
     let group = matches.get_str("G").ok_or(PlanFault::Group)?;
-    let tenant = read_u16(tenant.as_bytes()).ok_or(PlanFault::Tenant)?;
-    let group = read_u16(group.as_bytes()).ok_or(PlanFault::Group)?;
-    Ok(Errand::Check(nodes, tenant, group))
+    if read_u16(tenant.as_bytes()).is_none() {
+        return Err(PlanFault::Tenant);
+    }
+    let addr = read_address(tenant.as_bytes(), group.as_bytes()).ok_or(PlanFault::Group)?;
+    Ok(Errand::Check(nodes, addr))
 }
 
 // What a subcommand asks of a server.

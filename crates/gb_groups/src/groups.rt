@@ -29,7 +29,7 @@ use crate::place_set::PlaceSet;
 use crate::slots::Slots;
 use gb_frame::item::ItemView;
 use gb_rules::group::is_too_long;
-use gb_rules::room::{GENERATIONS, name_of};
+use gb_rules::room::{GENERATIONS, ROOMS, name_of};
 use gb_slot::slot::Slot;
 use gb_types::address::Addr;
 use gb_types::limits::NODES;
@@ -43,6 +43,9 @@ use gb_types::version::Version;
 use indexmap::IndexMap;
 use std::alloc::Global;
 use std::marker::Model;
+
+// The limits of docs/FORMATS.md.
+const _: () = prove!(GENERATIONS == 4 && ROOMS == 1_024);
 
 /// All groups of a node.
 pub struct Groups {

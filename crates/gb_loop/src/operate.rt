@@ -79,11 +79,21 @@ fn put_spec(out: &mut Vec<u8>, spec: &Spec) -> Result<(), OutOfMemory> {
     put_field(out, u64::from(spec.window))
 }
 
+// Appends a dot and the generation, if it is not the first.
+fn put_generation(out: &mut Vec<u8>, generation: u32) -> Result<(), OutOfMemory> {
+    if generation == 0 {
+        return Ok(());
+    }
+    put_bytes(out, b".")?;
+    put_number(out, u64::from(generation))
+}
+
 // Appends a space and T:G:KIND:MEMBERS:MSGS:BYTES:WINDOW:PHASE:LOG.
 fn put_row(out: &mut Vec<u8>, row: &GroupRow) -> Result<(), OutOfMemory> {
     put_bytes(out, b" ")?;
     put_number(out, u64::from(row.address.tenant))?;
     put_field(out, u64::from(row.address.group))?;
+    put_generation(out, row.address.generation)?;
     put_bytes(out, b":")?;
     match &row.spec {
         Some(spec) => put_spec(out, spec)?,

@@ -49,7 +49,7 @@ fn body_of(alloc: Global, secrets: &Secrets, errand: &Errand<'_>) -> Result<Vec<
         Errand::Import(_, _, _) => Ok(Vec::from_slice(alloc, b"import")?),
         Errand::Group(nodes, asked) => at_last(alloc, secrets, nodes.as_slice(), asked),
         Errand::Drop(nodes, asked) => at_last(alloc, secrets, nodes.as_slice(), asked),
-        Errand::Check(_, _, _) | Errand::List(_) => {
+        Errand::Check(_, _) | Errand::List(_) => {
             let token = secrets.token_for(Need::Admin)?;
             Ok(list_body(alloc, &token, 0)?)
         }
@@ -168,6 +168,8 @@ const REQUESTS: &[(&str, &str)] = &[
     ),
     ("drop --nodes 0,1,2 7 1", "drop 7 1"),
     ("check --nodes 0,1,2 7 1", "list 0 64"),
+    ("check --nodes 0,1 7 1.4294967295", "list 0 64"),
+    ("check --nodes 0,1 7 1.0", "!2"),
     ("list", "list 0 64"),
     ("status", "status"),
     ("shutdown", "stop"),

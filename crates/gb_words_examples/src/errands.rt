@@ -176,6 +176,20 @@ static OPERATIONS: &[Case] = &[
         status: 1,
     },
     Case {
+        words: "check --nodes 0,1 7 1.2",
+        turns: &[
+            (
+                42064,
+                "list ",
+                " 0 64",
+                "groups 2 7:1:lazy:0,1:8:4096:4:open:5 7:1.2:beb:0,1:8:4096:4:open:0",
+            ),
+            (42065, "list ", " 0 64", ROW),
+        ],
+        printed: "node 0: 7:1.2:beb:0,1:8:4096:4:open:0\nnode 1: no such group\nnot alike\n",
+        status: 1,
+    },
+    Case {
         words: "check --nodes 0 7 1",
         turns: &[(42064, "list ", " 0 64", ROW)],
         printed: "node 0: 7:1:beb:0,1:8:4096:4:made:0\nnot alike\n",
