@@ -518,6 +518,43 @@ pub const ASKED: &[(&str, usize)] = &[
     ("tick 0\n", 23),
 ];
 
+/// How a schedule ends, the bytes that a writer takes, how the run ends then, what is written behind the answers, and how often a write
+/// fails.
+pub type Want = (
+    Result<SimEnd, SimFault>,
+    usize,
+    Result<SimEnd, SimFault>,
+    &'static [u8],
+    usize,
+);
+
+pub const WANTS: &[Want] = &[
+    (Ok(SimEnd::All), 0, Ok(SimEnd::All), b"", 0),
+    (
+        Ok(SimEnd::BadLine(1, BadLine::NoCluster)),
+        0,
+        Ok(SimEnd::BadLine(1, BadLine::NoCluster)),
+        b"",
+        0,
+    ),
+    (Err(SimFault::Read), 0, Err(SimFault::Read), b"", 0),
+    (Err(SimFault::Write), 0, Err(SimFault::Write), b"", 0),
+    (
+        Err(SimFault::OutOfMemory),
+        14,
+        Err(SimFault::OutOfMemory),
+        b"out of memory\n",
+        0,
+    ),
+    (
+        Err(SimFault::OutOfMemory),
+        13,
+        Err(SimFault::Write),
+        b"out of memory",
+        1,
+    ),
+];
+
 /// How a schedule ends, and the line that is told of it.
 pub const COMPLAINTS: &[(Result<SimEnd, SimFault>, &str)] = &[
     (Ok(SimEnd::All), ""),
