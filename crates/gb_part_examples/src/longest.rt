@@ -1,4 +1,4 @@
-//! The longest reply of a session.
+//! The longest replies of a session, two of them before the next read.
 ghost use Rattle.std.specs.Prelude.{⊤};
 ghost use Rattle.gb_session.specs.Answering.{IsDenied};
 
@@ -51,29 +51,32 @@ impl Answers for Longest {
     }
 }
 
+// Two requests in one piece.
 const ASKED: &[u8] =
-    b"\x00\x00\x00\x49open 0000000000000000000000000000000000000000000000000000000000000000 7 1";
+    b"\x00\x00\x00\x49open 0000000000000000000000000000000000000000000000000000000000000000 7 1\x00\x00\x00\x49open 0000000000000000000000000000000000000000000000000000000000000000 7 1";
 
-// Returns the message of the longest log: 131,238 bytes behind their number.
-fn message(alloc: Global) -> Result<Vec<u8>, OutOfMemory> {
-    let mut text = Vec::from_slice(alloc, b"\x00\x02\x00\xa6log 16")?;
+// Appends the message of the longest log: 131,238 bytes behind their number.
+fn put_message(text: &mut Vec<u8>) -> Result<(), OutOfMemory> {
+    text.extend_from_slice(b"\x00\x02\x00\xa6log 16")?;
     for _ in 0..16 {
         text.extend_from_slice(b" 31:65535:")?;
         for _ in 0..4_096 {
             text.extend_from_slice(b"ab")?;
         }
     }
-    Ok(text)
+    Ok(())
 }
 
-// Returns whether a session writes that message, and nothing else.
+// Returns whether a session writes that message twice, and nothing else.
 fn is_written(alloc: Global) -> Result<bool, OutOfMemory> {
-    let wanted = message(alloc)?;
+    let mut wanted = Vec::new(alloc);
+    put_message(&mut wanted)?;
+    put_message(&mut wanted)?;
     let mut answers = Longest { alloc };
-    let mut session = Session::new(alloc, 2);
+    let mut session = Session::new(alloc, 3);
     let mut out = Vec::new(alloc);
     session.take(&mut answers, ASKED, false, &mut out, usize::MAX)?;
-    Ok(out.len() == 131_242 && out.as_slice() == wanted.as_slice())
+    Ok(out.len() == 262_484 && out.as_slice() == wanted.as_slice())
 }
 
 #[test]

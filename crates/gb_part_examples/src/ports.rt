@@ -3,7 +3,7 @@ use gb_port::fail_at::FailAt;
 use gb_port::mesh::SLOTS;
 use gb_port::port::{Port, PortFault};
 use gb_port::ring::RingPort;
-use gb_port::udp::{BindFault, SPACE, UdpPort};
+use gb_port::udp::{BindFault, UdpPort};
 use gb_types::memory::OutOfMemory;
 use gb_types::node::NodeId;
 use std::alloc::Global;
@@ -200,22 +200,16 @@ fn one_call_fails(rt: HostRuntime) -> Result<(), Fail> {
     Ok(())
 }
 
-// The next packet that comes within a second: its first byte, as `seen` has it, and its length.
-fn wait_for(rt: &HostRuntime, port: &mut UdpPort) -> (u8, usize) {
+// Returns whether the next packet that comes within a second is this one.
+fn is_heard(rt: &HostRuntime, port: &mut UdpPort, packet: &[u8]) -> bool {
     for _ in 0..1_000 {
-        let answer = port.recv();
-        let len = match &answer {
-            Ok(Some(packet)) => packet.len(),
-            Ok(None) => 0,
-            Err(_) => 0,
-        };
-        let first = seen(&answer);
-        if first != b'.' {
-            return (first, len);
+        match port.recv() {
+            Ok(Some(found)) => return found.as_slice() == packet,
+            Ok(None) => thread::sleep(rt, Duration::from_millis(1)),
+            Err(_) => return false,
         }
-        thread::sleep(rt, Duration::from_millis(1));
     }
-    (b'.', 0)
+    false
 }
 
 // Another socket of node 1 is refused while it has one.
@@ -226,17 +220,38 @@ fn is_taken(rt: &HostRuntime) -> bool {
     }
 }
 
-// A packet of this length goes from one port to a node. Returns what is told of that.
-fn sent_long(
-    rt: &HostRuntime,
-    port: &mut UdpPort,
-    to: NodeId,
-    first: u8,
-    len: usize,
-) -> Result<u8, OutOfMemory> {
-    let packet = vec![in rt.alloc(); first; len]?;
-    Ok(sent(port, to, &packet))
+// Returns bytes that differ from their neighbours.
+fn numbered(alloc: Global, len: usize) -> Result<Vec<u8>, OutOfMemory> {
+    let mut bytes = Vec::new(alloc);
+    for index in 0..len {
+        bytes.push((index % 251) as u8)?;
+    }
+    Ok(bytes)
 }
+
+// Sends a packet of this length from node 1 to node 0. Returns whether its first bytes come, this number of them.
+fn is_carried(
+    rt: &HostRuntime,
+    a: &mut UdpPort,
+    b: &mut UdpPort,
+    len: usize,
+    come: usize,
+) -> Result<bool, OutOfMemory> {
+    let mut packet = numbered(rt.alloc(), len)?;
+    let is_sent = sent(b, NodeId::new(0), &packet) == b'+';
+    packet.truncate(come);
+    Ok(is_sent && is_heard(rt, a, &packet))
+}
+
+// The bytes of packets, and how many of them come. A packet has 16,384 bytes at most; of a longer datagram one byte more is kept.
+const CARRIED: &[(usize, usize)] = &[
+    (0, 0),
+    (8_192, 8_192),
+    (16_383, 16_383),
+    (16_384, 16_384),
+    (16_385, 16_385),
+    (16_386, 16_385),
+];
 
 // Nodes 0 and 1, as their ports stand.
 fn talk(
@@ -245,14 +260,13 @@ fn talk(
     a: &mut UdpPort,
     b: &mut UdpPort,
 ) -> Result<(), OutOfMemory> {
-    let (to_a, to_b) = (NodeId::new(0), NodeId::new(1));
     assert!(rt; received(b) == b'.');
-    assert!(rt; sent(a, to_b, b"1 packet") == b'+');
-    assert!(rt; wait_for(host, b) == (b'1', 8));
-    // A datagram of one byte more than is kept is cut.
-    let told = sent_long(host, b, to_a, b'2', SPACE + 1)?;
-    assert!(rt; told == b'+');
-    assert!(rt; wait_for(host, a) == (b'2', SPACE));
+    assert!(rt; sent(a, NodeId::new(1), b"1 packet") == b'+');
+    assert!(rt; is_heard(host, b, b"1 packet"));
+    for (len, come) in CARRIED {
+        let is_carried = is_carried(host, a, b, *len, *come)?;
+        assert!(rt; is_carried, "{len} bytes");
+    }
     assert!(rt; received(a) == b'.');
     Ok(())
 }
@@ -264,8 +278,8 @@ fn fail(
     a: &UdpPort,
     b: &mut UdpPort,
 ) -> Result<(), OutOfMemory> {
-    let told = sent_long(host, b, NodeId::new(0), b'3', 65_508)?;
-    assert!(rt; told == b'!');
+    let packet = vec![in host.alloc(); b'3'; 65_508]?;
+    assert!(rt; sent(b, NodeId::new(0), &packet) == b'!');
     assert!(rt; sent(b, NodeId::new(2), b"4") == b'!');
     assert!(rt; a.failures() == 0 && b.failures() == 2);
     Ok(())

@@ -19,8 +19,8 @@ use std::thread;
 use std::thread::{JoinHandle, SpawnError, Threads};
 use std::time::Clock;
 
-// Keeps a thread that was started. Where it could not be, or cannot be kept, the server is over.
-fn keep<T: Drop, F: Drop>(
+/// Keeps a thread that was started. Where it could not be, or cannot be kept, the server is over.
+pub fn keep<T: Drop, F: Drop>(
     threads: &mut Vec<JoinHandle<T>>,
     started: Result<JoinHandle<T>, SpawnError<F>>,
     signals: &Signals,

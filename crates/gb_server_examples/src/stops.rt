@@ -1,16 +1,22 @@
 // Servers that standard input ends, and one that ends while standard input waits.
 use crate::messages::{DENIED, OPEN};
 use crate::served::{KEYS, RUN, Run, is_told, run_of};
+use gb_server::crew::keep;
 use gb_server::input::Input;
 use gb_server::orders::{Heard, KEPT, hear};
 use gb_server::serve_main::serve_main;
+use gb_server::signals::{Signals, Why};
+use gb_server::watch::watch;
+use gb_types::memory::OutOfMemory;
+use gb_types::node::NodeId;
 use std::alloc::Global;
 use std::fs::{File, Files};
 use std::io::Read;
 use std::net::{Net, TcpListener, TcpStream};
 use std::sync::Wait;
 use std::sync::atomic::{AtomicBool, Ordering};
-use std::thread::Threads;
+use std::test::Fail;
+use std::thread::{JoinHandle, SpawnError, Threads};
 use std::time::{Clock, Duration};
 use std::{io, thread};
 
@@ -184,4 +190,29 @@ fn one_line_is_an_order(rt: HostRuntime) {
     for (text, want) in &TEXTS {
         assert!(rt; stops_after(text) == *want);
     }
+}
+
+// Returns the signals of a server of one node for which no thread could be made.
+fn without_a_thread(alloc: Global) -> Result<Signals, OutOfMemory> {
+    let signals = Signals::new(alloc, NodeId::new(0), 1)?;
+    let mut threads: Vec<JoinHandle<()>> = Vec::new(alloc);
+    keep(&mut threads, Err(SpawnError { value: () }), &signals);
+    Ok(signals)
+}
+
+// Returns true if a server with these signals tells that it serves.
+fn tells<H: Wait + Clock>(rt: &H, alloc: Global, signals: &Signals) -> bool {
+    let mut lines = Vec::new(alloc);
+    let mut input: &[u8] = b"";
+    watch(rt, signals, b"serving\n", false, &mut input, &mut lines) || !lines.is_empty()
+}
+
+#[test]
+fn a_server_without_one_of_its_threads_is_over(rt: HostRuntime) -> Result<(), Fail> {
+    let signals = without_a_thread(rt.alloc())?;
+    let why = signals.why();
+    assert!(rt; why == Some(Why::Failed) && signals.has_failed());
+    let tells = tells(&rt, rt.alloc(), &signals);
+    assert!(rt; !tells);
+    Ok(())
 }

@@ -334,7 +334,8 @@ pub const MANY_PACKETS: &[Built] = &[(
 )];
 
 // The longest log that a fetch shows, 16 messages of the longest payload, all that their member may say: two such answers in one
-// piece are more than 200,000 bytes before the next read.
+// piece are more than 200,000 bytes before the next read. The second stands behind answers of 16,380 bytes, so that as many bytes are
+// written at once as there may be.
 pub const LONGEST_LOG: &[Built] = &[(
     4_096,
     &[
@@ -356,13 +357,16 @@ pub const LONGEST_LOG: &[Built] = &[(
             1,
         ),
         (("", " 0:#:*"), 1, 17),
-        (("fetch 0 7 1 0 16\n", "\nlog 16"), 0, 1),
+        (("", "\n"), 0, 1),
+        (("fetch 0 7 1 0 17\n", "refused 11 BadPlace\n"), 1, 820),
+        (("fetch 0 7 1 0 16\n", "log 16"), 0, 1),
         (("", " 0:#:*"), 1, 17),
         (("fetch 0 7 1 0 17\n", "\nrefused 11 BadPlace\n"), 0, 1),
     ],
 )];
 
-// A frame of as many messages of one byte as a packet of each version has room for, and a frame of the one that is left.
+// A frame of as many messages of one byte as a packet of each version has room for, and of no byte in the last, which is given again, and
+// a frame of the one that is left. Both are acknowledged.
 pub const SHORTEST_MESSAGES: &[Built] = &[
     (
         0,
@@ -378,8 +382,8 @@ pub const SHORTEST_MESSAGES: &[Built] = &[
             (("say 0 7 1 61\n", "said #\n"), 1, 817),
             (
                 (
-                    "pack 0 1\npack 0 1\narrive 1\narrive 2\n",
-                    "packet 1\npacket 2\ngood first 815 0\ngood first 1 0\n",
+                    "pack 0 1\npack 0 1\nagain 0 1 1\narrive 3\narrive 1\narrive 2\nack 1 0\narrive 4\n",
+                    "packet 1\npacket 2\npacket 3\ngood first 815 0\ngood seen 0 0\ngood first 1 0\npacket 4\ngood none 0 2\n",
                 ),
                 0,
                 1,
@@ -401,8 +405,54 @@ pub const SHORTEST_MESSAGES: &[Built] = &[
             (("say 0 7 2 61\n", "said #\n"), 1, 612),
             (
                 (
-                    "pack 0 1\npack 0 1\narrive 1\narrive 2\n",
-                    "packet 1\npacket 2\ngood first 1634 0\ngood first 1 0\n",
+                    "pack 0 1\npack 0 1\nagain 0 1 1\narrive 3\narrive 1\narrive 2\nack 1 0\narrive 4\n",
+                    "packet 1\npacket 2\npacket 3\ngood first 1634 0\ngood seen 0 0\ngood first 1 0\npacket 4\ngood none 0 2\n",
+                ),
+                0,
+                1,
+            ),
+        ],
+    ),
+    (
+        0,
+        &[
+            (
+                (
+                    "cluster2 2 3 3,3\ntenant 0 7 4 1024 65536 1024\nmake 0 7 1 beb 0,1 1024 65536 1024\nmake 0 7 2 beb 0,1 1024 65536 1024\nopen 0 7 1\nopen 0 7 2\n",
+                    "ok\nok\nok\nok\nok\nok\n",
+                ),
+                0,
+                1,
+            ),
+            (("say 0 7 1 61\n", "said #\n"), 1, 1_025),
+            (("say 0 7 2 61\n", "said #\n"), 1, 145),
+            (
+                (
+                    "pack 0 1\npack 0 1\nagain 0 1 1\narrive 3\narrive 1\narrive 2\nack 1 0\narrive 4\n",
+                    "packet 1\npacket 2\npacket 3\ngood first 1167 0\ngood seen 0 0\ngood first 1 0\npacket 4\ngood none 0 2\n",
+                ),
+                0,
+                1,
+            ),
+        ],
+    ),
+    (
+        0,
+        &[
+            (
+                (
+                    "cluster2 2 3 2,2\ntenant 0 7 4 1024 65536 1024\nmake 0 7 1 beb 0,1 1024 65536 1024\nmake 0 7 2 beb 0,1 1024 65536 1024\nopen 0 7 1\nopen 0 7 2\n",
+                    "ok\nok\nok\nok\nok\nok\n",
+                ),
+                0,
+                1,
+            ),
+            (("say 0 7 1 -\n", "said #\n"), 1, 1_025),
+            (("say 0 7 2 -\n", "said #\n"), 1, 794),
+            (
+                (
+                    "pack 0 1\npack 0 1\nagain 0 1 1\narrive 3\narrive 1\narrive 2\nack 1 0\narrive 4\n",
+                    "packet 1\npacket 2\npacket 3\ngood first 1816 0\ngood seen 0 0\ngood first 1 0\npacket 4\ngood none 0 2\n",
                 ),
                 0,
                 1,
@@ -466,6 +516,43 @@ pub const ASKED: &[(&str, usize)] = &[
     ("arrive 1\narri", 3),
     ("ve 2\n", 13),
     ("tick 0\n", 23),
+];
+
+/// How a schedule ends, the bytes that a writer takes, how the run ends then, what is written behind the answers, and how often a write
+/// fails.
+pub type Want = (
+    Result<SimEnd, SimFault>,
+    usize,
+    Result<SimEnd, SimFault>,
+    &'static [u8],
+    usize,
+);
+
+pub const WANTS: &[Want] = &[
+    (Ok(SimEnd::All), 0, Ok(SimEnd::All), b"", 0),
+    (
+        Ok(SimEnd::BadLine(1, BadLine::NoCluster)),
+        0,
+        Ok(SimEnd::BadLine(1, BadLine::NoCluster)),
+        b"",
+        0,
+    ),
+    (Err(SimFault::Read), 0, Err(SimFault::Read), b"", 0),
+    (Err(SimFault::Write), 0, Err(SimFault::Write), b"", 0),
+    (
+        Err(SimFault::OutOfMemory),
+        14,
+        Err(SimFault::OutOfMemory),
+        b"out of memory\n",
+        0,
+    ),
+    (
+        Err(SimFault::OutOfMemory),
+        13,
+        Err(SimFault::Write),
+        b"out of memory",
+        1,
+    ),
 ];
 
 /// How a schedule ends, and the line that is told of it.

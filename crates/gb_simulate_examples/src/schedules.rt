@@ -3,12 +3,13 @@
 use crate::cases::{
     ALL_MESSAGES, ASKED, AT_THEIR_EDGES, Built, COMPLAINTS, Case, DAMAGED_PACKETS, FULL_LINK,
     IN_ANY_PIECES, IN_LOWER_CASE, LONG_PAYLOADS, LONGEST_LINES, LONGEST_LOG, LONGEST_PAYLOAD,
-    MANY_PACKETS, MOST_GROUPS, MOST_LINES, Part, Repeated, SHORTEST_MESSAGES, UNTAGGED,
-    WINDOW_OF_64_FRAMES,
+    MANY_PACKETS, MOST_GROUPS, MOST_LINES, Part, Repeated, SHORTEST_MESSAGES, UNTAGGED, WANTS,
+    WINDOW_OF_64_FRAMES, Want,
 };
 use gb_simulate::complaint::complain;
 use gb_simulate::outcome::{SimEnd, SimFault};
 use gb_simulate::simulate::simulate;
+use gb_simulate::writing::tell_want_of_memory;
 use gb_types::memory::OutOfMemory;
 use gb_types::number::put_number;
 use std::alloc::Global;
@@ -39,7 +40,8 @@ impl Read for Pieces<'_> {
 }
 
 /// Takes this number of bytes, by pieces of at most this size, and then fails so, or takes nothing. Where
-/// `interrupted` is set the next write is interrupted, and where `stuck` is set each flush fails.
+/// `interrupted` is set the next write is interrupted, and where `stuck` is set each flush fails. It counts the writes and flushes that
+/// failed.
 #[derive(Drop)]
 struct Space {
     taken: Vec<u8>,
@@ -48,6 +50,7 @@ struct Space {
     full: Option<ErrorKind>,
     interrupted: bool,
     stuck: bool,
+    failures: usize,
 }
 
 impl Write for Space {
@@ -57,10 +60,11 @@ impl Write for Space {
             return Err(ErrorKind::Interrupted.into());
         }
         let count = cmp::min(cmp::min(self.piece, self.left), buf.len());
-        if count == 0
-            && let Some(kind) = self.full
-        {
-            return Err(kind.into());
+        if count == 0 {
+            self.failures = self.failures.saturating_add(1);
+            if let Some(kind) = self.full {
+                return Err(kind.into());
+            }
         }
         self.taken.extend_from_slice(&buf[..count])?;
         self.left -= count;
@@ -69,6 +73,7 @@ impl Write for Space {
 
     fn flush(&mut self) -> io::Result<()> {
         if self.stuck {
+            self.failures = self.failures.saturating_add(1);
             return Err(ErrorKind::Other.into());
         }
         Ok(())
@@ -133,6 +138,7 @@ fn with_space(alloc: Global, left: usize, piece: usize) -> Space {
         full: Some(ErrorKind::Other),
         interrupted: false,
         stuck: false,
+        failures: 0,
     }
 }
 
@@ -429,20 +435,35 @@ const FAILED_WRITES: &[FailedWrite] = &[
     (1_000, Some(ErrorKind::Other), true, b"ok\nno packet\n"),
 ];
 
-/// Whether a failed write ends the run.
+/// Whether a failed write ends the run, the first that fails.
 fn ends_at_a_write(alloc: Global, failed: &FailedWrite) -> bool {
     let (left, full, stuck, answers) = *failed;
     let mut reader = in_pieces(b"cluster 1 2\narrive 1\n", 100);
     let mut out = with_space(alloc, left, 2);
     out.full = full;
     out.stuck = stuck;
-    comes_to(alloc, &mut reader, &mut out, Err(SimFault::Write), answers)
+    comes_to(alloc, &mut reader, &mut out, Err(SimFault::Write), answers) && out.failures == 1
 }
 
 #[test]
 fn a_failed_write_ends_the_run(rt: HostRuntime) {
     for failed in FAILED_WRITES {
         assert!(rt; ends_at_a_write(rt.alloc(), failed));
+    }
+}
+
+/// Whether want of memory is told behind the answers, and nothing of another end.
+fn is_wanted(alloc: Global, want: &Want) -> bool {
+    let (outcome, left, end, told, failures) = *want;
+    let mut out = with_space(alloc, left, 5);
+    let found = tell_want_of_memory(outcome, &mut out);
+    found == end && out.taken.as_slice() == told && out.failures == failures
+}
+
+#[test]
+fn a_write_fault_is_told_where_a_write_failed(rt: HostRuntime) {
+    for want in WANTS {
+        assert!(rt; is_wanted(rt.alloc(), want));
     }
 }
 

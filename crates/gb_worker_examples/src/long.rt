@@ -1,7 +1,8 @@
-// The longest packet: messages that fill it are said at a node of a host, and it is brought to another node. And a tape of many calls.
+// The longest packet: messages that fill it are said at a node of a host, and it is brought to another node. A tape of many calls. And a
+// host of as many nodes as there may be, each with a seat of its own.
 use crate::asking::{BOTH, LONG, ask, call, log, say};
-use crate::plans::{FIRST, SECOND};
-use crate::scenes::{Scene, whole};
+use crate::plans::{FIRST, SECOND, most_nodes};
+use crate::scenes::{Scene, whole, whole_of};
 use gb_host::gate::Open;
 use gb_host::host::Host;
 use gb_host::names::Tapes;
@@ -11,6 +12,7 @@ use gb_node::event::NodeEvent;
 use gb_node::packet_text::PacketText;
 use gb_port::ring::RingPort;
 use gb_types::entry::Entry;
+use gb_types::node::NodeId;
 use gb_types::reply::Reply;
 use gb_types::version::Version;
 use std::alloc::Global;
@@ -134,4 +136,29 @@ fn a_hundred_thousand_calls_stand_on_a_tape(rt: HostRuntime) {
         .expect(&rt, "a scene");
     assert!(rt; left.counts[0] == 100_000 && left.ticks == [100_000, 0]);
     assert!(rt; left.calls == [100_000, 0] && left.agree && left.merged);
+}
+
+/// Ticks each node once, from the seat with its number. How many ticks were answered.
+pub fn tick_each<L: Tapes, R: Wait>(rt: &R, host: &Host<L>, seats: &mut [Seat<L>]) -> [u64; 4] {
+    let mut count: u64 = 0;
+    let mut number: u8 = 0;
+    for seat in seats.iter_mut() {
+        if let Some(node) = NodeId::from_number(number) {
+            if call(rt, host, seat, node, NodeEvent::Tick, &mut Open).is_ok() {
+                count = count.saturating_add(1);
+            }
+        }
+        number = number.saturating_add(1);
+    }
+    [count, 0, 0, 0]
+}
+
+#[test]
+fn each_of_thirty_two_nodes_has_a_seat(rt: HostRuntime) {
+    let mut scene: Scene<RingPort> = Scene::EachSeat;
+    let left = whole_of(&rt, rt.alloc(), most_nodes(), 32, &mut scene)
+        .ok()
+        .expect(&rt, "a scene");
+    assert!(rt; left.counts[0] == 32 && left.calls == [1, 1]);
+    assert!(rt; left.ticks == [1, 1] && left.agree && left.merged);
 }

@@ -34,6 +34,26 @@ pub fn two_nodes(version: Version, tape: bool) -> HostPlan
     }
 }
 
+/// Returns the plan of as many nodes as there may be, with tapes.
+pub fn most_nodes() -> HostPlan
+    ensures nodes { result.cluster.nodes ≡ 32 }
+    ensures limits { IsPlan result }
+{
+    HostPlan {
+        cluster: Plan {
+            nodes: 32,
+            versions: [Version::Two; NODES],
+            silence: 1_000,
+            places: 1_024,
+            room: 16_345,
+            cluster_key: [0x11; 32],
+            admin_key: ADMIN_KEY,
+        },
+        tape: true,
+        ring: false,
+    }
+}
+
 /// Returns the plan of two nodes whose entries go to recorders.
 pub fn two_recorded() -> HostPlan
     ensures nodes { result.cluster.nodes ≡ 2 }

@@ -1,4 +1,4 @@
-// Scenes on a host of two nodes, from its opening to its end, and their results.
+// Scenes on a host, mostly of two nodes, from its opening to its end, and their results.
 ghost use Rattle.std.specs.Prelude.{◌≡◌, vec_len};
 ghost use Rattle.gb_host.specs.Pasts.{AreBlank, books_of};
 ghost use Rattle.gb_host.specs.Plans.{IsPlan};
@@ -6,7 +6,7 @@ ghost use Rattle.gb_host.specs.Plans.{IsPlan};
 use crate::agreement::{agree, copy_lists, count_entries, entries_of};
 use crate::asking::prepare_both;
 use crate::day::all_work;
-use crate::long::{fill_a_packet, fill_a_tape};
+use crate::long::{fill_a_packet, fill_a_tape, tick_each};
 use crate::plans::two_nodes;
 use crate::roles::Role;
 use gb_host::close::close;
@@ -41,6 +41,8 @@ pub enum Scene<'a, P> {
     FullPacket,
     /// A node ticks a hundred thousand times.
     LongTape,
+    /// Each node ticks once, from the seat with its number.
+    EachSeat,
     /// The last seat is lost.
     LostSeat,
 }
@@ -64,6 +66,7 @@ fn play<L: Tapes + Send + Sync, P: Port + Send + Drop, R: Threads + Wait + Clock
             fill_a_packet(rt, alloc, host, seats)
         }
         Scene::LongTape => fill_a_tape(rt, host, seats),
+        Scene::EachSeat => tick_each(rt, host, seats),
         Scene::LostSeat => {
             let _ = seats.pop();
             [0; 4]
@@ -181,6 +184,22 @@ fn run<L: Tapes + Send + Sync, P: Port + Send + Drop, R: Threads + Wait + Clock 
     left_of(alloc, plan, counts, &close(host, seats), &lists)
 }
 
+/// Plays a scene on a host of this plan, which has this number of seats.
+pub fn whole_of<P: Port + Send + Drop, R: Threads + Wait + Clock + Sync>(
+    rt: &R,
+    alloc: Global,
+    plan: HostPlan,
+    count: u32,
+    scene: &mut Scene<'_, P>,
+) -> Result<Left, Refused>
+    requires { IsPlan plan }
+{
+    let Ok(pasts) = new_pasts(alloc, plan.cluster.nodes) else {
+        return Err(Refused::Other);
+    };
+    run::<Brand, P, R>(rt, alloc, plan, count, scene, pasts)
+}
+
 /// Plays a scene on a host of two nodes that send this version, with tapes or without. The host has this number of seats.
 pub fn whole<P: Port + Send + Drop, R: Threads + Wait + Clock + Sync>(
     rt: &R,
@@ -190,8 +209,5 @@ pub fn whole<P: Port + Send + Drop, R: Threads + Wait + Clock + Sync>(
     count: u32,
     scene: &mut Scene<'_, P>,
 ) -> Result<Left, Refused> {
-    let Ok(pasts) = new_pasts(alloc, 2) else {
-        return Err(Refused::Other);
-    };
-    run::<Brand, P, R>(rt, alloc, two_nodes(version, tape), count, scene, pasts)
+    whole_of(rt, alloc, two_nodes(version, tape), count, scene)
 }

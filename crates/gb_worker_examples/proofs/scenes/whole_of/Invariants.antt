@@ -1,5 +1,5 @@
 use Rattle.gb_host.specs.Pasts.{books_of}
-use Rattle.gb_worker_examples.proofs.scenes.whole.Given as goal
+use Rattle.gb_worker_examples.proofs.scenes.whole_of.Given as goal
 
 abbrev pub ghosts-run : goal.ghosts-run
 ghosts-run g a = record { plan = a.plan; books = books_of a.pasts.items }
