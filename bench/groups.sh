@@ -4,7 +4,7 @@
 set -eu
 top=$(cd "$(dirname "$0")/.." && pwd)
 work=$top/bench/out/groups
-below='types cap frame layer reliable uniform fifo records stack rules history slot groups'
+below='types cap frame layer reliable uniform fifo records stack rules history slot groups table'
 mkdir -p "$work/crates"
 for name in $below; do
     mkdir -p "$work/crates/gb_$name"
@@ -13,6 +13,6 @@ done
 mkdir -p "$work/crates/groups/src"
 cp "$top/bench/groups/main.rt.txt" "$work/crates/groups/src/main.rt"
 grep -E "^gb_(${below// /|}):" "$top/crates.txt" >"$work/crates.txt"
-echo 'groups: gb_types gb_frame gb_groups anyhow' >>"$work/crates.txt"
+echo 'groups: gb_types gb_cap gb_table anyhow' >>"$work/crates.txt"
 cd "$work/crates/groups"
 "${RT:-rt}" run
