@@ -1,16 +1,19 @@
-//! All groups at one node.
+//! All groups at one node: packing in turns, rooms with their generations, dropped groups, and the indices of what waits.
 use crate::told::{Told, in_short};
+use gb_cap::hmac::Key;
+use gb_cap::token::{Need, Token, token};
 use gb_frame::item::{ItemView, first_item};
-use gb_groups::groups::Groups;
+use gb_table::table::Table;
 use gb_types::address::Addr;
 use gb_types::kind::Kind;
-use gb_types::limits::PLACES;
 use gb_types::memory::OutOfMemory;
 use gb_types::message::MsgId;
+use gb_types::new_message::NewMessage;
 use gb_types::node::{NodeId, NodeSet};
+use gb_types::payload::Payload;
 use gb_types::refusal::Refusal;
-use gb_types::reply::Reply;
-use gb_types::spec::Spec;
+use gb_types::request::Request;
+use gb_types::spec::{Spec, TenantRow};
 use gb_types::version::Version;
 use std::alloc::Global;
 use std::process::Abort;
@@ -21,10 +24,17 @@ const ME: NodeId = NodeId { number: 0 };
 
 const FRIEND: NodeId = NodeId { number: 1 };
 
+const ADMIN_KEY: Key = [1; 32];
+
+const TENANT_KEY: Key = [2; 32];
+
 const ROOM: u16 = 8_153;
 
 /// A payload that a node of version 1 lets fall.
 const LONG: &[u8] = &[7; 1_025];
+
+/// A room, counted from 0, and a generation. Each tenant has 256 rooms, from tenant 7 on.
+type Group = (u16, u32);
 
 #[derive(Clone, Copy)]
 enum Step {
@@ -34,118 +44,13 @@ enum Step {
     Say,
     /// An item comes from the friend.
     Item,
-    /// An item of 1,025 bytes comes from the friend to a node of this version.
-    LongItem(Version),
+    /// An item of 1,025 bytes comes from the friend.
+    LongItem,
+    /// The friend acknowledges the first message.
     Done,
     Shut,
     Drop,
     Fetch,
-}
-
-fn open(groups: &mut Groups, addr: Addr) -> Reply {
-    if addr.generation > 0 {
-        return Reply::Refused(Refusal::OverReserve);
-    }
-    let mut members = NodeSet::new();
-    members.insert(FRIEND);
-    members.insert(ME);
-    if !members.contains(ME) {
-        return Reply::Refused(Refusal::BadMembers);
-    }
-    let spec = Spec {
-        kind: Kind::Beb,
-        members,
-        msgs: 8,
-        bytes: 65_536,
-        window: 1_024,
-    };
-    if groups.find(addr).is_some() {
-        return Reply::Refused(Refusal::Spent);
-    }
-    if groups.len() >= usize::from(PLACES) {
-        return Reply::Refused(Refusal::NoRoom);
-    }
-    let made = groups.make(addr, &spec, ME, &NodeSet::new());
-    if made.is_err() {
-        return Reply::Refused(Refusal::OutOfMemory);
-    }
-    groups.open_group(addr)
-}
-
-/// Hands the friend's first message in a group, which comes from the friend, to a node of this version.
-fn item(groups: &mut Groups, version: Version, group: u16, payload: &[u8]) -> Reply {
-    let item = ItemView {
-        tenant: 7,
-        group,
-        generation: 0,
-        origin: 1,
-        seq: 1,
-        payload,
-    };
-    groups.item(version, FRIEND, item);
-    Reply::Done
-}
-
-fn take(groups: &mut Groups, step: Step, group: u16) -> Reply {
-    let addr = Addr {
-        tenant: 7,
-        group,
-        generation: 0,
-    };
-    match step {
-        Step::Open => open(groups, addr),
-        Step::Say => {
-            let place = groups.find(addr);
-            groups.say(Version::One, addr, place, None, b"a")
-        }
-        Step::Item => item(groups, Version::One, group, b"x"),
-        Step::LongItem(version) => item(groups, version, group, LONG),
-        Step::Done => {
-            groups.done(FRIEND, addr, MsgId { origin: ME, seq: 1 });
-            Reply::Done
-        }
-        Step::Shut => groups.shut_group(addr),
-        Step::Drop => groups.drop_group(addr),
-        Step::Fetch => groups.fetch(groups.find(addr), 0, 16),
-    }
-}
-
-/// Compares the answers of the groups to these steps.
-fn compare(rt: &impl Abort, groups: &mut Groups, steps: &[(Step, u16, Told)]) {
-    for (step, group, want) in steps {
-        let reply = take(groups, *step, *group);
-        let found = in_short(&reply);
-        assert!(rt; found == *want);
-    }
-}
-
-/// Compares the next batch for a node: it has items of these groups, with these numbers, in this order, in the version.
-fn packs(
-    groups: &mut Groups,
-    alloc: Global,
-    version: Version,
-    dest: NodeId,
-    room: u16,
-    want: &[(u16, u16)],
-) -> Result<bool, OutOfMemory> {
-    let room = usize::from(room);
-    let (count, bytes) = groups.measure(version, dest, room);
-    let mut out = Vec::with_capacity(alloc, bytes)?;
-    groups.pack_into(version, dest, room, count, &mut out);
-    if out.len() != bytes || want.len() != usize::from(count) {
-        return Ok(false);
-    }
-    let mut texts = out.as_slice();
-    for (group, seq) in want {
-        let Some((item, rest)) = first_item(version, 1_024, texts) else {
-            return Ok(false);
-        };
-        if item.tenant != 7 || item.origin != 0 || item.group != *group || item.seq != *seq {
-            return Ok(false);
-        }
-        texts = rest;
-    }
-    Ok(texts.is_empty())
 }
 
 /// The node that a batch is for.
@@ -155,182 +60,441 @@ enum To {
     Friend,
 }
 
-/// Compares the next batches for nodes, with room for this number of bytes: they have these items.
+/// A batch: its node, the bytes that it has room for, and its items, each as a room, a generation and the number of a message.
+type Batch<'a> = (To, u16, &'a [(u16, u32, u16)]);
+
+fn addr(group: Group) -> Addr {
+    Addr {
+        tenant: 7 + group.0 / 256,
+        group: group.0 % 256,
+        generation: group.1,
+    }
+}
+
+fn owner(addr: Addr) -> Token {
+    token(&TENANT_KEY, Need::Tenant(addr.tenant))
+}
+
+fn member(addr: Addr) -> Token {
+    token(&TENANT_KEY, Need::Member(addr.tenant, addr.group, ME))
+}
+
+fn spec() -> Spec {
+    let mut members = NodeSet::new();
+    members.insert(FRIEND);
+    members.insert(ME);
+    Spec {
+        kind: Kind::Beb,
+        members,
+        msgs: 8,
+        bytes: 65_536,
+        window: 1_024,
+    }
+}
+
+/// Returns a table's answer to a request, in short.
+fn answer(table: &mut Table, request: &Request) -> Told {
+    let reply = table.request(request, &NodeSet::new());
+    in_short(&reply)
+}
+
+fn open(table: &mut Table, addr: Addr) -> Told {
+    match answer(table, &Request::Make(owner(addr), addr, spec())) {
+        Told::Done => answer(table, &Request::OpenGroup(owner(addr), addr)),
+        refused => refused,
+    }
+}
+
+/// Says a message of one byte.
+fn say(alloc: Global, table: &mut Table, addr: Addr) -> Result<Told, OutOfMemory> {
+    let message = NewMessage::new(Payload::from_slice(alloc, b"a")?);
+    Ok(answer(table, &Request::Say(member(addr), addr, message)))
+}
+
+/// Hands in the friend's first message in a group.
+fn item(table: &mut Table, addr: Addr, payload: &[u8]) -> Told {
+    let item = ItemView {
+        tenant: addr.tenant,
+        group: addr.group,
+        generation: addr.generation,
+        origin: 1,
+        seq: 1,
+        payload,
+    };
+    table.item(FRIEND, item);
+    Told::Done
+}
+
+fn take(alloc: Global, table: &mut Table, step: Step, group: Group) -> Result<Told, OutOfMemory> {
+    let addr = addr(group);
+    Ok(match step {
+        Step::Open => open(table, addr),
+        Step::Say => say(alloc, table, addr)?,
+        Step::Item => item(table, addr, b"x"),
+        Step::LongItem => item(table, addr, LONG),
+        Step::Done => {
+            table.done(FRIEND, addr, MsgId { origin: ME, seq: 1 });
+            Told::Done
+        }
+        Step::Shut => answer(table, &Request::ShutGroup(owner(addr), addr)),
+        Step::Drop => answer(table, &Request::DropGroup(owner(addr), addr)),
+        Step::Fetch => answer(table, &Request::Fetch(member(addr), addr, 0, 16)),
+    })
+}
+
+/// Compares the answers to these steps.
+fn compare(
+    rt: &impl Abort,
+    alloc: Global,
+    table: &mut Table,
+    steps: &[(Step, Group, Told)],
+) -> Result<(), OutOfMemory> {
+    for (step, group, want) in steps {
+        let found = take(alloc, table, *step, *group)?;
+        assert!(rt; found == *want);
+    }
+    Ok(())
+}
+
+/// Adds a tenant with 256 rooms.
+fn add_tenant(table: &mut Table, tenant: u16) -> Told {
+    let row = TenantRow {
+        tenant,
+        key: TENANT_KEY,
+        groups: 256,
+        msgs: 8,
+        bytes: 65_536,
+        window: 1_024,
+    };
+    let admin = token(&ADMIN_KEY, Need::Admin);
+    answer(table, &Request::AddTenant(admin, row))
+}
+
+/// Returns the table of a node of this version whose four tenants have all rooms.
+fn table_of(rt: &impl Abort, alloc: Global, version: Version) -> Table {
+    let mut table = Table::new(alloc, ME, 2, version, 1_024, &ADMIN_KEY);
+    for tenant in [7, 8, 9, 10] {
+        let added = add_tenant(&mut table, tenant);
+        assert!(rt; added == Told::Done);
+    }
+    table
+}
+
+/// Compares the next batch for a node: it has these items, in this order.
+fn packs(
+    alloc: Global,
+    table: &mut Table,
+    dest: NodeId,
+    room: u16,
+    want: &[(u16, u32, u16)],
+) -> Result<bool, OutOfMemory> {
+    let version = table.version();
+    let room = usize::from(room);
+    let (count, bytes) = table.measure(dest, room);
+    let mut out = Vec::with_capacity(alloc, bytes)?;
+    table.pack_into(dest, room, count, &mut out);
+    if out.len() != bytes || want.len() != usize::from(count) {
+        return Ok(false);
+    }
+    let mut texts = out.as_slice();
+    for (room, generation, seq) in want {
+        let Some((item, rest)) = first_item(version, 1_024, texts) else {
+            return Ok(false);
+        };
+        let named = Addr {
+            tenant: item.tenant,
+            group: item.group,
+            generation: item.generation,
+        };
+        if named != addr((*room, *generation)) || item.origin != 0 || item.seq != *seq {
+            return Ok(false);
+        }
+        texts = rest;
+    }
+    Ok(texts.is_empty())
+}
+
+/// Compares the next batches.
 fn give(
     rt: &impl Abort,
     alloc: Global,
-    groups: &mut Groups,
-    batches: &[(To, u16, &[(u16, u16)])],
+    table: &mut Table,
+    batches: &[Batch<'_>],
 ) -> Result<(), OutOfMemory> {
     for (to, room, want) in batches {
         let dest = match to {
             To::Me => ME,
             To::Friend => FRIEND,
         };
-        let packed = packs(groups, alloc, Version::One, dest, *room, want)?;
+        let packed = packs(alloc, table, dest, *room, want)?;
         assert!(rt; packed);
     }
     Ok(())
 }
 
-/// Makes these steps in new groups. Then the friend may be noticed, and these batches come.
+/// Makes these steps at a new node of this version. Then these batches come.
 fn run(
     rt: &impl Abort,
     alloc: Global,
-    steps: &[(Step, u16, Told)],
-    is_noticed: bool,
-    batches: &[(To, u16, &[(u16, u16)])],
+    version: Version,
+    steps: &[(Step, Group, Told)],
+    batches: &[Batch<'_>],
 ) -> Result<(), OutOfMemory> {
-    let mut groups = Groups::new(alloc);
-    compare(rt, &mut groups, steps);
-    if is_noticed {
-        groups.notice(FRIEND);
-    }
-    give(rt, alloc, &mut groups, batches)
+    let mut table = table_of(rt, alloc, version);
+    compare(rt, alloc, &mut table, steps)?;
+    give(rt, alloc, &mut table, batches)
 }
 
 /// Checks that nothing is packed for the friend.
-static NOTHING: [(To, u16, &[(u16, u16)]); 1] = [(To::Friend, ROOM, &[])];
+static NOTHING: [Batch<'static>; 1] = [(To::Friend, ROOM, &[])];
 
-static THREE_SPEAK: [(Step, u16, Told); 10] = [
-    (Step::Open, 1, Told::Done),
-    (Step::Open, 2, Told::Done),
-    (Step::Open, 3, Told::Done),
-    (Step::Say, 1, Told::Done),
-    (Step::Say, 1, Told::Done),
-    (Step::Say, 1, Told::Done),
-    (Step::Say, 2, Told::Done),
-    (Step::Say, 3, Told::Done),
-    (Step::Say, 3, Told::Done),
-    (Step::Drop, 2, Told::Done),
+static THREE_SPEAK: [(Step, Group, Told); 10] = [
+    (Step::Open, (1, 0), Told::Done),
+    (Step::Open, (2, 0), Told::Done),
+    (Step::Open, (3, 0), Told::Done),
+    (Step::Say, (1, 0), Told::Done),
+    (Step::Say, (1, 0), Told::Done),
+    (Step::Say, (1, 0), Told::Done),
+    (Step::Say, (2, 0), Told::Done),
+    (Step::Say, (3, 0), Told::Done),
+    (Step::Say, (3, 0), Told::Done),
+    (Step::Drop, (2, 0), Told::Done),
 ];
 
 // Each item takes ten bytes.
-static IN_TURN: [(To, u16, &[(u16, u16)]); 5] = [
+static IN_TURN: [Batch<'static>; 5] = [
     (To::Me, ROOM, &[]),
-    (To::Friend, 39, &[(1, 1), (3, 1), (1, 2)]),
+    (To::Friend, 39, &[(1, 0, 1), (3, 0, 1), (1, 0, 2)]),
     (To::Friend, 9, &[]),
-    (To::Friend, ROOM, &[(3, 2), (1, 3)]),
+    (To::Friend, ROOM, &[(3, 0, 2), (1, 0, 3)]),
     (To::Friend, ROOM, &[]),
 ];
 
 #[test]
 fn groups_give_one_item_each_in_turn(rt: HostRuntime) -> Result<(), Fail> {
-    run(&rt, rt.alloc(), &THREE_SPEAK, false, &IN_TURN)?;
+    run(&rt, rt.alloc(), Version::One, &THREE_SPEAK, &IN_TURN)?;
     Ok(())
 }
 
-static ONE_IS_DROPPED: [(Step, u16, Told); 13] = [
-    (Step::Open, 1, Told::Done),
-    (Step::Say, 1, Told::Done),
-    (Step::Drop, 1, Told::Done),
-    (Step::Drop, 1, Told::Refused(Refusal::Spent)),
-    (Step::Fetch, 1, Told::Refused(Refusal::Spent)),
-    (Step::Fetch, 2, Told::Refused(Refusal::NoGroup)),
+static ONE_IS_DROPPED: [(Step, Group, Told); 13] = [
+    (Step::Open, (1, 0), Told::Done),
+    (Step::Say, (1, 0), Told::Done),
+    (Step::Drop, (1, 0), Told::Done),
+    (Step::Drop, (1, 0), Told::Refused(Refusal::Spent)),
+    (Step::Fetch, (1, 0), Told::Refused(Refusal::Spent)),
+    (Step::Fetch, (2, 0), Told::Refused(Refusal::NoGroup)),
     // The next group has the same key.
-    (Step::Open, 2, Told::Done),
-    (Step::Fetch, 2, Told::Log(0)),
+    (Step::Open, (2, 0), Told::Done),
+    (Step::Fetch, (2, 0), Told::Log(0)),
     // An item of a group that is not here is let fall.
-    (Step::Item, 9, Told::Done),
-    (Step::Item, 2, Told::Done),
-    (Step::Done, 2, Told::Done),
-    (Step::Fetch, 2, Told::Log(1)),
-    (Step::Fetch, 1, Told::Refused(Refusal::Spent)),
+    (Step::Item, (9, 0), Told::Done),
+    (Step::Item, (2, 0), Told::Done),
+    (Step::Done, (2, 0), Told::Done),
+    (Step::Fetch, (2, 0), Told::Log(1)),
+    (Step::Fetch, (1, 0), Told::Refused(Refusal::Spent)),
 ];
 
 #[test]
-fn a_dropped_group_keeps_its_place_and_shows_nothing(rt: HostRuntime) -> Result<(), Fail> {
-    run(&rt, rt.alloc(), &ONE_IS_DROPPED, false, &NOTHING)?;
+fn a_dropped_group_shows_nothing(rt: HostRuntime) -> Result<(), Fail> {
+    run(&rt, rt.alloc(), Version::One, &ONE_IS_DROPPED, &NOTHING)?;
     Ok(())
 }
 
-static ONE_IS_TOO_LONG: [(Step, u16, Told); 6] = [
-    (Step::Open, 1, Told::Done),
-    (Step::LongItem(Version::One), 1, Told::Done),
-    (Step::Fetch, 1, Told::Log(0)),
-    (Step::LongItem(Version::Two), 1, Told::Done),
-    (Step::LongItem(Version::Two), 9, Told::Done),
-    (Step::Fetch, 1, Told::Log(1)),
+static A_PLACE_IS_TAKEN_AGAIN: [(Step, Group, Told); 13] = [
+    (Step::Open, (1, 0), Told::Done),
+    (Step::Open, (1, 1), Told::Done),
+    (Step::Say, (1, 0), Told::Done),
+    (Step::Drop, (1, 0), Told::Done),
+    // The next generation has the first one's place and key, and nothing of its messages.
+    (Step::Open, (1, 2), Told::Done),
+    (Step::Item, (1, 0), Told::Done),
+    (Step::Fetch, (1, 2), Told::Log(0)),
+    (Step::Fetch, (1, 0), Told::Refused(Refusal::Spent)),
+    (Step::Shut, (1, 0), Told::Refused(Refusal::Spent)),
+    (Step::Open, (1, 0), Told::Refused(Refusal::Spent)),
+    (Step::Fetch, (1, 3), Told::Refused(Refusal::NoGroup)),
+    (Step::Item, (1, 2), Told::Done),
+    (Step::Fetch, (1, 2), Told::Log(1)),
+];
+
+#[test]
+fn a_generation_has_nothing_of_the_one_before_it(rt: HostRuntime) -> Result<(), Fail> {
+    run(
+        &rt,
+        rt.alloc(),
+        Version::Three,
+        &A_PLACE_IS_TAKEN_AGAIN,
+        &NOTHING,
+    )?;
+    Ok(())
+}
+
+static FOUR_LIVE: [(Step, Group, Told); 14] = [
+    (Step::Open, (1, 0), Told::Done),
+    (Step::Open, (1, 1), Told::Done),
+    (Step::Open, (1, 2), Told::Done),
+    (Step::Open, (1, 3), Told::Done),
+    (Step::Open, (1, 4), Told::Refused(Refusal::NoRoom)),
+    (Step::Open, (2, 0), Told::Done),
+    (Step::Drop, (1, 1), Told::Done),
+    (Step::Open, (1, 4), Told::Done),
+    (Step::Open, (1, 5), Told::Refused(Refusal::NoRoom)),
+    (Step::Say, (1, 4), Told::Done),
+    (Step::Say, (1, 3), Told::Done),
+    (Step::Say, (1, 2), Told::Done),
+    (Step::Say, (1, 0), Told::Done),
+    (Step::Say, (2, 0), Told::Done),
+];
+
+// In the order of the places. The walk ends in the second room, so the next one begins in the first.
+static BY_PLACES: [Batch<'static>; 2] = [
+    (
+        To::Friend,
+        ROOM,
+        &[(1, 0, 1), (1, 4, 1), (1, 2, 1), (1, 3, 1), (2, 0, 1)],
+    ),
+    (To::Friend, ROOM, &[]),
+];
+
+#[test]
+fn a_generation_takes_the_lowest_free_place(rt: HostRuntime) -> Result<(), Fail> {
+    run(&rt, rt.alloc(), Version::Three, &FOUR_LIVE, &BY_PLACES)?;
+    Ok(())
+}
+
+static ONE_IS_TOO_LONG: [(Step, Group, Told); 3] = [
+    (Step::Open, (1, 0), Told::Done),
+    (Step::LongItem, (1, 0), Told::Done),
+    (Step::Fetch, (1, 0), Told::Log(0)),
+];
+
+static ONE_IS_LONG: [(Step, Group, Told); 4] = [
+    (Step::Open, (1, 0), Told::Done),
+    (Step::LongItem, (1, 0), Told::Done),
+    (Step::LongItem, (9, 0), Told::Done),
+    (Step::Fetch, (1, 0), Told::Log(1)),
 ];
 
 #[test]
 fn an_item_above_the_payload_limit_is_let_fall(rt: HostRuntime) -> Result<(), Fail> {
-    run(&rt, rt.alloc(), &ONE_IS_TOO_LONG, false, &NOTHING)?;
+    run(&rt, rt.alloc(), Version::One, &ONE_IS_TOO_LONG, &NOTHING)?;
+    run(&rt, rt.alloc(), Version::Two, &ONE_IS_LONG, &NOTHING)?;
     Ok(())
 }
 
-static TWO_SPEAK: [(Step, u16, Told); 5] = [
-    (Step::Open, 1, Told::Done),
-    (Step::Open, 2, Told::Done),
-    (Step::Say, 1, Told::Done),
-    (Step::Say, 2, Told::Done),
-    (Step::Shut, 2, Told::Done),
+static TWO_SPEAK: [(Step, Group, Told); 5] = [
+    (Step::Open, (1, 0), Told::Done),
+    (Step::Open, (2, 0), Told::Done),
+    (Step::Say, (1, 0), Told::Done),
+    (Step::Say, (2, 0), Told::Done),
+    (Step::Shut, (2, 0), Told::Done),
 ];
 
 #[test]
 fn nothing_waits_for_a_noticed_node(rt: HostRuntime) -> Result<(), Fail> {
-    run(&rt, rt.alloc(), &TWO_SPEAK, true, &NOTHING)?;
+    let mut table = table_of(&rt, rt.alloc(), Version::One);
+    compare(&rt, rt.alloc(), &mut table, &TWO_SPEAK)?;
+    table.notice(FRIEND);
+    give(&rt, rt.alloc(), &mut table, &NOTHING)?;
     Ok(())
 }
 
-/// Makes the groups from `made` + 1 to `last`, behind those that were made before.
-fn open_to(rt: &impl Abort, groups: &mut Groups, made: u16, last: u16) {
-    for group in made..last {
-        let reply = take(groups, Step::Open, group + 1);
-        let opened = in_short(&reply);
-        assert!(rt; opened == Told::Done);
+/// Each generation of a room says a message, and is dropped when the next one is there.
+fn outlive(rt: &impl Abort, alloc: Global, table: &mut Table) -> Result<(), OutOfMemory> {
+    compare(rt, alloc, table, &[(Step::Open, (1, 0), Told::Done)])?;
+    for generation in 1..1_100u32 {
+        let steps = [
+            (Step::Open, (1, generation), Told::Done),
+            (Step::Drop, (1, generation - 1), Told::Done),
+            (Step::Say, (1, generation), Told::Done),
+        ];
+        compare(rt, alloc, table, &steps)?;
+        give(
+            rt,
+            alloc,
+            table,
+            &[(To::Friend, ROOM, &[(1, generation, 1)])],
+        )?;
     }
+    Ok(())
 }
 
-/// The last group says two messages. Between them the first group says its message with this number.
+// A room has more generations than a node has rooms.
+#[test]
+fn a_room_goes_on(rt: HostRuntime) -> Result<(), Fail> {
+    let mut table = table_of(&rt, rt.alloc(), Version::Three);
+    outlive(&rt, rt.alloc(), &mut table)?;
+    Ok(())
+}
+
+/// Begins the rooms from `begun` to below `end`.
+fn begin_to(
+    rt: &impl Abort,
+    alloc: Global,
+    table: &mut Table,
+    begun: u16,
+    end: u16,
+) -> Result<(), OutOfMemory> {
+    for room in begun..end {
+        compare(rt, alloc, table, &[(Step::Open, (room, 0), Told::Done)])?;
+    }
+    Ok(())
+}
+
+/// The group at the last place says two messages. Between them the group at the first place says its message with this number.
 fn both_ends_are_busy(
     rt: &impl Abort,
     alloc: Global,
-    groups: &mut Groups,
-    last: u16,
+    table: &mut Table,
+    last: Group,
     seq: u16,
 ) -> Result<(), OutOfMemory> {
     let steps = [
         (Step::Say, last, Told::Done),
-        (Step::Say, 1, Told::Done),
+        (Step::Say, (0, 0), Told::Done),
         (Step::Say, last, Told::Done),
     ];
-    compare(rt, groups, &steps);
-    give(
-        rt,
-        alloc,
-        groups,
-        &[(To::Friend, ROOM, &[(1, seq), (last, 1), (last, 2)])],
-    )
+    compare(rt, alloc, table, &steps)?;
+    let items = [(0, 0, seq), (last.0, last.1, 1), (last.0, last.1, 2)];
+    give(rt, alloc, table, &[(To::Friend, ROOM, &items)])
 }
 
-/// The number of groups that were made before, and the number that are made then: up to the last group of one word of the
-/// sets and the first of the next word, the same of 8 words, and the last index.
-static PLACES_AT_EDGES: [(u16, u16); 5] = [(0, 64), (64, 65), (65, 512), (512, 513), (513, PLACES)];
+/// The number of rooms that were begun before, and the number that are begun then: up to the last one in one word of the sets and
+/// the first of the next word, the same of 8 words, and the last room.
+static ROOMS_AT_EDGES: [(u16, u16); 5] = [(0, 16), (16, 17), (17, 128), (128, 129), (129, 1_024)];
 
-/// The groups at each edge are made in turn, and are busy together with the first.
-fn reach_each_edge(rt: &impl Abort, alloc: Global, groups: &mut Groups) -> Result<(), OutOfMemory> {
+/// The rooms at each edge are begun in turn, and their first groups are busy together with the first of all. Then so is the group at
+/// the last place.
+fn reach_each_edge(rt: &impl Abort, alloc: Global, table: &mut Table) -> Result<(), OutOfMemory> {
     let mut seq: u16 = 0;
-    for (made, last) in &PLACES_AT_EDGES {
-        open_to(rt, groups, *made, *last);
+    for (begun, end) in &ROOMS_AT_EDGES {
+        begin_to(rt, alloc, table, *begun, *end)?;
         seq = seq.saturating_add(1);
-        both_ends_are_busy(rt, alloc, groups, *last, seq)?;
+        both_ends_are_busy(rt, alloc, table, (end.saturating_sub(1), 0), seq)?;
     }
-    Ok(())
+    compare(rt, alloc, table, &LAST_ROOM_IS_FULL)?;
+    both_ends_are_busy(rt, alloc, table, (1_023, 3), 6)
 }
 
-static THREE_MORE: [(Step, u16, Told); 3] = [
-    (Step::Say, 513, Told::Done),
-    (Step::Say, 64, Told::Done),
-    (Step::Drop, 513, Told::Done),
+static LAST_ROOM_IS_FULL: [(Step, Group, Told); 4] = [
+    (Step::Open, (1_023, 1), Told::Done),
+    (Step::Open, (1_023, 2), Told::Done),
+    (Step::Open, (1_023, 3), Told::Done),
+    (Step::Open, (1_023, 4), Told::Refused(Refusal::NoRoom)),
+];
+
+static THREE_MORE: [(Step, Group, Told); 3] = [
+    (Step::Say, (128, 0), Told::Done),
+    (Step::Say, (15, 0), Told::Done),
+    (Step::Drop, (128, 0), Told::Done),
 ];
 
 #[test]
 fn groups_at_any_place_are_found_busy(rt: HostRuntime) -> Result<(), Fail> {
-    let mut groups = Groups::new(rt.alloc());
-    reach_each_edge(&rt, rt.alloc(), &mut groups)?;
-    compare(&rt, &mut groups, &THREE_MORE);
-    groups.notice(FRIEND);
-    give(&rt, rt.alloc(), &mut groups, &NOTHING)?;
+    let mut table = table_of(&rt, rt.alloc(), Version::Three);
+    reach_each_edge(&rt, rt.alloc(), &mut table)?;
+    compare(&rt, rt.alloc(), &mut table, &THREE_MORE)?;
+    table.notice(FRIEND);
+    give(&rt, rt.alloc(), &mut table, &NOTHING)?;
     Ok(())
 }

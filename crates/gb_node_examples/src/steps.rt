@@ -81,6 +81,8 @@ pub enum Told {
     SentTwo(usize),
     /// The same of version 3.
     SentThree(usize),
+    /// A packet of these bytes is sent.
+    SentBytes(&'static [u8]),
     Nothing,
     /// A packet is not sent, for this reason.
     NotSent(Refusal),
@@ -189,6 +191,7 @@ fn is_sent(sent: &Sent, wanted: &Told) -> bool {
         (Sent::Packet(packet), Told::Sent(wanted)) => is_packet(packet, 1, *wanted),
         (Sent::Packet(packet), Told::SentTwo(wanted)) => is_packet(packet, 2, *wanted),
         (Sent::Packet(packet), Told::SentThree(wanted)) => is_packet(packet, 3, *wanted),
+        (Sent::Packet(packet), Told::SentBytes(wanted)) => packet.as_slice() == *wanted,
         (Sent::Nothing, Told::Nothing) => true,
         (Sent::Refused(why), Told::NotSent(wanted)) => *why == *wanted,
         _ => false,

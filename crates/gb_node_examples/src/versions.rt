@@ -18,6 +18,13 @@ const BESIDE: Addr = Addr {
     generation: 0,
 };
 
+/// The next generation of the group of most tests.
+const NEXT: Addr = Addr {
+    tenant: 7,
+    group: 1,
+    generation: 1,
+};
+
 /// The longest payload of version 1, and those that are too long.
 const LONGEST_OF_ONE: &[u8] = &[b'a'; 1_024];
 
@@ -305,5 +312,41 @@ const THE_LAST_NODE: &[Line] = &[
 fn the_last_node_says_and_hears(rt: HostRuntime) -> Result<(), Fail> {
     let mut nodes = far(rt.alloc(), Version::Two)?;
     run_at(&rt, rt.alloc(), &mut nodes, THE_LAST_NODE)?;
+    Ok(())
+}
+
+/// The first packet, with the message `a` of the group and the message `b` of its next generation, each the first one there.
+const TWO_GENERATIONS: &[u8] = b"GB\x03\0\x01\
+    \0\0\0\0\0\0\0\x01\0\0\0\0\0\0\0\0\0\0\0\0\0\0\0\x01\0\x02\
+    \0\x07\0\x01\0\0\0\0\0\0\x01\0\x01a\
+    \0\x07\0\x01\0\0\0\x01\0\0\x01\0\x01b\
+    \xf5\x51\x73\x67\x0c\x2dB\x25";
+
+/// A group and its next generation have their messages in one frame, and each receives its own.
+const A_FRAME_OF_TWO_GENERATIONS: &[Line] = &[
+    (FIRST, Step::Tenant(7), Told::Done),
+    (FIRST, Step::MakeFar(GROUP, Kind::Beb), Told::Done),
+    (FIRST, Step::Open(GROUP), Told::Done),
+    (FIRST, Step::MakeFar(NEXT, Kind::Beb), Told::Done),
+    (FIRST, Step::Open(NEXT), Told::Done),
+    (SECOND, Step::Tenant(7), Told::Done),
+    (SECOND, Step::MakeFar(GROUP, Kind::Beb), Told::Done),
+    (SECOND, Step::MakeFar(NEXT, Kind::Beb), Told::Done),
+    (FIRST, Step::Say(GROUP, b"a"), Told::Said(1)),
+    (FIRST, Step::Say(NEXT, b"b"), Told::Said(1)),
+    (FIRST, Step::Pack(SECOND), Told::SentBytes(TWO_GENERATIONS)),
+    (
+        SECOND,
+        Step::Arrive(0),
+        Told::Came(FIRST, Frame::First, 2, 0),
+    ),
+    (SECOND, Step::Fetch(GROUP), Told::Log(1)),
+    (SECOND, Step::Fetch(NEXT), Told::Log(1)),
+];
+
+#[test]
+fn a_frame_of_two_generations(rt: HostRuntime) -> Result<(), Fail> {
+    let mut nodes = far(rt.alloc(), Version::Three)?;
+    run_at(&rt, rt.alloc(), &mut nodes, A_FRAME_OF_TWO_GENERATIONS)?;
     Ok(())
 }
