@@ -1,8 +1,8 @@
 """A client of the group broadcast service Foqradesh.
 
-`Client` asks one node over one connection, `AsyncClient` does so for asyncio, and `Group` and
-`AsyncGroup` make a group at all its members' nodes. docs/CLIENTS.md tells how to begin, and
-docs/FORMATS.md what is spoken.
+`Client` asks one node over one connection, `AsyncClient` does so for asyncio. `Group` and
+`AsyncGroup` make a group at all its members' nodes, and `Room` and `AsyncRoom` go on from one to
+the next. docs/CLIENTS.md tells how to begin, and docs/FORMATS.md what is spoken.
 """
 
 from .aio import AsyncClient, AsyncPipeline
@@ -36,15 +36,19 @@ from .errors import (
     WrongPhase,
 )
 from .group import AsyncGroup, Group
+from .reading import RoomEntry
 from .replies import Entry, GroupRow, Listing, Log
+from .room import AsyncRoom, Room
+from .speaking import RoomNumber
 from .tokens import Keys, Secrets, Tokens, admin_token, member_token, tenant_token
-from .words import KINDS, Spec
+from .words import KINDS, Generation, GroupName, Spec
 
 __all__ = [
     "KINDS",
     "AsyncClient",
     "AsyncGroup",
     "AsyncPipeline",
+    "AsyncRoom",
     "BadDirectory",
     "BadMembers",
     "BadPlace",
@@ -56,7 +60,9 @@ __all__ = [
     "Denied",
     "Entry",
     "FoqradeshError",
+    "Generation",
     "Group",
+    "GroupName",
     "GroupRow",
     "Keys",
     "Listing",
@@ -69,6 +75,9 @@ __all__ = [
     "OverReserve",
     "Pipeline",
     "Refused",
+    "Room",
+    "RoomEntry",
+    "RoomNumber",
     "Secrets",
     "Spec",
     "Spent",

@@ -22,14 +22,14 @@ from typing import (
 
 from .client import FOLLOW_WAIT, wait_until
 from .directory import Path, directory_address
-from .errors import BadReply, ConnectionFailed, TimedOut, Unanswered
+from .errors import BadReply, ConnectionFailed, Refused, TimedOut, Unanswered
 from .link import pause
 from .numbers import Address
-from .operations import Answer, Operation, Operations, Place, Step
+from .operations import Answer, Operation, Operations, Place, Step, address_of
 from .replies import Entry, GroupRow, Listing, Log
 from .tokens import Secrets, secrets_of
 from .wire import FrameReader, frame
-from .words import MOST_ENTRIES, MOST_ROWS, Spec, check_address
+from .words import MOST_ENTRIES, MOST_ROWS, GroupName, Spec, check_address
 
 T = TypeVar("T")
 
@@ -275,26 +275,26 @@ class AsyncPipeline:
         """Take a tenant in, as `Client.tenant`."""
         return self._start(self._client.tenant(tenant, key, groups, messages, bytes, window))
 
-    def make(self, tenant: int, group: int, spec: Spec) -> asyncio.Task[None]:
+    def make(self, tenant: int, group: GroupName, spec: Spec) -> asyncio.Task[None]:
         """Make a group, as `Client.make`."""
         return self._start(self._client.make(tenant, group, spec))
 
-    def open(self, tenant: int, group: int) -> asyncio.Task[None]:
+    def open(self, tenant: int, group: GroupName) -> asyncio.Task[None]:
         """Open a group, as `Client.open`."""
         return self._start(self._client.open(tenant, group))
 
-    def shut(self, tenant: int, group: int) -> asyncio.Task[None]:
+    def shut(self, tenant: int, group: GroupName) -> asyncio.Task[None]:
         """Shut a group, as `Client.shut`."""
         return self._start(self._client.shut(tenant, group))
 
-    def drop(self, tenant: int, group: int) -> asyncio.Task[None]:
+    def drop(self, tenant: int, group: GroupName) -> asyncio.Task[None]:
         """Drop a group, as `Client.drop`."""
         return self._start(self._client.drop(tenant, group))
 
     def say(
         self,
         tenant: int,
-        group: int,
+        group: GroupName,
         payload: bytes,
         *,
         number: Optional[int] = None,
@@ -306,7 +306,7 @@ class AsyncPipeline:
         )
 
     def fetch(
-        self, tenant: int, group: int, place: int = 0, most: int = MOST_ENTRIES
+        self, tenant: int, group: GroupName, place: int = 0, most: int = MOST_ENTRIES
     ) -> asyncio.Task[Tuple[Entry, ...]]:
         """Fetch entries of a log, as `Client.fetch`."""
         return self._start(self._client.fetch(tenant, group, place, most))
@@ -381,32 +381,46 @@ class AsyncClient:
         finally:
             operation.close()
 
+    async def run_apart(self, operation: Operation[T]) -> T:
+        """Run an operation that waits in the server, over a connection of its own."""
+        link = self._idle.pop() if self._idle else _Link(self._address)
+        try:
+            result = await self.run(operation, link)
+        except Refused:
+            self._idle.append(link)
+            raise
+        except BaseException:
+            await link.close()
+            raise
+        self._idle.append(link)
+        return result
+
     async def tenant(
         self, tenant: int, key: bytes, groups: int, messages: int, bytes: int, window: int
     ) -> None:
         """Have the node take a tenant in, as `Client.tenant`."""
         await self.run(self.operations.tenant(tenant, key, groups, messages, bytes, window))
 
-    async def make(self, tenant: int, group: int, spec: Spec) -> None:
+    async def make(self, tenant: int, group: GroupName, spec: Spec) -> None:
         """Make a group at this node, as `Client.make`."""
         await self.run(self.operations.make(tenant, group, spec))
 
-    async def open(self, tenant: int, group: int) -> None:
+    async def open(self, tenant: int, group: GroupName) -> None:
         """Open a group at this node, as `Client.open`."""
         await self.run(self.operations.open(tenant, group))
 
-    async def shut(self, tenant: int, group: int) -> None:
+    async def shut(self, tenant: int, group: GroupName) -> None:
         """Shut an open group at this node, as `Client.shut`."""
         await self.run(self.operations.shut(tenant, group))
 
-    async def drop(self, tenant: int, group: int) -> None:
+    async def drop(self, tenant: int, group: GroupName) -> None:
         """Drop a group at this node for good, as `Client.drop`."""
         await self.run(self.operations.drop(tenant, group))
 
     async def say(
         self,
         tenant: int,
-        group: int,
+        group: GroupName,
         payload: bytes,
         *,
         number: Optional[int] = None,
@@ -424,7 +438,7 @@ class AsyncClient:
     async def say_in_turn(
         self,
         tenant: int,
-        group: int,
+        group: GroupName,
         payload: bytes,
         number: Optional[int],
         repeated: bool,
@@ -434,7 +448,7 @@ class AsyncClient:
 
         Where the next number is not known, one say teaches it before the others are sent.
         """
-        address = (tenant, group)
+        address = address_of(tenant, group)
         numbers = self.operations.numbers
         if number is None and numbers.next(address) is None:
             async with self._learning.setdefault(address, asyncio.Lock()):
@@ -444,16 +458,16 @@ class AsyncClient:
                     )
         return await self.run(self.operations.say(tenant, group, payload, number, repeated, again))
 
-    def set_number(self, tenant: int, group: int, number: int) -> None:
+    def set_number(self, tenant: int, group: GroupName, number: int) -> None:
         """Know the member's next number in a group: the next say comes with it."""
         self.operations.set_number(tenant, group, number)
 
-    def next_number(self, tenant: int, group: int) -> Optional[int]:
+    def next_number(self, tenant: int, group: GroupName) -> Optional[int]:
         """Return the number of the next say in a group, or None if it is not known."""
-        return self.operations.numbers.next((tenant, group))
+        return self.operations.next_number(tenant, group)
 
     async def fetch(
-        self, tenant: int, group: int, place: int = 0, most: int = MOST_ENTRIES
+        self, tenant: int, group: GroupName, place: int = 0, most: int = MOST_ENTRIES
     ) -> Tuple[Entry, ...]:
         """Return at most `most` entries, up to 16, of a group's log, from a place on.
 
@@ -465,17 +479,10 @@ class AsyncClient:
         self, places: Sequence[Place], *, most: int = MOST_ENTRIES, seconds: float = FOLLOW_WAIT
     ) -> Log:
         """Wait until one of some places has entries, as `Client.wait`, over another connection."""
-        link = self._idle.pop() if self._idle else _Link(self._address)
-        try:
-            log = await self.run(self.operations.wait(places, most, seconds), link)
-        except BaseException:
-            await link.close()
-            raise
-        self._idle.append(link)
-        return log
+        return await self.run_apart(self.operations.wait(places, most, seconds))
 
     async def follow(
-        self, tenant: int, group: int, place: int = 0, *, idle: Optional[float] = None
+        self, tenant: int, group: GroupName, place: int = 0, *, idle: Optional[float] = None
     ) -> AsyncIterator[Entry]:
         """Yield the entries of a log from a place on, each once, in order, as `Client.follow`."""
         end = None if idle is None else time.monotonic() + idle
@@ -495,14 +502,11 @@ class AsyncClient:
         return await self.run(self.operations.status())
 
     async def list(self, start: int = 0, most: int = MOST_ROWS) -> Listing:
-        """Return how many groups were made at the node, and some of them, as `Client.list`."""
+        """Return how many groups the node lists, and some of them, as `Client.list`."""
         return await self.run(self.operations.list(start, most))
 
     async def groups(self) -> Tuple[GroupRow, ...]:
-        """Return all groups that were made at the node, in the order of making.
-
-        Needs the administrator's token.
-        """
+        """Return all groups that the node lists, as `Client.groups`."""
         return await self.run(self.operations.groups())
 
     async def stop(self) -> None:

@@ -12,7 +12,7 @@ from .link import Link, Sent
 from .operations import Answer, Operation, Operations, Place, Step
 from .replies import Entry, GroupRow, Listing, Log
 from .tokens import Secrets, secrets_of
-from .words import MOST_ENTRIES, MOST_ROWS, Spec, check_address
+from .words import MOST_ENTRIES, MOST_ROWS, GroupName, Spec, check_address
 
 T = TypeVar("T")
 
@@ -138,42 +138,42 @@ class Pipeline:
         """Take a tenant in, as `Client.tenant`."""
         return self._start(self._operations.tenant(tenant, key, groups, messages, bytes, window))
 
-    def make(self, tenant: int, group: int, spec: Spec) -> Ticket[None]:
+    def make(self, tenant: int, group: GroupName, spec: Spec) -> Ticket[None]:
         """Make a group, as `Client.make`."""
         return self._start(self._operations.make(tenant, group, spec))
 
-    def open(self, tenant: int, group: int) -> Ticket[None]:
+    def open(self, tenant: int, group: GroupName) -> Ticket[None]:
         """Open a group, as `Client.open`."""
         return self._start(self._operations.open(tenant, group))
 
-    def shut(self, tenant: int, group: int) -> Ticket[None]:
+    def shut(self, tenant: int, group: GroupName) -> Ticket[None]:
         """Shut a group, as `Client.shut`."""
         return self._start(self._operations.shut(tenant, group))
 
-    def drop(self, tenant: int, group: int) -> Ticket[None]:
+    def drop(self, tenant: int, group: GroupName) -> Ticket[None]:
         """Drop a group, as `Client.drop`."""
         return self._start(self._operations.drop(tenant, group))
 
     def say(
         self,
         tenant: int,
-        group: int,
+        group: GroupName,
         payload: bytes,
         *,
         number: Optional[int] = None,
         repeated: bool = False,
     ) -> Ticket[int]:
         """Say a message, as `Client.say`. BadPlace is raised also if no number was given."""
-        if number is None and self._operations.numbers.next((tenant, group)) is None:
+        if number is None and self._operations.next_number(tenant, group) is None:
             self.settle()
-        is_learned = number is None and self._operations.numbers.next((tenant, group)) is None
+        is_learned = number is None and self._operations.next_number(tenant, group) is None
         ticket = self._start(self._operations.say(tenant, group, payload, number, repeated, False))
         if is_learned:
             self.settle()
         return ticket
 
     def fetch(
-        self, tenant: int, group: int, place: int = 0, most: int = MOST_ENTRIES
+        self, tenant: int, group: GroupName, place: int = 0, most: int = MOST_ENTRIES
     ) -> Ticket[Tuple[Entry, ...]]:
         """Fetch entries of a log, as `Client.fetch`."""
         return self._start(self._operations.fetch(tenant, group, place, most))
@@ -186,6 +186,8 @@ class Client:
     ended. What only reads (`fetch`, `wait`, `status`, `list`) and a say with a number are then
     sent again. The others are not: where such a request may have been done it raises
     ConnectionFailed or TimedOut, with `is_unknown` True.
+
+    A group is named by its number, or by a `Generation` of its room (docs/FORMATS.md, "Rooms").
 
     Each word raises the refusal that it was answered (`Refused` and its classes),
     ConnectionFailed, TimedOut, BadReply, or MissingToken if the client has no token for it.
@@ -245,35 +247,36 @@ class Client:
     ) -> None:
         """Have the node take a tenant in, with its key and its reserve.
 
-        Needs the administrator's token. The tenant may make `groups` groups (1 to 256). In each of
-        them a member may say at most `messages` messages (1 to 1,024) of `bytes` bytes in all (0
-        to 65,536), and have `window` of them unfinished at once (1 to 1,024).
+        Needs the administrator's token. The tenant's groups have the numbers below `groups` (1 to
+        256). In each generation a member may say at most `messages` messages (1 to 1,024) of
+        `bytes` bytes in all (0 to 65,536), and have `window` of them unfinished at once (1 to
+        1,024).
         """
         self.run(self.operations.tenant(tenant, key, groups, messages, bytes, window))
 
-    def make(self, tenant: int, group: int, spec: Spec) -> None:
+    def make(self, tenant: int, group: GroupName, spec: Spec) -> None:
         """Make a group at this node.
 
         Make it at every member's node before it is opened at any: `Group` does.
         """
         self.run(self.operations.make(tenant, group, spec))
 
-    def open(self, tenant: int, group: int) -> None:
+    def open(self, tenant: int, group: GroupName) -> None:
         """Open a group at this node, so that its member may say messages."""
         self.run(self.operations.open(tenant, group))
 
-    def shut(self, tenant: int, group: int) -> None:
+    def shut(self, tenant: int, group: GroupName) -> None:
         """Shut an open group at this node: its member says nothing more. Its log grows still."""
         self.run(self.operations.shut(tenant, group))
 
-    def drop(self, tenant: int, group: int) -> None:
+    def drop(self, tenant: int, group: GroupName) -> None:
         """Drop a group at this node for good, with its log."""
         self.run(self.operations.drop(tenant, group))
 
     def say(
         self,
         tenant: int,
-        group: int,
+        group: GroupName,
         payload: bytes,
         *,
         number: Optional[int] = None,
@@ -317,16 +320,16 @@ class Client:
         """
         return self.run(self.operations.say(tenant, group, payload, number, repeated, True))
 
-    def set_number(self, tenant: int, group: int, number: int) -> None:
+    def set_number(self, tenant: int, group: GroupName, number: int) -> None:
         """Know the member's next number in a group: the next say comes with it."""
         self.operations.set_number(tenant, group, number)
 
-    def next_number(self, tenant: int, group: int) -> Optional[int]:
+    def next_number(self, tenant: int, group: GroupName) -> Optional[int]:
         """Return the number of the next say in a group, or None if it is not known."""
-        return self.operations.numbers.next((tenant, group))
+        return self.operations.next_number(tenant, group)
 
     def fetch(
-        self, tenant: int, group: int, place: int = 0, most: int = MOST_ENTRIES
+        self, tenant: int, group: GroupName, place: int = 0, most: int = MOST_ENTRIES
     ) -> Tuple[Entry, ...]:
         """Return at most `most` entries, up to 16, of a group's log, from a place on.
 
@@ -346,7 +349,7 @@ class Client:
         return self.run(self.operations.wait(places, most, seconds))
 
     def follow(
-        self, tenant: int, group: int, place: int = 0, *, idle: Optional[float] = None
+        self, tenant: int, group: GroupName, place: int = 0, *, idle: Optional[float] = None
     ) -> Iterator[Entry]:
         """Yield the entries of a log from a place on, each once and in order, as they come.
 
@@ -371,17 +374,18 @@ class Client:
         return self.run(self.operations.status())
 
     def list(self, start: int = 0, most: int = MOST_ROWS) -> Listing:
-        """Return how many groups were made at the node, and some of them.
+        """Return how many groups the node lists, and some of them.
 
-        These are at most `most`, up to 64, from `start` on. The groups come in the order of
-        making, and the first is 0. Needs the administrator's token.
+        These are at most `most`, up to 64, from `start` on; the first is 0. They come room by
+        room, in the order in which the rooms began. Needs the administrator's token.
         """
         return self.run(self.operations.list(start, most))
 
     def groups(self) -> Tuple[GroupRow, ...]:
-        """Return all groups that were made at the node, in the order of making.
+        """Return all groups that the node lists, room by room.
 
-        Needs the administrator's token.
+        These are the groups that live there, and those that were dropped and whose place no later
+        generation took. Needs the administrator's token.
         """
         return self.run(self.operations.groups())
 

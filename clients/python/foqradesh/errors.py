@@ -50,7 +50,7 @@ class Denied(Refused):
 
 
 class NoGroup(Refused):
-    """The node has not made the group.
+    """The node has made neither the group nor a later generation of its room.
 
     At `make`: the group's number is not below the tenant's GROUPS.
     """
@@ -59,7 +59,10 @@ class NoGroup(Refused):
 
 
 class Spent(Refused):
-    """The node has dropped the group. At `make`: the node has made the group before."""
+    """The node has dropped the group, or has left it out and made a later generation.
+
+    At `make`: the node has made the group, or a later generation of its room, before.
+    """
 
     number, name = 3, "Spent"
 
@@ -71,7 +74,10 @@ class BadMembers(Refused):
 
 
 class OverReserve(Refused):
-    """More is asked than the tenant has or the service gives, or 0 where more is needed."""
+    """More is asked than the tenant has or the service gives, or 0 where more is needed.
+
+    At `make` also: the node sends packets of version 1 or 2, which name no later generation.
+    """
 
     number, name = 5, "OverReserve"
 
@@ -116,7 +122,10 @@ class BadPlace(Refused):
 
 
 class NoRoom(Refused):
-    """The node's tenants would have more than 1,024 groups in all."""
+    """The node's tenants would have more than 1,024 rooms in all.
+
+    At `make`: four generations of the room live at the node.
+    """
 
     number, name = 12, "NoRoom"
 
@@ -175,6 +184,7 @@ class Unanswered(FoqradeshError):
     `is_unknown` is True if the request may have been done, and False if it was certainly not sent
     whole. `number` is the number that a say came with, or None. A say with a number may be said
     again with `number` and `repeated=True`, also by another client, and is done once at most.
+    `generation` is the generation in which a `Room` said it, and None outside a room.
     """
 
     def __init__(self, message: str, *, is_unknown: bool, number: Optional[int] = None) -> None:
@@ -182,6 +192,7 @@ class Unanswered(FoqradeshError):
         super().__init__(message)
         self.is_unknown = is_unknown
         self.number = number
+        self.generation: Optional[int] = None
 
 
 class ConnectionFailed(Unanswered):

@@ -19,7 +19,7 @@ from .errors import (
 )
 from .operations import Operation, Operations
 from .replies import GroupRow
-from .words import Spec
+from .words import GroupName, Spec, check_group, group_word
 
 T = TypeVar("T")
 
@@ -32,7 +32,7 @@ class _Plans:
     """What is asked at which node, without any connection."""
 
     def __init__(
-        self, operations: Mapping[int, Operations], tenant: int, number: int, spec: Spec
+        self, operations: Mapping[int, Operations], tenant: int, number: GroupName, spec: Spec
     ) -> None:
         missing = [node for node in spec.members if node not in operations]
         if missing:
@@ -109,7 +109,7 @@ class _Plans:
             raise first
 
     def _name(self, node: int) -> str:
-        return f"group {self.number} of tenant {self.tenant} at node {node}"
+        return f"group {group_word(self.number)} of tenant {self.tenant} at node {node}"
 
     def _row(self, node: int, refusal: Refused) -> Plan[Optional[GroupRow]]:
         """Find how the node lists the group.
@@ -122,8 +122,9 @@ class _Plans:
             text = f"{refusal}: {self._name(node)} was there before"
             text += f", and the node does not tell this client how ({why})"
             raise type(refusal)(text) from why
+        named = (self.tenant, *check_group(self.number))
         return next(
-            (row for row in rows if (row.tenant, row.group) == (self.tenant, self.number)), None
+            (row for row in rows if (row.tenant, row.group, row.generation) == named), None
         )
 
 
@@ -135,11 +136,11 @@ class Group:
     """
 
     def __init__(
-        self, clients: Mapping[int, Client], tenant: int, number: int, spec: Spec
+        self, clients: Mapping[int, Client], tenant: int, number: GroupName, spec: Spec
     ) -> None:
-        """Names the group. `clients` has a client of each member's node, by the node's number.
+        """Names the group, by its number or as a `Generation` of its room.
 
-        Nothing is sent yet.
+        `clients` has a client of each member's node, by the node's number. Nothing is sent yet.
         """
         self._clients = dict(clients)
         operations = {node: client.operations for node, client in self._clients.items()}
@@ -191,7 +192,7 @@ class AsyncGroup:
     """The asyncio twin of `Group`."""
 
     def __init__(
-        self, clients: Mapping[int, AsyncClient], tenant: int, number: int, spec: Spec
+        self, clients: Mapping[int, AsyncClient], tenant: int, number: GroupName, spec: Spec
     ) -> None:
         """Names the group, as `Group` does."""
         self._clients = dict(clients)

@@ -5,7 +5,8 @@ from __future__ import annotations
 from dataclasses import dataclass
 from typing import Dict, Optional, Tuple
 
-Address = Tuple[int, int]
+Address = Tuple[int, int, int]
+"""A group's tenant, number and generation."""
 
 
 @dataclass(frozen=True)
@@ -26,43 +27,48 @@ class Numbers:
 
     def __init__(self) -> None:
         """Knows no number yet."""
-        self._next: Dict[Address, int] = {}
-        self._turn: Dict[Address, int] = {}
+        # The next number of each group, and the turn in which it is to be taken.
+        self._next: Dict[Address, Taken] = {}
+        self._turns = 0
 
     def next(self, address: Address) -> Optional[int]:
         """Return the next number, or None if it is not known."""
-        return self._next.get(address)
+        known = self._next.get(address)
+        return None if known is None else known.number
 
     def set(self, address: Address, number: int) -> None:
         """Know the next number, in a new turn."""
-        self._next[address] = number
-        self._turn[address] = self._turn.get(address, 0) + 1
+        self._turns += 1
+        self._next[address] = Taken(number, self._turns)
 
     def forget(self, address: Address) -> None:
-        """Know no next number any more, in a new turn."""
+        """Know no next number any more. What is known later is of a new turn."""
         self._next.pop(address, None)
-        self._turn[address] = self._turn.get(address, 0) + 1
 
     def take(self, address: Address) -> Optional[Taken]:
         """Return the next number, which is the one above from now on. None if it is not known."""
-        number = self._next.get(address)
-        if number is None:
-            return None
-        self._next[address] = number + 1
-        return Taken(number, self._turn.get(address, 0))
+        taken = self._next.get(address)
+        if taken is not None:
+            self._next[address] = Taken(taken.number + 1, taken.turn)
+        return taken
 
     def take_given(self, address: Address, number: int) -> Taken:
         """Return a number that the caller names, as the next one."""
         self.set(address, number)
-        self._next[address] = number + 1
-        return Taken(number, self._turn[address])
+        taken = self._next[address]
+        self._next[address] = Taken(number + 1, taken.turn)
+        return taken
 
     def give_back(self, address: Address, taken: Optional[Taken]) -> None:
         """Know that a number was not used: it is the next one still, if of this turn."""
-        if taken is not None and taken.turn == self._turn.get(address, 0):
+        if taken is not None and self._is_of_this_turn(address, taken):
             self.set(address, taken.number)
 
     def lose(self, address: Address, taken: Optional[Taken]) -> None:
         """Know no next number any more, if this one was taken in this turn."""
-        if taken is not None and taken.turn == self._turn.get(address, 0):
+        if taken is not None and self._is_of_this_turn(address, taken):
             self.forget(address)
+
+    def _is_of_this_turn(self, address: Address, taken: Taken) -> bool:
+        known = self._next.get(address)
+        return known is not None and known.turn == taken.turn

@@ -31,7 +31,10 @@ from .words import (
     LONGEST_WAIT,
     MOST_ENTRIES,
     MOST_ROWS,
+    Generation,
+    GroupName,
     Spec,
+    check_group,
     check_number,
 )
 
@@ -63,13 +66,18 @@ class Answer:
 T = TypeVar("T")
 Kind = TypeVar("Kind", Done, Said, Log, Status, Listing)
 Operation = Generator[Step, Answer, T]
-Place = Tuple[int, int, int]
+Place = Tuple[int, GroupName, int]
 
 # After a repetition these say that it was never done: its number is free, and no copy of it
 # that comes later can be done.
 _NEVER_DONE = (TooLong, Budget, BytesSpent)
 # After a repetition these leave open whether it was done, and the log may tell.
 _LOG_MAY_TELL = (BadPlace, WrongPhase)
+
+
+def address_of(tenant: int, group: GroupName) -> Address:
+    """Return under which address the next number of a group is known."""
+    return (tenant, *check_group(group))
 
 
 def _expect(answer: Answer, kind: Type[Kind]) -> Kind:
@@ -96,14 +104,26 @@ class Operations:
         self.time_limit = time_limit
         self.clock = clock
 
-    def set_number(self, tenant: int, group: int, number: int) -> None:
+    def set_number(self, tenant: int, group: GroupName, number: int) -> None:
         """Know the next number of the member's messages in a group.
 
         ValueError if it is not 1 to 65,536.
         """
         if check_number(number, 65_536, "a message's number") == 0:
             raise ValueError("messages are numbered from 1")
-        self.numbers.set((tenant, group), number)
+        self.numbers.set(address_of(tenant, group), number)
+
+    def next_number(self, tenant: int, group: GroupName) -> Optional[int]:
+        """Return the next number of the member's messages in a group, or None."""
+        return self.numbers.next(address_of(tenant, group))
+
+    def forget_number(self, tenant: int, group: GroupName) -> None:
+        """Know no next number of the member's messages in a group any more."""
+        self.numbers.forget(address_of(tenant, group))
+
+    def _member(self, tenant: int, group: GroupName) -> str:
+        """Return the member's token, which is that of the room for all its generations."""
+        return self.secrets.member(tenant, check_group(group).group)
 
     def _change(self, body: bytes) -> Step:
         return Step(body, replies.read_done, False, self.time_limit)
@@ -119,35 +139,35 @@ class Operations:
         body = requests.tenant_body(token, tenant, key, groups, messages, bytes_, window)
         _expect((yield self._change(body)), Done)
 
-    def make(self, tenant: int, group: int, spec: Spec) -> Operation[None]:
+    def make(self, tenant: int, group: GroupName, spec: Spec) -> Operation[None]:
         """Make a group."""
         body = requests.make_body(self.secrets.tenant(tenant), tenant, group, spec)
         _expect((yield self._change(body)), Done)
-        self.numbers.forget((tenant, group))
+        self.forget_number(tenant, group)
 
-    def open(self, tenant: int, group: int) -> Operation[None]:
+    def open(self, tenant: int, group: GroupName) -> Operation[None]:
         """Open a group. Nothing was said in it before, so its next message has number 1."""
         yield from self._of_group("open", tenant, group)
-        self.numbers.set((tenant, group), 1)
+        self.set_number(tenant, group, 1)
 
-    def shut(self, tenant: int, group: int) -> Operation[None]:
+    def shut(self, tenant: int, group: GroupName) -> Operation[None]:
         """Shut a group."""
         yield from self._of_group("shut", tenant, group)
 
-    def drop(self, tenant: int, group: int) -> Operation[None]:
+    def drop(self, tenant: int, group: GroupName) -> Operation[None]:
         """Drop a group."""
         yield from self._of_group("drop", tenant, group)
-        self.numbers.forget((tenant, group))
+        self.forget_number(tenant, group)
 
-    def _of_group(self, head: str, tenant: int, group: int) -> Operation[None]:
+    def _of_group(self, head: str, tenant: int, group: GroupName) -> Operation[None]:
         body = requests.group_body(head, self.secrets.tenant(tenant), tenant, group)
         _expect((yield self._change(body)), Done)
 
     def fetch(
-        self, tenant: int, group: int, place: int, most: int
+        self, tenant: int, group: GroupName, place: int, most: int
     ) -> Operation[Tuple[Entry, ...]]:
         """Fetch entries of a log."""
-        body = requests.fetch_body(self.secrets.member(tenant, group), tenant, group, place, most)
+        body = requests.fetch_body(self._member(tenant, group), tenant, group, place, most)
         read = functools.partial(replies.read_log, most=min(most, MOST_ENTRIES))
         return _expect((yield self._read(body, read)), Log).entries
 
@@ -156,7 +176,7 @@ class Operations:
         if not 0 <= seconds <= LONGEST_WAIT / 1000:
             raise ValueError(f"a wait is 0 to {LONGEST_WAIT // 1000} seconds, not {seconds}")
         named = [
-            (self.secrets.member(tenant, group), tenant, group, place, most)
+            (self._member(tenant, group), tenant, group, place, most)
             for tenant, group, place in places
         ]
         body = requests.wait_body(named, int(seconds * 1000))
@@ -190,7 +210,7 @@ class Operations:
     def say(
         self,
         tenant: int,
-        group: int,
+        group: GroupName,
         payload: bytes,
         number: Optional[int],
         repeated: bool,
@@ -205,7 +225,7 @@ class Operations:
         if repeated and number is None:
             raise ValueError("a say without its number cannot be repeated")
         while True:
-            said = yield from self._say_once((tenant, group), payload, number, repeated)
+            said = yield from self._say_once(tenant, group, payload, number, repeated)
             if said is not None:
                 return said
             if number is not None or not again:
@@ -217,14 +237,19 @@ class Operations:
         return None if repeated else self.numbers.take_given(address, number)
 
     def _say_once(
-        self, address: Address, payload: bytes, given: Optional[int], repeated: bool
+        self,
+        tenant: int,
+        group: GroupName,
+        payload: bytes,
+        given: Optional[int],
+        repeated: bool,
     ) -> Operation[Optional[int]]:
         """Say with one number.
 
         Returns the number, or None if another message has it, so this one was not said.
         """
-        tenant, group = address
-        token = self.secrets.member(tenant, group)
+        address = address_of(tenant, group)
+        token = self._member(tenant, group)
         body = requests.say_body(token, tenant, group, payload, given)
         taken = self._take(address, given, repeated)
         number = given if taken is None else taken.number
@@ -292,10 +317,11 @@ class Operations:
 
     def _own_entry(self, address: Address, node: int, number: int) -> Operation[Optional[Entry]]:
         """Find the member's message with a number in its log, within the time limit."""
+        tenant, group = address[0], Generation(*address[1:])
         end, place = self.clock() + self.time_limit, 0
         while True:
             left = min(max(end - self.clock(), 0.0), LONGEST_WAIT / 1000)
-            log = yield from self.wait([(*address, place)], MOST_ENTRIES, left)
+            log = yield from self.wait([(tenant, group, place)], MOST_ENTRIES, left)
             for entry in log.entries:
                 if (entry.origin, entry.number) == (node, number):
                     return entry

@@ -15,6 +15,7 @@ from .words import (
     U32,
     U64,
     Spec,
+    read_group,
     read_members,
     read_number,
     read_payload,
@@ -59,18 +60,23 @@ class Status:
 
 @dataclass(frozen=True)
 class GroupRow:
-    """A group at a node. A dropped one has no spec, and a log of 0."""
+    """A group at a node, a generation of its room. A dropped one has no spec, and a log of 0."""
 
     tenant: int
     group: int
     spec: Optional[Spec]
     phase: str
     log: int
+    generation: int = 0
 
 
 @dataclass(frozen=True)
 class Listing:
-    """How many groups were made at the node in all, and some of them in the order of making."""
+    """How many groups a node lists in all, and some of them.
+
+    It lists rooms in the order in which they began, and of each the generations that live there
+    and those that were dropped and whose place no later one took.
+    """
 
     total: int
     rows: Tuple[GroupRow, ...]
@@ -200,7 +206,7 @@ def read_status(body: bytes) -> Union[Status, Refused]:
 def _row(word: str) -> GroupRow:
     parts = word.split(":")
     _want(len(parts) == 9, f"{word[:40]!r} is no group")
-    tenant, group = read_number(parts[0], U16), read_number(parts[1], U16)
+    tenant, (group, generation) = read_number(parts[0], U16), read_group(parts[1])
     phase, log = parts[7], read_number(parts[8], U32)
     _want(phase in PHASES, f"{phase[:40]!r} is no phase")
     if phase == "dropped":
@@ -208,9 +214,10 @@ def _row(word: str) -> GroupRow:
             parts[2:7] == ["-", "-", "0", "0", "0"] and log == 0,
             f"{word[:40]!r} is no dropped group",
         )
-        return GroupRow(tenant, group, None, phase, log)
+        return GroupRow(tenant, group, None, phase, log, generation)
     numbers = [read_number(part, U32) for part in parts[4:7]]
-    return GroupRow(tenant, group, Spec(parts[2], read_members(parts[3]), *numbers), phase, log)
+    spec = Spec(parts[2], read_members(parts[3]), *numbers)
+    return GroupRow(tenant, group, spec, phase, log, generation)
 
 
 def read_listing(body: bytes, start: int = 0, most: int = MOST_ROWS) -> Union[Listing, Refused]:

@@ -8,7 +8,17 @@ from __future__ import annotations
 from typing import Optional, Sequence, Tuple, Union
 
 from .tokens import check_key
-from .words import LONGEST_WAIT, MOST_PLACES, U16, U32, Spec, check_number, payload_word
+from .words import (
+    LONGEST_WAIT,
+    MOST_PLACES,
+    U16,
+    U32,
+    GroupName,
+    Spec,
+    check_number,
+    group_word,
+    payload_word,
+)
 
 Word = Union[str, int]
 
@@ -17,8 +27,8 @@ def _body(*words: Word) -> bytes:
     return " ".join(str(word) for word in words).encode("ascii")
 
 
-def _address(tenant: int, group: int) -> Tuple[int, int]:
-    return check_number(tenant, U16, "a tenant"), check_number(group, U16, "a group")
+def _address(tenant: int, group: GroupName) -> Tuple[int, str]:
+    return check_number(tenant, U16, "a tenant"), group_word(group)
 
 
 def tenant_body(
@@ -35,17 +45,19 @@ def tenant_body(
     return _body("tenant", token, tenant, check_key(key).hex(), *limits)
 
 
-def make_body(token: str, tenant: int, group: int, spec: Spec) -> bytes:
+def make_body(token: str, tenant: int, group: GroupName, spec: Spec) -> bytes:
     """Return the body that makes a group."""
     return _body("make", token, *_address(tenant, group), *spec.words())
 
 
-def group_body(head: str, token: str, tenant: int, group: int) -> bytes:
+def group_body(head: str, token: str, tenant: int, group: GroupName) -> bytes:
     """Return the body of `open`, `shut` or `drop`."""
     return _body(head, token, *_address(tenant, group))
 
 
-def say_body(token: str, tenant: int, group: int, payload: bytes, number: Optional[int]) -> bytes:
+def say_body(
+    token: str, tenant: int, group: GroupName, payload: bytes, number: Optional[int]
+) -> bytes:
     """Return the body of a say, with the number that it must get if one is given."""
     words: Tuple[Word, ...] = ("say", token, *_address(tenant, group), payload_word(payload))
     if number is not None:
@@ -53,12 +65,12 @@ def say_body(token: str, tenant: int, group: int, payload: bytes, number: Option
     return _body(*words)
 
 
-def fetch_body(token: str, tenant: int, group: int, place: int, most: int) -> bytes:
+def fetch_body(token: str, tenant: int, group: GroupName, place: int, most: int) -> bytes:
     """Return the body of a fetch."""
     return _body("fetch", token, *_place(tenant, group, place, most))
 
 
-def _place(tenant: int, group: int, place: int, most: int) -> Tuple[int, ...]:
+def _place(tenant: int, group: GroupName, place: int, most: int) -> Tuple[Word, ...]:
     return (
         *_address(tenant, group),
         check_number(place, U32, "a place"),
@@ -66,7 +78,7 @@ def _place(tenant: int, group: int, place: int, most: int) -> Tuple[int, ...]:
     )
 
 
-def wait_body(places: Sequence[Tuple[str, int, int, int, int]], milliseconds: int) -> bytes:
+def wait_body(places: Sequence[Tuple[str, int, GroupName, int, int]], milliseconds: int) -> bytes:
     """Return the body of an `await`. A place is a token, tenant, group, place and most entries."""
     if not 1 <= len(places) <= MOST_PLACES:
         raise ValueError(f"a wait names 1 to {MOST_PLACES} places, not {len(places)}")

@@ -1,10 +1,10 @@
-"""The words of requests and replies: numbers, payloads, members, and a group's spec."""
+"""The words of requests and replies: numbers, groups, payloads, members, and a group's spec."""
 
 from __future__ import annotations
 
 import re
 from dataclasses import dataclass
-from typing import Sequence, Tuple
+from typing import NamedTuple, Sequence, Tuple, Union
 
 KINDS = (
     "beb",
@@ -73,6 +73,45 @@ def read_number(word: str, most: int) -> int:
     if number > most:
         raise ValueError(f"{number} is above {most}")
     return number
+
+
+class Generation(NamedTuple):
+    """A generation of a room: the number of its groups, and which of them it is, from 0.
+
+    Generation 0 is the group that the number alone names.
+    """
+
+    group: int
+    generation: int = 0
+
+
+GroupName = Union[int, Generation]
+"""How a group is named among those of its tenant: by its number, or as a generation of a room."""
+
+
+def check_group(group: GroupName) -> Generation:
+    """Return the group's number and generation.
+
+    ValueError if the number is not 0 to 65,535, or the generation not 0 to 4,294,967,295.
+    """
+    number, generation = group if isinstance(group, Generation) else (group, 0)
+    return Generation(
+        check_number(number, U16, "a group"), check_number(generation, U32, "a generation")
+    )
+
+
+def group_word(group: GroupName) -> str:
+    """Return the word of a group: its number, and behind a dot its generation if it is not 0."""
+    number, generation = check_group(group)
+    return f"{number}.{generation}" if generation else str(number)
+
+
+def read_group(word: str) -> Generation:
+    """Return the group that a word names. ValueError if it names none."""
+    number, dot, generation = word.partition(".")
+    if dot and generation == "0":
+        raise ValueError("generation 0 stands in no word")
+    return Generation(read_number(number, U16), read_number(generation, U32) if dot else 0)
 
 
 def payload_word(payload: bytes) -> str:

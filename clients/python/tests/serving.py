@@ -31,9 +31,10 @@ def program() -> Optional[str]:
 class Serving:
     """A server that runs as long as the context."""
 
-    def __init__(self, port: int, *options: str, nodes: int = 3) -> None:
+    def __init__(self, port: int, *options: str, nodes: int = 3, version: int = 2) -> None:
         self.port = port
         self.nodes = nodes
+        self.version = version
         self.options = options
         self._stack = contextlib.ExitStack()
 
@@ -42,7 +43,7 @@ class Serving:
             "--nodes",
             str(self.nodes),
             "--version",
-            "2",
+            str(self.version),
             "--base-port",
             str(self.port),
             *self.options,

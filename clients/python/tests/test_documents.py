@@ -1,4 +1,4 @@
-"""The conversations of docs/CLIENTS.md, as they stand on the wire."""
+"""The conversations of docs/CLIENTS.md and of the package's README, as they stand on the wire."""
 
 from __future__ import annotations
 
@@ -9,13 +9,16 @@ import re
 import socket
 import struct
 import unittest
-from typing import List, Tuple
+from typing import Any, Dict, List, Tuple
+from unittest import mock
 
-from foqradesh import Entry, admin_token, member_token, tenant_token
+from foqradesh import Client, Entry, Secrets, admin_token, member_token, tenant_token
 
 from .fake import ADMIN_KEY, TENANT_KEY, FakeNode, FakeServer
+from .rooms import Cluster
 from .serving import Serving, program
 
+README = pathlib.Path(__file__).resolve().parents[1] / "README.md"
 CLIENTS = pathlib.Path(__file__).resolve().parents[3] / "docs" / "CLIENTS.md"
 PORT = 32_300
 NAMES = {
@@ -95,6 +98,49 @@ class ConversationTests(unittest.TestCase):
         with Serving(PORT, nodes=1):
             self.play(("127.0.0.1", PORT + 64))
         with Serving(PORT, nodes=1):
+            self.run_code(PORT)
+
+
+class RoomConversationTests(unittest.TestCase):
+    """The conversation of the package's README."""
+
+    def setUp(self) -> None:
+        self.text = README.read_text(encoding="utf-8").split("\n## Rooms\n")[1].split("\n## ")[0]
+
+    def run_code(self, port: int) -> None:
+        """Run the code, and compare what it prints."""
+        (code,) = re.findall(r"```python\n(.*?)```", self.text, re.DOTALL)
+        self.assertEqual(code.count("42000"), 1)
+        printed = io.StringIO()
+        scope: Dict[str, Any] = {}
+        with contextlib.redirect_stdout(printed):
+            exec(compile(code.replace("42000", str(port)), str(README), "exec"), scope)
+        for client in scope["clients"].values():
+            client.close()
+        wanted = re.findall(r"^    (.*)$", self.text.split("```")[2], re.MULTILINE)
+        self.assertEqual(printed.getvalue().splitlines(), wanted)
+
+    def test_in_memory(self) -> None:
+        cluster = Cluster(2)
+        for node in cluster.nodes:
+            node.tenants.clear()
+
+        def client(address: Tuple[str, int], secrets: Secrets) -> Client:
+            return cluster.client(address[1] - 42_064, secrets)
+
+        with mock.patch("foqradesh.Client", client):
+            self.run_code(42_000)
+        asked = [
+            (str(node), re.sub(r"^(await .*) \d+$", r"\1 MS", body), reply)
+            for node, body, reply in cluster.asked
+        ]
+        rows = re.findall(r"^\| .*\| (\d) \| `(.*)` \| `(.*)` \|$", self.text, re.MULTILINE)
+        self.assertEqual([it[1].split(" ")[0] for it in asked[:2]], ["tenant"] * 2)
+        self.assertEqual(asked[2:], rows)
+
+    @unittest.skipIf(program() is None, "no gb_serve")
+    def test_at_a_server(self) -> None:
+        with Serving(PORT, nodes=2, version=3):
             self.run_code(PORT)
 
 

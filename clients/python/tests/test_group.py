@@ -12,8 +12,11 @@ from foqradesh import (
     Client,
     ConnectionFailed,
     Denied,
+    Entry,
+    Generation,
     Group,
     Keys,
+    NoGroup,
     Refused,
     Secrets,
     Spec,
@@ -21,6 +24,7 @@ from foqradesh import (
     WrongPhase,
 )
 
+from . import rooms
 from .fake import (
     TENANT_KEY,
     FakeNode,
@@ -173,6 +177,24 @@ class GroupTests(unittest.TestCase):
                 self.assertEqual(
                     [node.groups[7, 1]["phase"] for node in cluster.nodes], ["dropped"] * 3
                 )
+
+    def test_generations(self) -> None:
+        cluster = rooms.Cluster()
+        clients = cluster.clients()
+        for generation in (0, 2):
+            Group(clients, 7, Generation(1, generation), SPEC).start()
+        self.assertEqual(cluster.living(), [[0, 2]] * 3)
+        make = "make 7 1.2 fallack 0,1,2 100 1000 100"
+        self.assertEqual(cluster.texts("make open")[-6:], [make] * 3 + ["open 7 1.2"] * 3)
+        later = Generation(1, 2)
+        self.assertEqual([clients[0].say(7, later, b"a"), clients[0].say(7, 1, b"b")], [1, 1])
+        self.assertEqual(clients[0].next_number(7, 1), 2)
+        self.assertEqual(clients[0].next_number(7, later), 2)
+        self.assertEqual(next(clients[1].follow(7, later)), Entry(0, 1, b"a"))
+        Group(clients, 7, 1, SPEC).drop()
+        self.assertEqual(cluster.living(), [[2]] * 3)
+        self.assertRaises(Spent, clients[0].make, 7, Generation(1, 1), SPEC)
+        self.assertRaises(NoGroup, clients[0].fetch, 7, Generation(1, 3))
 
     def test_dropped_everywhere(self) -> None:
         with Cluster().running() as cluster:

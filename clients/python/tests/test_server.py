@@ -1,4 +1,4 @@
-"""The clients against a gb_serve that the tests start, on ports from 31,000 to 32,300."""
+"""The clients against a gb_serve that the tests start, on ports from 31,000 to 32,700."""
 
 from __future__ import annotations
 
@@ -8,10 +8,11 @@ import sys
 import threading
 import time
 import unittest
-from typing import Callable, List, Tuple, Type
+from typing import Callable, Dict, List, Sequence, Tuple, Type
 
 from foqradesh import (
     AsyncGroup,
+    AsyncRoom,
     BadMembers,
     BadPlace,
     Budget,
@@ -19,12 +20,16 @@ from foqradesh import (
     Client,
     Denied,
     Entry,
+    Generation,
     Group,
     Malformed,
     NoGroup,
     NoRoom,
     OverReserve,
     Refused,
+    Room,
+    RoomEntry,
+    RoomNumber,
     Spec,
     Spent,
     TenantThere,
@@ -272,6 +277,135 @@ class ServerTests(unittest.TestCase):
             self.assertEqual(server.process.wait(10), 0)
 
 
+class RoomTests(unittest.TestCase):
+    """Rooms of three members, whose nodes send packets of version 3."""
+
+    SPEC = Spec("fallack", ALL, 64, 65_536, 64)
+
+    def begin(self, server: Serving) -> None:
+        """Take the tenant in."""
+        for client in server.clients().values():
+            client.tenant(7, TENANT_KEY, 4, 1024, 65_536, 1024)
+
+    def assert_heard(self, heard: Sequence[Sequence[RoomEntry]], count: int) -> None:
+        """Each reader has each member's messages once, in order, from generation to generation."""
+        wanted = [str(number).encode() for number in range(count)]
+        for entries in heard:
+            for origin in ALL:
+                own = [entry for entry in entries if entry.origin == origin]
+                self.assertEqual([it.payload for it in own], wanted)
+                places = [(it.generation, it.number) for it in own]
+                self.assertEqual(places, sorted(set(places)))
+                self.assertGreaterEqual(len({place[0] for place in places}), 5)
+            self.assertEqual(len(entries), 3 * count)
+
+    def living(self, clients: Dict[int, Client]) -> List[int]:
+        """Return how many generations of the room each node lists as living, four at most."""
+        counts = []
+        for client in clients.values():
+            rows = [row for row in client.groups() if (row.tenant, row.group) == (7, 1)]
+            self.assertEqual(len({row.generation for row in rows}), len(rows))
+            self.assertLessEqual(len(rows), 4)
+            counts.append(sum(row.phase != "dropped" for row in rows))
+        return counts
+
+    def test_next_generations(self) -> None:
+        with Serving(PORT + 1400, version=3) as server:
+            self.begin(server)
+            clients, later = server.clients(), Generation(1, 1)
+            Group(clients, 7, 1, self.SPEC).start()
+            Group(clients, 7, later, self.SPEC).start()
+            self.assertEqual([clients[0].say(7, 1, b"a"), clients[0].say(7, later, b"a")], [1, 1])
+            self.assertEqual(next(clients[2].follow(7, later)), Entry(0, 1, b"a"))
+            self.assertEqual([row.generation for row in clients[0].groups()], [0, 1])
+            for generation in (2, 3):
+                clients[0].make(7, Generation(1, generation), self.SPEC)
+            self.assertRaises(NoRoom, clients[0].make, 7, Generation(1, 4), self.SPEC)
+            clients[0].drop(7, 1)
+            self.assertRaises(Spent, clients[0].make, 7, 1, self.SPEC)
+            self.assertRaises(Spent, clients[0].fetch, 7, 1)
+            self.assertRaises(NoGroup, clients[0].fetch, 7, Generation(1, 4))
+            clients[0].make(7, Generation(1, 4), self.SPEC)
+            self.assertRaises(WrongPhase, clients[0].say, 7, Generation(1, 4), b"a")
+        with Serving(PORT + 1400, version=2, nodes=1) as server:
+            self.begin(server)
+            spec = Spec("beb", (0,), 4, 64, 4)
+            self.assertRaises(OverReserve, server.client().make, 7, Generation(1, 1), spec)
+
+    def test_a_long_conversation(self) -> None:
+        count = 700
+        with Serving(PORT + 1500, version=3) as server:
+            self.begin(server)
+            heard: List[List[RoomEntry]] = [[], [], []]
+            said: List[List[RoomNumber]] = [[], [], []]
+            errors: List[BaseException] = []
+            is_over = threading.Event()
+
+            def speak(node: int) -> None:
+                try:
+                    room = Room(server.clients(), 7, 1, self.SPEC, node=node)
+                    for number in range(count):
+                        said[node].append(room.say(str(number).encode()))
+                except BaseException as error:
+                    errors.append(error)
+
+            def listen(node: int) -> None:
+                try:
+                    room = Room(server.clients(), 7, 1, self.SPEC, node=node)
+                    while not is_over.is_set():
+                        heard[node] += list(room.follow(idle=0.1))
+                except BaseException as error:
+                    errors.append(error)
+
+            threads = [
+                threading.Thread(target=it, args=(at,)) for it in (speak, listen) for at in ALL
+            ]
+            for thread in threads:
+                thread.start()
+            clients, end = server.clients(), time.monotonic() + 120
+            counts = self.living(clients)
+            while not errors and time.monotonic() < end:
+                if all(len(entries) >= 3 * count for entries in heard) and max(counts) <= 2:
+                    break
+                time.sleep(0.05)
+                counts = self.living(clients)
+            is_over.set()
+            for thread in threads:
+                thread.join(20)
+            self.assertEqual(errors, [])
+            self.assert_heard(heard, count)
+            for numbers in said:
+                self.assertEqual(numbers, sorted(set(numbers)))
+            self.assertTrue(all(1 <= living <= 2 for living in self.living(clients)))
+
+    def test_in_one_thread_each(self) -> None:
+        count = 300
+        with Serving(PORT + 1600, version=3) as server:
+            self.begin(server)
+            heard: List[List[RoomEntry]] = [[], [], []]
+            errors: List[BaseException] = []
+
+            def play(node: int) -> None:
+                try:
+                    room = Room(server.clients(), 7, 1, self.SPEC, node=node)
+                    for number in range(count):
+                        room.say(str(number).encode())
+                        if number % 8 == 0:
+                            heard[node] += list(room.follow(idle=0))
+                    heard[node] += list(room.follow(idle=2.0))
+                except BaseException as error:
+                    errors.append(error)
+
+            threads = [threading.Thread(target=play, args=(node,)) for node in ALL]
+            for thread in threads:
+                thread.start()
+            for thread in threads:
+                thread.join(120)
+            self.assertEqual(errors, [])
+            self.assert_heard(heard, count)
+            self.assertTrue(all(1 <= it <= 2 for it in self.living(server.clients())))
+
+
 class AsyncServerTests(unittest.IsolatedAsyncioTestCase):
     """The asyncio client."""
 
@@ -309,6 +443,33 @@ class AsyncServerTests(unittest.IsolatedAsyncioTestCase):
                     self.assertEqual(own, [f"{node} {count}".encode() for count in range(100)])
             for client in clients.values():
                 await client.close()
+
+    async def test_room(self) -> None:
+        count = 300
+        with Serving(PORT + 1700, version=3) as server:
+            for node in ALL:
+                server.client(node).tenant(7, TENANT_KEY, 4, 1024, 65_536, 1024)
+            spec = RoomTests.SPEC
+            every = [server.async_clients() for _ in ALL]
+            rooms = [AsyncRoom(every[node], 7, 1, spec, node=node) for node in ALL]
+
+            async def speak(node: int) -> None:
+                for number in range(count):
+                    await rooms[node].say(str(number).encode())
+
+            async def hear(node: int) -> List[RoomEntry]:
+                return [entry async for entry in rooms[node].follow(idle=3.0)]
+
+            heard_and_said = await asyncio.gather(*map(hear, ALL), *map(speak, ALL))
+            wanted = [str(number).encode() for number in range(count)]
+            for entries in heard_and_said[:3]:
+                assert isinstance(entries, list)
+                for origin in ALL:
+                    own = [it.payload for it in entries if it.origin == origin]
+                    self.assertEqual(own, wanted)
+            for clients in every:
+                for client in clients.values():
+                    await client.close()
 
     async def test_waiting_at_two_places(self) -> None:
         with Serving(PORT + 1200, nodes=1) as server:

@@ -16,7 +16,15 @@ from foqradesh.errors import REFUSALS, BadReply, MissingToken, Refused
 from foqradesh.numbers import Numbers
 from foqradesh.replies import Done, Entry, GroupRow, Listing, Log, Said, Status
 from foqradesh.tokens import Keys, Tokens, admin_token, member_token, secrets_of, tenant_token
-from foqradesh.words import Spec, members_word, payload_word, read_payload
+from foqradesh.words import (
+    Generation,
+    Spec,
+    group_word,
+    members_word,
+    payload_word,
+    read_group,
+    read_payload,
+)
 
 FORMATS = pathlib.Path(__file__).resolve().parents[3] / "docs" / "FORMATS.md"
 
@@ -151,6 +159,18 @@ class RequestTests(unittest.TestCase):
             ),
             (requests.make_body(token, 7, 1, spec), f"make {token} 7 1 fallack 0,1,31 8 4096 4"),
             (requests.group_body("open", token, 0, 65535), f"open {token} 0 65535"),
+            (requests.group_body("drop", token, 7, Generation(1)), f"drop {token} 7 1"),
+            (requests.group_body("drop", token, 7, Generation(1, 12)), f"drop {token} 7 1.12"),
+            (
+                requests.make_body(token, 7, Generation(65535, 2**32 - 1), spec),
+                f"make {token} 7 65535.4294967295 fallack 0,1,31 8 4096 4",
+            ),
+            (requests.say_body(token, 7, Generation(1, 2), b"a", 3), f"say {token} 7 1.2 61 3"),
+            (requests.fetch_body(token, 7, Generation(0, 2), 0, 16), f"fetch {token} 7 0.2 0 16"),
+            (
+                requests.wait_body([(token, 7, 1, 0, 16), (token, 7, Generation(1, 1), 2, 1)], 0),
+                f"await {token} 7 1 0 16 {token} 7 1.1 2 1 0",
+            ),
             (requests.say_body(token, 7, 1, b"\x00\xffa", None), f"say {token} 7 1 00ff61"),
             (requests.say_body(token, 7, 1, b"", 12), f"say {token} 7 1 - 12"),
             (requests.fetch_body(token, 7, 1, 0, 16), f"fetch {token} 7 1 0 16"),
@@ -172,6 +192,9 @@ class RequestTests(unittest.TestCase):
             lambda: requests.group_body("open", token, 65536, 1),
             lambda: requests.group_body("open", token, -1, 1),
             lambda: requests.group_body("open", token, 7, 65536),
+            lambda: requests.group_body("open", token, 7, Generation(65536, 1)),
+            lambda: requests.group_body("open", token, 7, Generation(1, 2**32)),
+            lambda: requests.group_body("open", token, 7, Generation(1, -1)),
             lambda: requests.fetch_body(token, 7, 1, 2**32, 16),
             lambda: requests.fetch_body(token, 7, 1, 0, -1),
             lambda: requests.say_body(token, 7, 1, b"", 2**32),
@@ -190,11 +213,27 @@ class RequestTests(unittest.TestCase):
             self.assertRaises(ValueError, call)
         for number in (True, 1.0, "1"):
             self.assertRaises(TypeError, requests.group_body, "open", token, number, 1)
+            self.assertRaises(TypeError, requests.group_body, "open", token, 1, number)
+        self.assertRaises(TypeError, requests.group_body, "open", token, 1, (1, 2))
 
     def test_payloads(self) -> None:
         for payload in (b"", b"\0", bytes(range(256)), bytes(4096)):
             self.assertEqual(read_payload(payload_word(payload)), payload)
         self.assertEqual(members_word((0, 31)), "0,31")
+
+    def test_groups(self) -> None:
+        for word, group in (
+            ("0", (0, 0)),
+            ("65535", (65535, 0)),
+            ("1.4294967295", (1, 2**32 - 1)),
+        ):
+            self.assertEqual(read_group(word), group)
+            self.assertEqual(group_word(Generation(*group)), word)
+        self.assertEqual(group_word(1), "1")
+        bad = "", ".", "1.", ".1", "1.0", "1.01", "01.1", "1.1.1", "1,1", "65536.1", "1.4294967296"
+        for word in (*bad, "1.-1", "1. 1", "1.\u0661"):
+            with self.subTest(word=word):
+                self.assertRaises(ValueError, read_group, word)
 
 
 class ReplyTests(unittest.TestCase):
@@ -358,6 +397,17 @@ class ReplyTests(unittest.TestCase):
             GroupRow(7, 1, Spec("fallack", (0, 1, 2), 100, 4096, 100), "open", 3),
             GroupRow(7, 2, None, "dropped", 0),
         )
+        later = b"groups 2 7:1.2:beb:0:1:1:1:made:0 7:1.4294967295:-:-:0:0:0:dropped:0"
+        self.assertEqual(
+            replies.read_listing(later),
+            Listing(
+                2,
+                (
+                    GroupRow(7, 1, Spec("beb", (0,), 1, 1, 1), "made", 0, 2),
+                    GroupRow(7, 1, None, "dropped", 0, 2**32 - 1),
+                ),
+            ),
+        )
         self.assertEqual(replies.read_listing(body), Listing(9, rows))
         self.assertEqual(replies.read_listing(body, 7, 2), Listing(9, rows))
         self.assert_bad(lambda text: replies.read_listing(text, 8, 64), body)
@@ -377,6 +427,9 @@ class ReplyTests(unittest.TestCase):
             b"groups 1 7:1:beb:0:1:1:1:dropped:0",
             b"groups 1 7:1:-:-:0:0:0:dropped:1",
             b"groups 1 65536:1:beb:0:1:1:1:open:0",
+            b"groups 1 7:65536:beb:0:1:1:1:open:0",
+            b"groups 1 7:1.0:beb:0:1:1:1:open:0",
+            b"groups 1 7:1.4294967296:beb:0:1:1:1:open:0",
             b"groups 1 7:1:beb:0:4294967296:1:1:open:0",
         )
 
@@ -389,6 +442,7 @@ class ReplyTests(unittest.TestCase):
             (read_second, b"at 1 log 1 2:1:6162"),
             (replies.read_status, b"status a=0 b=12"),
             (replies.read_listing, b"groups 9 7:1:beb:0,1:100:4096:100:open:3"),
+            (replies.read_listing, b"groups 9 7:1.20:beb:0,1:100:4096:100:open:3"),
             (replies.read_done, b"refused 11 BadPlace"),
         ]
         for _ in range(20_000):
@@ -444,7 +498,8 @@ def spelt(reply: object, is_of_two: bool) -> bytes:
         rows = [f"groups {reply.total}"]
         for row in reply.rows:
             spec = "-:-:0:0:0" if row.spec is None else ":".join(row.spec.words())
-            rows.append(f"{row.tenant}:{row.group}:{spec}:{row.phase}:{row.log}")
+            group = group_word(Generation(row.group, row.generation))
+            rows.append(f"{row.tenant}:{group}:{spec}:{row.phase}:{row.log}")
         return " ".join(rows).encode()
     return str(reply).encode()
 
@@ -481,7 +536,7 @@ class NumberTests(unittest.TestCase):
     """What a client believes of the next number."""
 
     def test_turns(self) -> None:
-        numbers, group = Numbers(), (7, 1)
+        numbers, group = Numbers(), (7, 1, 0)
         self.assertIsNone(numbers.take(group))
         numbers.set(group, 5)
         first, second, third = (numbers.take(group) for _ in range(3))
@@ -502,6 +557,12 @@ class NumberTests(unittest.TestCase):
         self.assertEqual(numbers.next(group), 10)
         numbers.forget(group)
         self.assertIsNone(numbers.next(group))
+        # What was taken before is of an older turn than all that is known later.
+        numbers.set(group, 3)
+        numbers.give_back(group, fourth)
+        numbers.lose(group, third)
+        self.assertEqual(numbers.next(group), 3)
+        self.assertIsNone(numbers.next((7, 1, 1)))
 
 
 class PackageTests(unittest.TestCase):

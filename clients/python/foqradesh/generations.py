@@ -1,0 +1,337 @@
+"""The generations of a room at its members' nodes: which there are, how one is begun and marked.
+
+What is asked of which node is told by plans, which are generators without any connection, as the
+operations of `operations` are. `room` runs them over clients.
+"""
+
+from __future__ import annotations
+
+from dataclasses import dataclass
+from typing import (
+    Callable,
+    Dict,
+    Generator,
+    Iterator,
+    List,
+    Mapping,
+    NamedTuple,
+    Optional,
+    Set,
+    TypeVar,
+    Union,
+    cast,
+)
+
+from .errors import (
+    BadPlace,
+    Budget,
+    BytesSpent,
+    Denied,
+    MissingToken,
+    NoGroup,
+    NoRoom,
+    OutOfMemory,
+    Spent,
+    Unanswered,
+    Window,
+    WrongPhase,
+)
+from .operations import Operation, Operations
+from .words import LONGEST_PAYLOAD, U16, U32, Generation, Spec, check_number
+
+T = TypeVar("T")
+
+MARKER = b"\x00"
+"""The last message of a member in a generation."""
+
+PAYLOAD = b"\x01"
+"""What stands before the payload of each other message.
+
+A message that is no marker and begins otherwise was said by a client that knows no rooms. It is
+counted, and not shown.
+"""
+
+LONGEST_SAID = LONGEST_PAYLOAD - len(PAYLOAD)
+"""The bytes of the longest payload that is said in a room."""
+
+LAST_GENERATION = U32
+"""The last generation of a room."""
+
+LIVING = 4
+"""How many generations of a room live at a node at most."""
+
+LOOKED_AT = 16
+"""How many generations at a node, down from the greatest, are asked for."""
+
+PASSING = (NoRoom, Window, OutOfMemory, Unanswered)
+"""What may pass by itself."""
+
+PAUSES = (0.01, 0.02, 0.05, 0.1, 0.2)
+"""The seconds between tries of one thing. The last one stands for all further ones."""
+
+
+def spelled(payload: bytes) -> bytes:
+    """Return the message that carries a payload in a room."""
+    if not isinstance(payload, (bytes, bytearray, memoryview)):
+        raise TypeError("a payload is bytes")
+    return PAYLOAD + bytes(payload)
+
+
+@dataclass(frozen=True)
+class Ask:
+    """A node is asked. `waits` is True if it may wait until something is there."""
+
+    node: int
+    operation: Operation[object]
+    waits: bool = False
+
+
+@dataclass(frozen=True)
+class Pause:
+    """Nothing is asked for some seconds."""
+
+    seconds: float
+
+
+Todo = Union[Ask, Pause]
+Plan = Generator[Todo, object, T]
+
+
+def asked(node: int, operation: Operation[T], waits: bool = False) -> Plan[T]:
+    """Ask a node, and return what it answers."""
+    return cast(T, (yield Ask(node, operation, waits)))
+
+
+def between_tries() -> Iterator[float]:
+    """Yield how long to wait before each further try, in seconds."""
+    yield from PAUSES
+    while True:
+        yield PAUSES[-1]
+
+
+class Found(NamedTuple):
+    """The generations of a room at a node: the greatest that was made, or -1, and those that live.
+
+    These rise.
+    """
+
+    greatest: int
+    living: List[int]
+
+
+class Nodes:
+    """The nodes of a room's members, and what is asked of them."""
+
+    def __init__(
+        self,
+        operations: Mapping[int, Operations],
+        tenant: int,
+        number: int,
+        spec: Spec,
+        node: int,
+    ) -> None:
+        """Names the room, for the member of a node. ValueError: it is no room that can be."""
+        missing = [member for member in spec.members if member not in operations]
+        if missing:
+            raise ValueError(f"there is no client of node {missing[0]}, which is a member")
+        if node not in spec.members:
+            raise ValueError(f"node {node} is no member")
+        if spec.messages < 2 or spec.bytes < len(PAYLOAD + MARKER):
+            raise ValueError(
+                "a generation has room for a message and a marker: 2 messages, 2 bytes"
+            )
+        check_number(tenant, U16, "a tenant")
+        check_number(number, U16, "a group")
+        self.words = operations
+        self.tenant = tenant
+        self.number = number
+        self.spec = spec
+        self.node = node
+        self.clock: Callable[[], float] = operations[node].clock
+        # The nodes that crashed.
+        self.absent: Set[int] = set()
+        # The latest generations in which this member's marker stands.
+        self.marked: Set[int] = set()
+
+    def name(self, generation: int) -> Generation:
+        """Return how a generation is named."""
+        return Generation(self.number, generation)
+
+    def text(self, generation: int) -> str:
+        """Return how a generation is named to a reader of messages."""
+        return f"generation {generation} of group {self.number} of tenant {self.tenant}"
+
+    def running(self) -> List[int]:
+        """Return the members that did not crash."""
+        return [node for node in self.spec.members if node not in self.absent]
+
+    def others(self) -> List[int]:
+        """Return the members that did not crash, but for this one."""
+        return [node for node in self.running() if node != self.node]
+
+    def without(self, node: int) -> None:
+        """Note that a member's node has crashed."""
+        if node not in self.spec.members or node == self.node:
+            raise ValueError(f"node {node} is no other member")
+        self.absent.add(node)
+
+    def _persist(self, node: int, begin: Callable[[], Operation[T]], end: float) -> Plan[T]:
+        """Ask until the answer is none that may pass, or the time is over. Raises the last."""
+        pauses = between_tries()
+        while True:
+            try:
+                return (yield from asked(node, begin()))
+            except PASSING:
+                left = end - self.clock()
+                if left <= 0:
+                    raise
+                yield Pause(min(left, next(pauses)))
+
+    def look(self, node: int, generation: int) -> Plan[Optional[bool]]:
+        """Find out what a node has of a generation.
+
+        Returns True if it lives there, False if it can be made there no more, and None if it may
+        be made still.
+        """
+        words = self.words[node]
+        try:
+            yield from asked(node, words.fetch(self.tenant, self.name(generation), 0, 0))
+        except Spent:
+            return False
+        except NoGroup:
+            return None
+        return True
+
+    def greatest(
+        self, node: int, known: int = -1, looks: Optional[Dict[int, bool]] = None
+    ) -> Plan[int]:
+        """Return the greatest generation that was made at a node; `known` if none above it was.
+
+        It is found by doubling and halving: all up to it were made or can be made no more, and
+        none above it was made. `looks` gets what was found out on the way: which of them live.
+        """
+        looks = {} if looks is None else looks
+        low, high, step = known, LAST_GENERATION + 1, 1
+        while high - low > 1:
+            middle = (low + high) // 2 if step == 0 else min(low + step, high - 1)
+            is_living = yield from self.look(node, middle)
+            if is_living is None:
+                high, step = middle, 0
+            else:
+                looks[middle] = is_living
+                low, step = middle, 2 * step
+        return low
+
+    def found(self) -> Plan[Found]:
+        """Return the generations at this member's node.
+
+        Those that lie more than 16 before the greatest are taken as dropped.
+        """
+        looks: Dict[int, bool] = {}
+        greatest = yield from self.greatest(self.node, looks=looks)
+        living: List[int] = []
+        for generation in range(greatest, max(-1, greatest - LOOKED_AT), -1):
+            is_living: Optional[bool] = looks.get(generation)
+            if is_living is None:
+                is_living = yield from self.look(self.node, generation)
+            if is_living:
+                living.insert(0, generation)
+            if len(living) == LIVING:
+                break
+        return Found(greatest, living)
+
+    def newest(self, known: int) -> Plan[int]:
+        """Return the generation to be in, where `known` is the greatest that this node has made.
+
+        It is the greatest that any node has made; the next one, if something was said in that and
+        this node has missed it. A node that cannot be asked is passed over.
+        """
+        newest, is_missed = known, False
+        for node in self.others():
+            try:
+                greatest = yield from self.greatest(node, newest)
+                if greatest > known:
+                    is_used = yield from self._is_used(node, greatest)
+                    is_missed = is_used or (is_missed and greatest == newest)
+                newest = greatest
+            except (Unanswered, MissingToken, Denied):
+                continue
+        return newest + 1 if is_missed else newest
+
+    def _is_used(self, node: int, generation: int) -> Plan[bool]:
+        """Return True if a message stands in a generation's log at a node, or it was dropped."""
+        words = self.words[node]
+        try:
+            yield from asked(node, words.fetch(self.tenant, self.name(generation), 1, 0))
+        except (BadPlace, NoGroup):
+            return False
+        except Spent:
+            pass
+        return True
+
+    def start(self, generation: int, end: float) -> Plan[None]:
+        """Make a generation at each node, and open it when each has answered.
+
+        Where it is there already, another client was first. Where it can be made no more, its
+        members do without it. What may pass is tried again until the time is over.
+        """
+        if generation > LAST_GENERATION:
+            raise Spent(f"{Spent.text()}: group {self.number} of tenant {self.tenant} is used up")
+        for node in self.running():
+            try:
+                yield from self._persist(node, self._making(node, generation), end)
+            except Spent:
+                pass
+            except NoRoom as refusal:
+                raise NoRoom(
+                    f"{refusal}: {self.text(generation)} at node {node}, where {LIVING} live that"
+                    " its readers have not done with"
+                ) from None
+        for node in self.running():
+            try:
+                yield from self._persist(node, self._opening(node, generation), end)
+            except (WrongPhase, Spent):
+                pass
+            if node != self.node:
+                self.words[node].forget_number(self.tenant, self.name(generation))
+
+    def _making(self, node: int, generation: int) -> Callable[[], Operation[None]]:
+        name = self.name(generation)
+        return lambda: self.words[node].make(self.tenant, name, self.spec)
+
+    def _opening(self, node: int, generation: int) -> Callable[[], Operation[None]]:
+        name = self.name(generation)
+        return lambda: self.words[node].open(self.tenant, name)
+
+    def mark(self, generation: int, end: float) -> Plan[None]:
+        """Say this member's marker in a generation, if none is known to stand there.
+
+        A second one does no harm. Where the member has said all that it may, one stands there.
+        """
+        if generation in self.marked:
+            return
+        words, name = self.words[self.node], self.name(generation)
+        try:
+            yield from self._say_marker(generation, end)
+        except (Budget, BytesSpent, Spent):
+            pass
+        words.forget_number(self.tenant, name)
+        self.note_marked(generation)
+
+    def _say_marker(self, generation: int, end: float) -> Plan[None]:
+        words, name = self.words[self.node], self.name(generation)
+
+        def saying() -> Operation[int]:
+            return words.say(self.tenant, name, MARKER, None, False, True)
+
+        try:
+            yield from self._persist(self.node, saying, end)
+        except WrongPhase:
+            # It was not opened here, or it is shut: then this is refused.
+            yield from self._persist(self.node, self._opening(self.node, generation), end)
+            yield from self._persist(self.node, saying, end)
+
+    def note_marked(self, generation: int) -> None:
+        """Note that this member's marker stands in a generation, or never will."""
+        self.marked = {it for it in self.marked if it > generation - LOOKED_AT}
+        self.marked.add(generation)
