@@ -1,13 +1,10 @@
 // A tenant by itself, and beside another one whose messages share its frames: a lazy group, and a first-in first-out one.
-use crate::projected::projection;
+use crate::projected::{Shown, show};
 use crate::schedule::group_of;
 use crate::short::is_same;
 use crate::stops::{are_fetched, is_plan, read, right_trace};
 use crate::told::{Told, are_same_steps, are_steps};
-use gb_alone::event::GroupStep;
-use gb_alone::observation::Observation;
 use gb_cluster::event::Event;
-use gb_trace::observe;
 use gb_types::memory::OutOfMemory;
 use std::alloc::Global;
 use std::rt::HostRuntime;
@@ -144,13 +141,6 @@ const FIFO: &[(u8, Told)] = &[
     (2, Told::Fetch),
 ];
 
-/// The projection of a run on a tenant's group, and what is seen of the group in it.
-#[derive(Drop)]
-struct Shown {
-    steps: Vec<GroupStep>,
-    seen: Observation,
-}
-
 /// Returns what a run of these lines shows of the tenant's group, if all is right in it and the logs that are fetched have these
 /// numbers of entries. The events are added to a list, which is empty before.
 fn shown_in(
@@ -172,14 +162,7 @@ fn shown_in(
     if trace.packets.len() != 4 || !are_fetched(trace.answers.as_slice(), logs) {
         return Ok(None);
     }
-    let addr = group_of(tenant);
-    match projection(alloc, &plan, events, &trace, addr)? {
-        None => Ok(None),
-        Some(steps) => Ok(Some(Shown {
-            steps,
-            seen: observe(alloc, &plan, events, &trace, addr)?,
-        })),
-    }
+    show(alloc, &plan, events, &trace, group_of(tenant))
 }
 
 /// Returns what a run of these lines shows of the tenant's group.

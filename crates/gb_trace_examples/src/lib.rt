@@ -1,12 +1,14 @@
-//! Worked runs of clusters as tests: tenants by themselves and with messages that share frames, nodes of unlike versions, a
-//! group that is settled, and schedules in which a node stops after each event, seen in the run and alone. This crate has
-//! tests only.
+//! Worked runs of clusters as tests: tenants by themselves and with messages that share frames, two generations of one room,
+//! nodes of unlike versions, a group that is settled, and schedules in which a node stops after each event, seen in the run and
+//! alone. This crate has tests only.
 #![tactic(auto)]
 
 #[cfg(test)]
 mod beside;
 #[cfg(test)]
 mod crash;
+#[cfg(test)]
+mod generations;
 #[cfg(test)]
 mod projected;
 #[cfg(test)]

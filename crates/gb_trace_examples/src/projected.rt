@@ -4,6 +4,7 @@ ghost use Rattle.gb_types.specs.declared.limits.TheConstants.{NODES, SILENCE_MIN
 
 use crate::short::is_same;
 use gb_alone::event::GroupStep;
+use gb_alone::observation::Observation;
 use gb_cluster::event::Event;
 use gb_trace::trace::Trace;
 use gb_trace::{alone, observe, project, refused_for};
@@ -12,15 +13,22 @@ use gb_types::memory::OutOfMemory;
 use gb_types::plan::Plan;
 use std::alloc::Global;
 
-/// Returns the projection on a group. `None` if the group lacked memory, or if what is seen of it in the run is not what is seen
-/// of the group alone under that projection.
-pub fn projection(
+/// The projection of a run on a group, and what is seen of the group in it.
+#[derive(Drop)]
+pub struct Shown {
+    pub steps: Vec<GroupStep>,
+    pub seen: Observation,
+}
+
+/// Returns what a run shows of a group. `None` if the group lacked memory, or if what is seen of it in the run is not what is seen
+/// of the group alone under the projection.
+pub fn show(
     alloc: Global,
     plan: &Plan,
     events: &[Event],
     trace: &Trace,
     addr: Addr,
-) -> Result<Option<Vec<GroupStep>>, OutOfMemory>
+) -> Result<Option<Shown>, OutOfMemory>
     requires few { plan.now.nodes ≤ NODES }
     requires least { SILENCE_MIN ≤ plan.now.silence }
 {
@@ -31,5 +39,22 @@ pub fn projection(
     if starved || !is_same(&seen, &by_itself) {
         return Ok(None);
     }
-    Ok(Some(steps))
+    Ok(Some(Shown { steps, seen }))
+}
+
+/// Returns the projection of a run on a group. `None` where `show` is.
+pub fn projection(
+    alloc: Global,
+    plan: &Plan,
+    events: &[Event],
+    trace: &Trace,
+    addr: Addr,
+) -> Result<Option<Vec<GroupStep>>, OutOfMemory>
+    requires few { plan.now.nodes ≤ NODES }
+    requires least { SILENCE_MIN ≤ plan.now.silence }
+{
+    match show(alloc, plan, events, trace, addr)? {
+        None => Ok(None),
+        Some(shown) => Ok(Some(shown.steps)),
+    }
 }

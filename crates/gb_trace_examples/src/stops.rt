@@ -7,7 +7,8 @@ ghost use Rattle.gb_types.specs.Version.{limits_of, version_at};
 
 use crate::projected::projection;
 use crate::worked::{
-    ALL_ACK, BEST_EFFORT, EMPTY_PAYLOAD, FIFO, LAST_NODE, LAZY_RELAY, MAJORITY_ACK, UNLIKE_SPECS,
+    ALL_ACK, BEST_EFFORT, EMPTY_PAYLOAD, FIFO, LAST_NODE, LAZY_RELAY, MAJORITY_ACK,
+    NEXT_GENERATION, UNLIKE_SPECS,
 };
 use gb_cluster::answer::{Answer, Sending};
 use gb_cluster::event::Event;
@@ -15,13 +16,13 @@ use gb_cluster::posted::Posted;
 use gb_node::answer::{Halted, PacketAnswer, Ticked};
 use gb_node::event::NodeEvent;
 use gb_node::packet_text::PacketText;
+use gb_rules::room::ROOMS;
 use gb_schedule::command::{ClusterStart, Command, Step};
 use gb_schedule::grammar::read_command;
 use gb_schedule::keys::{ADMIN_KEY, CLUSTER_KEY, Keys};
 use gb_trace::run::{are_placed, run};
 use gb_trace::trace::Trace;
 use gb_types::address::Addr;
-use gb_rules::room::ROOMS;
 use gb_types::limits::{NODES, SILENCE_MAX, SILENCE_MIN};
 use gb_types::memory::OutOfMemory;
 use gb_types::node::{NodeId, NodeSet};
@@ -499,6 +500,12 @@ fn a_stop_after_each_event_of_acknowledgements_by_all(rt: HostRuntime) -> Result
 #[test]
 fn a_stop_after_each_event_of_acknowledgements_by_most(rt: HostRuntime) -> Result<(), Fail> {
     compare(&rt, rt.alloc(), &MAJORITY_ACK, 3, &[0, 1, 1, 0])?;
+    Ok(())
+}
+
+#[test]
+fn a_stop_after_each_event_of_two_generations(rt: HostRuntime) -> Result<(), Fail> {
+    compare(&rt, rt.alloc(), &NEXT_GENERATION, 2, &[1, 1])?;
     Ok(())
 }
 

@@ -182,3 +182,25 @@ pub const LAST_NODE: [&[u8]; 22] = [
     b"fetch 0 7 1 0 16",
     b"fetch 30 7 1 0 16",
 ];
+
+/// A group and its next generation have a message each in one frame. Then one node drops the group.
+pub const NEXT_GENERATION: [&[u8]; 18] = [
+    b"cluster2 2 3 3,3",
+    b"tenant 0 7 4 8 4096 4",
+    b"make 0 7 1 fbeb 0,1 1 4096 1",
+    b"open 0 7 1",
+    b"tenant 1 7 4 8 4096 4",
+    b"make 1 7 1 fbeb 0,1 1 4096 1",
+    b"open 1 7 1",
+    b"say 0 7 1 61",
+    b"make 0 7 1.1 fbeb 0,1 8 4096 4",
+    b"open 0 7 1.1",
+    b"make 1 7 1.1 fbeb 0,1 8 4096 4",
+    b"open 1 7 1.1",
+    b"say 0 7 1.1 62",
+    b"pack 0 1",
+    b"arrive 1",
+    b"fetch 1 7 1 0 16",
+    b"drop 1 7 1",
+    b"fetch 1 7 1.1 0 16",
+];

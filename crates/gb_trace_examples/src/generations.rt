@@ -1,0 +1,309 @@
+// Two generations of one room whose messages share frames, and a room with as many generations as may live. Each is seen in the run
+// as it is alone, under a projection that tells what was made and dropped of the others.
+use crate::projected::{Shown, show};
+use crate::short::{Got, are_replies, is_same};
+use crate::stops::{is_plan, read, right_trace};
+use crate::told::{Told, are_same_steps, are_steps};
+use gb_alone::observation::Observation;
+use gb_cluster::event::Event;
+use gb_types::address::Addr;
+use gb_types::memory::OutOfMemory;
+use gb_types::refusal::Refusal;
+use std::alloc::Global;
+use std::process::Abort;
+use std::rt::HostRuntime;
+use std::test::Fail;
+
+/// A group says two messages, and the second comes first. Its next generation is made at both nodes and dropped at one, and says
+/// nothing.
+const SILENT: [&[u8]; 24] = [
+    b"cluster2 2 3 3,3",
+    b"tenant 0 7 4 8 4096 4",
+    b"make 0 7 1 fbeb 0,1 8 4096 4",
+    b"open 0 7 1",
+    b"tenant 1 7 4 8 4096 4",
+    b"make 1 7 1 fbeb 0,1 8 4096 4",
+    b"open 1 7 1",
+    b"make 0 7 1.1 beb 0,1 8 4096 4",
+    b"open 0 7 1.1",
+    b"make 1 7 1.1 beb 0,1 8 4096 4",
+    b"open 1 7 1.1",
+    b"say 0 7 1 61",
+    b"pack 0 1",
+    b"say 0 7 1 62",
+    b"pack 0 1",
+    b"arrive 2",
+    b"fetch 1 7 1 0 16",
+    b"arrive 1",
+    b"fetch 1 7 1 0 16",
+    b"drop 1 7 1.1",
+    b"fetch 1 7 1 0 16",
+    b"ack 1 0",
+    b"arrive 3",
+    b"fetch 0 7 1 0 16",
+];
+
+/// The same, and the next generation has a message in each of the frames.
+const SHARED: [&[u8]; 29] = [
+    b"cluster2 2 3 3,3",
+    b"tenant 0 7 4 8 4096 4",
+    b"make 0 7 1 fbeb 0,1 8 4096 4",
+    b"open 0 7 1",
+    b"tenant 1 7 4 8 4096 4",
+    b"make 1 7 1 fbeb 0,1 8 4096 4",
+    b"open 1 7 1",
+    b"make 0 7 1.1 beb 0,1 8 4096 4",
+    b"open 0 7 1.1",
+    b"make 1 7 1.1 beb 0,1 8 4096 4",
+    b"open 1 7 1.1",
+    b"say 0 7 1.1 71",
+    b"say 0 7 1 61",
+    b"pack 0 1",
+    b"say 0 7 1 62",
+    b"say 0 7 1.1 72",
+    b"pack 0 1",
+    b"arrive 2",
+    b"fetch 1 7 1 0 16",
+    b"fetch 1 7 1.1 0 16",
+    b"arrive 1",
+    b"fetch 1 7 1 0 16",
+    b"drop 1 7 1.1",
+    b"fetch 1 7 1 0 16",
+    b"make 1 7 1.1 beb 0,1 8 4096 4",
+    b"fetch 1 7 1.1 0 16",
+    b"ack 1 0",
+    b"arrive 3",
+    b"fetch 0 7 1 0 16",
+];
+
+/// The part of both runs that concerns the group, written by hand.
+const FIRST: &[(u8, Told)] = &[
+    (0, Told::Tenant),
+    (0, Told::Make),
+    (0, Told::Open),
+    (1, Told::Tenant),
+    (1, Told::Make),
+    (1, Told::Open),
+    (0, Told::OtherMade(1)),
+    (1, Told::OtherMade(1)),
+    (0, Told::Say),
+    (0, Told::Took(1, 1)),
+    (0, Told::Say),
+    (0, Told::Took(1, 1)),
+    (1, Told::Came(0, 2)),
+    (1, Told::Fetch),
+    (1, Told::Came(0, 1)),
+    (1, Told::Fetch),
+    (1, Told::OtherDropped),
+    (1, Told::Fetch),
+    (0, Told::Done(1, 1, 1)),
+    (0, Told::Done(1, 2, 1)),
+    (0, Told::Fetch),
+];
+
+/// The replies that are seen of it at the two nodes.
+const FIRST_AT_0: &[Got] = &[
+    Got::Done,
+    Got::Done,
+    Got::Said(1),
+    Got::Said(2),
+    Got::Log(2),
+];
+
+const FIRST_AT_1: &[Got] = &[Got::Done, Got::Done, Got::Log(0), Got::Log(2), Got::Log(2)];
+
+/// The part of the second run that concerns the next generation, written by hand.
+const NEXT: &[(u8, Told)] = &[
+    (0, Told::Tenant),
+    (0, Told::OtherMade(0)),
+    (1, Told::Tenant),
+    (1, Told::OtherMade(0)),
+    (0, Told::Make),
+    (0, Told::Open),
+    (1, Told::Make),
+    (1, Told::Open),
+    (0, Told::Say),
+    (0, Told::Took(1, 1)),
+    (0, Told::Say),
+    (0, Told::Took(1, 1)),
+    (1, Told::Came(0, 2)),
+    (1, Told::Fetch),
+    (1, Told::Came(0, 1)),
+    (1, Told::Drop),
+    (1, Told::Make),
+    (1, Told::Fetch),
+    (0, Told::Done(1, 1, 1)),
+    (0, Told::Done(1, 2, 1)),
+];
+
+const NEXT_AT_0: &[Got] = &[Got::Done, Got::Done, Got::Said(1), Got::Said(2)];
+
+const NEXT_AT_1: &[Got] = &[
+    Got::Done,
+    Got::Done,
+    Got::Log(1),
+    Got::Done,
+    Got::Refused(Refusal::Spent),
+    Got::Refused(Refusal::Spent),
+];
+
+/// One node. Four generations of a room live, one is dropped, and a later one is made.
+const FULL: [&[u8]; 14] = [
+    b"cluster2 1 3 3",
+    b"tenant 0 7 4 8 4096 4",
+    b"make 0 7 1 beb 0 8 4096 4",
+    b"make 0 7 1.1 beb 0 8 4096 4",
+    b"make 0 7 1.3 beb 0 8 4096 4",
+    b"make 0 7 1.4 beb 0 8 4096 4",
+    b"make 0 7 1.5 beb 0 8 4096 4",
+    b"make 0 7 1.2 beb 0 8 4096 4",
+    b"drop 0 7 1.1",
+    b"make 0 7 1.5 beb 0 8 4096 4",
+    b"open 0 7 1.5",
+    b"fetch 0 7 1.2 0 16",
+    b"fetch 0 7 1.5 0 16",
+    b"fetch 0 7 1.6 0 16",
+];
+
+/// The part of it that concerns the later generation, written by hand. The first make is refused.
+const LATER: &[(u8, Told)] = &[
+    (0, Told::Tenant),
+    (0, Told::OtherMade(0)),
+    (0, Told::OtherMade(1)),
+    (0, Told::OtherMade(3)),
+    (0, Told::OtherMade(4)),
+    (0, Told::Make),
+    (0, Told::OtherDropped),
+    (0, Told::Make),
+    (0, Told::Open),
+    (0, Told::Fetch),
+];
+
+const LATER_AT_0: &[Got] = &[
+    Got::Refused(Refusal::NoRoom),
+    Got::Done,
+    Got::Done,
+    Got::Log(0),
+];
+
+/// The part that concerns a generation that was left out.
+const LEFT_OUT: &[(u8, Told)] = &[
+    (0, Told::Tenant),
+    (0, Told::OtherMade(0)),
+    (0, Told::OtherMade(1)),
+    (0, Told::OtherMade(3)),
+    (0, Told::OtherMade(4)),
+    (0, Told::Make),
+    (0, Told::OtherDropped),
+    (0, Told::OtherMade(5)),
+    (0, Told::Fetch),
+];
+
+const LEFT_OUT_AT_0: &[Got] = &[Got::Refused(Refusal::Spent), Got::Refused(Refusal::Spent)];
+
+fn generation(generation: u32) -> Addr {
+    Addr {
+        tenant: 7,
+        group: 1,
+        generation,
+    }
+}
+
+/// Returns what a run of these lines shows of a group, if all is right in it. The events are added to a list, which is empty before.
+fn shown_in(
+    alloc: Global,
+    lines: &[&[u8]],
+    addr: Addr,
+    events: &mut Vec<Event>,
+) -> Result<Option<Shown>, OutOfMemory> {
+    let Some(plan) = read(alloc, lines, events)? else {
+        return Ok(None);
+    };
+    if !is_plan(&plan) {
+        return Ok(None);
+    }
+    match right_trace(alloc, plan, events)? {
+        None => Ok(None),
+        Some(trace) => show(alloc, &plan, events, &trace, addr),
+    }
+}
+
+fn shown_by(alloc: Global, lines: &[&[u8]], addr: Addr) -> Result<Option<Shown>, OutOfMemory> {
+    let mut events = Vec::new(alloc);
+    shown_in(alloc, lines, addr, &mut events)
+}
+
+/// Returns true if these replies are seen at each node.
+fn are_seen(seen: &Observation, wanted: &[&[Got]]) -> bool {
+    let nodes = seen.nodes();
+    if nodes.len() != wanted.len() {
+        return false;
+    }
+    for i in 0..nodes.len() {
+        if !are_replies(nodes[i].replies(), wanted[i]) {
+            return false;
+        }
+    }
+    true
+}
+
+/// Returns true if a run of these lines shows these steps of a generation, and these replies at each node.
+fn is_told(
+    alloc: Global,
+    lines: &[&[u8]],
+    number: u32,
+    steps: &[(u8, Told)],
+    replies: &[&[Got]],
+) -> Result<bool, OutOfMemory> {
+    match shown_by(alloc, lines, generation(number))? {
+        None => Ok(false),
+        Some(shown) => Ok(are_steps(&shown.steps, steps) && are_seen(&shown.seen, replies)),
+    }
+}
+
+/// Checks that a run of these lines shows these steps of a generation, and these replies at each node.
+fn compare(
+    rt: &impl Abort,
+    alloc: Global,
+    lines: &[&[u8]],
+    number: u32,
+    steps: &[(u8, Told)],
+    replies: &[&[Got]],
+) -> Result<(), OutOfMemory> {
+    let told = is_told(alloc, lines, number, steps, replies)?;
+    assert!(rt; told);
+    Ok(())
+}
+
+/// Returns true if both runs show the same of the group.
+fn agrees(alloc: Global) -> Result<bool, OutOfMemory> {
+    let silent = shown_by(alloc, &SILENT, generation(0))?;
+    let shared = shown_by(alloc, &SHARED, generation(0))?;
+    match (&silent, &shared) {
+        (Some(one), Some(other)) => {
+            Ok(are_same_steps(&one.steps, &other.steps) && is_same(&one.seen, &other.seen))
+        }
+        _ => Ok(false),
+    }
+}
+
+// Another generation's messages change nothing in the group, and the group's nothing in the other generation.
+#[test]
+fn two_generations_share_their_frames(rt: HostRuntime) -> Result<(), Fail> {
+    let alloc = rt.alloc();
+    compare(&rt, alloc, &SILENT, 0, FIRST, &[FIRST_AT_0, FIRST_AT_1])?;
+    compare(&rt, alloc, &SHARED, 0, FIRST, &[FIRST_AT_0, FIRST_AT_1])?;
+    let agrees = agrees(alloc)?;
+    assert!(rt; agrees);
+    compare(&rt, alloc, &SHARED, 1, NEXT, &[NEXT_AT_0, NEXT_AT_1])?;
+    Ok(())
+}
+
+// What a make answers depends on the other generations of the room, and on nothing else that the group alone is not told.
+#[test]
+fn generations_of_a_full_room_are_seen_alone(rt: HostRuntime) -> Result<(), Fail> {
+    let alloc = rt.alloc();
+    compare(&rt, alloc, &FULL, 5, LATER, &[LATER_AT_0])?;
+    compare(&rt, alloc, &FULL, 2, LEFT_OUT, &[LEFT_OUT_AT_0])?;
+    Ok(())
+}
