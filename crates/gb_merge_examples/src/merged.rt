@@ -39,7 +39,7 @@ pub fn plan(nodes: u8) -> Plan
 
 /// Returns the same plan with this number of places.
 pub fn plan_with(nodes: u8, places: u16) -> Plan
-    requires { places ≤ 4096 }
+    requires { places ≤ 1024 }
     ensures { IsClusterPlan result }
 {
     let mut versions = [Version::One; NODES];
