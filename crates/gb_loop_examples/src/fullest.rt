@@ -177,7 +177,7 @@ impl Talk<'_> {
 }
 
 // Returns a talk of a client that has asked for each log, and whose stream is shut.
-fn talk(alloc: Global, reader: &[u8]) -> Result<Talk<'_>, OutOfMemory> {
+fn asking(alloc: Global, reader: &[u8]) -> Result<Talk<'_>, OutOfMemory> {
     Ok(Talk {
         client: Client::new(alloc, 5),
         answers: Logs { alloc, next: 0 },
@@ -197,7 +197,7 @@ fn the_most_replies_wait_for_a_client_that_does_not_read(rt: HostRuntime) -> Res
     let wanted = messages(alloc)?;
     assert!(rt; wanted.len() == 196_777);
     let reader = requests(alloc)?;
-    let mut talk = talk(alloc, &reader)?;
+    let mut talk = asking(alloc, &reader)?;
     let waits = talk.waits(alloc, &wanted);
     let writes = talk.writes(alloc, &wanted);
     assert!(rt; waits && writes);
