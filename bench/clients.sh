@@ -17,6 +17,12 @@ GB_SERVE=$(realpath "$GB_SERVE")
 GB_WEB=$(realpath "$GB_WEB")
 export GB_SERVE GB_WEB
 (cd "$top/clients/python" && "$python" -W error -m unittest)
-if "$python" -c 'import mypy' 2>/dev/null; then (cd "$top/clients/python" && "$python" -m mypy); else echo "mypy is not there: types are not checked"; fi
+if "$python" -c 'import mypy' 2>/dev/null; then
+    (cd "$top/clients/python" && "$python" -m mypy)
+elif command -v mypy >/dev/null; then
+    (cd "$top/clients/python" && mypy)
+else
+    echo "mypy is not there: types are not checked"
+fi
 "$python" "$top/bench/doors.py"
 "$python" "$top/examples/chat/test_chat.py" ${1:+--picture "$1"}

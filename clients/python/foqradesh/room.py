@@ -68,14 +68,14 @@ class _Plans:
 class Room:
     """A room at its members' nodes, for one member: what it says, and what it reads.
 
-    A group is for as many messages as it was made with. A room goes on: its groups are its
-    generations, made one after the other with the same spec, and four of them live at a node at
-    once. Each member's clients make, open, mark and drop them by themselves (docs/CLIENTS.md,
-    "Rooms"), so all of them use this class, or one with its spelling: the module tells it.
+    A group takes as many messages as it was made with. A room goes on: its groups are its
+    generations, made one after the other with the same spec, and at most four of them live at a
+    node. Each member's clients make, open, mark and drop them by themselves (docs/CLIENTS.md,
+    "Rooms"). So all of them use this class, or one that spells messages as its module tells.
 
     A room is for one thread at a time, as its clients are. A program that says and reads at once
     has two, with clients of their own, or takes `AsyncRoom`. Several programs may speak for one
-    member: each then has a room of its own. A member that nobody reads for holds up the room when
+    member, each with a room of its own. A member for which nobody reads holds up the room when
     four generations live at its node, and so does one that crashed, until `without` names it.
     """
 
@@ -91,15 +91,15 @@ class Room:
     ) -> None:
         """Names the room. Nothing is sent yet.
 
-        `clients` has a client of each member's node, by the node's number, and `node` is the
-        member that this room speaks and reads for. `number` is the group's, 0 to 65,535. All
-        members give the same `spec`: each generation is made with it, and the members of one say
-        at most `spec.messages` messages there, at least 2, with the marker. `patience` is how long
-        a say waits for what may pass, in seconds, 0 or more.
+        `clients` has a client of each member's node, by the node's number. `tenant` and `number`
+        are 0 to 65,535. `spec` is what each generation is made with, so all members give the same;
+        its `messages` and `bytes` are at least 2, since a marker has its place in them. `node` is
+        the member for which this room speaks and reads. `patience` is how long a say waits for
+        what may pass, in seconds, 0 or more. ValueError if one of these is something else.
 
-        Clients need the tenant's token, to make and drop generations. With the members' tokens at
-        the other nodes too, which the tenant's key makes, a room knows when a generation is needed
-        no more; without them it keeps it for the length of another one.
+        Clients need the tenant's token, to make and to drop generations. If each of them also has
+        the member's token at its own node, as `Keys` make it, a room knows when nobody needs a
+        generation any more. Else it keeps one until it has read the next one to its end.
         """
         self._clients = dict(clients)
         operations = {it: client.operations for it, client in self._clients.items()}
@@ -128,6 +128,8 @@ class Room:
                     todo = plan.send(result)
         except StopIteration as end:
             return cast(T, end.value)
+        finally:
+            plan.close()
 
     def _pause(self, seconds: float) -> None:
         """Ask nothing for some seconds. A room that was followed reads on in the meantime.
@@ -161,50 +163,57 @@ class Room:
     def say(self, payload: bytes, *, repeat: Optional[RoomNumber] = None) -> RoomNumber:
         """Say a message, and return its generation and its number there.
 
-        A payload has at most 4,095 bytes (1,023 at nodes that send packets of version 1, where a
-        room has generation 0 alone), and the bytes of a generation have room for it, one byte
-        before it, and the marker of one byte: else TooLong or BytesSpent is raised.
+        A payload has 0 to 4,095 bytes, else TooLong is raised. With one byte before it and a
+        marker of one byte it fits into the bytes of a generation, else BytesSpent is.
 
         When the member has used three quarters of a generation's messages or bytes, the room goes
         on: the next one is made at each member's node, opened at each when all have answered, and
-        what is said stands there. If that has to wait, the rest is used up before. What may pass
-        is then tried again for as long as the patience, and raised after it: NoRoom if four
-        generations live at some member's node, Window, OutOfMemory, and ConnectionFailed, TimedOut
-        or BadReply with `number` None of a node that could not be asked.
+        spoken in after a marker. If that has to wait, the rest of this one is used up first. Then
+        it is tried again for as long as the patience, and so is what else may pass. After that is
+        raised what was answered last: NoRoom if four generations live at some member's node,
+        Window, OutOfMemory, or ConnectionFailed, TimedOut or BadReply of a node that did not
+        answer, whose `generation` is None.
 
-        **What is certain.** A say carries its number, so it is done once. Where a refusal is
-        raised the message was not said, and will not be. BadPlace: another client of the member
-        has said a message that is not delivered in time, so it is not known whether it is the last
-        one here. ConnectionFailed, TimedOut, BadReply and UnknownOutcome with `number` and
-        `generation` that are not None: it may have been said or not, once at most. Then
-        `say(payload, repeat=RoomNumber(error.generation, error.number))` goes on where it ended,
-        also in another room object: the message is said anew only if it certainly was not.
-        Two clients of a member that say the very same bytes are told apart by nothing else, as
-        `Client.say` tells. A generation that was dropped since leaves it open: UnknownOutcome.
+        What is certain:
 
-        Spent: the last generation, 4,294,967,295, is full. Other refusals are those of `make`,
-        `open` and `say`, as Denied, BadMembers or OverReserve; MissingToken if a client has not
-        the token.
+        - What is returned stands, once. What `Client.say` tells of two clients of one member that
+          say the very same bytes holds here too.
+        - Where a refusal is raised the message was not said, and will not be, and so it is where
+          ConnectionFailed, TimedOut or BadReply has `generation` None. BadPlace: another client of
+          the member has said something that is not delivered yet, and it may be the marker.
+        - ConnectionFailed, TimedOut, BadReply and UnknownOutcome with a `generation`: the message
+          may or may not be said, once at most. Then `say` of the same payload with `repeat` as
+          `RoomNumber(error.generation, error.number)` goes on where it ended, also in another
+          room. It is said anew if it certainly was not. Where the generation was dropped since,
+          nothing tells, and UnknownOutcome is raised again; the room itself keeps it for as long
+          as its patience, or until its next say.
+
+        Spent: the last generation, 4,294,967,295, is full. The other refusals are those of `make`,
+        `open` and `say`. MissingToken if a client has no token for what it is to ask.
         """
         return self._run(self._plans.speaker.say(payload, repeat))
 
     def follow(self, *, idle: Optional[float] = None, drops: bool = True) -> Iterator[RoomEntry]:
         """Yield the messages of the room, each once, as they come.
 
-        It begins with the oldest generation that lives at the node, and goes on for ever, or until
-        nothing came for `idle` seconds. A further call goes on where the last one ended. Each
-        member's messages come in the order of their generations: those of one are shown when all
-        before it was read, up to the member's marker. Within a generation they have the order in
-        which the group delivers them.
+        It begins with the oldest generation that lives at the node, of the 16 up to the newest,
+        and goes on for ever, or until nothing came for `idle` seconds, 0 or more. A further call
+        goes on where the last one ended. A room that is nowhere yet is begun, as by `join`.
 
-        A generation that was read to its end is dropped at this node, when it is asked for what
-        stands behind it and the logs of all running members' nodes have it whole. With `drops`
-        False it is not: so do all readers of a node but one. A generation that another client
-        dropped, or that was never made here, is passed over. Where another member has gone on,
-        this one's marker is said too, so a member that says nothing holds up nobody.
+        Each member's messages come in the order of their generations: those of one are shown when
+        those of the one before were read, up to the member's marker. Within a generation they have
+        the order in which the node delivered them. A generation that was never made here, or that
+        another client has dropped, is passed over.
 
-        It connects again where a connection ended, and raises what `Client.wait`, `Client.drop`
-        and `say` raise. NoGroup: the node's server was started anew, and the room is not there.
+        A generation that was read to its end is dropped at this node, once what stands behind it
+        is asked for and each other running member's node has its whole log: a drop gives up what
+        waits for others. With `drops` False nothing is dropped; all readers of one node but one
+        read so. Where another member has gone on, this one's marker is said too, so a member that
+        says nothing holds up nobody.
+
+        It connects again where a connection ended. It raises what `Client.wait`, `make`, `open`,
+        `say` and `drop` raise, and may be called again after it. NoGroup: the node's server was
+        started anew, and has none of the room.
         """
         end = None if idle is None else self._plans.clock() + idle
         reader, ready, self._drops = self._plans.reader, self._plans.reader.ready, drops
@@ -218,12 +227,12 @@ class Room:
                 return
 
     def without(self, node: int) -> None:
-        """Go on without the member of a node that has crashed, and is not to come back.
+        """Go on without the member of a node that has crashed, and does not come back.
 
         Nothing is asked at its node any more, no generation is made there, and no marker of it is
-        waited for. Each member's rooms have to be told. Of a node that runs, what is said from
-        then on would be lost there, and a group of kind `allack` or `fallack` would deliver
-        nothing any more. ValueError if it is no other member.
+        waited for. Each room of each other member has to be told. If the node runs after all, what
+        is said in later generations is lost there, and in kinds `allack` and `fallack` is not
+        delivered anywhere. ValueError if the node is no other member's.
         """
         self._plans.without(node)
 

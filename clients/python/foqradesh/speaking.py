@@ -90,7 +90,9 @@ class Speech:
         return self.used + length + len(MARKER) <= spec.bytes
 
     def is_late(self, spec: Spec) -> bool:
-        """Return True if three quarters of the generation are used by this member."""
+        """Return True if this member has used three quarters of the generation, and it is no last."""
+        if self.generation == LAST_GENERATION:
+            return False
         return 4 * (self.next - 1) >= 3 * spec.messages or 4 * self.used >= 3 * spec.bytes
 
 
@@ -267,9 +269,10 @@ class Speaker:
                 )
             )
         except (Unanswered, GeneratorExit) as error:
-            until = self.end()
-            if isinstance(error, Unanswered):
-                error.generation = generation
+            if isinstance(error, GeneratorExit):
+                until = self.end()
+            elif repeated or error.is_unknown:
+                error.generation, until = generation, self.end()
             raise
         finally:
             self._doubt = (generation, until)

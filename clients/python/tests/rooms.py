@@ -52,6 +52,8 @@ class Living:
         self.sent: Set[Message] = set()
         self.log: List[Message] = []
         self.ready: Set[Message] = set()
+        # What a test keeps from being delivered yet.
+        self.late: Set[Message] = set()
         self.waiting: Dict[int, Deque[Message]] = {node: deque() for node in spec.members}
         self.done: Dict[int, Set[int]] = {}
         self.said = 0
@@ -87,7 +89,7 @@ class Living:
         for message, holders in self.holders.items():
             if self.spec.kind not in ("allack", "fallack") or running <= holders:
                 self.ready.add(message)
-        logged = set(self.log)
+        logged = set(self.log) | self.late
         if self.spec.kind.startswith("f"):
             counts = {node: sum(it[0] == node for it in self.log) for node in self.spec.members}
             for message in sorted(self.ready - logged):

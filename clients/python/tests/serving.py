@@ -19,12 +19,12 @@ CLUSTER_KEY = bytes([0x11]) * 32
 TOP = pathlib.Path(__file__).resolve().parents[3]
 
 
-def program() -> Optional[str]:
-    """Return the path of gb_serve: GB_SERVE's, or bin/gb_serve of the repository.
+def program(name: str = "gb_serve") -> Optional[str]:
+    """Return the path of a program: that of GB_SERVE or GB_SIM, or in bin/ of the repository.
 
     None if it is not there.
     """
-    path = os.environ.get("GB_SERVE") or str(TOP / "bin" / "gb_serve")
+    path = os.environ.get(name.upper()) or str(TOP / "bin" / name)
     return path if os.access(path, os.X_OK) and os.path.isfile(path) else None
 
 

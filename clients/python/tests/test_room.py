@@ -4,10 +4,11 @@ from __future__ import annotations
 
 import asyncio
 import random
+import subprocess
 import threading
 import time
 import unittest
-from typing import Dict, Iterable, List, Optional, Sequence, Tuple
+from typing import Dict, Iterable, List, Optional, Sequence, Set, Tuple
 
 from foqradesh import (
     AsyncRoom,
@@ -37,8 +38,11 @@ from foqradesh import (
     tenant_token,
 )
 
+from foqradesh.words import group_word
+
 from .fake import TENANT_KEY
 from .rooms import Cluster, Fate
+from .serving import program
 
 ALL = (0, 1, 2)
 SPEC = Spec("fallack", ALL, 8, 4_096, 8)
@@ -139,6 +143,24 @@ class GenerationTests(Heard):
                     for client in room._clients.values():
                         self.assertLess(len(client.operations.numbers._next), 4)
 
+    def test_a_marker_that_comes_before_a_message(self) -> None:
+        # Where the kind keeps no order of origins.
+        cluster = timed(2)
+        rooms = rooms_of(cluster, Spec("beb", (0, 1), 8, 4_096, 8))
+        rooms[0].join()
+        late = cluster.nodes[1].living[7, Generation(1, 0)].late
+        late.add((0, 3))
+        for number in range(7):
+            rooms[0].say(f"0-{number}".encode())
+        first = [it.payload for it in rooms[1].follow(idle=0.5)]
+        self.assertEqual(first, numbered(0, (0, 1, 3, 4, 5)))
+        late.clear()
+        rooms[0].say(b"0-7")
+        cluster.nodes[1].living[7, Generation(1, 0)].deliver(set())
+        rest = [it.payload for it in rooms[1].follow(idle=0.5)]
+        self.assertEqual(rest, numbered(0, (2, 6, 7)))
+        self.assertEqual(cluster.living(), [[0, 1], [1]])
+
     def test_the_marker_has_its_place_in_the_budget(self) -> None:
         cluster = timed(1)
         room = room_of(cluster, 0, Spec("beb", (0,), 4, 12, 4))
@@ -220,17 +242,18 @@ class GenerationTests(Heard):
 
     def test_the_last_generation(self) -> None:
         cluster = timed(1)
-        spec = Spec("beb", (0,), 2, 100, 2)
+        spec = Spec("beb", (0,), 8, 100, 8)
         last = Generation(1, 2**32 - 1)
         client = cluster.client(0)
         client.make(7, last, spec)
         client.open(7, last)
         room = room_of(cluster, 0, spec)
-        self.assertEqual(room.say(b"a"), (2**32 - 1, 1))
+        for number in range(7):
+            self.assertEqual(room.say(f"0-{number}".encode()), (2**32 - 1, number + 1))
         with self.assertRaises(Spent) as caught:
-            room.say(b"b")
+            room.say(b"0-7")
         self.assertIn("used up", str(caught.exception))
-        self.assertEqual([it.payload for it in room.follow(idle=0)], [b"a"])
+        self.assert_heard(list(room.follow(idle=0)), 7, (0,))
 
 
 class MakerTests(Heard):
@@ -518,6 +541,44 @@ class SlowTests(Heard):
             self.assert_heard(entries, 7)
         self.assertEqual(cluster.living()[:2], [[2]] * 2)
 
+    def test_what_a_crashed_member_said_to_some(self) -> None:
+        # Best effort brings it to node 0 alone, which does not wait for node 1 to have it.
+        cluster = timed()
+        rooms = rooms_of(cluster, Spec("fbeb", ALL, 8, 4_096, 8))
+        heard: List[List[RoomEntry]] = [[], []]
+        rooms[2].say(b"2-0")
+        cluster.held = {(2, 1)}
+        rooms[2].say(b"2-1")
+        cluster.crash(2)
+        for room in rooms[:2]:
+            room.without(2)
+        for number in range(7):
+            for node in (0, 1):
+                rooms[node].say(f"{node}-{number}".encode())
+        hear(rooms[:2], heard, 1.0)
+        for entries, count in zip(heard, (2, 1)):
+            self.assert_heard([it for it in entries if it.origin == 2], count, (2,))
+        self.assertEqual(cluster.living()[:2], [[1]] * 2)
+
+    def test_what_is_read_while_a_say_waits_is_kept_until_it_is_shown(self) -> None:
+        cluster = timed()
+        rooms = rooms_of(cluster)
+        heard: List[List[RoomEntry]] = [[], [], []]
+        self.assertEqual(list(rooms[0].follow(idle=0)), [])
+        for number in range(25):
+            rooms[0].say(f"0-{number}".encode())
+            hear(rooms[1:], heard[1:])
+        with self.assertRaises(NoRoom):
+            rooms[0].say(b"0-25")
+        hear(rooms[1:], heard[1:], 1.0)
+        # It has read all of it, and the others have dropped what they have shown.
+        self.assertEqual(cluster.living(), [[0, 1, 2, 3], [3], [3]])
+        self.assertEqual(len(rooms[0]._plans.reader.ready), 25)
+        hear(rooms, heard, 1.0)
+        for entries in heard:
+            self.assert_heard(entries, 25, (0,))
+        self.assertEqual(cluster.living(), [[3]] * 3)
+
     def test_what_waits_for_others_is_not_given_up(self) -> None:
         # Node 0 has read all of generation 0, and node 2 lacks its part of it.
         for kind in ("fallack", "fbeb", "feager"):
@@ -725,6 +786,23 @@ class LostTests(Heard):
         room_of(cluster, 0).say(b"x")
         self.assertEqual(room.say(b"b", repeat=number), (0, 2))
         self.assertEqual(cluster.payloads(1, 0), [b"\1x", b"\1b"])
+
+    def test_nobody_listens(self) -> None:
+        cluster = timed()
+        room = room_of(cluster, 0)
+        number = self.in_doubt(cluster, room, b"a", True)
+        cluster.down = {0}
+        with self.assertRaises(ConnectionFailed) as caught:
+            room.say(b"b")
+        self.assertEqual((caught.exception.is_unknown, caught.exception.generation), (False, None))
+        with self.assertRaises(ConnectionFailed) as caught:
+            room.say(b"a", repeat=number)
+        self.assertEqual((caught.exception.generation, caught.exception.number), (0, 1))
+        with self.assertRaises(ConnectionFailed):
+            list(room.follow(idle=1.0))
+        cluster.down = set()
+        self.assertEqual(room.say(b"a", repeat=number), (0, 1))
+        self.assertEqual([it.payload for it in room.follow(idle=0)], [b"a"])
 
     def test_a_generation_in_doubt_is_kept(self) -> None:
         for is_done in (True, False):
@@ -950,9 +1028,108 @@ class AsyncRoomTests(unittest.IsolatedAsyncioTestCase):
             await rooms[0].say(b"0-25")
         for room in rooms[:2]:
             room.without(2)
-        heard = [[entry async for entry in room.follow(idle=0.1)] for room in rooms[:2] * 2]
-        self.assertEqual([len(entries) for entries in heard], [25, 25, 0, 0])
+        for room, count in zip(rooms[:2] * 2, (25, 25, 0, 0)):
+            heard = [entry async for entry in room.follow(idle=0.1)]
+            self.assertEqual(len(heard), count)
         self.assertEqual(await rooms[0].say(b"0-25"), (4, 1))
+
+
+class ClusterTests(unittest.TestCase):
+    """The cluster in memory answers as gb_sim does."""
+
+    def setUp(self) -> None:
+        path = program("gb_sim")
+        if path is None:
+            self.skipTest("no gb_sim: set GB_SIM to its path, or build bin/gb_sim")
+        self.process = subprocess.Popen(
+            [path], stdin=subprocess.PIPE, stdout=subprocess.PIPE, text=True, bufsize=1
+        )
+
+    def tearDown(self) -> None:
+        assert self.process.stdin is not None and self.process.stdout is not None
+        self.process.stdin.close()
+        self.process.stdout.close()
+        self.assertEqual(self.process.wait(10), 0)
+
+    def sim(self, line: str) -> str:
+        """Return the answer of gb_sim to a line."""
+        assert self.process.stdin is not None and self.process.stdout is not None
+        self.process.stdin.write(line + "\n")
+        return self.process.stdout.readline().rstrip("\n")
+
+    def carry(self) -> None:
+        """Have all packets arrive, and be acknowledged."""
+        pairs = [(giver, taker) for giver in ALL for taker in ALL if giver != taker]
+        is_over = False
+        while not is_over:
+            is_over = True
+            for giver, taker in pairs:
+                packed = self.sim(f"pack {giver} {taker}")
+                if packed != "nothing":
+                    is_over = False
+                    self.sim(packed.replace("packet", "arrive"))
+                    self.sim(self.sim(f"ack {taker} {giver}").replace("packet", "arrive"))
+
+    def both(self, cluster: Cluster, node: int, head: str, words: str) -> str:
+        """Ask both, and return the reply, which is one but for the order of origins."""
+        group = int(words.split(" ")[0].split(".")[0])
+        secrets = cluster.keys(node)
+        token = secrets.member(7, group) if head in ("say", "fetch") else secrets.tenant(7)
+        found = cluster.answer(node, f"{head} {token} 7 {words}")
+        wanted = self.sim(f"{head} {node} 7 {words}")
+        if not cluster.held:
+            self.carry()
+        self.assertEqual(sorted(found.split(" ")), sorted(wanted.split(" ")), (node, head, words))
+        return wanted
+
+    def test_random_requests(self) -> None:
+        numbers, cluster = random.Random(5), Cluster()
+        self.assertEqual(self.sim("cluster2 3 1000 3,3,3"), "ok")
+        for node in ALL:
+            cluster.nodes[node].tenants[7] = (2, 6, 8, 4)
+            self.assertEqual(self.sim(f"tenant {node} 7 2 6 8 4"), "ok")
+        specs: Tuple[str, ...] = (
+            "fallack 0,1,2 2 8 4",
+            "fbeb 0,1,2 5 6 2",
+            "eager 0,1 4 8 4",
+            "lazy 0,1,2 4 8 4",
+        )
+        specs += ("allack 0,1,2 4 8 2", "beb 0,1,2 6 8 4", "beb 0,3 4 8 4", "beb 0,1,2 7 8 4")
+        heads = ("make", "open", "say", "say", "say", "fetch", "fetch", "shut", "drop")
+        pairs = {(giver, taker) for giver in ALL for taker in ALL if giver != taker}
+        seen: Set[str] = set()
+        for _ in range(2_000):
+            node, group = numbers.choice(ALL), numbers.choice((0, 1, 1, 1, 2))
+            generation = numbers.randrange(6)
+            generation += cluster.nodes[node].greatest.get((7, group), 1) - 4
+            name = group_word(Generation(group, max(0, generation)))
+            if numbers.randrange(60) == 0:
+                # Nothing travels for a time.
+                cluster.held = set() if cluster.held else set(pairs)
+            if numbers.randrange(12) == 0:
+                spec = numbers.choice(specs[:6])
+                for other in ALL:
+                    seen.add(self.both(cluster, other, "make", f"{name} {spec}"))
+                for other in ALL:
+                    seen.add(self.both(cluster, other, "open", name))
+                continue
+            head = numbers.choice(heads)
+            words = ""
+            living = cluster.nodes[node].room(7, group)
+            if head in ("say", "fetch") and living:
+                name = group_word(Generation(group, numbers.choice(living)))
+            if head == "make":
+                words = numbers.choice(specs)
+            elif head == "say":
+                words = "61" * numbers.randrange(1, 4) + numbers.choice(("", "", " 1", " 2"))
+            elif head == "fetch":
+                words = numbers.choice(("0 16", "0 0", "1 16", "5 0", "0 17"))
+            seen.add(self.both(cluster, node, head, f"{name} {words}".rstrip()))
+        names = (
+            "NoGroup Spent BadMembers OverReserve WrongPhase Budget Bytes Window BadPlace NoRoom"
+        )
+        refused = {reply.split(" ")[2] for reply in seen if reply.startswith("refused")}
+        self.assertEqual(refused, set(names.split(" ")))
 
 
 class ThreadTests(Heard):
