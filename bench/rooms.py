@@ -64,16 +64,16 @@ class Maker:
 
     def start(self):
         draw = self.draw
-        self.is_long = self.chance(0.04)
+        self.is_long, self.has_crashes = self.chance(0.08), self.chance(0.2)
         count = draw.choices([1, 2, 3, 4, 32], [2, 10, 8, 3, 0.2])[0]
         least = 2 if count > 16 else 1
         way = draw.choices(['new', 'mixed', 'old'], [11, 7, 2])[0]
         choices = {'new': [3], 'mixed': range(least, 4), 'old': range(least, 3)}[way]
         versions = [draw.choice(choices) for _ in range(count)]
         room = draw.choices(['', f' {draw.randint(1, 90)}', f' {draw.randint(20, 50)}', f' {draw.randint(1, 16_345)}'], [3, 6, 9, 2])[0]
-        silence = draw.choice([2, 3, 5, 1_000])
+        silence = draw.choice([2, 3]) if self.has_crashes else draw.choice([5, 9, 1_000])
         if self.is_long:
-            room = draw.choice(['', '', ' 16345', f' {draw.randint(1_000, 9_000)}'])
+            room = draw.choice(['', '', ' 16345', f' {draw.randint(1_000, 9_000)}', f' {draw.randint(1, 1_100)}'])
         if set(versions) == {1} and not room:
             self.tell(f'cluster {count} {silence}')
         else:
@@ -140,9 +140,11 @@ class Maker:
         return Address(tenant, group, draw.choice(LARGE) if self.chance(0.03) else draw.randint(0, 6))
 
     def make(self, node, address):
-        spec = self.specs.get(address[:2])
+        spec, room = self.specs.get(address[:2]), node.rooms.get(address[:2])
         if spec is None or self.chance(0.06):
             spec = self.spec()
+        if room and None not in room.places and self.chance(0.2):
+            spec = f'beb {(node.me + 1) % 32} 1 1 1'
         if self.tell(f'make {node.me} {named(address)} {spec}') == 'ok' and self.chance(0.93):
             self.tell(f'open {node.me} {named(address)}')
 
@@ -268,6 +270,12 @@ class Maker:
         node, to = self.two()
         self.send(f'again {node.me} {to.me} {self.draw.choice([0, 0, 1, 2, 2 ** 64 - 1])}')
 
+    def crash(self):
+        """Ticks until others are noticed, but those that were heard in between."""
+        node = self.some_node()
+        for _ in range(node.silence if self.has_crashes else 1):
+            self.tell(f'tick {node.me}')
+
     def noise(self):
         """Bytes of a packet that was sent, right or damaged, at some node."""
         if not self.packets:
@@ -294,7 +302,7 @@ class Maker:
         elif what == 4:
             self.noise()
         else:
-            self.tell(f'tick {self.some_node().me}')
+            self.crash()
 
     def schedule(self):
         if self.chance(0.01):
@@ -374,8 +382,10 @@ def shorter(sim, lines):
 
 
 def first_difference(ours, theirs):
+    """How many answers are alike, and the words for the first that are not."""
     place = next((at for at, (one, other) in enumerate(zip(ours, theirs)) if one != other), min(len(ours), len(theirs)))
-    return place, *(told[place] if place < len(told) else '(nothing more)' for told in (ours, theirs))
+    one, other = (repr(told[place][:200]) if place < len(told) else 'nothing more' for told in (ours, theirs))
+    return place, f'answer {place + 1} is {other}, and the reference has {one}'
 
 
 def keep(sim, seed, lines):
@@ -385,26 +395,29 @@ def keep(sim, seed, lines):
     path = os.path.join(KEPT, f'seed-{seed}')
     with open(path, 'w', encoding='ascii') as file:
         file.write(text_file(lines))
-    place, ours, theirs = first_difference(answers_of(lines), sim.answers([lines])[0])
-    print(f'seed {seed}: answer {place + 1} is {theirs[:200]!r}, and the reference has {ours[:200]!r}: {path}, {len(lines)} lines')
+    ours, theirs = answers_of(lines), sim.answers([lines])[0]
+    words = 'asked again the answers are alike' if ours == theirs else first_difference(ours, theirs)[1]
+    print(f'shortened to {len(lines)} lines in {path}: {words}')
 
 
 def main(count=300, seed=1):
     makers = [Maker(seed + place) for place in range(count)]
     schedules = [maker.schedule() for maker in makers]
     sim = Sim(os.environ.get('SIM'))
-    unlike = []
-    alike = collections.Counter()
+    unlike, alike = [], 0
     for place, (lines, theirs) in enumerate(zip(schedules, sim.answers(schedules))):
         ours = answers_of(lines)
-        if ours != theirs:
-            unlike.append(place)
-        alike['schedules'] += ours == theirs
-        alike['lines'] += len(ours) if ours == theirs else first_difference(ours, theirs)[0]
+        if ours == theirs:
+            alike += len(ours)
+            continue
+        so_far, words = first_difference(ours, theirs)
+        alike += so_far
+        unlike.append(place)
+        print(f'seed {seed + place}: {words}')
     seen = sum((maker.seen for maker in makers), collections.Counter())
     for what in 'answers', 'packings', 'items':
         print(f'{what}: ' + ', '.join(f'{number} {which}' for (of, which), number in sorted(seen.items()) if of == what))
-    print(f'alike: {alike["schedules"]} of {count} schedules, {alike["lines"]} answers')
+    print(f'alike: {count - len(unlike)} of {count} schedules, {alike} answers')
     if unlike:
         keep(sim, seed + unlike[0], schedules[unlike[0]])
     return 1 if unlike else 0

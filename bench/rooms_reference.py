@@ -4,8 +4,8 @@
     rooms_reference.py < SCHEDULE     writes the answer to each line; status 2 where a line is bad
 
 Everything that a schedule can say is answered: rooms with their generations, all ten kinds of broadcast, links, notices, noise and bad lines.
-A broadcast is computed from all that a group was told, by what its module says; nothing is remembered but that. The faults of noise are those
-that bench/vectors.py finds.
+At each call a broadcast looks at all that the group was told, and asks its module's two questions of each message. The faults of noise are
+those that bench/vectors.py finds.
 
 Left out are tokens and keys, since each line but a forge comes with the token that it needs; want of memory, which is never answered here; how
 answers are gathered before they are written; and frame numbers near 2^64, which no schedule reaches.
@@ -26,6 +26,7 @@ GENERATIONS = 4  # that live at once in a room at a node
 ROOMS = 1_024  # of all tenants of a node
 WINDOW = 64  # frames of a link
 ENTRIES = 16  # of a fetch
+LONGEST = max(limits.payload for limits in vectors.LIMITS.values())  # payload of any version
 # How many words stand behind the first word of a line.
 WORDS = {'tenant': [6], 'make': [8], 'open': [3], 'shut': [3], 'drop': [3], 'say': [4, 5], 'fetch': [5], 'forge': [3], 'pack': [2], 'again': [3],
          'ack': [2], 'arrive': [1], 'noise': [2], 'tick': [1], 'stop': [1]}
@@ -292,7 +293,8 @@ class Node:
         """What a packing takes of the walk; it moves the cursor and takes the items away."""
         walk = list(self.walk(to))
         sizes = [item_size(self.version, item.payload) for _, item in walk]
-        room = self.room if not walk or sizes[0] <= self.room else item_size(self.version, bytes(self.longest))
+        # Where the first item is longer than the room, there is room for the longest of any version.
+        room = self.room if not walk or sizes[0] <= self.room else item_size(self.version, bytes(LONGEST))
         count = 0
         while count < len(walk) and sum(sizes[:count + 1]) <= room:
             count += 1
