@@ -10,12 +10,8 @@ ghost use Rattle.gb_alone.specs.Observation.{numbers_below, observed_alone};
 use crate::event::{GroupEvent, GroupStep};
 use crate::member::Member;
 use crate::observation::{NodeSeen, Observation};
-use gb_types::address::Addr;
 use gb_types::limits::NODES;
-use gb_types::memory::OutOfMemory;
-use gb_types::node::NodeId;
-use gb_types::plan::{Bounds, Plan};
-use gb_types::version::Version;
+use gb_types::{Addr, Bounds, NodeId, OutOfMemory, Plan, Version};
 use std::alloc::Global;
 
 /// Returns the group at every node, before anything has happened.

@@ -1,8 +1,6 @@
 //! What happens to one group, by itself.
-use gb_rules::reserve::Reserve;
-use gb_types::new_message::NewMessage;
-use gb_types::node::NodeId;
-use gb_types::spec::Spec;
+use gb_rules::Reserve;
+use gb_types::{NewMessage, NodeId, Spec};
 
 /// What happens to a group at a node. Items are named by their places, never by their content.
 #[derive(Drop)]

@@ -12,3 +12,6 @@ mod marks;
 mod member;
 pub mod observation;
 mod put;
+
+pub use event::{GroupEvent, GroupStep};
+pub use observation::{NodeSeen, Observation};

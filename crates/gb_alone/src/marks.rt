@@ -3,9 +3,7 @@ ghost use Rattle.std.specs.Prelude.{◌≡◌, ◌+◌, ◌≤◌, ◌++◌, [],
 ghost use Rattle.std.specs.List.{range_with_len};
 ghost use Rattle.gb_alone.specs.Alone.{is_message, is_marked, is_acknowledged};
 
-use gb_types::entry::Entry;
-use gb_types::memory::OutOfMemory;
-use gb_types::node::NodeId;
+use gb_types::{Entry, NodeId, OutOfMemory};
 use std::alloc::Global;
 use std::marker::Model;
 

@@ -13,27 +13,19 @@ ghost use Rattle.gb_types.specs.declared.reply.Reply.{Reply as Answer};
 use crate::event::GroupEvent;
 use crate::marks::Marks;
 use crate::put::{carried_row, carried_rows, row_of, rows_told};
-use gb_history::call::{GroupCall, calls_of, said_in};
+use gb_history::GroupCall;
+use gb_history::call::{calls_of, said_in};
 use gb_history::log::{bytes_in, falls_after, log_of};
-use gb_layer::call::Call;
+use gb_layer::Call;
 use gb_layer::plain::is_noticed;
 use gb_rules::group::{check_open, check_say, check_shut, is_bad_place, is_too_long};
-use gb_rules::phase::Phase;
-use gb_rules::reserve::Reserve;
 use gb_rules::tenant::answer_make;
-use gb_rules::usage::Usage;
-use gb_types::address::Addr;
-use gb_types::entry::{Entries, Entry};
+use gb_rules::{Phase, Reserve, Usage};
 use gb_types::limits::NODES;
-use gb_types::memory::OutOfMemory;
-use gb_types::new_message::NewMessage;
-use gb_types::node::NodeId;
-use gb_types::payload::Payload;
-use gb_types::plan::Bounds;
-use gb_types::refusal::Refusal;
-use gb_types::reply::Reply;
-use gb_types::spec::Spec;
-use gb_types::version::Version;
+use gb_types::{
+    Addr, Bounds, Entries, Entry, NewMessage, NodeId, OutOfMemory, Payload, Refusal, Reply, Spec,
+    Version,
+};
 use std::alloc::Global;
 use std::marker::Model;
 

@@ -1,8 +1,7 @@
 //! What is seen of a group at its nodes, without what only the nodes hold.
 ghost use Rattle.std.specs.Prelude.{◌≡◌};
 
-use gb_types::entry::Entries;
-use gb_types::reply::Reply;
+use gb_types::{Entries, Reply};
 use std::marker::Model;
 
 /// What is seen of a group at a node.

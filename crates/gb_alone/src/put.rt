@@ -7,15 +7,13 @@ ghost use Rattle.gb_history.specs.History as history;
 ghost use Rattle.gb_alone.specs.MemberLists.{row_with, carried_row};
 ghost use Rattle.gb_alone.specs.Observation.{numbers_below};
 
-use gb_history::call::{GroupCall, calls_of};
+use gb_history::GroupCall;
+use gb_history::call::calls_of;
 use gb_history::log::puts_of;
-use gb_layer::call::Call;
+use gb_layer::Call;
 use gb_layer::plain::is_noticed;
-use gb_types::entry::{Entries, Entry};
 use gb_types::limits::NODES;
-use gb_types::memory::OutOfMemory;
-use gb_types::node::NodeId;
-use gb_types::spec::Spec;
+use gb_types::{Entries, Entry, NodeId, OutOfMemory, Spec};
 use std::alloc::Global;
 
 /// Adds copies of entries at the end.

@@ -6,13 +6,14 @@ ghost use Rattle.gb_cluster.specs.ClusterValue.{IsClusterPlan};
 
 use clap::error::ErrorKind;
 use clap::{Arg, ArgAction, Command};
-use gb_audit_run::audit::{Audited, Source, audit};
-use gb_audit_run::cluster::ClusterKeys;
+use gb_audit_run::audit::audit;
 use gb_audit_run::verdict::status_of;
+use gb_audit_run::{Audited, ClusterKeys, Source};
+use gb_replay::ReplayFault;
 use gb_replay::complaint::put_complaint;
-use gb_replay::replay::{ReplayFault, replay};
+use gb_replay::replay::replay;
 use gb_server::keys::{read_keys, run_key};
-use gb_types::memory::OutOfMemory;
+use gb_types::OutOfMemory;
 use gb_version::VERSION;
 use std::alloc::{AllocError, AllocFailed, Global};
 use std::fs::{OpenFile, OpenOptions};

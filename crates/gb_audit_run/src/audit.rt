@@ -9,15 +9,15 @@ use crate::cluster::{ClusterKeys, are_of_one, plan_of};
 use crate::left::{is_sent, merged_counts, sender_of};
 use crate::lines::{put_bad_line, put_fault, put_left, put_merged, put_stranger, put_tape};
 use crate::replay::first_wrong;
-use gb_cluster::event::Event;
-use gb_merge::fault::AuditFault;
+use gb_cluster::Event;
+use gb_merge::AuditFault;
 use gb_merge::front::{front_is_one_run, merge_front};
-use gb_node::tape::Tape;
-use gb_record_text::head::RecordHead;
-use gb_record_text::reader::{ReadFault, Record, read_record};
+use gb_node::Tape;
+use gb_record_text::reader::read_record;
+use gb_record_text::{ReadFault, Record, RecordHead};
 use gb_types::limits::NODES;
-use gb_types::memory::{OutOfMemory, put_bytes};
-use gb_types::plan::Plan;
+use gb_types::memory::put_bytes;
+use gb_types::{OutOfMemory, Plan};
 use std::alloc::Global;
 
 /// How an audit ended.

@@ -5,11 +5,10 @@ ghost use Rattle.gb_types.specs.declared.limits.TheConstants.{NODES as MOST};
 ghost use Rattle.gb_cluster.specs.ClusterValue.{IsClusterPlan};
 ghost use Rattle.gb_audit_run.specs.Audits.{AreOfOne, IsOfPlan};
 
-use gb_record_text::head::RecordHead;
+use gb_record_text::RecordHead;
 use gb_rules::room::ROOMS;
 use gb_types::limits::{NODES, SILENCE_MAX, SILENCE_MIN};
-use gb_types::plan::Plan;
-use gb_types::version::Version;
+use gb_types::{Plan, Version};
 
 /// The keys of a cluster.
 #[derive(Clone, Copy)]

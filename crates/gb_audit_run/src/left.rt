@@ -1,14 +1,10 @@
 //! What is left of records behind the part that is one run.
-use gb_cap::hmac::HmacKey;
-use gb_cluster::event::Event;
+use gb_cap::HmacKey;
+use gb_cluster::Event;
 use gb_frame::reading::decode;
-use gb_node::answer::{NodeAnswer, Sent};
-use gb_node::event::NodeEvent;
-use gb_node::tape::{Tape, TapeEntry};
+use gb_node::{NodeAnswer, NodeEvent, Sent, Tape, TapeEntry};
 use gb_types::limits::NODES;
-use gb_types::memory::OutOfMemory;
-use gb_types::node::NodeId;
-use gb_types::plan::Plan;
+use gb_types::{NodeId, OutOfMemory, Plan};
 use std::alloc::Global;
 
 // Returns the node to which a node sent a packet by this event.

@@ -7,3 +7,6 @@ pub mod left;
 pub mod lines;
 pub mod replay;
 pub mod verdict;
+
+pub use audit::{Audited, Source, Verdict};
+pub use cluster::ClusterKeys;

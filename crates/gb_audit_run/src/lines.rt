@@ -1,5 +1,6 @@
 //! The lines that an audit prints.
-use gb_types::memory::{OutOfMemory, put_bytes};
+use gb_types::OutOfMemory;
+use gb_types::memory::put_bytes;
 use gb_types::number::put_number;
 
 /// Appends a text, a space and a number.

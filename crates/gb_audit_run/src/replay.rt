@@ -3,10 +3,8 @@ ghost use Rattle.std.specs.Prelude.{◌≡◌, ◌<◌};
 ghost use Rattle.gb_cluster.specs.ClusterValue.{IsClusterPlan};
 
 use gb_cluster::plan::node_plan;
-use gb_node::node::Node;
-use gb_node::tape::TapeEntry;
-use gb_types::node::NodeId;
-use gb_types::plan::Plan;
+use gb_node::{Node, TapeEntry};
+use gb_types::{NodeId, Plan};
 use std::alloc::Global;
 
 /// Returns the number of entries before the first wrong one: its answer is not the one that a node returns which took the entries

@@ -6,3 +6,6 @@
 pub mod compare;
 pub mod hmac;
 pub mod token;
+
+pub use hmac::{HmacKey, Key, Mac};
+pub use token::{Need, Token};

@@ -4,7 +4,7 @@ ghost use Rattle.gb_cap.specs.Token.{token_of, TextsTellNeedsApart, SharedTokens
 
 use crate::compare::count_differences;
 use crate::hmac::{HmacKey, Key, Mac};
-use gb_types::node::NodeId;
+use gb_types::NodeId;
 
 /// The holder of a token may do what its need names.
 pub type Token = Mac;

@@ -12,18 +12,13 @@ ghost use Rattle.hex.specs.Hex.{IsBytes};
 ghost use Rattle.gb_client.specs.Answers.{reply_status, parts_of, log_words, refusal_words};
 ghost use Rattle.gb_types.specs.Refusal.{refusal_number};
 
-use gb_types::entry::{Entries, Entry};
 use gb_types::limits::NODES;
-use gb_types::memory::OutOfMemory;
-use gb_types::node::NodeId;
 use gb_types::number::read_number;
-use gb_types::payload::Payload;
 use gb_types::payload_word::{put_payload, read_payload};
-use gb_types::refusal::Refusal;
-use gb_types::reply::Reply;
 use gb_types::reply_text::reply_text;
 use gb_types::request_words::read_u16;
 use gb_types::words::split_words;
+use gb_types::{Entries, Entry, NodeId, OutOfMemory, Payload, Refusal, Reply};
 use std::alloc::Global;
 
 /// The exit status for a reply. 0: it is not a refusal; 1: it is one.

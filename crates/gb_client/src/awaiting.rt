@@ -6,8 +6,9 @@ ghost use Rattle.gb_session.specs.declared.grammar.TheConstants.{BODY};
 ghost use Rattle.gb_client.specs.Requests.{await_of};
 
 use crate::fault::ClientFault;
-use gb_session::ask::{Ask, Awaited, read_ask};
-use gb_types::memory::OutOfMemory;
+use gb_session::ask::read_ask;
+use gb_session::{Ask, Awaited};
+use gb_types::OutOfMemory;
 use gb_types::number::put_number;
 use std::alloc::Global;
 

@@ -1,9 +1,9 @@
 //! Which word is wrong, and what it takes.
 use crate::task::Asked;
-use gb_session::head::Head;
+use gb_session::Head;
+use gb_types::OutOfMemory;
 use gb_types::kind_word::read_kind;
 use gb_types::members_word::read_members;
-use gb_types::memory::OutOfMemory;
 use gb_types::payload_word::read_payload;
 use gb_types::request_words::{read_group, read_u16, read_u32};
 use std::alloc::Global;

@@ -4,10 +4,8 @@ ghost use Rattle.gb_client.specs.Exports.{end_line, export_text};
 
 use crate::answer::read_reply;
 use crate::show::entry_lines;
-use gb_types::entry::{Entries, Entry};
-use gb_types::memory::OutOfMemory;
 use gb_types::number::put_number;
-use gb_types::reply::Reply;
+use gb_types::{Entries, Entry, OutOfMemory, Reply};
 use std::alloc::Global;
 
 /// The last line of a log's text, `end COUNT` with its line feed.

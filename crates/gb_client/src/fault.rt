@@ -2,7 +2,7 @@
 ghost use Rattle.std.specs.Prelude.{◌≡◌};
 ghost use Rattle.gb_client.specs.Answers.{status_of_fault};
 
-use gb_types::memory::OutOfMemory;
+use gb_types::OutOfMemory;
 use std::alloc::{AllocError, AllocFailed};
 use thiserror::Error;
 

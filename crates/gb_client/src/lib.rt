@@ -16,3 +16,8 @@ pub mod request;
 pub mod secrets;
 pub mod show;
 pub mod task;
+
+pub use fault::ClientFault;
+pub use operating::{Page, Row};
+pub use secrets::Secrets;
+pub use task::{Asked, Choice, Errand, Server, Task};

@@ -3,9 +3,9 @@ ghost use Rattle.std.specs.Prelude.{◌≡◌, ◌↔◌, Some, map};
 ghost use Rattle.gb_cap.specs.declared.token.Need.{Need as TheNeed};
 ghost use Rattle.gb_client.specs.Requests.{NeedsTenant, NeedsMember, Needs};
 
-use gb_cap::token::Need;
-use gb_session::head::Head;
-use gb_types::node::NodeId;
+use gb_cap::Need;
+use gb_session::Head;
+use gb_types::NodeId;
 use gb_types::request_words::{read_address, read_u16};
 
 // Words that begin with a tenant.

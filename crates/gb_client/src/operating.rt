@@ -3,11 +3,10 @@ ghost use Rattle.std.specs.Prelude.{◌≡◌, ◌++◌, ◌≤◌, codes, decim
 ghost use Rattle.hex.specs.Hex.{encode_lower};
 ghost use Rattle.gb_session.specs.declared.grammar.TheConstants.{BODY};
 
-use gb_types::address::Addr;
-use gb_types::memory::OutOfMemory;
 use gb_types::number::{put_number, read_number};
 use gb_types::request_words::{read_address, read_u32};
 use gb_types::words::split_words;
+use gb_types::{Addr, OutOfMemory};
 use std::alloc::Global;
 
 /// How many groups a page of a list has at most.

@@ -7,10 +7,10 @@ ghost use Rattle.gb_session.specs.Grammar.{IsRequestText};
 ghost use Rattle.gb_client.specs.Requests.{body_of};
 
 use crate::fault::ClientFault;
+use gb_session::Head;
 use gb_session::grammar::parse_request;
-use gb_session::head::{Head, head_word};
-use gb_types::memory::OutOfMemory;
-use gb_types::refusal::Refusal;
+use gb_session::head::head_word;
+use gb_types::{OutOfMemory, Refusal};
 use std::alloc::Global;
 
 // Appends a word after a space.

@@ -3,8 +3,9 @@ ghost use Rattle.std.specs.Prelude.{◌≡◌, ◌==◌, None, Some, IfOk, IfErr
 ghost use Rattle.std.specs.List.{slice_split};
 
 use crate::fault::ClientFault;
-use gb_cap::token::{Need, Token, token};
-use gb_types::memory::OutOfMemory;
+use gb_cap::token::token;
+use gb_cap::{Need, Token};
+use gb_types::OutOfMemory;
 use gb_types::token_word::read_token;
 use std::alloc::Global;
 

@@ -5,12 +5,10 @@ ghost use Rattle.gb_types.specs.PayloadWord.{payload_word};
 ghost use Rattle.gb_types.specs.ReplyText.{entry_text, reply_spelling};
 ghost use Rattle.gb_client.specs.Answers.{lines_of};
 
-use gb_types::entry::Entry;
-use gb_types::memory::OutOfMemory;
 use gb_types::number::put_number;
 use gb_types::payload_word::put_payload;
-use gb_types::reply::Reply;
 use gb_types::reply_text::put_reply;
+use gb_types::{Entry, OutOfMemory, Reply};
 use std::alloc::Global;
 
 // Whether some bytes are text without control characters, so that a terminal takes none of them as a command.

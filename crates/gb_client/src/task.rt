@@ -11,13 +11,11 @@ use crate::fault::ClientFault;
 use crate::need::need_of;
 use crate::request::request_text;
 use crate::secrets::Secrets;
-use gb_cap::token::Need;
-use gb_session::head::Head;
-use gb_types::address::Addr;
-use gb_types::memory::OutOfMemory;
-use gb_types::node::NodeId;
+use gb_cap::Need;
+use gb_session::Head;
 use gb_types::number::put_number;
 use gb_types::payload_word::put_payload;
+use gb_types::{Addr, NodeId, OutOfMemory};
 use std::alloc::Global;
 
 /// A request as it is told: a head, and the words behind it, without the token and without a new tenant's key.

@@ -4,11 +4,11 @@ use crate::nodes::Nodes;
 use crate::printing::print;
 use crate::rows::spec_in;
 use crate::target::Target;
-use gb_cap::token::{Need, Token};
-use gb_client::fault::{ClientFault, fault_status};
-use gb_types::address::Addr;
-use gb_types::node::NodeId;
+use gb_cap::{Need, Token};
+use gb_client::ClientFault;
+use gb_client::fault::fault_status;
 use gb_types::number::put_number;
+use gb_types::{Addr, NodeId};
 use std::alloc::Global;
 use std::io::Write;
 

@@ -10,12 +10,10 @@ use crate::printing::{print, print_refusal};
 use crate::target::Target;
 use gb_client::answer::read_reply;
 use gb_client::exported::end_line;
-use gb_client::fault::ClientFault;
 use gb_client::show::entry_lines;
-use gb_client::task::{Asked, fetch_of};
-use gb_types::entry::Entry;
-use gb_types::node::NodeId;
-use gb_types::reply::Reply;
+use gb_client::task::fetch_of;
+use gb_client::{Asked, ClientFault};
+use gb_types::{Entry, NodeId, Reply};
 use std::alloc::Global;
 use std::io::Write;
 

@@ -9,12 +9,10 @@ use crate::printing::print;
 use gb_client::answer::{read_reply, status_of};
 use gb_client::awaiting::await_text;
 use gb_client::exchange::{receive, send};
-use gb_client::fault::ClientFault;
-use gb_client::secrets::Secrets;
 use gb_client::show::{entry_lines, reply_lines};
-use gb_client::task::{Asked, fetch_of};
-use gb_types::node::NodeId;
-use gb_types::reply::Reply;
+use gb_client::task::fetch_of;
+use gb_client::{Asked, ClientFault, Secrets};
+use gb_types::{NodeId, Reply};
 use std::alloc::Global;
 use std::io::{Read, Write};
 

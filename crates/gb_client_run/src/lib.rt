@@ -16,3 +16,9 @@ pub mod printing;
 pub mod rows;
 pub mod sockets;
 pub mod target;
+
+pub use importing::Pauses;
+pub use listed::{ListFault, Listed};
+pub use nodes::Nodes;
+pub use sockets::{Pausing, Sockets};
+pub use target::Target;

@@ -3,9 +3,9 @@ ghost use Rattle.std.specs.Prelude.{◌≡◌, ◌+◌, All, Contains, map, IfSo
 ghost use Rattle.toml.specs.View.{view};
 ghost use Rattle.gb_client_run.specs.Listing.{IsPlaceOf, IsListFault};
 
-use gb_directory_file::fault::DirectoryFault;
+use gb_directory_file::DirectoryFault;
 use gb_directory_file::read::sessions_of;
-use gb_types::node::NodeId;
+use gb_types::NodeId;
 use std::alloc::{AllocFailed, Global};
 use toml::Value;
 

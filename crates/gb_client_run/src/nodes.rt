@@ -2,7 +2,7 @@
 ghost use Rattle.std.specs.Prelude.{◌≤◌, length, IfOk};
 ghost use Rattle.gb_session.specs.declared.grammar.TheConstants.{BODY};
 
-use gb_client::fault::ClientFault;
+use gb_client::ClientFault;
 use gb_session::grammar::BODY;
 use std::alloc::Global;
 

@@ -6,10 +6,9 @@ use crate::listing::{print_list, print_status, shut_down};
 use crate::nodes::Nodes;
 use crate::once::ask_once;
 use crate::target::Target;
-use gb_client::fault::ClientFault;
-use gb_client::task::{Asked, Errand};
-use gb_session::head::Head;
-use gb_types::node::NodeId;
+use gb_client::{Asked, ClientFault, Errand};
+use gb_session::Head;
+use gb_types::NodeId;
 use std::alloc::Global;
 use std::io::Write;
 

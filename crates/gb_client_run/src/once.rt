@@ -10,12 +10,11 @@ use crate::nodes::Nodes;
 use crate::printing::print;
 use crate::target::Target;
 use gb_client::answer::{read_reply, status_of};
-use gb_client::fault::ClientFault;
 use gb_client::show::reply_lines;
-use gb_client::task::{Asked, request_of};
-use gb_session::head::Head;
-use gb_types::node::NodeId;
-use gb_types::reply::Reply;
+use gb_client::task::request_of;
+use gb_client::{Asked, ClientFault};
+use gb_session::Head;
+use gb_types::{NodeId, Reply};
 use std::alloc::Global;
 use std::io::Write;
 

@@ -3,10 +3,9 @@ ghost use Rattle.std.specs.Prelude.{◌≡◌, ◌++◌, ◌∷◌, [], IfErr, O
 ghost use Rattle.std.specs.Io.KnownBytes.{Appends};
 ghost use Rattle.gb_types.specs.ReplyText.{reply_spelling};
 
-use gb_client::fault::ClientFault;
+use gb_client::ClientFault;
 use gb_client::show::reply_lines;
-use gb_types::refusal::Refusal;
-use gb_types::reply::Reply;
+use gb_types::{Refusal, Reply};
 use std::alloc::Global;
 use std::io::Write;
 

@@ -1,5 +1,5 @@
 //! What a group was made with, as a node's list tells it in a row `T:G:KIND:MEMBERS:MSGS:BYTES:WINDOW:PHASE:LOG`.
-use gb_client::fault::ClientFault;
+use gb_client::ClientFault;
 use std::alloc::Global;
 
 // The parts of a row.

@@ -2,8 +2,8 @@
 use crate::importing::{Pauses, TRIES};
 use crate::listed::{Listed, listed_at};
 use crate::nodes::Nodes;
+use gb_client::ClientFault;
 use gb_client::exchange::{receive, send};
-use gb_client::fault::ClientFault;
 use std::alloc::Global;
 use std::net::{Net, TcpStream};
 use std::thread;

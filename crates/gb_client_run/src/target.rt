@@ -1,6 +1,5 @@
 //! Whom a client asks, and what it knows.
-use gb_client::secrets::Secrets;
-use gb_client::task::Server;
+use gb_client::{Secrets, Server};
 
 /// A server, and the secrets from which the tokens of requests are made.
 #[derive(Clone, Copy)]

@@ -4,3 +4,5 @@
 
 pub mod fault;
 pub mod words;
+
+pub use words::{Lookup, Plan};

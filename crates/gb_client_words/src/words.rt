@@ -2,12 +2,13 @@
 use crate::fault::PlanFault;
 use clap::builder::ValueParser;
 use clap::{Arg, ArgAction, ArgMatches, Command};
-use gb_cap::token::Need;
-use gb_client::task::{Asked, Choice, Errand, LISTED, Server, Task};
-use gb_session::head::Head;
+use gb_cap::Need;
+use gb_client::task::LISTED;
+use gb_client::{Asked, Choice, Errand, Server, Task};
+use gb_session::Head;
+use gb_types::NodeId;
 use gb_types::limits::NODES;
 use gb_types::members_word::read_members;
-use gb_types::node::NodeId;
 use gb_types::request_words::{read_address, read_u16, read_u32};
 use gb_version::VERSION;
 use std::alloc::{AllocError, Global};

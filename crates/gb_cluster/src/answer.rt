@@ -1,7 +1,6 @@
 //! The answer to an event in a cluster.
-use gb_node::answer::{Halted, PacketAnswer, Ticked};
-use gb_types::refusal::Refusal;
-use gb_types::reply::Reply;
+use gb_node::{Halted, PacketAnswer, Ticked};
+use gb_types::{Refusal, Reply};
 
 /// The answer to an event in a cluster: the node's answer, with a packet's number in place of its bytes.
 #[derive(Drop)]

@@ -15,12 +15,8 @@ use crate::event::Event;
 use crate::laws::{packets_are_honest, packets_are_read};
 use crate::plan::node_plan;
 use crate::posted::Posted;
-use gb_node::answer::{NodeAnswer, Sent};
-use gb_node::event::NodeEvent;
-use gb_node::node::Node;
-use gb_types::memory::OutOfMemory;
-use gb_types::node::NodeId;
-use gb_types::plan::Plan;
+use gb_node::{Node, NodeAnswer, NodeEvent, Sent};
+use gb_types::{NodeId, OutOfMemory, Plan};
 use std::alloc::Global;
 use std::marker::Model;
 

@@ -1,6 +1,6 @@
 //! What happens in a cluster.
-use gb_node::event::NodeEvent;
-use gb_types::node::NodeId;
+use gb_node::NodeEvent;
+use gb_types::NodeId;
 
 /// An event in a cluster: something happens at one of its nodes.
 #[derive(Drop)]

@@ -9,3 +9,8 @@ pub mod event;
 pub mod laws;
 pub mod plan;
 pub mod posted;
+
+pub use answer::{Answer, Sending};
+pub use cluster::Cluster;
+pub use event::Event;
+pub use posted::Posted;

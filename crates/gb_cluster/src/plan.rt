@@ -2,9 +2,8 @@
 ghost use Rattle.std.specs.Prelude.{◌≡◌};
 ghost use Rattle.gb_cluster.specs.ClusterValue.{node_plan};
 
-use gb_node::plan::NodePlan;
-use gb_types::node::NodeId;
-use gb_types::plan::Plan;
+use gb_node::NodePlan;
+use gb_types::{NodeId, Plan};
 
 /// What one of the nodes is started with.
 pub fn node_plan(plan: &Plan, me: NodeId) -> NodePlan

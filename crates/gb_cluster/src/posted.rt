@@ -1,6 +1,6 @@
 //! Packets that were sent.
-use gb_node::packet_text::PacketText;
-use gb_types::node::NodeId;
+use gb_node::PacketText;
+use gb_types::NodeId;
 
 /// A packet that was sent.
 #[derive(Drop)]

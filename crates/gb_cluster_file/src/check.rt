@@ -10,7 +10,7 @@ ghost use Rattle.gb_cluster_file.specs.Faults.{IsNodeFault, IsTableFault, IsItem
 use crate::fault::{FileFault, NodeFault};
 use crate::field::{Field, PlaceField, is_field, is_place_field};
 use crate::place::{PlaceParts, place_of};
-use gb_types::version::Version;
+use gb_types::Version;
 use toml::{Table, Value};
 
 // Whether each key at the top of the file names a field.

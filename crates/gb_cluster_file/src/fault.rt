@@ -2,7 +2,7 @@
 ghost use Rattle.std.specs.Prelude.{◌≡◌};
 
 use crate::field::{Field, PlaceField};
-use gb_types::version::Version;
+use gb_types::Version;
 use std::alloc::{AllocError, AllocFailed};
 use std::fmt;
 use thiserror::Error;

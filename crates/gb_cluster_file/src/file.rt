@@ -1,5 +1,5 @@
 //! What the file of a cluster says.
-use gb_types::version::Version;
+use gb_types::Version;
 
 /// Where a socket of a node is reached.
 #[derive(Debug, Drop)]

@@ -11,3 +11,7 @@ pub mod read;
 #[cfg(test)]
 mod tests;
 pub mod words;
+
+pub use fault::FileFault;
+pub use file::{ClusterFile, NodePlaces, Place};
+pub use place::PlaceParts;

@@ -5,7 +5,7 @@ use crate::file::Place;
 use crate::place::place_of;
 use crate::read::read_cluster;
 use crate::words::fault_text;
-use gb_types::version::Version;
+use gb_types::Version;
 use std::alloc::{AllocError, Global};
 use std::test::Fail;
 

@@ -5,7 +5,7 @@ ghost use Rattle.gb_detect.specs.Silence.{Call, Heard, Tick};
 ghost use Rattle.gb_detect.specs.Watch.{start, after_heard, after_tick, due, is_due, nodes_where, StandsFor, AreNoticed, AreNew};
 
 use gb_types::limits::{NODES, SILENCE_MAX, SILENCE_MIN};
-use gb_types::node::{NodeId, NodeSet};
+use gb_types::{NodeId, NodeSet};
 use std::marker::Model;
 
 /// The nodes of a cluster that this node has noticed: those that it has not heard for `silence` ticks.

@@ -5,3 +5,5 @@
 
 pub mod detector;
 pub mod laws;
+
+pub use detector::Detector;

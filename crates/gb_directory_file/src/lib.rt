@@ -6,3 +6,5 @@ pub mod read;
 #[cfg(test)]
 mod tests;
 pub mod words;
+
+pub use fault::{DirectoryFault, TextFault};

@@ -8,8 +8,9 @@ ghost use Rattle.gb_directory_file.specs.Directory.{IsDocument, IsEntry, IsListe
 ghost use Rattle.gb_directory_file.specs.Faults.{IsTextFault, IsFault};
 
 use crate::fault::{DirectoryFault, TextFault};
-use gb_cluster_file::place::{PlaceParts, place_of};
-use gb_types::node::NodeId;
+use gb_cluster_file::PlaceParts;
+use gb_cluster_file::place::place_of;
+use gb_types::NodeId;
 use itoa::Buffer;
 use std::alloc::Global;
 use toml::Value;

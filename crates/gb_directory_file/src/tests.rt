@@ -1,7 +1,7 @@
 //! Directory files, and what is told where they do not say what is asked.
 use crate::read::{read_directory, sessions_of};
 use crate::words::{fault_text, text_fault_text};
-use gb_types::node::NodeId;
+use gb_types::NodeId;
 use std::alloc::{AllocError, Global};
 use std::test::Fail;
 use toml::Value;

@@ -2,7 +2,7 @@
 use crate::fault::{DirectoryFault, TextFault};
 use crate::read::{name_of, nodes_of};
 use gb_cluster_file::words::document_text;
-use gb_types::node::NodeId;
+use gb_types::NodeId;
 use std::alloc::{AllocError, Global};
 use toml::Value;
 

@@ -1,6 +1,6 @@
 //! Why a WebSocket connection ends.
-use gb_client::fault::ClientFault;
-use gb_types::memory::OutOfMemory;
+use gb_client::ClientFault;
+use gb_types::OutOfMemory;
 use thiserror::Error;
 
 /// Why a connection ends.

@@ -18,3 +18,12 @@ pub mod talk;
 pub mod visit;
 pub mod web_main;
 pub mod words;
+
+pub use asked::Asked;
+pub use door::Door;
+pub use leave::Leave;
+pub use limits::Limits;
+pub use node::Streams;
+pub use page::Page;
+pub use plan::WebPlan;
+pub use talk::Visitor;

@@ -1,5 +1,6 @@
 //! The page that a door serves.
-use gb_types::memory::{OutOfMemory, put_bytes};
+use gb_types::OutOfMemory;
+use gb_types::memory::put_bytes;
 use std::alloc::Global;
 use std::fs;
 use std::rt::Files;

@@ -8,7 +8,7 @@ use crate::page::{Page, PageFault, plain_page, read_page};
 use crate::plan::{WebPlan, WebWords};
 use crate::serve::serve;
 use crate::words::read_words;
-use gb_serve_words::fault::WordFault;
+use gb_serve_words::WordFault;
 use std::alloc::{AllocError, Global};
 use std::io::Write;
 use std::net::{Net, SocketAddr, TcpListener, TcpStream};

@@ -7,7 +7,7 @@ ghost use Rattle.gb_door.specs.Words.{HasAddresses, IsGiven, IsPlanOf, IsReadOf,
 use crate::plan::{WebPlan, WebWords};
 use clap::builder::ValueParser;
 use clap::{Arg, ArgAction, ArgMatches, Command};
-use gb_serve_words::fault::WordFault;
+use gb_serve_words::WordFault;
 use gb_serve_words::options::{
     HINT, MOST_CONNECTIONS, MOST_SESSIONS, fault_from, number_arg, text_arg, text_asked,
 };

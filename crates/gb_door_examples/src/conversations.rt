@@ -1,7 +1,6 @@
 // Conversations over a list of texts and a node behind bytes.
-use gb_door::leave::Leave;
-use gb_door::node::Streams;
-use gb_door::talk::{Visitor, converse};
+use gb_door::talk::converse;
+use gb_door::{Leave, Streams, Visitor};
 use gb_session::grammar::BODY;
 use std::alloc::Global;
 use std::str;

@@ -1,9 +1,8 @@
 // Whole doors, with their clients and a node that replies to each message with its own text.
 use gb_client::exchange::{receive, send};
-use gb_door::door::Door;
-use gb_door::limits::Limits;
-use gb_door::page::{Page, plain_page};
+use gb_door::page::plain_page;
 use gb_door::serve::serve;
+use gb_door::{Door, Limits, Page};
 use gb_session::grammar::BODY;
 use std::alloc::Global;
 use std::io::{Read, Write};

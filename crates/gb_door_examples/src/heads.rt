@@ -1,7 +1,7 @@
 // What is asked by HTTP, and how it is answered.
 use gb_door::answer::answer;
-use gb_door::asked::{Asked, asked_for};
-use gb_door::page::Page;
+use gb_door::asked::asked_for;
+use gb_door::{Asked, Page};
 use std::alloc::Global;
 
 // The origins that are let in.

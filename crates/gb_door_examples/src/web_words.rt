@@ -1,7 +1,7 @@
 // Words of gb_web, what they name and tell a door, and what is said of words that are refused.
-use gb_door::plan::WebPlan;
+use gb_door::WebPlan;
 use gb_door::words::{asked_text, read_words, refusal_text};
-use gb_serve_words::fault::WordFault;
+use gb_serve_words::WordFault;
 use std::alloc::{AllocError, Global};
 use std::net::{Ipv4Addr, SocketAddr, SocketAddrV4};
 

@@ -1,5 +1,5 @@
 //! The entries of a fifo, one for each message.
-use gb_types::message::MsgId;
+use gb_types::MsgId;
 
 /// A message, whether the layer below brought it up, and whether it was handed up from here.
 #[derive(Drop)]

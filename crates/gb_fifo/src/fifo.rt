@@ -8,13 +8,9 @@ ghost use Rattle.gb_fifo.specs.RoomLemmas.{fifo_roomier};
 ghost use Rattle.gb_fifo.specs.FifoLemmas.{fifo_me_stays, fifo_sends_handed_in, fifo_ups_handed_in, fifo_up_once, fifo_sent_once, fifo_noticed_once, fifo_own};
 
 use crate::ledger::{Ledger, take_all};
-use gb_layer::call::Call;
-use gb_layer::effects::{Room, Up};
-use gb_layer::layer::{Broadcast, Layer};
 use gb_layer::whole::message_and_call_count;
-use gb_types::memory::OutOfMemory;
-use gb_types::message::MsgId;
-use gb_types::node::{NodeId, NodeSet};
+use gb_layer::{Broadcast, Call, Layer, Room, Up};
+use gb_types::{MsgId, NodeId, NodeSet, OutOfMemory};
 use std::alloc::Global;
 
 /// Hands up each origin's messages in the order 1, 2, 3, .. (Hadzilacos, Toueg 1994; Cachin, Guerraoui, Rodrigues 2011, Broadcast

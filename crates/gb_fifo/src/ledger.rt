@@ -9,13 +9,9 @@ ghost use Rattle.gb_fifo.specs.Entries.{is_for, noted, brought, is_ungiven, give
 ghost use Rattle.gb_fifo.specs.EntryLemmas.{keys};
 
 use crate::entry::Entry;
-use gb_layer::effects::Up;
-use gb_layer::places::Places;
-use gb_layer::table::Table;
+use gb_layer::{Places, Table, Up};
 use gb_types::limits::NODES;
-use gb_types::memory::OutOfMemory;
-use gb_types::message::MsgId;
-use gb_types::node::{NodeId, NodeSet};
+use gb_types::{MsgId, NodeId, NodeSet, OutOfMemory};
 use std::alloc::Global;
 
 /// The entries in the order of first mention, with a table that finds them.

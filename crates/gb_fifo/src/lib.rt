@@ -12,3 +12,5 @@ pub mod fifo;
 mod ledger;
 pub mod order;
 pub mod plain;
+
+pub use fifo::Fifo;

@@ -9,7 +9,7 @@ ghost use Rattle.gb_fifo.specs.Order.{is_in, numbered, upto, top, numbers_of, Ru
 ghost use Rattle.gb_fifo.specs.OrderLaws.{AllIn, NoneTwice};
 
 use crate::fifo::Fifo;
-use gb_layer::layer::{Broadcast, Layer};
+use gb_layer::{Broadcast, Layer};
 
 /// The top is the greatest number up to which each message of the origin is in the list; the next message is not.
 pub fn top_is_the_greatest()

@@ -3,9 +3,7 @@ ghost use Rattle.std.specs.Prelude.{◌≡◌, ◌++◌, drop, map, IfOk, OnOk};
 ghost use Rattle.gb_fifo.specs.Order as order;
 ghost use Rattle.gb_fifo.specs.Order.{numbered, upto};
 
-use gb_types::memory::OutOfMemory;
-use gb_types::message::MsgId;
-use gb_types::node::NodeId;
+use gb_types::{MsgId, NodeId, OutOfMemory};
 use std::alloc::Global;
 
 /// Returns true if `m` is in the list.

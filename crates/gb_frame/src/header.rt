@@ -6,7 +6,7 @@ ghost use Rattle.gb_frame.specs.Reading.{version_read, is_magic, is_between_node
 
 use crate::limits::{HEADER, TAG};
 use crate::number::{u16_at, u64_at};
-use gb_types::version::Version;
+use gb_types::Version;
 
 /// Returns the version that the version byte stands for. Returns version 1 if it stands for none.
 pub fn version_of(bytes: &[u8]) -> Version

@@ -6,8 +6,7 @@ ghost use Rattle.gb_frame.specs.declared.limits.TheConstants.{ROOM};
 
 use crate::number::{u16_at, u32_at};
 use gb_types::limits::PAYLOAD;
-use gb_types::payload::Payload;
-use gb_types::version::Version;
+use gb_types::{Payload, Version};
 
 /// A message of a group on its way. Only the length of the payload is checked here.
 #[derive(Drop)]

@@ -15,3 +15,8 @@ pub mod reading;
 mod tag;
 pub mod view;
 pub mod writing;
+
+pub use fault::PacketFault;
+pub use item::{Item, ItemView};
+pub use packet::{Head, Packet};
+pub use view::{ItemViews, PacketView};

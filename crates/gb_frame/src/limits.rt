@@ -3,8 +3,8 @@
 ghost use Rattle.std.specs.Prelude.{◌≡◌, ◌≤◌};
 ghost use Rattle.gb_frame.specs.Room.{room_of};
 
+use gb_types::Version;
 use gb_types::limits::{NODES, PACKET, PAYLOAD};
-use gb_types::version::Version;
 
 /// The number of bytes before the items.
 pub const HEADER: usize = 31;

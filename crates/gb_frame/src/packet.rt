@@ -5,8 +5,7 @@ ghost use Rattle.gb_frame.specs.Room.{room_of};
 
 use crate::item::Item;
 use crate::limits::room;
-use gb_types::node::NodeId;
-use gb_types::version::Version;
+use gb_types::{NodeId, Version};
 
 /// A packet without its items.
 #[derive(Clone, Copy, PartialEq, Eq)]

@@ -13,8 +13,8 @@ use crate::item::skip_items;
 use crate::limits::SHORTEST;
 use crate::tag::has_tag;
 use crate::view::PacketView;
-use gb_cap::hmac::HmacKey;
-use gb_types::version::Version;
+use gb_cap::HmacKey;
+use gb_types::Version;
 
 /// Returns the first fault of the bytes, if there is one.
 #[tactic(auto, unfolding(crate::specs::Reading::fault_in))]

@@ -5,8 +5,8 @@ ghost use Rattle.gb_frame.specs.Spelling.{tag_of};
 ghost use Rattle.gb_frame.specs.Reading.{is_tagged};
 
 use crate::limits::TAG;
+use gb_cap::HmacKey;
 use gb_cap::compare::count_differences;
-use gb_cap::hmac::HmacKey;
 
 /// Returns the tag of a text under a key.
 #[tactic(auto, unfolding(crate::specs::Spelling::tag_of))]

@@ -12,8 +12,7 @@ use crate::header::{base_of, count_of, frame_of, mask_of, texts_of, version_of};
 use crate::item::{ItemView, first_item};
 use crate::packet::Head;
 use gb_types::limits::PAYLOAD;
-use gb_types::node::NodeId;
-use gb_types::version::Version;
+use gb_types::{NodeId, Version};
 use std::marker::Model;
 
 /// A packet whose payloads are in the bytes that it was read from. Contracts see its content.

@@ -8,8 +8,8 @@ ghost use Rattle.gb_frame.specs.Spelling.{header_text, tag_of, packet_text, AreT
 use crate::item::{append, put_items};
 use crate::packet::{Head, Packet, room_beside};
 use crate::tag::tag;
-use gb_cap::hmac::HmacKey;
-use gb_types::memory::OutOfMemory;
+use gb_cap::HmacKey;
+use gb_types::OutOfMemory;
 use std::alloc::Global;
 
 /// Appends the header of a packet with `count` items. Takes no memory.

@@ -9,3 +9,6 @@ pub mod listing;
 pub mod packing;
 pub mod place_set;
 pub mod slots;
+
+pub use groups::Groups;
+pub use listing::GroupRow;

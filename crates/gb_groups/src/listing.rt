@@ -1,7 +1,6 @@
 //! A node's groups as a list shows them to an administrator.
-use gb_rules::phase::Phase;
-use gb_types::address::Addr;
-use gb_types::spec::Spec;
+use gb_rules::Phase;
+use gb_types::{Addr, Spec};
 
 /// A group that was made at a node and lives there, or was dropped and its place was not taken since. A dropped group has only its
 /// address and the phase `Gone`.

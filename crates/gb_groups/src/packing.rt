@@ -11,8 +11,7 @@ ghost use Rattle.gb_groups.specs.Packing.{queues, walk, size, fit, gave, new_cur
 use crate::place_set::{PlaceSet, next_of, remove_of};
 use crate::slots::Slots;
 use gb_rules::room::GENERATIONS;
-use gb_types::node::NodeId;
-use gb_types::version::Version;
+use gb_types::{NodeId, Version};
 
 /// Returns the first place from `from` on, going round, where something waits for `dest`.
 pub fn next_place(slots: &Slots, busy: &PlaceSet, dest: NodeId, from: usize) -> Option<usize>

@@ -3,7 +3,7 @@ ghost use Rattle.std.specs.Prelude.{◌≡◌, ◌≢◌, ◌<◌, ◌≤◌, �
 ghost use Rattle.gb_types.specs.declared.limits.TheConstants.{PLACES};
 ghost use Rattle.gb_groups.specs.PlaceSet.{has, IsNext, IsSummary};
 
-use gb_types::memory::OutOfMemory;
+use gb_types::OutOfMemory;
 use std::alloc::Global;
 use std::marker::Model;
 

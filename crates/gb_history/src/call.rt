@@ -2,10 +2,8 @@
 ghost use Rattle.std.specs.Prelude.{◌≡◌, ◌≤◌, IfOk, length};
 ghost use Rattle.gb_history.specs.History as history;
 
-use gb_layer::call::Call;
-use gb_types::entry::Entry;
-use gb_types::memory::OutOfMemory;
-use gb_types::node::NodeId;
+use gb_layer::Call;
+use gb_types::{Entry, NodeId, OutOfMemory};
 use std::alloc::Global;
 
 /// A call of a group at a node, with the payload of its message.

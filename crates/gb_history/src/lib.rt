@@ -8,3 +8,5 @@
 pub mod call;
 pub mod log;
 pub mod messages;
+
+pub use call::GroupCall;

@@ -9,10 +9,7 @@ use crate::messages::{bytes_of, entries_in, known};
 use gb_layer::plain::{came_from, is_mentioned};
 use gb_rules::let_fall::is_let_fall;
 use gb_stack::plain;
-use gb_types::entry::{Entries, Entry};
-use gb_types::memory::OutOfMemory;
-use gb_types::node::NodeId;
-use gb_types::spec::Spec;
+use gb_types::{Entries, Entry, NodeId, OutOfMemory, Spec};
 use std::alloc::Global;
 
 /// Returns the members, rising.

@@ -4,11 +4,7 @@ ghost use Rattle.gb_history.specs.History as history;
 ghost use Rattle.gb_history.specs.Messages as words;
 
 use crate::call::GroupCall;
-use gb_types::entry::{Entries, Entry};
-use gb_types::memory::OutOfMemory;
-use gb_types::message::MsgId;
-use gb_types::node::NodeId;
-use gb_types::payload::Payload;
+use gb_types::{Entries, Entry, MsgId, NodeId, OutOfMemory, Payload};
 use std::alloc::Global;
 
 /// Returns true if the message is among the entries.

@@ -15,9 +15,8 @@ use crate::hosted::Hosted;
 use crate::names::Tapes;
 use crate::plan::HostPlan;
 use crate::seat::Seat;
-use gb_node::node::Node;
-use gb_node::tape::Tape;
-use gb_types::node::{NodeId, NodeSet};
+use gb_node::{Node, Tape};
+use gb_types::{NodeId, NodeSet};
 use std::alloc::Global;
 use std::sync::Mutex;
 

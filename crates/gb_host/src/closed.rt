@@ -3,9 +3,8 @@ ghost use Rattle.std.specs.Prelude.{◌≡◌, IfNone, IfSome};
 ghost use Rattle.gb_host.specs.Closing.{IsLeftOf, IsNotLeft};
 
 use crate::entry::CallList;
-use gb_node::node::Node;
-use gb_node::tape::Tape;
-use gb_types::node::NodeId;
+use gb_node::{Node, Tape};
+use gb_types::NodeId;
 
 /// The nodes that were here and their tapes, each at the index of the node's number. For any other node there is no node, and an
 /// empty tape.

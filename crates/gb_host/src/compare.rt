@@ -8,8 +8,8 @@ ghost use Rattle.gb_host.specs.Closing.{list_at, AreSame, IsOther};
 ghost use Rattle.gb_host.specs.Walk.{left_of, AreBounded, HasMoved};
 
 use crate::entry::{CallList, SeatEntry};
-use gb_node::tape::{Tape, TapeEntry};
-use gb_types::memory::OutOfMemory;
+use gb_node::{Tape, TapeEntry};
+use gb_types::OutOfMemory;
 use std::alloc::Global;
 
 /// How far a list was walked for a node: the place where the walk goes on, and the number of the node's calls before it.

@@ -6,10 +6,8 @@ ghost use Rattle.gb_host.specs.Copied.{AreCopies};
 ghost use Rattle.gb_host.specs.declared.copies.Way.TheVariants.{Nowhere};
 
 use crate::fault::HostFault;
-use gb_node::answer::NodeAnswer;
-use gb_node::event::NodeEvent;
-use gb_node::node::Node;
-use gb_types::version::Version;
+use gb_node::{Node, NodeAnswer, NodeEvent};
+use gb_types::Version;
 use std::alloc::Global;
 
 /// Where what happens at a node is kept.

@@ -1,9 +1,8 @@
 //! What a seat notes of its calls.
 ghost use Rattle.std.specs.Prelude.{◌≡◌, []};
 
-use gb_node::answer::NodeAnswer;
-use gb_node::event::NodeEvent;
-use gb_types::node::NodeId;
+use gb_node::{NodeAnswer, NodeEvent};
+use gb_types::NodeId;
 use std::alloc::Global;
 use std::marker::Model;
 

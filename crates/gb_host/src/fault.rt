@@ -2,7 +2,7 @@
 ghost use Rattle.std.specs.Prelude.{◌≡◌};
 
 use crate::closed::Difference;
-use gb_types::memory::OutOfMemory;
+use gb_types::OutOfMemory;
 use std::alloc::AllocError;
 
 /// Why a host refused. Nothing has changed then, except that `close` has given up host and seats.

@@ -3,7 +3,7 @@ ghost use Rattle.std.specs.Prelude.{ℕ, ◌≡◌, ◌<◌, ◌≤◌, true};
 ghost use Rattle.std.specs.FinSet as set;
 ghost use Rattle.gb_types.specs.declared.limits.TheConstants.{NODES};
 
-use gb_types::node::{NodeId, NodeSet};
+use gb_types::{NodeId, NodeSet};
 
 /// Returns all nodes of a cluster of `nodes` nodes.
 pub fn all_nodes(nodes: u8) -> NodeSet

@@ -13,9 +13,8 @@ use crate::outlet::{Outlet, ring_of};
 use crate::pasts::NodePast;
 use crate::plan::HostPlan;
 use crate::recorder::Recorder;
-use gb_node::event::NodeEvent;
-use gb_node::tape::TapeEntry;
-use gb_types::node::NodeId;
+use gb_node::{NodeEvent, TapeEntry};
+use gb_types::NodeId;
 use std::alloc::Global;
 
 /// How a node's past is kept, besides what contracts see of it.

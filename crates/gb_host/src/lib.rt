@@ -21,3 +21,14 @@ pub mod pasts;
 pub mod plan;
 pub mod recorder;
 pub mod seat;
+
+pub use closed::Closed;
+pub use entry::SeatEntry;
+pub use fault::HostFault;
+pub use gate::{Gate, Open};
+pub use host::Host;
+pub use names::Tapes;
+pub use pasts::{NodePast, NodeSeen};
+pub use plan::HostPlan;
+pub use recorder::{Recorder, Taken};
+pub use seat::Seat;

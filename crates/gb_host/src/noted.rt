@@ -1,8 +1,8 @@
 //! What goes from a node to its recorder.
 use crate::names::Tapes;
 use crate::pasts::{NodePast, NodeSeen};
-use gb_node::tape::TapeEntry;
-use gb_types::node::NodeId;
+use gb_node::TapeEntry;
+use gb_types::NodeId;
 use rtrb::Protocol;
 use std::marker::PhantomData;
 

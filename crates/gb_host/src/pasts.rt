@@ -4,13 +4,9 @@ ghost use Rattle.gb_node.specs.declared.tape.TapeEntry.{TapeEntry as Noted};
 ghost use Rattle.gb_host.specs.Pasts.{AreBlank};
 
 use crate::entry::SeatEntry;
-use gb_node::answer::NodeAnswer;
-use gb_node::event::NodeEvent;
-use gb_node::tape::TapeEntry;
-use gb_past::past::{Past, Seen};
-use gb_past::story::{Story, Told};
-use gb_types::memory::OutOfMemory;
-use gb_types::node::NodeId;
+use gb_node::{NodeAnswer, NodeEvent, TapeEntry};
+use gb_past::{Past, Seen, Story, Told};
+use gb_types::{NodeId, OutOfMemory};
 use std::alloc::Global;
 
 /// A story in which any entry may come next.

@@ -7,7 +7,7 @@ ghost use Rattle.gb_host.specs.Plans.{IsPlan};
 use crate::entry::{CallList, SeatEntry};
 use crate::names::Tapes;
 use crate::pasts::{NodeSeen, SeatPast};
-use gb_past::past::Past;
+use gb_past::Past;
 use gb_types::limits::NODES;
 use std::alloc::Global;
 use std::marker::{Model, PhantomData};

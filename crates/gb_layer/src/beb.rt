@@ -9,9 +9,7 @@ ghost use Rattle.gb_layer.specs.BebLemmas.{beb_sends_handed_in, beb_ups_handed_i
 use crate::call::Call;
 use crate::effects::{Room, Up};
 use crate::layer::Layer;
-use gb_types::memory::OutOfMemory;
-use gb_types::message::MsgId;
-use gb_types::node::{NodeId, NodeSet};
+use gb_types::{MsgId, NodeId, NodeSet, OutOfMemory};
 
 /// Sends each message that is said. Hands up each message that is said and each that comes, from any node (Cachin, Guerraoui,
 /// Rodrigues 2011, Algorithm 3.1, Basic Broadcast).

@@ -6,9 +6,7 @@ ghost use Rattle.gb_layer.specs.DirectLemmas.{direct_sends_handed_in, direct_ups
 use crate::call::Call;
 use crate::effects::{Room, Up};
 use crate::layer::{Broadcast, Layer};
-use gb_types::memory::OutOfMemory;
-use gb_types::message::MsgId;
-use gb_types::node::{NodeId, NodeSet};
+use gb_types::{MsgId, NodeId, NodeSet, OutOfMemory};
 
 /// Removes the pairs from index `from` on that did not come from the message's origin.
 fn keep_own(ups: &mut Vec<Up>, from: usize)

@@ -5,8 +5,7 @@ ghost use Rattle.std.specs.List.{list_any};
 ghost use Rattle.gb_layer.specs.Relay.{is_for, is_sent, held, marked_sent};
 
 use crate::places::Places;
-use gb_types::message::MsgId;
-use gb_types::node::{NodeId, NodeSet};
+use gb_types::{MsgId, NodeId, NodeSet};
 
 /// A message, the nodes that hold it as far as this node knows, and whether it was sent and handed up from here.
 #[derive(Drop)]

@@ -11,9 +11,7 @@ ghost use Rattle.gb_layer.specs.Room.{free};
 
 use crate::call::Call;
 use crate::effects::{Room, Up};
-use gb_types::memory::OutOfMemory;
-use gb_types::message::MsgId;
-use gb_types::node::{NodeId, NodeSet};
+use gb_types::{MsgId, NodeId, NodeSet, OutOfMemory};
 
 /// A layer of a broadcast at one node.
 ///

@@ -9,9 +9,7 @@ ghost use Rattle.gb_layer.specs.Table.{leads, IsNowhere, IsThere};
 use crate::entries::{Entry, has_entry, hold_in, mark_one, mark_sent, was_sent};
 use crate::places::Places;
 use crate::table::{Table, place};
-use gb_types::memory::OutOfMemory;
-use gb_types::message::MsgId;
-use gb_types::node::{NodeId, NodeSet};
+use gb_types::{MsgId, NodeId, NodeSet, OutOfMemory};
 use std::alloc::Global;
 
 /// The entries in the order of first mention, and the place of each, by origin and number.

@@ -28,3 +28,14 @@ pub mod relays;
 pub mod rule;
 pub mod table;
 pub mod whole;
+
+pub use beb::Beb;
+pub use broadcast_module::BroadcastModule;
+pub use call::Call;
+pub use direct::Direct;
+pub use effects::{Effects, Room, Up};
+pub use layer::{Broadcast, Layer};
+pub use places::Places;
+pub use relay::Relay;
+pub use rule::Rule;
+pub use table::Table;

@@ -11,7 +11,7 @@ use crate::entries::Entry;
 use crate::ledger::Ledger;
 use crate::places::Places;
 use crate::rule::Rule;
-use gb_types::node::{NodeId, NodeSet};
+use gb_types::{NodeId, NodeSet};
 
 /// Returns true if the entry's message is here and is to be relayed.
 pub(crate) fn is_due<R: Rule>(entry: &Entry, rule: &R, me: NodeId, noticed: &NodeSet) -> bool

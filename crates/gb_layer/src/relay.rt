@@ -18,9 +18,7 @@ use crate::pending::{add_pending, is_due, is_ready, take_in};
 use crate::places::Places;
 use crate::rule::Rule;
 use crate::whole::message_and_call_count;
-use gb_types::memory::OutOfMemory;
-use gb_types::message::MsgId;
-use gb_types::node::{NodeId, NodeSet};
+use gb_types::{MsgId, NodeId, NodeSet, OutOfMemory};
 use std::alloc::Global;
 
 /// Says below, once, each message that the rule broadcasts. Hands up, once, each message that the rule delivers, as received from

@@ -10,9 +10,7 @@ ghost use Rattle.gb_layer.specs.Table.{told, covers, spot, leads, IsNowhere, IsT
 
 use crate::places::Places;
 use gb_types::limits::NODES;
-use gb_types::memory::OutOfMemory;
-use gb_types::message::MsgId;
-use gb_types::node::{NodeId, NodeSet};
+use gb_types::{MsgId, NodeId, NodeSet, OutOfMemory};
 use std::alloc::Global;
 
 /// The place of each message of a list, by origin and number. It covers the members' messages numbered from 1 to `width`.

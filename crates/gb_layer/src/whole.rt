@@ -5,9 +5,7 @@ ghost use Rattle.gb_layer.specs.Limit as limit;
 use crate::call::Call;
 use crate::effects::Up;
 use crate::layer::Layer;
-use gb_types::memory::OutOfMemory;
-use gb_types::message::MsgId;
-use gb_types::node::NodeSet;
+use gb_types::{MsgId, NodeSet, OutOfMemory};
 
 /// Returns the number of messages of these members, numbered from 1 to `msgs`, plus `calls`. `None` if the sum exceeds
 /// `usize::MAX`.

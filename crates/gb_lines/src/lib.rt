@@ -3,3 +3,5 @@
 #![tactic(auto)]
 
 pub mod lines;
+
+pub use lines::{LineBuffer, LinesFault, NextLine};

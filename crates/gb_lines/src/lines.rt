@@ -7,7 +7,7 @@ ghost use Rattle.gb_lines.specs.Lines.{IsLine, GivesLine, BeginsLonger};
 ghost use Rattle.gb_lines.specs.LineLaws.{WrittenLinesAreRead, LastMayLackItsLineFeed, EachTextIsItsLines};
 ghost use Rattle.gb_lines.specs.Buffered.{left, WhereKnown, WantsRead, NoLineFeed, CutsLine, IsTooLong};
 
-use gb_types::memory::OutOfMemory;
+use gb_types::OutOfMemory;
 use memchr::memchr;
 use std::alloc::Global;
 use std::io::{Error, ErrorKind, Read};

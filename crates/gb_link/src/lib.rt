@@ -9,3 +9,6 @@ pub mod link;
 pub mod receiver;
 pub mod sender;
 pub mod spaced;
+
+pub use receiver::{Admission, Receiver};
+pub use spaced::SpacedSender;

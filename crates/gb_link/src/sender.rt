@@ -6,8 +6,8 @@ ghost use Rattle.gb_link.specs.Ack.{covers};
 ghost use Rattle.gb_link.specs.SendWindow.{IsWindow, AreAscending, new_window, has_room, pushed, frame_again, lowest_covered, acknowledged, without_first, freed};
 
 use crate::ack::covers;
+use gb_types::OutOfMemory;
 use gb_types::limits::{LAST_FRAME, LINK_WINDOW};
-use gb_types::memory::OutOfMemory;
 use std::alloc::Global;
 use std::collections::VecDeque;
 use std::marker::Model;

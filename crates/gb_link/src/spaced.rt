@@ -5,7 +5,7 @@ ghost use Rattle.std.specs.Borrow.{Lends, sem};
 ghost use Rattle.gb_link.specs.SendWindow.{IsWindow, AreAscending, new_window, has_room, pushed, frame_again, lowest_covered, acknowledged, freed};
 
 use crate::sender::{held_under, is_open, parts, take_covered};
-use gb_types::memory::OutOfMemory;
+use gb_types::OutOfMemory;
 use std::alloc::Global;
 use std::collections::VecDeque;
 use std::marker::Model;

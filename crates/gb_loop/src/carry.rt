@@ -6,12 +6,11 @@ use crate::links::Link;
 use crate::mail::Arrival;
 use crate::node_loop::NodeLoop;
 use crate::settle::Settle;
-use gb_host::names::Tapes;
-use gb_node::answer::{Frame, Good};
-use gb_node::event::NodeEvent;
-use gb_port::port::Port;
+use gb_host::Tapes;
+use gb_node::{Frame, Good, NodeEvent};
+use gb_port::Port;
+use gb_types::NodeId;
 use gb_types::limits::NODES;
-use gb_types::node::NodeId;
 use std::sync::Wait;
 use std::time::Clock;
 

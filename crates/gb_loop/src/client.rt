@@ -5,9 +5,8 @@ ghost use Rattle.gb_session.specs.Runs.{HasAsked};
 ghost use Rattle.gb_loop.specs.Turned.{HasCome, HasAnswered, HasSent, HasStopped, HasTurned, is_end};
 
 use crate::settle::Settle;
-use gb_session::answers::Answers;
-use gb_session::session::{Session, Step};
-use gb_types::memory::OutOfMemory;
+use gb_session::{Answers, Session, Step};
+use gb_types::OutOfMemory;
 use std::alloc::Global;
 use std::io::{ErrorKind, Read, Write};
 

@@ -1,6 +1,6 @@
 //! A client's connection.
 use crate::client::Client;
-use gb_types::address::Addr;
+use gb_types::Addr;
 use mio::net::TcpStream;
 use std::alloc::Global;
 

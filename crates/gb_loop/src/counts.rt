@@ -1,12 +1,8 @@
 //! Which figures a node's calls count.
-use gb_frame::fault::PacketFault;
-use gb_node::answer::{Frame, NodeAnswer, PacketAnswer, Ticked};
-use gb_node::event::NodeEvent;
-use gb_status::figure::Figure;
-use gb_status::figures::Figures;
-use gb_types::refusal::Refusal;
-use gb_types::reply::Reply;
-use gb_types::request::Request;
+use gb_frame::PacketFault;
+use gb_node::{Frame, NodeAnswer, NodeEvent, PacketAnswer, Ticked};
+use gb_status::{Figure, Figures};
+use gb_types::{Refusal, Reply, Request};
 
 // Returns the figure that a request is counted under.
 pub(crate) fn asked_figure(request: &Request) -> Figure {

@@ -1,8 +1,7 @@
 //! What the bytes of a packet say, before it is known that they are one.
+use gb_frame::ItemViews;
 use gb_frame::limits::{HEADER, TAG};
-use gb_frame::view::ItemViews;
-use gb_types::address::Addr;
-use gb_types::version::Version;
+use gb_types::{Addr, Version};
 
 /// What a packet acknowledges: every frame below `base`, and `base + i` where bit i of the mask is set.
 #[derive(Clone, Copy)]

@@ -19,3 +19,10 @@ pub mod options;
 pub mod parked;
 pub mod serving;
 pub mod settle;
+
+pub use client::{Client, Turn, Way};
+pub use clock::LoopClock;
+pub use mail::Parts;
+pub use node_loop::{Ending, LoopSockets};
+pub use options::LoopOptions;
+pub use settle::{Settle, Unsettled};

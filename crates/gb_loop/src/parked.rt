@@ -1,5 +1,5 @@
 //! Clients that wait until there is something to fetch.
-use gb_types::address::Addr;
+use gb_types::Addr;
 use indexmap::IndexMap;
 use std::alloc::Global;
 

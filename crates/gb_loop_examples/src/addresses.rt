@@ -1,7 +1,7 @@
 // A server can be reached at the address 127.0.0.1 only.
 use crate::clients::{address, end_server, figure, figure_at_last, joined, serves};
-use gb_client::fault::ClientFault;
-use gb_types::node::NodeId;
+use gb_client::ClientFault;
+use gb_types::NodeId;
 use std::alloc::Global;
 use std::net::{Ipv4Addr, Net, SocketAddr, SocketAddrV4, TcpListener, TcpStream, UdpSocket};
 use std::rt::HostRuntime;

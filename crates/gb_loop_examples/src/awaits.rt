@@ -3,9 +3,9 @@ use crate::clients::{
     Member, end_server, fetches, figure_at_last, gives, is_at_end, joined, reply, serves, stops,
     waits,
 };
-use gb_client::fault::ClientFault;
-use gb_session::head::Head;
-use gb_types::node::NodeId;
+use gb_client::ClientFault;
+use gb_session::Head;
+use gb_types::NodeId;
 use std::alloc::Global;
 use std::net::{Net, TcpListener, TcpStream};
 use std::rt::HostRuntime;

@@ -4,12 +4,11 @@ ghost use Rattle.gb_session.specs.declared.grammar.TheConstants.{BODY};
 
 use gb_client::awaiting::await_text;
 use gb_client::exchange::{receive, send};
-use gb_client::fault::ClientFault;
-use gb_client::secrets::Secrets;
-use gb_client::task::{Asked, request_of};
+use gb_client::task::request_of;
+use gb_client::{Asked, ClientFault, Secrets};
 use gb_server::serve_main::serve_main;
-use gb_session::head::Head;
-use gb_types::node::NodeId;
+use gb_session::Head;
+use gb_types::NodeId;
 use gb_types::number::read_number;
 use gb_types::words::split_words;
 use std::alloc::Global;

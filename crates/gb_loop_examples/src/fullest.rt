@@ -2,20 +2,11 @@
 ghost use Rattle.std.specs.Prelude.{⊤};
 ghost use Rattle.gb_session.specs.Answering.{IsDenied};
 
-use gb_loop::client::{Client, Turn, Way};
 use gb_loop::hint::put_addresses;
-use gb_loop::settle::Unsettled;
-use gb_session::answers::{Answers, put_refusal};
-use gb_session::operation::Operation;
-use gb_session::session::Step;
-use gb_types::address::Addr;
-use gb_types::entry::{Entries, Entry};
-use gb_types::memory::OutOfMemory;
-use gb_types::node::NodeId;
-use gb_types::payload::Payload;
-use gb_types::refusal::Refusal;
-use gb_types::reply::Reply;
-use gb_types::request::Request;
+use gb_loop::{Client, Turn, Unsettled, Way};
+use gb_session::answers::put_refusal;
+use gb_session::{Answers, Operation, Step};
+use gb_types::{Addr, Entries, Entry, NodeId, OutOfMemory, Payload, Refusal, Reply, Request};
 use std::alloc::Global;
 use std::io;
 use std::io::{ErrorKind, Write};

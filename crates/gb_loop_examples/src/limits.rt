@@ -2,9 +2,9 @@
 use crate::clients::{
     DENIED, Member, OPEN, ask, connect, gives, is_sound, joined as member_of, serves, told,
 };
-use gb_client::fault::ClientFault;
-use gb_session::head::Head;
-use gb_types::node::NodeId;
+use gb_client::ClientFault;
+use gb_session::Head;
+use gb_types::NodeId;
 use std::alloc::Global;
 use std::io::{Read, Write};
 use std::net::{Net, TcpListener, TcpStream};

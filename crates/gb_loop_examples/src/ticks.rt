@@ -3,8 +3,8 @@ ghost use Rattle.std.specs.Prelude.{◌≤◌};
 
 use crate::clients::{end_server, figure, joined, serves};
 use crate::loops::{Alone, Watch, runs};
-use gb_client::fault::ClientFault;
-use gb_types::node::NodeId;
+use gb_client::ClientFault;
+use gb_types::NodeId;
 use std::alloc::Global;
 use std::net::{Net, TcpListener, TcpStream};
 use std::rt::HostRuntime;

@@ -1,5 +1,5 @@
 //! Why tapes are not merged.
-use gb_types::memory::OutOfMemory;
+use gb_types::OutOfMemory;
 use std::alloc::{AllocError, AllocFailed};
 use thiserror::Error;
 

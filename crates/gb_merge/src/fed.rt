@@ -6,11 +6,11 @@ ghost use Rattle.gb_merge.specs.Fed.{IsMergedFed, IsFedFault, FedIsOneRun, Refus
 use crate::fault::AuditFault;
 use crate::merge::merge_entries;
 use crate::weave::whole_fed;
-use gb_cluster::event::Event;
+use gb_cluster::Event;
 use gb_isolation::laws::{ample_runs_feed_all, groups_are_isolated};
+use gb_node::Tape;
 use gb_node::past::packets_say;
-use gb_node::tape::Tape;
-use gb_types::plan::Plan;
+use gb_types::Plan;
 use std::alloc::Global;
 
 /// Merges those entries of the tapes that were not refused for lack of memory, as `merge` merges all entries. A refused entry

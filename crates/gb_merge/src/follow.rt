@@ -10,15 +10,11 @@ ghost use Rattle.gb_merge.specs.Woven.{is_refused, ArePlaced, IsTold, IsStepFaul
 
 use crate::fault::AuditFault;
 use crate::rest::Taking;
-use gb_cluster::answer::{Answer, Sending};
-use gb_cluster::cluster::Cluster;
-use gb_cluster::event::Event;
 use gb_cluster::laws::packets_are_honest;
-use gb_cluster::posted::Posted;
-use gb_node::answer::{Halted, NodeAnswer, PacketAnswer, Sent, Ticked};
+use gb_cluster::{Answer, Cluster, Event, Posted, Sending};
 use gb_node::past::{packets_say, pasts_say};
-use gb_types::refusal::Refusal;
-use gb_types::reply::Reply;
+use gb_node::{Halted, NodeAnswer, PacketAnswer, Sent, Ticked};
+use gb_types::{Refusal, Reply};
 
 /// Returns true if the answer refuses for lack of memory.
 fn is_refused(answer: &Answer) -> bool

@@ -7,11 +7,10 @@ use crate::fault::AuditFault;
 use crate::follow::follow;
 use crate::reader::Reader;
 use crate::weave::weave_front;
-use gb_cluster::cluster::Cluster;
-use gb_cluster::event::Event;
+use gb_cluster::{Cluster, Event};
 use gb_isolation::laws::{ample_runs_feed_all, groups_are_isolated};
-use gb_node::tape::Tape;
-use gb_types::plan::Plan;
+use gb_node::Tape;
+use gb_types::Plan;
 use std::alloc::Global;
 
 /// Merges the first entries of each tape, as many as possible. An entry is left out exactly if it, or one before it in its tape,

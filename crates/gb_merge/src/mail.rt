@@ -4,7 +4,7 @@ ghost use Rattle.std.specs.Option.{option_or, option_map};
 ghost use Rattle.std.specs.Str.{bytes_eq};
 ghost use Rattle.indexmap.specs.IndexMap.{get_by};
 
-use gb_types::memory::OutOfMemory;
+use gb_types::OutOfMemory;
 use indexmap::IndexMap;
 use std::alloc::Global;
 use std::marker::Model;

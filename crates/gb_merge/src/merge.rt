@@ -10,10 +10,9 @@ use crate::reader::Reader;
 use crate::rest::Rest;
 use crate::stranger::have_stranger;
 use crate::weave::{weave, whole};
-use gb_cluster::cluster::Cluster;
-use gb_cluster::event::Event;
-use gb_node::tape::Tape;
-use gb_types::plan::Plan;
+use gb_cluster::{Cluster, Event};
+use gb_node::Tape;
+use gb_types::Plan;
 use std::alloc::Global;
 
 /// Merges the tapes of a cluster's nodes: one tape for each node, in the order of their numbers. Returns events of the cluster

@@ -4,11 +4,10 @@ ghost use Rattle.gb_merge.specs.Interleaving.{is_good};
 ghost use Rattle.gb_merge.specs.Woven.{IsOther};
 ghost use Rattle.gb_node.specs.declared.event.NodeEvent.TheVariants as NodeEvents;
 
-use gb_cap::hmac::HmacKey;
+use gb_cap::HmacKey;
 use gb_frame::reading::decode;
-use gb_node::event::NodeEvent;
-use gb_types::node::NodeId;
-use gb_types::plan::Plan;
+use gb_node::NodeEvent;
+use gb_types::{NodeId, Plan};
 use std::marker::Model;
 
 /// Reads packets as the nodes of a cluster do. Contracts see the cluster's plan.

@@ -6,12 +6,8 @@ ghost use Rattle.gb_merge.specs.Fed.{fed_of, kept, StartsFed, IsReady};
 ghost use Rattle.gb_merge.specs.Interleaving.{sent_by};
 
 use crate::mail::Mail;
-use gb_node::answer::{Halted, NodeAnswer, PacketAnswer, Sent, Ticked};
-use gb_node::tape::TapeEntry;
-use gb_types::memory::OutOfMemory;
-use gb_types::node::NodeId;
-use gb_types::refusal::Refusal;
-use gb_types::reply::Reply;
+use gb_node::{Halted, NodeAnswer, PacketAnswer, Sent, TapeEntry, Ticked};
+use gb_types::{NodeId, OutOfMemory, Refusal, Reply};
 use std::marker::Model;
 
 /// Returns true if the answer refuses for lack of memory.

@@ -9,9 +9,8 @@ ghost use Rattle.gb_node.specs.NodeStep.{node_numbered};
 use crate::mail::Mail;
 use crate::reader::Reader;
 use crate::rest::{Rest, post};
-use gb_node::event::NodeEvent;
-use gb_types::memory::OutOfMemory;
-use gb_types::node::NodeId;
+use gb_node::NodeEvent;
+use gb_types::{NodeId, OutOfMemory};
 use std::alloc::Global;
 
 /// Adds the packets that the answers in `left` send to `sent`.

@@ -1,18 +1,10 @@
 ghost use Rattle.std.specs.Prelude.{◌<◌};
 
-use gb_cluster::answer::{Answer, Sending};
-use gb_cluster::cluster::Cluster;
-use gb_cluster::event::Event;
-use gb_frame::fault::PacketFault;
-use gb_node::answer::{Halted, PacketAnswer};
-use gb_node::event::NodeEvent;
-use gb_node::packet_text::PacketText;
+use gb_cluster::{Answer, Cluster, Event, Sending};
+use gb_frame::PacketFault;
+use gb_node::{Halted, NodeEvent, PacketAnswer, PacketText};
 use gb_types::limits::NODES;
-use gb_types::memory::OutOfMemory;
-use gb_types::node::NodeId;
-use gb_types::plan::Plan;
-use gb_types::refusal::Refusal;
-use gb_types::version::Version;
+use gb_types::{NodeId, OutOfMemory, Plan, Refusal, Version};
 use std::alloc::Global;
 use std::rt::HostRuntime;
 use std::test::Fail;

@@ -1,8 +1,8 @@
 // Each fault of merging, by tapes that nodes made.
 use crate::merged::{Case, judge, judge_front, judge_front_fault};
 use crate::steps::{At, Step};
-use gb_merge::fault::AuditFault;
-use gb_types::refusal::Refusal;
+use gb_merge::AuditFault;
+use gb_types::Refusal;
 use std::rt::HostRuntime;
 
 const NOTHING: Case = Case {

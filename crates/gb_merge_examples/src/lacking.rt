@@ -2,8 +2,8 @@
 use crate::merged::{Case, judge, judge_fed, judge_fed_fault};
 use crate::requests::Asked;
 use crate::steps::Step;
-use gb_merge::fault::AuditFault;
-use gb_types::refusal::Refusal;
+use gb_merge::AuditFault;
+use gb_types::Refusal;
 use std::rt::HostRuntime;
 
 // The first node had no memory for the group, for a message and for a packet. Each was asked for again, and done.

@@ -3,16 +3,11 @@ ghost use Rattle.std.specs.Prelude.{◌≡◌, IfOk, vec_len};
 ghost use Rattle.gb_cluster.specs.ClusterValue.{IsClusterPlan};
 
 use crate::requests::ADMIN_KEY;
-use gb_merge::fault::AuditFault;
+use gb_merge::AuditFault;
 use gb_merge::merge::merge;
-use gb_node::answer::{NodeAnswer, Ticked};
-use gb_node::event::NodeEvent;
-use gb_node::tape::{Tape, TapeEntry};
+use gb_node::{NodeAnswer, NodeEvent, Tape, TapeEntry, Ticked};
 use gb_types::limits::NODES;
-use gb_types::memory::OutOfMemory;
-use gb_types::node::NodeSet;
-use gb_types::plan::Plan;
-use gb_types::version::Version;
+use gb_types::{NodeSet, OutOfMemory, Plan, Version};
 use std::alloc::Global;
 
 /// The number of entries of the tape.

@@ -4,16 +4,14 @@ ghost use Rattle.gb_cluster.specs.ClusterValue.{IsClusterPlan};
 
 use crate::requests::ADMIN_KEY;
 use crate::steps::{At, Taped, hand_over, lose, start, take_all};
-use gb_cluster::event::Event;
-use gb_merge::fault::AuditFault;
+use gb_cluster::Event;
+use gb_merge::AuditFault;
 use gb_merge::fed::{fed_is_one_run, merge_fed, refusals_leave_nodes};
 use gb_merge::front::merge_front;
 use gb_merge::merge::merge;
-use gb_node::event::NodeEvent;
-use gb_node::tape::Tape;
+use gb_node::{NodeEvent, Tape};
 use gb_types::limits::NODES;
-use gb_types::plan::Plan;
-use gb_types::version::Version;
+use gb_types::{Plan, Version};
 use std::alloc::Global;
 use std::process::Abort;
 

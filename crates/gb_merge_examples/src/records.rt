@@ -2,14 +2,14 @@
 use crate::merged::plan;
 use crate::requests::{ADMIN_KEY, Asked};
 use crate::steps::{At, Step, Taped, hand_over, start, take_all};
-use gb_audit_run::audit::{Source, audit};
-use gb_audit_run::cluster::ClusterKeys;
+use gb_audit_run::audit::audit;
 use gb_audit_run::verdict::status_of;
-use gb_node::tape::Tape;
-use gb_record_text::head::RecordHead;
+use gb_audit_run::{ClusterKeys, Source};
+use gb_node::Tape;
+use gb_record_text::RecordHead;
 use gb_record_text::record::write_record;
-use gb_types::memory::{OutOfMemory, put_bytes};
-use gb_types::node::NodeId;
+use gb_types::memory::put_bytes;
+use gb_types::{NodeId, OutOfMemory};
 use std::alloc::Global;
 use std::rt::HostRuntime;
 

@@ -4,13 +4,13 @@ ghost use Rattle.gb_cluster.specs.ClusterValue.{IsClusterPlan};
 use crate::merged::{plan, plan_with};
 use crate::requests::Asked;
 use crate::steps::{At, Step, Taped, hand_over, start, take_all};
-use gb_cluster::event::Event;
+use gb_cluster::Event;
 use gb_merge::front::merge_front;
-use gb_node::tape::Tape;
+use gb_node::Tape;
+use gb_replay::ReplayFault;
 use gb_replay::complaint::put_complaint;
-use gb_replay::replay::{ReplayFault, replay};
-use gb_types::memory::OutOfMemory;
-use gb_types::plan::Plan;
+use gb_replay::replay::replay;
+use gb_types::{OutOfMemory, Plan};
 use std::alloc::Global;
 use std::rt::HostRuntime;
 

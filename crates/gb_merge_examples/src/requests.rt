@@ -1,14 +1,9 @@
 //! Requests of one tenant in one group, whose members are the first two nodes.
-use gb_cap::hmac::Key;
-use gb_cap::token::{Need, Token, token};
-use gb_types::address::Addr;
-use gb_types::kind::Kind;
-use gb_types::memory::OutOfMemory;
-use gb_types::new_message::NewMessage;
-use gb_types::node::{NodeId, NodeSet};
-use gb_types::payload::Payload;
-use gb_types::request::Request;
-use gb_types::spec::{Spec, TenantRow};
+use gb_cap::token::token;
+use gb_cap::{Key, Need, Token};
+use gb_types::{
+    Addr, Kind, NewMessage, NodeId, NodeSet, OutOfMemory, Payload, Request, Spec, TenantRow,
+};
 use std::alloc::Global;
 
 /// The key of the administrator's token.

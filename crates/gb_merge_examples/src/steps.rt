@@ -3,16 +3,8 @@ ghost use Rattle.gb_cluster.specs.ClusterValue.{IsClusterPlan};
 
 use crate::requests::{Asked, node, request};
 use gb_cluster::plan::node_plan;
-use gb_node::answer::{NodeAnswer, Sent, Ticked};
-use gb_node::event::NodeEvent;
-use gb_node::node::Node;
-use gb_node::packet_text::PacketText;
-use gb_node::tape::{Tape, TapeEntry};
-use gb_types::memory::OutOfMemory;
-use gb_types::node::{NodeId, NodeSet};
-use gb_types::plan::Plan;
-use gb_types::refusal::Refusal;
-use gb_types::reply::Reply;
+use gb_node::{Node, NodeAnswer, NodeEvent, PacketText, Sent, Tape, TapeEntry, Ticked};
+use gb_types::{NodeId, NodeSet, OutOfMemory, Plan, Refusal, Reply};
 use std::alloc::Global;
 use std::mem;
 

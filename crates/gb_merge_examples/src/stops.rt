@@ -2,7 +2,7 @@
 use crate::merged::{Case, Part, judge, merged};
 use crate::requests::Asked;
 use crate::steps::{At, Step};
-use gb_merge::fault::AuditFault;
+use gb_merge::AuditFault;
 use std::alloc::Global;
 use std::rt::HostRuntime;
 

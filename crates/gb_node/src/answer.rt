@@ -5,11 +5,8 @@ ghost use Rattle.gb_node.specs.Reads.{IsWithin};
 use crate::copies::{copy_sent, copy_ticked, reply_copied, sent_in_room};
 use crate::packet_text::PacketText;
 use crate::same::{same_reply, same_sent, same_taken, same_ticked};
-use gb_frame::fault::PacketFault;
-use gb_types::memory::OutOfMemory;
-use gb_types::node::{NodeId, NodeSet};
-use gb_types::refusal::Refusal;
-use gb_types::reply::Reply;
+use gb_frame::PacketFault;
+use gb_types::{NodeId, NodeSet, OutOfMemory, Refusal, Reply};
 use std::alloc::Global;
 
 /// The answer to an event at a node. There is one variant for each kind of event; the three kinds of sending share one.

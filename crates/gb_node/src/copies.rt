@@ -6,9 +6,7 @@ ghost use Rattle.gb_node.specs.Reads.{IsReplyWithin, IsSentWithin};
 
 use crate::answer::{Sent, Ticked};
 use crate::packet_text::PacketText;
-use gb_types::memory::OutOfMemory;
-use gb_types::reply::Reply;
-use gb_types::request::Request;
+use gb_types::{OutOfMemory, Reply, Request};
 use std::alloc::Global;
 
 /// Returns a copy of the request. Only the message of a say takes memory.

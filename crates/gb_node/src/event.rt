@@ -5,9 +5,7 @@ ghost use Rattle.gb_node.specs.Reads.{is_read};
 use crate::copies::{copy_request, copy_text};
 use crate::packet_text::PacketText;
 use crate::same::{same_node, same_request, same_text};
-use gb_types::memory::OutOfMemory;
-use gb_types::node::NodeId;
-use gb_types::request::Request;
+use gb_types::{NodeId, OutOfMemory, Request};
 use std::alloc::Global;
 
 /// What happens at a node.

@@ -16,3 +16,10 @@ pub mod same;
 pub mod taking;
 pub mod tape;
 pub mod window;
+
+pub use answer::{Frame, Good, Halted, NodeAnswer, PacketAnswer, Sent, Ticked};
+pub use event::NodeEvent;
+pub use node::Node;
+pub use packet_text::PacketText;
+pub use plan::NodePlan;
+pub use tape::{Tape, TapeEntry};

@@ -7,11 +7,11 @@ ghost use Rattle.gb_frame.specs.declared.limits.TheConstants.{SHORTEST};
 ghost use Rattle.gb_node.specs.Frames.{IsHead};
 
 use crate::packet_text::PacketText;
-use gb_cap::hmac::HmacKey;
+use gb_cap::HmacKey;
+use gb_frame::Head;
 use gb_frame::limits::SHORTEST;
-use gb_frame::packet::Head;
 use gb_frame::writing::wrap;
-use gb_types::memory::OutOfMemory;
+use gb_types::OutOfMemory;
 use std::alloc::Global;
 
 /// Returns the packet with this head and a frame of `count` items. `texts` are the items' texts, of the head's version. The

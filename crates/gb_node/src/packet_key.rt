@@ -8,11 +8,11 @@ ghost use Rattle.gb_node.specs.KeptAcks.{IsKept};
 
 use crate::packet::bare_packet;
 use crate::packet_text::PacketText;
-use gb_cap::hmac::{HmacKey, Key};
+use gb_cap::{HmacKey, Key};
+use gb_frame::Head;
 use gb_frame::limits::SHORTEST;
-use gb_frame::packet::Head;
+use gb_types::OutOfMemory;
 use gb_types::limits::NODES;
-use gb_types::memory::OutOfMemory;
 use std::alloc::Global;
 use std::marker::Model;
 

@@ -1,7 +1,6 @@
 //! What a node is started with.
-use gb_cap::hmac::Key;
-use gb_types::node::NodeId;
-use gb_types::version::Version;
+use gb_cap::Key;
+use gb_types::{NodeId, Version};
 
 /// What a node is started with.
 #[derive(Clone, Copy)]
@@ -15,8 +14,8 @@ pub struct NodePlan {
     pub silence: u16,
     /// How many rooms its tenants may reserve in all: 1,024 at most.
     pub places: u16,
-    /// The most bytes of the items of a packet; no more than a packet of the version has room for. An item that is longer than this is
-    /// sent all the same.
+    /// The maximum number of bytes of the items in a packet; no more than a packet of the version has room for. A packet whose first
+    /// item is longer may have as many bytes of items as the longest item of the version.
     pub room: u16,
     /// The key of the packets between the cluster's nodes.
     pub cluster_key: Key,

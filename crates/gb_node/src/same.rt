@@ -3,13 +3,7 @@ ghost use Rattle.std.specs.Prelude.{◌≡◌, ◌↔◌, IsTrue};
 
 use crate::answer::{Good, PacketAnswer, Sent, Ticked};
 use crate::packet_text::PacketText;
-use gb_types::address::Addr;
-use gb_types::entry::Entry;
-use gb_types::new_message::NewMessage;
-use gb_types::node::{NodeId, NodeSet};
-use gb_types::reply::Reply;
-use gb_types::request::Request;
-use gb_types::spec::Spec;
+use gb_types::{Addr, Entry, NewMessage, NodeId, NodeSet, Reply, Request, Spec};
 
 /// Returns true if the bytes are the same.
 pub(crate) fn same_text(first: &PacketText, second: &PacketText) -> bool

@@ -8,14 +8,10 @@ ghost use Rattle.gb_node.specs.NodeStep.{item_done, frame_done, without_done, it
 
 use crate::answer::Frame;
 use crate::window::Window;
-use gb_frame::item::ItemView;
-use gb_frame::view::{ItemViews, PacketView};
-use gb_link::receiver::{Admission, Receiver};
-use gb_table::table::Table;
-use gb_types::address::Addr;
-use gb_types::message::MsgId;
-use gb_types::node::{NodeId, NodeSet};
-use gb_types::version::Version;
+use gb_frame::{ItemView, ItemViews, PacketView};
+use gb_link::{Admission, Receiver};
+use gb_table::Table;
+use gb_types::{Addr, MsgId, NodeId, NodeSet, Version};
 
 /// Marks an item as acknowledged by the node `by`.
 fn finish_item(table: &mut Table, by: NodeId, item: ItemView<'_>)

@@ -11,11 +11,9 @@ ghost use Rattle.gb_table.specs.TableValue.{table_packed};
 ghost use Rattle.gb_node.specs.NodeStep.{batch_to};
 
 use gb_frame::laws::texts_tell_items;
-use gb_link::spaced::SpacedSender;
-use gb_table::table::Table;
-use gb_types::memory::OutOfMemory;
-use gb_types::node::NodeId;
-use gb_types::version::Version;
+use gb_link::SpacedSender;
+use gb_table::Table;
+use gb_types::{NodeId, OutOfMemory, Version};
 use std::alloc::Global;
 use std::marker::Model;
 

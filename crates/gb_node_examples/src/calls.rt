@@ -1,7 +1,7 @@
 // Sealed packets that no node sends.
 use crate::steps::{FIRST, GROUP, Line, SECOND, Step, Told, run};
-use gb_node::answer::Frame;
-use gb_types::kind::Kind;
+use gb_node::Frame;
+use gb_types::Kind;
 use std::rt::HostRuntime;
 use std::test::Fail;
 

@@ -1,18 +1,10 @@
 // The event of a step at a node.
 use crate::steps::{FIRST, LAST, SECOND, Step, THIRD, node};
 use crate::texts::{long_packet, packet};
-use gb_cap::hmac::Key;
-use gb_cap::token::{Need, Token, token};
-use gb_node::event::NodeEvent;
-use gb_node::packet_text::PacketText;
-use gb_types::address::Addr;
-use gb_types::kind::Kind;
-use gb_types::memory::OutOfMemory;
-use gb_types::new_message::NewMessage;
-use gb_types::node::NodeSet;
-use gb_types::payload::Payload;
-use gb_types::request::Request;
-use gb_types::spec::{Spec, TenantRow};
+use gb_cap::token::token;
+use gb_cap::{Key, Need, Token};
+use gb_node::{NodeEvent, PacketText};
+use gb_types::{Addr, Kind, NewMessage, NodeSet, OutOfMemory, Payload, Request, Spec, TenantRow};
 use std::alloc::Global;
 
 pub const ADMIN_KEY: Key = [1; 32];

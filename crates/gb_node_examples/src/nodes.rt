@@ -1,9 +1,7 @@
 // Frames, and what is not sent.
 use crate::steps::{FIRST, GROUP, Line, SECOND, Step, Told, run};
-use gb_node::answer::Frame;
-use gb_types::address::Addr;
-use gb_types::kind::Kind;
-use gb_types::refusal::Refusal;
+use gb_node::Frame;
+use gb_types::{Addr, Kind, Refusal};
 use std::rt::HostRuntime;
 use std::test::Fail;
 

@@ -1,11 +1,8 @@
 // A crash among three nodes. The second node relays, and is handed faulty texts before each step.
 use crate::steps::{FIRST, GROUP, Line, SECOND, Step, THIRD, Told, compare, holds, three};
 use crate::texts::disturb;
-use gb_node::answer::Frame;
-use gb_node::node::Node;
-use gb_node::packet_text::PacketText;
-use gb_types::kind::Kind;
-use gb_types::memory::OutOfMemory;
+use gb_node::{Frame, Node, PacketText};
+use gb_types::{Kind, OutOfMemory};
 use std::alloc::Global;
 use std::process::Abort;
 use std::rt::HostRuntime;

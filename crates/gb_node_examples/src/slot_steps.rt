@@ -1,12 +1,9 @@
 //! Calls of a slot with their expected answers.
 ghost use Rattle.gb_slot.specs.Effects.{AreReady};
 
-use gb_layer::effects::Effects;
-use gb_slot::slot::Slot;
-use gb_types::message::MsgId;
-use gb_types::node::NodeId;
-use gb_types::refusal::Refusal;
-use gb_types::version::Version;
+use gb_layer::Effects;
+use gb_slot::Slot;
+use gb_types::{MsgId, NodeId, Refusal, Version};
 use std::process::Abort;
 
 pub const ME: u8 = 1;

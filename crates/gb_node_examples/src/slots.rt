@@ -3,13 +3,9 @@ ghost use Rattle.std.specs.Prelude.{IfOk};
 ghost use Rattle.gb_slot.specs.Effects.{AreReady, IsEmpty};
 
 use crate::slot_steps::{FRIEND, ME, OTHER, STRANGER, Step, compare, node};
-use gb_layer::effects::Effects;
-use gb_slot::slot::Slot;
-use gb_types::kind::Kind;
-use gb_types::node::NodeSet;
-use gb_types::refusal::Refusal;
-use gb_types::spec::Spec;
-use gb_types::version::Version;
+use gb_layer::Effects;
+use gb_slot::Slot;
+use gb_types::{Kind, NodeSet, Refusal, Spec, Version};
 use std::alloc::Global;
 use std::process::Abort;
 use std::rt::HostRuntime;

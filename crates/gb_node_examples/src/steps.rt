@@ -4,18 +4,11 @@ ghost use Rattle.gb_types.specs.Version.{limits_of};
 
 use crate::events::{ADMIN_KEY, event};
 use crate::texts::CLUSTER_KEY;
-use gb_frame::fault::PacketFault;
-use gb_node::answer::{Frame, Good, Halted, NodeAnswer, PacketAnswer, Sent, Ticked};
-use gb_node::node::Node;
-use gb_node::packet_text::PacketText;
-use gb_node::plan::NodePlan;
-use gb_types::address::Addr;
-use gb_types::kind::Kind;
-use gb_types::memory::OutOfMemory;
-use gb_types::node::NodeId;
-use gb_types::refusal::Refusal;
-use gb_types::reply::Reply;
-use gb_types::version::Version;
+use gb_frame::PacketFault;
+use gb_node::{
+    Frame, Good, Halted, Node, NodeAnswer, NodePlan, PacketAnswer, PacketText, Sent, Ticked,
+};
+use gb_types::{Addr, Kind, NodeId, OutOfMemory, Refusal, Reply, Version};
 use std::alloc::Global;
 use std::process::Abort;
 

@@ -1,18 +1,12 @@
 //! The tenants and groups of a node, by requests with tokens.
 use crate::told::{Told, in_short};
-use gb_cap::hmac::Key;
-use gb_cap::token::{Need, Token, token};
-use gb_table::table::Table;
-use gb_types::address::Addr;
-use gb_types::kind::Kind;
-use gb_types::memory::OutOfMemory;
-use gb_types::new_message::NewMessage;
-use gb_types::node::{NodeId, NodeSet};
-use gb_types::payload::Payload;
-use gb_types::refusal::Refusal;
-use gb_types::request::Request;
-use gb_types::spec::{Spec, TenantRow};
-use gb_types::version::Version;
+use gb_cap::token::token;
+use gb_cap::{Key, Need, Token};
+use gb_table::Table;
+use gb_types::{
+    Addr, Kind, NewMessage, NodeId, NodeSet, OutOfMemory, Payload, Refusal, Request, Spec,
+    TenantRow, Version,
+};
 use std::alloc::Global;
 use std::process::Abort;
 use std::rt::HostRuntime;

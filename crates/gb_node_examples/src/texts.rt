@@ -1,11 +1,10 @@
 // Packets from the first node to the second that no node sent, and texts that are no packet for the second node.
 use crate::steps::SECOND;
-use gb_cap::hmac::{Key, hmac};
-use gb_frame::fault::PacketFault;
-use gb_node::answer::PacketAnswer;
-use gb_node::node::Node;
-use gb_node::packet_text::PacketText;
-use gb_types::memory::OutOfMemory;
+use gb_cap::Key;
+use gb_cap::hmac::hmac;
+use gb_frame::PacketFault;
+use gb_node::{Node, PacketAnswer, PacketText};
+use gb_types::OutOfMemory;
 use std::alloc::Global;
 use std::process::Abort;
 

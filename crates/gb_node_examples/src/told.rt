@@ -1,6 +1,5 @@
 //! Replies in short.
-use gb_types::refusal::Refusal;
-use gb_types::reply::Reply;
+use gb_types::{Refusal, Reply};
 
 #[derive(Clone, Copy, PartialEq)]
 pub enum Told {

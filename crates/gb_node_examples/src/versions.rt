@@ -2,12 +2,9 @@
 use crate::steps::{
     FIRST, GROUP, LAST, Line, SECOND, Step, Told, far, narrow, run, run_at, unlike,
 };
-use gb_frame::fault::PacketFault;
-use gb_node::answer::Frame;
-use gb_types::address::Addr;
-use gb_types::kind::Kind;
-use gb_types::refusal::Refusal;
-use gb_types::version::Version;
+use gb_frame::PacketFault;
+use gb_node::Frame;
+use gb_types::{Addr, Kind, Refusal, Version};
 use std::rt::HostRuntime;
 use std::test::Fail;
 

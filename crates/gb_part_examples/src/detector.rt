@@ -1,7 +1,7 @@
 //! The crash detector, tick by tick.
-use gb_detect::detector::Detector;
+use gb_detect::Detector;
 use gb_types::limits::NODES;
-use gb_types::node::{NodeId, NodeSet};
+use gb_types::{NodeId, NodeSet};
 use std::process::Abort;
 
 /// The node with this number, below 32.

@@ -2,16 +2,9 @@
 ghost use Rattle.std.specs.Prelude.{⊤};
 ghost use Rattle.gb_session.specs.Answering.{IsDenied};
 
-use gb_session::answers::{Answers, put_refusal};
-use gb_session::operation::Operation;
-use gb_session::session::Session;
-use gb_types::entry::{Entries, Entry};
-use gb_types::memory::OutOfMemory;
-use gb_types::node::NodeId;
-use gb_types::payload::Payload;
-use gb_types::refusal::Refusal;
-use gb_types::reply::Reply;
-use gb_types::request::Request;
+use gb_session::answers::put_refusal;
+use gb_session::{Answers, Operation, Session};
+use gb_types::{Entries, Entry, NodeId, OutOfMemory, Payload, Refusal, Reply, Request};
 use std::alloc::Global;
 use std::test::Fail;
 

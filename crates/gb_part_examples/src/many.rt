@@ -4,14 +4,9 @@ ghost use Rattle.gb_types.specs.declared.refusal.Refusal.TheVariants as refusals
 ghost use Rattle.gb_types.specs.declared.reply.Reply.TheVariants.{Refused};
 ghost use Rattle.gb_session.specs.Answering.{IsDenied};
 
-use gb_session::answers::{Answers, put_refusal};
-use gb_session::feed::Feed;
-use gb_session::operation::Operation;
-use gb_session::session::{Session, Step};
-use gb_types::memory::OutOfMemory;
-use gb_types::refusal::Refusal;
-use gb_types::reply::Reply;
-use gb_types::request::Request;
+use gb_session::answers::put_refusal;
+use gb_session::{Answers, Feed, Operation, Session, Step};
+use gb_types::{OutOfMemory, Refusal, Reply, Request};
 use std::alloc::Global;
 use std::test::Fail;
 

@@ -1,14 +1,10 @@
 //! Operations in a session: answered in turn between requests, by the texts of who answers.
 ghost use Rattle.std.specs.Prelude.{◌<◌};
 
-use gb_session::answers::Answers;
-use gb_session::operation::{Operating, Operation};
-use gb_session::serve::SessionEnd;
-use gb_session::session::{Session, Step};
-use gb_types::memory::{OutOfMemory, put_bytes};
+use gb_session::{Answers, Operating, Operation, Session, SessionEnd, Step};
+use gb_types::memory::put_bytes;
 use gb_types::number::put_number;
-use gb_types::reply::Reply;
-use gb_types::request::Request;
+use gb_types::{OutOfMemory, Reply, Request};
 use std::alloc::Global;
 use std::test::Fail;
 

@@ -1,11 +1,7 @@
 //! Worked ports.
-use gb_port::fail_at::FailAt;
 use gb_port::mesh::SLOTS;
-use gb_port::port::{Port, PortFault};
-use gb_port::ring::RingPort;
-use gb_port::udp::{BindFault, UdpPort};
-use gb_types::memory::OutOfMemory;
-use gb_types::node::NodeId;
+use gb_port::{BindFault, FailAt, Port, PortFault, RingPort, UdpPort};
+use gb_types::{NodeId, OutOfMemory};
 use std::alloc::Global;
 use std::process::Abort;
 use std::test::Fail;

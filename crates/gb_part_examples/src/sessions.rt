@@ -3,13 +3,10 @@ ghost use Rattle.std.specs.Prelude.{◌≡◌};
 ghost use Rattle.gb_types.specs.declared.refusal.Refusal.TheVariants as refusals;
 ghost use Rattle.gb_types.specs.declared.reply.Reply.TheVariants.{Refused};
 
-use gb_session::answers::{Answers, put_refusal};
-use gb_session::operation::Operation;
-use gb_session::serve::{SessionEnd, SessionFault, serve};
-use gb_types::memory::OutOfMemory;
-use gb_types::refusal::Refusal;
-use gb_types::reply::Reply;
-use gb_types::request::Request;
+use gb_session::answers::put_refusal;
+use gb_session::serve::serve;
+use gb_session::{Answers, Operation, SessionEnd, SessionFault};
+use gb_types::{OutOfMemory, Refusal, Reply, Request};
 use std::alloc::Global;
 use std::io::{ErrorKind, Read, Write};
 use std::test::Fail;

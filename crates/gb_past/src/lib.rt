@@ -9,3 +9,6 @@ pub mod past;
 pub mod story;
 #[cfg(test)]
 mod tests;
+
+pub use past::{Past, Seen};
+pub use story::{Story, Told};

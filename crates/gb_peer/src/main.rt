@@ -4,9 +4,8 @@
 
 use gb_peer_run::peer_main::peer_main;
 use gb_peer_words::words::{asked_text, refusal_text};
-use gb_server::fault::ServeFault;
-use gb_server::input::StandardInput;
 use gb_server::told::{status_of, tell, tell_end};
+use gb_server::{ServeFault, StandardInput};
 use std::alloc::{AllocError, Global};
 use std::io;
 use std::io::{ErrorKind, Write};

@@ -1,6 +1,7 @@
 // Marks of starts.
 use crate::folders::folder;
-use gb_peer_run::mark::{Marked, mark, mark_name};
+use gb_peer_run::Marked;
+use gb_peer_run::mark::{mark, mark_name};
 use std::fs;
 use std::os::unix::fs::PermissionsExt;
 use std::rt::HostRuntime;

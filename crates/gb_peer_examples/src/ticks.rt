@@ -2,7 +2,7 @@
 use crate::folders::{file, folder};
 use crate::refusals::KEYS;
 use gb_peer_run::peer_main::peer_main;
-use gb_server::input::Input;
+use gb_server::Input;
 use std::alloc::{AllocGlobal, Global};
 use std::fs::{File, Files};
 use std::io::{Read, Write};

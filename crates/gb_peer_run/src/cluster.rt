@@ -5,14 +5,16 @@ ghost use Rattle.gb_host.specs.Plans.{IsPlan};
 ghost use Rattle.gb_peer_run.specs.Peers.{ArePeerOptions, host_of};
 ghost use Rattle.gb_types.specs.declared.limits.TheConstants.{NODES};
 
-use gb_cluster_file::file::ClusterFile;
-use gb_host::plan::HostPlan;
-use gb_loop::options::LoopOptions;
-use gb_peer_words::plan::PeerPlan;
-use gb_server::keys::{Keys, run_key};
-use gb_server::serve_main::{FIRST, PLACES, beats_of};
+use gb_cluster_file::ClusterFile;
+use gb_host::HostPlan;
+use gb_loop::LoopOptions;
+use gb_peer_words::PeerPlan;
+use gb_rules::room::ROOMS;
+use gb_server::Keys;
+use gb_server::keys::run_key;
+use gb_server::serve_main::{FIRST, beats_of};
+use gb_types::Plan;
 use gb_types::limits::NODES;
-use gb_types::plan::Plan;
 
 /// How many nodes a cluster has.
 pub fn node_count(file: &ClusterFile) -> u8
@@ -35,7 +37,7 @@ pub fn host_plan(file: &ClusterFile, keys: Keys, records: bool) -> HostPlan
         nodes: node_count(file),
         versions: [file.version; NODES],
         silence: file.silence,
-        places: PLACES,
+        places: ROOMS,
         room: file.room,
         cluster_key: run_key(&keys.cluster, file.run),
         admin_key: keys.admin,

@@ -1,8 +1,7 @@
 //! Why a node does not serve to its end.
-use gb_serve_words::fault::WordFault;
-use gb_server::fault::ServeFault;
-use gb_server::run::RunFault;
-use gb_types::memory::OutOfMemory;
+use gb_serve_words::WordFault;
+use gb_server::{RunFault, ServeFault};
+use gb_types::OutOfMemory;
 use std::net::SocketAddr;
 use thiserror::Error;
 

@@ -5,11 +5,10 @@ ghost use Rattle.gb_peer_run.specs.Told.{fault_status};
 
 use crate::complaint::NAME;
 use crate::fault::PeerFault;
-use gb_cluster_file::fault::FileFault;
-use gb_cluster_file::file::ClusterFile;
 use gb_cluster_file::read::read_cluster;
 use gb_cluster_file::words::fault_text;
-use gb_server::fault::ServeFault;
+use gb_cluster_file::{ClusterFile, FileFault};
+use gb_server::ServeFault;
 use std::alloc::{AllocGlobal, Global};
 use std::fs::Files;
 use std::io::Write;

@@ -12,3 +12,5 @@ pub mod peer_main;
 pub mod places;
 pub mod sockets;
 pub mod told;
+
+pub use mark::Marked;

@@ -2,7 +2,8 @@
 ghost use Rattle.std.specs.Prelude.{◌≡◌, ◌++◌, OnOk, IfOk};
 ghost use Rattle.gb_peer_run.specs.Marks.{mark_name};
 
-use gb_types::memory::{OutOfMemory, put_bytes};
+use gb_types::OutOfMemory;
+use gb_types::memory::put_bytes;
 use gb_types::number::put_number;
 use std::alloc::Global;
 use std::fs::{Files, OpenFile, OpenOptions};

@@ -4,9 +4,8 @@ ghost use Rattle.std.specs.List.{All};
 ghost use Rattle.gb_peer_run.specs.Refused.{AreAlike, IsPlaceFault};
 
 use crate::fault::PeerFault;
-use gb_cluster_file::file::{ClusterFile, NodePlaces, Place};
-use gb_types::memory::OutOfMemory;
-use gb_types::node::NodeId;
+use gb_cluster_file::{ClusterFile, NodePlaces, Place};
+use gb_types::{NodeId, OutOfMemory};
 use std::alloc::Global;
 use std::net::{Net, SocketAddr, ToSocketAddrs};
 

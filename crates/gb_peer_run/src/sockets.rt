@@ -4,10 +4,10 @@ ghost use Rattle.gb_peer_run.specs.Told.{fault_status};
 
 use crate::fault::PeerFault;
 use crate::places::Places;
-use gb_port::udp::{BindFault, UdpPort};
-use gb_server::fault::ServeFault;
-use gb_server::sockets::{Sockets, listen};
-use gb_types::node::NodeId;
+use gb_port::{BindFault, UdpPort};
+use gb_server::sockets::listen;
+use gb_server::{ServeFault, Sockets};
+use gb_types::NodeId;
 use std::alloc::Global;
 use std::net::{Net, TcpListener, TcpStream};
 

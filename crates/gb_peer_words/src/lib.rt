@@ -4,3 +4,5 @@
 
 pub mod plan;
 pub mod words;
+
+pub use plan::{PeerPlan, PeerWords};

@@ -6,7 +6,7 @@ ghost use Rattle.gb_peer_words.specs.Words.{peer_app, IsGiven, IsPlanOf, IsReadO
 
 use crate::plan::{PeerPlan, PeerWords};
 use clap::{ArgMatches, Command};
-use gb_serve_words::fault::WordFault;
+use gb_serve_words::WordFault;
 use gb_serve_words::options::{
     CONNECTIONS, connections_arg, fault_from, flag_arg, idle_arg, number_arg, quiet_arg,
     record_arg, requests_arg, sessions_arg, status_arg, status_of, status_refusal, stop_arg,

@@ -5,8 +5,7 @@ ghost use Rattle.gb_port.specs.UdpPorts.{AreLoopback, IsLoopback, IsSamePort};
 
 use crate::port::{Port, PortFault, failed};
 use gb_types::limits::{NODES, PACKET};
-use gb_types::memory::OutOfMemory;
-use gb_types::node::NodeId;
+use gb_types::{NodeId, OutOfMemory};
 use std::alloc::{AllocError, Global};
 use std::io;
 use std::io::ErrorKind;

@@ -3,13 +3,12 @@ ghost use Rattle.std.specs.Prelude.{◌≡◌, ◌++◌, ◌∷◌, [], OnOk};
 ghost use Rattle.gb_record.specs.Gathered.{IsGathered};
 ghost use Rattle.gb_record_text.specs.RecordText.{entry_line};
 
-use gb_host::names::Tapes;
 use gb_host::outlet::WAITING;
-use gb_host::recorder::{Recorder, Taken};
-use gb_node::tape::TapeEntry;
+use gb_host::{Recorder, Taken, Tapes};
+use gb_node::TapeEntry;
 use gb_record_text::writing::put_entry;
-use gb_types::memory::{OutOfMemory, put_bytes};
-use gb_types::node::NodeId;
+use gb_types::memory::put_bytes;
+use gb_types::{NodeId, OutOfMemory};
 
 // Appends the line of an entry.
 fn put_line(lines: &mut Vec<u8>, node: NodeId, entry: &TapeEntry) -> Result<(), OutOfMemory>

@@ -9,3 +9,8 @@ pub mod name;
 pub mod recording;
 pub mod shared;
 pub mod written_first;
+
+pub use name::RecordName;
+pub use recording::Recording;
+pub use shared::SharedRecording;
+pub use written_first::WrittenFirst;

@@ -5,8 +5,7 @@ ghost use Rattle.gb_record.specs.Recorded.{is_sent};
 
 use crate::name::RecordName;
 use crate::recording::Recording;
-use gb_host::names::Tapes;
-use gb_host::pasts::NodeSeen;
+use gb_host::{NodeSeen, Tapes};
 use std::cell::RefCell;
 use std::io::Write;
 

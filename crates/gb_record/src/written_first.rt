@@ -5,10 +5,9 @@ ghost use Rattle.gb_record.specs.Recorded.{is_sent};
 
 use crate::name::RecordName;
 use crate::shared::SharedRecording;
-use gb_host::names::Tapes;
-use gb_host::pasts::NodeSeen;
-use gb_port::port::{Port, PortFault};
-use gb_types::node::NodeId;
+use gb_host::{NodeSeen, Tapes};
+use gb_port::{Port, PortFault};
+use gb_types::NodeId;
 use std::io::Write;
 
 /// A port round a node's port. Before a packet is handed on, all that was noted at the node is written; a packet that no entry sent

@@ -1,11 +1,7 @@
 //! A writer that keeps its text, a server that answers nothing, and a record that can be kept a number of times.
-use gb_loop::settle::Settle;
-use gb_session::answers::Answers;
-use gb_session::operation::Operation;
-use gb_types::memory::OutOfMemory;
-use gb_types::refusal::Refusal;
-use gb_types::reply::Reply;
-use gb_types::request::Request;
+use gb_loop::Settle;
+use gb_session::{Answers, Operation};
+use gb_types::{OutOfMemory, Refusal, Reply, Request};
 use std::alloc::Global;
 use std::cell::{Cell, RefCell};
 use std::io;

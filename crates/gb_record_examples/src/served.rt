@@ -1,10 +1,10 @@
 // Servers that keep records, and what an audit says of these.
-use gb_audit_run::audit::{Source, Verdict, audit};
-use gb_audit_run::cluster::ClusterKeys;
+use gb_audit_run::audit::audit;
+use gb_audit_run::{ClusterKeys, Source, Verdict};
 use gb_server::keys::run_key;
 use gb_server::record_file::record_name;
 use gb_server::serve_main::serve_main;
-use gb_types::node::NodeId;
+use gb_types::NodeId;
 use std::alloc::{AllocGlobal, Global};
 use std::fs::{File, Files};
 use std::io::{Read, Write};

@@ -1,6 +1,6 @@
 // A client whose replies may leave only once what happened is kept.
 use crate::desk::{Asked, Desk, Nobody, Pen};
-use gb_loop::client::{Client, Turn, Way};
+use gb_loop::{Client, Turn, Way};
 use std::alloc::Global;
 use std::cell::Cell;
 use std::rt::HostRuntime;

@@ -4,11 +4,10 @@ ghost use Rattle.gb_record_text.specs.RecordText.{head_line};
 
 use crate::reading::read_node;
 use crate::writing::put_after;
-use gb_types::memory::{OutOfMemory, put_bytes};
-use gb_types::node::NodeId;
+use gb_types::memory::put_bytes;
 use gb_types::request_words::read_u16;
-use gb_types::version::Version;
 use gb_types::words::split_words;
+use gb_types::{NodeId, OutOfMemory, Version};
 use std::alloc::Global;
 
 /// What a record says of its node and its cluster.

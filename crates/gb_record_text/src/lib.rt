@@ -8,3 +8,7 @@ pub mod reader;
 pub mod reading;
 pub mod record;
 pub mod writing;
+
+pub use head::RecordHead;
+pub use reader::{ReadFault, Record};
+pub use record::WriteFault;

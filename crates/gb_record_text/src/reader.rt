@@ -4,8 +4,8 @@ ghost use Rattle.gb_record_text.specs.Records.{IsRecord};
 
 use crate::head::{RecordHead, read_head};
 use crate::reading::read_entry;
-use gb_node::tape::TapeEntry;
-use gb_types::memory::OutOfMemory;
+use gb_node::TapeEntry;
+use gb_types::OutOfMemory;
 use std::alloc::{AllocFailed, Global};
 
 /// A record that was read.

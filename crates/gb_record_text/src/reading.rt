@@ -3,26 +3,20 @@ ghost use Rattle.std.specs.Prelude.{◌≡◌, IfOk, IfSome};
 ghost use Rattle.gb_record_text.specs.RecordText.{entry_line};
 
 use crate::writing::put_entry;
-use gb_frame::fault::PacketFault;
-use gb_node::answer::{Frame, Good, Halted, NodeAnswer, PacketAnswer, Sent, Ticked};
-use gb_node::event::NodeEvent;
-use gb_node::packet_text::PacketText;
-use gb_node::tape::TapeEntry;
-use gb_types::address::Addr;
-use gb_types::entry::{Entries, Entry};
-use gb_types::memory::OutOfMemory;
-use gb_types::node::{NodeId, NodeSet};
+use gb_frame::PacketFault;
+use gb_node::{
+    Frame, Good, Halted, NodeAnswer, NodeEvent, PacketAnswer, PacketText, Sent, TapeEntry, Ticked,
+};
 use gb_types::number::read_number;
 use gb_types::payload_word::read_payload;
-use gb_types::refusal::Refusal;
-use gb_types::reply::Reply;
-use gb_types::request::Request;
 use gb_types::request_words::{
     read_address, read_limits, read_message, read_spec, read_u16, read_u32,
 };
-use gb_types::spec::TenantRow;
 use gb_types::token_word::read_token;
 use gb_types::words::split_words;
+use gb_types::{
+    Addr, Entries, Entry, NodeId, NodeSet, OutOfMemory, Refusal, Reply, Request, TenantRow,
+};
 use std::alloc::Global;
 
 /// A line that was read: an entry of a node's tape.

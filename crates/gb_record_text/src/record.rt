@@ -5,9 +5,9 @@ ghost use Rattle.gb_record_text.specs.RecordText.{entry_lines, record_text};
 
 use crate::head::{RecordHead, put_head};
 use crate::writing::put_entry;
-use gb_node::tape::TapeEntry;
-use gb_types::memory::{OutOfMemory, put_bytes};
-use gb_types::node::NodeId;
+use gb_node::TapeEntry;
+use gb_types::memory::put_bytes;
+use gb_types::{NodeId, OutOfMemory};
 use std::alloc::Global;
 use std::io::Write;
 use thiserror::Error;

@@ -6,20 +6,14 @@ ghost use Rattle.gb_types.specs.RequestWords.{group_word};
 ghost use Rattle.gb_types.specs.Rising.{rising, rising_from};
 ghost use Rattle.gb_record_text.specs.RecordText.{after_space, address_text, token_text, limits_text, row_text, spec_text, message_text, each_after_comma, request_text, event_text, taken_text, sent_text, answer_text, entry_line};
 
-use gb_node::answer::{NodeAnswer, PacketAnswer, Sent};
-use gb_node::event::NodeEvent;
-use gb_node::tape::TapeEntry;
+use gb_node::{NodeAnswer, NodeEvent, PacketAnswer, Sent, TapeEntry};
 use gb_simulate::answer_text::{put_halted, put_packet, put_refusal, put_ticked};
-use gb_types::address::Addr;
 use gb_types::kind_word::word_of;
-use gb_types::memory::{OutOfMemory, put_bytes};
-use gb_types::new_message::NewMessage;
-use gb_types::node::{NodeId, NodeSet};
+use gb_types::memory::put_bytes;
 use gb_types::number::put_number;
 use gb_types::payload_word::put_payload;
 use gb_types::reply_text::put_reply;
-use gb_types::request::Request;
-use gb_types::spec::{Spec, TenantRow};
+use gb_types::{Addr, NewMessage, NodeId, NodeSet, OutOfMemory, Request, Spec, TenantRow};
 
 /// Appends bytes.
 fn put(out: &mut Vec<u8>, bytes: &[u8]) -> Result<(), OutOfMemory>

@@ -7,3 +7,6 @@
 
 pub mod record;
 pub mod records;
+
+pub use record::Record;
+pub use records::Records;

@@ -1,6 +1,5 @@
 //! The record of one message in a stack.
-use gb_types::message::MsgId;
-use gb_types::node::NodeSet;
+use gb_types::{MsgId, NodeSet};
 
 /// A message, the nodes that hold it as far as this node knows, whether it was sent from here, whether the broadcast brought it up,
 /// and whether the order handed it up.

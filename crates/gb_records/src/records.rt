@@ -11,12 +11,10 @@ ghost use Rattle.gb_fifo.specs.Entries.{given_of, is_next, next_of, pick, give, 
 ghost use Rattle.gb_records.specs.Records.{keys, is_for, noted, is_ungiven, relay_entry, relay_entries, order_entry, order_entries};
 
 use crate::record::Record;
-use gb_layer::effects::Up;
-use gb_layer::table::{Table, place};
+use gb_layer::table::place;
+use gb_layer::{Table, Up};
 use gb_types::limits::NODES;
-use gb_types::memory::OutOfMemory;
-use gb_types::message::MsgId;
-use gb_types::node::{NodeId, NodeSet};
+use gb_types::{MsgId, NodeId, NodeSet, OutOfMemory};
 use std::alloc::Global;
 
 /// Returns true if the broadcast brought the message up, and the order has not handed it up.

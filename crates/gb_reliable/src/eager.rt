@@ -2,10 +2,8 @@
 ghost use Rattle.gb_reliable.specs.Rules.{eager_rules};
 ghost use Rattle.gb_reliable.specs.EagerLemmas.{eager_more, eager_delivers_more, eager_own};
 
-use gb_layer::relay::Relay;
-use gb_layer::rule::Rule;
-use gb_types::message::MsgId;
-use gb_types::node::{NodeId, NodeSet};
+use gb_layer::{Relay, Rule};
+use gb_types::{MsgId, NodeId, NodeSet};
 
 /// The rule of eager reliable broadcast: a message is broadcast and delivered as soon as it is here.
 #[derive(Clone, Copy, Drop)]

@@ -2,10 +2,8 @@
 ghost use Rattle.gb_reliable.specs.Rules.{lazy_rules};
 ghost use Rattle.gb_reliable.specs.LazyLemmas.{lazy_more, lazy_delivers_more, lazy_own};
 
-use gb_layer::relay::Relay;
-use gb_layer::rule::Rule;
-use gb_types::message::MsgId;
-use gb_types::node::{NodeId, NodeSet};
+use gb_layer::{Relay, Rule};
+use gb_types::{MsgId, NodeId, NodeSet};
 
 /// The rule of lazy reliable broadcast. A message is broadcast if it is the node's own or its origin was noticed. It is delivered
 /// as soon as it is here.

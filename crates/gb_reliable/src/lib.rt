@@ -6,3 +6,6 @@
 pub mod eager;
 pub mod lazy;
 pub mod modules;
+
+pub use eager::Eagerly;
+pub use lazy::Lazily;

@@ -11,9 +11,7 @@ ghost use Rattle.gb_layer.specs.Rule.{Nodes};
 
 use crate::eager::Eagerly;
 use crate::lazy::Lazily;
-use gb_layer::beb::Beb;
-use gb_layer::layer::Layer;
-use gb_layer::relay::Relay;
+use gb_layer::{Beb, Layer, Relay};
 
 /// `Lazy` over `Beb` at the node `me`, in a group with these members, is lazy reliable broadcast. Over every lawful history, what a
 /// call hands up is what the module delivers, what it sends is what the module broadcasts, and all that came up is the log.

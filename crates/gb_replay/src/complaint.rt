@@ -3,7 +3,8 @@ ghost use Rattle.std.specs.Prelude.{◌≡◌, ◌++◌, OnOk};
 ghost use Rattle.gb_replay.specs.Complaint.{complaint};
 
 use crate::replay::ReplayFault;
-use gb_types::memory::{OutOfMemory, put_bytes};
+use gb_types::OutOfMemory;
+use gb_types::memory::put_bytes;
 use gb_types::number::put_number;
 
 /// Appends the line of a fault.

@@ -6,3 +6,5 @@ pub mod difference;
 pub mod lines;
 pub mod replay;
 pub mod steps;
+
+pub use replay::ReplayFault;

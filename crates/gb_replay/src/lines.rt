@@ -5,16 +5,13 @@ ghost use Rattle.gb_schedule.specs.Versions.{versions_word};
 ghost use Rattle.gb_record_text.specs.RecordText.{after_space, each_after_comma, token_text};
 ghost use Rattle.gb_replay.specs.ScheduleText.{request_line, key_text, secret_text, event_line, line_of, first_line, version_byte};
 
-use gb_cluster::event::Event;
-use gb_node::event::NodeEvent;
+use gb_cluster::Event;
+use gb_node::NodeEvent;
 use gb_record_text::writing::{put_event, put_request};
-use gb_types::memory::{OutOfMemory, put_bytes};
-use gb_types::node::NodeId;
+use gb_types::memory::put_bytes;
 use gb_types::number::put_number;
 use gb_types::payload_word::put_payload;
-use gb_types::plan::Plan;
-use gb_types::request::Request;
-use gb_types::version::Version;
+use gb_types::{NodeId, OutOfMemory, Plan, Request, Version};
 
 // Appends a number after a space.
 fn put_after(out: &mut Vec<u8>, number: u64) -> Result<(), OutOfMemory>

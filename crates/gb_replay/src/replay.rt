@@ -7,18 +7,13 @@ ghost use Rattle.gb_replay.specs.Replay.{IsReplay, IsReplayFault, IsOtherFault};
 
 use crate::difference::first_difference;
 use crate::steps::{Replay, StepFault, schedule_of};
-use gb_cluster::event::Event;
+use gb_cluster::Event;
+use gb_rules::room::ROOMS;
+use gb_simulate::SimEnd;
 use gb_simulate::obey::LINES;
-use gb_simulate::outcome::SimEnd;
 use gb_simulate::simulate::simulate;
-use gb_types::memory::OutOfMemory;
-use gb_types::plan::Plan;
+use gb_types::{OutOfMemory, Plan};
 use std::alloc::Global;
-
-/// How many groups the tenants of a node of gb_sim may make in all.
-pub const PLACES: u16 = 1_024;
-
-const _: () = prove!(PLACES == 1_024);
 
 /// Why a run is no schedule for gb_sim.
 #[derive(Clone, Copy, Debug, PartialEq, Eq)]
@@ -88,7 +83,7 @@ pub fn replay(alloc: Global, plan: &Plan, events: &[Event]) -> Result<Replay, Re
     ensures simulated { IfOk result (λ text. IsText text.schedule.items text.answers.items Ends.All) }
     ensures err { IfErr result (IsReplayFault plan.now events.now) }
 {
-    if plan.places != PLACES {
+    if plan.places != ROOMS {
         return Err(ReplayFault::Places);
     }
     if events.len() as u64 >= LINES {

@@ -9,16 +9,11 @@ ghost use Rattle.gb_replay.specs.ScheduleText.{first_line, is_left_out, step_lin
 ghost use Rattle.gb_replay.specs.Replay.{IsReplay, TakesStep};
 
 use crate::lines::{put_first_line, put_line};
-use gb_cluster::answer::{Answer, Sending};
-use gb_cluster::cluster::Cluster;
-use gb_cluster::event::Event;
-use gb_node::answer::{Halted, PacketAnswer, Ticked};
-use gb_node::event::NodeEvent;
+use gb_cluster::{Answer, Cluster, Event, Sending};
+use gb_node::{Halted, NodeEvent, PacketAnswer, Ticked};
 use gb_simulate::answer_text::{put_answer, put_started};
-use gb_types::memory::{OutOfMemory, put_bytes};
-use gb_types::plan::Plan;
-use gb_types::refusal::Refusal;
-use gb_types::reply::Reply;
+use gb_types::memory::put_bytes;
+use gb_types::{OutOfMemory, Plan, Refusal, Reply};
 use std::alloc::Global;
 
 /// A schedule, and the text of its answers.

@@ -2,7 +2,7 @@
 ghost use Rattle.std.specs.Prelude.{◌≡◌};
 ghost use Rattle.gb_rules.specs.Address.{is_addr};
 
-use gb_types::address::Addr;
+use gb_types::Addr;
 
 /// Returns true if both addresses are the same.
 pub fn is_same(addr: Addr, other: Addr) -> bool

@@ -7,9 +7,7 @@ ghost use Rattle.gb_rules.specs.Replied.{done_reply};
 use crate::phase::Phase;
 use crate::usage::Usage;
 use gb_types::limits::FETCH;
-use gb_types::refusal::Refusal;
-use gb_types::spec::Spec;
-use gb_types::version::Version;
+use gb_types::{Refusal, Spec, Version};
 
 /// Returns Ok if a group in this phase may be opened. WrongPhase if it was opened before.
 pub fn check_open(phase: Phase) -> Result<(), Refusal>

@@ -2,9 +2,7 @@
 ghost use Rattle.std.specs.Prelude.{◌≡◌, []};
 ghost use Rattle.gb_rules.specs.LetFall.{is_let_fall};
 
-use gb_types::message::MsgId;
-use gb_types::node::NodeId;
-use gb_types::spec::Spec;
+use gb_types::{MsgId, NodeId, Spec};
 
 /// Returns true if an item that came from a node is let fall. `before` says that the same item came from it before, `known` that
 /// the message is known here. `seen` is the number of payload bytes of its origin that came here.

@@ -13,3 +13,7 @@ pub mod reserve;
 pub mod room;
 pub mod tenant;
 pub mod usage;
+
+pub use phase::Phase;
+pub use reserve::Reserve;
+pub use usage::Usage;

@@ -2,7 +2,7 @@
 ghost use Rattle.std.specs.Prelude.{◌≡◌};
 ghost use Rattle.gb_rules.specs.Tenant.{reserve_of};
 
-use gb_types::spec::TenantRow;
+use gb_types::TenantRow;
 
 /// The limits of a tenant for each of its groups: its row without tenant and key.
 #[derive(Clone, Copy)]

@@ -3,9 +3,8 @@ ghost use Rattle.std.specs.Prelude.{◌≡◌};
 ghost use Rattle.gb_rules.specs.Room.{name_of, is_same_room, is_reached_by, is_other_generation, can_name};
 
 use crate::address::is_same;
-use gb_types::address::Addr;
 use gb_types::limits::PLACES;
-use gb_types::version::Version;
+use gb_types::{Addr, Version};
 
 /// The maximum number of generations of one room that live at a node.
 pub const GENERATIONS: usize = 4;
@@ -13,7 +12,8 @@ pub const GENERATIONS: usize = 4;
 /// The maximum number of rooms that all tenants of a node reserve. Each room has a place for each generation that may live.
 pub const ROOMS: u16 = 1_024;
 
-const _: () = prove!(ROOMS as usize * GENERATIONS == PLACES as usize);
+// Definitions cite this value.
+const _: () = prove!(ROOMS == 1_024 && ROOMS as usize * GENERATIONS == PLACES as usize);
 
 /// Returns the address of the first generation of a group's room, which stands for the room.
 pub fn name_of(addr: Addr) -> Addr

@@ -4,13 +4,8 @@ ghost use Rattle.gb_rules.specs.Tenant.{is_over_limits, tenant_answer, is_bad, i
 
 use crate::reserve::Reserve;
 use crate::room::{GENERATIONS, can_name};
-use gb_types::address::Addr;
 use gb_types::limits::{BYTES, GROUPS, MESSAGES, WINDOW};
-use gb_types::node::NodeId;
-use gb_types::refusal::Refusal;
-use gb_types::reply::Reply;
-use gb_types::spec::{Spec, TenantRow};
-use gb_types::version::Version;
+use gb_types::{Addr, NodeId, Refusal, Reply, Spec, TenantRow, Version};
 
 /// Returns true if a row asks for more than the service allows.
 pub fn is_over_limits(row: &TenantRow) -> bool

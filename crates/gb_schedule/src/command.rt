@@ -1,10 +1,6 @@
 //! What a line of a schedule asks for.
-use gb_types::address::Addr;
 use gb_types::limits::NODES;
-use gb_types::node::NodeId;
-use gb_types::payload::Payload;
-use gb_types::request::Request;
-use gb_types::version::Version;
+use gb_types::{Addr, NodeId, Payload, Request, Version};
 
 /// What a line asks for by a head and numbers alone: a fetch, and all that is asked of links, time and a node's end.
 #[derive(Clone, Copy)]

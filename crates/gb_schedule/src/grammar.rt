@@ -19,21 +19,14 @@ use crate::head::{Head, read_head};
 use crate::keys::{Keys, NO_TOKEN, tenant_key};
 use crate::versions::read_versions;
 use crate::words::{WORDS, cut_word, last_number_at, number_at, numbers_in, words_in};
-use gb_cap::token::Token;
-use gb_types::address::Addr;
+use gb_cap::Token;
 use gb_types::limits::{NODES, SILENCE_MAX, SILENCE_MIN};
-use gb_types::memory::OutOfMemory;
-use gb_types::new_message::NewMessage;
-use gb_types::node::NodeId;
 use gb_types::number::read_number;
-use gb_types::payload::Payload;
 use gb_types::payload_word::read_payload;
-use gb_types::request::Request;
 use gb_types::request_words::{
     read_address, read_limits, read_message, read_spec, read_u16, read_u32,
 };
-use gb_types::spec::TenantRow;
-use gb_types::version::Version;
+use gb_types::{Addr, NewMessage, NodeId, OutOfMemory, Payload, Request, TenantRow, Version};
 use std::alloc::Global;
 
 // The largest numbers of 16 and of 32 bits.

@@ -3,11 +3,9 @@ ghost use Rattle.std.specs.Prelude.{◌≡◌, IfSome};
 ghost use Rattle.gb_cap.specs.Token.{token_of};
 ghost use Rattle.gb_schedule.specs.Keys.{tenant_key, admin_token, tenant_token, member_token, IsMemberToken, AreRecentTokens};
 
-use gb_cap::hmac::{HmacKey, Key};
-use gb_cap::token::{Need, Token};
-use gb_types::address::{Addr, TenantId};
+use gb_cap::{HmacKey, Key, Need, Token};
 use gb_types::limits::NODES;
-use gb_types::node::NodeId;
+use gb_types::{Addr, NodeId, TenantId};
 use indexmap::IndexMap;
 use std::alloc::Global;
 use std::marker::Model;

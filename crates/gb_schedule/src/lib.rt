@@ -8,3 +8,6 @@ pub mod head;
 pub mod keys;
 mod versions;
 mod words;
+
+pub use command::{ClusterStart, Command, Step};
+pub use keys::Keys;

@@ -3,10 +3,9 @@
 #![tactic(auto)]
 
 use gb_serve_words::words::{asked_text, refusal_text};
-use gb_server::fault::ServeFault;
-use gb_server::input::StandardInput;
 use gb_server::serve_main::serve_main;
 use gb_server::told::{status_of, tell, tell_end};
+use gb_server::{ServeFault, StandardInput};
 use std::alloc::{AllocError, Global};
 use std::io;
 use std::io::{ErrorKind, Write};

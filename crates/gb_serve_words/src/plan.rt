@@ -1,5 +1,5 @@
 //! What a server is told to do.
-use gb_types::version::Version;
+use gb_types::Version;
 use std::net::SocketAddr;
 
 /// What the words of a command line tell a server to do.

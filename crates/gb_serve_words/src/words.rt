@@ -11,8 +11,8 @@ use crate::options::{
 };
 use crate::plan::{ServePlan, ServeWords};
 use clap::{ArgMatches, Command};
+use gb_types::Version;
 use gb_types::limits::NODES;
-use gb_types::version::Version;
 use std::alloc::{AllocError, Global};
 
 /// The silence of a cluster in ticks, if the words give none.

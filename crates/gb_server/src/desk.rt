@@ -2,7 +2,7 @@
 use crate::server_log::ServerLog;
 use crate::signals::Signals;
 use crate::status::StatusServer;
-use gb_loop::node_loop::Ending;
+use gb_loop::Ending;
 use std::io::Write;
 use std::time::Clock;
 

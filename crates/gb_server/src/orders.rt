@@ -6,7 +6,7 @@ ghost use Rattle.gb_server.specs.Keys.{is_stop};
 use crate::input::Input;
 use crate::keys::{characters, has_feed, read_more};
 use crate::signals::{Signals, Why};
-use gb_loop::node_loop::Ending;
+use gb_loop::Ending;
 use std::io::Read;
 use std::sync::Wait;
 use std::thread;

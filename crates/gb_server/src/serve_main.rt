@@ -23,17 +23,14 @@ use crate::server_log::begin_front;
 use crate::sockets::{Sockets, open_sockets, open_status};
 use crate::told::{serving_line, status_of, tell_end};
 use gb_host::here::all_nodes;
-use gb_host::host::Host;
-use gb_host::names::Tapes;
-use gb_host::pasts::{NodePast, new_pasts};
-use gb_host::plan::HostPlan;
-use gb_loop::options::LoopOptions;
-use gb_serve_words::plan::{ServePlan, ServeWords};
+use gb_host::pasts::new_pasts;
+use gb_host::{Host, HostPlan, NodePast, Tapes};
+use gb_loop::LoopOptions;
+use gb_rules::room::ROOMS;
 use gb_serve_words::words::read_words;
+use gb_serve_words::{ServePlan, ServeWords};
 use gb_types::limits::NODES;
-use gb_types::memory::OutOfMemory;
-use gb_types::node::NodeId;
-use gb_types::plan::Plan;
+use gb_types::{NodeId, OutOfMemory, Plan};
 use gb_version::VERSION;
 use std::alloc::Global;
 use std::fs::{File, Files};
@@ -43,12 +40,6 @@ use std::net::{Net, TcpListener, TcpStream};
 use std::sync::Wait;
 use std::thread::Threads;
 use std::time::Clock;
-
-/// How many groups the tenants of a node may reserve in all.
-pub const PLACES: u16 = 1_024;
-
-// Definitions cite this value.
-const _: () = prove!(PLACES == 1_024);
 
 /// The most bytes of the items of a packet between nodes of one machine: those that a packet of any version has room for.
 const ROOM: u16 = 16_345;
@@ -65,7 +56,7 @@ fn host_plan(plan: ServePlan, keys: Keys, run: u64) -> HostPlan
         nodes: plan.nodes,
         versions: [plan.version; NODES],
         silence: plan.silence,
-        places: PLACES,
+        places: ROOMS,
         room: ROOM,
         cluster_key,
         admin_key,

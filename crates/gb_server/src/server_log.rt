@@ -5,12 +5,12 @@ ghost use Rattle.std.specs.Net.Text.{socket_text};
 
 use crate::signals::{Signals, Why};
 use crate::told::tell;
-use gb_loop::node_loop::Ending;
-use gb_status::board::Board;
-use gb_status::news::{Told, put_news};
-use gb_types::memory::{OutOfMemory, put_bytes};
-use gb_types::node::NodeId;
+use gb_loop::Ending;
+use gb_status::news::put_news;
+use gb_status::{Board, Told};
+use gb_types::memory::put_bytes;
 use gb_types::number::put_number;
+use gb_types::{NodeId, OutOfMemory};
 use std::alloc::Global;
 use std::io::Write;
 use std::net::SocketAddr;

@@ -1,9 +1,7 @@
 //! What the threads of a server tell one another.
-use gb_loop::node_loop::Ending;
-use gb_status::board::Board;
-use gb_status::figures::Figures;
-use gb_types::memory::OutOfMemory;
-use gb_types::node::{NodeId, NodeSet};
+use gb_loop::Ending;
+use gb_status::{Board, Figures};
+use gb_types::{NodeId, NodeSet, OutOfMemory};
 use std::alloc::Global;
 use std::sync::atomic::{AtomicBool, AtomicU64, Ordering};
 

@@ -1,8 +1,9 @@
 //! Who asks for the status of a server by HTTP, and how they are answered: a thread looks at them now and then, and waits for none.
-use gb_loop::clock::LoopClock;
-use gb_status::board::Board;
+use gb_loop::LoopClock;
+use gb_status::Board;
 use gb_status::http::{all_run, reply};
-use gb_types::memory::{OutOfMemory, put_bytes};
+use gb_types::OutOfMemory;
+use gb_types::memory::put_bytes;
 use std::alloc::Global;
 use std::io::{ErrorKind, Read, Write};
 use std::net::{Shutdown, SocketAddr, TcpListener, TcpStream};

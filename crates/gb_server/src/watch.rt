@@ -9,7 +9,7 @@ use crate::input::Input;
 use crate::orders::heed;
 use crate::signals::{Signals, Why};
 use crate::told::tell;
-use gb_loop::node_loop::Ending;
+use gb_loop::Ending;
 use std::io::Write;
 use std::sync::Wait;
 use std::thread;

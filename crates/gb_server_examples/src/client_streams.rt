@@ -1,6 +1,6 @@
 // Readers, writers and gates of clients.
 use crate::messages::{DENIED, OPEN};
-use gb_host::gate::Gate;
+use gb_host::Gate;
 use std::io::{ErrorKind, Read, Write};
 use std::sync::atomic::{AtomicU64, Ordering};
 use std::time::{Clock, Duration};

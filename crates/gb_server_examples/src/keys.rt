@@ -1,5 +1,6 @@
 //! Worked texts of keys, read in pieces and by readers that fail.
-use gb_server::keys::{KeyFault, Keys, read_keys, run_key};
+use gb_server::keys::{read_keys, run_key};
+use gb_server::{KeyFault, Keys};
 use gb_types::token_word::read_token;
 use std::alloc::Global;
 use std::io::{ErrorKind, Read};

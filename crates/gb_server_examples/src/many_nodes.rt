@@ -2,9 +2,9 @@
 use crate::chat::{Member, gives, joined, reply};
 use crate::messages::{DENIED, OPEN};
 use crate::served::{KEYS, is_told, prints};
-use gb_client::fault::ClientFault;
-use gb_session::head::Head;
-use gb_types::node::NodeId;
+use gb_client::ClientFault;
+use gb_session::Head;
+use gb_types::NodeId;
 use std::alloc::Global;
 use std::net::{Net, TcpStream};
 use std::rt::HostRuntime;

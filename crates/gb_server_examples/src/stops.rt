@@ -2,13 +2,11 @@
 use crate::messages::{DENIED, OPEN};
 use crate::served::{KEYS, RUN, Run, is_told, run_of};
 use gb_server::crew::keep;
-use gb_server::input::Input;
-use gb_server::orders::{Heard, KEPT, hear};
+use gb_server::orders::{KEPT, hear};
 use gb_server::serve_main::serve_main;
-use gb_server::signals::{Signals, Why};
 use gb_server::watch::watch;
-use gb_types::memory::OutOfMemory;
-use gb_types::node::NodeId;
+use gb_server::{Heard, Input, Signals, Why};
+use gb_types::{NodeId, OutOfMemory};
 use std::alloc::Global;
 use std::fs::{File, Files};
 use std::io::Read;

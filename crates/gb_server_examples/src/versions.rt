@@ -1,9 +1,9 @@
 // The version in a server's words reaches its nodes: it limits the length of a message there.
 use crate::chat::{gives, joined};
 use crate::served::{KEYS, prints};
-use gb_client::fault::ClientFault;
-use gb_session::head::Head;
-use gb_types::node::NodeId;
+use gb_client::ClientFault;
+use gb_session::Head;
+use gb_types::NodeId;
 use std::alloc::{AllocError, Global};
 use std::net::{Net, TcpStream};
 use std::rt::HostRuntime;

@@ -14,3 +14,11 @@ pub mod messages;
 pub mod operation;
 pub mod serve;
 pub mod session;
+
+pub use answers::Answers;
+pub use ask::{Ask, Awaited};
+pub use feed::Feed;
+pub use head::Head;
+pub use operation::{Operating, Operation};
+pub use serve::{SessionEnd, SessionFault};
+pub use session::{Session, Step};

@@ -5,7 +5,7 @@ ghost use Rattle.gb_session.specs.declared.operation.Operation.{Operation as The
 ghost use Rattle.gb_session.specs.Operations.{IsOperating, IsOperationText};
 
 use crate::grammar::BODY;
-use gb_types::memory::OutOfMemory;
+use gb_types::OutOfMemory;
 use gb_types::request_words::read_u32;
 use gb_types::token_word::read_token;
 use gb_types::words::split_words;

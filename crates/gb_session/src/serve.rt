@@ -7,7 +7,7 @@ ghost use Rattle.gb_session.specs.declared.serve.SessionFault.TheVariants.{OutOf
 
 use crate::answers::Answers;
 use crate::session::{Next, Session};
-use gb_types::memory::OutOfMemory;
+use gb_types::OutOfMemory;
 use std::alloc::{AllocError, Global};
 use std::io::{ErrorKind, Read, Write};
 use thiserror::Error;

@@ -16,13 +16,10 @@ use crate::grammar::BODY;
 use crate::messages::read_length;
 use crate::operation::Operation;
 use crate::serve::SessionEnd;
-use gb_types::entry::Entries;
-use gb_types::memory::{OutOfMemory, put_bytes};
+use gb_types::memory::put_bytes;
 use gb_types::number::put_number;
-use gb_types::refusal::Refusal;
-use gb_types::reply::Reply;
 use gb_types::reply_text::put_reply;
-use gb_types::request::Request;
+use gb_types::{Entries, OutOfMemory, Refusal, Reply, Request};
 use std::alloc::Global;
 use std::marker::Model;
 

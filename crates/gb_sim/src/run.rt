@@ -1,8 +1,9 @@
 //! What the program does, over any reader and any writers.
 ghost use Rattle.gb_sim.specs.Run.{HasRun};
 
+use gb_simulate::SimFault;
 use gb_simulate::complaint::complain;
-use gb_simulate::outcome::{SimFault, status_of};
+use gb_simulate::outcome::status_of;
 use gb_simulate::simulate::simulate;
 use gb_simulate::writing::tell_want_of_memory;
 use std::alloc::Global;

@@ -6,15 +6,13 @@ ghost use Rattle.gb_types.specs.ReplyText.{reply_spelling};
 ghost use Rattle.gb_lines.specs.Lines.{ended};
 ghost use Rattle.gb_simulate.specs.AnswerText.{answer_spelling, bad_line, each_after_space, fault_name, fault_spelling, frame_word, good_spelling, halted_spelling, noticed_words, packet_spelling, sending_spelling, ticked_spelling};
 
-use gb_cluster::answer::{Answer, Sending};
-use gb_frame::fault::PacketFault;
-use gb_node::answer::{Frame, Good, Halted, PacketAnswer, Ticked};
-use gb_types::memory::{OutOfMemory, put_bytes};
-use gb_types::node::NodeSet;
+use gb_cluster::{Answer, Sending};
+use gb_frame::PacketFault;
+use gb_node::{Frame, Good, Halted, PacketAnswer, Ticked};
+use gb_types::memory::put_bytes;
 use gb_types::number::put_number;
-use gb_types::refusal::Refusal;
-use gb_types::reply::Reply;
 use gb_types::reply_text::put_reply;
+use gb_types::{NodeSet, OutOfMemory, Refusal, Reply};
 
 /// Appends the text of a refusal.
 pub fn put_refusal(out: &mut Vec<u8>, why: Refusal) -> Result<(), OutOfMemory>

@@ -8,7 +8,7 @@ ghost use Rattle.gb_simulate.specs.declared.outcome.SimFault.{SimFault as Fault}
 
 use crate::outcome::{BadLine, SimEnd, SimFault};
 use crate::writing::write_text;
-use gb_types::memory::OutOfMemory;
+use gb_types::OutOfMemory;
 use gb_types::number::put_number;
 use std::alloc::Global;
 use std::io::Write;

@@ -9,3 +9,5 @@ pub mod obey;
 pub mod outcome;
 pub mod simulate;
 pub mod writing;
+
+pub use outcome::{BadLine, SimEnd, SimFault};

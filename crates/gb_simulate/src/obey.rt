@@ -13,27 +13,19 @@ ghost use Rattle.gb_simulate.specs.Schedule.{added, Answers, Obeys, GoesOn, even
 
 use crate::answer_text::{put_answer, put_started};
 use crate::outcome::BadLine;
-use gb_cluster::cluster::Cluster;
-use gb_node::event::NodeEvent;
-use gb_node::packet_text::PacketText;
-use gb_schedule::command::{ClusterStart, Command, Step};
+use gb_cluster::Cluster;
+use gb_node::{NodeEvent, PacketText};
+use gb_rules::room::ROOMS;
 use gb_schedule::grammar::{is_silent, read_other_command, read_step};
-use gb_schedule::keys::{ADMIN_KEY, CLUSTER_KEY, Keys};
-use gb_types::memory::OutOfMemory;
-use gb_types::node::NodeId;
-use gb_types::plan::Plan;
-use gb_types::request::Request;
+use gb_schedule::keys::{ADMIN_KEY, CLUSTER_KEY};
+use gb_schedule::{ClusterStart, Command, Keys, Step};
+use gb_types::{NodeId, OutOfMemory, Plan, Request};
 use std::alloc::Global;
 
 /// How many lines a schedule may have.
 pub const LINES: u64 = 1_000_000;
 
 const _: () = prove!(LINES == 1_000_000);
-
-/// How many groups the tenants of a node may make in all.
-const PLACES: u16 = 1_024;
-
-const _: () = prove!(PLACES == 1_024);
 
 /// What the cluster of a schedule is started with.
 fn plan_of(start: &ClusterStart) -> Plan
@@ -43,7 +35,7 @@ fn plan_of(start: &ClusterStart) -> Plan
         nodes: start.nodes,
         versions: start.versions,
         silence: start.silence,
-        places: PLACES,
+        places: ROOMS,
         room: start.room,
         cluster_key: CLUSTER_KEY,
         admin_key: ADMIN_KEY,

@@ -3,8 +3,8 @@ ghost use Rattle.std.specs.Prelude.{◌≡◌};
 ghost use Rattle.gb_simulate.specs.Status.{status};
 ghost use Rattle.gb_simulate.specs.declared.outcome.SimFault.TheVariants.{Read as ReadFault, OutOfMemory as NoMemory};
 
-use gb_lines::lines::LinesFault;
-use gb_types::memory::OutOfMemory;
+use gb_lines::LinesFault;
+use gb_types::OutOfMemory;
 use thiserror::Error;
 
 /// Why a line is bad. Of several reasons the first in this order is told.

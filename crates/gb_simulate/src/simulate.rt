@@ -11,10 +11,10 @@ use crate::answer_text::put_bad_line;
 use crate::obey::answer_line;
 use crate::outcome::{BadLine, SimEnd, SimFault};
 use crate::writing::write_text;
-use gb_cluster::cluster::Cluster;
-use gb_lines::lines::{LineBuffer, NextLine};
-use gb_schedule::keys::Keys;
-use gb_types::memory::OutOfMemory;
+use gb_cluster::Cluster;
+use gb_lines::{LineBuffer, NextLine};
+use gb_schedule::Keys;
+use gb_types::OutOfMemory;
 use std::alloc::Global;
 use std::io::{Read, Write};
 

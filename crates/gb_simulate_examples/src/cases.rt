@@ -1,5 +1,5 @@
 //! Schedules and what they make a cluster answer.
-use gb_simulate::outcome::{BadLine, SimEnd, SimFault};
+use gb_simulate::{BadLine, SimEnd, SimFault};
 
 /// A schedule, the text that it makes, and how it ends.
 pub type Case = (&'static str, &'static str, SimEnd);

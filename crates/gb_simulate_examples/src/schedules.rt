@@ -7,10 +7,10 @@ use crate::cases::{
     WINDOW_OF_64_FRAMES, Want,
 };
 use gb_simulate::complaint::complain;
-use gb_simulate::outcome::{SimEnd, SimFault};
 use gb_simulate::simulate::simulate;
 use gb_simulate::writing::tell_want_of_memory;
-use gb_types::memory::OutOfMemory;
+use gb_simulate::{SimEnd, SimFault};
+use gb_types::OutOfMemory;
 use gb_types::number::put_number;
 use std::alloc::Global;
 use std::cell::Cell;

@@ -11,11 +11,9 @@ ghost use Rattle.gb_stack.specs.StackState.{stack_next, stack_gives};
 
 use crate::put_out::PutOut;
 use crate::store::Store;
-use gb_layer::call::Call;
-use gb_layer::effects::{Effects, Up};
-use gb_layer::layer::Layer;
-use gb_stack::stack::Stack;
-use gb_types::message::MsgId;
+use gb_layer::{Call, Effects, Layer, Up};
+use gb_stack::Stack;
+use gb_types::MsgId;
 
 /// Returns a message to put out, with its place in the store.
 fn placed(store: &Store, m: MsgId) -> PutOut

@@ -11,3 +11,6 @@ pub mod put_out;
 pub mod slot;
 pub mod store;
 mod window;
+
+pub use slot::Slot;
+pub use store::Store;

@@ -1,5 +1,5 @@
 //! A message that was put out.
-use gb_types::message::MsgId;
+use gb_types::MsgId;
 
 /// A message that was put out, and the place in the store where its payload is looked for first. The place only saves a search: the
 /// message at the place is compared.

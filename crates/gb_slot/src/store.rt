@@ -13,13 +13,10 @@ ghost use Rattle.gb_types.specs.declared.entry.Entry.{Entry as EntryValue};
 ghost use Rattle.gb_types.specs.declared.limits.TheConstants.{BYTES};
 ghost use Rattle.gb_types.specs.declared.payload.TheConstants.{INLINE};
 
-use gb_layer::table::Table;
-use gb_types::entry::Entry;
+use gb_layer::Table;
 use gb_types::limits::NODES;
-use gb_types::memory::OutOfMemory;
-use gb_types::message::MsgId;
-use gb_types::node::{NodeId, NodeSet};
-use gb_types::payload::{INLINE, Payload};
+use gb_types::payload::INLINE;
+use gb_types::{Entry, MsgId, NodeId, NodeSet, OutOfMemory, Payload};
 use std::alloc::Global;
 use std::marker::Model;
 

@@ -3,8 +3,7 @@ ghost use Rattle.std.specs.Prelude.{◌≡◌, ◌+◌, ◌≤◌, ◌<◌, ◌+
 ghost use Rattle.gb_types.specs.declared.limits.TheConstants.{MESSAGES};
 ghost use Rattle.gb_slot.specs.Slot.{is_finished, unfinished_of, with_acknowledgement};
 
-use gb_types::node::{NodeId, NodeSet};
-use gb_types::spec::Spec;
+use gb_types::{NodeId, NodeSet, Spec};
 
 /// Returns 1 if a message that the nodes `by` have for good is unfinished, else 0.
 fn count_one(spec: &Spec, noticed: &NodeSet, by: &NodeSet) -> u32

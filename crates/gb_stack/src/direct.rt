@@ -11,10 +11,9 @@ ghost use Rattle.gb_stack.specs.Taken.{HandsUp, Spends, left, noted_in, up_of};
 use crate::here::Here;
 use crate::relaying::Moved;
 use crate::taking::give;
-use gb_layer::call::Call;
-use gb_layer::effects::Up;
-use gb_records::records::Records;
-use gb_types::message::MsgId;
+use gb_layer::{Call, Up};
+use gb_records::Records;
+use gb_types::MsgId;
 
 /// Adds a record of `m` if there is none, and marks in it whether `m` was sent and came up.
 #[inline(always)]

@@ -1,5 +1,5 @@
 //! The place of a stack: its node and its group.
-use gb_types::node::{NodeId, NodeSet};
+use gb_types::{NodeId, NodeSet};
 
 /// The node of a stack, whether the stack keeps the order of each origin, the group's members, and the noticed nodes.
 #[derive(Drop)]

@@ -2,8 +2,8 @@
 ghost use Rattle.std.specs.Prelude.{◌≡◌};
 ghost use Rattle.gb_stack.specs.Kinds as kinds;
 
-use gb_layer::broadcast_module::BroadcastModule;
-use gb_types::kind::Kind;
+use gb_layer::BroadcastModule;
+use gb_types::Kind;
 
 /// Returns the module of broadcast that a kind is, or keeps an order over.
 pub fn broadcast_module(kind: Kind) -> BroadcastModule

@@ -12,3 +12,5 @@ mod relaying;
 pub mod stack;
 pub mod stands;
 mod taking;
+
+pub use stack::Stack;

@@ -7,12 +7,8 @@ ghost use Rattle.gb_stack.specs.Kinds.{kind_broadcasts, kind_log};
 
 use crate::kinds::{broadcast_module, is_fifo};
 use gb_fifo::plain::in_order;
-use gb_layer::call::Call;
-use gb_layer::plain;
-use gb_types::kind::Kind;
-use gb_types::memory::OutOfMemory;
-use gb_types::message::MsgId;
-use gb_types::node::NodeId;
+use gb_layer::{Call, plain};
+use gb_types::{Kind, MsgId, NodeId, OutOfMemory};
 use std::alloc::Global;
 
 /// Returns what the newest call of a history broadcasts from here, in order. An empty history broadcasts nothing.

@@ -5,8 +5,8 @@ ghost use Rattle.gb_records.specs.Records.{relay_entry};
 ghost use Rattle.gb_stack.specs.Settled.{passed_on, settled};
 
 use crate::here::Here;
-use gb_layer::rule::Rule;
-use gb_records::record::Record;
+use gb_layer::Rule;
+use gb_records::Record;
 
 /// The effects of a step on a message: `sends` if it is sent from here, `rises` if it comes up.
 #[derive(Clone, Copy)]

@@ -13,23 +13,13 @@ use crate::direct::take_direct;
 use crate::here::Here;
 use crate::kinds::{broadcast_module, is_fifo};
 use crate::taking::{take_arrival, take_notice, take_saying};
-use gb_layer::broadcast_module::BroadcastModule;
-use gb_layer::call::Call;
-use gb_layer::effects::{Room, Up};
-use gb_layer::layer::{Broadcast, Layer};
-use gb_layer::rule::Rule;
 use gb_layer::whole::message_and_call_count;
-use gb_records::records::Records;
-use gb_reliable::eager::Eagerly;
-use gb_reliable::lazy::Lazily;
-use gb_types::kind::Kind;
+use gb_layer::{Broadcast, BroadcastModule, Call, Layer, Room, Rule, Up};
+use gb_records::Records;
+use gb_reliable::{Eagerly, Lazily};
 use gb_types::limits::NODES;
-use gb_types::memory::OutOfMemory;
-use gb_types::message::MsgId;
-use gb_types::node::{NodeId, NodeSet};
-use gb_types::spec::Spec;
-use gb_uniform::all_ack::AllAcked;
-use gb_uniform::majority_ack::MajorityAcked;
+use gb_types::{Kind, MsgId, NodeId, NodeSet, OutOfMemory, Spec};
+use gb_uniform::{AllAcked, MajorityAcked};
 use std::alloc::Global;
 
 /// Makes the layer take the notice of a node, if the node is another member that was noticed.

@@ -11,11 +11,10 @@ ghost use Rattle.gb_stack.specs.Taken.{Moves, HasTaken, Spends, left, relay_stat
 
 use crate::here::Here;
 use crate::relaying::{Moved, settle};
-use gb_layer::effects::Up;
-use gb_layer::rule::Rule;
-use gb_records::records::{Records, release};
-use gb_types::message::MsgId;
-use gb_types::node::NodeId;
+use gb_layer::{Rule, Up};
+use gb_records::Records;
+use gb_records::records::release;
+use gb_types::{MsgId, NodeId};
 
 /// Hands up a message that the broadcast brought up: at once, or in the order of its origin with the messages that waited for it.
 fn rise(records: &mut Records, ordered: bool, m: MsgId, ups: &mut Vec<Up>)

@@ -1,21 +1,11 @@
 //! Each stack beside the layers that it stands for.
 use crate::names::{FIRST, ME, MEMBERS, ORIGIN, OTHER, OWN, SECOND};
 use crate::stacks::{set, stack};
-use gb_fifo::fifo::Fifo;
-use gb_layer::beb::Beb;
-use gb_layer::call::Call;
-use gb_layer::direct::Direct;
-use gb_layer::effects::Effects;
-use gb_layer::layer::{Broadcast, Layer};
-use gb_layer::relay::Relay;
-use gb_layer::rule::Rule;
-use gb_reliable::eager::Eagerly;
-use gb_reliable::lazy::Lazily;
-use gb_types::kind::Kind;
-use gb_types::memory::OutOfMemory;
-use gb_types::node::NodeSet;
-use gb_uniform::all_ack::AllAcked;
-use gb_uniform::majority_ack::MajorityAcked;
+use gb_fifo::Fifo;
+use gb_layer::{Beb, Broadcast, Call, Direct, Effects, Layer, Relay, Rule};
+use gb_reliable::{Eagerly, Lazily};
+use gb_types::{Kind, NodeSet, OutOfMemory};
+use gb_uniform::{AllAcked, MajorityAcked};
 use std::alloc::Global;
 use std::process::Abort;
 use std::test::Fail;

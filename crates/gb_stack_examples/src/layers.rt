@@ -1,13 +1,7 @@
 //! The lowest layer, and the plain program on a history worked out by hand.
 use crate::names::{FIRST, ME, MEMBERS, ORIGIN, OTHER, OWN, SECOND};
-use gb_layer::beb::Beb;
-use gb_layer::broadcast_module::BroadcastModule;
-use gb_layer::call::Call;
-use gb_layer::effects::{Effects, Up};
-use gb_layer::layer::Layer;
-use gb_layer::plain;
-use gb_types::memory::OutOfMemory;
-use gb_types::message::MsgId;
+use gb_layer::{Beb, BroadcastModule, Call, Effects, Layer, Up, plain};
+use gb_types::{MsgId, OutOfMemory};
 use std::alloc::Global;
 use std::process::Abort;
 use std::test::Fail;

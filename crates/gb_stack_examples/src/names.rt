@@ -1,6 +1,5 @@
 // Nodes and messages that the tests speak of.
-use gb_types::message::MsgId;
-use gb_types::node::NodeId;
+use gb_types::{MsgId, NodeId};
 
 /// The node with the greatest number that is allowed.
 pub const ORIGIN: NodeId = NodeId { number: 31 };

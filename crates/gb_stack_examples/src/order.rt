@@ -1,15 +1,8 @@
 //! A fifo over other layers than those of a stack, and the plain order on lists worked out by hand.
 use crate::stacks::take_all;
-use gb_fifo::fifo::Fifo;
-use gb_fifo::{order, plain};
-use gb_layer::beb::Beb;
-use gb_layer::call::Call;
-use gb_layer::direct::Direct;
-use gb_layer::effects::Effects;
-use gb_layer::layer::{Broadcast, Layer};
-use gb_types::memory::OutOfMemory;
-use gb_types::message::MsgId;
-use gb_types::node::NodeId;
+use gb_fifo::{Fifo, order, plain};
+use gb_layer::{Beb, Broadcast, Call, Direct, Effects, Layer};
+use gb_types::{MsgId, NodeId, OutOfMemory};
 use std::alloc::Global;
 use std::process::Abort;
 use std::test::Fail;

@@ -1,11 +1,9 @@
 //! The room that calls need, up to the greatest number of calls.
 use crate::names::{MEMBERS, OWN};
 use crate::stacks::{set, stack};
-use gb_layer::effects::{Effects, Room};
-use gb_layer::layer::Layer;
 use gb_layer::whole::message_and_call_count;
-use gb_types::kind::Kind;
-use gb_types::node::NodeSet;
+use gb_layer::{Effects, Layer, Room};
+use gb_types::{Kind, NodeSet};
 use std::test::Fail;
 
 /// Room for three sends and for one pair fewer than the greatest number.

@@ -2,17 +2,11 @@
 ghost use Rattle.std.specs.Prelude.{IfOk};
 
 use crate::names::{FIRST, ME, MEMBERS, ORIGIN, OTHER, OWN, SECOND};
-use gb_layer::call::Call;
-use gb_layer::effects::Effects;
-use gb_layer::layer::{Broadcast, Layer};
 use gb_layer::whole::take_two;
-use gb_stack::stack::Stack;
-use gb_stack::{plain, stands};
-use gb_types::kind::{KINDS, Kind};
-use gb_types::memory::OutOfMemory;
-use gb_types::message::MsgId;
-use gb_types::node::{NodeId, NodeSet};
-use gb_types::spec::Spec;
+use gb_layer::{Broadcast, Call, Effects, Layer};
+use gb_stack::{Stack, plain, stands};
+use gb_types::kind::KINDS;
+use gb_types::{Kind, MsgId, NodeId, NodeSet, OutOfMemory, Spec};
 use std::alloc::Global;
 use std::process::Abort;
 use std::test::Fail;

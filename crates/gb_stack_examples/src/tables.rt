@@ -1,8 +1,6 @@
 //! A table of places, at its limits.
-use gb_layer::table::Table;
-use gb_types::memory::OutOfMemory;
-use gb_types::message::MsgId;
-use gb_types::node::{NodeId, NodeSet};
+use gb_layer::Table;
+use gb_types::{MsgId, NodeId, NodeSet, OutOfMemory};
 use std::alloc::Global;
 use std::rt::HostRuntime;
 use std::test::Fail;

@@ -2,8 +2,7 @@
 use crate::figure::COUNT;
 use crate::figures::{Figures, NodeFigures};
 use gb_types::limits::NODES;
-use gb_types::memory::OutOfMemory;
-use gb_types::node::{NodeId, NodeSet};
+use gb_types::{NodeId, NodeSet, OutOfMemory};
 use std::alloc::Global;
 use std::sync::atomic::{AtomicU64, Ordering};
 

@@ -4,7 +4,7 @@ ghost use Rattle.gb_status.specs.Figures.{value_of, capped};
 ghost use Rattle.gb_status.specs.Names.{place_of};
 
 use crate::figure::{COUNT, Figure};
-use gb_types::node::NodeId;
+use gb_types::NodeId;
 
 /// What a node has counted: a number for each figure, at most 2^64 - 1.
 #[derive(Clone, Copy)]

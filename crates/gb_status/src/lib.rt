@@ -9,3 +9,9 @@ pub mod figures;
 pub mod http;
 pub mod news;
 pub mod text;
+
+pub use board::Board;
+pub use figure::Figure;
+pub use figures::{Figures, NodeFigures};
+pub use http::Asked;
+pub use news::Told;

@@ -5,7 +5,8 @@ ghost use Rattle.gb_status.specs.Figures.{figure_text, front_text, line_text, me
 
 use crate::figure::{FIGURES, Figure};
 use crate::figures::{Figures, NodeFigures};
-use gb_types::memory::{OutOfMemory, put_bytes};
+use gb_types::OutOfMemory;
+use gb_types::memory::put_bytes;
 use gb_types::number::put_number;
 use std::alloc::Global;
 

@@ -5,3 +5,6 @@
 pub mod listing;
 pub mod table;
 pub mod tenants;
+
+pub use listing::Listing;
+pub use table::Table;

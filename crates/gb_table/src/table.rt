@@ -28,22 +28,15 @@ ghost use Rattle.gb_table.specs.Requests.{is_admitted, is_by_tenant, place_for, 
 use crate::listing::{LISTED, Listing};
 use crate::tenants::Tenants;
 use gb_cap::compare::count_differences;
-use gb_cap::hmac::{HmacKey, Key};
-use gb_cap::token::{Need, Token};
-use gb_frame::item::ItemView;
-use gb_groups::groups::Groups;
-use gb_rules::reserve::Reserve;
+use gb_cap::{HmacKey, Key, Need, Token};
+use gb_frame::ItemView;
+use gb_groups::Groups;
+use gb_rules::Reserve;
 use gb_rules::room::{GENERATIONS, name_of};
 use gb_rules::tenant::{answer_make, answer_tenant};
-use gb_types::address::Addr;
-use gb_types::message::MsgId;
-use gb_types::new_message::NewMessage;
-use gb_types::node::{NodeId, NodeSet};
-use gb_types::refusal::Refusal;
-use gb_types::reply::Reply;
-use gb_types::request::Request;
-use gb_types::spec::{Spec, TenantRow};
-use gb_types::version::Version;
+use gb_types::{
+    Addr, MsgId, NewMessage, NodeId, NodeSet, Refusal, Reply, Request, Spec, TenantRow, Version,
+};
 use indexmap::IndexMap;
 use std::alloc::Global;
 use std::marker::Model;

@@ -5,11 +5,8 @@ ghost use Rattle.gb_cap.specs.Token.{token_of};
 ghost use Rattle.gb_rules.specs.Tenant.{row_of, reserved};
 ghost use Rattle.gb_table.specs.Admission.{is_token, is_by_row};
 
-use gb_cap::hmac::HmacKey;
-use gb_cap::token::{Need, Token};
-use gb_types::address::TenantId;
-use gb_types::memory::OutOfMemory;
-use gb_types::spec::TenantRow;
+use gb_cap::{HmacKey, Need, Token};
+use gb_types::{OutOfMemory, TenantId, TenantRow};
 use indexmap::IndexMap;
 use std::alloc::Global;
 use std::marker::Model;

@@ -1,7 +1,8 @@
 //! Keyed hashes and tokens beside published values and those of another implementation.
-use gb_cap::hmac::{HmacKey, Key, Mac, hmac};
-use gb_cap::token::{Need, admits, token};
-use gb_types::node::NodeId;
+use gb_cap::hmac::hmac;
+use gb_cap::token::{admits, token};
+use gb_cap::{HmacKey, Key, Mac, Need};
+use gb_types::NodeId;
 use hex::FromHex;
 use std::process::Abort;
 use std::test::Fail;

@@ -2,18 +2,11 @@
 ghost use Rattle.std.specs.Prelude.{◌≤◌};
 ghost use Rattle.std.specs.Option.{ForSome};
 
-use gb_schedule::command::{ClusterStart, Command, Step};
 use gb_schedule::grammar::{is_silent, read_command};
-use gb_schedule::keys::Keys;
-use gb_types::address::Addr;
-use gb_types::kind::Kind;
+use gb_schedule::{ClusterStart, Command, Keys, Step};
 use gb_types::limits::NODES;
-use gb_types::memory::OutOfMemory;
-use gb_types::node::NodeId;
 use gb_types::number::put_number;
-use gb_types::request::Request;
-use gb_types::spec::{Spec, TenantRow};
-use gb_types::version::Version;
+use gb_types::{Addr, Kind, NodeId, OutOfMemory, Request, Spec, TenantRow, Version};
 use std::alloc::Global;
 use std::process::Abort;
 use std::test::Fail;

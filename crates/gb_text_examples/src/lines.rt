@@ -1,6 +1,6 @@
 //! Readers over memory that give a text in pieces, and the lines that come of it.
-use gb_lines::lines::{LineBuffer, LinesFault, NextLine};
-use gb_types::memory::OutOfMemory;
+use gb_lines::{LineBuffer, LinesFault, NextLine};
+use gb_types::OutOfMemory;
 use std::alloc::{AllocError, Global};
 use std::io::{ErrorKind, Read};
 use std::test::Fail;

@@ -1,7 +1,7 @@
 //! The tokens that a schedule's lines come with.
-use gb_schedule::keys::{Keys, tenant_key};
-use gb_types::address::Addr;
-use gb_types::node::NodeId;
+use gb_schedule::Keys;
+use gb_schedule::keys::tenant_key;
+use gb_types::{Addr, NodeId};
 use hex::FromHex;
 use std::process::Abort;
 use std::test::Fail;

@@ -1,19 +1,13 @@
 //! Words and texts as they stand in requests, schedules and replies.
-use gb_types::entry::{Entries, Entry};
-use gb_types::kind::Kind;
 use gb_types::kind_word::read_kind;
-use gb_types::laws;
 use gb_types::limits::NODES;
 use gb_types::members_word::read_members;
-use gb_types::memory::OutOfMemory;
-use gb_types::node::{NodeId, NodeSet};
 use gb_types::number::{put_number, read_number};
-use gb_types::payload::Payload;
 use gb_types::payload_word::{put_payload, read_payload};
-use gb_types::refusal::Refusal;
-use gb_types::reply::Reply;
 use gb_types::reply_text::reply_text;
-use gb_types::spec::Spec;
+use gb_types::{
+    Entries, Entry, Kind, NodeId, NodeSet, OutOfMemory, Payload, Refusal, Reply, Spec, laws,
+};
 use std::alloc::Global;
 use std::process::Abort;
 use std::test::Fail;

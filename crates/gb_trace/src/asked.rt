@@ -13,16 +13,11 @@ use crate::deed::Deed;
 use crate::noticed::add_noticed;
 use crate::past::{is_own_request, made, was_met, was_stopped};
 use crate::steps::{add, at};
-use gb_alone::event::{GroupEvent, GroupStep};
-use gb_cap::hmac::HmacKey;
-use gb_rules::reserve::Reserve;
+use gb_alone::{GroupEvent, GroupStep};
+use gb_cap::HmacKey;
+use gb_rules::Reserve;
 use gb_rules::room::is_other_generation;
-use gb_types::address::Addr;
-use gb_types::memory::OutOfMemory;
-use gb_types::node::NodeId;
-use gb_types::plan::Plan;
-use gb_types::reply::Reply;
-use gb_types::request::Request;
+use gb_types::{Addr, NodeId, OutOfMemory, Plan, Reply, Request};
 use std::alloc::Global;
 
 /// Returns the command that `request` makes for a group at the node `a`. `Ok(None)` if the request names no group.

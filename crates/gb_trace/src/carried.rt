@@ -14,14 +14,11 @@ use crate::deed::Deed;
 use crate::frames::{counts_to, first_of, has_come, was_acknowledged};
 use crate::reading::{count_in, read, sender};
 use crate::steps::at;
-use gb_alone::event::{GroupEvent, GroupStep};
-use gb_cap::hmac::HmacKey;
-use gb_frame::view::PacketView;
+use gb_alone::{GroupEvent, GroupStep};
+use gb_cap::HmacKey;
+use gb_frame::PacketView;
 use gb_link::ack::covers;
-use gb_types::address::Addr;
-use gb_types::memory::OutOfMemory;
-use gb_types::node::NodeId;
-use gb_types::plan::Plan;
+use gb_types::{Addr, NodeId, OutOfMemory, Plan};
 use std::alloc::Global;
 
 /// Returns the group's step from the packet `text`, which the node `a` packed for `b`, or `None` if the packet has no item of

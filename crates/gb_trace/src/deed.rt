@@ -3,14 +3,9 @@ ghost use Rattle.std.specs.Prelude.{◌≡◌, ◌++◌, ◌&&◌, nat_eq, IfOk,
 ghost use Rattle.gb_cluster.specs.ClusterStep.{packet_numbered};
 ghost use Rattle.gb_trace.specs.Trace.{sent_as, own_answer, did_with, did_in, all_did};
 
-use gb_cluster::answer::{Answer, Sending};
-use gb_cluster::event::Event;
-use gb_cluster::posted::Posted;
-use gb_node::answer::{NodeAnswer, Sent, Ticked};
-use gb_node::event::NodeEvent;
-use gb_node::packet_text::PacketText;
-use gb_types::memory::OutOfMemory;
-use gb_types::node::NodeId;
+use gb_cluster::{Answer, Event, Posted, Sending};
+use gb_node::{NodeAnswer, NodeEvent, PacketText, Sent, Ticked};
+use gb_types::{NodeId, OutOfMemory};
 use std::alloc::Global;
 use std::marker::Model;
 

@@ -8,11 +8,9 @@ ghost use Rattle.gb_trace.specs.Deeds.{past_in};
 
 use crate::deed::Deed;
 use crate::reading::{came, count_in, packed};
-use gb_cap::hmac::HmacKey;
+use gb_cap::HmacKey;
 use gb_link::ack::covers;
-use gb_types::address::Addr;
-use gb_types::memory::OutOfMemory;
-use gb_types::node::NodeId;
+use gb_types::{Addr, NodeId, OutOfMemory};
 use std::alloc::Global;
 
 /// Returns true if `deed` took a packet of the node `b` with this frame number.

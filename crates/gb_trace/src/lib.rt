@@ -24,3 +24,4 @@ pub use gb_alone::alone::alone;
 pub use observation::observe;
 pub use projection::project;
 pub use refused::refused_for;
+pub use trace::Trace;

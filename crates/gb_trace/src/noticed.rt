@@ -12,14 +12,10 @@ use crate::deed::Deed;
 use crate::past::made_with;
 use crate::silence::was_noticed;
 use crate::steps::at;
-use gb_alone::event::{GroupEvent, GroupStep};
-use gb_cap::hmac::HmacKey;
-use gb_types::address::Addr;
+use gb_alone::{GroupEvent, GroupStep};
+use gb_cap::HmacKey;
 use gb_types::limits::NODES;
-use gb_types::memory::OutOfMemory;
-use gb_types::node::{NodeId, NodeSet};
-use gb_types::plan::Plan;
-use gb_types::spec::Spec;
+use gb_types::{Addr, NodeId, NodeSet, OutOfMemory, Plan, Spec};
 
 /// Adds the notice of the node `other`, if it is another member and `new` is true.
 fn add_notice(

@@ -13,17 +13,11 @@ use crate::deed::{Deed, deeds_of};
 use crate::past::is_own_request;
 use crate::reading::{add_items, packed};
 use crate::trace::Trace;
-use gb_alone::observation::{NodeSeen, Observation};
-use gb_cap::hmac::HmacKey;
-use gb_cluster::event::Event;
-use gb_node::answer::NodeAnswer;
-use gb_node::event::NodeEvent;
-use gb_types::address::Addr;
-use gb_types::entry::Entries;
-use gb_types::memory::OutOfMemory;
-use gb_types::node::NodeId;
-use gb_types::plan::Plan;
-use gb_types::reply::Reply;
+use gb_alone::{NodeSeen, Observation};
+use gb_cap::HmacKey;
+use gb_cluster::Event;
+use gb_node::{NodeAnswer, NodeEvent};
+use gb_types::{Addr, Entries, NodeId, OutOfMemory, Plan, Reply};
 use std::alloc::Global;
 
 /// If `deed` is a request of the group at the node `a`, adds a copy of its reply. `before` is what happened before.

@@ -12,15 +12,11 @@ ghost use Rattle.gb_isolation.specs.Project as projected;
 ghost use Rattle.gb_trace.specs.Deeds.{past_in};
 
 use crate::deed::Deed;
-use gb_cap::token::{Need, Token, admits};
-use gb_node::answer::{Halted, NodeAnswer};
-use gb_node::event::NodeEvent;
+use gb_cap::token::admits;
+use gb_cap::{Need, Token};
+use gb_node::{Halted, NodeAnswer, NodeEvent};
 use gb_rules::address::is_same;
-use gb_types::address::Addr;
-use gb_types::node::NodeId;
-use gb_types::reply::Reply;
-use gb_types::request::Request;
-use gb_types::spec::{Spec, TenantRow};
+use gb_types::{Addr, NodeId, Reply, Request, Spec, TenantRow};
 
 /// Returns the row of the tenant, if the request with its reply added it.
 pub(crate) fn row_added<'a>(

@@ -11,14 +11,11 @@ use crate::deed::{Deed, deeds_of};
 use crate::noticed::of_tick;
 use crate::steps::add;
 use crate::trace::Trace;
-use gb_alone::event::GroupStep;
-use gb_cap::hmac::HmacKey;
-use gb_cluster::event::Event;
-use gb_node::answer::{NodeAnswer, PacketAnswer, Sent, Ticked};
-use gb_node::event::NodeEvent;
-use gb_types::address::Addr;
-use gb_types::memory::OutOfMemory;
-use gb_types::plan::Plan;
+use gb_alone::GroupStep;
+use gb_cap::HmacKey;
+use gb_cluster::Event;
+use gb_node::{NodeAnswer, NodeEvent, PacketAnswer, Sent, Ticked};
+use gb_types::{Addr, OutOfMemory, Plan};
 use std::alloc::Global;
 
 /// Adds the group's steps from `deed`. `before` is what happened before.

@@ -7,19 +7,13 @@ ghost use Rattle.gb_node.specs.Past as past;
 ghost use Rattle.gb_isolation.specs.Project.{group_items};
 
 use crate::deed::Deed;
-use gb_cap::hmac::HmacKey;
-use gb_frame::item::ItemView;
+use gb_cap::HmacKey;
 use gb_frame::reading::decode;
-use gb_frame::view::PacketView;
-use gb_node::answer::{NodeAnswer, PacketAnswer, Sent};
-use gb_node::event::NodeEvent;
+use gb_frame::{ItemView, PacketView};
+use gb_node::{NodeAnswer, NodeEvent, PacketAnswer, Sent};
 use gb_rules::address::is_same;
-use gb_types::address::Addr;
-use gb_types::entry::{Entries, Entry};
 use gb_types::limits::NODES;
-use gb_types::memory::OutOfMemory;
-use gb_types::node::NodeId;
-use gb_types::payload::Payload;
+use gb_types::{Addr, Entries, Entry, NodeId, OutOfMemory, Payload};
 use std::alloc::Global;
 
 /// Returns the packet that `bytes` are, or `None` if they are no good packet.

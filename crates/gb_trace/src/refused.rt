@@ -10,15 +10,9 @@ ghost use Rattle.gb_trace.specs.Trace.{run_of};
 
 use crate::past::{is_own_by, row_added};
 use crate::trace::Trace;
-use gb_cluster::answer::Answer;
-use gb_cluster::event::Event;
-use gb_node::event::NodeEvent;
-use gb_types::address::Addr;
-use gb_types::node::NodeId;
-use gb_types::refusal::Refusal;
-use gb_types::reply::Reply;
-use gb_types::request::Request;
-use gb_types::spec::TenantRow;
+use gb_cluster::{Answer, Event};
+use gb_node::NodeEvent;
+use gb_types::{Addr, NodeId, Refusal, Reply, Request, TenantRow};
 
 /// Returns the row of the tenant, if the event with its answer added it at the node `a`.
 fn row_in<'a>(a: NodeId, tenant: u16, event: &'a Event, answer: &Answer) -> Option<&'a TenantRow>

@@ -7,16 +7,11 @@ ghost use Rattle.gb_trace.specs.Trace.{AreSeenAlone, IsRun};
 ghost use Rattle.gb_trace.specs.Run.{tells_want, IsIsolatedRun, IsAmpleRun};
 
 use crate::trace::Trace;
-use gb_cluster::answer::{Answer, Sending};
-use gb_cluster::cluster::Cluster;
-use gb_cluster::event::Event;
+use gb_cluster::{Answer, Cluster, Event, Sending};
 use gb_isolation::laws::{ample_runs_feed_all, groups_are_isolated};
-use gb_node::answer::{Halted, PacketAnswer, Ticked};
 use gb_node::past::packets_say;
-use gb_types::memory::OutOfMemory;
-use gb_types::plan::Plan;
-use gb_types::refusal::Refusal;
-use gb_types::reply::Reply;
+use gb_node::{Halted, PacketAnswer, Ticked};
+use gb_types::{OutOfMemory, Plan, Refusal, Reply};
 use std::alloc::Global;
 
 /// Returns true if the answer says that a node refused for lack of memory.

@@ -9,11 +9,9 @@ ghost use Rattle.gb_trace.specs.Deeds.{is_from, past_in};
 
 use crate::deed::Deed;
 use crate::reading::came;
-use gb_cap::hmac::HmacKey;
-use gb_node::answer::{NodeAnswer, Ticked};
-use gb_node::event::NodeEvent;
-use gb_types::node::NodeId;
-use gb_types::plan::Plan;
+use gb_cap::HmacKey;
+use gb_node::{NodeAnswer, NodeEvent, Ticked};
+use gb_types::{NodeId, Plan};
 
 /// Returns true if `deed` is a tick that was answered with the nodes noticed.
 fn ticks(deed: &Deed) -> bool

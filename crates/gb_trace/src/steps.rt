@@ -2,9 +2,8 @@
 ghost use Rattle.std.specs.Prelude.{◌≡◌, ◌++◌, OnOk};
 ghost use Rattle.std.specs.Option.{option_to_list};
 
-use gb_alone::event::{GroupEvent, GroupStep};
-use gb_types::memory::OutOfMemory;
-use gb_types::node::NodeId;
+use gb_alone::{GroupEvent, GroupStep};
+use gb_types::{NodeId, OutOfMemory};
 
 /// Returns the step of the group that `event` is at `node`.
 pub(crate) fn at(node: NodeId, event: GroupEvent) -> GroupStep

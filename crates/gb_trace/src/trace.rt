@@ -1,6 +1,5 @@
 //! What a run leaves.
-use gb_cluster::answer::Answer;
-use gb_cluster::posted::Posted;
+use gb_cluster::{Answer, Posted};
 
 /// What a run of a cluster leaves.
 #[derive(Drop)]

@@ -1,15 +1,10 @@
 // A cluster of three nodes. Two of them stop. Events are in short.
 use crate::schedule::{FIRST, SECOND, drop_group, fetch, furnish, say, spec_with};
 use crate::told::Told;
-use gb_cluster::event::Event;
-use gb_node::event::NodeEvent;
-use gb_types::kind::Kind;
+use gb_cluster::Event;
+use gb_node::NodeEvent;
 use gb_types::limits::NODES;
-use gb_types::memory::OutOfMemory;
-use gb_types::node::{NodeId, NodeSet};
-use gb_types::plan::Plan;
-use gb_types::spec::Spec;
-use gb_types::version::Version;
+use gb_types::{Kind, NodeId, NodeSet, OutOfMemory, Plan, Spec, Version};
 use std::alloc::Global;
 
 const THIRD: NodeId = NodeId { number: 2 };

@@ -3,14 +3,10 @@ ghost use Rattle.std.specs.Prelude.{◌≡◌, ◌≤◌};
 ghost use Rattle.gb_types.specs.declared.limits.TheConstants.{NODES, SILENCE_MIN};
 
 use crate::short::is_same;
-use gb_alone::event::GroupStep;
-use gb_alone::observation::Observation;
-use gb_cluster::event::Event;
-use gb_trace::trace::Trace;
-use gb_trace::{alone, observe, project, refused_for};
-use gb_types::address::Addr;
-use gb_types::memory::OutOfMemory;
-use gb_types::plan::Plan;
+use gb_alone::{GroupStep, Observation};
+use gb_cluster::Event;
+use gb_trace::{Trace, alone, observe, project, refused_for};
+use gb_types::{Addr, OutOfMemory, Plan};
 use std::alloc::Global;
 
 /// The projection of a run on a group, and what is seen of the group in it.

@@ -1,14 +1,8 @@
 // The groups that the law excepts after a refusal for lack of memory.
 use crate::schedule::{FIRST, furnish, group_of, say, spec_with};
-use gb_cluster::answer::Answer;
-use gb_cluster::event::Event;
-use gb_trace::refused_for;
-use gb_trace::trace::Trace;
-use gb_types::kind::Kind;
-use gb_types::memory::OutOfMemory;
-use gb_types::node::NodeSet;
-use gb_types::refusal::Refusal;
-use gb_types::reply::Reply;
+use gb_cluster::{Answer, Event};
+use gb_trace::{Trace, refused_for};
+use gb_types::{Kind, NodeSet, OutOfMemory, Refusal, Reply};
 use std::alloc::Global;
 use std::rt::HostRuntime;
 use std::test::Fail;

@@ -1,21 +1,15 @@
 // What happens in a cluster of two nodes, and to one of its groups by itself.
-use gb_alone::event::{GroupEvent, GroupStep};
-use gb_cap::hmac::Key;
-use gb_cap::token::{Need, Token, token};
-use gb_cluster::event::Event;
-use gb_node::event::NodeEvent;
-use gb_rules::reserve::Reserve;
-use gb_types::address::Addr;
-use gb_types::kind::Kind;
+use gb_alone::{GroupEvent, GroupStep};
+use gb_cap::token::token;
+use gb_cap::{Key, Need, Token};
+use gb_cluster::Event;
+use gb_node::NodeEvent;
+use gb_rules::Reserve;
 use gb_types::limits::NODES;
-use gb_types::memory::OutOfMemory;
-use gb_types::new_message::NewMessage;
-use gb_types::node::{NodeId, NodeSet};
-use gb_types::payload::Payload;
-use gb_types::plan::Plan;
-use gb_types::request::Request;
-use gb_types::spec::{Spec, TenantRow};
-use gb_types::version::Version;
+use gb_types::{
+    Addr, Kind, NewMessage, NodeId, NodeSet, OutOfMemory, Payload, Plan, Request, Spec, TenantRow,
+    Version,
+};
 use std::alloc::Global;
 
 pub const FIRST: NodeId = NodeId { number: 0 };

@@ -1,12 +1,9 @@
 // A run in which a group is settled: a member stopped, the others noticed it, and nothing of the group is on its way.
 use crate::short::are_same_entries;
 use crate::stops::{read, right_trace};
-use gb_cluster::answer::{Answer, Sending};
-use gb_cluster::event::Event;
-use gb_node::answer::Ticked;
-use gb_types::entry::Entry;
-use gb_types::memory::OutOfMemory;
-use gb_types::reply::Reply;
+use gb_cluster::{Answer, Event, Sending};
+use gb_node::Ticked;
+use gb_types::{Entry, OutOfMemory, Reply};
 use std::alloc::Global;
 use std::rt::HostRuntime;
 use std::test::Fail;

@@ -1,8 +1,6 @@
 // What is seen of a group, in short.
-use gb_alone::observation::{NodeSeen, Observation};
-use gb_types::entry::{Entries, Entry};
-use gb_types::refusal::Refusal;
-use gb_types::reply::Reply;
+use gb_alone::{NodeSeen, Observation};
+use gb_types::{Entries, Entry, Refusal, Reply};
 
 /// A reply, in short: a log is its number of entries.
 #[derive(Clone, Copy, PartialEq, Eq)]

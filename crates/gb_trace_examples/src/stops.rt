@@ -10,26 +10,16 @@ use crate::worked::{
     ALL_ACK, BEST_EFFORT, EMPTY_PAYLOAD, FIFO, LAST_NODE, LAZY_RELAY, MAJORITY_ACK,
     NEXT_GENERATION, UNLIKE_SPECS,
 };
-use gb_cluster::answer::{Answer, Sending};
-use gb_cluster::event::Event;
-use gb_cluster::posted::Posted;
-use gb_node::answer::{Halted, PacketAnswer, Ticked};
-use gb_node::event::NodeEvent;
-use gb_node::packet_text::PacketText;
+use gb_cluster::{Answer, Event, Posted, Sending};
+use gb_node::{Halted, NodeEvent, PacketAnswer, PacketText, Ticked};
 use gb_rules::room::ROOMS;
-use gb_schedule::command::{ClusterStart, Command, Step};
 use gb_schedule::grammar::read_command;
-use gb_schedule::keys::{ADMIN_KEY, CLUSTER_KEY, Keys};
+use gb_schedule::keys::{ADMIN_KEY, CLUSTER_KEY};
+use gb_schedule::{ClusterStart, Command, Keys, Step};
+use gb_trace::Trace;
 use gb_trace::run::{are_placed, run};
-use gb_trace::trace::Trace;
-use gb_types::address::Addr;
 use gb_types::limits::{NODES, SILENCE_MAX, SILENCE_MIN};
-use gb_types::memory::OutOfMemory;
-use gb_types::node::{NodeId, NodeSet};
-use gb_types::plan::Plan;
-use gb_types::refusal::Refusal;
-use gb_types::reply::Reply;
-use gb_types::request::Request;
+use gb_types::{Addr, NodeId, NodeSet, OutOfMemory, Plan, Refusal, Reply, Request};
 use std::alloc::Global;
 use std::process::Abort;
 use std::rt::HostRuntime;

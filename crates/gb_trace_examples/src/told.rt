@@ -1,5 +1,5 @@
 // What happens to a group, in short.
-use gb_alone::event::{GroupEvent, GroupStep};
+use gb_alone::{GroupEvent, GroupStep};
 
 /// What happens at a node, in short: a command has no arguments.
 #[derive(Clone, Copy, PartialEq, Eq)]

@@ -30,3 +30,18 @@ pub mod spec;
 pub mod token_word;
 pub mod version;
 pub mod words;
+
+pub use address::{Addr, TenantId};
+pub use entry::{Entries, Entry};
+pub use kind::Kind;
+pub use memory::OutOfMemory;
+pub use message::MsgId;
+pub use new_message::NewMessage;
+pub use node::{NodeId, NodeSet};
+pub use payload::Payload;
+pub use plan::{Bounds, Plan};
+pub use refusal::Refusal;
+pub use reply::Reply;
+pub use request::Request;
+pub use spec::{Spec, TenantRow};
+pub use version::Version;

@@ -36,7 +36,7 @@ pub const SILENCE_MAX: u16 = 1_000;
 /// The greatest number of entries that a fetch returns.
 pub const FETCH: u32 = 16;
 
-/// The greatest number of groups that all tenants of a node may reserve.
+/// The number of places for groups at a node: one for each group that may live in it at once.
 pub const PLACES: u16 = 4_096;
 
 // Definitions cite these values.

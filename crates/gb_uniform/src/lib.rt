@@ -6,3 +6,6 @@
 pub mod all_ack;
 pub mod majority_ack;
 pub mod modules;
+
+pub use all_ack::AllAcked;
+pub use majority_ack::MajorityAcked;

@@ -2,10 +2,8 @@
 ghost use Rattle.gb_uniform.specs.Rules.{majority_ack_rules};
 ghost use Rattle.gb_uniform.specs.MajorityAckLemmas.{majority_ack_more, majority_ack_delivers_more, majority_ack_own};
 
-use gb_layer::relay::Relay;
-use gb_layer::rule::Rule;
-use gb_types::message::MsgId;
-use gb_types::node::{NodeId, NodeSet};
+use gb_layer::{Relay, Rule};
+use gb_types::{MsgId, NodeId, NodeSet};
 
 /// The rule of majority-ack uniform reliable broadcast: a message is broadcast as soon as it is here, and delivered
 /// once more than half of the members hold it, whoever was noticed.

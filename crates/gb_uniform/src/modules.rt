@@ -11,9 +11,7 @@ ghost use Rattle.gb_layer.specs.Rule.{Nodes};
 
 use crate::all_ack::AllAcked;
 use crate::majority_ack::MajorityAcked;
-use gb_layer::beb::Beb;
-use gb_layer::layer::Layer;
-use gb_layer::relay::Relay;
+use gb_layer::{Beb, Layer, Relay};
 
 /// `AllAck` over `Beb` at the node `me`, in a group with these members, is all-ack uniform reliable broadcast. Over every lawful
 /// history, what a call hands up is what the module delivers, what it sends is what the module broadcasts, and all that came up is

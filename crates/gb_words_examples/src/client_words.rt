@@ -1,17 +1,18 @@
 //! Worked words, and the requests and tokens that they ask for.
 use clap::ArgMatches;
-use gb_cap::token::Need;
+use gb_cap::Need;
 use gb_client::blame::blame;
-use gb_client::fault::{ClientFault, fault_status};
+use gb_client::fault::fault_status;
 use gb_client::operating::{list_body, status_body, stop_body};
-use gb_client::secrets::{Secrets, read_secrets};
+use gb_client::secrets::read_secrets;
 use gb_client::show::token_line;
-use gb_client::task::{Asked, Errand, Task, fetch_of, request_of};
-use gb_client_words::words::{Plan, command, plan_of};
-use gb_session::head::Head;
-use gb_types::memory::OutOfMemory;
-use gb_types::node::NodeId;
+use gb_client::task::{fetch_of, request_of};
+use gb_client::{Asked, ClientFault, Errand, Secrets, Task};
+use gb_client_words::Plan;
+use gb_client_words::words::{command, plan_of};
+use gb_session::Head;
 use gb_types::words::split_words;
+use gb_types::{NodeId, OutOfMemory};
 use std::alloc::Global;
 use std::test::Fail;
 

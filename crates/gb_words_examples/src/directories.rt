@@ -1,12 +1,13 @@
 //! Worked words with a directory file: which of its tenants is looked up, and where each node is then asked.
 use clap::ArgMatches;
-use gb_client::fault::ClientFault;
-use gb_client::task::{Errand, Server, Task};
-use gb_client_run::listed::{ListFault, Listed, list, listed_at};
-use gb_client_words::words::{Lookup, Plan, command, plan_of};
+use gb_client::{ClientFault, Errand, Server, Task};
+use gb_client_run::listed::{list, listed_at};
+use gb_client_run::{ListFault, Listed};
+use gb_client_words::words::{command, plan_of};
+use gb_client_words::{Lookup, Plan};
 use gb_directory_file::read::read_directory;
 use gb_directory_file::words::fault_text;
-use gb_types::node::NodeId;
+use gb_types::NodeId;
 use std::alloc::Global;
 use std::test::Fail;
 

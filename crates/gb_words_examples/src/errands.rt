@@ -1,12 +1,10 @@
 //! Worked errands of the client: what its words ask of nodes that reply by a table, and what is printed of it.
 use clap::ArgMatches;
-use gb_client::fault::{ClientFault, fault_status};
-use gb_client::secrets::Secrets;
-use gb_client::task::{Errand, Task};
-use gb_client_run::importing::{Pauses, import};
-use gb_client_run::nodes::Nodes;
+use gb_client::fault::fault_status;
+use gb_client::{ClientFault, Errand, Secrets, Task};
+use gb_client_run::importing::import;
 use gb_client_run::obey::obey;
-use gb_client_run::target::Target;
+use gb_client_run::{Nodes, Pauses, Target};
 use gb_client_words::words::{command, plan_of};
 use std::alloc::Global;
 use std::test::Fail;

@@ -1,12 +1,11 @@
 //! Worked figures of nodes, and how they are told.
 ghost use Rattle.std.specs.Prelude.{◌<◌};
 
-use gb_status::board::Board;
-use gb_status::figure::{COUNT, FIGURES, Figure};
-use gb_status::figures::{Figures, NodeFigures};
-use gb_status::http::{Asked, answer, asked_for};
+use gb_status::figure::{COUNT, FIGURES};
+use gb_status::http::{answer, asked_for};
 use gb_status::text::{metrics_text, status_text};
-use gb_types::node::{NodeId, NodeSet};
+use gb_status::{Asked, Board, Figure, Figures, NodeFigures};
+use gb_types::{NodeId, NodeSet};
 use std::alloc::Global;
 use std::rt::HostRuntime;
 

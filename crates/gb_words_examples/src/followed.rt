@@ -2,15 +2,12 @@
 //! as a reply that is read and printed.
 use gb_client::answer::read_reply;
 use gb_client::exchange::receive;
-use gb_client::fault::ClientFault;
-use gb_client::secrets::Secrets;
 use gb_client::show::reply_lines;
-use gb_client::task::Asked;
+use gb_client::{Asked, ClientFault, Secrets};
 use gb_client_run::following::follow;
-use gb_session::head::Head;
-use gb_types::memory::OutOfMemory;
-use gb_types::node::NodeId;
+use gb_session::Head;
 use gb_types::words::split_words;
+use gb_types::{NodeId, OutOfMemory};
 use std::alloc::Global;
 use std::test::Fail;
 

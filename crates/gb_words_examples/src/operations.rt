@@ -1,9 +1,8 @@
 //! What the bodies of operations spell.
-use gb_session::ask::{Ask, read_ask};
+use gb_session::ask::read_ask;
 use gb_session::grammar::parse_request;
-use gb_session::operation::Operating;
-use gb_types::memory::OutOfMemory;
-use gb_types::refusal::Refusal;
+use gb_session::{Ask, Operating};
+use gb_types::{OutOfMemory, Refusal};
 use std::alloc::Global;
 use std::test::Fail;
 

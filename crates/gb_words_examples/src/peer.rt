@@ -1,7 +1,7 @@
 //! Worked words of gb_peer, what they name and tell a node, and what is said of words that are refused.
-use gb_peer_words::plan::PeerPlan;
+use gb_peer_words::PeerPlan;
 use gb_peer_words::words::{asked_text, read_words, refusal_text};
-use gb_serve_words::fault::WordFault;
+use gb_serve_words::WordFault;
 use std::alloc::{AllocError, Global};
 use std::net::{Ipv4Addr, Ipv6Addr, SocketAddr, SocketAddrV4, SocketAddrV6};
 

@@ -1,11 +1,10 @@
 //! Worked replies, and what is shown of them; messages of a session.
+use gb_client::ClientFault;
 use gb_client::answer::{read_reply, status_of};
 use gb_client::exchange::{receive, send};
-use gb_client::fault::ClientFault;
 use gb_client::operating::{is_status, read_page};
 use gb_client::show::{entry_lines, reply_lines};
-use gb_types::memory::OutOfMemory;
-use gb_types::reply::Reply;
+use gb_types::{OutOfMemory, Reply};
 use std::alloc::Global;
 use std::test::Fail;
 

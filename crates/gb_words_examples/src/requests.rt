@@ -1,13 +1,7 @@
 //! Tokens, and what the bodies of requests spell.
 use gb_session::grammar::parse_request;
-use gb_types::address::Addr;
-use gb_types::kind::Kind;
-use gb_types::memory::OutOfMemory;
-use gb_types::node::NodeId;
-use gb_types::refusal::Refusal;
-use gb_types::request::Request;
-use gb_types::spec::{Spec, TenantRow};
 use gb_types::token_word::read_token;
+use gb_types::{Addr, Kind, NodeId, OutOfMemory, Refusal, Request, Spec, TenantRow};
 use std::alloc::Global;
 use std::test::Fail;
 

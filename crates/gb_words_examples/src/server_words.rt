@@ -1,8 +1,7 @@
 //! Worked words, the plans that they are, and what is said of words that are refused.
-use gb_serve_words::fault::WordFault;
-use gb_serve_words::plan::ServePlan;
 use gb_serve_words::words::{asked_text, read_words, refusal_text};
-use gb_types::version::Version;
+use gb_serve_words::{ServePlan, WordFault};
+use gb_types::Version;
 use std::alloc::{AllocError, Global};
 use std::net::{Ipv4Addr, Ipv6Addr, SocketAddr, SocketAddrV4, SocketAddrV6};
 

@@ -7,14 +7,9 @@ ghost use Rattle.gb_worker.specs.Ended.{IsLost, IsPassing, IsUncounted};
 ghost use Rattle.gb_worker.specs.Gained.{Gains, IsCalled, IsStopped};
 
 use crate::end::Why;
-use gb_host::fault::HostFault;
-use gb_host::host::Host;
-use gb_host::names::Tapes;
-use gb_host::seat::Seat;
-use gb_node::answer::{NodeAnswer, PacketAnswer, Sent};
-use gb_node::event::NodeEvent;
-use gb_types::node::NodeId;
-use gb_types::refusal::Refusal;
+use gb_host::{Host, HostFault, Seat, Tapes};
+use gb_node::{NodeAnswer, NodeEvent, PacketAnswer, Sent};
+use gb_types::{NodeId, Refusal};
 use std::sync::Wait;
 
 // Returns true if the answer is Stopped, to a packet that came or to a packet to be sent.

@@ -10,3 +10,5 @@ pub mod pump;
 pub mod session;
 pub mod sessions;
 pub mod ticker;
+
+pub use sessions::{Ending, Stream};

@@ -16,15 +16,10 @@ ghost use Rattle.gb_worker.specs.Turns.{is_ack_due, SendsTo, IsPartTo, SendsAll,
 
 use crate::calling::make;
 use crate::end::{Why, WorkerEnd};
-use gb_host::gate::Gate;
-use gb_host::host::Host;
-use gb_host::names::Tapes;
-use gb_host::seat::Seat;
-use gb_node::answer::{NodeAnswer, PacketAnswer, Sent};
-use gb_node::event::NodeEvent;
-use gb_node::packet_text::PacketText;
-use gb_port::port::Port;
-use gb_types::node::{NodeId, NodeSet};
+use gb_host::{Gate, Host, Seat, Tapes};
+use gb_node::{NodeAnswer, NodeEvent, PacketAnswer, PacketText, Sent};
+use gb_port::Port;
+use gb_types::{NodeId, NodeSet};
 use std::sync::Wait;
 
 /// The number of packets that a turn receives at most.

@@ -3,13 +3,9 @@ ghost use Rattle.std.specs.Prelude.{◌≡◌, length, vec_len, IfOk};
 ghost use Rattle.std.specs.Thread.{IsSync};
 
 use crate::session::session;
-use gb_host::gate::Gate;
-use gb_host::host::Host;
-use gb_host::names::Tapes;
-use gb_host::seat::Seat;
-use gb_session::serve::{SessionEnd, SessionFault};
-use gb_types::memory::OutOfMemory;
-use gb_types::node::NodeId;
+use gb_host::{Gate, Host, Seat, Tapes};
+use gb_session::{SessionEnd, SessionFault};
+use gb_types::{NodeId, OutOfMemory};
 use std::alloc::Global;
 use std::io::{Read, Write};
 use std::sync::Wait;

@@ -6,12 +6,9 @@ ghost use Rattle.gb_worker.specs.Ticks.{HasTicked, IsTick};
 
 use crate::calling::ask;
 use crate::end::{Why, WorkerEnd};
-use gb_host::gate::Gate;
-use gb_host::host::Host;
-use gb_host::names::Tapes;
-use gb_host::seat::Seat;
-use gb_node::event::NodeEvent;
-use gb_types::node::NodeId;
+use gb_host::{Gate, Host, Seat, Tapes};
+use gb_node::NodeEvent;
+use gb_types::NodeId;
 use std::sync::Wait;
 
 // Makes a tick at a node, if the node is here.

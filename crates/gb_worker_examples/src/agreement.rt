@@ -1,9 +1,7 @@
 // The tapes of a closed host, compared with the calls in each seat's list.
-use gb_host::entry::SeatEntry;
-use gb_host::names::Tapes;
-use gb_host::seat::Seat;
-use gb_node::tape::{Tape, TapeEntry};
-use gb_types::memory::OutOfMemory;
+use gb_host::{Seat, SeatEntry, Tapes};
+use gb_node::{Tape, TapeEntry};
+use gb_types::OutOfMemory;
 use std::alloc::Global;
 
 // Returns the calls of a seat, copied.

@@ -1,23 +1,12 @@
 // The requests of callers: they add a tenant, make its groups, and say and fetch messages in them.
 use crate::plans::{FIRST, SECOND};
-use gb_cap::hmac::Key;
-use gb_cap::token::{Need, token};
-use gb_host::fault::HostFault;
-use gb_host::gate::{Gate, Open};
-use gb_host::host::Host;
-use gb_host::names::Tapes;
-use gb_host::seat::Seat;
-use gb_node::answer::{NodeAnswer, Sent};
-use gb_node::event::NodeEvent;
-use gb_types::address::Addr;
-use gb_types::kind::Kind;
-use gb_types::new_message::NewMessage;
-use gb_types::node::{NodeId, NodeSet};
-use gb_types::payload::Payload;
-use gb_types::refusal::Refusal;
-use gb_types::reply::Reply;
-use gb_types::request::Request;
-use gb_types::spec::{Spec, TenantRow};
+use gb_cap::token::token;
+use gb_cap::{Key, Need};
+use gb_host::{Gate, Host, HostFault, Open, Seat, Tapes};
+use gb_node::{NodeAnswer, NodeEvent, Sent};
+use gb_types::{
+    Addr, Kind, NewMessage, NodeId, NodeSet, Payload, Refusal, Reply, Request, Spec, TenantRow,
+};
 use std::alloc::Global;
 use std::sync::Wait;
 use std::thread;

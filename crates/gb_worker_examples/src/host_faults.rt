@@ -3,14 +3,10 @@ use crate::asking::{Unanswered, call};
 use crate::day::day_of_two;
 use crate::roles::Role;
 use crate::scenes::{Refused, Scene, whole};
-use gb_host::gate::Open;
-use gb_host::host::Host;
-use gb_host::names::Tapes;
-use gb_host::seat::Seat;
-use gb_node::event::NodeEvent;
-use gb_port::ring::RingPort;
-use gb_types::node::NodeId;
-use gb_types::version::Version;
+use gb_host::{Host, Open, Seat, Tapes};
+use gb_node::NodeEvent;
+use gb_port::RingPort;
+use gb_types::{NodeId, Version};
 use std::rt::HostRuntime;
 use std::sync::Wait;
 

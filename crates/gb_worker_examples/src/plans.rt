@@ -3,11 +3,9 @@ ghost use Rattle.std.specs.Prelude.{◌≡◌, vec_len, IfSome};
 ghost use Rattle.gb_host.specs.Plans.{IsPlan};
 
 use crate::asking::ADMIN_KEY;
-use gb_host::plan::HostPlan;
+use gb_host::HostPlan;
 use gb_types::limits::NODES;
-use gb_types::node::NodeId;
-use gb_types::plan::Plan;
-use gb_types::version::Version;
+use gb_types::{NodeId, Plan, Version};
 use std::alloc::Global;
 
 pub const FIRST: NodeId = NodeId { number: 0 };
