@@ -7,6 +7,8 @@ mod chat;
 #[cfg(test)]
 mod client_streams;
 #[cfg(test)]
+mod figures;
+#[cfg(test)]
 mod keys;
 #[cfg(test)]
 mod many_nodes;

@@ -1,5 +1,5 @@
 use Rattle.std.proofs.Common.{◌≤◌}
-use Rattle.gb_stack_examples.proofs.stacks.compare_kind.Given as goal
+use Rattle.gb_broadcast_examples.proofs.stacks.compare_kind.Given as goal
 
 abbrev pub invariant-loop-n : goal.invariant-loop-n
 invariant-loop-n g l = l.whole ≤ l.n

@@ -1,6 +1,6 @@
 use Rattle.std.proofs.Common.{take, All}
 use Rattle.gb_frame.specs.Spelling.{HasGeneration}
-use Rattle.gb_part_examples.proofs.packets.are_told.Given as goal
+use Rattle.gb_packet_examples.proofs.packets.are_told.Given as goal
 
 abbrev pub invariant-loop-item : goal.invariant-loop-item
 invariant-loop-item l = All (HasGeneration l.fn.version) (take l.item-index l.items)

@@ -1,5 +1,5 @@
 use Rattle.std.proofs.Common.{arith}
-use Rattle.gb_part_examples.proofs.packets.can_tell.Goals as goal
+use Rattle.gb_packet_examples.proofs.packets.can_tell.Goals as goal
 
 pub returns-in-Three : goal.returns-in-Three
 returns-in-Three c = λ _. rw c.in-Three.is (omega arith)

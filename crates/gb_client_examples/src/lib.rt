@@ -1,0 +1,12 @@
+//! The client, as tests: what it asks of nodes and what it prints of their replies, logs that are followed, and directory files. This crate has
+//! tests only.
+#![tactic(auto)]
+
+#[cfg(test)]
+mod directories;
+#[cfg(test)]
+mod errands;
+#[cfg(test)]
+mod followed;
+#[cfg(test)]
+mod replies;
