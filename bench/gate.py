@@ -3,9 +3,11 @@ crate's checks, read from /proc once a second.
 
 A crate's work has three parts: its proof, the proof of its tests (which proves the crate once more), and its wrong bodies
 (`crates/NAME/must-fail`), which are tried on copies of the crate. A crate's wall time is that in which some check of it ran.
-What runs for less than a second may be missed; the total of the processor time is the operating system's own count."""
+What runs for less than a second may be missed; the total of the processor time is the operating system's own count. Stopped by Ctrl-C
+or SIGTERM it stops the gate and prints what was spent until then."""
 import os
 import resource
+import signal
 import subprocess
 import sys
 import time
@@ -34,6 +36,8 @@ def checks():
 def main():
     start, spent, wall = time.time(), {}, {}
     gate = subprocess.Popen(["rt", "ci", *sys.argv[1:]])
+    for number in (signal.SIGINT, signal.SIGTERM):
+        signal.signal(number, lambda number, _: gate.send_signal(number))
     while gate.poll() is None:
         now = list(checks())
         for pid, crate, part, seconds in now:
