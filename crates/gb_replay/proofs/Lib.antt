@@ -1,2 +1,3 @@
 mod LineLemmas
 mod ReplayLemmas
+mod EntryLemmas

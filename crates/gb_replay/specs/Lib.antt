@@ -1,3 +1,4 @@
 pub mod ScheduleText
 pub mod Replay
+pub mod Entries
 pub mod Complaint

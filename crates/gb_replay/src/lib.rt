@@ -3,6 +3,7 @@
 
 pub mod complaint;
 pub mod difference;
+pub mod laws;
 pub mod lines;
 pub mod replay;
 pub mod steps;
