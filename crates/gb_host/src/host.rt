@@ -175,7 +175,8 @@ impl<L: Tapes> Host<L> {
         ensures fault { IfErr result (IsRefused L.plan self.now.here seat.old node) }
         ensures err { OnErr result (seat.new ≡ seat.old) }
     {
-        if !self.here.contains(node) {
+        let is_here = self.here.contains(node);
+        if !is_here {
             drop(event);
             return Err(HostFault::NoNode);
         }
