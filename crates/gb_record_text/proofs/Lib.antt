@@ -8,4 +8,6 @@ pub mod OneRequest
 pub mod OneEvent
 pub mod OneAnswer
 pub mod OneLine
+pub mod SameLines
+pub mod OneRecord
 pub mod Turns
