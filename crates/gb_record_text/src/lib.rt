@@ -4,6 +4,7 @@
 #![tactic(auto)]
 
 pub mod head;
+pub mod laws;
 pub mod reader;
 pub mod reading;
 pub mod record;
