@@ -1,5 +1,5 @@
 -- Numbers of nodes with a byte between them.
-use Rattle.std.proofs.Common.{◌≡◌, ◌≢◌, ℕ, ◌+◌, ◌^◌, ◌<◌, ◌||◌, Bool, true, nat_eq, inl, inr, List, [], ◌∷◌, ◌++◌, length, refl, sym, ap, ◌∙◌, arith, decimal}
+use Rattle.std.proofs.Common.{◌≡◌, ℕ, ◌+◌, ◌<◌, ◌||◌, true, nat_eq, inl, inr, List, [], ◌∷◌, ◌++◌, length, refl, sym, ap, ◌∙◌, arith, decimal}
 use Rattle.std.specs.Int.{IsInRange}
 use Rattle.std.specs.List.{list_any, join_with_byte}
 use Rattle.std.specs.Prelude.{map}
@@ -10,11 +10,11 @@ use Rattle.std.specs.FinSet.{nat_cmp-IsAntisymmetric}
 use Rattle.std.proofs.Math.Bool.{or-true}
 use Rattle.std.proofs.lemmas.Bool.{eq-eqb}
 use Rattle.std.proofs.lemmas.Fmt.{decimal_injective, decimal_nonempty}
-use Rattle.std.proofs.lemmas.List.{length-append, append-nil}
+use Rattle.std.proofs.lemmas.List.{length-append}
 use Rattle.gb_types.specs.declared.limits.TheConstants.{NODES}
 use Rattle.gb_types.specs.MembersWord.{members_word}
 use Rattle.gb_types.specs.Rising.{rising, AreNodes}
-use Rattle.gb_types.proofs.CutLemmas.{Without, Begins, cut, without-append, without-decimal}
+use Rattle.gb_types.proofs.CutLemmas.{Without, Begins, cut, without-decimal}
 use Rattle.gb_types.proofs.RisingLemmas.{any-rising}
 use Rattle.gb_record_text.proofs.TextLemmas.{joined_by_commas}
 use Rattle.gb_record_text.specs.RecordText.{each_after_comma}

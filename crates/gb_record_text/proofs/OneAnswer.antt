@@ -1,20 +1,14 @@
 -- Two answers of one sort with one text are equal.
-use Rattle.std.proofs.Common.{◌≡◌, ◌≢◌, ℕ, ◌^◌, ◌<◌, Bool, true, false, nat_eq, List, [], ◌∷◌, ◌++◌, length, get_or, codes, decimal, refl, sym, ap, subst, ◌∙◌, arith, append_assoc}
-use Rattle.std.specs.FinSet as set
-use Rattle.std.specs.Ordering.{nat_cmp}
+use Rattle.std.proofs.Common.{◌≡◌, ℕ, ◌^◌, ◌<◌, nat_eq, List, [], ◌∷◌, ◌++◌, get_or, codes, decimal, refl, sym, ap, subst, ◌∙◌, arith}
 use Rattle.std.specs.Prelude.{if◌then◌else◌}
 use Rattle.std.proofs.lemmas.Fmt.{decimal_injective}
 use Rattle.hex.specs.Hex.{IsBytes}
 use Rattle.gb_types.specs.Laws.{OneTextOneReply, FitsReply}
 use Rattle.gb_types.specs.PayloadWord.{payload_word}
-use Rattle.gb_types.specs.Refusal.{refusal_number, refusal_name}
 use Rattle.gb_types.specs.ReplyText.{reply_spelling}
-use Rattle.gb_types.specs.RequestWords.{IsLong}
-use Rattle.gb_types.specs.Rising.{rising, AreNodes}
+use Rattle.gb_types.specs.Rising.{rising}
 use Rattle.gb_types.specs.declared.refusal.Refusal.{Refusal}
-use Rattle.gb_types.specs.declared.reply.Reply.{Reply}
-use Rattle.gb_types.specs.declared.reply.Reply.TheVariants.{Done, Said, Log, Refused}
-use Rattle.gb_types.proofs.CutLemmas.{cut}
+use Rattle.gb_types.specs.declared.reply.Reply.TheVariants.{Refused}
 use Rattle.gb_types.proofs.PayloadLemmas.{same_payload}
 use Rattle.gb_frame.specs.Faults.{fault_number}
 use Rattle.gb_frame.specs.declared.fault.PacketFault.{PacketFault}
@@ -38,7 +32,7 @@ use Rattle.gb_simulate.specs.AnswerText.{frame_word, fault_name, fault_spelling,
 use Rattle.gb_record_text.specs.RecordText.{taken_text, sent_text, answer_text}
 use Rattle.gb_record_text.specs.Fitting.{FitsTaken, FitsSent, FitsTicked, FitsAnswer, IsAnswerOf}
 use Rattle.gb_record_text.proofs.ListedLemmas.{AreBelow, rising-below, same_rising, each_after, same_each, dash_is_none}
-use Rattle.gb_record_text.proofs.WordLemmas.{Solid, solid-decimal, solid-node, solid-known, other, same_node, spaced, AllSolid, Joins, joins_word, joined_last, peeled}
+use Rattle.gb_record_text.proofs.WordLemmas.{Solid, solid-decimal, solid-known, other, same_node, spaced, AllSolid, Joins, joins_word, joined_last, peeled}
 
 -- what became of a frame, by the first byte of its word
 frame_of : ℕ → Frame

@@ -1,7 +1,6 @@
 -- Two records with one text are equal.
 use Rattle.std.proofs.Common.{◌≡◌, ◌≢◌, ℕ, ◌^◌, ◌<◌, Bool, true, false, inr, List, [], ◌∷◌, ◌++◌, length, get_or, codes, decimal, refl, sym, ap, subst, ◌∙◌, arith, append_assoc}
-use Rattle.std.specs.Prelude.{All, if◌then◌else◌, option_map, Option, Some, None}
-use Rattle.std.specs.Option.{unwrap_or}
+use Rattle.std.specs.Prelude.{All, if◌then◌else◌}
 use Rattle.std.proofs.lemmas.Fmt.{decimal_injective}
 use Rattle.std.proofs.lemmas.List.Elements.{All-head, All-tail}
 use Rattle.gb_types.specs.RequestWords.{IsShort}
@@ -12,13 +11,11 @@ use Rattle.gb_types.specs.declared.version.Version.TheVariants.{One, Two, Three}
 use Rattle.gb_types.proofs.CutLemmas.{Without, cut}
 use Rattle.gb_node.specs.declared.tape.TapeEntry.{TapeEntry}
 use Rattle.gb_record_text.specs.RecordText.{after_space, entry_line, entry_lines, head_line, last_line}
-use Rattle.gb_record_text.specs.Records.{IsRecord}
 use Rattle.gb_record_text.specs.declared.head.RecordHead.{RecordHead}
-use Rattle.gb_record_text.specs.declared.reader.Record.{Record}
 use Rattle.gb_record_text.specs.Fitting.{Fits, FitsHead}
 use Rattle.gb_record_text.specs.Laws.{OneLineOneEntry, OneTextOneRecord}
 use Rattle.gb_record_text.proofs.OneEvent.{event_words}
-use Rattle.gb_record_text.proofs.OneLine.{seat_words, behind_event, line_parts}
+use Rattle.gb_record_text.proofs.OneLine.{behind_event, line_parts}
 use Rattle.gb_record_text.proofs.SameLines.{line_clear, same_first}
 use Rattle.gb_record_text.proofs.WordLemmas.{Solid, solid-decimal, solid-node, solid-known, other, same_node, spaced, AllSolid, Joins, adds_word, joins_more, one_line, peeled}
 

@@ -1,5 +1,5 @@
 -- Two requests with one text are equal.
-use Rattle.std.proofs.Common.{◌≡◌, ◌≢◌, ℕ, ◌^◌, ◌<◌, Bool, true, false, nat_eq, List, [], ◌∷◌, ◌++◌, length, get_or, Option, Some, None, codes, decimal, refl, sym, ap, subst, ◌∙◌, arith}
+use Rattle.std.proofs.Common.{◌≡◌, ℕ, List, [], ◌∷◌, Option, Some, None, codes, decimal, refl, sym, ap, subst, arith}
 use Rattle.std.specs.Option.{ForSome}
 use Rattle.std.proofs.lemmas.Fmt.{decimal_injective}
 use Rattle.hex.specs.Hex.{IsBytes, encode_lower}
@@ -7,7 +7,7 @@ use Rattle.gb_types.specs.KindWord.{kind_word}
 use Rattle.gb_types.specs.Laws.{OneWordOneKind}
 use Rattle.gb_types.specs.MembersWord.{members_word}
 use Rattle.gb_types.specs.PayloadWord.{payload_word}
-use Rattle.gb_types.specs.RequestWords.{IsLong, IsGroup, group_word}
+use Rattle.gb_types.specs.RequestWords.{IsLong, group_word}
 use Rattle.gb_types.specs.declared.address.Addr.{Addr}
 use Rattle.gb_types.specs.declared.new_message.NewMessage.{NewMessage}
 use Rattle.gb_types.specs.declared.node.NodeId.{NodeId}
@@ -18,10 +18,10 @@ use Rattle.gb_types.specs.declared.spec.TenantRow.{TenantRow}
 use Rattle.gb_types.proofs.CutLemmas.{Without, without-decimal}
 use Rattle.gb_types.proofs.GroupWordLemmas.{one_address}
 use Rattle.gb_types.proofs.PayloadLemmas.{same_payload}
-use Rattle.gb_record_text.specs.Fitting.{FitsAddress, FitsRow, FitsSpec, FitsMessage, FitsRequest}
+use Rattle.gb_record_text.specs.Fitting.{FitsAddress, FitsRow, FitsSpec, FitsRequest}
 use Rattle.gb_record_text.proofs.ListedLemmas.{same_members}
 use Rattle.gb_record_text.proofs.RequestLemmas.{request_head, request_fields, by_words, behind_payload, solid-fields, solid-by, solid-front, long}
-use Rattle.gb_record_text.proofs.WordLemmas.{solid-known, other, same_node, same_digits, spaced, AllSolid, peel, peeled}
+use Rattle.gb_record_text.proofs.WordLemmas.{solid-known, other, same_node, same_digits, spaced, peel, peeled}
 
 same_long : (m n : ℕ) → IsLong m → IsLong n → decimal m ≡ decimal n → m ≡ n
 same_long m n hm hn e = decimal_injective m n (omega (arith, hm)) (omega (arith, hn)) e

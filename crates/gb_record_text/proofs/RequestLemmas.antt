@@ -1,14 +1,12 @@
 -- A request's text comes apart into its words, and an event's.
-use Rattle.std.proofs.Common.{◌≡◌, ◌≢◌, ℕ, ◌^◌, ◌<◌, ◌==◌, Bool, true, false, nat_eq, List, [], ◌∷◌, ◌++◌, length, Option, Some, None, codes, decimal, refl, sym, ap, subst, ◌∙◌, arith, append_assoc}
+use Rattle.std.proofs.Common.{ℕ, ◌==◌, true, false, List, [], ◌∷◌, ◌++◌, Option, Some, None, codes, decimal, refl, sym, subst, arith, append_assoc}
 use Rattle.std.specs.Prelude.{if◌then◌else◌}
 use Rattle.std.specs.Option.{ForSome}
-use Rattle.std.proofs.lemmas.Fmt.{decimal_injective}
 use Rattle.hex.specs.Hex.{IsBytes, encode_lower}
 use Rattle.gb_types.specs.KindWord.{kind_word}
-use Rattle.gb_types.specs.Laws.{OneWordOneKind}
 use Rattle.gb_types.specs.MembersWord.{members_word}
 use Rattle.gb_types.specs.PayloadWord.{payload_word}
-use Rattle.gb_types.specs.RequestWords.{IsLong, IsGroup, group_word, with_dot, generation_word}
+use Rattle.gb_types.specs.RequestWords.{IsLong, IsGroup, group_word, with_dot}
 use Rattle.gb_types.specs.declared.address.Addr.{Addr}
 use Rattle.gb_types.specs.declared.kind.Kind.{Kind}
 use Rattle.gb_types.specs.declared.kind.Kind.TheVariants.{Beb, Lazy, Eager, AllAck, Majority, FifoBeb, FifoLazy, FifoEager, FifoAllAck, FifoMajority}
@@ -18,12 +16,9 @@ use Rattle.gb_types.specs.declared.request.Request.{Request}
 use Rattle.gb_types.specs.declared.request.Request.TheVariants.{AddTenant, Make, OpenGroup, ShutGroup, DropGroup, Say, Fetch}
 use Rattle.gb_types.specs.declared.spec.Spec.{Spec}
 use Rattle.gb_types.specs.declared.spec.TenantRow.{TenantRow}
-use Rattle.gb_types.proofs.CutLemmas.{Without, without-decimal}
-use Rattle.gb_types.proofs.GroupWordLemmas.{one_address}
-use Rattle.gb_types.proofs.PayloadLemmas.{same_payload}
 use Rattle.gb_record_text.specs.RecordText.{after_space, address_text, token_text, limits_text, row_text, spec_text, seq_text, request_text}
-use Rattle.gb_record_text.specs.Fitting.{FitsAddress, FitsRow, FitsSpec, FitsMessage, FitsRequest}
-use Rattle.gb_record_text.proofs.ListedLemmas.{same_members, solid-members}
+use Rattle.gb_record_text.specs.Fitting.{FitsAddress, FitsRequest}
+use Rattle.gb_record_text.proofs.ListedLemmas.{solid-members}
 use Rattle.gb_record_text.proofs.WordLemmas.{Solid, solid-append, solid-decimal, solid-node, solid-payload, solid-encode, solid-known, AllSolid, Adds, Joins, adds_word, adds_more, joins_more}
 
 -- a group's word

@@ -1,5 +1,5 @@
 -- A line has no line feed, so lines come apart in only one way.
-use Rattle.std.proofs.Common.{◌≡◌, ◌≢◌, ℕ, ◌^◌, ◌<◌, Bool, true, false, ◌&&◌, nat_lt, inr, List, [], ◌∷◌, ◌++◌, length, codes, decimal, refl, sym, ap, subst, ◌∙◌, arith}
+use Rattle.std.proofs.Common.{◌≡◌, ℕ, ◌^◌, ◌<◌, Bool, true, ◌&&◌, nat_lt, inr, List, [], ◌∷◌, ◌++◌, length, codes, decimal, refl, sym, subst, arith}
 use Rattle.std.specs.List.{All, flat_map}
 use Rattle.std.proofs.lemmas.Bool.{ltb-true}
 use Rattle.std.proofs.lemmas.List.Elements.{All-head, All-tail}
@@ -15,7 +15,7 @@ use Rattle.gb_types.specs.declared.refusal.Refusal.TheVariants.{Denied, NoGroup,
 use Rattle.gb_types.specs.declared.reply.Reply.{Reply}
 use Rattle.gb_types.specs.declared.reply.Reply.TheVariants.{Done, Said, Log, Refused}
 use Rattle.gb_types.proofs.BoolLemmas.{and_left, and_right}
-use Rattle.gb_types.proofs.CutLemmas.{Without, cut, without-append, without-decimal}
+use Rattle.gb_types.proofs.CutLemmas.{Without, cut, without-append}
 use Rattle.gb_frame.specs.Faults.{fault_number}
 use Rattle.gb_frame.specs.declared.fault.PacketFault.{PacketFault}
 use Rattle.gb_frame.specs.declared.fault.PacketFault.TheVariants.{Short, Magic, Version, Node, Mask, Count, Length, Trailing, TooLong as LongPacket, Tag}

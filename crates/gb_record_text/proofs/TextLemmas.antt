@@ -4,7 +4,7 @@ use Rattle.std.proofs.lemmas.List.{append_assoc, append-nil}
 use Rattle.std.specs.FinSet as set
 use Rattle.std.specs.List.{join_with_byte}
 use Rattle.std.specs.Ordering.{nat_cmp}
-use Rattle.std.specs.Prelude.{codes, decimal, map, Result, Ok, Err, OnOk}
+use Rattle.std.specs.Prelude.{decimal, map, Result, Ok, Err, OnOk}
 use Rattle.gb_types.specs.MembersWord.{members_word}
 use Rattle.gb_types.specs.Rising.{rising, rising_from}
 use Rattle.gb_record_text.specs.RecordText.{each_after_comma}

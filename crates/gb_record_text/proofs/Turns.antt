@@ -1,13 +1,13 @@
 -- At each turn of a node the answer is of the event's sort.
-use Rattle.std.proofs.Common.{◌≡◌, Bool, true, false, inl, inr, ℕ, refl, sym, ap, subst, ◌∙◌}
+use Rattle.std.proofs.Common.{true, false, inl, inr, ℕ, refl, sym, subst}
 use Rattle.std.specs.Prelude.{if◌then◌else◌}
 use Rattle.gb_types.specs.declared.node.NodeId.{NodeId}
 use Rattle.gb_types.specs.declared.refusal.Refusal.TheVariants.{OutOfMemory}
 use Rattle.gb_types.specs.declared.reply.Reply.TheVariants.{Refused}
-use Rattle.gb_node.specs.NodeStep.{turn, running_turn, stopped_answer, IsStarved, IsTurn}
+use Rattle.gb_node.specs.NodeStep.{turn, running_turn, stopped_answer, IsStarved}
 use Rattle.gb_node.specs.NodeValue.{NodeValue}
 use Rattle.gb_node.specs.declared.answer.NodeAnswer.{NodeAnswer}
-use Rattle.gb_node.specs.declared.answer.NodeAnswer.TheVariants.{Reply as Replied, Taken, Sent, Ticked, Halted as Halts}
+use Rattle.gb_node.specs.declared.answer.NodeAnswer.TheVariants.{Reply as Replied, Sent}
 use Rattle.gb_node.specs.declared.answer.Sent.{Sent as SentValue}
 use Rattle.gb_node.specs.declared.answer.Sent.TheVariants.{Packet as SentPacket, Nothing, Refused as SentRefused}
 use Rattle.gb_node.specs.declared.event.NodeEvent.{NodeEvent}

@@ -1,5 +1,5 @@
 -- Words between spaces: a text comes apart into them in only one way.
-use Rattle.std.proofs.Common.{◌≡◌, ◌≢◌, ℕ, zero, suc, ◌+◌, ◌*◌, ◌^◌, ◌<◌, Bool, true, false, ◌&&◌, nat_eq, nat_lt, inl, inr, List, [], ◌∷◌, ◌++◌, length, get_or, codes, decimal, refl, sym, ap, subst, ◌∙◌, arith, append_assoc}
+use Rattle.std.proofs.Common.{◌≡◌, ℕ, zero, suc, ◌+◌, ◌*◌, ◌^◌, ◌<◌, Bool, true, false, ◌&&◌, nat_eq, nat_lt, inr, List, [], ◌∷◌, ◌++◌, length, get_or, codes, decimal, refl, sym, ap, subst, ◌∙◌, arith, append_assoc}
 use Rattle.std.proofs.lemmas.Bool.{eq-eqb, ltb-true}
 use Rattle.std.proofs.lemmas.Fmt.{decimal_injective}
 use Rattle.hex.specs.Hex.{IsBytes, encode_lower, encode_with}
@@ -125,11 +125,11 @@ adds_word w = record { is = λ t. refl }
 
 pub adds_more : {x y : List ℕ} {ws vs : List (List ℕ)} → Adds x ws → Adds y vs → Adds (x ++ y) (ws ++ vs)
 adds_more {x = x} {y = y} {ws = ws} {vs = vs} first next =
-    record { is = λ t. append_assoc x y (32 ∷ t) ∙ (ap (λ s. x ++ s) (next.is t) ∙ (first.is (spaced vs t) ∙ ap (λ s. 32 ∷ s) (spaced-append ws vs t))); }
+    record { is = λ t. append_assoc x y (32 ∷ t) ∙ (ap (λ s. x ++ s) (next.is t) ∙ (first.is (spaced vs t) ∙ ap (λ s. 32 ∷ s) (spaced-append ws vs t))) }
 
 pub joins_more : {x y : List ℕ} {ws vs : List (List ℕ)} → Joins x ws → Adds y vs → Joins (x ++ y) (ws ++ vs)
 joins_more {x = x} {y = y} {ws = ws} {vs = vs} first next =
-    record { is = λ t. append_assoc x y (32 ∷ t) ∙ (ap (λ s. x ++ s) (next.is t) ∙ (first.is (spaced vs t) ∙ spaced-append ws vs t)); }
+    record { is = λ t. append_assoc x y (32 ∷ t) ∙ (ap (λ s. x ++ s) (next.is t) ∙ (first.is (spaced vs t) ∙ spaced-append ws vs t)) }
 
 -- a word behind its space
 pub joins_word : {x : List ℕ} {ws : List (List ℕ)} → Joins x ws → (v : List ℕ) → Joins (x ++ codes " " ++ v) (ws ++ v ∷ [])
