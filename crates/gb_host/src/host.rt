@@ -175,8 +175,7 @@ impl<L: Tapes> Host<L> {
         ensures fault { IfErr result (IsRefused L.plan self.now.here seat.old node) }
         ensures err { OnErr result (seat.new ≡ seat.old) }
     {
-        let is_here = self.here.contains(node);
-        if !is_here {
+        if !self.here.contains(node) {
             drop(event);
             return Err(HostFault::NoNode);
         }
