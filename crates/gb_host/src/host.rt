@@ -1,11 +1,10 @@
 //! The host.
-ghost use Rattle.std.specs.Prelude.{◌≡◌, ◌+◌, ◌<◌, ◌≤◌, ◌++◌, ◌∷◌, [], true, false, None, IfNone, IfSome, IfOk, IfErr, OnOk, OnErr, length, vec_len};
+ghost use Rattle.std.specs.Prelude.{◌≡◌, ◌+◌, ◌<◌, ◌≤◌, ◌++◌, ◌∷◌, [], true, false, None, IfSome, IfOk, IfErr, OnOk, OnErr, length, vec_len};
 ghost use Rattle.std.specs.FinSet as set;
 ghost use Rattle.gb_types.specs.declared.limits.TheConstants.{NODES};
 ghost use Rattle.gb_host.specs.Happened.{GoesOn};
 ghost use Rattle.gb_host.specs.HostValue.{AreHere, AreNew, AreOpened, IsOpened, IsRefused};
 ghost use Rattle.gb_host.specs.Listed.{IsListed};
-ghost use Rattle.gb_host.specs.Nothing.{is_nothing, HasNothing};
 ghost use Rattle.gb_host.specs.Pasts.{AreBlank, AreOfBooks, AreUnseen, book_at, books_of};
 ghost use Rattle.gb_host.specs.Plans.{IsPlan};
 
@@ -154,36 +153,6 @@ impl<L: Tapes> Host<L> {
         }
         let _ = gate.pass();
         hosted.step(seat, event)
-    }
-
-    /// Makes one event happen at a node by which it may send, and returns its answer. `None`: the node has nothing to send. Then
-    /// no event has happened, and nothing has changed.
-    pub fn call_to_send<R: Wait>(
-        &self,
-        rt: &R,
-        seat: &mut Seat<L>,
-        node: NodeId,
-        event: NodeEvent,
-    ) -> Result<Option<NodeAnswer>, HostFault>
-        ensures here { OnOk result (set.contains self.now.here node.number ≡ true) }
-        ensures past { IfOk result (λ o. IfSome o (λ a. GoesOn L.plan node seat.old seat.new event a)) }
-        ensures calls { IfOk result (λ o. IfSome o (λ a. seat.new.calls ≡ seat.old.calls ++ record { node = node; event = event; answer = a } ∷ [])) }
-        ensures something { IfOk result (λ o. IfSome o (λ a. is_nothing a ≡ false)) }
-        ensures nothing { IfOk result (λ o. IfNone o (HasNothing L.plan node seat.old event)) }
-        ensures same { IfOk result (λ o. IfNone o (seat.new ≡ seat.old)) }
-        ensures number { seat.new.number ≡ seat.old.number }
-        ensures fault { IfErr result (IsRefused L.plan self.now.here seat.old node) }
-        ensures err { OnErr result (seat.new ≡ seat.old) }
-    {
-        if !self.here.contains(node) {
-            drop(event);
-            return Err(HostFault::NoNode);
-        }
-        let mut hosted = self.lock_of(rt, node).lock(rt);
-        if hosted.me().number != node.number {
-            never(rt);
-        }
-        hosted.step_to_send(seat, event)
     }
 
     /// Lists at most `most` of a node's groups from the place `from` on, in the order in which they were made. The token has to

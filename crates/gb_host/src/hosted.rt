@@ -1,14 +1,11 @@
 //! A node under its lock.
-ghost use Rattle.std.specs.Prelude.{◌≡◌, ◌+◌, ◌-◌, ◌<◌, ◌≤◌, ◌^◌, ◌++◌, ◌∷◌, [], List, true, false, length, vec_len, IfOk, IfErr, IfNone, IfSome, OnOk, OnErr, IsSome, Option, cond, slice_index, slice_set, vec_capacity};
+ghost use Rattle.std.specs.Prelude.{◌≡◌, ◌+◌, ◌-◌, ◌<◌, ◌≤◌, ◌^◌, ◌++◌, ◌∷◌, [], List, true, false, length, vec_len, IfOk, IfErr, OnOk, OnErr, IsSome, Option, cond, slice_index, slice_set, vec_capacity};
 ghost use Rattle.gb_node.specs.NodeStep.{IsTurn, IsSpelt};
 ghost use Rattle.gb_node.specs.NodeValue.{new_node};
-ghost use Rattle.gb_node.specs.declared.answer.NodeAnswer.TheVariants.{Sent as WasSent};
-ghost use Rattle.gb_node.specs.declared.answer.Sent.TheVariants.{Nothing as SentNothing};
 ghost use Rattle.gb_host.specs.Happened.{GoesOn};
 ghost use Rattle.gb_host.specs.HostValue.{IsUnkept};
 ghost use Rattle.gb_host.specs.KeptPast.{kept_entries, IsKeptAt};
 ghost use Rattle.gb_host.specs.Listed.{IsListed};
-ghost use Rattle.gb_host.specs.Nothing.{is_nothing, HasNothing};
 ghost use Rattle.gb_host.specs.Pasts.{book_at};
 ghost use Rattle.gb_host.specs.Plans.{plan_of, IsPlan};
 ghost use Rattle.gb_host.specs.Replay.{IsReplay};
@@ -17,12 +14,12 @@ use crate::copies::answers;
 use crate::fault::HostFault;
 use crate::kept::{Kept, into_tape, keep, make_room};
 use crate::names::Tapes;
-use crate::pasts::{Made, NodePast, note, show};
+use crate::pasts::{Made, NodePast, note};
 use crate::plan::HostPlan;
 use crate::seat::Seat;
 use gb_cap::Token;
 use gb_node::past::pasts_say;
-use gb_node::{Node, NodeAnswer, NodeEvent, NodePlan, Sent, Tape};
+use gb_node::{Node, NodeAnswer, NodeEvent, NodePlan, Tape};
 use gb_table::Listing;
 use gb_types::{NodeId, Refusal};
 use std::alloc::Global;
@@ -153,16 +150,6 @@ impl<L: Tapes> Hosted<L> {
     }
 }
 
-// Returns true if the answer says that there is nothing to send.
-fn is_nothing(answer: &NodeAnswer) -> bool
-    ensures { result ≡ is_nothing answer.now }
-{
-    match answer {
-        NodeAnswer::Sent(Sent::Nothing) => true,
-        _ => false,
-    }
-}
-
 impl<L: Tapes> Hosted<L> {
     /// One event, atomic under the node's lock: the node's next state and answer. The past goes on with an entry, which the seat
     /// sees, and the seat's calls with a call; with tapes memory holds both, and with a ring the entry goes to the recorder. After a
@@ -174,60 +161,6 @@ impl<L: Tapes> Hosted<L> {
         ensures goes_on { IfOk result (λ a. GoesOn L.plan self.old.me seat.old seat.new event a) }
         ensures calls { IfOk result (λ a. seat.new.calls ≡ seat.old.calls ++ record { node = self.old.me; event = event; answer = a } ∷ []) }
         ensures counts { OnOk result (seat.new.counts ≡ slice_set seat.old.counts self.old.me.number (slice_index seat.old.counts self.old.me.number + 1)) }
-        ensures numbers { (self.new.me ≡ self.old.me) × (self.new.book ≡ self.old.book) × (seat.new.number ≡ seat.old.number) }
-        ensures fault { IfErr result (λ why. IsUnkept L.plan (slice_index seat.old.counts self.old.me.number) why) }
-        ensures err { OnErr result ((self.new ≡ self.old) × (seat.new ≡ seat.old)) }
-    {
-        match self.step_or_skip(seat, event, false) {
-            Ok(Some(answer)) => Ok(answer),
-            Ok(None) => unreachable!(),
-            Err(fault) => Err(fault),
-        }
-    }
-
-    /// One event by which the node may send, atomic under the node's lock. `None`: the node has nothing to send. Then nothing has
-    /// changed, and no past, no tape and no seat has the event. With an answer all is as after `step`. After a refusal nothing has
-    /// changed.
-    pub fn step_to_send(
-        &mut self,
-        seat: &mut Seat<L>,
-        event: NodeEvent,
-    ) -> Result<Option<NodeAnswer>, HostFault>
-        ensures turn { IfOk result (λ o. IfSome o (λ a. IsTurn self.old.node event a self.new.node)) }
-        ensures spelt { IfOk result (λ o. IfSome o (λ a. IsSpelt self.old.node event a)) }
-        ensures something { IfOk result (λ o. IfSome o (λ a. is_nothing a ≡ false)) }
-        ensures past { IfOk result (λ o. IfSome o (λ a. self.new.past ≡ self.old.past ++ record { seat = seat.old.number; count = slice_index seat.old.counts self.old.me.number; event = event; answer = a } ∷ [])) }
-        ensures goes_on { IfOk result (λ o. IfSome o (λ a. GoesOn L.plan self.old.me seat.old seat.new event a)) }
-        ensures calls { IfOk result (λ o. IfSome o (λ a. seat.new.calls ≡ seat.old.calls ++ record { node = self.old.me; event = event; answer = a } ∷ [])) }
-        ensures counts { IfOk result (λ o. IfSome o (λ _. seat.new.counts ≡ slice_set seat.old.counts self.old.me.number (slice_index seat.old.counts self.old.me.number + 1))) }
-        ensures nothing { IfOk result (λ o. IfNone o (IsTurn self.old.node event (WasSent SentNothing) self.old.node)) }
-        ensures has_nothing { IfOk result (λ o. IfNone o (HasNothing L.plan self.old.me seat.old event)) }
-        ensures same { IfOk result (λ o. IfNone o ((self.new ≡ self.old) × (seat.new ≡ seat.old))) }
-        ensures numbers { (self.new.me ≡ self.old.me) × (self.new.book ≡ self.old.book) × (seat.new.number ≡ seat.old.number) }
-        ensures fault { IfErr result (λ why. IsUnkept L.plan (slice_index seat.old.counts self.old.me.number) why) }
-        ensures err { OnErr result ((self.new ≡ self.old) × (seat.new ≡ seat.old)) }
-    {
-        self.step_or_skip(seat, event, true)
-    }
-
-    // One event. `None`, which it answers only if `skips`: the node has nothing to send, and nothing has changed.
-    fn step_or_skip(
-        &mut self,
-        seat: &mut Seat<L>,
-        event: NodeEvent,
-        skips: bool,
-    ) -> Result<Option<NodeAnswer>, HostFault>
-        ensures turn { IfOk result (λ o. IfSome o (λ a. IsTurn self.old.node event a self.new.node)) }
-        ensures spelt { IfOk result (λ o. IfSome o (λ a. IsSpelt self.old.node event a)) }
-        ensures something { IfOk result (λ o. IfSome o (λ a. skips ≡ true → is_nothing a ≡ false)) }
-        ensures past { IfOk result (λ o. IfSome o (λ a. self.new.past ≡ self.old.past ++ record { seat = seat.old.number; count = slice_index seat.old.counts self.old.me.number; event = event; answer = a } ∷ [])) }
-        ensures goes_on { IfOk result (λ o. IfSome o (λ a. GoesOn L.plan self.old.me seat.old seat.new event a)) }
-        ensures calls { IfOk result (λ o. IfSome o (λ a. seat.new.calls ≡ seat.old.calls ++ record { node = self.old.me; event = event; answer = a } ∷ [])) }
-        ensures counts { IfOk result (λ o. IfSome o (λ _. seat.new.counts ≡ slice_set seat.old.counts self.old.me.number (slice_index seat.old.counts self.old.me.number + 1))) }
-        ensures skips { IfOk result (λ o. IfNone o (skips ≡ true)) }
-        ensures nothing { IfOk result (λ o. IfNone o (IsTurn self.old.node event (WasSent SentNothing) self.old.node)) }
-        ensures has_nothing { IfOk result (λ o. IfNone o (HasNothing L.plan self.old.me seat.old event)) }
-        ensures same { IfOk result (λ o. IfNone o ((self.new ≡ self.old) × (seat.new ≡ seat.old))) }
         ensures numbers { (self.new.me ≡ self.old.me) × (self.new.book ≡ self.old.book) × (seat.new.number ≡ seat.old.number) }
         ensures fault { IfErr result (λ why. IsUnkept L.plan (slice_index seat.old.counts self.old.me.number) why) }
         ensures err { OnErr result ((self.new ≡ self.old) × (seat.new ≡ seat.old)) }
@@ -272,12 +205,6 @@ impl<L: Tapes> Hosted<L> {
                 return Err(fault);
             }
         };
-        if skips && is_nothing(&answer) {
-            drop(event);
-            drop(copies);
-            show(past, &seen[at]);
-            return Ok(None);
-        }
         counts[at] = count + 1;
         let call = Made {
             node: *me,
@@ -288,6 +215,6 @@ impl<L: Tapes> Hosted<L> {
         };
         note(past, &mut seen[at], calls, &call);
         keep(kept, list, *me, *number, count, event, copies, past);
-        Ok(Some(answer))
+        Ok(answer)
     }
 }

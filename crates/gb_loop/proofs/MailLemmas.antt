@@ -1,6 +1,6 @@
 -- What a node's port carried since its loop began.
-use Rattle.std.proofs.Common.{◌≡◌, ℕ, ◌==◌, Bool, false, List, [], ◌∷◌, ◌++◌, refl, sym, ap, ◌∙◌, Option, Some, None, Result, Ok, Err}
-use Rattle.std.specs.Prelude.{IfNone, IfOk, IfSome, OnErr}
+use Rattle.std.proofs.Common.{◌≡◌, ℕ, ◌==◌, Bool, false, List, [], ◌∷◌, ◌++◌, refl, sym, ap, ◌∙◌, Option, Some, Result, Ok, Err}
+use Rattle.std.specs.Prelude.{IfOk, OnErr}
 use Rattle.std.proofs.Math.Logic.{∥∥₁_map}
 use Rattle.std.proofs.lemmas.Bool.Decides.{Decides-eqb}
 use Rattle.std.proofs.lemmas.List.Folds.{list_all-append}
@@ -34,13 +34,6 @@ pub called_one : {S : Type 0} (seen : S → List SeatEntry) (s t : S) (me : Node
     → IfOk outcome (λ a. seen t ≡ seen s ++ noted me event a ∷ []) → OnErr outcome (t ≡ s) → HasCalled me (seen s) (seen t)
 called_one seen s t me event (Ok a) made same = (noted me event a ∷ [], made, and_both ((Decides-eqb me.number me.number).1 refl) refl)
 called_one seen s t me event (Err why) made same = ([], ap seen same ∙ sym (append_nil (seen s)), refl)
-
--- so where the call may have had no answer
-pub called_or_not : {S : Type 0} (seen : S → List SeatEntry) (s t : S) (me : NodeId) (event : NodeEvent) (outcome : Result (Option NodeAnswer) HostFault)
-    → IfOk outcome (λ o. IfSome o (λ a. seen t ≡ seen s ++ noted me event a ∷ [])) → IfOk outcome (λ o. IfNone o (t ≡ s)) → OnErr outcome (t ≡ s) → HasCalled me (seen s) (seen t)
-called_or_not seen s t me event (Ok (Some a)) made none same = (noted me event a ∷ [], made, and_both ((Decides-eqb me.number me.number).1 refl) refl)
-called_or_not seen s t me event (Ok None) made none same = ([], ap seen none ∙ sym (append_nil (seen s)), refl)
-called_or_not seen s t me event (Err why) made none same = ([], ap seen same ∙ sym (append_nil (seen s)), refl)
 
 -- what was called, and what is called then
 pub called_more : (me : NodeId) (old mid new : List SeatEntry) → ∥ HasCalled me old mid ∥₁ → HasCalled me mid new → ∥ HasCalled me old new ∥₁

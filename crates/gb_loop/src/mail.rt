@@ -72,7 +72,7 @@ pub struct Mail<'a, L: Tapes, H, P: Port> {
     pub ghost mailed: { ∥ HasMailed P.sends P.receives lost origin.port.value port origin.seat.value.calls seat.calls ∥₁ },
 }
 
-// One event at a node.
+// One event at a node: the only call of the host here.
 fn ask<L: Tapes, H: Wait>(
     rt: &H,
     host: &Host<L>,
@@ -87,22 +87,6 @@ fn ask<L: Tapes, H: Wait>(
     ensures here { HasCalled node seat.old.calls seat.new.calls }
 {
     host.call(rt, seat, node, event)
-}
-
-// One event by which a node may send. None: it has nothing to send, and no event has happened.
-fn ask_to_send<L: Tapes, H: Wait>(
-    rt: &H,
-    host: &Host<L>,
-    seat: &mut Seat<L>,
-    node: NodeId,
-    event: NodeEvent,
-) -> Result<Option<NodeAnswer>, HostFault>
-    ensures made { IfOk result (λ o. IfSome o (λ a. seat.new.calls ≡ seat.old.calls ++ noted node event a ∷ [])) }
-    ensures nothing { IfOk result (λ o. IfNone o (seat.new.calls ≡ seat.old.calls)) }
-    ensures none { OnErr result (seat.new.calls ≡ seat.old.calls) }
-    ensures here { HasCalled node seat.old.calls seat.new.calls }
-{
-    host.call_to_send(rt, seat, node, event)
 }
 
 // What a client is told of a call.
@@ -207,8 +191,7 @@ fn note_lack(answer: &NodeAnswer, is_short: &mut bool) {
     }
 }
 
-// One event by which a node sends to another, unless it has nothing to send. What it gives is handed to the port at once. Returns
-// true if it gave a packet.
+// One event by which a node sends to another. What it gives is handed to the port at once. Returns true if it gave a packet.
 fn send_at<L: Tapes, H: Wait, P: Port>(
     rt: &H,
     host: &Host<L>,
@@ -225,15 +208,12 @@ fn send_at<L: Tapes, H: Wait, P: Port>(
     ensures here { HasCalled node seat.old.calls seat.new.calls }
 {
     let figure = sent_figure(&event);
-    let asked = match ask_to_send(rt, host, seat, node, event) {
-        Ok(asked) => asked,
+    let answer = match ask(rt, host, seat, node, event) {
+        Ok(answer) => answer,
         Err(_) => {
             *is_short = true;
             return false;
         }
-    };
-    let Some(answer) = asked else {
-        return false;
     };
     note_lack(&answer, is_short);
     let text = match packet_of(answer) {
@@ -364,8 +344,7 @@ impl<'a, L: Tapes, H: Wait, P: Port> Mail<'a, L, H, P> {
         Some(Arrival { good, hint })
     }
 
-    /// One event by which the node sends to another, unless it has nothing to send. What it gives is handed to the port at once.
-    /// Returns true if it gave a packet.
+    /// One event by which the node sends to another. What it gives is handed to the port at once. Returns true if it gave a packet.
     pub fn send(&mut self, event: NodeEvent, to: NodeId) -> bool
         requires { destination event ≡ Some to }
         ensures mailed { HasMailed P.sends P.receives self.new.lost self.old.port self.new.port self.old.seat.calls self.new.seat.calls }

@@ -15,8 +15,6 @@ mod crowds;
 #[cfg(test)]
 mod fullest;
 #[cfg(test)]
-mod idle;
-#[cfg(test)]
 mod limits;
 #[cfg(test)]
 mod loops;
