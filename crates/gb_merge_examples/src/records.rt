@@ -110,7 +110,6 @@ fn records(alloc: Global) -> Result<Vec<Vec<u8>>, OutOfMemory> {
     for number in 0..tapes.len().min(2) {
         let node = NodeId::new(number as u8);
         let head = RecordHead {
-            is_redacted: false,
             node,
             nodes: plan.nodes,
             silence: plan.silence,

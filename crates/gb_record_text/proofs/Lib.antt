@@ -1,13 +1,3 @@
 pub mod TextLemmas
 pub mod LineLemmas
 pub mod RecordLemmas
-pub mod WordLemmas
-pub mod ListedLemmas
-pub mod RequestLemmas
-pub mod OneRequest
-pub mod OneEvent
-pub mod OneAnswer
-pub mod OneLine
-pub mod SameLines
-pub mod OneRecord
-pub mod Turns

@@ -4,7 +4,7 @@ use Rattle.std.proofs.lemmas.List.{append_assoc, append-nil}
 use Rattle.std.specs.FinSet as set
 use Rattle.std.specs.List.{join_with_byte}
 use Rattle.std.specs.Ordering.{nat_cmp}
-use Rattle.std.specs.Prelude.{decimal, map, Result, Ok, Err, OnOk}
+use Rattle.std.specs.Prelude.{codes, decimal, map, Result, Ok, Err, OnOk}
 use Rattle.gb_types.specs.MembersWord.{members_word}
 use Rattle.gb_types.specs.Rising.{rising, rising_from}
 use Rattle.gb_record_text.specs.RecordText.{each_after_comma}
@@ -13,7 +13,7 @@ rising_all : (s : set.FinSet nat_cmp) → rising s ≡ rising_from s 0
 unfolding rising rising_from
 rising_all s = refl
 
-pub joined_by_commas : (n : ℕ) (rest : List ℕ) → join_with_byte 44 (map decimal (n ∷ rest)) ≡ decimal n ++ each_after_comma rest
+joined_by_commas : (n : ℕ) (rest : List ℕ) → join_with_byte 44 (map decimal (n ∷ rest)) ≡ decimal n ++ each_after_comma rest
 joined_by_commas n [] = sym (append-nil (decimal n))
 joined_by_commas n (m ∷ rest) = ap (λ behind. decimal n ++ (44 ∷ behind)) (joined_by_commas m rest)
 

@@ -1,4 +1,2 @@
 pub mod RecordText
 pub mod Records
-pub mod Fitting
-pub mod Laws

@@ -1,5 +1,5 @@
 -- The text of a node's record: a line for each entry of its tape, in the words of a schedule and its answers, with tokens, keys and packets in full.
-use Rattle.std.specs.Prelude.{ℕ, List, [], ◌∷◌, ◌++◌, Option, Some, None, codes, decimal, if◌then◌else◌}
+use Rattle.std.specs.Prelude.{ℕ, List, [], ◌∷◌, ◌++◌, Option, Some, None, codes, decimal}
 use Rattle.hex.specs.Hex.{encode_lower}
 use Rattle.gb_types.specs.KindWord.{kind_word}
 use Rattle.gb_types.specs.PayloadWord.{payload_word}
@@ -112,9 +112,9 @@ abbrev pub entry_lines : NodeId → List TapeEntry → List ℕ
 entry_lines b [] = []
 entry_lines b (e ∷ es) = entry_line b e ++ 10 ∷ entry_lines b es
 
--- what a record says of its node and its cluster: `tape 1 NODE NODES SILENCE PLACES VERSION ROOM`, or `redacted 1 ..` where tokens and keys were replaced
+-- what a record says of its node and its cluster: `tape 1 NODE NODES SILENCE PLACES VERSION ROOM`
 abbrev pub head_line : RecordHead → List ℕ
-head_line h = (if h.is_redacted then codes "redacted 1" else codes "tape 1") ++ after_space (decimal h.node.number) ++ after_space (decimal h.nodes) ++ after_space (decimal h.silence) ++ after_space (decimal h.places) ++ after_space (decimal (limits_of h.version).byte) ++ after_space (decimal h.room)
+head_line h = codes "tape 1" ++ after_space (decimal h.node.number) ++ after_space (decimal h.nodes) ++ after_space (decimal h.silence) ++ after_space (decimal h.places) ++ after_space (decimal (limits_of h.version).byte) ++ after_space (decimal h.room)
 
 -- the line behind a tape that is whole
 abbrev pub last_line : List ℕ

@@ -1,5 +1,5 @@
 //! The first line of a record. It names the node and says what its cluster was made with.
-ghost use Rattle.std.specs.Prelude.{◌≡◌, ◌++◌, codes, if◌then◌else◌, OnOk, IfOk, IfSome};
+ghost use Rattle.std.specs.Prelude.{◌≡◌, ◌++◌, OnOk, IfOk, IfSome};
 ghost use Rattle.gb_record_text.specs.RecordText.{head_line};
 
 use crate::reading::read_node;
@@ -13,8 +13,6 @@ use std::alloc::Global;
 /// What a record says of its node and its cluster.
 #[derive(Clone, Copy, PartialEq, Eq)]
 pub struct RecordHead {
-    /// True if tokens and keys in the record were replaced.
-    pub is_redacted: bool,
     /// The node whose tape the record is.
     pub node: NodeId,
     /// How many nodes the cluster has, 1 to 32.
@@ -29,22 +27,11 @@ pub struct RecordHead {
     pub room: u16,
 }
 
-// Returns what a first line begins with.
-fn first_words(is_redacted: bool) -> &'static [u8]
-    ensures { result.now ≡ if is_redacted then codes "redacted 1" else codes "tape 1" }
-{
-    if is_redacted {
-        b"redacted 1"
-    } else {
-        b"tape 1"
-    }
-}
-
 /// Appends the first line of a record, without its line feed.
 pub fn put_head(out: &mut Vec<u8>, head: &RecordHead) -> Result<(), OutOfMemory>
     ensures { OnOk result (out.new.items ≡ out.old.items ++ head_line head.now) }
 {
-    put_bytes(out, first_words(head.is_redacted))?;
+    put_bytes(out, b"tape 1")?;
     put_after(out, u64::from(head.node.number))?;
     put_after(out, u64::from(head.nodes))?;
     put_after(out, u64::from(head.silence))?;
@@ -55,11 +42,10 @@ pub fn put_head(out: &mut Vec<u8>, head: &RecordHead) -> Result<(), OutOfMemory>
 
 // Returns what the words of a first line may say.
 fn read_words(words: &[&[u8]]) -> Option<RecordHead> {
-    let [kind, _one, node, nodes, silence, places, version, room] = words else {
+    let [_tape, _one, node, nodes, silence, places, version, room] = words else {
         return None;
     };
     Some(RecordHead {
-        is_redacted: **kind == *b"redacted".as_slice(),
         node: read_node(node)?,
         nodes: u8::try_from(read_u16(nodes)?).ok()?,
         silence: read_u16(silence)?,

@@ -4,7 +4,6 @@
 #![tactic(auto)]
 
 pub mod head;
-pub mod laws;
 pub mod reader;
 pub mod reading;
 pub mod record;

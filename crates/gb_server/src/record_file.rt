@@ -1,5 +1,5 @@
 //! The file of a node's record.
-ghost use Rattle.std.specs.Prelude.{◌≡◌, false, IfOk};
+ghost use Rattle.std.specs.Prelude.{◌≡◌, IfOk};
 ghost use Rattle.gb_types.specs.Version.{version_at};
 
 use gb_host::HostPlan;
@@ -107,10 +107,9 @@ fn make<F: Files<File = File>>(files: &F, name: &str) -> Result<File, RecordTrou
 
 // Returns what the first line of a node's record says.
 fn head_of(plan: &HostPlan, node: NodeId) -> RecordHead
-    ensures { result ≡ record { is_redacted = false; node = node; nodes = plan.now.cluster.nodes; silence = plan.now.cluster.silence; places = plan.now.cluster.places; version = version_at plan.now.cluster.versions node.number; room = plan.now.cluster.room } }
+    ensures { result ≡ record { node = node; nodes = plan.now.cluster.nodes; silence = plan.now.cluster.silence; places = plan.now.cluster.places; version = version_at plan.now.cluster.versions node.number; room = plan.now.cluster.room } }
 {
     RecordHead {
-        is_redacted: false,
         node,
         nodes: plan.cluster.nodes,
         silence: plan.cluster.silence,
