@@ -223,10 +223,10 @@ these laws honest plan run w v last (s ∷ steps) (p ∷ picks) comes are placed
     let next = lead.0 in
     let g = one laws honest plan run w p e replays.1 s.answer replays.0 next comes placed.0 are.0 fed.0 replays.2 replays.3 lead.1 lead.2 in
     let rest = these laws honest plan (did p ∷ run) next v last steps picks (w, comes, g.sent, g.acts) (subst (λ (ts : List (List ℕ)). AreEvents plan ts picks (map event_in steps)) (sym g.texts_are) are.1) placed.1 fed.1
-        (subst (λ (x : ClusterValue). Replays x (map event_in steps) picks last) (sym g.same) replays.4) lead.3 in
+    (subst (λ (x : ClusterValue). Replays x (map event_in steps) picks last) (sym g.same) replays.4) lead.3 in
     let sent = posted p.entry.event p.entry.answer in
     let count : length next.packets ≡ length w.packets + length (sent_by p.entry.answer) =
-        sym (length-map next.packets text_of) ∙ (ap (λ (ts : List (List ℕ)). length ts) g.texts_are ∙ (length-append (texts w.packets) (sent_by p.entry.answer) ∙ ap (λ n. n + length (sent_by p.entry.answer)) (length-map w.packets text_of))) in
+    sym (length-map next.packets text_of) ∙ (ap (λ (ts : List (List ℕ)). length ts) g.texts_are ∙ (length-append (texts w.packets) (sent_by p.entry.answer) ∙ ap (λ n. n + length (sent_by p.entry.answer)) (length-map w.packets text_of))) in
     record {
       ends = rest.ends;
       more = sent ++ rest.more;
@@ -237,8 +237,8 @@ these laws honest plan run w v last (s ∷ steps) (p ∷ picks) comes are placed
         rest.entries,
       );
       are =
-        ap (λ (y : Answer). record { event = e; answer = y } ∷ steps) g.answered
-        ∙ ap (λ (ss : List RunStep). record { event = e; answer = answer_of (length w.packets) p.entry.answer } ∷ ss) (rest.are ∙ ap (λ n. steps_of n (map event_in steps) picks) count);
+          ap (λ (y : Answer). record { event = e; answer = y } ∷ steps) g.answered
+          ∙ ap (λ (ss : List RunStep). record { event = e; answer = answer_of (length w.packets) p.entry.answer } ∷ ss) (rest.are ∙ ap (λ n. steps_of n (map event_in steps) picks) count);
     }
 
 -- Each entry was merged at one of the nodes.
@@ -272,12 +272,12 @@ pub of_entries : NodeLaws → PacketsAreHonest → FrontIsOneRun → ReplaysAreO
 of_entries laws honest front plan tapes events m schedule answers r =
     let events_are : map event_in (reverse r.steps) ≡ events = map-reverse r.steps ∙ (ap reverse r.events_are ∙ reverse-reverse events) in
     let all =
-        these laws honest plan [] (new_cluster plan) r.last m.last (reverse r.steps) m.picks (begins plan (run_of m.picks) m.last m.comes)
-        (subst (AreEvents plan [] m.picks) (sym events_are) m.are_events)
-        (placed_in plan m.picks [] m.last (subst (λ (run : List Did). ComesTo plan run m.last) (sym (append-nil (run_of m.picks))) m.comes))
-        m.fed
-        (subst (λ (es : List Event). Replays (new_cluster plan) es m.picks m.last) (sym events_are) m.replays)
-        (in_order plan r.steps r.run r.last r.made r.fed) in
+    these laws honest plan [] (new_cluster plan) r.last m.last (reverse r.steps) m.picks (begins plan (run_of m.picks) m.last m.comes)
+    (subst (AreEvents plan [] m.picks) (sym events_are) m.are_events)
+    (placed_in plan m.picks [] m.last (subst (λ (run : List Did). ComesTo plan run m.last) (sym (append-nil (run_of m.picks))) m.comes))
+    m.fed
+    (subst (λ (es : List Event). Replays (new_cluster plan) es m.picks m.last) (sym events_are) m.replays)
+    (in_order plan r.steps r.run r.last r.made r.fed) in
     let steps_are : r.steps ≡ reverse (steps_of 0 events m.picks) = sym (reverse-reverse r.steps) ∙ ap reverse (all.are ∙ ap (λ (es : List Event). steps_of 0 es m.picks) events_are) in
     record {
       last = all.ends;
