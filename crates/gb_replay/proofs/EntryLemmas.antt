@@ -170,7 +170,7 @@ one laws honest plan run w p e x y theirs next comes within is fed their_step th
 
 -- All steps.
 
--- steps lead from one value of a cluster to another, and no answer refuses for want of memory
+-- Steps take a cluster from one value to another. No answer refuses for lack of memory.
 unfoldable Lead : ClusterValue → List RunStep → ClusterValue → Type 0
 Lead w [] v = v ≡ w
 Lead w (s ∷ steps) v = (next : ClusterValue) × IsStep w s.event s.answer next × (is_refused s.answer ≡ false) × Lead next steps v
