@@ -13,7 +13,7 @@ else
 fi
 git clone -q "$top" "$room/checkout"
 cd "$room/checkout"
-# The commands are the indented lines of that part; behind a sharp stands what they do.
+# The commands are the indented lines of that part.
 mapfile -t commands < <(sed -n '/^## Run it/,/^## What/p' README.md | sed -n 's/^    //p')
 [ "${#commands[@]}" -gt 0 ] || { echo 'README has no commands'; exit 1; }
 for command in "${commands[@]}"; do
