@@ -33,10 +33,6 @@ pub record HasTextsOf (plan : Plan) (events : List Event) (picks : List Pick) (s
   pub schedule_is : schedule ≡ schedule_text plan (reverse (steps_of 0 events picks))
   pub answers_are : answers ≡ answers_text (reverse (steps_of 0 events picks))
 
--- whatever tapes the events were merged from, the texts are made of the entries of these tapes
-abbrev pub TellsEntries : Plan → List Event → List ℕ → List ℕ → Type 0
-TellsEntries plan events schedule answers = (tapes : List (List TapeEntry)) (m : IsMergedFront plan tapes events) → HasTextsOf plan events m.picks schedule answers
-
 -- The replay of events that were merged from tapes: its steps are the entries that were merged, in the order in which they were merged, and it ends as
 -- their run does. At each node these are the first entries of its tape. The texts are made of the entries.
 pub record IsOfEntries (plan : Plan) (tapes : List (List TapeEntry)) (events : List Event) (m : IsMergedFront plan tapes events) (schedule answers : List ℕ) (r : IsReplay plan events schedule answers) : Type 0 where
