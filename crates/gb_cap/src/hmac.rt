@@ -105,6 +105,7 @@ impl Model for HmacKey {
 }
 
 impl HmacKey {
+    /// Returns this key, made ready: its two hash states are computed once.
     pub fn new(key: &Key) -> HmacKey
         ensures { result ≡ key.now }
     {

@@ -21,7 +21,7 @@ use gb_types::words::split_words;
 use gb_types::{Entries, Entry, NodeId, OutOfMemory, Payload, Refusal, Reply};
 use std::alloc::Global;
 
-/// The exit status for a reply. 0: it is not a refusal; 1: it is one.
+/// Returns the exit status for a reply: 1 if it is a refusal, otherwise 0.
 pub fn status_of(reply: &Reply) -> u8
     ensures { result ≡ reply_status reply.now }
 {

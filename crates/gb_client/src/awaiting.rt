@@ -38,8 +38,8 @@ fn awaited_by(alloc: Global, body: &[u8]) -> Result<Option<Awaited>, OutOfMemory
     }
 }
 
-/// The body of a message that asks what a fetch does, and waits for at most `wait` milliseconds until there is something. `Words`:
-/// there is no such message.
+/// Returns the body of a message that asks what the fetch asks and waits for at most `wait` milliseconds until there is something to
+/// return. `Words` if there is no such message.
 pub fn await_text(alloc: Global, fetch: &[u8], wait: u32) -> Result<Vec<u8>, ClientFault>
     ensures body { IfOk result (λ body. body.items ≡ await_of fetch.now wait) }
     ensures spelt { IfOk result (λ body. (awaited : TheAwaited) × IsAwaitText body.items awaited) }

@@ -238,7 +238,7 @@ fn put_whole(out: &mut Vec<u8>, head: Head) -> Result<(), OutOfMemory> {
     )
 }
 
-/// Says in one sentence why the words of a request spell none: which word is wrong, and what it takes.
+/// Returns one sentence that says why the words of a request spell none: which word is wrong, and what it takes.
 pub fn blame(alloc: Global, asked: &Asked<'_>) -> Result<Vec<u8>, OutOfMemory> {
     let mut out = Vec::new(alloc);
     let slots = slots_of(asked.head, asked.is_text);

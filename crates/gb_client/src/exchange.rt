@@ -46,7 +46,7 @@ fn fill<R: Read>(reader: &mut R, space: &mut [u8]) -> Result<(), ClientFault>
     }
 }
 
-/// Writes a message. `Late`: the time for it passed; `Lost`: the connection failed.
+/// Writes a message. `Late` if the time for it passed. `Lost` if the connection failed.
 pub fn send<W: Write>(writer: &mut W, body: &[u8]) -> Result<(), ClientFault>
     requires { length body.now ≤ BODY }
     ensures ok { OnOk result (Appends (W.contents writer.old) (W.contents writer.new) (framed body.now)) }
@@ -101,8 +101,8 @@ fn receive_body<R: Read>(alloc: Global, reader: &mut R, length: u32) -> Result<V
     Ok(body)
 }
 
-/// Reads a message, of at most `REPLY` bytes. `Late`: the time for it passed; `Lost`: the connection failed or ended; `NoReply`: it is
-/// longer.
+/// Reads a message and returns its body, at most `REPLY` bytes. `Late` if the time for it passed. `Lost` if the connection failed or ended.
+/// `NoReply` if the body is longer.
 pub fn receive<R: Read>(alloc: Global, reader: &mut R) -> Result<Vec<u8>, ClientFault>
     ensures ok { IfOk result (λ body. Consumes (R.remaining reader.old) (R.remaining reader.new) (framed body.items)) }
     ensures short { IfOk result (λ body. vec_len body ≤ REPLY) }

@@ -8,7 +8,7 @@ use gb_types::number::put_number;
 use gb_types::{Entries, Entry, OutOfMemory, Reply};
 use std::alloc::Global;
 
-/// The last line of a log's text, `end COUNT` with its line feed.
+/// Returns the last line of a log's text: `end COUNT` and a line feed.
 pub fn end_line(alloc: Global, count: u64) -> Result<Vec<u8>, OutOfMemory>
     ensures { IfOk result (λ line. line.items ≡ end_line count) }
 {
@@ -18,7 +18,7 @@ pub fn end_line(alloc: Global, count: u64) -> Result<Vec<u8>, OutOfMemory>
     Ok(line)
 }
 
-/// The text of a log: its entries in lines, and the last line.
+/// Returns the text of a log: a line for each entry, and the last line.
 pub fn export_text(alloc: Global, entries: &[Entry]) -> Result<Vec<u8>, OutOfMemory>
     ensures { IfOk result (λ text. text.items ≡ export_text entries.now) }
 {
@@ -54,8 +54,8 @@ fn is_text_of(alloc: Global, text: &[u8], entries: &[Entry]) -> Result<bool, Out
     Ok(spelling.as_slice() == text)
 }
 
-/// Returns the entries whose text this is, or None if it is none's: where its last line is missing, where that names another count, and
-/// where any other line is no entry's.
+/// Returns the entries whose text this is. `None` if it is the text of no log: its last line is missing or names another count, or another
+/// line is not the line of an entry.
 pub fn read_export(alloc: Global, text: &[u8]) -> Result<Option<Entries>, OutOfMemory>
     ensures { IfOk result (λ found. IfSome found (λ entries. text.now ≡ export_text entries)) }
 {

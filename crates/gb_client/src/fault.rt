@@ -41,8 +41,8 @@ pub enum ClientFault {
     OutOfMemory,
 }
 
-/// The exit status for a fault. 2: wrong words or secrets, or what is to be imported is no exported log; 3: no connection, no reply to what was asked, nothing printed, or out of
-/// memory; 4: it was asked, and the outcome is unknown.
+/// Returns the exit status for a fault. 2: the words or secrets are wrong, or what is to be imported is no exported log. 3: there was no
+/// connection, no reply to the request, no memory, or nothing could be printed. 4: the request was sent, and its outcome is unknown.
 pub fn fault_status(fault: ClientFault) -> u8
     ensures { result ≡ status_of_fault fault }
 {

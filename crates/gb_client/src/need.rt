@@ -30,8 +30,8 @@ fn member_need(node: NodeId, words: &[&[u8]]) -> Option<Need>
     Some(Need::Member(address.tenant, address.group, node))
 }
 
-/// What the token of a request with this head and these words behind the token is asked for, at this node. None where the
-/// words do not begin with the numbers that it takes.
+/// Returns what the token of a request at this node must admit to. The words are those behind the head and the token. `None` if they do not
+/// begin with the numbers that the head takes.
 pub fn need_of(head: Head, node: NodeId, words: &[&[u8]]) -> Option<Need>
     ensures { (need : TheNeed) → (result ≡ Some need) ↔ Needs head node need (map (λ word. word.now) words.now) }
 {

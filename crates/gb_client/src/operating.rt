@@ -25,21 +25,21 @@ fn with_token(alloc: Global, word: &[u8], token: &[u8; 32]) -> Result<Vec<u8>, O
     Ok(body)
 }
 
-/// The body of a message that asks a node's figures.
+/// Returns the body of a message that asks for a node's figures.
 pub fn status_body(alloc: Global, token: &[u8; 32]) -> Result<Vec<u8>, OutOfMemory>
     ensures { IfOk result (λ body. body.items ≡ codes "status " ++ encode_lower token.now) }
 {
     with_token(alloc, b"status", token)
 }
 
-/// The body of a message that ends the server.
+/// Returns the body of a message that ends the server.
 pub fn stop_body(alloc: Global, token: &[u8; 32]) -> Result<Vec<u8>, OutOfMemory>
     ensures { IfOk result (λ body. body.items ≡ codes "stop " ++ encode_lower token.now) }
 {
     with_token(alloc, b"stop", token)
 }
 
-/// The body of a message that asks for the groups that were made at a node, from a place on, `ROWS` at most.
+/// Returns the body of a message that asks for the groups that were made at a node, at most `ROWS` of them from the place `from` on.
 pub fn list_body(alloc: Global, token: &[u8; 32], from: u32) -> Result<Vec<u8>, OutOfMemory>
     ensures { IfOk result (λ body. body.items ≡ codes "list " ++ encode_lower token.now ++ codes " " ++ decimal from ++ codes " 64") }
 {
@@ -75,7 +75,7 @@ fn is_phase(word: &[u8]) -> bool {
     matches!(word, b"made" | b"open" | b"shut" | b"dropped")
 }
 
-/// Returns the row that a word spells, or None if it spells none.
+/// Returns the row that a word spells. `None` if it spells none.
 pub fn read_row<'a>(alloc: Global, text: &'a [u8]) -> Result<Option<Row<'a>>, OutOfMemory> {
     let parts: Vec<&[u8]> = text.split(|byte| *byte == b':').collect(alloc)?;
     let [
@@ -118,7 +118,7 @@ fn read_rows<'a>(alloc: Global, words: &[&'a [u8]]) -> Result<Option<Vec<Row<'a>
     Ok(Some(rows))
 }
 
-/// Returns the page that the text of a reply spells, or None if it spells none.
+/// Returns the page that the text of a reply spells. `None` if it spells none.
 pub fn read_page<'a>(alloc: Global, text: &'a [u8]) -> Result<Option<Page<'a>>, OutOfMemory> {
     let words = split_words(alloc, text)?;
     let [b"groups", total, words @ ..] = words.as_slice() else {

@@ -51,7 +51,7 @@ fn body(
     Ok(body)
 }
 
-/// The body of the request that these words spell behind a head and a token. `Words` where they spell none.
+/// Returns the body of the request that these words spell behind a head and a token. `Words` if they spell none.
 pub fn request_text(
     alloc: Global,
     head: Head,

@@ -78,8 +78,8 @@ fn split_lines(alloc: Global, text: &[u8]) -> Result<Vec<&[u8]>, OutOfMemory>
     Ok(text.split(|byte| *byte == b'\n').collect(alloc)?)
 }
 
-/// The secrets of a text: lines `admin KEY`, `tenant KEY` and `token TOKEN`, each with 64 hexadecimal digits, and empty
-/// lines. The last of each counts. None where a line is bad.
+/// Returns the secrets of a text with lines `admin KEY`, `tenant KEY` and `token TOKEN`, each with 64 hexadecimal digits, and empty lines.
+/// Of two lines with one word the later counts. `None` if a line is bad.
 pub fn read_secrets(alloc: Global, text: &[u8]) -> Result<Option<Secrets>, OutOfMemory>
     ensures { IfOk result (λ found. found ≡ secrets_of text.now) }
 {
@@ -88,8 +88,8 @@ pub fn read_secrets(alloc: Global, text: &[u8]) -> Result<Option<Secrets>, OutOf
 }
 
 impl Secrets {
-    /// The token for a need: the one that was given, or else the one that the key for the need makes. `Missing` where
-    /// there is neither.
+    /// Returns the token for a need: the token of the text, or, without one, the token that the key for the need makes. `Missing` if the
+    /// text has neither.
     pub fn token_for(&self, need: Need) -> Result<Token, ClientFault>
         ensures ok { IfOk result (λ made. token_for self.now need ≡ Some made) }
         ensures err { IfErr result (λ why. (why ≡ ClientFault.Missing) × (token_for self.now need ≡ None)) }

@@ -45,8 +45,8 @@ fn put_entry(out: &mut Vec<u8>, entry: &Entry, is_text: bool) -> Result<(), OutO
     Ok(())
 }
 
-/// The entries of a log, each on a line of its own with its line feed; with payloads as text, where that is asked:
-/// in quotes where they are UTF-8 without control characters, else in hexadecimal digits.
+/// Returns the entries of a log, a line each. If `is_text`, a payload that is UTF-8 without control characters stands in quotes; each other
+/// payload stands in hexadecimal digits.
 pub fn entry_lines(alloc: Global, entries: &[Entry], is_text: bool) -> Result<Vec<u8>, OutOfMemory>
     ensures { is_text ≡ false → IfOk result (λ lines. lines.items ≡ lines_of entries.now) }
 {
@@ -77,8 +77,7 @@ fn log_lines(alloc: Global, entries: &[Entry]) -> Result<Vec<u8>, OutOfMemory> {
     Ok(out)
 }
 
-/// The text of a reply, with a line feed. With payloads as text, where that is asked, a log has each entry on a line of its
-/// own.
+/// Returns the text of a reply and a line feed. If `is_text`, a log is one line for each entry, as `entry_lines` returns them.
 pub fn reply_lines(alloc: Global, reply: &Reply, is_text: bool) -> Result<Vec<u8>, OutOfMemory>
     ensures { is_text ≡ false → IfOk result (λ line. line.items ≡ reply_spelling reply.now ++ 10 ∷ []) }
 {
@@ -88,7 +87,7 @@ pub fn reply_lines(alloc: Global, reply: &Reply, is_text: bool) -> Result<Vec<u8
     }
 }
 
-/// A token in a line: its digits in lower case, and a line feed.
+/// Returns a token's digits in lower case, and a line feed.
 pub fn token_line(alloc: Global, token: &[u8; 32]) -> Result<Vec<u8>, OutOfMemory>
     ensures { IfOk result (λ line. line.items ≡ encode_lower token.now ++ 10 ∷ []) }
 {

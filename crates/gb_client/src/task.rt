@@ -43,7 +43,7 @@ pub struct Server {
 }
 
 impl Server {
-    /// The server with this base port, where it may be one: up to 65,000.
+    /// Returns the server with this base port, which waits `wait` seconds for a reply. `None` if the port is above 65,000.
     pub fn new(port: u16, wait: u32) -> Option<Server>
         ensures some { IfSome result (λ server. (server.port ≡ port) × (server.wait ≡ wait)) }
         ensures none { IfNone result (65000 < port) }
@@ -55,7 +55,7 @@ impl Server {
         }
     }
 
-    /// The port of a node's sessions: 64 above that of its packets.
+    /// Returns the port of a node's sessions: 64 above the port of its packets.
     pub fn sessions_port(&self, node: NodeId) -> u16
         ensures { result ≡ self.now.port + 64 + node.number }
     {
@@ -126,7 +126,7 @@ pub enum Task<'a> {
     At(Server, Errand<'a>),
 }
 
-/// The request with this head and these words at a node, with the token that the secrets have for it.
+/// Returns the body of the request with this head and these words at a node, with the token that the secrets have for it.
 pub fn ask(
     alloc: Global,
     secrets: &Secrets,
@@ -204,7 +204,8 @@ fn bytes_of<'a>(alloc: Global, words: &[&'a str]) -> Result<Vec<&'a [u8]>, Clien
     Ok(bytes)
 }
 
-/// The body of the request that is told: with the key of a new tenant, and with a payload that is text in digits.
+/// Returns the body of the request that `asked` describes. A new tenant's row gets its key from the secrets, and a payload given as text is
+/// spelt in hexadecimal digits.
 pub fn request_of(
     alloc: Global,
     secrets: &Secrets,
@@ -223,7 +224,7 @@ pub fn request_of(
     }
 }
 
-/// The body of the request that fetches a group's log from a place on, 16 entries at most.
+/// Returns the body of the request that fetches at most 16 entries of a group's log from the place `from` on.
 pub fn fetch_of(
     alloc: Global,
     secrets: &Secrets,

@@ -67,8 +67,8 @@ fn look<N: Nodes, W: Write>(
     }
 }
 
-/// Prints what each of some nodes lists of a group, and whether they made it alike: of the same kind, with these nodes as members, and
-/// with the same limits. The exit status: 0 if they did, 1 if not, else that of the last node that could not be asked.
+/// Prints what each of some nodes lists of a group, and whether they made it alike: of one kind, with these nodes as members, and with the
+/// same limits. Returns the exit status: 0 if they did, 1 if they did not, otherwise that of the last node that could not be asked.
 pub fn check_group<N: Nodes, W: Write>(
     alloc: Global,
     nodes: &mut N,

@@ -71,9 +71,8 @@ fn print_end<W: Write>(alloc: Global, count: u32, writer: &mut W) -> Result<(), 
     print(writer, &line)
 }
 
-/// Prints a group's log at a node as a text that can be read again: each entry in a line `ORIGIN:SEQ:PAYLOAD`, and behind them
-/// `end COUNT`. It fetches 16 entries at a time until nothing more comes. A refusal is printed in the place of the last line. The exit
-/// status.
+/// Prints a group's log at a node as a text that can be read again: a line `ORIGIN:SEQ:PAYLOAD` for each entry, and `end COUNT`. It fetches
+/// 16 entries at a time until no more come. A refusal is printed in place of the last line. Returns the exit status.
 pub fn export<N: Nodes, W: Write>(
     alloc: Global,
     nodes: &mut N,

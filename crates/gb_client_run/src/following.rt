@@ -46,8 +46,8 @@ fn ask_next<S: Write>(
     send(sender, &body)
 }
 
-/// Waits for what comes into a log, on one connection, and prints its new entries, until the node refuses; that is printed too.
-/// Without a refusal it goes on for `times` replies, each awaited for up to `WAIT` milliseconds, or without end. The exit status.
+/// Waits on one connection for new entries of a log and prints them, until the node refuses; the refusal is printed too. Without a refusal
+/// it goes on for `times` replies, or without end. Each reply is awaited for at most `WAIT` milliseconds. Returns the exit status.
 pub fn follow<R: Read, S: Write, W: Write>(
     alloc: Global,
     reader: &mut R,

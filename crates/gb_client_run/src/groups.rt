@@ -228,8 +228,8 @@ fn print_at<N: Nodes, W: Write>(
     Ok(outcome_status(outcome))
 }
 
-/// Makes a request at each of some nodes, in turn, and prints what came of it at each. It ends at the first node that refuses or
-/// fails, and prints of the others that they were not asked. The exit status: 0 if it is done at all.
+/// Makes a request at each of some nodes, in turn, and prints what each answered. It ends at the first node that refuses or fails, and
+/// prints that the others were not asked. Returns the exit status: 0 if it is done at all nodes.
 pub fn ask_each<N: Nodes, W: Write>(
     alloc: Global,
     nodes: &mut N,
@@ -251,9 +251,9 @@ pub fn ask_each<N: Nodes, W: Write>(
     Ok(0)
 }
 
-/// Makes a group at all its nodes by the words of `make`, and then opens it at them, and prints what came of it at each. A message
-/// that is said before another member's node made the group is lost there for good, so it is opened nowhere until it is made
-/// everywhere. The exit status: 0 if it is made and open at all.
+/// Makes a group at all its nodes by the words of `make`, then opens it at each, and prints what each answered. It is opened only once it
+/// is made everywhere, since a message that is said before another member's node made the group is lost there for good. Returns the exit
+/// status: 0 if it is made and open at all nodes.
 pub fn make_group<N: Nodes, W: Write>(
     alloc: Global,
     nodes: &mut N,
@@ -274,8 +274,8 @@ pub fn make_group<N: Nodes, W: Write>(
     ask_each(alloc, nodes, target, members, opening, writer)
 }
 
-/// Drops a group at all its nodes, and prints what came of it at each. Each node is asked, also where another one refuses. The exit
-/// status: 0 if it is dropped at all, else that of the last node where it is not.
+/// Drops a group at all its nodes, and prints what each answered. Each node is asked, even if another one refuses. Returns the exit status:
+/// 0 if it is dropped at all nodes, otherwise that of the last node where it is not.
 pub fn drop_group<N: Nodes, W: Write>(
     alloc: Global,
     nodes: &mut N,

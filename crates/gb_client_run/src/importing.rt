@@ -230,11 +230,11 @@ fn behind(entries: &[Entry], from: u32) -> &[Entry]
     &entries[from as usize..]
 }
 
-/// Says the entries of a log's text again at a node, in order: those of the node's own member, or all, but for the first ones that were
-/// said before. It prints `ORIGIN:SEQ said SEQ` for each, the number that it had and the one that it got, and `said COUNT` at the end,
-/// with those that are skipped. A say that is refused for a full window or lack of memory is tried again after a pause, for as long as a
-/// reply may take; any other refusal ends it, and is printed before the last line. The exit status. `NoExport`: the text is no log's, and
-/// nothing was said. After any other fault the last line is printed too.
+/// Says the entries of a log's text again at a node, in order: those of the node's own member, or all, without the first ones that were
+/// said before. Prints `ORIGIN:SEQ said SEQ` for each, with the number that it had and the number that it got, and `said COUNT` at the end,
+/// which counts the skipped ones too. A say that is refused for a full window or lack of memory is tried again after a pause, for as long
+/// as a reply may take. Any other refusal ends the import, and is printed before the last line. Returns the exit status. `NoExport` if the
+/// text is no log's; then nothing was said. After any other fault the last line is printed too.
 pub fn import<N: Nodes, P: Pauses, W: Write>(
     alloc: Global,
     nodes: &mut N,

@@ -26,7 +26,7 @@ fn print_refusal<W: Write>(alloc: Global, text: &[u8], writer: &mut W) -> Result
     }
 }
 
-/// Prints a node's figures. The exit status.
+/// Prints a node's figures. Returns the exit status.
 pub fn print_status<N: Nodes, W: Write>(
     alloc: Global,
     nodes: &mut N,
@@ -45,7 +45,7 @@ pub fn print_status<N: Nodes, W: Write>(
     Ok(0)
 }
 
-/// Ends a server, by asking one of its nodes, and prints the reply. The exit status.
+/// Asks one of a server's nodes to end the server, and prints the reply. Returns the exit status.
 pub fn shut_down<N: Nodes, W: Write>(
     alloc: Global,
     nodes: &mut N,
@@ -63,7 +63,7 @@ pub fn shut_down<N: Nodes, W: Write>(
     Ok(0)
 }
 
-/// The text of a node's reply to a list from a place on.
+/// Returns the text of a node's reply to a list from a place on.
 pub fn page_text<N: Nodes>(
     alloc: Global,
     nodes: &mut N,
@@ -95,7 +95,7 @@ fn page_lines(alloc: Global, page: &Page<'_>, is_first: bool) -> Result<Vec<u8>,
     Ok(lines)
 }
 
-/// Prints how many groups were made at a node, and each in a line. The exit status.
+/// Prints how many groups were made at a node, and a line for each group. Returns the exit status.
 pub fn print_list<N: Nodes, W: Write>(
     alloc: Global,
     nodes: &mut N,
@@ -173,7 +173,7 @@ fn look_in(
     Ok((None, next))
 }
 
-/// What a node lists of a group.
+/// Asks a node for its list until it names a group. Returns the group's row, or that the node lists no such group, or its refusal.
 pub fn find<N: Nodes>(
     alloc: Global,
     nodes: &mut N,

@@ -20,7 +20,7 @@ pub trait Nodes {
         ensures { IfOk result (λ reply. asks self.old port body.now reply.items self.new) };
 }
 
-/// The reply of the sessions at a port to a body of any length. `Words`: it is longer than a message may be.
+/// Returns the reply of the sessions at a port to a body of any length. `Words` if the body is longer than a message may be.
 pub fn ask_short<N: Nodes>(
     alloc: Global,
     nodes: &mut N,

@@ -40,9 +40,8 @@ fn obey_group<N: Nodes, W: Write>(
     make_group(alloc, nodes, target, members, make, &open, writer)
 }
 
-/// Does what is to be done at a server by messages that are answered at once, and prints what comes of it. The exit status. A log is
-/// followed by `following::follow`, which has a connection of its own, and imported by `importing::import`, which takes a text; here
-/// these are faults.
+/// Does one errand at a server and prints what comes of it. Returns the exit status. `follow` and `import` are faults here: a log is
+/// followed by `following::follow`, which has a connection of its own, and imported by `importing::import`, which takes a text.
 pub fn obey<N: Nodes, W: Write>(
     alloc: Global,
     nodes: &mut N,

@@ -30,7 +30,7 @@ pub fn answers(head: Head, reply: &Reply) -> bool
     }
 }
 
-/// The reply of a node to a request. `NoReply`: what came is none to it.
+/// Returns the reply of a node to a request. `NoReply` if what came is no reply to it.
 pub fn reply_to<N: Nodes>(
     alloc: Global,
     nodes: &mut N,
@@ -52,7 +52,7 @@ pub fn reply_to<N: Nodes>(
     Ok(reply)
 }
 
-/// Makes one request at a node, and prints its reply. The exit status.
+/// Makes one request at a node, and prints its reply. Returns the exit status.
 pub fn ask_once<N: Nodes, W: Write>(
     alloc: Global,
     nodes: &mut N,

@@ -38,8 +38,8 @@ fn joined(alloc: Global, parts: &[&[u8]]) -> Result<Vec<u8>, ClientFault> {
     Ok(text)
 }
 
-/// What the group of a row was made with, a colon behind each word. None where its members are others; so it is also where it was
-/// dropped.
+/// Returns the parameters that the group of a row was made with: each word behind a colon. `None` if its members are others than `members`,
+/// or if the group was dropped.
 pub fn spec_in(alloc: Global, row: &[u8], members: &[u8]) -> Result<Option<Vec<u8>>, ClientFault> {
     let parts = parts_of(alloc, row)?;
     if parts.len() != 9 || parts[3] != members {

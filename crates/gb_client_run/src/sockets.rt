@@ -50,7 +50,7 @@ pub struct Sockets<'a, H> {
 }
 
 impl<'a, H> Sockets<'a, H> {
-    /// Nodes that may take this number of seconds for a reply, on this machine or where `list` has them.
+    /// Returns a connection maker to nodes on this machine, or where `list` has them. Each node may take `seconds` seconds for a reply.
     pub fn new(rt: &'a H, list: Option<&'a [Listed<'a>]>, seconds: u64) -> Sockets<'a, H> {
         Sockets { rt, list, seconds }
     }
@@ -81,7 +81,7 @@ pub struct Pausing<'a, H> {
 }
 
 impl<'a, H> Pausing<'a, H> {
-    /// Pauses by the clock of a runtime.
+    /// Returns pauses that take their time from a runtime's clock.
     pub fn new(rt: &'a H) -> Pausing<'a, H> {
         Pausing { rt }
     }

@@ -40,7 +40,7 @@ pub enum PlanFault {
     OutOfMemory,
 }
 
-/// The exit status for words that are no plan: 2, or 3 when a request for memory was refused.
+/// Returns the exit status for words that are no plan: 3 if a request for memory was refused, otherwise 2.
 pub fn plan_status(fault: PlanFault) -> u8 {
     match fault {
         PlanFault::OutOfMemory => 3,

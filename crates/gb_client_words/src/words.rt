@@ -415,7 +415,7 @@ gb_ctl --port 42000 --node 1 --secrets keys fetch 7 1 0 16 --text\n\n\
 Exit status: 0 for a reply that is no refusal, 1 for a refusal, 2 for wrong words or secrets, 3 where there is no connection or no such \
 reply, 4 where a reply is not there in time or the connection ended before it: the outcome is unknown, so fetch first.";
 
-/// The command line.
+/// Returns the command line of gb_ctl, for `clap`.
 pub fn command<'a>(alloc: Global) -> Result<Command<'a>, AllocError> {
     let bare = Command::new(alloc, "gb_ctl")
         .version(VERSION)
@@ -657,7 +657,7 @@ const SECONDS: u32 = 10;
 
 const _: () = prove!(SECONDS == 10);
 
-/// What the words of a command line ask for, where clap took them.
+/// Returns what the words of a command line ask for. `matches` is what `clap` made of them.
 pub fn plan_of<'a>(alloc: Global, matches: &ArgMatches<'a>) -> Result<Plan<'a>, PlanFault> {
     let (name, inner) = matches.subcommand().ok_or(PlanFault::NoSubcommand)?;
     let subcommand = subcommand_named(SUBCOMMANDS, name).ok_or(PlanFault::NoSubcommand)?;

@@ -5,7 +5,7 @@ ghost use Rattle.gb_cluster.specs.ClusterValue.{node_plan};
 use gb_node::NodePlan;
 use gb_types::{NodeId, Plan};
 
-/// What one of the nodes is started with.
+/// Returns the plan of one of the cluster's nodes.
 pub fn node_plan(plan: &Plan, me: NodeId) -> NodePlan
     ensures { result ≡ node_plan plan.now me }
 {

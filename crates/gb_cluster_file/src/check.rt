@@ -13,7 +13,7 @@ use crate::place::{PlaceParts, place_of};
 use gb_types::Version;
 use toml::{Table, Value};
 
-// Whether each key at the top of the file names a field.
+/// Returns true if each key at the top of the file names a field.
 pub fn has_only_fields(table: &Table) -> bool
     ensures { result ≡ all_keys is_name (table_view table.now) }
 {
@@ -79,7 +79,7 @@ fn number_at(table: &Table, field: Field) -> Result<Option<u64>, FileFault>
     }
 }
 
-// Returns the number of the run.
+/// Returns the number of the run, 1 to 2^63 - 1.
 pub fn run_at(table: &Table) -> Result<u64, FileFault>
     ensures ok { IfOk result (λ n. (get_member (codes "run") (table_view table.now) ≡ Some (integer (pos n))) × (1 ≤ n) × (n ≤ 9223372036854775807)) }
     ensures err { IfErr result (IsDocumentFault (table_view table.now)) }
@@ -91,7 +91,7 @@ pub fn run_at(table: &Table) -> Result<u64, FileFault>
     }
 }
 
-// Returns the milliseconds between two ticks.
+/// Returns the milliseconds between two ticks, 1 to 60,000: 64 if the file names none.
 pub fn tick_at(table: &Table) -> Result<u16, FileFault>
     ensures ok { IfOk result (λ n. IsNumber (get_member (codes "tick") (table_view table.now)) 64 n × (1 ≤ n) × (n ≤ 60000)) }
     ensures err { IfErr result (IsDocumentFault (table_view table.now)) }
@@ -114,7 +114,8 @@ fn ticks_of_silence(tick: u16) -> u16
     ticks.max(2).min(1_000) as u16
 }
 
-// Returns the ticks without a good packet after which a node is noticed, where `tick` is the milliseconds between two.
+/// Returns the number of ticks without a good packet after which a node is noticed, 2 to 1,000. `tick` is the milliseconds between two
+/// ticks. If the file names none, the ticks make 30 seconds.
 pub fn silence_at(table: &Table, tick: u16) -> Result<u16, FileFault>
     requires { 1 ≤ tick }
     ensures ok { IfOk result (λ n. IsNumber (get_member (codes "silence") (table_view table.now)) (usual_silence tick) n × (2 ≤ n) × (n ≤ 1000)) }
@@ -127,7 +128,7 @@ pub fn silence_at(table: &Table, tick: u16) -> Result<u16, FileFault>
     }
 }
 
-// Returns the most bytes of the items of a packet.
+/// Returns the most bytes of the items of a packet, 256 to 16,345: 1,400 if the file names none.
 pub fn room_at(table: &Table) -> Result<u16, FileFault>
     ensures ok { IfOk result (λ n. IsNumber (get_member (codes "room") (table_view table.now)) 1400 n × (256 ≤ n) × (n ≤ 16345)) }
     ensures err { IfErr result (IsDocumentFault (table_view table.now)) }
@@ -139,7 +140,7 @@ pub fn room_at(table: &Table) -> Result<u16, FileFault>
     }
 }
 
-// Returns the version of packets: 3 if the file names none.
+/// Returns the version of packets: 3 if the file names none.
 pub fn version_at(table: &Table) -> Result<Version, FileFault>
     ensures ok { IfOk result (λ version. IsVersion (table_view table.now) version) }
     ensures err { IfErr result (IsDocumentFault (table_view table.now)) }
@@ -181,7 +182,7 @@ pub struct NodeParts<'a> {
     pub sessions: PlaceParts<'a>,
 }
 
-// Returns the places of the node that a value is.
+/// Returns the places of a node, whose table the value is. `Err` with the first fault of that table.
 pub fn node_of(value: &Value) -> Result<NodeParts<'_>, NodeFault>
     ensures ok { IfOk result (λ node. (fields : Members) × (view value.now ≡ table fields) × (all_keys is_place_name fields ≡ true)
         × IsPlaceOf (get_member (codes "packets") fields) node.packets.host.now node.packets.port
@@ -235,7 +236,7 @@ fn first_same(values: &[Value], node: usize, last: &Value, field: PlaceField) ->
     None
 }
 
-// Refuses values of which two have the same text in a field.
+/// Returns Ok if no two of these nodes have the same text in the field.
 pub fn differ(values: &[Value], field: PlaceField) -> Result<(), FileFault>
     ensures ok { OnOk result (Differ field (items_view values.now)) }
     ensures err { IfErr result (IsItemsFault (items_view values.now)) }
@@ -268,7 +269,7 @@ fn values_of(value: &Value) -> Option<&[Value]>
     }
 }
 
-// Returns the values for the nodes: 1 at least, and no more than packets of the version can name.
+/// Returns the values for the nodes: at least 1, and no more than packets of the version can name.
 pub fn values_at(table: &Table, version: Version) -> Result<&[Value], FileFault>
     requires { IsVersion (table_view table.now) version }
     ensures ok { IfOk result (λ values. (get_member (codes "node") (table_view table.now) ≡ Some (array (items_view values.now)))

@@ -77,7 +77,7 @@ impl PlaceField {
     }
 }
 
-/// Whether a key at the top of the file names a field.
+/// Returns true if a key at the top of the file names a field.
 pub fn is_field(key: &str) -> bool
     ensures { result ≡ is_name key.now }
 {
@@ -89,7 +89,7 @@ pub fn is_field(key: &str) -> bool
         || key == "node"
 }
 
-/// Whether a key of a node's table names a field.
+/// Returns true if a key of a node's table names a field.
 pub fn is_place_field(key: &str) -> bool
     ensures { result ≡ is_place_name key.now }
 {

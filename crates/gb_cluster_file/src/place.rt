@@ -95,8 +95,8 @@ fn port_of(text: &str) -> Option<u16>
     }
 }
 
-/// Returns the place that a text writes as `HOST:PORT`. HOST is a name, an IPv4 address or an IPv6 address in brackets, and
-/// PORT a decimal number from 1 to 65,535 without leading zeros. `None`: it writes no place.
+/// Returns the place that a text writes as `HOST:PORT`. HOST is a name, an IPv4 address or an IPv6 address in brackets. PORT is a decimal
+/// number from 1 to 65,535 without leading zeros. `None` if the text writes no place.
 pub fn place_of(text: &str) -> Option<PlaceParts<'_>>
     ensures some { IfSome result (λ place. IsPlaceText text.now place.host.now place.port) }
     ensures none { IfNone result ((host : List ℕ) (port : ℕ) → IsPlaceText text.now host port → ⊥) }

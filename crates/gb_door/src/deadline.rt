@@ -18,7 +18,7 @@ pub struct Deadline<'a, H> {
 }
 
 impl<'a, H: Clock> Deadline<'a, H> {
-    /// A connection of which these bytes are read first, and on which all that is done may take this long.
+    /// Returns a connection on which these bytes are read first. All that is done on it may take `allowed` together.
     pub fn new(
         rt: &'a H,
         stream: &'a TcpStream,
@@ -35,7 +35,7 @@ impl<'a, H: Clock> Deadline<'a, H> {
         }
     }
 
-    /// From now on, all that is done may take this long.
+    /// Sets the time that all that is done from now on may take together.
     pub fn allow(&mut self, allowed: Duration) {
         self.begun = Instant::now(self.rt).ok();
         self.allowed = allowed;

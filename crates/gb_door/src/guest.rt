@@ -16,7 +16,7 @@ use tungstenite::{
     Bytes, CloseCode, CloseFrame, Error, Message, NoMask, Utf8Bytes, WebSocket, WebSocketConfig,
 };
 
-/// What a WebSocket connection may hold: a message as long as a request's text may be, and the bytes of a few replies.
+/// Returns what a WebSocket connection may hold: a message as long as the text of a request may be, and the bytes of a few replies.
 pub fn config() -> WebSocketConfig {
     WebSocketConfig::default()
         .read_buffer_size(4_096)
@@ -65,7 +65,7 @@ fn close_of(leave: Leave) -> Option<CloseFrame> {
 }
 
 impl<'a, H: Clock> Guest<'a, H> {
-    /// A client whose handshake is done.
+    /// Returns a client whose handshake is done.
     pub fn new(
         alloc: Global,
         socket: WebSocket<Deadline<'a, H>, NoMask>,

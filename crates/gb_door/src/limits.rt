@@ -16,7 +16,7 @@ pub struct Limits {
     pub close: Duration,
 }
 
-/// What the program waits.
+/// Returns the limits of time that the program uses.
 pub fn usual_limits() -> Limits {
     Limits {
         head: Duration::from_secs(10),

@@ -62,7 +62,7 @@ fn is_open(stream: &TcpStream) -> bool {
 }
 
 impl<'a, H: Net<Stream = TcpStream>> NodeLink<'a, H> {
-    /// The sessions of a node, to which there is no connection yet; a connection, and each reply, may take this long.
+    /// Returns the link to a node's sessions, without a connection yet. A connection may take `wait` to be made, and so may each reply.
     pub fn new(rt: &'a H, alloc: Global, address: SocketAddr, wait: Duration) -> NodeLink<'a, H> {
         NodeLink {
             rt,

@@ -32,7 +32,7 @@ pub enum PageFault {
     OutOfMemory,
 }
 
-/// The page that is served where none was given.
+/// Returns the page that is served if no folder is given.
 pub fn plain_page(alloc: Global) -> Result<Page, OutOfMemory> {
     let mut index = Vec::new(alloc);
     put_bytes(&mut index, PLAIN)?;
@@ -58,7 +58,7 @@ fn read_file<H: Files + AllocGlobal>(
     }
 }
 
-/// Reads the page in a folder.
+/// Reads and returns the page in a folder.
 pub fn read_page<H: Files + AllocGlobal>(rt: &H, folder: &str) -> Result<Page, PageFault> {
     let index = read_file(rt, folder, "index.html")?;
     let script = read_file(rt, folder, "page.js")?;

@@ -16,6 +16,7 @@ pub fn version_of(bytes: &[u8]) -> Version
     Version::from_byte(bytes[2]).unwrap_or(Version::One)
 }
 
+/// Returns the base of the header's acknowledgement: every frame with a lower number was received.
 pub fn base_of(bytes: &[u8]) -> u64
     requires { HEADER ≤ length bytes.now }
     ensures { result ≡ base_in bytes.now }
@@ -23,6 +24,7 @@ pub fn base_of(bytes: &[u8]) -> u64
     u64_at(bytes, 5)
 }
 
+/// Returns the mask of the header's acknowledgement: bit i is 1 if frame base + i was received.
 pub fn mask_of(bytes: &[u8]) -> u64
     requires { HEADER ≤ length bytes.now }
     ensures { result ≡ mask_in bytes.now }
@@ -30,6 +32,7 @@ pub fn mask_of(bytes: &[u8]) -> u64
     u64_at(bytes, 13)
 }
 
+/// Returns the number of the header's frame. It is 0 if the packet carries no frame.
 pub fn frame_of(bytes: &[u8]) -> u64
     requires { HEADER ≤ length bytes.now }
     ensures { result ≡ frame_in bytes.now }
@@ -37,6 +40,7 @@ pub fn frame_of(bytes: &[u8]) -> u64
     u64_at(bytes, 21)
 }
 
+/// Returns the number of items that the header names.
 pub fn count_of(bytes: &[u8]) -> u16
     requires { HEADER ≤ length bytes.now }
     ensures { result ≡ count_in bytes.now }
@@ -44,6 +48,7 @@ pub fn count_of(bytes: &[u8]) -> u16
     u16_at(bytes, 29)
 }
 
+/// Returns true if the first two bytes are `GB`.
 pub fn has_magic(bytes: &[u8]) -> bool
     requires { HEADER ≤ length bytes.now }
     ensures { result ≡ is_magic bytes.now }

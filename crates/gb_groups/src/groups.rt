@@ -350,7 +350,7 @@ impl Groups {
         }
     }
 
-    /// Opens the group with this address.
+    /// Opens the group with this address and returns the reply: Ok, NoGroup, Spent or WrongPhase. After a refusal nothing has changed.
     pub fn open_group(&mut self, addr: Addr) -> Reply
         ensures reply { result ≡ group_reply open_answer addr self.old }
         ensures rooms { self.new.rooms ≡ self.old.rooms }
@@ -364,7 +364,7 @@ impl Groups {
         }
     }
 
-    /// Shuts the group with this address.
+    /// Shuts the group with this address and returns the reply: Ok, NoGroup, Spent or WrongPhase. After a refusal nothing has changed.
     pub fn shut_group(&mut self, addr: Addr) -> Reply
         ensures reply { result ≡ group_reply shut_answer addr self.old }
         ensures rooms { self.new.rooms ≡ self.old.rooms }
@@ -378,7 +378,8 @@ impl Groups {
         }
     }
 
-    /// Drops the group with this address. What waits in it is discarded, and its place is free for another generation of its room.
+    /// Drops the group with this address and returns the reply: Ok, NoGroup or Spent. What waits in the group is discarded, and its place
+    /// is free for another generation of its room.
     pub fn drop_group(&mut self, addr: Addr) -> Reply
         ensures reply { result ≡ group_reply drop_answer addr self.old }
         ensures rooms { self.new.rooms ≡ self.old.rooms }
@@ -397,8 +398,8 @@ impl Groups {
         }
     }
 
-    /// Says a payload in the group with this address, at the place that `find` returned, at a node that sends this version of the
-    /// packet text. The message gets the number `seq` if the caller names one.
+    /// Says a payload in the group with this address and returns the reply. `place` is the place that `find` returned, and `version` that
+    /// of the packets that the node sends. The message gets the number `seq` if the caller names one.
     pub fn say(
         &mut self,
         version: Version,
@@ -426,7 +427,8 @@ impl Groups {
         }
     }
 
-    /// Reads the log of the group with this address, at the place that `find` returned.
+    /// Returns the reply to a fetch of at most `most` entries of the log of the group with this address, from entry `from` on. `place` is
+    /// the place that `find` returned.
     pub fn fetch(&self, addr: Addr, place: Option<usize>, from: u32, most: u32) -> Reply
         requires { place ≡ living_place addr self.now.rows }
         ensures { IsReply (group_reply (λ s. fetch_answer s from most) addr self.now) result }

@@ -302,7 +302,7 @@ impl Slots {
         }
     }
 
-    /// Opens the group at a place. Spent if it was dropped.
+    /// Opens the group at a place and returns the reply. Spent if it was dropped.
     pub fn open_group(&mut self, place: usize) -> Reply
         ensures reply { result ≡ unless_gone open_answer (row_at self.old.rows place).slot }
         ensures rows { self.new.rows ≡ slice_set self.old.rows place (on_slot (slot_moved Phase.Opened result) (row_at self.old.rows place)) }
@@ -315,7 +315,7 @@ impl Slots {
         Reply::Refused(Refusal::Spent)
     }
 
-    /// Shuts the group at a place. Spent if it was dropped.
+    /// Shuts the group at a place and returns the reply. Spent if it was dropped.
     pub fn shut_group(&mut self, place: usize) -> Reply
         ensures reply { result ≡ unless_gone shut_answer (row_at self.old.rows place).slot }
         ensures rows { self.new.rows ≡ slice_set self.old.rows place (on_slot (slot_moved Phase.Shut result) (row_at self.old.rows place)) }
@@ -328,9 +328,9 @@ impl Slots {
         Reply::Refused(Refusal::Spent)
     }
 
-    /// Says a payload in the group at a place, at a node that sends this version of the packet text. The message gets the number
-    /// `seq` if the caller names one. Spent if the group was dropped. A message that gets a number is put out: then something waits
-    /// for each node that the group reaches.
+    /// Says a payload in the group at a place and returns the reply. `version` is that of the packets that the node sends. The message gets
+    /// the number `seq` if the caller names one. Spent if the group was dropped. A message that gets a number is put out: it waits for each
+    /// node that the group reaches.
     pub fn say(&mut self, version: Version, place: usize, seq: Option<u32>, payload: &[u8]) -> Reply
         ensures reply { result ≡ unless_gone (λ s. say_answer version s (record { payload = payload.now; seq = seq })) (row_at self.old.rows place).slot }
         ensures rows { self.new.rows ≡ slice_set self.old.rows place (on_slot (slot_said payload.now result) (row_at self.old.rows place)) }
@@ -345,7 +345,8 @@ impl Slots {
         Reply::Refused(Refusal::Spent)
     }
 
-    /// Reads the log of the group at a place. Spent if it was dropped.
+    /// Returns the reply to a fetch of at most `most` entries of the log of the group at a place, from entry `from` on. Spent if the group
+    /// was dropped.
     pub fn fetch(&self, place: usize, from: u32, most: u32) -> Reply
         ensures { IsReply (unless_gone (λ s. fetch_answer s from most) (row_at self.now.rows place).slot) result }
     {
@@ -436,7 +437,7 @@ impl Slots {
         Ok(rows)
     }
 
-    /// Drops the group at a place; the group keeps its place. Spent if it was dropped before.
+    /// Drops the group at a place, which the group keeps, and returns the reply. Spent if it was dropped before.
     pub fn remove(&mut self, place: usize) -> Reply
         ensures reply { result ≡ unless_gone drop_answer (row_at self.old.rows place).slot }
         ensures rows { self.new.rows ≡ slice_set self.old.rows place (gone (row_at self.old.rows place)) }

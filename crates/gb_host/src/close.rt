@@ -226,8 +226,8 @@ fn list_with(alloc: Global, lists: Vec<CallList>, seat: u32) -> CallList
     }
 }
 
-/// Closes a host: each node that was here is the replay of its tape, the tape of any other node is empty, and each seat's calls
-/// are its entries in the tapes. Host and seats are given up, also with `Err`.
+/// Closes a host and returns its tapes and the calls of its seats. Each node that was here is the replay of its tape, the tape of any other
+/// node is empty, and each seat's calls are its entries in the tapes. Host and seats are given up, also with `Err`.
 pub fn close<L: Tapes>(host: Host<L>, seats: Vec<Seat<L>>) -> Result<Closed, HostFault>
     ensures len { IfOk result (λ c. (vec_len c.nodes ≡ host.plan.cluster.nodes) × (vec_len c.tapes ≡ host.plan.cluster.nodes)) }
     ensures replays { IfOk result (λ c. AreReplays host.plan host.here host.plan.cluster.nodes c.nodes.items c.tapes.items) }

@@ -44,6 +44,7 @@ impl CallList {
         }
     }
 
+    /// Returns the entries, in order.
     pub fn as_slice(&self) -> &[SeatEntry]
         ensures { result.now ≡ self.now }
     {

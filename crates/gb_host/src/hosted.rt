@@ -96,7 +96,7 @@ impl<L: Tapes> Hosted<L> {
         }
     }
 
-    /// Gives up the lock's content for the node and the tape that memory holds.
+    /// Takes the lock's content apart. Returns the node and the tape that memory holds.
     #[tactic(auto, using(crate::proofs::KeptLemmas::tape_held, crate::proofs::KeptLemmas::replayed))]
     pub fn into_parts(self) -> (Node, Tape)
         ensures node { result.0 ≡ self.node }
@@ -135,7 +135,7 @@ impl<L: Tapes> Hosted<L> {
         }
     }
 
-    /// Lists the node's groups, as `Node::list` does.
+    /// Returns a page of the node's groups, as `Node::list` does.
     pub fn list(&self, token: &Token, from: u32, most: u32) -> Result<Listing, Refusal>
         ensures { IsListed L.plan self.now.me token.now from most result }
     {
@@ -151,8 +151,8 @@ impl<L: Tapes> Hosted<L> {
 }
 
 impl<L: Tapes> Hosted<L> {
-    /// One event, atomic under the node's lock: the node's next state and answer. The past goes on with an entry, which the seat
-    /// sees, and the seat's calls with a call; with tapes memory holds both, and with a ring the entry goes to the recorder. After a
+    /// Makes one event happen, atomic under the node's lock, and returns the node's answer. The past goes on with an entry, which the seat
+    /// sees, and the seat's calls with a call. With tapes memory holds both, and with a ring the entry goes to the recorder. After a
     /// refusal nothing has changed.
     pub fn step(&mut self, seat: &mut Seat<L>, event: NodeEvent) -> Result<NodeAnswer, HostFault>
         ensures turn { IfOk result (λ a. IsTurn self.old.node event a self.new.node) }

@@ -79,7 +79,7 @@ impl<L: Tapes> Recorder<L> {
         self.node
     }
 
-    /// Takes what happened next. `None` if nothing more is there yet, and after the end.
+    /// Takes and returns what happened next. `None` if no more is there yet, and after the end.
     #[tactic(auto, using(crate::proofs::RingLemmas::taken_entry, crate::proofs::RingLemmas::taken_end, crate::proofs::RingLemmas::no_begin, crate::proofs::RingLemmas::entries_more, crate::proofs::RingLemmas::entries_ended))]
     pub fn take(&mut self) -> Option<Taken>
         ensures node { self.new.node ≡ self.old.node }

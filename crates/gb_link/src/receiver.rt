@@ -52,8 +52,8 @@ impl Receiver {
         Receiver { base: 1, mask: 0 }
     }
 
-    /// Receives the number of an arriving frame, unless it was received before or is outside the window. The window has the 64
-    /// numbers from the least one that is not received, up to `LAST_FRAME`.
+    /// Receives the number of an arriving frame. Returns whether it is received for the first time, was received before, or is outside the
+    /// window, which has the 64 numbers from the least one that is not received, up to `LAST_FRAME`.
     pub fn admit(&mut self, number: u64) -> Admission
         requires { 1 ≤ number }
         ensures answer { result ≡ admission self.old number }

@@ -139,7 +139,7 @@ fn send<'a, S: Settle, W: Write>(settle: &S, writer: &mut W, bytes: &'a [u8]) ->
 }
 
 impl Client {
-    /// A client that has asked nothing, and may ask so much.
+    /// Returns a client that has asked nothing, and may make this number of requests.
     pub fn new(alloc: Global, requests: u64) -> Client
         ensures session { result.session ≡ record { kept = []; left = requests } }
         ensures unsent { result.unsent.items ≡ [] }
@@ -208,8 +208,9 @@ impl Client {
         Some(step)
     }
 
-    /// One turn: sends the replies that wait; if all are sent reads a piece, answers what is whole, and sends what the stream takes of
-    /// the replies. What happened is settled before anything is sent; the turn fails if it cannot be kept. `space` is where a read puts its bytes, and `out` where replies are put.
+    /// Makes one turn: sends the replies that wait; if all are sent, reads a piece, answers what is whole, and sends what the stream takes
+    /// of the replies. What happened is settled before anything is sent; the turn fails if it cannot be kept. `space` is where a read puts
+    /// its bytes, and `out` where replies are put. Returns how the turn ended.
     pub fn turn<A: Answers, S: Settle, R: Read, W: Write>(
         &mut self,
         alloc: Global,

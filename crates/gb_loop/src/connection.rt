@@ -28,7 +28,7 @@ pub struct Connection {
 }
 
 impl Connection {
-    /// A connection on which nothing came yet, whose client may ask so much.
+    /// Returns a connection on which nothing came yet, made at the time `now`. Its client may make this number of requests.
     pub fn new(alloc: Global, stream: TcpStream, requests: u64, now: u64) -> Connection {
         Connection {
             stream,

@@ -51,6 +51,7 @@ pub struct Link {
 }
 
 impl Link {
+    /// Returns a link on which nothing was sent and nothing is owed.
     pub fn new() -> Link {
         Link {
             open: 0,
@@ -69,7 +70,7 @@ impl Link {
         }
     }
 
-    /// A frame was packed and sent.
+    /// Notes that a frame was packed and sent.
     pub fn packed(&mut self, now: u64) {
         if self.open == 0 {
             self.is_prompted = false;
@@ -84,7 +85,7 @@ impl Link {
         self.sent(now);
     }
 
-    /// Something was sent, which acknowledges what came.
+    /// Notes that something was sent, which acknowledges what came.
     pub fn sent(&mut self, now: u64) {
         self.owes = false;
         self.sent_at = now;
@@ -123,8 +124,8 @@ impl Link {
         }
     }
 
-    /// This number of frames is acknowledged newly. The patience stays what it grew to until a round trip is measured. Of frames that were
-    /// open when one was late, the next is sent again at once.
+    /// Notes that `count` more frames are acknowledged. The patience stays what it grew to until a round trip is measured. Of the frames
+    /// that were open when one was late, the next is sent again at once.
     pub fn done(&mut self, count: u64, now: u64) {
         if count > 0 {
             self.open = self.open.saturating_sub(count);
@@ -140,18 +141,19 @@ impl Link {
         }
     }
 
-    /// Frames were lost: fewer may be open.
+    /// Notes that frames were lost: fewer may be open.
     pub fn lost(&mut self) {
         self.room = (self.room / 2).max(ROOM_LEAST);
     }
 
-    /// A frame was sent again. Which of the two is acknowledged cannot be told, so no round trip is measured by it (Karn's algorithm).
+    /// Notes that a frame was sent again. An acknowledgement does not tell which of the two it is for, so no round trip is measured by it
+    /// (Karn's algorithm).
     pub fn resent(&mut self) {
         self.timed = 0;
     }
 
-    /// The frame that waits longest was sent again, as an acknowledgement asked for it or as the time for it had come: then it was late,
-    /// and fewer may be open. All that are missing may be sent again once more.
+    /// Notes that the frame that waits longest was sent again, because an acknowledgement asked for it or its time had come. In the second
+    /// case it was late, and fewer may be open. All that are missing may be sent again once more.
     pub fn repeated(&mut self, now: u64) {
         self.repaired = 0;
         self.resent();
@@ -166,7 +168,8 @@ impl Link {
         self.again_at = now.saturating_add(self.patience);
     }
 
-    /// When something is to be done for the link, if nothing happens before: a frame sent again, or a sign of life.
+    /// Returns the time at which something is to be done for the link if nothing happens before: a frame sent again, or a sign of life
+    /// `beat` microseconds after the last packet.
     pub fn due_at(&self, beat: u64) -> u64 {
         let beat_at = self.sent_at.saturating_add(beat);
         if self.open > 0 {

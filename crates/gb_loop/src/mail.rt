@@ -228,7 +228,8 @@ fn send_at<L: Tapes, H: Wait, P: Port>(
 }
 
 impl<'a, L: Tapes, H: Wait, P: Port> Mail<'a, L, H, P> {
-    /// A node of which nothing was asked from this seat since.
+    /// Returns the access of a loop to its node: each event goes to the host from this seat, and each packet that the node sends to this
+    /// port. No group is touched yet, and all counts are 0.
     pub fn new(
         rt: &'a H,
         host: &'a Host<L>,
@@ -261,7 +262,7 @@ impl<'a, L: Tapes, H: Wait, P: Port> Mail<'a, L, H, P> {
         }
     }
 
-    /// Gives up the node for its parts.
+    /// Gives up the access. Returns the seat and the port.
     pub fn into_parts(self) -> Parts<L, P>
         ensures node { result.node ≡ self.entry.origin.node }
         ensures here { ∥ HasCalled result.node self.entry.origin.seat.value.calls result.seat.calls ∥₁ }
@@ -293,7 +294,7 @@ impl<'a, L: Tapes, H: Wait, P: Port> Mail<'a, L, H, P> {
         }
     }
 
-    /// Time passes at the node. None: the host refused the call.
+    /// Makes the node tick and returns its answer. `None` if the host refused the call.
     pub fn tick(&mut self) -> Option<NodeAnswer>
         ensures origin { self.new.origin ≡ self.old.origin }
     {
@@ -316,8 +317,8 @@ impl<'a, L: Tapes, H: Wait, P: Port> Mail<'a, L, H, P> {
         count_tick(&mut self.figures, answer);
     }
 
-    /// Takes the next packet that came; it is one event at the node. Its items' groups are put into `came` if `is_wanted`. None:
-    /// none came, or the port failed.
+    /// Takes the next packet that came, which is one event at the node, and returns what it was. If `is_wanted`, the groups of its items
+    /// are put into `came`. `None` if no packet came, or the port failed.
     pub fn receive(&mut self, is_wanted: bool, came: &mut Vec<Addr>) -> Option<Arrival>
         ensures mailed { HasMailed P.sends P.receives self.new.lost self.old.port self.new.port self.old.seat.calls self.new.seat.calls }
         ensures lost { self.new.lost ≡ 0 → self.old.lost ≡ 0 }
@@ -344,7 +345,8 @@ impl<'a, L: Tapes, H: Wait, P: Port> Mail<'a, L, H, P> {
         Some(Arrival { good, hint })
     }
 
-    /// One event by which the node sends to another. What it gives is handed to the port at once. Returns true if it gave a packet.
+    /// Makes one event happen by which the node sends to another one. The packet that it makes is handed to the port at once. Returns true
+    /// if it made one.
     pub fn send(&mut self, event: NodeEvent, to: NodeId) -> bool
         requires { destination event ≡ Some to }
         ensures mailed { HasMailed P.sends P.receives self.new.lost self.old.port self.new.port self.old.seat.calls self.new.seat.calls }
@@ -372,7 +374,7 @@ impl<'a, L: Tapes, H: Wait, P: Port> Mail<'a, L, H, P> {
         self.figures.add(figure, 1);
     }
 
-    /// Sets a figure.
+    /// Sets a figure to a number.
     pub fn set(&mut self, figure: Figure, number: u64)
         ensures origin { self.new.origin ≡ self.old.origin }
     {
@@ -398,7 +400,7 @@ impl<'a, L: Tapes, H: Wait, P: Port> Mail<'a, L, H, P> {
         self.touched.clear();
     }
 
-    /// Takes the groups that requests changed, and forgets them.
+    /// Takes and returns the groups that requests changed since the last call.
     pub fn take_touched(&mut self, alloc: Global) -> Vec<Addr>
         ensures origin { self.new.origin ≡ self.old.origin }
     {

@@ -324,9 +324,9 @@ impl<'a, L: Tapes, H: Wait + Clock, P: Port, S: Settle + Copy> NodeLoop<'a, L, H
     }
 }
 
-/// Runs the loop of a node until its end is told: carries the packets of its port, answers the clients of its listener, and makes
-/// its time tick. Gives node, seat and port back. Each call of the seat is one at the node; what travelled at the port is what
-/// these calls say. What happened is settled before a reply is written, after the turn of each client, and once a round.
+/// Runs the loop of a node until its end is told: carries the packets of its port, answers the clients of its listener, and makes its time
+/// tick. Each call of the seat is one at the node; what travelled at the port is what these calls say. What happened is settled before a
+/// reply is written, after the turn of each client, and once a round. Returns the seat and the port.
 pub fn run_loop<L: Tapes, H: Wait + Clock, N: Net, P: Port, S: Settle + Copy, E: Ending>(
     rt: &H,
     net: &N,

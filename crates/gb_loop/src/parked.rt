@@ -11,7 +11,7 @@ pub struct Parked {
 }
 
 impl Parked {
-    /// No connection waits.
+    /// Returns a list of waiting connections that has none.
     pub fn new(alloc: Global) -> Parked {
         Parked {
             alloc,
@@ -36,7 +36,7 @@ impl Parked {
         self.places.insert(address, keys).is_ok()
     }
 
-    /// Returns the connections that wait for a group, or None if there is no memory.
+    /// Returns the connections that wait for a group. `None` if there is no memory.
     pub fn waiting(&self, address: Addr) -> Option<Vec<usize>> {
         let mut waiting = Vec::new(self.alloc);
         if let Some(keys) = self.places.get(&address) {

@@ -13,8 +13,8 @@ use gb_node::past::packets_say;
 use gb_types::Plan;
 use std::alloc::Global;
 
-/// Merges those entries of the tapes that were not refused for lack of memory, as `merge` merges all entries. A refused entry
-/// changed nothing at its node. A fault speaks of the tapes without the refused entries.
+/// Merges those entries of the tapes that were not refused for lack of memory, as `merge` merges all entries, and returns the events. A
+/// refused entry changed nothing at its node. A fault speaks of the tapes without the refused entries.
 pub fn merge_fed(alloc: Global, plan: &Plan, tapes: &[Tape]) -> Result<Vec<Event>, AuditFault>
     requires plan { IsClusterPlan plan.now }
     requires one_each { length tapes.now ≡ plan.now.nodes }

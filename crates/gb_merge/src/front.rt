@@ -13,8 +13,8 @@ use gb_node::Tape;
 use gb_types::Plan;
 use std::alloc::Global;
 
-/// Merges the first entries of each tape, as many as possible. An entry is left out exactly if it, or one before it in its tape,
-/// is a packet for the node that no merged entry has sent. For a missing tape the caller passes an empty one. `Err` with
+/// Merges the first entries of each tape, as many as possible, and returns the events. An entry is left out exactly if it, or one before it
+/// in its tape, is a packet for the node that no merged entry has sent. For a missing tape the caller passes an empty one. `Err` with
 /// `Differs` if an answer among these entries is not its replay's, or refuses for lack of memory.
 pub fn merge_front(alloc: Global, plan: &Plan, tapes: &[Tape]) -> Result<Vec<Event>, AuditFault>
     requires plan { IsClusterPlan plan.now }

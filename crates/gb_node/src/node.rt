@@ -214,7 +214,7 @@ impl Node {
         }
     }
 
-    /// Answers a request. Without the token that it needs a running node answers Denied, whatever it holds; after a
+    /// Returns the reply to a request. Without the token that it needs, a running node answers Denied, whatever groups it has. After a
     /// refusal nothing has changed.
     pub fn request(&mut self, request: &Request) -> Reply
         ensures turn { IsTurn self.old (NodeEvent.Request request.now) (NodeAnswer.Reply result) self.new }
@@ -235,9 +235,9 @@ impl Node {
         self.table.is_admin(token)
     }
 
-    /// Lists at most `most` of the groups that live at the node or were dropped there, from the `from`-th on, in the order of their
-    /// places, for who has the administrator's token. It is no event: nothing changes. Stopped: the node has stopped. Denied: the
-    /// token is another. BadPlace: there are fewer than `from` groups, or `most` is above 64.
+    /// Returns at most `most` of the groups that live at the node or were dropped there, from the place `from` on, in the order of their
+    /// places. The token has to be the administrator's. A list is no event: nothing changes. Refusals: Stopped if the node has stopped;
+    /// Denied if the token is another; BadPlace if there are fewer than `from` groups, or `most` is above 64.
     pub fn list(&self, token: &Token, from: u32, most: u32) -> Result<Listing, Refusal>
         ensures { Lists self.now token.now from most result }
     {
@@ -372,9 +372,8 @@ impl Node {
         Ok(self.write_frame(to, number, next.count, packet))
     }
 
-    /// Packs what waits for a node as the next frame of the link to it. `Nothing`: the node is no other one of the cluster,
-    /// was noticed, its link has no room, or nothing waits. After `Nothing`, as after a refusal, nothing has changed. `Packet`
-    /// is the packet to send.
+    /// Packs what waits for a node as the next frame of the link to it. Returns the packet to send. `Nothing` if the node is no other one
+    /// of the cluster or was noticed, its link has no room, or nothing waits. After `Nothing`, as after a refusal, nothing has changed.
     pub fn pack(&mut self, to: NodeId) -> Sent
         ensures turn { IsTurn self.old (NodeEvent.Pack to) (NodeAnswer.Sent result) self.new }
         ensures spelt { IsSpelt self.old (NodeEvent.Pack to) (NodeAnswer.Sent result) }
@@ -503,8 +502,8 @@ impl Node {
         self.read(bytes).is_ok()
     }
 
-    /// Takes bytes that came, without a copy. After a fault nothing has changed, the detector included.
-    /// Takes no memory.
+    /// Takes bytes that came, without a copy, and returns what they were: a good packet, or the first fault. After a fault nothing has
+    /// changed, and its sender does not count as heard. Takes no memory.
     pub fn packet(&mut self, bytes: &[u8]) -> PacketAnswer
         ensures { IsTurn self.old (NodeEvent.Packet bytes.now) (NodeAnswer.Taken result) self.new }
     {
@@ -525,8 +524,8 @@ impl Node {
         decode_known(bytes, self.key.key())
     }
 
-    /// Takes bytes that are known to be a packet of the cluster for this node, since one of its nodes sent them. The effect is
-    /// that of `packet`, without a test and without a tag computed. Takes no memory.
+    /// Takes bytes that are known to be a packet of the cluster for this node, since one of its nodes sent them. Does and returns what
+    /// `packet` does, without a test and without computing a tag. Takes no memory.
     pub fn known_packet(&mut self, bytes: &[u8]) -> PacketAnswer
         requires { is_ok (read_at self.old bytes.now) ≡ true }
         ensures { IsTurn self.old (NodeEvent.Packet bytes.now) (NodeAnswer.Taken result) self.new }
@@ -538,7 +537,8 @@ impl Node {
         PacketAnswer::Good(self.take_packet(&packet))
     }
 
-    /// Lets the time tick. The nodes that are noticed now are noticed in each group, rising. Takes no memory.
+    /// Makes one tick of the node's time pass. Returns the nodes that are noticed now. Each group notices them too, in rising order. Takes
+    /// no memory.
     pub fn tick(&mut self) -> Ticked
         ensures { IsTurn self.old NodeEvent.Tick (NodeAnswer.Ticked result) self.new }
     {
@@ -550,7 +550,7 @@ impl Node {
         Ticked::Noticed(found)
     }
 
-    /// Stops the node for good. It answers Stopped to every later event.
+    /// Stops the node for good. Returns Done, or Stopped if it had stopped before. It answers Stopped to every later event.
     pub fn stop(&mut self) -> Halted
         ensures { IsTurn self.old NodeEvent.Stop (NodeAnswer.Halted result) self.new }
     {
@@ -561,7 +561,7 @@ impl Node {
         Halted::Done
     }
 
-    /// Takes one event.
+    /// Makes one event happen and returns the node's answer to it.
     #[tactic(auto, using(crate::proofs::ReadLemmas::reads))]
     pub fn take(&mut self, event: &NodeEvent) -> NodeAnswer
         ensures turn { IsTurn self.old event.now result self.new }

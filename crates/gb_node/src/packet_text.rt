@@ -16,6 +16,7 @@ impl Model for PacketText {
 }
 
 impl PacketText {
+    /// Returns the bytes of the packet.
     pub fn as_slice(&self) -> &[u8]
         ensures { result.now ≡ self.now }
     {

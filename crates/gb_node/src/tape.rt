@@ -43,6 +43,7 @@ impl Model for Tape {
 }
 
 impl Tape {
+    /// Returns the entries, the oldest first.
     pub fn as_slice(&self) -> &[TapeEntry]
         ensures { result.now ≡ self.now }
     {

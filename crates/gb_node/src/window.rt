@@ -74,8 +74,8 @@ impl Window {
         }
     }
 
-    /// Hands out the texts of the lowest frame that the acknowledgement covers, with its number; it is done then. To take
-    /// an acknowledgement whole, call until there is none.
+    /// Removes the lowest open frame that the acknowledgement covers. Returns its number and the texts of its items. `None` if it covers no
+    /// open frame. To take a whole acknowledgement, call until there is none.
     pub fn acked(&mut self, base: u64, mask: u64) -> Option<(u64, Vec<u8>)>
         ensures first { MatchOption result (freed self.old.window base mask ≡ []) (λ u. (freed self.old.window base mask ≡ (u.0, batch_in self.old.version u.1.items) ∷ freed self.new.window base mask) × IsBatch self.old.version u.1.items) }
         ensures done { self.new ≡ record self.old { window = acknowledged self.old.window base mask } }

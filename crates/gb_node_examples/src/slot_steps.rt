@@ -149,7 +149,7 @@ fn holds(version: Version, slot: &mut Slot, effects: &mut Effects, step: Step) -
     }
 }
 
-/// Compares the answer of each call at a node of this version.
+/// Makes each call at a node of this version, and fails the test at the first whose answer is not the step's.
 pub fn compare(
     rt: &impl Abort,
     version: Version,

@@ -21,7 +21,7 @@ pub const THIRD: u8 = 2;
 /// The last node of a cluster of 32.
 pub const LAST: u8 = 31;
 
-/// The node with this number, below 32.
+/// Returns the node with this number, below 32.
 pub fn node(number: u8) -> NodeId {
     NodeId::new(number % 32)
 }
@@ -118,7 +118,7 @@ fn start(alloc: Global, number: u8, nodes: u8, version: Version) -> Node
     start_with(alloc, number, nodes, version, 16_345)
 }
 
-/// The three nodes of a cluster of version 1, at which nothing has happened.
+/// Returns the three nodes of a cluster of version 1, at which nothing has happened.
 pub fn three(alloc: Global) -> Result<Vec<Node>, OutOfMemory> {
     let mut nodes = Vec::new(alloc);
     for number in 0..3u8 {
@@ -127,7 +127,7 @@ pub fn three(alloc: Global) -> Result<Vec<Node>, OutOfMemory> {
     Ok(nodes)
 }
 
-/// The same, where the first node is of version 2.
+/// Returns the three nodes of a cluster, the first of version 2 and the others of version 1, at which nothing has happened.
 pub fn unlike(alloc: Global) -> Result<Vec<Node>, OutOfMemory> {
     let mut nodes = three(alloc)?;
     if let Some(first) = nodes.first_mut() {
@@ -136,7 +136,7 @@ pub fn unlike(alloc: Global) -> Result<Vec<Node>, OutOfMemory> {
     Ok(nodes)
 }
 
-/// The three nodes, where the first is of version 2 and has room for 1,400 bytes of items a packet.
+/// Returns the three nodes of a cluster, the first of version 2 and with room for 1,400 bytes of items a packet, the others of version 1.
 pub fn narrow(alloc: Global) -> Result<Vec<Node>, OutOfMemory> {
     let mut nodes = three(alloc)?;
     if let Some(first) = nodes.first_mut() {
@@ -145,7 +145,7 @@ pub fn narrow(alloc: Global) -> Result<Vec<Node>, OutOfMemory> {
     Ok(nodes)
 }
 
-/// The first two nodes and the last one of a cluster of 32 of this version, at which nothing has happened.
+/// Returns the first two nodes and the last one of a cluster of 32 nodes of this version, at which nothing has happened.
 pub fn far(alloc: Global, version: Version) -> Result<Vec<Node>, OutOfMemory>
     requires { 32 ≤ (limits_of version).nodes }
 {
@@ -231,7 +231,7 @@ fn keep(alloc: Global, sent: &mut Vec<PacketText>, answer: &NodeAnswer) -> Resul
     Ok(sent.push(PacketText::from(bytes))?)
 }
 
-/// Takes a step at a node. Whether it tells what it must.
+/// Takes a step at a node. Returns true if the node's answer is the line's.
 pub fn holds(
     alloc: Global,
     nodes: &mut [Node],
@@ -250,7 +250,7 @@ pub fn holds(
     }
 }
 
-/// Each step tells what it must.
+/// Takes the steps of the lines in turn, and fails the test at the first whose answer is not the line's.
 pub fn compare(
     rt: &impl Abort,
     alloc: Global,
@@ -265,7 +265,7 @@ pub fn compare(
     Ok(())
 }
 
-/// Each step tells what it must, at nodes that have sent nothing yet.
+/// Takes the steps of the lines at nodes that have sent nothing yet, as `compare` does.
 pub fn run_at(
     rt: &impl Abort,
     alloc: Global,
@@ -276,7 +276,7 @@ pub fn run_at(
     compare(rt, alloc, nodes, &mut sent, lines)
 }
 
-/// Each step tells what it must, from three nodes on at which nothing has happened.
+/// Takes the steps of the lines at the three nodes that `three` returns, as `compare` does.
 pub fn run(rt: &impl Abort, alloc: Global, lines: &[Line]) -> Result<(), OutOfMemory> {
     let mut nodes = three(alloc)?;
     run_at(rt, alloc, &mut nodes, lines)

@@ -192,7 +192,7 @@ fn disturb_node(rt: &impl Abort, alloc: Global, node: &mut Node) -> Result<(), O
     Ok(())
 }
 
-/// Hands each of the texts to the second node. The node answers it with its fault.
+/// Hands each of the texts to the second node, and fails the test unless the node answers with the text's fault.
 pub fn disturb(rt: &impl Abort, alloc: Global, nodes: &mut [Node]) -> Result<(), OutOfMemory> {
     match nodes.get_mut(usize::from(SECOND)) {
         Some(node) => disturb_node(rt, alloc, node),

@@ -9,6 +9,7 @@ pub enum Told {
     Refused(Refusal),
 }
 
+/// Returns what a test looks at in a reply: its refusal, the length of its log, or that it is neither.
 pub fn in_short(reply: &Reply) -> Told {
     match reply {
         Reply::Refused(why) => Told::Refused(*why),

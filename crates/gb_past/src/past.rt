@@ -94,7 +94,7 @@ impl<E, S: Story<E>> Past<E, S> {
 }
 
 impl<E, S: Story<E>> Seen<E, S> {
-    /// Returns a copy.
+    /// Returns another witness, which knows the same entries.
     pub fn again(&self) -> Seen<E, S>
         ensures { result ≡ self.now }
     {

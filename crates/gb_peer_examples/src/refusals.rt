@@ -22,7 +22,7 @@ pub struct Run {
     pub errors: Vec<u8>,
 }
 
-/// How a node with these words and this standard input ends.
+/// Returns how a node with these words and this standard input ends.
 pub fn run_of<
     H: Net<Listener = TcpListener, Stream = TcpStream>
         + Threads

@@ -16,7 +16,7 @@ use gb_server::serve_main::{FIRST, beats_of};
 use gb_types::Plan;
 use gb_types::limits::NODES;
 
-/// How many nodes a cluster has.
+/// Returns the number of nodes of a cluster.
 pub fn node_count(file: &ClusterFile) -> u8
     requires { IsWithin file.now }
     ensures value { result ≡ length file.now.nodes.items }
@@ -49,7 +49,7 @@ pub fn host_plan(file: &ClusterFile, keys: Keys, records: bool) -> HostPlan
     }
 }
 
-/// How the loop of a node behaves, with this limit of connections.
+/// Returns how the loop of a node behaves, with this limit of connections.
 pub fn options_of(file: &ClusterFile, plan: PeerPlan, connections: u64) -> LoopOptions
     ensures { ArePeerOptions file.now plan connections result }
 {

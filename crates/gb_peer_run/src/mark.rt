@@ -70,7 +70,8 @@ fn settle<F: Files>(files: &F, dir: &str) {
     }
 }
 
-/// Marks that a node begins in a run, by a file in a folder that is made if it was not there.
+/// Marks that a node begins in a run, by a file in a folder that is made if it was not there. Returns whether it was marked now, was marked
+/// before, or cannot be marked.
 pub fn mark<F: Files>(
     files: &F,
     alloc: Global,

@@ -64,8 +64,8 @@ fn resolve_all<H: Net>(
     Ok(places)
 }
 
-/// Resolves the names of a cluster's file, once: where each node takes packets, and where node `me` takes sessions. All addresses for packets are
-/// of the family of the node's own, IPv4 or IPv6.
+/// Resolves the names of a cluster's file, once. Returns where each node takes packets, and where node `me` takes sessions. All addresses
+/// for packets are of the family of the node's own, IPv4 or IPv6.
 pub fn places_of<H: Net>(
     rt: &H,
     alloc: Global,

@@ -11,7 +11,8 @@ use gb_types::NodeId;
 use std::alloc::Global;
 use std::net::{Net, TcpListener, TcpStream};
 
-/// Binds the sockets of a node: for packets at its own place among those of all nodes, and for sessions. Where one cannot be bound none is left.
+/// Binds and returns the sockets of a node: for packets at its own place among those of all nodes, and for sessions. If one cannot be
+/// bound, none is left open.
 pub fn open_sockets<H: Net<Listener = TcpListener, Stream = TcpStream>>(
     rt: &H,
     alloc: Global,

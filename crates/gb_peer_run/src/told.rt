@@ -49,14 +49,14 @@ fn tell_begun<W: Write>(alloc: Global, writer: &mut W, node: u8, run: u64) -> bo
     }
 }
 
-/// Writes the line of a node that ended in order. False: it could not be written.
+/// Writes the line of a node that ended in order. Returns false if it could not be written.
 pub fn tell_closed<W: Write>(writer: &mut W) -> bool
     ensures { result ≡ true → Appends (W.contents writer.old) (W.contents writer.new) closed_line }
 {
     tell(writer, b"closed\n")
 }
 
-/// Writes the line that tells why a node did not serve to its end. False: it could not be written, or there was no memory for it.
+/// Writes the line that tells why a node did not serve to its end. Returns false if it could not be written, or there was no memory for it.
 pub fn tell_fault<W: Write>(alloc: Global, writer: &mut W, fault: PeerFault) -> bool
     ensures { result ≡ true → Appends (W.contents writer.old) (W.contents writer.new) (fault_line fault) }
 {
@@ -73,7 +73,7 @@ pub fn tell_fault<W: Write>(alloc: Global, writer: &mut W, fault: PeerFault) -> 
     }
 }
 
-/// The exit status for a fault: 2 where the words or the cluster's file are refused, 1 for all else.
+/// Returns the exit status for a fault: 2 if the words or the cluster's file are refused, otherwise 1.
 pub fn fault_status(fault: PeerFault) -> u8
     ensures { result ≡ fault_status fault }
 {

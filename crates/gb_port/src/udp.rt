@@ -115,7 +115,7 @@ fn bound<R: Net>(rt: &R, address: SocketAddr) -> io::Result<UdpSocket> {
 }
 
 impl UdpPort {
-    /// Binds the socket of node `me` at its own address. `places` are the addresses of all nodes, by number.
+    /// Binds and returns the socket of node `me` at its own address. `places` are the addresses of all nodes, by number.
     pub fn bind<R: Net>(
         rt: &R,
         alloc: Global,
@@ -138,7 +138,8 @@ impl UdpPort {
         })
     }
 
-    /// Binds the socket of node `me` of this number of nodes on this machine: node i is at port base + i of the address 127.0.0.1.
+    /// Binds and returns the socket of node `me` of this number of nodes on this machine: node i is at port base + i of the address
+    /// 127.0.0.1.
     pub fn bind_loopback<R: Net>(
         rt: &R,
         alloc: Global,

@@ -161,7 +161,7 @@ fn write_new<L: Tapes, W: Write>(
 }
 
 impl<R: RecordName, L: Tapes, W: Write> Recording<R, L, W> {
-    /// A recording of a recorder that has taken nothing, by a writer. It notes what was written in a past of its own.
+    /// Returns a recording of what a recorder takes, which has taken nothing, to a writer. It notes what was written in a past of its own.
     #[tactic(auto, using(crate::proofs::WriteLemmas::filed_new, crate::proofs::WriteLemmas::among_none))]
     pub fn new(
         alloc: Global,
@@ -196,9 +196,9 @@ impl<R: RecordName, L: Tapes, W: Write> Recording<R, L, W> {
         self.fault.is_some()
     }
 
-    /// Writes what the recorder has, at most as much as its ring holds, by one call of the writer, and flushes it. `Write`: a write or
-    /// the flush failed, and a part of the lines may be written. `OutOfMemory`: none of them is. After a fault nothing more is taken
-    /// or written, and the answer is the same.
+    /// Writes what the recorder has, at most as much as its ring holds, by one call of the writer, and flushes it. `Write` if a write or
+    /// the flush failed; a part of the lines may be written then. `OutOfMemory` if there was no memory for the lines; none is written then.
+    /// After a fault no more is taken or written, and each later call returns that fault.
     #[tactic(auto, using(crate::proofs::WriteLemmas::filed_more, crate::proofs::WriteLemmas::filed_over, crate::proofs::WriteLemmas::among_more, crate::proofs::WriteLemmas::among_none, crate::proofs::WriteLemmas::is_recorded))]
     pub fn record(&mut self) -> Result<(), WriteFault>
         ensures begun { self.new.begun.value ≡ self.old.begun.value }
@@ -251,7 +251,7 @@ impl<R: RecordName, L: Tapes, W: Write> Recording<R, L, W> {
         seen.learn(&mut self.written);
     }
 
-    /// Gives up the recording for its recorder and its writer.
+    /// Gives up the recording. Returns its recorder and its writer.
     pub fn into_parts(self) -> (Recorder<L>, W)
         ensures recorder { result.0 ≡ self.recorder }
         ensures writer { result.1 ≡ self.writer }

@@ -16,13 +16,14 @@ pub struct SharedRecording<R: RecordName, L: Tapes, W: Write> {
 }
 
 impl<R: RecordName, L: Tapes, W: Write> SharedRecording<R, L, W> {
+    /// Returns the recording, shared by those who write to it in turn.
     pub fn new(recording: Recording<R, L, W>) -> SharedRecording<R, L, W> {
         SharedRecording {
             cell: RefCell::new(recording),
         }
     }
 
-    /// Gives back the recording.
+    /// Gives up the sharing. Returns the recording.
     pub fn into_inner(self) -> Recording<R, L, W> {
         let SharedRecording { cell } = self;
         cell.into_inner()

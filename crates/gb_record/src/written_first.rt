@@ -57,7 +57,8 @@ fn hand_on<P: Port>(
 }
 
 impl<'a, R: RecordName, L: Tapes, W: Write, P: Port> WrittenFirst<'a, R, L, W, P> {
-    /// A port round another one, by a record and a witness of it.
+    /// Returns a port round another one. It hands on a packet only once the record has the entry that sent it. `written` is what is seen of
+    /// the record's past.
     pub fn new(
         port: P,
         record: &'a SharedRecording<R, L, W>,
@@ -77,7 +78,7 @@ impl<'a, R: RecordName, L: Tapes, W: Write, P: Port> WrittenFirst<'a, R, L, W, P
         }
     }
 
-    /// Gives back the other port.
+    /// Returns the port that was wrapped.
     pub fn into_port(self) -> P
         ensures { result ≡ self.entry.port }
     {

@@ -14,6 +14,7 @@ pub struct Desk {
 }
 
 impl Desk {
+    /// Returns a desk on which nothing was written.
     pub fn new(alloc: Global) -> Desk {
         Desk {
             text: RefCell::new(Vec::new(alloc)),

@@ -49,7 +49,7 @@ fn cut_line(text: &[u8]) -> Option<(&[u8], &[u8])>
     Some((&text[..end], &text[end + 1..]))
 }
 
-/// Reads a record. What stands behind the last line feed is left out; `torn` counts its bytes.
+/// Returns the record that a text is. What stands behind the last line feed is left out; `torn` counts its bytes.
 pub fn read_record(alloc: Global, text: &[u8]) -> Result<Record, ReadFault>
     ensures { IfOk result (λ read. IsRecord read text.now) }
 {

@@ -120,8 +120,8 @@ fn take_steps(cluster: &mut Cluster, events: &[Event], text: &mut Replay) -> Res
     Ok(())
 }
 
-/// Runs the events of a cluster from its start and writes them as a schedule. An event that asks what no line of a schedule asks is a comment there.
-/// OutOfMemory: also where a node of the cluster had no memory.
+/// Runs the events of a cluster from its start. Returns them as a schedule, with its answers. An event that asks what no line of a schedule
+/// asks is a comment there. OutOfMemory also if a node of the cluster had no memory.
 pub fn schedule_of(alloc: Global, plan: &Plan, events: &[Event]) -> Result<Replay, StepFault>
     requires plan { IsClusterPlan plan.now }
     ensures ok { IfOk result (λ text. IsReplay plan.now events.now text.schedule.items text.answers.items) }

@@ -35,7 +35,7 @@ impl<'a, F: FnMut() -> A, A> Task for Lent<'a, F> {
     }
 }
 
-/// Does nothing. Where a reference that was given back is used so, the borrow checker knows it for the one that was lent.
+/// Does nothing. A reference that was given back and is passed here is known to the borrow checker as the one that was lent.
 pub fn take_back<T>(x: &mut T)
     ensures { x.new ≡ x.old }
 {}

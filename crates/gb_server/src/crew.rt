@@ -16,7 +16,7 @@ use std::thread;
 use std::thread::{JoinHandle, SpawnError, Threads};
 use std::time::Clock;
 
-/// Keeps a thread that was started. Where it could not be, or cannot be kept, the server is over.
+/// Keeps a thread that was started. If it could not be started or cannot be kept, the server is over.
 pub fn keep<T: Drop, F: Drop>(
     threads: &mut Vec<JoinHandle<T>>,
     started: Result<JoinHandle<T>, SpawnError<F>>,
@@ -132,9 +132,10 @@ fn hold<
     )
 }
 
-/// Holds a server: a thread for each node's loop, with a seat each, and with what it records by where the host's nodes have recorders, and one
-/// for its desk, while this thread does what is beside them. They end when the signals say so. Returns the seats, and what was recorded by. OutOfMemory: not all threads could be made, which the signals say before this thread does
-/// anything, and no connection was served; or a loop could not begin.
+/// Holds a server until the signals say that it is over. Makes a thread for each node's loop, with a seat and, if the host's nodes have
+/// recorders, the node's log, and a thread for the desk, while this thread calls `beside`. Returns what is left of the nodes, and what
+/// `beside` returned. OutOfMemory if a loop could not begin, or if not all threads could be made; the signals say the latter before
+/// `beside` is called, and no connection was served then.
 pub fn hold_beside<
     L: Tapes + Send + Sync,
     H: Net<Listener = TcpListener, Stream = TcpStream> + Threads + Wait + Clock + Sync,

@@ -14,8 +14,8 @@ pub const BESIDE: u64 = 4;
 // Definitions cite these values.
 const _: () = prove!(SPARE == 16 && BESIDE == 4);
 
-/// Returns the limit of connections at each node, for a wanted limit and the number of descriptors that the process may hold:
-/// as many as leave the server what else it holds, but one at least.
+/// Returns the limit of connections at each node: `wanted`, but no more than leaves the server the descriptors that it holds besides, and
+/// at least 1. `descriptors` is the number that the process may hold.
 pub fn connections_of(wanted: u64, nodes: u8, descriptors: u64) -> u64
     requires nodes { 1 ≤ nodes }
     requires wanted { 1 ≤ wanted }
@@ -29,7 +29,7 @@ pub fn connections_of(wanted: u64, nodes: u8, descriptors: u64) -> u64
     room.min(wanted).max(1)
 }
 
-/// Returns how many descriptors the process may hold at once; 2^64 - 1 where the system does not say or sets no limit.
+/// Returns the number of descriptors that the process may hold at once. It is 2^64 - 1 if the system does not say or sets no limit.
 pub fn descriptor_limit() -> u64 {
     let mut limit = rlimit {
         rlim_cur: u64::MAX,

@@ -40,8 +40,8 @@ fn is_stop(line: &[u8]) -> bool
     characters(line) == b"stop".as_slice()
 }
 
-/// Reads a byte of a line into the space behind what is filled. How much of the line is filled then, and what came. A line that is too
-/// long for its space is no order: its last byte gives way to the next.
+/// Reads a byte of a line into the space behind the `filled` bytes. Returns the number of bytes of the line that are filled then, and what
+/// came. A line that is too long for its space is no order: its last byte gives way to the next.
 pub fn hear<R: Read>(reader: &mut R, space: &mut [u8], filled: usize) -> (usize, Heard)
     requires { filled < length space.old }
     ensures within { result.0 < length space.new }
@@ -102,7 +102,7 @@ fn heed_once<H: Clock, R: Input>(
     Place { filled, is_open }
 }
 
-/// Heeds standard input until the server is over: its line `stop` ends it, and its end where that is wanted.
+/// Reads standard input until the server is over. The line `stop` ends the server, and so does the end of the input if `stops_at_end`.
 pub fn heed<H: Wait + Clock, R: Input>(
     rt: &H,
     signals: &Signals,

@@ -124,7 +124,7 @@ fn begin(alloc: Global, file: &mut File, head: &RecordHead) -> bool {
     write_head(alloc, file, head).is_ok() && file.sync_all().is_ok()
 }
 
-/// Makes the record of a node, in a folder that is made if it was not there, and writes its first line.
+/// Makes the record of a node, in a folder that is made if it was not there, writes its first line, and returns it.
 pub fn open_record<F: Files<File = File>>(
     files: &F,
     alloc: Global,
@@ -154,7 +154,7 @@ pub fn open_record<F: Files<File = File>>(
     })
 }
 
-/// Makes the records of this number of nodes from the first on, where they are wanted.
+/// Makes and returns the records of this number of nodes from the first on. Returns none without a place for them.
 pub fn open_records<F: Files<File = File>>(
     files: &F,
     alloc: Global,

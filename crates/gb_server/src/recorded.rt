@@ -22,7 +22,7 @@ pub struct NodeLog<L: Tapes> {
 }
 
 impl<L: Tapes> NodeLog<L> {
-    /// Gives up both.
+    /// Returns the recorder and the file of its record.
     #[tactic(auto, using(crate::proofs::RecordedLemmas::none_of))]
     pub fn into_parts(self) -> (Recorder<L>, RecordFile)
         ensures { (result.0.entries ≡ []) × (result.0.is_whole ≡ false) }
@@ -99,7 +99,7 @@ pub fn logs_of<L: Tapes>(
     Ok(logs)
 }
 
-/// Takes the log of a node out of a list. `None` if none is there.
+/// Takes the log of a node out of a list and returns it. `None` if none is there.
 pub fn take_log<L: Tapes>(logs: &mut Vec<NodeLog<L>>, node: NodeId) -> Option<NodeLog<L>> {
     let at = logs.iter().position(|log| log.file.node == node)?;
     Some(logs.swap_remove(at))

@@ -234,8 +234,8 @@ fn serve_plan<
     )
 }
 
-/// Serves by words in the run with this number, with the keys that the reader gives and what it gives behind them, and writes what it serves,
-/// and its log to `errors`. The answer is how it ended, which is still to be told.
+/// Serves by the words of a command line, in the run with this number. The reader has the keys, and behind them the line `stop`. Writes
+/// what it serves, and its log to `errors`. Returns how it ended, which is still to be told.
 pub fn serve<
     H: Net<Listener = TcpListener, Stream = TcpStream>
         + Threads
@@ -283,11 +283,11 @@ fn explain<E: Write>(alloc: Global, outcome: Result<Ended, ServeFault>, errors: 
     }
 }
 
-/// Serves by the words of a command line, of which the first is the program's name, in the run with this number, where the system had one, with the keys that the reader gives, and behind
-/// them the line `stop` that ends it, and writes what it serves and how it ended, a line each. Its log is written to `errors`, and why it did not serve to its end, but for
-/// why words are refused. The answer is the exit status: 0 when all connections were served, or the server was told to
-/// end, and, with tapes, they were merged, or its records are whole, 2 for refused
-/// words, 1 for all else. When it answers, its threads have ended and its sockets are closed.
+/// Serves by the words of a command line, in the run with this number. The first word is the program's name; `run` is `None` if the system
+/// had no number. The reader has the keys, and behind them the line `stop`, which ends the server. Writes a line for what it serves and a
+/// line for how it ended. Its log is written to `errors`, and there too why it did not serve to its end, unless the words were refused.
+/// Returns the exit status: 0 if all connections were served or the server was told to end, and its tapes were merged or its records are
+/// whole; 2 for refused words; 1 otherwise. When it returns, its threads have ended and its sockets are closed.
 pub fn serve_main<
     H: Net<Listener = TcpListener, Stream = TcpStream>
         + Threads

@@ -171,7 +171,7 @@ fn write<E: Write>(errors: &mut E, lines: Result<Vec<u8>, OutOfMemory>) {
 }
 
 impl ServerLog {
-    /// A log of the program with this name that has told nothing of this number of nodes, whose numbers follow on one another from the first.
+    /// Returns a log of the program with this name, which has told nothing yet. It is of this number of nodes, numbered from `first` on.
     pub fn new(
         alloc: Global,
         name: &[u8],
@@ -196,7 +196,7 @@ impl ServerLog {
         })
     }
 
-    /// Writes its first line.
+    /// Writes the first line of the log.
     pub fn begin<E: Write>(&self, line: &[u8], errors: &mut E)
         ensures quiet { self.now.is_quiet ≡ true → errors.new ≡ errors.old }
     {

@@ -67,7 +67,7 @@ pub struct Signals {
 }
 
 impl Signals {
-    /// A server that has not begun, with this number of nodes, whose numbers follow on one another from the first.
+    /// Returns the signals of a server that has not begun. It has this number of nodes, numbered from `first` on.
     pub fn new(alloc: Global, first: NodeId, nodes: u8) -> Result<Signals, OutOfMemory> {
         let board = Board::new(alloc, first, nodes)?;
         let count = u64::from(nodes);
@@ -88,24 +88,24 @@ impl Signals {
         self.waiting.load(Ordering::SeqCst) == 0
     }
 
-    /// Each thread was made, or one could not be and the server is over: connections may be served.
+    /// Says that connections may be served: each thread was made, or one could not be made and the server is over.
     pub fn begin(&self) {
         self.is_begun.store(true, Ordering::SeqCst);
     }
 
-    /// The loops end, for this reason unless they end for another already.
+    /// Tells the loops to end for this reason, unless they end for another already.
     pub fn end(&self, why: Why) {
         let _ = self
             .why
             .compare_exchange(0, number_of(why), Ordering::SeqCst, Ordering::SeqCst);
     }
 
-    /// Returns why the loops end. None: they do not.
+    /// Returns why the loops end. `None` if they do not end.
     pub fn why(&self) -> Option<Why> {
         why_of(self.why.load(Ordering::SeqCst))
     }
 
-    /// The threads of all loops have ended.
+    /// Says that the threads of all loops have ended.
     pub fn leave(&self) {
         self.have_left.store(true, Ordering::SeqCst);
     }
@@ -115,7 +115,7 @@ impl Signals {
         self.have_left.load(Ordering::SeqCst)
     }
 
-    /// A record could not be written: the loops end.
+    /// Says that a record could not be written: the loops end.
     pub fn miss_record(&self) {
         self.lacks_record.store(true, Ordering::SeqCst);
         self.end(Why::Unrecorded);
@@ -126,11 +126,12 @@ impl Signals {
         self.lacks_record.load(Ordering::SeqCst)
     }
 
-    /// Where the loops put their figures.
+    /// Returns the board on which the loops put their figures.
     pub fn board(&self) -> &Board {
         &self.board
     }
 
+    /// Returns true if connections may be served.
     pub fn is_begun(&self) -> bool {
         self.is_begun.load(Ordering::SeqCst)
     }

@@ -149,7 +149,7 @@ impl StatusClient {
 }
 
 impl StatusServer {
-    /// One that has no client, and whose listener waits for none.
+    /// Returns a status server without clients. The calls of its listener do not wait.
     pub fn new<H: Clock>(rt: &H, alloc: Global, listener: TcpListener) -> StatusServer {
         StatusServer {
             alloc,
@@ -159,7 +159,7 @@ impl StatusServer {
         }
     }
 
-    /// Where it listens; None: the system does not say.
+    /// Returns the address where it listens. `None` if the system does not say.
     pub fn address(&self) -> Option<SocketAddr> {
         self.listener.local_addr().ok()
     }
@@ -192,7 +192,7 @@ impl StatusServer {
         }
     }
 
-    /// Takes in who came, and does for each client what there is to do, by what stands at a board. Waits for nobody.
+    /// Takes in new clients, and answers each client as far as it can now, with the figures of a board. Waits for nobody.
     pub fn look<H: Clock>(&mut self, rt: &H, board: &Board, is_over: bool) {
         let now = self.clock.now(rt);
         self.accept(now);

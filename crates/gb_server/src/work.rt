@@ -92,8 +92,8 @@ fn run_recorded<
     LeftNode { seat, log }
 }
 
-/// Runs the loop of a node until the server is over, once all threads have been made. With a log it keeps a record: a packet or a reply leaves
-/// once what led to it was written.
+/// Runs the loop of a node until the server is over, once all threads have been made. With a log it keeps a record: a packet or a reply
+/// leaves only once what led to it was written. Returns what is left of the node.
 pub fn run_node<L: Tapes, H: Net<Listener = TcpListener, Stream = TcpStream> + Wait + Clock>(
     rt: &H,
     alloc: Global,

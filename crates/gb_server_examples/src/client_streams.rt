@@ -18,6 +18,7 @@ pub struct Asking {
 }
 
 impl Asking {
+    /// Returns a reader of this number of requests. The read with the number `fails_at`, from 1, fails; with 0 none fails.
     pub fn new(requests: u64, fails_at: u64) -> Asking {
         Asking {
             requests,
@@ -50,6 +51,7 @@ pub struct Told<'a> {
 }
 
 impl<'a> Told<'a> {
+    /// Returns a writer that counts the replies `Denied`. The write with the number `fails_at`, from 1, fails; with 0 none fails.
     pub fn new(denied: &'a AtomicU64, fails_at: u64) -> Told<'a> {
         Told {
             denied,

@@ -203,9 +203,9 @@ fn serve_pieces<A: Answers, R: Read, W: Write>(
     Ok(SessionEnd::Limit)
 }
 
-/// Answers what the reader's messages ask, and writes each reply with its length before the next is asked, until the input
-/// ends, a message is Malformed or a limit is reached. Fetches that wait are answered at once. All messages of a read are
-/// answered before the next one.
+/// Answers what the reader's messages ask, and writes each reply with its length before the next is asked, until the input ends, a message
+/// is Malformed or a limit is reached. Fetches that wait are answered at once. All messages of a read are answered before the next read.
+/// Returns how the session ended.
 pub fn serve<A: Answers, R: Read, W: Write>(
     alloc: Global,
     answers: &mut A,

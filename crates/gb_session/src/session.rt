@@ -314,8 +314,8 @@ impl Session {
         put_bytes(&mut self.bytes, piece)
     }
 
-    /// Answers the message in front, if it is whole, and appends its reply. If `is_late`, an `await` that finds nothing is answered
-    /// with an empty log. If there is no memory, the message may have been asked, and it stays in front.
+    /// Answers the message in front, if it is whole, and appends its reply. If `is_late`, an `await` that finds nothing is answered with an
+    /// empty log. Returns what was done. If there is no memory, the message may have been asked, and it stays in front.
     pub fn answer_next<A: Answers>(
         &mut self,
         answers: &mut A,
@@ -387,11 +387,11 @@ impl Session {
         }
     }
 
-    /// Keeps the next bytes of the stream, then answers the whole messages in turn and appends their replies to `out`. It stops
-    /// when `out` has `room` bytes or more. The piece may be empty. If `is_late`, an `await` that finds nothing is answered with an
-    /// empty log. If there is no memory, either the piece is not kept and nothing was asked, or messages in front were answered and
-    /// stepped over; the next one may then have been asked, and it has no reply in `out` and stays in front. So the session is over:
-    /// called again, it would ask that message again.
+    /// Keeps the next bytes of the stream, then answers the whole messages in turn and appends their replies to `out`. It stops when `out`
+    /// has `room` bytes or more. The piece may be empty. If `is_late`, an `await` that finds nothing is answered with an empty log. Returns
+    /// why it stopped. If there is no memory, the session is over: either the piece is not kept and nothing was asked, or messages in front
+    /// were answered and stepped over. The next message may then have been asked; it has no reply in `out` and stays in front, so another
+    /// call would ask it again.
     pub fn take<A: Answers>(
         &mut self,
         answers: &mut A,

@@ -19,8 +19,9 @@ pub struct Ended {
     pub told: Result<(), SimFault>,
 }
 
-/// Runs the schedule that the reader gives, writes its answers, and behind them `out of memory` where memory lacked. What went wrong is
-/// written to `errors`, in one line. The memory of the cluster is not given back: the program ends.
+/// Runs the schedule that the reader has and writes its answers, and behind them `out of memory` if memory lacked. What went wrong is
+/// written to `errors`, in one line. Returns how it ended, which decides the exit status. The memory of the cluster is not given back: the
+/// program ends.
 pub fn run_schedule<R: Read, W: Write, E: Write>(
     alloc: Global,
     reader: &mut R,

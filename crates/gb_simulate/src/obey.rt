@@ -203,8 +203,8 @@ fn why_none(cluster: &Option<Cluster>) -> BadLine
     }
 }
 
-/// Obeys the line with this number and appends the line of its answer, or says why it is bad.
-/// Where memory lacks, the cluster may have taken the event, and a part of the answer may stand behind what was there.
+/// Obeys the line with this number and appends the line of its answer. Returns why the line is bad, if it is. If memory lacks, the cluster
+/// may have taken the event, and a part of the answer may stand behind what was there.
 pub fn answer_line(
     alloc: Global,
     number: u64,

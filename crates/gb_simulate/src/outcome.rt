@@ -59,8 +59,7 @@ impl From<LinesFault> for SimFault {
     }
 }
 
-/// The status with which the program ends. 0: all lines were read; 1: a read or a write failed; 2: a
-/// bad line; 3: no memory.
+/// Returns the exit status of the program: 0 if all lines were read, 1 if a read or a write failed, 2 for a bad line, 3 for lack of memory.
 pub fn status_of(outcome: &Result<SimEnd, SimFault>) -> u8
     ensures { result ≡ status outcome.now }
 {

@@ -320,9 +320,9 @@ impl Table {
             .say(self.version, addr, place, message.seq, payload)
     }
 
-    /// Answers a request at a node that has noticed the nodes `noticed`. Denied comes first and is the same in three cases: the
-    /// token is not the one that the request needs, the tenant is not here, or the token is another group's. Then come the
-    /// refusals of the rules in their order, and OutOfMemory last. After a refusal nothing has changed.
+    /// Returns the reply to a request at a node that has noticed the nodes `noticed`. Denied comes first and is the same in three cases:
+    /// the token is not the one that the request needs, the tenant is not here, or the token is another group's. Then come the refusals of
+    /// the rules in their order, and OutOfMemory last. After a refusal nothing has changed.
     pub fn request(&mut self, request: &Request, noticed: &NodeSet) -> Reply
         ensures reply { IsReplyTo request.now (table_reply request.now self.old) result }
         ensures state { self.new ≡ table_did noticed.now request.now result self.old }

@@ -30,6 +30,7 @@ pub const PLAN: Plan = Plan {
 
 const TENANT_KEY: Key = [2; 32];
 
+/// Returns the address of the one group of a tenant.
 pub fn group_of(tenant: u16) -> Addr {
     Addr {
         tenant,
@@ -120,11 +121,13 @@ pub fn say(
     say_bytes(alloc, events, node, tenant, &tenant.to_be_bytes())
 }
 
+/// Adds the drop of a tenant's group at a node.
 pub fn drop_group(events: &mut Vec<Event>, node: NodeId, tenant: u16) -> Result<(), OutOfMemory> {
     let addr = group_of(tenant);
     ask(events, node, Request::DropGroup(owner(addr), addr))
 }
 
+/// Adds a fetch of the log of a tenant's group at a node.
 pub fn fetch(events: &mut Vec<Event>, node: NodeId, tenant: u16) -> Result<(), OutOfMemory> {
     let addr = group_of(tenant);
     ask(

@@ -76,6 +76,7 @@ fn is_same_entry(entry: &Entry, other: &Entry) -> bool {
         && entry.payload.as_slice() == other.payload.as_slice()
 }
 
+/// Returns true if both lists have the same entries in the same order.
 pub fn are_same_entries(entries: &[Entry], others: &[Entry]) -> bool {
     if entries.len() != others.len() {
         return false;

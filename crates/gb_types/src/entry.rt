@@ -74,6 +74,7 @@ impl Entries {
         }
     }
 
+    /// Returns the number of entries.
     pub fn len(&self) -> usize
         ensures { result ≡ length self.now }
     {
@@ -87,6 +88,7 @@ impl Entries {
         self.items.is_empty()
     }
 
+    /// Returns the entries, in order.
     pub fn as_slice(&self) -> &[Entry]
         ensures { result.now ≡ self.now }
     {

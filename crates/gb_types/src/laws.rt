@@ -29,7 +29,7 @@ pub fn payload_reads_back()
     ensures { PayloadReadsBack }
 {}
 
-/// A number's word reads back as the number.
+/// Returns the number that is read from the word of `number`. Its contract is a law: that is the number itself.
 pub fn number_reads_back(word: &[u8], number: u64, max: u64) -> Option<u64>
     requires written { word.now ≡ decimal number }
     requires within { number ≤ max }

@@ -132,6 +132,7 @@ impl Payload {
         self.as_slice().is_empty()
     }
 
+    /// Returns the bytes.
     pub fn as_slice(&self) -> &[u8]
         ensures { result.now ≡ self.now }
     {

@@ -55,7 +55,7 @@ pub enum Unanswered {
     Other,
 }
 
-/// Calls a node. The gate is passed while the node's lock is held.
+/// Calls a node and returns its answer. The gate is passed while the node's lock is held.
 pub fn call<L: Tapes, R: Wait, G: Gate>(
     rt: &R,
     host: &Host<L>,
@@ -91,8 +91,8 @@ fn ask_once<L: Tapes, R: Wait>(
     }
 }
 
-/// Asks a node, and asks again if there was no memory for it. `None` if that takes too long, or if the host refuses for another
-/// reason.
+/// Asks a node, again and again while it has no memory for it, and returns the answer. `None` if that takes too long, or if the host
+/// refuses for another reason.
 pub fn ask<L: Tapes, R: Wait + Clock>(
     rt: &R,
     alloc: Global,

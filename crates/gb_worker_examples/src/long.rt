@@ -107,7 +107,7 @@ fn a_full_packet_is_carried(rt: HostRuntime) {
     }
 }
 
-/// Ticks node 0 a hundred thousand times, from the first seat. How many ticks were answered.
+/// Ticks node 0 a hundred thousand times, from the first seat. Returns the number of ticks that were answered, and three zeros.
 pub fn fill_a_tape<L: Tapes, R: Wait>(rt: &R, host: &Host<L>, seats: &mut [Seat<L>]) -> [u64; 4] {
     let mut count: u64 = 0;
     if let Some(seat) = seats.first_mut() {
@@ -130,7 +130,7 @@ fn a_hundred_thousand_calls_stand_on_a_tape(rt: HostRuntime) {
     assert!(rt; left.calls == [100_000, 0] && left.agree && left.merged);
 }
 
-/// Ticks each node once, from the seat with its number. How many ticks were answered.
+/// Ticks each node once, from the seat with its number. Returns the number of ticks that were answered, and three zeros.
 pub fn tick_each<L: Tapes, R: Wait>(rt: &R, host: &Host<L>, seats: &mut [Seat<L>]) -> [u64; 4] {
     let mut count: u64 = 0;
     let mut number: u8 = 0;

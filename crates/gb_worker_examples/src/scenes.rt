@@ -177,7 +177,7 @@ fn run<L: Tapes + Send + Sync, P: Port + Send + Drop, R: Threads + Wait + Clock 
     left_of(alloc, plan, counts, &close(host, seats), &lists)
 }
 
-/// Plays a scene on a host of this plan, which has this number of seats.
+/// Plays a scene on a host of this plan with `count` seats. Returns what is left of the host.
 pub fn whole_of<P: Port + Send + Drop, R: Threads + Wait + Clock + Sync>(
     rt: &R,
     alloc: Global,
@@ -193,7 +193,8 @@ pub fn whole_of<P: Port + Send + Drop, R: Threads + Wait + Clock + Sync>(
     run::<Brand, P, R>(rt, alloc, plan, count, scene, pasts)
 }
 
-/// Plays a scene on a host of two nodes that send this version, with tapes or without. The host has this number of seats.
+/// Plays a scene on a host of two nodes that send this version, with tapes or without, and with `count` seats. Returns what is left of the
+/// host.
 pub fn whole<P: Port + Send + Drop, R: Threads + Wait + Clock + Sync>(
     rt: &R,
     alloc: Global,
