@@ -1,6 +1,6 @@
 """Counts what a reader has to believe of public laws: the definitions that their statements reach, their lines and their files.
 
-    python3 bench/believed.py [LAW[:CLAUSE] ..] [--list]
+    python3 bench/believed.py [LAW[:CLAUSE] ..] [--list | --mark | --compare]
 
 A LAW is `crate::file::function`, a public function whose contract is the law. Without any, those of docs/THEOREM.md count (SENTENCE below). Of
 several laws the union counts. With `:CLAUSE` behind it only the `ensures` of that name counts, with every `requires`.
@@ -10,7 +10,10 @@ A definition counts with its signature and its equations, a type with its varian
 `ghost Value` and `ghost view`, which say what they see of it, and with what these name. Every line counts that is no comment, no attribute and not blank, also one that holds a closing bracket
 alone. Definitions of the library do not count; how many words of it are used is printed. With --list each definition is printed under its file,
 in the order in which the walk meets the files. The last three lines are the words of the library, how much of the sum are types, and the
-sum, once without lines that hold a closing bracket alone and then whole."""
+sum, once without lines that hold a closing bracket alone and then whole.
+With --mark the files of the definitions are marked in .gitattributes, so that `git ls-files ':(attr:believed)'` lists them, and a
+reviewer sees which changes touch them. With --compare nothing is printed unless these marks are others, or docs/THEOREM.md does not list each file
+with its lines and definitions, or not their sum; then the status is 1."""
 import os
 import re
 import sys
@@ -19,6 +22,9 @@ ROOT = os.path.dirname(os.path.dirname(os.path.abspath(__file__)))
 CRATES = f"{ROOT}/crates"
 # The laws that carry the sentence of docs/THEOREM.md.
 SENTENCE = ["gb_trace::run::run:seen", "gb_alone::laws::integrity", "gb_alone::laws::order"]
+MARKS = f"{ROOT}/.gitattributes"
+THEOREM = f"{ROOT}/docs/THEOREM.md"
+HEADING = "# What has to be believed to know what is proved. bench/believed.py --mark writes this list; the gate compares it.\n"
 NAME = re.compile(r"[^\s(){}\[\],;.:λ]+")
 PROJECTION = re.compile(r"(?<=[\w)'])\.[a-z_0-9]\w*")
 HEAD = re.compile(r"(?:abbrev |unfoldable )?(?:pub )?(?:(record|data) )?([^\s:({]+)\s*(.*)$")
@@ -243,6 +249,32 @@ def law_words(law):
     return Source(file, uses, {}), Definition(file, function, lines)
 
 
+def marks(files):
+    """Returns the text that marks these files."""
+    return HEADING + "".join(f"{name} believed\n" for name in sorted(file[len(ROOT) + 1:] for file in files))
+
+
+def read(path):
+    with open(path) as file:
+        return file.read()
+
+
+def row_of(file, mine):
+    """Returns how docs/THEOREM.md lists a file and its definitions."""
+    crate, path = file[len(CRATES) + 1:].split("/", 1)
+    return f"{crate}, {path.removeprefix('src/')} ({sum(len(found.text()) for found in mine)}): {', '.join(found.name for found in mine)}"
+
+
+def compare(files, wanted):
+    """Ends with status 1 if the marks or the page are not of these files."""
+    if read(MARKS) != marks(files):
+        sys.exit(".gitattributes marks other files than are to be believed: run bench/believed.py --mark")
+    page = " ".join(read(THEOREM).split()) + " "
+    missing = [row for row in wanted if f"{row} " not in page]
+    if missing:
+        sys.exit("\n".join(f"docs/THEOREM.md does not say: {row}" for row in missing))
+
+
 def main():
     laws = [word for word in sys.argv[1:] if not word.startswith("--")] or SENTENCE
     walk = Walk()
@@ -252,12 +284,20 @@ def main():
     for found in walk.order:
         if found.file not in files:
             files.append(found.file)
+    lines = [line for found in walk.order for line in found.text()]
+    if "--mark" in sys.argv:
+        with open(MARKS, "w") as file:
+            file.write(marks(files))
+        return
+    if "--compare" in sys.argv:
+        rows = [row_of(file, [found for found in walk.order if found.file == file]) for file in files]
+        compare(files, [*rows, f"{len(walk.order)} definitions, {len(lines)} lines, {len(files)} files"])
+        return
     if "--list" in sys.argv:
         for file in files:
             mine = [found for found in walk.order if found.file == file]
             print(f"{file[len(ROOT) + 1:]}: {sum(len(found.text()) for found in mine)} lines: {', '.join(found.name for found in mine)}")
     types = [found for found in walk.order if not found.file.endswith(".antt")]
-    lines = [line for found in walk.order for line in found.text()]
     print(f"words of the library: {len(walk.library)}")
     print(f"types among them: {len(types)}, {sum(len(found.text()) for found in types)} lines, {len({found.file for found in types})} files")
     print(f"without closing brackets alone: {len([line for line in lines if not BRACKET.match(line)])} lines")
