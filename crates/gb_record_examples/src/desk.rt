@@ -21,6 +21,12 @@ impl Desk {
         }
     }
 
+    /// Gives up the desk. Returns what was written.
+    pub fn into_text(self) -> Vec<u8> {
+        let Desk { text } = self;
+        text.into_inner()
+    }
+
     /// Returns the number of bytes that were written.
     pub fn len(&self) -> usize {
         match self.text.try_borrow_mut() {

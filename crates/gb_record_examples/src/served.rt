@@ -28,7 +28,7 @@ static OPEN: &[u8] =
 static DENIED: &[u8] = b"\x00\x00\x00\x10refused 1 Denied";
 
 // Makes a folder of a new name.
-fn folder<R: Files + RandomSource>(rt: &R, alloc: Global) -> Option<String> {
+pub fn folder<R: Files + RandomSource>(rt: &R, alloc: Global) -> Option<String> {
     let mut bytes = [0u8; 8];
     rt.fill_bytes(&mut bytes).ok()?;
     let number = u64::from_be_bytes(bytes);

@@ -1,0 +1,241 @@
+// A node that is recorded: what its record has when a write fails, and which packets leave.
+ghost use Rattle.std.specs.Prelude.{◌≡◌, [], false, vec_len, IfSome};
+ghost use Rattle.gb_host.specs.Pasts.{AreBlank, books_of};
+ghost use Rattle.gb_host.specs.Plans.{IsPlan};
+
+use crate::desk::{Desk, Pen};
+use crate::served::folder;
+use gb_host::here::all_nodes;
+use gb_host::pasts::new_pasts;
+use gb_host::{Host, HostPlan, NodePast, Recorder, Seat, Tapes};
+use gb_node::{NodeAnswer, NodeEvent, Sent};
+use gb_past::Past;
+use gb_port::{Port, RingPort};
+use gb_record::{RecordName, Recording, SharedRecording, WrittenFirst};
+use gb_server::RecordPlace;
+use gb_server::record_file::open_records;
+use gb_server::recorded::logs_of;
+use gb_types::limits::NODES;
+use gb_types::{NodeId, Plan, Version};
+use std::alloc::{AllocGlobal, Global};
+use std::fs::{File, Files};
+use std::io::{ErrorKind, Write};
+use std::marker::Brand;
+use std::random::RandomSource;
+use std::rt::HostRuntime;
+use std::sync::Wait;
+use std::{fs, io};
+
+const FIRST: NodeId = NodeId { number: 0 };
+
+const SECOND: NodeId = NodeId { number: 1 };
+
+// Returns the plan of two nodes whose entries go to recorders.
+fn two_recorded() -> HostPlan
+    ensures nodes { result.cluster.nodes ≡ 2 }
+    ensures limits { IsPlan result }
+{
+    HostPlan {
+        cluster: Plan {
+            nodes: 2,
+            versions: [Version::Three; NODES],
+            silence: 1_000,
+            places: 1_024,
+            room: 1_400,
+            cluster_key: [0x11; 32],
+            admin_key: [0x22; 32],
+        },
+        tape: false,
+        ring: true,
+    }
+}
+
+// A writer to a desk whose write with a number, from 1, fails, and each after it.
+#[derive(Drop)]
+struct FailingPen<'a> {
+    pen: Pen<'a>,
+    writes: u32,
+    fails_at: u32,
+}
+
+impl Write for FailingPen<'_> {
+    fn write(&mut self, buf: &[u8]) -> io::Result<usize> {
+        self.writes = self.writes.saturating_add(1);
+        if self.writes >= self.fails_at {
+            return Err(ErrorKind::Other.into());
+        }
+        self.pen.write(buf)
+    }
+
+    fn flush(&mut self) -> io::Result<()> {
+        Ok(())
+    }
+}
+
+// A host of two nodes with one seat, and the recorder of its first node.
+#[derive(Drop)]
+struct Opened<L: Tapes> {
+    host: Host<L>,
+    seat: Seat<L>,
+    recorder: Recorder<L>,
+    ghost fresh: { (recorder.entries ≡ []) × (recorder.is_whole ≡ false) },
+}
+
+// Opens a host, with records in a folder that is removed again.
+fn open_recorded<L: Tapes, R: Files<File = File> + RandomSource + AllocGlobal>(
+    rt: &R,
+    alloc: Global,
+    plan: HostPlan,
+    pasts: Vec<NodePast>,
+) -> Option<Opened<L>>
+    requires plan { plan ≡ L.plan }
+    requires limits { IsPlan plan }
+    requires two { plan.cluster.nodes ≡ 2 }
+    requires pasts { (vec_len pasts ≡ plan.cluster.nodes) × AreBlank pasts.items }
+    requires books { books_of pasts.items ≡ L.books }
+{
+    let here = all_nodes(plan.cluster.nodes);
+    let (host, seats, recorders) = Host::<L>::open(alloc, plan, here, 1, pasts).ok()?;
+    let dir = folder(rt, alloc)?;
+    let place = RecordPlace {
+        dir: dir.as_str(),
+        run: 1,
+        syncs: false,
+    };
+    let files = open_records(rt, alloc, Some(place), &plan, FIRST, 2).ok()?;
+    let logs = logs_of(alloc, &plan, host.here(), recorders, files).ok()?;
+    let _ = fs::remove_dir_all(rt, dir.as_str());
+    let seat = seats.into_iter().next()?;
+    let log = logs.into_iter().next()?;
+    let (recorder, file) = log.into_parts();
+    drop(file);
+    Some(Opened {
+        host,
+        seat,
+        recorder,
+    })
+}
+
+// Returns true if a tick at the first node is answered.
+fn ticks<L: Tapes, R: Wait>(rt: &R, host: &Host<L>, seat: &mut Seat<L>) -> bool {
+    host.call(rt, seat, FIRST, NodeEvent::Tick).is_ok()
+}
+
+// Records a node whose second write fails: two ticks, a write, a tick, and two writes. Returns whether each write went well, and what is
+// written.
+fn failing<R: RecordName, L: Tapes, H: Wait>(
+    rt: &H,
+    alloc: Global,
+    opened: Opened<L>,
+    written: NodePast,
+) -> Option<([bool; 3], Vec<u8>)>
+    requires { (written.log ≡ []) × (written.book ≡ R.book) }
+{
+    let Opened {
+        host,
+        mut seat,
+        recorder,
+    } = opened;
+    let desk = Desk::new(alloc);
+    let pen = FailingPen {
+        pen: Pen { desk: &desk },
+        writes: 0,
+        fails_at: 2,
+    };
+    let mut recording = Recording::<R, L, _>::new(alloc, recorder, pen, written);
+    if !ticks(rt, &host, &mut seat) || !ticks(rt, &host, &mut seat) {
+        return None;
+    }
+    let first = recording.record().is_ok();
+    if !ticks(rt, &host, &mut seat) {
+        return None;
+    }
+    let second = recording.record().is_ok();
+    let third = recording.record().is_ok();
+    drop(recording);
+    Some(([first, second, third], desk.into_text()))
+}
+
+#[test]
+fn a_record_whose_write_fails_has_what_was_written_before(rt: HostRuntime) {
+    let alloc = rt.alloc();
+    let plan = two_recorded();
+    let pasts = new_pasts(alloc, 2).expect(&rt, "pasts");
+    let opened = open_recorded::<Brand, _>(&rt, alloc, plan, pasts).expect(&rt, "a host");
+    let found = failing::<Brand, Brand, _>(&rt, alloc, opened, Past::new());
+    let (went, text) = found.expect(&rt, "ticks");
+    assert!(rt; went == [true, false, false]);
+    let lines = b"0 0 tick 0 > noticed -\n0 1 tick 0 > noticed -\n";
+    assert!(rt; text.as_slice() == lines.as_slice());
+}
+
+// What became of three packets that were handed to a port which writes first: one that no event sent, one that an event sent, and this once
+// more; how many bytes were written when the second left; and how many packets came to the other node.
+#[derive(Clone, Copy)]
+struct Handed {
+    went: [bool; 3],
+    written: usize,
+    came: usize,
+}
+
+// Hands the packets on.
+fn hand<R: RecordName, L: Tapes, H: Wait>(
+    rt: &H,
+    alloc: Global,
+    opened: Opened<L>,
+    written: NodePast,
+) -> Option<Handed>
+    requires { (written.log ≡ []) × (written.book ≡ R.book) }
+{
+    let Opened {
+        host,
+        mut seat,
+        recorder,
+    } = opened;
+    let desk = Desk::new(alloc);
+    let seen = written.seen();
+    let recording = Recording::<R, L, _>::new(alloc, recorder, Pen { desk: &desk }, written);
+    let shared = SharedRecording::new(recording);
+    let ports = RingPort::mesh(alloc, 2).ok()?;
+    let mut ports = ports.into_iter();
+    let near = ports.next()?;
+    let mut far = ports.next()?;
+    let mut port = WrittenFirst::new(near, &shared, seen);
+    let first = port.send(SECOND, b"no packet").is_ok();
+    let answer = host
+        .call(rt, &mut seat, FIRST, NodeEvent::Ack(SECOND))
+        .ok()?;
+    let NodeAnswer::Sent(Sent::Packet(packet)) = answer else {
+        return None;
+    };
+    let unwritten = desk.len();
+    let second = port.send(SECOND, packet.as_slice()).is_ok();
+    let written = desk.len().saturating_sub(unwritten);
+    let third = port.send(SECOND, packet.as_slice()).is_ok();
+    let mut came = 0;
+    while let Ok(Some(bytes)) = far.recv() {
+        if bytes.as_slice() != packet.as_slice() {
+            return None;
+        }
+        came += 1;
+    }
+    drop(port);
+    Some(Handed {
+        went: [first, second, third],
+        written,
+        came,
+    })
+}
+
+#[test]
+fn a_packet_leaves_once_it_is_written(rt: HostRuntime) {
+    let alloc = rt.alloc();
+    let plan = two_recorded();
+    let pasts = new_pasts(alloc, 2).expect(&rt, "pasts");
+    let opened = open_recorded::<Brand, _>(&rt, alloc, plan, pasts).expect(&rt, "a host");
+    let found = hand::<Brand, Brand, _>(&rt, alloc, opened, Past::new());
+    let handed = found.expect(&rt, "an acknowledgement");
+    assert!(rt; handed.went == [false, true, false] && handed.came == 1);
+    // The line of the acknowledgement: `0 0 ack 0 1 > packet `, 63 bytes as digits, and a line feed.
+    assert!(rt; handed.written == 21 + 2 * 63 + 1);
+}
