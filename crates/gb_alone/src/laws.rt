@@ -1,14 +1,16 @@
-//! Laws of one group: what follows for it from its definition alone, over every list of events.
+//! Laws of a group by itself, without other tenants, links or frames: what follows from its definition alone, over every list of events.
+//! The functions have nothing to run.
 ghost use Rattle.gb_alone.specs.Laws.{IsInOrder, IsIntegral};
 
-/// Integrity of a group alone: each entry of a log is a message that was accepted at its origin, under that number and with that
-/// payload. No message stands twice in a log.
+/// A law, with nothing to run: after any legal list of events of a group by itself, each entry of a node's log, and each item that a node
+/// has queued for another node, is a message that was accepted at its origin, under that number and with that payload. No message stands
+/// twice in a log.
 pub fn integrity()
     ensures { IsIntegral }
 {}
 
-/// Order of a group alone: if a node made it first-in first-out, that node's log has each origin's messages as 1, 2, 3, ..
-/// without a gap.
+/// A law, with nothing to run: after any legal list of events of a group by itself, if a node made the group of a first-in first-out
+/// kind, then that node's log has the messages of each origin as 1, 2, 3, .. without a gap.
 pub fn order()
     ensures { IsInOrder }
 {}

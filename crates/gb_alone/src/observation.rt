@@ -1,4 +1,5 @@
-//! What is seen of a group at its nodes, without what only the nodes hold.
+//! What is seen of one group from outside, at each node: the replies to its commands, and the items that are carried to other nodes. The
+//! state that only the nodes hold is not part of it.
 ghost use Rattle.std.specs.Prelude.{◌≡◌};
 
 use gb_types::{Entries, Reply};
@@ -20,21 +21,22 @@ impl Model for NodeSeen {
 }
 
 impl NodeSeen {
-    /// Returns an observation of these replies and carried items.
+    /// Returns an observation of one node, which takes over both lists: `replies` to the group's commands, in order, and `carried`, the
+    /// items carried from this node to each node, node 0 first.
     pub fn new(replies: Vec<Reply>, carried: Vec<Entries>) -> NodeSeen
         ensures { result ≡ record { replies = replies.items; carried = carried.items } }
     {
         NodeSeen { replies, carried }
     }
 
-    /// Returns the replies to the group's commands, in order.
+    /// Returns the replies to the group's commands at this node, in order.
     pub fn replies(&self) -> &[Reply]
         ensures { result.now ≡ self.now.replies }
     {
         self.replies.as_slice()
     }
 
-    /// Returns, for each node, the items that are carried to it, in order.
+    /// Returns a list of items for each node, node 0 first: those that are carried from this node to that node, in order.
     pub fn carried(&self) -> &[Entries]
         ensures { result.now ≡ self.now.carried }
     {
@@ -58,7 +60,7 @@ impl Model for Observation {
 }
 
 impl Observation {
-    /// Returns what is seen at each node, node 0 first.
+    /// Returns what is seen of the group at each node, node 0 first.
     pub fn nodes(&self) -> &[NodeSeen]
         ensures { result.now ≡ self.now }
     {

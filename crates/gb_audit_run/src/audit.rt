@@ -1,4 +1,4 @@
-//! The audit of the records of a cluster's nodes.
+//! The audit of the records of a cluster's nodes: whether what they recorded is one run of the cluster.
 ghost use Rattle.std.specs.Prelude.{◌≡◌, ◌≢◌, ◌<◌, ◌↔◌, length, map, sum, AllPairs, All, IfOk, IfSome, IsTrue};
 ghost use Rattle.std.specs.List.{range_with_len};
 ghost use Rattle.gb_cluster.specs.ClusterValue.{IsClusterPlan};
@@ -269,9 +269,12 @@ fn tell_all(
     Ok(Verdict::Refused)
 }
 
-/// Audits the records of a cluster's nodes, given in any order, under the cluster's keys, and appends a line for each thing that it
-/// finds. Returns the part of the records that is one run of the cluster. `None` if the records are not of one cluster, or if an
-/// answer in them is not the one that its node returns when it is replayed alone.
+/// Audits the records in `sources`, one for each node and in any order, under the cluster's keys, and appends to `out` a line for each
+/// finding. Returns the part of the records that is one run of the cluster, with a verdict: `Whole` if that is all of them, `Left` if
+/// entries are left and a record was cut short or is missing, `Refused` if entries are left although all records are whole, or if an
+/// entry that is left takes a packet that its sender's whole record did not send. `None` if there is no record, a file is no record, the
+/// records are not of one cluster, an answer is not the one that its node returns when it is replayed alone, or no run can be merged; a
+/// last line then says why, except if there is no record. `Err` if memory runs out.
 pub fn audit(
     alloc: Global,
     sources: &[Source<'_>],

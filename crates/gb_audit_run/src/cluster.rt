@@ -1,4 +1,4 @@
-//! The cluster that records speak of.
+//! The cluster that records speak of: whether records may be of one cluster, and the plan of that cluster.
 ghost use Rattle.std.specs.Prelude.{◌≡◌, ◌≢◌, ◌<◌, ◌≤◌, ◌↔◌, ℕ, length, All, AllPairs, IfSome, IsTrue};
 ghost use Rattle.gb_types.specs.Version.{limits_of, version_at};
 ghost use Rattle.gb_types.specs.declared.limits.TheConstants.{NODES as MOST};
@@ -45,8 +45,8 @@ fn is_plan(plan: &Plan) -> bool
         && plan.silence <= SILENCE_MAX
 }
 
-/// Returns true if two records may be of one cluster: of two nodes, with one number of nodes, one silence, one number of places and one room
-/// of packets.
+/// Returns true if the first lines of two records may be of one cluster: they are of two different nodes, and name the same number of
+/// nodes, the same silence, the same number of places, and the same `room`, the bytes of items in a packet. Returns false otherwise.
 pub fn are_of_one(first: &RecordHead, other: &RecordHead) -> bool
     ensures { IsTrue result ↔ AreOfOne first.now other.now }
 {
@@ -82,8 +82,9 @@ fn are_below(nodes: u8, heads: &[RecordHead]) -> bool
     true
 }
 
-/// Returns the plan of the cluster that these records are of, under its keys. Returns None where no cluster has such a plan. A node
-/// without a record sends the version of the first one.
+/// Returns the plan of the cluster that the records with the first lines `heads` are of, under `keys`. A node without a record is taken
+/// to send packets of the version of the first record. `None` if `heads` is empty, if a record is of a node beyond the cluster's number
+/// of nodes, or if no cluster may be started with that plan.
 pub fn plan_of(heads: &[RecordHead], keys: ClusterKeys) -> Option<Plan>
     requires one { AllPairs AreOfOne heads.now }
     ensures plan { IfSome result IsClusterPlan }

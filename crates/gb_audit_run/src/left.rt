@@ -1,4 +1,4 @@
-//! What is left of records behind the part that is one run.
+//! What is left of the nodes' records behind the entries that are in the merged run.
 use gb_cap::HmacKey;
 use gb_cluster::Event;
 use gb_frame::reading::decode;
@@ -33,7 +33,8 @@ fn place_of(event: &Event, sent: &[NodeId]) -> Option<NodeId> {
     }
 }
 
-/// Returns the number of entries of each node's record that are in the run of these events, by the nodes' numbers.
+/// Returns, by the nodes' numbers, how many entries of each node's record are in the run of `events`, which was merged from `tapes`.
+/// Takes memory for a list of the packets sent. `Err` if memory runs out.
 pub fn merged_counts(
     alloc: Global,
     tapes: &[Tape],
@@ -62,7 +63,8 @@ pub fn merged_counts(
     Ok(counts)
 }
 
-/// Returns the node whose packet an entry takes. `None` if the entry takes no packet of the cluster.
+/// Returns the sender of the packet that the event of `entry` took, as the packet's head names it. `None` if the event took no packet, or
+/// took bytes that are no packet under the cluster's key in `plan`.
 pub fn sender_of(plan: &Plan, entry: &TapeEntry) -> Option<NodeId> {
     let NodeEvent::Packet(bytes) = &entry.event else {
         return None;
@@ -74,7 +76,8 @@ pub fn sender_of(plan: &Plan, entry: &TapeEntry) -> Option<NodeId> {
     }
 }
 
-/// Returns true if one of these entries sent the packet that an entry takes.
+/// Returns true if the answer of one of `entries` is the packet that the event of `taken` took, byte by byte. Returns false if none is,
+/// or if that event took no packet.
 pub fn is_sent(entries: &[TapeEntry], taken: &TapeEntry) -> bool {
     let NodeEvent::Packet(bytes) = &taken.event else {
         return false;

@@ -1,9 +1,9 @@
-//! The lines that an audit prints.
+//! The lines that an audit prints. Each function appends a line, or a part of one, to the text `out`.
 use gb_types::OutOfMemory;
 use gb_types::memory::put_bytes;
 use gb_types::number::put_number;
 
-/// Appends a text, a space and a number.
+/// Appends a space, `name`, a space and the number in decimal. `Err` if memory runs out; then `out` may have a part of it.
 pub fn put_field(out: &mut Vec<u8>, name: &[u8], number: u64) -> Result<(), OutOfMemory> {
     put_bytes(out, b" ")?;
     put_bytes(out, name)?;
@@ -11,7 +11,9 @@ pub fn put_field(out: &mut Vec<u8>, name: &[u8], number: u64) -> Result<(), OutO
     put_number(out, number)
 }
 
-/// Appends `tape FILE node I entries T whole`, or `.. cut torn N` for a record that its node did not end.
+/// Appends the line of a record that was read: `tape FILE node I entries T whole`, or `tape FILE node I entries T cut torn N` for a
+/// record that its node did not end. N is `torn`, the bytes behind its last whole line. `Err` if memory runs out; then `out` may have a
+/// part of the line.
 pub fn put_tape(
     out: &mut Vec<u8>,
     name: &str,
@@ -33,7 +35,8 @@ pub fn put_tape(
     }
 }
 
-/// Appends `bad line L of FILE`.
+/// Appends the line `bad line L of FILE`: line L of the file `name` is no line of a record. `Err` if memory runs out; then `out` may have
+/// a part of the line.
 pub fn put_bad_line(out: &mut Vec<u8>, line: u64, name: &str) -> Result<(), OutOfMemory> {
     put_bytes(out, b"bad line ")?;
     put_number(out, line)?;
@@ -42,14 +45,17 @@ pub fn put_bad_line(out: &mut Vec<u8>, line: u64, name: &str) -> Result<(), OutO
     put_bytes(out, b"\n")
 }
 
-/// Appends `not one cluster: FILE`.
+/// Appends the line `not one cluster: FILE`: the record `name` is not of the cluster of the others. `Err` if memory runs out; then `out`
+/// may have a part of the line.
 pub fn put_stranger(out: &mut Vec<u8>, name: &str) -> Result<(), OutOfMemory> {
     put_bytes(out, b"not one cluster: ")?;
     put_bytes(out, name.as_bytes())?;
     put_bytes(out, b"\n")
 }
 
-/// Appends `audit fault N FILE line L`. `place` is the number of entries before the one that is wrong.
+/// Appends the line `audit fault N FILE line L`: the entry at line L of the record `name` is wrong. `fault` is N, the number of an
+/// `AuditFault`. `place` is the number of entries before the wrong one, so L is `place` + 2. `Err` if memory runs out; then `out` may
+/// have a part of the line.
 pub fn put_fault(
     out: &mut Vec<u8>,
     fault: u8,
@@ -64,8 +70,9 @@ pub fn put_fault(
     put_bytes(out, b"\n")
 }
 
-/// Appends `left FILE line L entries R awaits I`: the R entries from line L on are not in the run, and the first of them takes a
-/// packet of node I. If it takes no packet, ` awaits I` is left out.
+/// Appends the line `left FILE line L entries R awaits I`: the R entries of the record `name` from line L on are not in the run, and the
+/// first of them takes a packet of node I. `place` is the number of entries before them, so L is `place` + 2. If `from` is `None`, the
+/// first takes no packet, and ` awaits I` is left out. `Err` if memory runs out; then `out` may have a part of the line.
 pub fn put_left(
     out: &mut Vec<u8>,
     name: &str,
@@ -83,7 +90,7 @@ pub fn put_left(
     put_bytes(out, b"\n")
 }
 
-/// Appends `merged E events`.
+/// Appends the line `merged E events`: the run has E events. `Err` if memory runs out; then `out` may have a part of the line.
 pub fn put_merged(out: &mut Vec<u8>, events: usize) -> Result<(), OutOfMemory> {
     put_bytes(out, b"merged ")?;
     put_number(out, events as u64)?;

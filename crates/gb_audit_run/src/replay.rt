@@ -1,4 +1,4 @@
-//! Replaying one record alone.
+//! Replaying the record of one node by itself, and comparing the answers.
 ghost use Rattle.std.specs.Prelude.{◌≡◌, ◌<◌};
 ghost use Rattle.gb_cluster.specs.ClusterValue.{IsClusterPlan};
 
@@ -7,8 +7,9 @@ use gb_node::{Node, TapeEntry};
 use gb_types::{NodeId, Plan};
 use std::alloc::Global;
 
-/// Returns the number of entries before the first wrong one: its answer is not the one that a node returns which took the entries
-/// before it. `None` if all answers are right.
+/// Starts a new node `me` of a cluster of `plan`, gives it the events of `entries` in order, and compares each answer with the entry's.
+/// Takes memory for the node. Returns the index of the first entry whose answer is another, from 0. `None` if all answers are the same.
+/// An answer that is refused here for lack of memory counts as another one.
 pub fn first_wrong(alloc: Global, plan: &Plan, me: NodeId, entries: &[TapeEntry]) -> Option<usize>
     requires plan { IsClusterPlan plan.now }
     requires here { me.number < plan.now.nodes }

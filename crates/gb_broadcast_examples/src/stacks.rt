@@ -1,4 +1,5 @@
-//! Each stack beside the plain program of its kind.
+//! The stacks of the ten kinds of broadcast, as tests: what a stack sends and delivers is compared with the plain program of its kind. A
+//! check that fails aborts the test with a message.
 ghost use Rattle.std.specs.Prelude.{IfOk};
 
 use crate::names::{FIRST, ME, MEMBERS, ORIGIN, OTHER, OWN, SECOND};
@@ -26,7 +27,7 @@ const CALLS: [Call; 9] = [
     Call::Notice(OTHER),
 ];
 
-/// Returns these nodes, as a set.
+/// Returns the set of these nodes. Takes no memory.
 pub fn set(nodes: &[NodeId]) -> NodeSet {
     let mut found = NodeSet::new();
     for node in nodes {
@@ -35,7 +36,8 @@ pub fn set(nodes: &[NodeId]) -> NodeSet {
     found
 }
 
-/// Returns a stack of a kind, at a node that noticed `noticed`.
+/// Returns a new stack for a group of `kind` with the members 1, 2 and 31, at node 1, which already holds the nodes `noticed` for
+/// crashed. Takes memory. `Err` if it runs out.
 pub fn stack(alloc: Global, kind: Kind, noticed: &NodeSet) -> Result<Stack, OutOfMemory>
     ensures { IfOk result (λ s. ⟦<Stack as Layer>⟧.is_empty (⟦<Stack as Layer>⟧.meaning s)) }
 {
@@ -223,7 +225,8 @@ fn each_stack_starts_with_the_notices(rt: HostRuntime) -> Result<(), Fail> {
     Ok(())
 }
 
-/// Makes the calls, one after the other.
+/// Makes the calls at `layer`, one after the other, with room for each. Changes `layer`, and appends to `out` the messages that it sends
+/// and those that it hands up. `Err` if memory runs out; then the calls before that were made.
 pub fn take_all<L: Layer>(
     layer: &mut L,
     calls: &[Call],

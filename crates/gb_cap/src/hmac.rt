@@ -65,7 +65,7 @@ fn finished(mut inner: Sha256, mut outer: Sha256, text: &[u8]) -> Mac
     outer.finalize()
 }
 
-/// Returns HMAC-SHA-256 of the text under a key of at most 64 bytes.
+/// Returns the 32 bytes of HMAC-SHA-256 (RFC 2104) of `text` under a key of at most 64 bytes. Takes no memory.
 pub fn hmac(key: &[u8], text: &[u8]) -> Mac
     requires { length key.now ≤ 64 }
     ensures { result ≡ hmac_of key.now text.now }
@@ -105,7 +105,7 @@ impl Model for HmacKey {
 }
 
 impl HmacKey {
-    /// Returns this key, made ready: its two hash states are computed once.
+    /// Returns this key, ready for many messages: its two hash states are computed here, once. Takes no memory.
     pub fn new(key: &Key) -> HmacKey
         ensures { result ≡ key.now }
     {
@@ -116,7 +116,7 @@ impl HmacKey {
         }
     }
 
-    /// Returns HMAC-SHA-256 of the text under this key.
+    /// Returns the 32 bytes of HMAC-SHA-256 of `text` under this key. Takes no memory.
     pub fn hmac(&self, text: &[u8]) -> Mac
         ensures { result ≡ hmac_of self.now text.now }
     {

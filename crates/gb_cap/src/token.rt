@@ -24,7 +24,7 @@ pub enum Need {
 impl HmacKey {
     ghost use Rattle.gb_cap.specs.Token.{token_of};
 
-    /// Returns the token for a need.
+    /// Returns the token for a need: the HMAC-SHA-256 of the need's text under this key.
     pub fn token(&self, need: Need) -> Token
         ensures { result ≡ token_of self.now need }
     {
@@ -42,7 +42,8 @@ impl HmacKey {
         }
     }
 
-    /// Returns true if this is the token for the need.
+    /// Returns true if `token` is the one for the need under this key, and false otherwise. The time that it takes says nothing of where
+    /// the two differ.
     pub fn admits(&self, need: Need, token: &Token) -> bool
         ensures { IsTrue result ↔ (token.now ≡ token_of self.now need) }
     {
@@ -50,27 +51,28 @@ impl HmacKey {
     }
 }
 
-/// Returns the token for a need under a key.
+/// Returns the token for a need: the HMAC-SHA-256 of the need's text under `key`.
 pub fn token(key: &Key, need: Need) -> Token
     ensures { result ≡ token_of key.now need }
 {
     HmacKey::new(key).token(need)
 }
 
-/// Returns true if this is the token for the need under the key.
+/// Returns true if `token` is the one for the need under `key`, and false otherwise. The time that it takes says nothing of where the two
+/// differ.
 pub fn admits(key: &Key, need: Need, token: &Token) -> bool
     ensures { IsTrue result ↔ (token.now ≡ token_of key.now need) }
 {
     HmacKey::new(key).admits(need, token)
 }
 
-/// A law, with nothing to run: two needs with one text are one need.
+/// A law, with nothing to run: two needs with the same text, which is what is hashed for a token, are the same need.
 pub fn texts_tell_needs_apart()
     ensures { TextsTellNeedsApart }
 {}
 
-/// A law, with nothing to run: if two different needs have one token under a key, the hash collides at one of two known pairs of
-/// texts.
+/// A law, with nothing to run: if two different needs have the same token under a key, then SHA-256 has the same hash for two different
+/// texts, and these are the inner or the outer texts of the two tokens.
 pub fn shared_tokens_collide()
     ensures { SharedTokensCollide }
 {}

@@ -1,4 +1,4 @@
-//! What a reply's text comes to.
+//! Replies of a node, as a client reads them: which reply a text is, and the exit status for it.
 ghost use Rattle.std.specs.Prelude.{◌≡◌, ◌==◌, ◌<◌, ◌^◌, ℕ, List, true, false, decimal, All, IfOk, IfSome, IfNone, map};
 ghost use Rattle.std.specs.List.{slice_split};
 ghost use Rattle.gb_types.specs.declared.limits.TheConstants.{NODES};
@@ -21,7 +21,7 @@ use gb_types::words::split_words;
 use gb_types::{Entries, Entry, NodeId, OutOfMemory, Payload, Refusal, Reply};
 use std::alloc::Global;
 
-/// Returns the exit status for a reply: 1 if it is a refusal, otherwise 0.
+/// Returns the exit status of the client for a reply: 1 if it is a refusal, otherwise 0.
 pub fn status_of(reply: &Reply) -> u8
     ensures { result ≡ reply_status reply.now }
 {
@@ -214,7 +214,8 @@ fn read_said(text: &[u8]) -> Option<u16>
     read_u16(text.strip_prefix(b"said ".as_slice())?)
 }
 
-/// Returns the reply whose text this is, or None if it is none's.
+/// Returns the reply that `text` spells: `ok`, `said SEQ`, `refused NUMBER NAME`, or `log COUNT` and the entries. `None` if it spells no
+/// reply exactly. `Err` if memory runs out.
 pub fn read_reply(alloc: Global, text: &[u8]) -> Result<Option<Reply>, OutOfMemory>
     ensures some { IfOk result (λ found. IfSome found (λ reply. text.now ≡ reply_spelling reply)) }
     ensures none { IfOk result (λ found. IfNone found ((reply : TheReply) → FitsReply reply → text.now ≡ reply_spelling reply → ⊥)) }

@@ -38,8 +38,9 @@ fn awaited_by(alloc: Global, body: &[u8]) -> Result<Option<Awaited>, OutOfMemory
     }
 }
 
-/// Returns the body of a message that asks what the fetch asks and waits for at most `wait` milliseconds until there is something to
-/// return. `Words` if there is no such message.
+/// Returns the body of an `await` message, made of `fetch`, the body of a fetch: the node may wait with its reply for at most `wait`
+/// milliseconds, until there is an entry to return. `Err` with `Words` if that is no `await` message, for instance if `wait` is above
+/// 60,000, and with `OutOfMemory`.
 pub fn await_text(alloc: Global, fetch: &[u8], wait: u32) -> Result<Vec<u8>, ClientFault>
     ensures body { IfOk result (λ body. body.items ≡ await_of fetch.now wait) }
     ensures spelt { IfOk result (λ body. (awaited : TheAwaited) × IsAwaitText body.items awaited) }

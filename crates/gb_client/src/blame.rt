@@ -1,4 +1,4 @@
-//! Which word is wrong, and what it takes.
+//! Why the words of a request spell no request: which word is wrong, and what it takes.
 use crate::task::Asked;
 use gb_session::Head;
 use gb_types::OutOfMemory;
@@ -238,7 +238,9 @@ fn put_whole(out: &mut Vec<u8>, head: Head) -> Result<(), OutOfMemory> {
     )
 }
 
-/// Returns one sentence that says why the words of a request spell none: which word is wrong, and what it takes.
+/// Returns a sentence, without a line feed, that says why the words of `asked` spell no request. It names the first word that is wrong,
+/// and what that word takes. If none is wrong by itself, it says of a say that the payload is too long, and of any other request that its
+/// words spell none. `Err` if memory runs out.
 pub fn blame(alloc: Global, asked: &Asked<'_>) -> Result<Vec<u8>, OutOfMemory> {
     let mut out = Vec::new(alloc);
     let slots = slots_of(asked.head, asked.is_text);

@@ -46,7 +46,8 @@ fn fill<R: Read>(reader: &mut R, space: &mut [u8]) -> Result<(), ClientFault>
     }
 }
 
-/// Writes a message. `Late` if the time for it passed. `Lost` if the connection failed.
+/// Writes a message to `writer` and flushes it: the length of `body` in four bytes, the high byte first, and `body`. `Err` with `Late` if
+/// the writer's time limit passed, and with `Lost` if the connection failed; then a part may be written.
 pub fn send<W: Write>(writer: &mut W, body: &[u8]) -> Result<(), ClientFault>
     requires { length body.now ≤ BODY }
     ensures ok { OnOk result (Appends (W.contents writer.old) (W.contents writer.new) (framed body.now)) }
@@ -101,8 +102,8 @@ fn receive_body<R: Read>(alloc: Global, reader: &mut R, length: u32) -> Result<V
     Ok(body)
 }
 
-/// Reads a message and returns its body, at most `REPLY` bytes. `Late` if the time for it passed. `Lost` if the connection failed or ended.
-/// `NoReply` if the body is longer.
+/// Reads a message from `reader` and returns its body, at most `REPLY` bytes, in memory that it takes. `Err` with `Late` if the reader's
+/// time limit passed, with `Lost` if the connection failed or ended, with `NoReply` if the body would be longer, and with `OutOfMemory`.
 pub fn receive<R: Read>(alloc: Global, reader: &mut R) -> Result<Vec<u8>, ClientFault>
     ensures ok { IfOk result (λ body. Consumes (R.remaining reader.old) (R.remaining reader.new) (framed body.items)) }
     ensures short { IfOk result (λ body. vec_len body ≤ REPLY) }

@@ -1,4 +1,4 @@
-//! A log as a text that can be read again: a line for each entry, and one with their count behind them.
+//! An exported log: a text that can be read again, with a line for each entry and a last line with their count.
 ghost use Rattle.std.specs.Prelude.{◌≡◌, true, false, IfOk, IfSome};
 ghost use Rattle.gb_client.specs.Exports.{end_line, export_text};
 
@@ -8,7 +8,7 @@ use gb_types::number::put_number;
 use gb_types::{Entries, Entry, OutOfMemory, Reply};
 use std::alloc::Global;
 
-/// Returns the last line of a log's text: `end COUNT` and a line feed.
+/// Returns the last line of an exported log of `count` entries: `end COUNT` and a line feed.
 pub fn end_line(alloc: Global, count: u64) -> Result<Vec<u8>, OutOfMemory>
     ensures { IfOk result (λ line. line.items ≡ end_line count) }
 {
@@ -18,7 +18,8 @@ pub fn end_line(alloc: Global, count: u64) -> Result<Vec<u8>, OutOfMemory>
     Ok(line)
 }
 
-/// Returns the text of a log: a line for each entry, and the last line.
+/// Returns the text of an exported log: a line `ORIGIN:SEQ:PAYLOAD` for each entry, with the payload in hexadecimal digits, and the last
+/// line `end COUNT`.
 pub fn export_text(alloc: Global, entries: &[Entry]) -> Result<Vec<u8>, OutOfMemory>
     ensures { IfOk result (λ text. text.items ≡ export_text entries.now) }
 {
@@ -54,8 +55,8 @@ fn is_text_of(alloc: Global, text: &[u8], entries: &[Entry]) -> Result<bool, Out
     Ok(spelling.as_slice() == text)
 }
 
-/// Returns the entries whose text this is. `None` if it is the text of no log: its last line is missing or names another count, or another
-/// line is not the line of an entry.
+/// Returns the entries of the exported log that `text` is. `None` if it is not one exactly: its last line is missing or names another
+/// count, or another line is not the line of an entry. `Err` if memory runs out.
 pub fn read_export(alloc: Global, text: &[u8]) -> Result<Option<Entries>, OutOfMemory>
     ensures { IfOk result (λ found. IfSome found (λ entries. text.now ≡ export_text entries)) }
 {

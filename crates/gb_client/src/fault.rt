@@ -41,8 +41,9 @@ pub enum ClientFault {
     OutOfMemory,
 }
 
-/// Returns the exit status for a fault. 2: the words or secrets are wrong, or what is to be imported is no exported log. 3: there was no
-/// connection, no reply to the request, no memory, or nothing could be printed. 4: the request was sent, and its outcome is unknown.
+/// Returns the exit status of the client for a fault. 2: the words or secrets are wrong or missing, or what is to be imported is no
+/// exported log. 3: there was no connection, what came is no reply to the request, output could not be written, or memory ran out. 4: the
+/// request was sent, and its outcome is unknown.
 pub fn fault_status(fault: ClientFault) -> u8
     ensures { result ≡ status_of_fault fault }
 {

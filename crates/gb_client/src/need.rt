@@ -1,4 +1,4 @@
-//! What the token of a request is asked for.
+//! Which right the token of a request must be for.
 ghost use Rattle.std.specs.Prelude.{◌≡◌, ◌↔◌, Some, map};
 ghost use Rattle.gb_cap.specs.declared.token.Need.{Need as TheNeed};
 ghost use Rattle.gb_client.specs.Requests.{NeedsTenant, NeedsMember, Needs};
@@ -30,8 +30,10 @@ fn member_need(node: NodeId, words: &[&[u8]]) -> Option<Need>
     Some(Need::Member(address.tenant, address.group, node))
 }
 
-/// Returns what the token of a request at this node must admit to. The words are those behind the head and the token. `None` if they do not
-/// begin with the numbers that the head takes.
+/// Returns the need that the token of a request with this head at `node` must be for, by the words behind head and token. For a new
+/// tenant it is the administrator's right. For make, open, shut and drop it is the tenant's, or `None` if `words` do not begin with a
+/// tenant. For say and fetch it is the right of the group's member at `node`, or `None` if `words` do not begin with a tenant and a
+/// group.
 pub fn need_of(head: Head, node: NodeId, words: &[&[u8]]) -> Option<Need>
     ensures { (need : TheNeed) → (result ≡ Some need) ↔ Needs head node need (map (λ word. word.now) words.now) }
 {

@@ -1,4 +1,4 @@
-//! What an administrator asks of a node, and what it answers.
+//! What an administrator asks of a node, as the bodies of messages, and what the node answers, as it is read.
 ghost use Rattle.std.specs.Prelude.{◌≡◌, ◌++◌, ◌≤◌, codes, decimal, vec_len, IfOk};
 ghost use Rattle.hex.specs.Hex.{encode_lower};
 ghost use Rattle.gb_session.specs.declared.grammar.TheConstants.{BODY};
@@ -25,21 +25,24 @@ fn with_token(alloc: Global, word: &[u8], token: &[u8; 32]) -> Result<Vec<u8>, O
     Ok(body)
 }
 
-/// Returns the body of a message that asks for a node's figures.
+/// Returns the body of a message that asks for a node's figures: `status TOKEN`, with the administrator's token. `Err` if memory runs
+/// out.
 pub fn status_body(alloc: Global, token: &[u8; 32]) -> Result<Vec<u8>, OutOfMemory>
     ensures { IfOk result (λ body. body.items ≡ codes "status " ++ encode_lower token.now) }
 {
     with_token(alloc, b"status", token)
 }
 
-/// Returns the body of a message that ends the server.
+/// Returns the body of a message that asks a node to end its server: `stop TOKEN`, with the administrator's token. `Err` if memory runs
+/// out.
 pub fn stop_body(alloc: Global, token: &[u8; 32]) -> Result<Vec<u8>, OutOfMemory>
     ensures { IfOk result (λ body. body.items ≡ codes "stop " ++ encode_lower token.now) }
 {
     with_token(alloc, b"stop", token)
 }
 
-/// Returns the body of a message that asks for the groups that were made at a node, at most `ROWS` of them from the place `from` on.
+/// Returns the body of a message that asks for the groups that were made at a node: `list TOKEN FROM 64`, at most `ROWS` of them from the
+/// index `from` on. `token` is the administrator's. `Err` if memory runs out.
 pub fn list_body(alloc: Global, token: &[u8; 32], from: u32) -> Result<Vec<u8>, OutOfMemory>
     ensures { IfOk result (λ body. body.items ≡ codes "list " ++ encode_lower token.now ++ codes " " ++ decimal from ++ codes " 64") }
 {
@@ -75,7 +78,9 @@ fn is_phase(word: &[u8]) -> bool {
     matches!(word, b"made" | b"open" | b"shut" | b"dropped")
 }
 
-/// Returns the row that a word spells. `None` if it spells none.
+/// Returns the row of a group that `text` spells: nine parts with colons between them, tenant, group, kind, members, messages, bytes,
+/// window, phase and the length of the log. The parts from kind to window are not checked. `None` if there are not nine parts, or if the
+/// address, the phase or the length is not one. `Err` if memory runs out.
 pub fn read_row<'a>(alloc: Global, text: &'a [u8]) -> Result<Option<Row<'a>>, OutOfMemory> {
     let parts: Vec<&[u8]> = text.split(|byte| *byte == b':').collect(alloc)?;
     let [
@@ -118,7 +123,8 @@ fn read_rows<'a>(alloc: Global, words: &[&'a [u8]]) -> Result<Option<Vec<Row<'a>
     Ok(Some(rows))
 }
 
-/// Returns the page that the text of a reply spells. `None` if it spells none.
+/// Returns the page that the text of a reply spells: `groups`, the total number of groups, and a word for each row. `None` if the text is
+/// another, for instance a refusal, or if a word is no row. `Err` if memory runs out.
 pub fn read_page<'a>(alloc: Global, text: &'a [u8]) -> Result<Option<Page<'a>>, OutOfMemory> {
     let words = split_words(alloc, text)?;
     let [b"groups", total, words @ ..] = words.as_slice() else {
@@ -144,7 +150,8 @@ fn is_figure(word: &[u8]) -> bool {
         && read_number(number, u64::MAX).is_some()
 }
 
-/// Returns true if the text of a reply is a node's figures: `status`, and then `NAME=NUMBER` after a space for each.
+/// Returns true if the text of a reply is a node's figures: `status`, and then `NAME=NUMBER` after a space for each. Returns false for
+/// any other text, for instance a refusal. `Err` if memory runs out.
 pub fn is_status(alloc: Global, text: &[u8]) -> Result<bool, OutOfMemory> {
     let words = split_words(alloc, text)?;
     let [b"status", figures @ ..] = words.as_slice() else {

@@ -1,4 +1,4 @@
-//! The text of a request.
+//! The text of a request, as the body of a message.
 ghost use Rattle.std.specs.Prelude.{◌≡◌, ◌⊎◌, ◌++◌, codes, map, IfOk, IfErr, OnOk, Err, ◌≤◌, vec_len};
 ghost use Rattle.gb_session.specs.declared.grammar.TheConstants.{BODY};
 ghost use Rattle.std.specs.List.{flat_map};
@@ -51,7 +51,8 @@ fn body(
     Ok(body)
 }
 
-/// Returns the body of the request that these words spell behind a head and a token. `Words` if they spell none.
+/// Returns the body of a request: the word of `head`, the digits of `token`, and `words`, with single spaces between them. `Err` with
+/// `Words` if that spells no request, and with `OutOfMemory`.
 pub fn request_text(
     alloc: Global,
     head: Head,

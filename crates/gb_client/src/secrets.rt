@@ -1,4 +1,4 @@
-//! The keys and the token that a client is given.
+//! The secrets that a client is given: keys of which it makes tokens, or a token.
 ghost use Rattle.std.specs.Prelude.{◌≡◌, ◌==◌, None, Some, IfOk, IfErr, fold, map};
 ghost use Rattle.std.specs.List.{slice_split};
 
@@ -78,8 +78,8 @@ fn split_lines(alloc: Global, text: &[u8]) -> Result<Vec<&[u8]>, OutOfMemory>
     Ok(text.split(|byte| *byte == b'\n').collect(alloc)?)
 }
 
-/// Returns the secrets of a text with lines `admin KEY`, `tenant KEY` and `token TOKEN`, each with 64 hexadecimal digits, and empty lines.
-/// Of two lines with one word the later counts. `None` if a line is bad.
+/// Returns the secrets that `text` has, in lines `admin KEY`, `tenant KEY` and `token TOKEN`, each with 64 hexadecimal digits. Empty
+/// lines are skipped, and of two lines with one word the later counts. `None` if any other line stands there. `Err` if memory runs out.
 pub fn read_secrets(alloc: Global, text: &[u8]) -> Result<Option<Secrets>, OutOfMemory>
     ensures { IfOk result (λ found. found ≡ secrets_of text.now) }
 {
@@ -88,8 +88,8 @@ pub fn read_secrets(alloc: Global, text: &[u8]) -> Result<Option<Secrets>, OutOf
 }
 
 impl Secrets {
-    /// Returns the token for a need: the token of the text, or, without one, the token that the key for the need makes. `Missing` if the
-    /// text has neither.
+    /// Returns the token for a need: the token among these secrets, or, if there is none, the one that is made with the key for the need:
+    /// the administrator's key for `Admin`, otherwise the tenant's. `Err` with `Missing` if the secrets have neither.
     pub fn token_for(&self, need: Need) -> Result<Token, ClientFault>
         ensures ok { IfOk result (λ made. token_for self.now need ≡ Some made) }
         ensures err { IfErr result (λ why. (why ≡ ClientFault.Missing) × (token_for self.now need ≡ None)) }

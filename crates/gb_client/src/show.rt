@@ -1,4 +1,4 @@
-//! Replies and tokens as people read them.
+//! Replies, log entries and tokens as text that people read.
 ghost use Rattle.std.specs.Prelude.{◌≡◌, ◌++◌, [], ◌∷◌, false, IfOk, OnOk};
 ghost use Rattle.hex.specs.Hex.{encode_lower};
 ghost use Rattle.gb_types.specs.PayloadWord.{payload_word};
@@ -45,8 +45,8 @@ fn put_entry(out: &mut Vec<u8>, entry: &Entry, is_text: bool) -> Result<(), OutO
     Ok(())
 }
 
-/// Returns the entries of a log, a line each. If `is_text`, a payload that is UTF-8 without control characters stands in quotes; each other
-/// payload stands in hexadecimal digits.
+/// Returns a line `ORIGIN:SEQ:PAYLOAD` for each entry. If `is_text`, a payload that is UTF-8 without control characters stands in quotes;
+/// each other payload stands in hexadecimal digits. `Err` if memory runs out.
 pub fn entry_lines(alloc: Global, entries: &[Entry], is_text: bool) -> Result<Vec<u8>, OutOfMemory>
     ensures { is_text ≡ false → IfOk result (λ lines. lines.items ≡ lines_of entries.now) }
 {
@@ -77,7 +77,8 @@ fn log_lines(alloc: Global, entries: &[Entry]) -> Result<Vec<u8>, OutOfMemory> {
     Ok(out)
 }
 
-/// Returns the text of a reply and a line feed. If `is_text`, a log is one line for each entry, as `entry_lines` returns them.
+/// Returns the text of a reply and a line feed. If `is_text`, a log is the line `log COUNT` and then a line for each entry, as
+/// `entry_lines` returns them. `Err` if memory runs out.
 pub fn reply_lines(alloc: Global, reply: &Reply, is_text: bool) -> Result<Vec<u8>, OutOfMemory>
     ensures { is_text ≡ false → IfOk result (λ line. line.items ≡ reply_spelling reply.now ++ 10 ∷ []) }
 {
@@ -87,7 +88,7 @@ pub fn reply_lines(alloc: Global, reply: &Reply, is_text: bool) -> Result<Vec<u8
     }
 }
 
-/// Returns a token's digits in lower case, and a line feed.
+/// Returns the 64 hexadecimal digits of a token in lower case, and a line feed. `Err` if memory runs out.
 pub fn token_line(alloc: Global, token: &[u8; 32]) -> Result<Vec<u8>, OutOfMemory>
     ensures { IfOk result (λ line. line.items ≡ encode_lower token.now ++ 10 ∷ []) }
 {

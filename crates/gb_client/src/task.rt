@@ -1,4 +1,4 @@
-//! What a client is told to do, and the requests of it.
+//! What a client is told to do, and the bodies of the requests that this takes.
 ghost use Rattle.std.specs.Prelude.{◌≡◌, ◌≤◌, ◌<◌, ◌+◌, ℕ, List, [], ◌∷◌, Some, codes, decimal, map, vec_len, IfOk, IfSome, IfNone};
 ghost use Rattle.hex.specs.Hex.{encode_lower};
 ghost use Rattle.gb_types.specs.PayloadWord.{payload_word};
@@ -43,7 +43,8 @@ pub struct Server {
 }
 
 impl Server {
-    /// Returns the server with this base port, which waits `wait` seconds for a reply. `None` if the port is above 65,000.
+    /// Returns a server with the base port `port`, whose replies may take `wait` seconds each. Does no input or output. `None` if the
+    /// port is above 65,000.
     pub fn new(port: u16, wait: u32) -> Option<Server>
         ensures some { IfSome result (λ server. (server.port ≡ port) × (server.wait ≡ wait)) }
         ensures none { IfNone result (65000 < port) }
@@ -55,7 +56,7 @@ impl Server {
         }
     }
 
-    /// Returns the port of a node's sessions: 64 above the port of its packets.
+    /// Returns the port of the sessions of `node` at this server: its base port, plus 64, plus the node's number.
     pub fn sessions_port(&self, node: NodeId) -> u16
         ensures { result ≡ self.now.port + 64 + node.number }
     {
@@ -98,7 +99,8 @@ pub enum Errand<'a> {
 }
 
 impl Errand<'_> {
-    /// Returns the nodes that may be asked.
+    /// Returns a list of the nodes that the errand names, in order: one node, or for a group that is made, dropped or checked all its
+    /// nodes. `Err` if memory runs out.
     pub fn nodes(&self, alloc: Global) -> Result<Vec<NodeId>, OutOfMemory>
         ensures { IfOk result (λ nodes. nodes.items ≡ nodes_named self.now) }
     {
@@ -126,7 +128,8 @@ pub enum Task<'a> {
     At(Server, Errand<'a>),
 }
 
-/// Returns the body of the request with this head and these words at a node, with the token that the secrets have for it.
+/// Returns the body of the request with this head and these words at `node`, with the token that `secrets` have for it. `Err` with
+/// `Words` if the words spell no request, with `Missing` if the secrets have no token for it, and with `OutOfMemory`.
 pub fn ask(
     alloc: Global,
     secrets: &Secrets,
@@ -204,8 +207,9 @@ fn bytes_of<'a>(alloc: Global, words: &[&'a str]) -> Result<Vec<&'a [u8]>, Clien
     Ok(bytes)
 }
 
-/// Returns the body of the request that `asked` describes. A new tenant's row gets its key from the secrets, and a payload given as text is
-/// spelt in hexadecimal digits.
+/// Returns the body of the request that `asked` describes, at `node`, with the token that `secrets` have for it. For a new tenant the
+/// tenant's key is taken from `secrets`, and a payload that is given as text is spelt in hexadecimal digits. `Err` with `Words` if the
+/// words spell no request, with `Missing` if the secrets have no key or token for it, and with `OutOfMemory`.
 pub fn request_of(
     alloc: Global,
     secrets: &Secrets,
@@ -224,7 +228,9 @@ pub fn request_of(
     }
 }
 
-/// Returns the body of the request that fetches at most 16 entries of a group's log from the place `from` on.
+/// Returns the body of the request that fetches at most 16 entries of a group's log at `node`, from the place `from` on. The words of
+/// `asked` are the tenant and the group, and its head is not looked at. `Err` with `Words` if they are anything else, with `Missing` if
+/// the secrets have no token for it, and with `OutOfMemory`.
 pub fn fetch_of(
     alloc: Global,
     secrets: &Secrets,

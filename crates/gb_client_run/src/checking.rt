@@ -1,4 +1,4 @@
-//! Whether a group was made alike at its nodes.
+//! Whether a group was made alike at its nodes, by what each node lists of it.
 use crate::listing::{Found, find};
 use crate::nodes::Nodes;
 use crate::printing::print;
@@ -67,8 +67,11 @@ fn look<N: Nodes, W: Write>(
     }
 }
 
-/// Prints what each of some nodes lists of a group, and whether they made it alike: of one kind, with these nodes as members, and with the
-/// same limits. Returns the exit status: 0 if they did, 1 if they did not, otherwise that of the last node that could not be asked.
+/// Asks each node of `members` in turn what it lists of the group `addr`, and prints a line for each and then `alike` or `not alike`.
+/// Returns the exit status: 0 if each node made the group, with `members` as its members, of one kind and with the same limits. If some
+/// nodes show no row of the group, it is that of the last of them: 1 if it lists no such group or refuses, otherwise the status of the
+/// fault. In any other case it is 1. `Err` with `Missing` if there is no administrator's key or token, with `Output` if a line could not
+/// be printed, and with `OutOfMemory`.
 pub fn check_group<N: Nodes, W: Write>(
     alloc: Global,
     nodes: &mut N,

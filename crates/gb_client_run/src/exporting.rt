@@ -1,4 +1,4 @@
-//! A group's whole log, as a text that can be read again.
+//! Exporting a group's whole log at a node: a text that can be read again.
 ghost use Rattle.std.specs.Prelude.{◌≡◌, ◌+◌, length, map, IfOk, OnOk};
 ghost use Rattle.std.specs.Io.KnownBytes.{Appends};
 ghost use Rattle.gb_client.specs.Answers.{lines_of};
@@ -71,8 +71,10 @@ fn print_end<W: Write>(alloc: Global, count: u32, writer: &mut W) -> Result<(), 
     print(writer, &line)
 }
 
-/// Prints a group's log at a node as a text that can be read again: a line `ORIGIN:SEQ:PAYLOAD` for each entry, and `end COUNT`. It fetches
-/// 16 entries at a time until no more come. A refusal is printed in place of the last line. Returns the exit status.
+/// Fetches the log of the group that `asked` names at `node`, 16 entries at a time from the first one until no more come, and prints it
+/// as a text that can be read again: a line `ORIGIN:SEQ:PAYLOAD` for each entry, and `end COUNT`. Returns the exit status: 0, or 1 if the
+/// node refused; then the refusal is printed in place of the last line. `Err` with the fault if a fetch could not be asked or had no
+/// reply, with `NoReply` if what came is no log, and with `Output` if a line could not be printed.
 pub fn export<N: Nodes, W: Write>(
     alloc: Global,
     nodes: &mut N,

@@ -1,4 +1,4 @@
-//! What comes into a log, as it comes.
+//! Following a group's log at a node: its entries are printed as they come.
 ghost use Rattle.std.specs.Prelude.{◌≡◌, false, IfOk};
 ghost use Rattle.std.specs.Io.KnownBytes.{Consumes};
 ghost use Rattle.gb_session.specs.Streams.{framed};
@@ -46,8 +46,11 @@ fn ask_next<S: Write>(
     send(sender, &body)
 }
 
-/// Waits on one connection for new entries of a log and prints them, until the node refuses; the refusal is printed too. Without a refusal
-/// it goes on for `times` replies, or without end. Each reply is awaited for at most `WAIT` milliseconds. Returns the exit status.
+/// Asks `node` on one connection for the log of the group that `asked` names, from the place `from` on, and prints its entries as they
+/// come. The node may wait with each reply for at most `WAIT` milliseconds, until it has an entry. Goes on for `times` replies, or
+/// without end if that is `None`, or until the node refuses; a refusal is printed too. Returns the exit status: 0, or 1 after a refusal.
+/// `Err` with the fault if a fetch could not be asked or had no reply, with `NoReply` if what came is no log, and with `Output` if a line
+/// could not be printed.
 pub fn follow<R: Read, S: Write, W: Write>(
     alloc: Global,
     reader: &mut R,

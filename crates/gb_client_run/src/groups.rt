@@ -1,4 +1,4 @@
-//! A group at all its nodes: making it everywhere before it is opened anywhere, and dropping it everywhere.
+//! Requests on a group at all its nodes: it is made everywhere before it is opened anywhere, and it is dropped everywhere.
 ghost use Rattle.std.specs.Prelude.{◌≡◌, ◌⊎◌, List, map, Ok, IfOk};
 ghost use Rattle.gb_client_run.specs.Asked.{Exchange, HasAsked};
 ghost use Rattle.gb_client_run.specs.Groups.{HasDoneAt, HasDoneAll, HasMadeAndOpened, outcome_status};
@@ -228,8 +228,11 @@ fn print_at<N: Nodes, W: Write>(
     Ok(outcome_status(outcome))
 }
 
-/// Makes a request at each of some nodes, in turn, and prints what each answered. It ends at the first node that refuses or fails, and
-/// prints that the others were not asked. Returns the exit status: 0 if it is done at all nodes.
+/// Makes the request `asked` (make, open or drop) at each node of `members` in turn, and prints a line for each with what it answered.
+/// Stops at the first node that refuses or fails, and prints that the others were not asked. A node that refuses because it did so
+/// before, as its list of groups shows, counts as done. Returns the exit status: 0 if it is done at all nodes, otherwise 1 after a
+/// refusal, or the status of the fault, 3 or 4. `Err` if words or secrets are wrong, since they are so at every node, and if a line could
+/// not be printed.
 pub fn ask_each<N: Nodes, W: Write>(
     alloc: Global,
     nodes: &mut N,
@@ -251,9 +254,10 @@ pub fn ask_each<N: Nodes, W: Write>(
     Ok(0)
 }
 
-/// Makes a group at all its nodes by the words of `make`, then opens it at each, and prints what each answered. It is opened only once it
-/// is made everywhere, since a message that is said before another member's node made the group is lost there for good. Returns the exit
-/// status: 0 if it is made and open at all nodes.
+/// Makes a group at each node of `members` by the request `make`, then opens it at each by `opening`, and prints a line for each node
+/// with what it answered. It opens the group only if all nodes have made it, since a message is lost at a node that has not made it yet;
+/// otherwise it prints `opened at no node`. Returns the exit status, as `ask_each` does: 0 if the group is made and open at all nodes.
+/// `Err` if words or secrets are wrong, and if a line could not be printed.
 pub fn make_group<N: Nodes, W: Write>(
     alloc: Global,
     nodes: &mut N,
@@ -274,8 +278,10 @@ pub fn make_group<N: Nodes, W: Write>(
     ask_each(alloc, nodes, target, members, opening, writer)
 }
 
-/// Drops a group at all its nodes, and prints what each answered. Each node is asked, even if another one refuses. Returns the exit status:
-/// 0 if it is dropped at all nodes, otherwise that of the last node where it is not.
+/// Drops a group at each node of `members` by the request `asked`, and prints a line for each with what it answered. Each node is asked,
+/// even if another one refuses or fails. Returns the exit status: 0 if the group is dropped at all nodes, otherwise that of the last node
+/// where it is not: 1 after a refusal, or the status of the fault, 3 or 4. `Err` if words or secrets are wrong, and if a line could not
+/// be printed.
 pub fn drop_group<N: Nodes, W: Write>(
     alloc: Global,
     nodes: &mut N,

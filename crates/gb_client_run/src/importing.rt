@@ -1,4 +1,4 @@
-//! A log's entries, said again at a node.
+//! Importing an exported log: its entries are said again at a node.
 ghost use Rattle.std.specs.Prelude.{◌≡◌, ◌≤◌, drop, filter, length, map, vec_len, IfOk};
 ghost use Rattle.gb_session.specs.declared.grammar.TheConstants.{BODY};
 ghost use Rattle.gb_client_run.specs.Importing.{SaysSo, HasTold, HasSaid, HasSaidOn, HasImported, reply_of, may_pass, said_line, count_line, is_chosen};
@@ -24,7 +24,7 @@ const _: () = prove!(TRIES == 20);
 
 /// What waits a while between two tries.
 pub trait Pauses {
-    /// Waits for the time between two tries.
+    /// Waits for the time between two tries of a say, and returns.
     fn pause(&self);
 }
 
@@ -230,11 +230,13 @@ fn behind(entries: &[Entry], from: u32) -> &[Entry]
     &entries[from as usize..]
 }
 
-/// Says the entries of a log's text again at a node, in order: those of the node's own member, or all, without the first ones that were
-/// said before. Prints `ORIGIN:SEQ said SEQ` for each, with the number that it had and the number that it got, and `said COUNT` at the end,
-/// which counts the skipped ones too. A say that is refused for a full window or lack of memory is tried again after a pause, for as long
-/// as a reply may take. Any other refusal ends the import, and is printed before the last line. Returns the exit status. `NoExport` if the
-/// text is no log's; then nothing was said. After any other fault the last line is printed too.
+/// Says the entries of the exported log `text` again at `node`, in order, in the group that `asked` names: those that the node's own
+/// member said, or all if `choice.is_all`, without the first `choice.from` of them. Prints `ORIGIN:SEQ said SEQ` for each, with its old
+/// and its new number, and at the end `said COUNT`, which counts the skipped ones too. A say that is refused with `Window` or
+/// `OutOfMemory` is tried again after a pause, for as long as a reply may take; after that, or after any other refusal, the refusal is
+/// printed and the import ends. Returns the exit status: 0 if all were said, 1 after a refusal. `Err` with `NoExport` if `text` is no
+/// exported log; then nothing was said. `Err` with the fault if a say failed, after the last line, and with `Output` or `OutOfMemory` if
+/// a line was not printed.
 pub fn import<N: Nodes, P: Pauses, W: Write>(
     alloc: Global,
     nodes: &mut N,

@@ -1,4 +1,4 @@
-//! Where the nodes of a server are, by a directory file.
+//! Where the nodes of a tenant's cluster are, looked up in a directory file.
 ghost use Rattle.std.specs.Prelude.{◌≡◌, ◌+◌, All, Contains, map, IfSome, IfOk, IfErr};
 ghost use Rattle.toml.specs.View.{view};
 ghost use Rattle.gb_client_run.specs.Listing.{IsPlaceOf, IsListFault};
@@ -51,7 +51,8 @@ fn listed_node<'a>(file: &'a Value, tenant: u16, node: NodeId) -> Result<Listed<
     }
 }
 
-/// Returns where some nodes of a tenant's cluster are, in their order.
+/// Returns where the sessions of the nodes `nodes` of a tenant's cluster are, in that order, by the directory `file`. `Err` with `Node`,
+/// the node and the reason, for the first node of which the directory does not say it, and with `OutOfMemory`.
 #[tactic(auto, using(crate::proofs::ListingLemmas::nodes_more, crate::proofs::ListingLemmas::places_more))]
 pub fn list<'a>(
     alloc: Global,
@@ -71,7 +72,7 @@ pub fn list<'a>(
     Ok(list)
 }
 
-/// Returns what a list has for a port of the server whose nodes it lists: 64 + I names node I.
+/// Returns the entry of `list` that `port` stands for: port 64 + I stands for node I. `None` if the list has no such node.
 #[tactic(auto, using(crate::proofs::ListingLemmas::is_among))]
 pub fn listed_at<'a>(list: &[Listed<'a>], port: u16) -> Option<Listed<'a>>
     ensures named { IfSome result (λ listed. port ≡ 64 + listed.node.number) }

@@ -1,4 +1,4 @@
-//! What an administrator asks of a node.
+//! Asking a node as its administrator: its figures, its list of groups, and the end of its server.
 ghost use Rattle.std.specs.Prelude.{List, IfOk};
 ghost use Rattle.gb_client_run.specs.Asked.{Exchange, HasAsked};
 
@@ -26,7 +26,9 @@ fn print_refusal<W: Write>(alloc: Global, text: &[u8], writer: &mut W) -> Result
     }
 }
 
-/// Prints a node's figures. Returns the exit status.
+/// Asks `node` for its figures and prints them in a line, or its refusal. Returns the exit status: 0, or 1 after a refusal. `Err` with
+/// the fault if the node could not be asked or had no reply, with `NoReply` if what came is neither, and with `Output` if the line could
+/// not be printed.
 pub fn print_status<N: Nodes, W: Write>(
     alloc: Global,
     nodes: &mut N,
@@ -45,7 +47,9 @@ pub fn print_status<N: Nodes, W: Write>(
     Ok(0)
 }
 
-/// Asks one of a server's nodes to end the server, and prints the reply. Returns the exit status.
+/// Asks `node` to end its server, and prints the reply, `ok` or a refusal. Returns the exit status: 0, or 1 after a refusal. `Err` with
+/// the fault if the node could not be asked or had no reply, with `NoReply` if what came is neither, and with `Output` if the line could
+/// not be printed.
 pub fn shut_down<N: Nodes, W: Write>(
     alloc: Global,
     nodes: &mut N,
@@ -63,7 +67,8 @@ pub fn shut_down<N: Nodes, W: Write>(
     Ok(0)
 }
 
-/// Returns the text of a node's reply to a list from a place on.
+/// Asks `node`, with the administrator's token, for the groups of its list from the index `from` on, at most 64 of them, and returns the
+/// text of its reply, which is not read. `Err` with the fault if the node could not be asked or had no reply, and with `OutOfMemory`.
 pub fn page_text<N: Nodes>(
     alloc: Global,
     nodes: &mut N,
@@ -95,7 +100,9 @@ fn page_lines(alloc: Global, page: &Page<'_>, is_first: bool) -> Result<Vec<u8>,
     Ok(lines)
 }
 
-/// Prints how many groups were made at a node, and a line for each group. Returns the exit status.
+/// Asks `node` for its list of groups, page by page, and prints `groups COUNT` and a line for each group, or the node's refusal. Returns
+/// the exit status: 0, or 1 after a refusal. `Err` with the fault if the node could not be asked or had no reply, with `NoReply` if what
+/// came is neither, and with `Output` if a line could not be printed.
 pub fn print_list<N: Nodes, W: Write>(
     alloc: Global,
     nodes: &mut N,
@@ -173,7 +180,9 @@ fn look_in(
     Ok((None, next))
 }
 
-/// Asks a node for its list until it names a group. Returns the group's row, or that the node lists no such group, or its refusal.
+/// Asks `node`, with the administrator's token, for its list of groups, page by page, until it names the group `addr`. Returns `Row` with
+/// the group's row, `None` if the node lists no such group, or `Refused` with the text of the node's refusal. `Err` with the fault if the
+/// node could not be asked or had no reply, and with `NoReply` if what came is no page and no refusal.
 pub fn find<N: Nodes>(
     alloc: Global,
     nodes: &mut N,

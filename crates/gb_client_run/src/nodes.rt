@@ -1,4 +1,4 @@
-//! The nodes of a server, as a client asks them.
+//! The nodes of a server, as a client asks them: a message to a port of the server, and the reply.
 ghost use Rattle.std.specs.Prelude.{◌≤◌, length, IfOk};
 ghost use Rattle.gb_session.specs.declared.grammar.TheConstants.{BODY};
 
@@ -13,14 +13,15 @@ pub trait Nodes {
     // What the reply to a message at a port may be, and what it leaves.
     ghost asks: { Self → ℕ → List ℕ → List ℕ → Self → Type 0 };
 
-    /// The reply of the sessions at a port to the body of a message. `Connection`: nothing was asked; `Late` and `Lost`: it was asked,
-    /// and what came of it is not known.
+    /// Sends `body` as a message to the sessions at `port`, waits, and returns the body of the reply. `Err` with `Connection` if nothing
+    /// was asked. `Err` with `Late` or `Lost` if it was asked and what came of it is not known.
     fn ask(&mut self, alloc: Global, port: u16, body: &[u8]) -> Result<Vec<u8>, ClientFault>
         requires { length body.now ≤ BODY }
         ensures { IfOk result (λ reply. asks self.old port body.now reply.items self.new) };
 }
 
-/// Returns the reply of the sessions at a port to a body of any length. `Words` if the body is longer than a message may be.
+/// Sends `body` as a message to the sessions at `port` and returns the body of the reply. `Err` with `Words`, and nothing is sent, if the
+/// body is longer than a message may be, and with the fault of `nodes` if it cannot be asked or has no reply.
 pub fn ask_short<N: Nodes>(
     alloc: Global,
     nodes: &mut N,

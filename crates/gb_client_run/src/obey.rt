@@ -1,4 +1,4 @@
-//! What a client is told to do at a server, done.
+//! One errand at a server: what a client is told to do there is done, and what comes of it is printed.
 use crate::checking::check_group;
 use crate::exporting::export;
 use crate::groups::{drop_group, make_group};
@@ -40,8 +40,10 @@ fn obey_group<N: Nodes, W: Write>(
     make_group(alloc, nodes, target, members, make, &open, writer)
 }
 
-/// Does one errand at a server and prints what comes of it. Returns the exit status. `follow` and `import` are faults here: a log is
-/// followed by `following::follow`, which has a connection of its own, and imported by `importing::import`, which takes a text.
+/// Does one errand at the server of `target`, over `nodes`, and prints what comes of it to `writer`. Returns the exit status: 0 if it is
+/// done, 1 if a node refused or nodes differ, and otherwise that of the fault at a node. `Err` with the fault that ended it, and with
+/// `Words` for `Follow` and `Import`, which are done by `following::follow`, with a connection of its own, and by `importing::import`,
+/// which takes a text.
 pub fn obey<N: Nodes, W: Write>(
     alloc: Global,
     nodes: &mut N,

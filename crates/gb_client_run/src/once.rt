@@ -1,4 +1,4 @@
-//! One request at one node.
+//! One request at one node, and its reply.
 ghost use Rattle.std.specs.Prelude.{◌≡◌, ◌++◌, ◌∷◌, [], false, map, IfOk};
 ghost use Rattle.std.specs.Io.KnownBytes.{Appends};
 ghost use Rattle.gb_types.specs.declared.reply.Reply.{Reply as TheReply};
@@ -18,7 +18,8 @@ use gb_types::{NodeId, Reply};
 use std::alloc::Global;
 use std::io::Write;
 
-/// Returns true if this may be the reply to a request with this head.
+/// Returns true if `reply` may be the reply to a request with this head: a refusal to any, `Said` to a say, `Log` to a fetch, and `Done`
+/// to any other. Returns false otherwise.
 pub fn answers(head: Head, reply: &Reply) -> bool
     ensures { result ≡ answers head reply.now }
 {
@@ -30,7 +31,8 @@ pub fn answers(head: Head, reply: &Reply) -> bool
     }
 }
 
-/// Returns the reply of a node to a request. `NoReply` if what came is no reply to it.
+/// Makes the request `asked` at `node` and returns the node's reply, which may be a refusal. `Err` with `NoReply` if what came is no
+/// reply to this request, and with the fault if it could not be asked or had no reply.
 pub fn reply_to<N: Nodes>(
     alloc: Global,
     nodes: &mut N,
@@ -52,7 +54,9 @@ pub fn reply_to<N: Nodes>(
     Ok(reply)
 }
 
-/// Makes one request at a node, and prints its reply. Returns the exit status.
+/// Makes the request `asked` at `node` and prints the node's reply. Returns the exit status: 0, or 1 if the reply is a refusal. `Err`
+/// with `NoReply` if what came is no reply to this request, with `Output` if it could not be printed, and with the fault if it could not
+/// be asked or had no reply.
 pub fn ask_once<N: Nodes, W: Write>(
     alloc: Global,
     nodes: &mut N,

@@ -1,4 +1,4 @@
-//! What is printed.
+//! Printing, to any writer.
 ghost use Rattle.std.specs.Prelude.{◌≡◌, ◌++◌, ◌∷◌, [], IfErr, OnOk};
 ghost use Rattle.std.specs.Io.KnownBytes.{Appends};
 ghost use Rattle.gb_types.specs.ReplyText.{reply_spelling};
@@ -9,7 +9,8 @@ use gb_types::{Refusal, Reply};
 use std::alloc::Global;
 use std::io::Write;
 
-/// Writes a text, so that it is seen at once.
+/// Writes `text` to `writer` and flushes it, so that it is seen at once. `Err` with `Output` if it could not be written; then a part of
+/// it may be.
 pub fn print<W: Write>(writer: &mut W, text: &[u8]) -> Result<(), ClientFault>
     ensures ok { OnOk result (Appends (W.contents writer.old) (W.contents writer.new) text.now) }
     ensures fault { IfErr result (λ why. why ≡ ClientFault.Output) }
@@ -20,7 +21,8 @@ pub fn print<W: Write>(writer: &mut W, text: &[u8]) -> Result<(), ClientFault>
     Ok(())
 }
 
-/// Prints a refusal in a line.
+/// Writes the line of the refusal `why` to `writer`, `refused NUMBER NAME`, and flushes it. `Err` with `Output` if it could not be
+/// written, and with `OutOfMemory`.
 pub fn print_refusal<W: Write>(
     alloc: Global,
     why: Refusal,

@@ -20,7 +20,9 @@ fn are_same(parts: &[&[u8]], words: &[&str]) -> bool {
     true
 }
 
-/// Returns true if the group of a row was made by these words of `make`.
+/// Returns true if the group of `row` was made by `words`, the seven words of `make`: its kind, members, messages, bytes and window are
+/// those words. The address is not compared. Returns false otherwise, and also if the row has not nine parts or the words are not seven.
+/// `Err` with `OutOfMemory`.
 pub fn is_made_so(alloc: Global, row: &[u8], words: &[&str]) -> Result<bool, ClientFault> {
     let parts = parts_of(alloc, row)?;
     Ok(are_same(parts.as_slice(), words))
@@ -38,8 +40,8 @@ fn joined(alloc: Global, parts: &[&[u8]]) -> Result<Vec<u8>, ClientFault> {
     Ok(text)
 }
 
-/// Returns the parameters that the group of a row was made with: each word behind a colon. `None` if its members are others than `members`,
-/// or if the group was dropped.
+/// Returns what the group of `row` was made with: `KIND:MEMBERS:MSGS:BYTES:WINDOW:`, with a colon behind each. `None` if its members are
+/// others than the word `members`, which is so for a dropped group, or if the row has not nine parts. `Err` with `OutOfMemory`.
 pub fn spec_in(alloc: Global, row: &[u8], members: &[u8]) -> Result<Option<Vec<u8>>, ClientFault> {
     let parts = parts_of(alloc, row)?;
     if parts.len() != 9 || parts[3] != members {

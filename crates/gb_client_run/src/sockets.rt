@@ -20,8 +20,9 @@ fn place_of<'a>(list: Option<&'a [Listed<'a>]>, port: u16) -> Option<(&'a str, u
     }
 }
 
-/// Returns a connection to a port of a server, on which each read waits for at most this number of seconds. The server is on this machine,
-/// or `list` has its nodes.
+/// Opens and returns a TCP connection to a port of a server, on which each read waits for at most `seconds` seconds. Without `list` the
+/// server is on this machine; otherwise port 64 + I stands for the host and the port that `list` has for node I. `Err` with `Connection`
+/// if the list has no such node, or if the connection could not be made.
 pub fn connect<H: Net<Stream = TcpStream>>(
     rt: &H,
     list: Option<&[Listed<'_>]>,
@@ -50,7 +51,8 @@ pub struct Sockets<'a, H> {
 }
 
 impl<'a, H> Sockets<'a, H> {
-    /// Returns a connection maker to nodes on this machine, or where `list` has them. Each node may take `seconds` seconds for a reply.
+    /// Returns the nodes of a server, which are asked over TCP, with a new connection for each message. They are on this machine, or
+    /// where `list` has them. Each read of a reply may take `seconds` seconds. Opens nothing yet.
     pub fn new(rt: &'a H, list: Option<&'a [Listed<'a>]>, seconds: u64) -> Sockets<'a, H> {
         Sockets { rt, list, seconds }
     }
@@ -81,7 +83,7 @@ pub struct Pausing<'a, H> {
 }
 
 impl<'a, H> Pausing<'a, H> {
-    /// Returns pauses that take their time from a runtime's clock.
+    /// Returns pauses of 50 milliseconds, which sleep by the clock of `rt`. Does not pause yet.
     pub fn new(rt: &'a H) -> Pausing<'a, H> {
         Pausing { rt }
     }

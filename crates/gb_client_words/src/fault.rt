@@ -1,4 +1,4 @@
-//! Why the words of a command line are no plan.
+//! Why the words of gb_ctl's command line ask for nothing, and the exit status for it.
 use std::alloc::{AllocError, AllocFailed};
 use thiserror::Error;
 
@@ -40,7 +40,7 @@ pub enum PlanFault {
     OutOfMemory,
 }
 
-/// Returns the exit status for words that are no plan: 3 if a request for memory was refused, otherwise 2.
+/// Returns the exit status of gb_ctl for words that are no plan: 3 if memory ran out, otherwise 2.
 pub fn plan_status(fault: PlanFault) -> u8 {
     match fault {
         PlanFault::OutOfMemory => 3,

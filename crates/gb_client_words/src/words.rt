@@ -1,4 +1,4 @@
-//! The words of the command line.
+//! The command line of gb_ctl: its options and subcommands, and the plan that its words make.
 use crate::fault::PlanFault;
 use clap::builder::ValueParser;
 use clap::{Arg, ArgAction, ArgMatches, Command};
@@ -415,7 +415,7 @@ gb_ctl --port 42000 --node 1 --secrets keys fetch 7 1 0 16 --text\n\n\
 Exit status: 0 for a reply that is no refusal, 1 for a refusal, 2 for wrong words or secrets, 3 where there is no connection or no such \
 reply, 4 where a reply is not there in time or the connection ended before it: the outcome is unknown, so fetch first.";
 
-/// Returns the command line of gb_ctl, for `clap`.
+/// Returns the description of gb_ctl's command line for `clap`: its options, subcommands and help. `Err` if memory runs out.
 pub fn command<'a>(alloc: Global) -> Result<Command<'a>, AllocError> {
     let bare = Command::new(alloc, "gb_ctl")
         .version(VERSION)
@@ -657,7 +657,9 @@ const SECONDS: u32 = 10;
 
 const _: () = prove!(SECONDS == 10);
 
-/// Returns what the words of a command line ask for. `matches` is what `clap` made of them.
+/// Returns the plan that the words of a command line make: where the secrets are, where nodes are looked up, and the task. `matches` is
+/// what `clap` made of the words. Does no input or output. `Err` with the fault if a subcommand, a needed option or a needed word is
+/// missing, if two options exclude each other, or if a word is not spelt as it is to be, and with `OutOfMemory`.
 pub fn plan_of<'a>(alloc: Global, matches: &ArgMatches<'a>) -> Result<Plan<'a>, PlanFault> {
     let (name, inner) = matches.subcommand().ok_or(PlanFault::NoSubcommand)?;
     let subcommand = subcommand_named(SUBCOMMANDS, name).ok_or(PlanFault::NoSubcommand)?;

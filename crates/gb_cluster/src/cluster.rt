@@ -1,4 +1,4 @@
-//! The nodes of a cluster and every packet that they sent.
+//! A cluster as a value: its nodes and every packet that they sent, and one event at a time.
 ghost use Rattle.std.specs.Prelude.{◌≡◌, ◌<◌, ◌↔◌, ◌++◌, [], List, IsTrue, IsSome, true, is_ok, length, vec_len, vec_capacity, IfOk, OnErr};
 ghost use Rattle.gb_cluster.specs.ClusterStep.{receiver_of, posted, sending, is_packet_for, AreForNodes, AreRead, IsNodeTurn, IsPlaced, IsStep};
 ghost use Rattle.gb_node.specs.NodeStep.{read_at};
@@ -148,7 +148,8 @@ fn happen(nodes: &mut Vec<Node>, packets: &mut Vec<Posted>, at: NodeId, event: &
 }
 
 impl Cluster {
-    /// Returns a cluster in which nothing has happened.
+    /// Returns a cluster of the nodes of `plan`, in which nothing has happened and no packet was sent. Takes memory. `Err` if it runs
+    /// out.
     pub fn start(alloc: Global, plan: &Plan) -> Result<Cluster, OutOfMemory>
         requires { IsClusterPlan plan.now }
         ensures state { IfOk result (λ n. n ≡ new_cluster plan.now) }
@@ -166,14 +167,15 @@ impl Cluster {
         })
     }
 
-    /// Returns the number of nodes.
+    /// Returns the number of nodes in the cluster, 1 to 32.
     pub fn nodes(&self) -> usize
         ensures { result ≡ length self.now.nodes }
     {
         self.nodes.len()
     }
 
-    /// Returns true if the node that acts is one of the cluster's.
+    /// Returns true if the event can happen in this cluster: it is at one of its nodes, or it is the arrival of a packet with any number.
+    /// Returns false if it is at a node that the cluster does not have.
     pub fn is_placed(&self, event: &Event) -> bool
         ensures { IsTrue result ↔ IsPlaced (length self.now.nodes) event.now }
     {
@@ -183,14 +185,14 @@ impl Cluster {
         }
     }
 
-    /// Returns every packet that was sent, in order.
+    /// Returns all packets that the nodes have sent, in order; packet number n is at index n - 1.
     pub fn packets(&self) -> &[Posted]
         ensures { result.now ≡ self.now.packets }
     {
         self.packets.as_slice()
     }
 
-    /// Returns every packet that was sent, in order, without copying them.
+    /// Gives up the cluster. Returns all packets that its nodes have sent, in order, without copying them.
     pub fn into_packets(self) -> Vec<Posted>
         ensures { result.items ≡ self.packets }
     {
@@ -202,9 +204,10 @@ impl Cluster {
         packets
     }
 
-    /// Makes an event happen at one of the nodes and returns the answer. Noise that is a packet for the node is not handed in.
-    /// `Err` if the cluster itself has no memory for one more packet; then nothing has changed. A node that refuses for lack of
-    /// memory is no error: that is an answer.
+    /// Makes an event happen at the node `at`, changes that node, and keeps the packet that it sends. Returns the node's answer, or
+    /// `NotNoise` if the event is bytes that are a packet of the cluster for this node; then nothing has changed, since packets come by
+    /// `arrive`. A refusal of the node for lack of memory is such an answer. `Err` if there is no memory to keep one more packet; then
+    /// nothing has changed.
     pub fn happen(&mut self, at: NodeId, event: &NodeEvent) -> Result<Answer, OutOfMemory>
         requires { at.number < length self.old.nodes }
         ensures step { IfOk result (λ a. IsStep self.old (Events.At at event.now) a self.new) }
@@ -216,7 +219,8 @@ impl Cluster {
         Ok(happen(&mut self.nodes, &mut self.packets, at, event))
     }
 
-    /// Makes the packet with this number arrive at the node that it was sent to, and returns the answer.
+    /// Makes the packet with this number, counted from 1, arrive at the node that it was sent to, and changes that node. The packet
+    /// stays, so it may arrive again. Returns the node's answer, or `NoPacket` if no packet has this number; then nothing has changed.
     pub fn arrive(&mut self, number: u64) -> Answer
         ensures step { IsStep self.old (Events.Arrive number) result self.new }
         ensures run { RunGoesOn self.old (Events.Arrive number) result self.new }
@@ -227,8 +231,8 @@ impl Cluster {
         arrive(&mut self.nodes, &self.packets, number)
     }
 
-    /// Makes one event happen and returns the answer. `Err` if the cluster itself has no memory for one more packet; then
-    /// nothing has changed. A node that refuses for lack of memory is no error: that is an answer.
+    /// Makes one event happen, as `happen` or `arrive` does, changes the node where it happens, and returns the answer. A refusal of the
+    /// node for lack of memory is such an answer. `Err` if there is no memory to keep one more packet; then nothing has changed.
     pub fn step(&mut self, event: &Event) -> Result<Answer, OutOfMemory>
         requires { IsPlaced (length self.old.nodes) event.now }
         ensures step { IfOk result (λ a. IsStep self.old event.now a self.new) }

@@ -1,11 +1,12 @@
-//! What the nodes of a cluster are started with.
+//! What each node of a cluster is started with.
 ghost use Rattle.std.specs.Prelude.{◌≡◌};
 ghost use Rattle.gb_cluster.specs.ClusterValue.{node_plan};
 
 use gb_node::NodePlan;
 use gb_types::{NodeId, Plan};
 
-/// Returns the plan of one of the cluster's nodes.
+/// Returns what the node `me` of a cluster of `plan` is started with: its number, the version of packets that it sends, and the cluster's
+/// numbers and keys. No tape of its events is asked for.
 pub fn node_plan(plan: &Plan, me: NodeId) -> NodePlan
     ensures { result ≡ node_plan plan.now me }
 {

@@ -1,4 +1,4 @@
-//! What a table of the file says, field by field.
+//! The cluster file, field by field: what its TOML table says, and the first fault of it.
 ghost use Rattle.std.specs.Prelude.{◌≡◌, ◌≤◌, ◌<◌, ℕ, pos, true, false, codes, length, MatchOption, IfSome, IfNone, IfOk, IfErr, OnOk, None, option_copied, option_map};
 ghost use Rattle.toml.specs.Data.{Data, Members, integer, array, table, get_item, get_member, as_array};
 ghost use Rattle.toml.specs.View.{view, table_view, items_view};
@@ -13,7 +13,7 @@ use crate::place::{PlaceParts, place_of};
 use gb_types::Version;
 use toml::{Table, Value};
 
-/// Returns true if each key at the top of the file names a field.
+/// Returns true if each key at the top of the file names a field of a cluster file, and false if one does not.
 pub fn has_only_fields(table: &Table) -> bool
     ensures { result ≡ all_keys is_name (table_view table.now) }
 {
@@ -79,7 +79,8 @@ fn number_at(table: &Table, field: Field) -> Result<Option<u64>, FileFault>
     }
 }
 
-/// Returns the number of the run, 1 to 2^63 - 1.
+/// Returns the number of the run that a cluster file names, 1 to 2^63 - 1. `Err` with `MissingRun` if it names none, and with `NoNumber`
+/// if it is no such number.
 pub fn run_at(table: &Table) -> Result<u64, FileFault>
     ensures ok { IfOk result (λ n. (get_member (codes "run") (table_view table.now) ≡ Some (integer (pos n))) × (1 ≤ n) × (n ≤ 9223372036854775807)) }
     ensures err { IfErr result (IsDocumentFault (table_view table.now)) }
@@ -91,7 +92,8 @@ pub fn run_at(table: &Table) -> Result<u64, FileFault>
     }
 }
 
-/// Returns the milliseconds between two ticks, 1 to 60,000: 64 if the file names none.
+/// Returns the milliseconds between two ticks, 1 to 60,000: what a cluster file names, or 64 if it names none. `Err` with `NoNumber` if
+/// it is no such number.
 pub fn tick_at(table: &Table) -> Result<u16, FileFault>
     ensures ok { IfOk result (λ n. IsNumber (get_member (codes "tick") (table_view table.now)) 64 n × (1 ≤ n) × (n ≤ 60000)) }
     ensures err { IfErr result (IsDocumentFault (table_view table.now)) }
@@ -114,8 +116,9 @@ fn ticks_of_silence(tick: u16) -> u16
     ticks.max(2).min(1_000) as u16
 }
 
-/// Returns the number of ticks without a good packet after which a node is noticed, 2 to 1,000. `tick` is the milliseconds between two
-/// ticks. If the file names none, the ticks make 30 seconds.
+/// Returns the number of ticks without a good packet after which a node is held for crashed, 2 to 1,000: what a cluster file names, or,
+/// if it names none, the ticks of `tick` milliseconds that make 30 seconds, but at least 2 and at most 1,000. `Err` with `NoNumber` if it
+/// is no such number.
 pub fn silence_at(table: &Table, tick: u16) -> Result<u16, FileFault>
     requires { 1 ≤ tick }
     ensures ok { IfOk result (λ n. IsNumber (get_member (codes "silence") (table_view table.now)) (usual_silence tick) n × (2 ≤ n) × (n ≤ 1000)) }
@@ -128,7 +131,8 @@ pub fn silence_at(table: &Table, tick: u16) -> Result<u16, FileFault>
     }
 }
 
-/// Returns the most bytes of the items of a packet, 256 to 16,345: 1,400 if the file names none.
+/// Returns the most bytes of the items of a packet, 256 to 16,345: what a cluster file names, or 1,400 if it names none. `Err` with
+/// `NoNumber` if it is no such number.
 pub fn room_at(table: &Table) -> Result<u16, FileFault>
     ensures ok { IfOk result (λ n. IsNumber (get_member (codes "room") (table_view table.now)) 1400 n × (256 ≤ n) × (n ≤ 16345)) }
     ensures err { IfErr result (IsDocumentFault (table_view table.now)) }
@@ -140,7 +144,8 @@ pub fn room_at(table: &Table) -> Result<u16, FileFault>
     }
 }
 
-/// Returns the version of packets: 3 if the file names none.
+/// Returns the version of packets that each node sends: what a cluster file names, or 3 if it names none. `Err` with `NoNumber` if it is
+/// no version.
 pub fn version_at(table: &Table) -> Result<Version, FileFault>
     ensures ok { IfOk result (λ version. IsVersion (table_view table.now) version) }
     ensures err { IfErr result (IsDocumentFault (table_view table.now)) }
@@ -182,7 +187,9 @@ pub struct NodeParts<'a> {
     pub sessions: PlaceParts<'a>,
 }
 
-/// Returns the places of a node, whose table the value is. `Err` with the first fault of that table.
+/// Returns where a node takes packets and sessions, from `value`, its table in a cluster file. `Err` with the first fault: `NoTable` if
+/// it is no table, `UnknownField` if a key names no field, and for the two fields in turn `Missing` if it is not there and `NoPlace` if
+/// it is no text `HOST:PORT`.
 pub fn node_of(value: &Value) -> Result<NodeParts<'_>, NodeFault>
     ensures ok { IfOk result (λ node. (fields : Members) × (view value.now ≡ table fields) × (all_keys is_place_name fields ≡ true)
         × IsPlaceOf (get_member (codes "packets") fields) node.packets.host.now node.packets.port
@@ -236,7 +243,8 @@ fn first_same(values: &[Value], node: usize, last: &Value, field: PlaceField) ->
     None
 }
 
-/// Returns Ok if no two of these nodes have the same text in the field.
+/// Returns `Ok` if no two of the nodes that a cluster file lists in `values` have the same text in `field`. `Err` with `SamePlace` for
+/// the first node that has the text of one before it, with both numbers.
 pub fn differ(values: &[Value], field: PlaceField) -> Result<(), FileFault>
     ensures ok { OnOk result (Differ field (items_view values.now)) }
     ensures err { IfErr result (IsItemsFault (items_view values.now)) }
@@ -269,7 +277,9 @@ fn values_of(value: &Value) -> Option<&[Value]>
     }
 }
 
-/// Returns the values for the nodes: at least 1, and no more than packets of the version can name.
+/// Returns the list of the nodes' tables in a cluster file, under `node`: at least 1, and no more than packets of `version` can name. The
+/// tables are not read. `Err` with `NoNodes` if there is none, with `NoArray` if it is no list, and with `TooManyNodes` if there are
+/// more.
 pub fn values_at(table: &Table, version: Version) -> Result<&[Value], FileFault>
     requires { IsVersion (table_view table.now) version }
     ensures ok { IfOk result (λ values. (get_member (codes "node") (table_view table.now) ≡ Some (array (items_view values.now)))

@@ -1,4 +1,4 @@
-//! The fields of the file.
+//! The fields of a cluster file: their names and the numbers that they take.
 ghost use Rattle.std.specs.Prelude.{◌≡◌};
 ghost use Rattle.gb_cluster_file.specs.Fields.{name_of, place_name_of, is_name, is_place_name, least_of, most_of};
 
@@ -27,7 +27,7 @@ pub enum PlaceField {
 }
 
 impl Field {
-    /// Returns the field's name in the file.
+    /// Returns the key of this field in the cluster file: `run`, `tick`, `silence`, `version` or `room`.
     pub fn name(self) -> &'static str
         ensures { result.now ≡ name_of self }
     {
@@ -40,7 +40,7 @@ impl Field {
         }
     }
 
-    /// Returns the least number that the field takes.
+    /// Returns the least number that this field of the cluster file takes.
     pub fn least(self) -> u64
         ensures { result ≡ least_of self }
     {
@@ -51,7 +51,8 @@ impl Field {
         }
     }
 
-    /// Returns the greatest number that the field takes; of the versions not every number up to it.
+    /// Returns the greatest number that this field of the cluster file takes. For `Version` it is 255, although only some numbers up to
+    /// it are versions.
     pub fn most(self) -> u64
         ensures { result ≡ most_of self }
     {
@@ -66,7 +67,7 @@ impl Field {
 }
 
 impl PlaceField {
-    /// Returns the field's name in the table of a node.
+    /// Returns the key of this field in the table of a node: `packets` or `sessions`.
     pub fn name(self) -> &'static str
         ensures { result.now ≡ place_name_of self }
     {
@@ -77,7 +78,8 @@ impl PlaceField {
     }
 }
 
-/// Returns true if a key at the top of the file names a field.
+/// Returns true if `key` may stand at the top of a cluster file: `run`, `tick`, `silence`, `version`, `room` or `node`. Returns false for
+/// any other.
 pub fn is_field(key: &str) -> bool
     ensures { result ≡ is_name key.now }
 {
@@ -89,7 +91,7 @@ pub fn is_field(key: &str) -> bool
         || key == "node"
 }
 
-/// Returns true if a key of a node's table names a field.
+/// Returns true if `key` may stand in the table of a node: `packets` or `sessions`. Returns false for any other.
 pub fn is_place_field(key: &str) -> bool
     ensures { result ≡ is_place_name key.now }
 {

@@ -1,4 +1,4 @@
-//! Places: `HOST:PORT`.
+//! Places of sockets, `HOST:PORT`, read from text.
 ghost use Rattle.std.specs.Prelude.{◌≡◌, ℕ, true, false, List, [], ◌∷◌, ◌++◌, IfSome, IfNone, MatchOption};
 ghost use Rattle.std.specs.List.{list_all};
 ghost use Rattle.gb_cluster_file.specs.Places.{is_name_byte, IsName, IsHostText, IsPlaceText, IsPortNumber, IsIpv6};
@@ -95,8 +95,8 @@ fn port_of(text: &str) -> Option<u16>
     }
 }
 
-/// Returns the place that a text writes as `HOST:PORT`. HOST is a name, an IPv4 address or an IPv6 address in brackets. PORT is a decimal
-/// number from 1 to 65,535 without leading zeros. `None` if the text writes no place.
+/// Returns the host and the port of a text `HOST:PORT`. HOST is a name, an IPv4 address, or an IPv6 address in brackets, which are left
+/// out. PORT is a decimal number from 1 to 65,535 without leading zeros. `None` if the text is anything else. Nothing is looked up.
 pub fn place_of(text: &str) -> Option<PlaceParts<'_>>
     ensures some { IfSome result (λ place. IsPlaceText text.now place.host.now place.port) }
     ensures none { IfNone result ((host : List ℕ) (port : ℕ) → IsPlaceText text.now host port → ⊥) }

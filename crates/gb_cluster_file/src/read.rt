@@ -1,4 +1,4 @@
-//! From the text of a file to what it says of the cluster.
+//! Reading a cluster file: from its text to what it says of the cluster.
 ghost use Rattle.std.specs.Prelude.{◌≡◌, ◌≢◌, ℕ, List, [], ◌∷◌, ◌++◌, None, Some, IfOk, IfErr, OnOk, string_bytes};
 ghost use Rattle.toml.specs.Data.{Items, get_item};
 ghost use Rattle.toml.specs.Errors.{IsMemory, IsWithin as IsSpanWithin};
@@ -130,7 +130,8 @@ fn fault_from(error: &Error) -> FileFault
     }
 }
 
-/// Returns what the text of a file says of a cluster. The text has 65,536 bytes at most.
+/// Returns what the text of a cluster file says, in memory that it takes. Reads no file. `Err` with the first fault: `TooLong` above
+/// 65,536 bytes, `NoDocument` if it is no TOML, or the fault of a field or node; and with `OutOfMemory`, which says nothing of the text.
 pub fn read_cluster(alloc: Global, text: &str) -> Result<ClusterFile, FileFault>
     ensures ok { IfOk result (IsFileOf text.now) }
     ensures fault { IfErr result (IsFault text.now) }

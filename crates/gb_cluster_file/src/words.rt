@@ -1,4 +1,4 @@
-//! The words of a fault.
+//! Why a cluster file is refused, in words.
 use crate::fault::{FileFault, NodeFault};
 use crate::field::{Field, PlaceField, is_field, is_place_field};
 use std::alloc::{AllocError, Global};
@@ -11,7 +11,8 @@ fn line_of(text: &str, at: usize) -> usize {
     1 + before.iter().filter(|byte| **byte == b'\n').count()
 }
 
-/// Returns why a text is no TOML document, with the line that byte `at` is in.
+/// Returns the line `line N: WHY`, without its end: why `text` is no TOML document. N is the line that byte `at` is in, from 1. `Err` if
+/// memory runs out.
 pub fn document_text(alloc: Global, text: &str, at: usize) -> Result<String, AllocError> {
     let line = line_of(text, at);
     match toml::table_from_str(alloc, text) {
@@ -112,7 +113,8 @@ fn same_text(
     format!(in alloc; "node[{node}].{name}: is that of node[{first}] too")
 }
 
-/// Returns one line, without its end, that says why `text` is no file of a cluster. `fault` is what `read_cluster` returned for it.
+/// Returns one line, without its end, that says why `text` is no cluster file. `fault` is what `read_cluster` returned for it. `Err` if
+/// memory runs out.
 pub fn fault_text(alloc: Global, text: &str, fault: &FileFault) -> Result<String, AllocError> {
     match *fault {
         FileFault::OutOfMemory => format!(in alloc; "out of memory"),

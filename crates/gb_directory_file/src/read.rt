@@ -1,4 +1,4 @@
-//! From the text of a file to the place of a node.
+//! Reading a directory file: which cluster a tenant lives in, and where the sessions of a node of that cluster are.
 ghost use Rattle.std.specs.Prelude.{◌≡◌, ◌≤◌, ℕ, List, None, Some, IfSome, IfNone, IfOk, IfErr, decimal, length, option_copied, option_map};
 ghost use Rattle.toml.specs.Data.{Data, get, at};
 ghost use Rattle.toml.specs.Errors.{IsMemory, IsWithin as IsSpanWithin};
@@ -44,7 +44,8 @@ fn document_of(alloc: Global, text: &str) -> Result<Value, TextFault>
     }
 }
 
-/// Returns the directory that the text of a file is. The text has 65,536 bytes at most.
+/// Returns the TOML document of the text of a directory file, in memory that it takes. Which tenants and clusters it has is not checked
+/// here. Reads no file. `Err` with `TooLong` above 65,536 bytes, with `NoDocument` if it is no TOML, and with `OutOfMemory`.
 pub fn read_directory(alloc: Global, text: &str) -> Result<Value, TextFault>
     ensures ok { IfOk result (λ file. IsDocument text.now (view file)) }
     ensures short { IfOk result (λ _. length text.now ≤ 65536) }
@@ -105,7 +106,8 @@ fn tenant_text(tenants: &Value, tenant: u16) -> Option<&str>
     text_in(tenants, digits.format(tenant))
 }
 
-/// Returns the name of a tenant's cluster.
+/// Returns the name of the cluster that a tenant lives in, `tenant.T` of the directory `file`. `Err` with `NoTenants` if `tenant` is no
+/// table there, and with `NoTenant` if it has no text for this tenant.
 pub fn name_of(file: &Value, tenant: u16) -> Result<&str, DirectoryFault>
     ensures ok { IfOk result (λ name. cluster_name tenant (view file.now) ≡ Some name.now) }
     ensures err { IfErr result (λ fault. (node : ℕ) → IsFault (view file.now) tenant node fault) }
@@ -119,7 +121,9 @@ pub fn name_of(file: &Value, tenant: u16) -> Result<&str, DirectoryFault>
     }
 }
 
-/// Returns the list of a cluster's nodes.
+/// Returns the list `cluster.NAME.nodes` of the directory `file`, where NAME is the cluster `name`. Its entries are not read. `Err` with
+/// `NoClusters` if `cluster` is no table, with `NoCluster` if it has no table of this name, and with `NoNodes` if that has no list
+/// `nodes`.
 pub fn nodes_of<'a>(file: &'a Value, name: &str) -> Result<&'a Value, DirectoryFault>
     ensures ok { IfOk result (λ nodes. cluster_nodes name.now (view file.now) ≡ Some (view nodes.now)) }
     ensures err { IfErr result (λ fault. (tenant node : ℕ) → cluster_name tenant (view file.now) ≡ Some name.now → IsFault (view file.now) tenant node fault) }
@@ -186,7 +190,9 @@ fn find(file: &Value, tenant: u16, node: NodeId) -> Result<PlaceParts<'_>, Direc
     }
 }
 
-/// Returns where the sessions of a node of a tenant's cluster are.
+/// Returns the host and the port of the sessions of `node` in the cluster that a tenant lives in, by the directory `file`. `Err` with the
+/// first fault: that of the tenant's cluster or of its list of nodes, `NoNode` if the list has no entry for the node, and `NoPlace` if
+/// the entry is no text `HOST:PORT`.
 pub fn sessions_of(
     file: &Value,
     tenant: u16,

@@ -1,4 +1,4 @@
-//! The words of a fault.
+//! Why a directory file is refused, or does not say where a node is, in words.
 use crate::fault::{DirectoryFault, TextFault};
 use crate::read::{name_of, nodes_of};
 use gb_cluster_file::words::document_text;
@@ -6,7 +6,8 @@ use gb_types::NodeId;
 use std::alloc::{AllocError, Global};
 use toml::Value;
 
-/// Returns one line, without its end, that says why `text` is no directory. `fault` is what `read_directory` returned for it.
+/// Returns one line, without its end, that says why `text` is no directory. `fault` is what `read_directory` returned for it. `Err` if
+/// memory runs out.
 pub fn text_fault_text(alloc: Global, text: &str, fault: TextFault) -> Result<String, AllocError> {
     match fault {
         TextFault::OutOfMemory => format!(in alloc; "out of memory"),
@@ -34,8 +35,8 @@ fn count_of(file: &Value, name: &str) -> usize {
     }
 }
 
-/// Returns one line, without its end, that says why a directory does not say where the sessions of a node of a tenant's cluster are. `fault`
-/// is what `sessions_of` returned for them.
+/// Returns one line, without its end, that says why the directory `file` does not say where the sessions of `node` of a tenant's cluster
+/// are. `fault` is what `sessions_of` returned for them. `Err` if memory runs out.
 pub fn fault_text(
     alloc: Global,
     file: &Value,

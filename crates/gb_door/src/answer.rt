@@ -1,4 +1,4 @@
-//! How a request by HTTP is answered.
+//! How a door answers a request by HTTP: the whole text of the answer.
 ghost use Rattle.std.specs.Prelude.{◌≡◌, IfOk};
 ghost use Rattle.gb_door.specs.Answer.{answer_of, code_of, common_lines, file_of, kind_of, note_of, response_text, status_line, type_line};
 
@@ -145,7 +145,9 @@ fn file_of(asked: Asked, page: &Page) -> &[u8]
     }
 }
 
-/// Returns the answer to what is asked for: a file of the page, or why there is none. That for a session is for one whose handshake failed.
+/// Returns the answer by HTTP to what was asked for, head and body. `Page`, `Script` and `Style` are answered with status 200 and that
+/// file of `page`. All others are answered with a line of text that says why there is none: 400 for `More`, `NoRequest`, and a `Session`
+/// whose WebSocket handshake failed, 403 for `Foreign`, 404 for `OtherPlace`, 405 for `OtherMethod`. `Err` if memory runs out.
 pub fn answer(alloc: Global, asked: Asked, page: &Page) -> Result<Vec<u8>, OutOfMemory>
     ensures { IfOk result (λ text. text.items ≡ answer_of asked page.now) }
 {

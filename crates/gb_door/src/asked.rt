@@ -1,4 +1,4 @@
-//! What is asked for by HTTP.
+//! What the head of a request by HTTP asks a door for.
 ghost use Rattle.std.specs.Prelude.{◌≡◌, ◌≤◌, All, length, map};
 ghost use Rattle.std.specs.List.{list_all, list_any};
 ghost use Rattle.std.specs.Str.{bytes_eq};
@@ -93,7 +93,10 @@ fn is_welcome(origins: &[&str], bytes: &[u8], spans: &[HeaderSpan]) -> bool
     admits(origins, first.name.of(bytes), first.value.of(bytes)) && is_welcome(origins, bytes, rest)
 }
 
-/// Returns what these bytes ask for, where pages of these origins are let in.
+/// Returns what the head of a request by HTTP at the front of `bytes` asks for. By GET that is `Page` for `/`, `Script` for `/page.js`,
+/// `Style` for `/page.css`, and `OtherPlace` for anything else. For `/session` it is `Session`, or `Foreign` if the head has an Origin
+/// that is none of `origins`. It is `OtherMethod` for another method, `More` if the head is not whole, and `NoRequest` if the bytes are
+/// no head of at most 64 fields.
 pub fn asked_for(bytes: &[u8], origins: &[&str]) -> Asked
     ensures { Asks (map (λ origin. origin.now) origins.now) bytes.now result }
 {

@@ -1,4 +1,4 @@
-//! A connection on which what is done takes no longer in all than it may.
+//! A connection with a time limit for all that is done on it together.
 use std::io;
 use std::io::{ErrorKind, Read, Write};
 use std::net::TcpStream;
@@ -18,7 +18,9 @@ pub struct Deadline<'a, H> {
 }
 
 impl<'a, H: Clock> Deadline<'a, H> {
-    /// Returns a connection on which these bytes are read first. All that is done on it may take `allowed` together.
+    /// Returns a connection of a browser over `stream`, with a time limit. Reads return the bytes `front` first. All reads and writes on
+    /// `stream` from now on may take `allowed` together; after that they fail with `TimedOut` or `WouldBlock`. Reads the clock, and
+    /// nothing else.
     pub fn new(
         rt: &'a H,
         stream: &'a TcpStream,
@@ -35,7 +37,7 @@ impl<'a, H: Clock> Deadline<'a, H> {
         }
     }
 
-    /// Sets the time that all that is done from now on may take together.
+    /// Sets a new time limit for the connection: all reads and writes from now on may take `allowed` together. Reads the clock.
     pub fn allow(&mut self, allowed: Duration) {
         self.begun = Instant::now(self.rt).ok();
         self.allowed = allowed;

@@ -1,4 +1,4 @@
-//! A WebSocket client, as a visitor.
+//! A browser that is connected by WebSocket, as the visitor of a conversation.
 ghost use Rattle.std.specs.Prelude.{◌≤◌, length, IfOk};
 ghost use Rattle.gb_session.specs.declared.grammar.TheConstants.{BODY};
 
@@ -16,7 +16,8 @@ use tungstenite::{
     Bytes, CloseCode, CloseFrame, Error, Message, NoMask, Utf8Bytes, WebSocket, WebSocketConfig,
 };
 
-/// Returns what a WebSocket connection may hold: a message as long as the text of a request may be, and the bytes of a few replies.
+/// Returns the limits of a WebSocket connection for `tungstenite`: a message and a frame have at most `BODY` bytes, as the text of a
+/// request has, and at most 1,048,576 bytes wait to be written.
 pub fn config() -> WebSocketConfig {
     WebSocketConfig::default()
         .read_buffer_size(4_096)
@@ -65,7 +66,7 @@ fn close_of(leave: Leave) -> Option<CloseFrame> {
 }
 
 impl<'a, H: Clock> Guest<'a, H> {
-    /// Returns a client whose handshake is done.
+    /// Returns the browser behind `socket`, whose WebSocket handshake is done, as a visitor. Does no input or output.
     pub fn new(
         alloc: Global,
         socket: WebSocket<Deadline<'a, H>, NoMask>,
@@ -111,7 +112,8 @@ impl<'a, H: Clock> Guest<'a, H> {
         Ok(bytes)
     }
 
-    /// Tells the client why its connection ends, and waits a little until it has closed it.
+    /// Tells the browser why its WebSocket connection ends, unless it has left itself (`Gone`), and then reads until the browser has
+    /// closed the connection or `limits.close` has passed. What fails is ignored.
     pub fn close(&mut self, leave: Leave) {
         self.socket.get_mut().allow(self.limits.close);
         if leave != Leave::Gone {

@@ -1,4 +1,4 @@
-//! How long a door waits for those who come, and for its node.
+//! How long a door waits for its clients and for its node.
 use std::time::Duration;
 
 /// How long a door waits.
@@ -16,7 +16,8 @@ pub struct Limits {
     pub close: Duration,
 }
 
-/// Returns the limits of time that the program uses.
+/// Returns the time limits that gb_web uses: 10 seconds for the head of a request, 30 for a client's next message before it is asked for
+/// a sign of life and again for that, 20 for a client to take a message, 90 for a reply of the node, and 2 for a client to close.
 pub fn usual_limits() -> Limits {
     Limits {
         head: Duration::from_secs(10),

@@ -1,4 +1,4 @@
-//! The node behind a door.
+//! The node behind a door: requests go to its sessions over TCP, one after the other.
 ghost use Rattle.std.specs.Prelude.{◌≤◌, length, IfOk};
 ghost use Rattle.std.specs.Io.KnownBytes.{Appends, Consumes};
 ghost use Rattle.gb_session.specs.Streams.{framed};
@@ -62,7 +62,8 @@ fn is_open(stream: &TcpStream) -> bool {
 }
 
 impl<'a, H: Net<Stream = TcpStream>> NodeLink<'a, H> {
-    /// Returns the link to a node's sessions, without a connection yet. A connection may take `wait` to be made, and so may each reply.
+    /// Returns the link to the sessions of a node at `address`. It connects when something is asked first. Making a connection may take
+    /// `wait`, and so may each read and each write on it.
     pub fn new(rt: &'a H, alloc: Global, address: SocketAddr, wait: Duration) -> NodeLink<'a, H> {
         NodeLink {
             rt,

@@ -1,4 +1,4 @@
-//! The page that a door serves.
+//! The page that a door serves: its three files.
 use gb_types::OutOfMemory;
 use gb_types::memory::put_bytes;
 use std::alloc::Global;
@@ -32,7 +32,7 @@ pub enum PageFault {
     OutOfMemory,
 }
 
-/// Returns the page that is served if no folder is given.
+/// Returns the page that a door serves if no folder is given: a short `index.html`, and no script and style. `Err` if memory runs out.
 pub fn plain_page(alloc: Global) -> Result<Page, OutOfMemory> {
     let mut index = Vec::new(alloc);
     put_bytes(&mut index, PLAIN)?;
@@ -58,7 +58,8 @@ fn read_file<H: Files + AllocGlobal>(
     }
 }
 
-/// Reads and returns the page in a folder.
+/// Reads the page that a door serves, the files `index.html`, `page.js` and `page.css` of `folder` in this order, and returns it. `Err`
+/// with `File` and its name if one is not there, cannot be read or has more than 1,048,576 bytes, and with `OutOfMemory`.
 pub fn read_page<H: Files + AllocGlobal>(rt: &H, folder: &str) -> Result<Page, PageFault> {
     let index = read_file(rt, folder, "index.html")?;
     let script = read_file(rt, folder, "page.js")?;

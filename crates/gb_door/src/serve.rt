@@ -1,4 +1,4 @@
-//! All connections of a door, each in a thread of its own.
+//! All connections of a door, a thread for each.
 use crate::door::Door;
 use crate::visit::visit;
 use std::alloc::Global;
@@ -25,7 +25,9 @@ fn attend<H: Net<Listener = TcpListener, Stream = TcpStream> + Clock>(
     count.fetch_sub(1, Ordering::SeqCst);
 }
 
-/// Serves connections, as many as the door is told in all, and waits until they have ended.
+/// Takes connections of browsers from `listener` and serves each in a thread of its own, until it has taken `door.sessions` of them. Then
+/// waits until they have ended, and returns. While `door.connections` are served, one more is closed at once and not counted. A
+/// connection for which no thread can be made is closed and counted.
 pub fn serve<H: Net<Listener = TcpListener, Stream = TcpStream> + Threads + Wait + Clock + Sync>(
     rt: &H,
     alloc: Global,

@@ -1,4 +1,4 @@
-//! A conversation: each text that a visitor hands over is one request at a node, and each reply is one text for the visitor.
+//! A conversation of a visitor with a node: each text of the visitor is one request, and each reply is one text for the visitor.
 ghost use Rattle.std.specs.Prelude.{◌≡◌, ◌≤◌, List, length, OnOk, OnErr, IfOk};
 ghost use Rattle.gb_session.specs.declared.grammar.TheConstants.{BODY};
 ghost use Rattle.gb_door.specs.Talk.{Answers, BreaksOff, Exchange, Talks};
@@ -14,11 +14,12 @@ pub trait Visitor {
     // What it leaves of it that a text was told.
     ghost tells: { Self → List ℕ → Self → Type 0 };
 
-    /// The text that comes next, of at most `BODY` bytes.
+    /// Waits for the text that the visitor hands over next, and returns it: at most `BODY` bytes. `Err` with why the visitor's connection
+    /// ends.
     fn next(&mut self) -> Result<Vec<u8>, Leave>
         ensures hears { IfOk result (λ text. hears self.old text.items self.new) }
         ensures short { IfOk result (λ text. length text.items ≤ BODY) };
-    /// Tells a text.
+    /// Tells the visitor a text. `Err` with why its connection ends; then the text may be told or not.
     fn tell(&mut self, text: &[u8]) -> Result<(), Leave>
         ensures { OnOk result (tells self.old text.now self.new) };
 }
@@ -30,7 +31,8 @@ pub trait Desk {
     // What the reply to a request may be, and what it leaves.
     ghost asks: { Self → List ℕ → List ℕ → Self → Type 0 };
 
-    /// The text of the reply to the text of a request.
+    /// Asks the node what `text`, the text of a request, asks, waits, and returns the text of its reply. `Err` with why there is no
+    /// reply.
     fn ask(&mut self, text: &[u8]) -> Result<Vec<u8>, Leave>
         requires { length text.now ≤ BODY }
         ensures { IfOk result (λ reply. asks self.old text.now reply.items self.new) };
@@ -55,8 +57,9 @@ fn exchange<V: Visitor, D: Desk>(visitor: &mut V, desk: &mut D) -> Result<(), Le
     }
 }
 
-/// Holds a conversation until one side ends it, and returns why it ended: what the visitor handed over was asked, text by text in its order
-/// and nothing else, and each reply was told before the next text was taken. The last text may have no reply, or a reply that was not told.
+/// Takes a text from the visitor, asks it at the desk, tells the visitor the reply, and so on, until one of these fails. Returns why it
+/// ended. Texts are asked in their order and nothing else is asked, and each reply is told before the next text is taken. Only the last
+/// text may have no reply, or a reply that was not told.
 pub fn converse<V: Visitor, D: Desk>(visitor: &mut V, desk: &mut D) -> Leave
     ensures { (talk : List Exchange) × (v : V) × (d : D) × Talks V.hears V.tells D.asks visitor.old desk.old talk v d × BreaksOff V.hears D.asks v d visitor.new desk.new }
 {

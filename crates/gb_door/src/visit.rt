@@ -1,4 +1,4 @@
-//! One connection: what is asked on it, and how it is answered.
+//! One connection of a door: a request by HTTP, and its answer or a session by WebSocket.
 use crate::answer::answer;
 use crate::asked::{Asked, asked_for};
 use crate::deadline::Deadline;
@@ -74,7 +74,9 @@ fn hold<H: Net<Stream = TcpStream> + Clock>(
     true
 }
 
-/// Serves a connection until it ends.
+/// Serves one connection of a browser until it ends: reads the head of a request by HTTP, and writes the answer, or holds a session by
+/// WebSocket between the browser and the node of `door`. Answers nothing if no head comes in time, the connection ends, or memory runs
+/// out. What fails ends the connection and is not told.
 pub fn visit<H: Net<Stream = TcpStream> + Clock>(
     rt: &H,
     alloc: Global,

@@ -1,4 +1,4 @@
-//! The program from its words to its exit status.
+//! The program gb_web from its words to its exit status.
 ghost use Rattle.std.specs.Prelude.{◌≡◌, true};
 ghost use Rattle.std.specs.Io.KnownBytes.{Appends};
 
@@ -62,7 +62,8 @@ impl From<PageFault> for WebFault {
     }
 }
 
-/// Writes a text, so that it is seen at once. Returns false if it could not be written.
+/// Writes `text` to `writer` and flushes it, so that it is seen at once. Returns false if it could not be written; then a part of it may
+/// be.
 pub fn tell<W: Write>(writer: &mut W, text: &str) -> bool
     ensures { result ≡ true → Appends (W.contents writer.old) (W.contents writer.new) text.now }
 {
@@ -159,8 +160,9 @@ fn serve_words<
     Ok(())
 }
 
-/// Serves by words, whose first is the program's name, and writes where it serves, or why it does not. Returns the exit status: 0: all
-/// connections were served; 1: a fault; 2: the words are refused.
+/// Runs gb_web by the words of its command line, of which the first is the program's name: reads the page's files, listens, and serves
+/// connections until all that it is to serve have ended. Writes a line to `writer` that says where it serves, or why it does not. Returns
+/// the exit status: 0 if all connections were served, 2 if the words are refused, and 1 for any other fault.
 pub fn web_main<
     H: Net<Listener = TcpListener, Stream = TcpStream>
         + Threads

@@ -1,4 +1,4 @@
-//! The words of gb_web's command line.
+//! The command line of gb_web: its options, and the plan that its words make.
 ghost use Rattle.std.specs.Prelude.{◌≡◌, ◌≢◌, ◌⊎◌, IfOk, IfSome, IfNone, Some, None, codes, map, is_some, [], true, false, unwrap_or};
 ghost use Rattle.clap.specs.Words.{all_of, app_of, fault_of, found_of, matches_of, one_of, rows_of, rule_of, takes};
 ghost use Rattle.gb_serve_words.specs.Options.{HasAddress, IsAddressOf};
@@ -138,8 +138,8 @@ fn words_of<'a>(alloc: Global, matches: &ArgMatches<'a>) -> Result<WebWords<'a>,
     })
 }
 
-/// Returns what the words of a command line name and tell a door to do. The first word is the program's name. `Refused` if `clap` refuses
-/// the words, or if one of their addresses is none.
+/// Returns what the words of gb_web's command line tell a door to do. The first word is the program's name. Does no input or output.
+/// `Err` with `Refused` if `clap` refuses the words, or if the text of `--listen` or `--node` is no address, and with `OutOfMemory`.
 pub fn read_words<'a>(alloc: Global, words: &'a [&'a str]) -> Result<WebWords<'a>, WordFault>
     ensures given { IfOk result (λ read. IsReadOf (matches_of web_app (map (λ word. word.now) words.entry.now)) read) }
     ensures within { IfOk result (λ read. IsWithin read.plan) }
@@ -171,7 +171,7 @@ fn address_refusal(
     )
 }
 
-/// Returns why words are refused. It is empty if `read_words` takes them.
+/// Returns the text that says why `read_words` refuses these words. The text is empty if it takes them. `Err` if memory runs out.
 pub fn refusal_text(alloc: Global, words: &[&str]) -> Result<String, AllocError> {
     match command(alloc)?.try_get_matches_from(words) {
         Ok(matches) => {
@@ -185,8 +185,8 @@ pub fn refusal_text(alloc: Global, words: &[&str]) -> Result<String, AllocError>
     }
 }
 
-/// Returns the text that words ask for: the help, or, if the word behind the program's name is `-V`, its version. `None` if they ask for
-/// neither.
+/// Returns the text that the words ask for: the help, or, if the word behind the program's name is `-V`, the name and the version of the
+/// program. `None` if they ask for neither. `Err` if memory runs out.
 pub fn asked_text(alloc: Global, words: &[&str]) -> Result<Option<String>, AllocError>
     ensures taken { takes web_app (map (λ word. word.now) words.entry.now) ≡ true → IfOk result (λ text. text ≡ None) }
 {

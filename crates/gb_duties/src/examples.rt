@@ -1,5 +1,5 @@
-//! Worked examples of duties and of agreement. The group has the members 0, 1 and 2, and node 0 says one message. Each example
-//! is a law that the prover computes; there is no code.
+//! Worked examples of duties and of agreement in a group by itself, as laws that the prover computes; there is nothing to run. The group
+//! has the members 0, 1 and 2, and node 0 says one message. That a node holds another for crashed is called a notice.
 ghost use Rattle.std.specs.Prelude.{◌≡◌, false, ◌++◌, [], ◌∷◌};
 ghost use Rattle.gb_types.specs.Entry.{message_of};
 ghost use Rattle.gb_types.specs.Places.{has_majority};
@@ -11,14 +11,16 @@ ghost use Rattle.gb_duties.specs.Agreement.{AreEnough, IsSettled};
 ghost use Rattle.gb_duties.specs.Duties.{HasHad, noticed_at};
 ghost use Rattle.gb_duties.specs.Examples.{address, bounds, first, second, third, spec_of, message, at, opened, to_one, to_all, third_drops, loss, crash, runs, left_alone, only_first, log_in, put_in};
 
-/// A best-effort node has put out what it said. It does not relay what it delivered, whoever is noticed.
+/// A worked example of best effort in a group of nodes 0, 1 and 2, with nothing to run: node 0 has queued the message that it said for
+/// node 2. Node 1, which delivered the message, has queued nothing for node 2, even once it holds node 0 for crashed.
 pub fn a_best_effort_node_puts_out_its_own()
     ensures own { put_in kind.Beb to_one 0 2 ≡ message ∷ [] }
     ensures delivered { log_in kind.Beb to_one 1 ≡ message ∷ [] }
     ensures not_relayed { put_in kind.Beb (to_one ++ at second (Notice first) ∷ []) 1 2 ≡ [] }
 {}
 
-/// A lazy node owes nothing for another node's message until it notices the origin. From then on it has relayed the message.
+/// A worked example of lazy broadcast in a group of nodes 0, 1 and 2, with nothing to run: node 0 has queued the message that it said for
+/// node 2. Node 1, which delivered it, has queued nothing for node 2 at first, and the message once it holds node 0 for crashed.
 pub fn a_lazy_node_relays_from_the_notice_on()
     ensures own { put_in kind.Lazy to_one 0 2 ≡ message ∷ [] }
     ensures delivered { log_in kind.Lazy to_one 1 ≡ message ∷ [] }
@@ -26,14 +28,16 @@ pub fn a_lazy_node_relays_from_the_notice_on()
     ensures noticed { put_in kind.Lazy (to_one ++ at second (Notice first) ∷ []) 1 2 ≡ message ∷ [] }
 {}
 
-/// An eager node that delivered a message has put it out to each other member.
+/// A worked example of eager broadcast in a group of nodes 0, 1 and 2, with nothing to run: node 1, which delivered the message of node
+/// 0, has queued it for both other members at once.
 pub fn an_eager_node_relays_at_once()
     ensures delivered { log_in kind.Eager to_one 1 ≡ message ∷ [] }
     ensures relayed { put_in kind.Eager to_one 1 2 ≡ message ∷ [] }
     ensures relayed_back { put_in kind.Eager to_one 1 0 ≡ message ∷ [] }
 {}
 
-/// An all-ack node delivers a message once each other member had it or is noticed.
+/// A worked example of all-ack in a group of nodes 0, 1 and 2, with nothing to run: node 1, to which the message of node 0 came, has not
+/// delivered it. It has once the message has come from node 2 too, which took it in before, or once it holds node 2 for crashed.
 pub fn an_all_ack_node_waits_for_each_member()
     ensures not_yet { log_in kind.AllAck to_one 1 ≡ [] }
     ensures delivered { log_in kind.AllAck to_all 1 ≡ message ∷ [] }
@@ -41,8 +45,9 @@ pub fn an_all_ack_node_waits_for_each_member()
     ensures noticed { log_in kind.AllAck (to_one ++ at second (Notice third) ∷ []) 1 ≡ message ∷ [] }
 {}
 
-/// A member that had the message drops the group, which empties its log. What it relayed still comes, and makes the all-ack node
-/// deliver, with nobody noticed.
+/// A worked example of all-ack in a group of nodes 0, 1 and 2, with nothing to run: node 2 takes in the message of node 0, relays it and
+/// drops the group, which empties its log. What it relayed still comes to node 1, which then delivers the message, although it does not
+/// hold node 2 for crashed.
 pub fn a_member_that_dropped_the_group_had_the_message()
     ensures gone { log_in kind.AllAck third_drops 2 ≡ [] }
     ensures delivered { log_in kind.AllAck third_drops 1 ≡ message ∷ [] }
@@ -50,8 +55,9 @@ pub fn a_member_that_dropped_the_group_had_the_message()
     ensures had { HasHad (alone bounds address (opened kind.AllAck ++ third_drops)) 2 (message_of message) }
 {}
 
-/// A group settles after a crash. Node 0 stopped before its message went to node 2. Both running nodes have the message in their
-/// logs, since each relayed it.
+/// A worked example of first-in first-out lazy broadcast in a group of nodes 0, 1 and 2, with nothing to run: node 0 stopped before its
+/// message was carried to node 2, and nodes 1 and 2 hold it for crashed and relayed. The group is settled: nothing is in transit. Both
+/// running nodes have the message in their logs.
 pub fn a_group_settles_after_a_crash()
     ensures legal { IsLegal bounds address (opened kind.FifoLazy ++ crash) }
     ensures settled { IsSettled bounds address (opened kind.FifoLazy ++ crash) runs (spec_of kind.FifoLazy) }
@@ -59,8 +65,8 @@ pub fn a_group_settles_after_a_crash()
     ensures two { log_in kind.FifoLazy crash 2 ≡ message ∷ [] }
 {}
 
-/// A majority-ack node delivers a message once it knows that two of the three members have had it. Node 0, which said it, does
-/// not know that yet; node 1, to which it came, does.
+/// A worked example of majority-ack in a group of nodes 0, 1 and 2, with nothing to run: two of them have had the message. Node 1, to
+/// which it came from node 0, knows that and has delivered it. Node 0, which said it, does not know that yet and has not.
 pub fn a_majority_ack_node_waits_for_more_than_half()
     ensures not_yet { log_in kind.Majority to_one 0 ≡ [] }
     ensures delivered { log_in kind.Majority to_one 1 ≡ message ∷ [] }
@@ -68,8 +74,9 @@ pub fn a_majority_ack_node_waits_for_more_than_half()
     ensures had_second { HasHad (alone bounds address (opened kind.Majority ++ to_one)) 1 (message_of message) }
 {}
 
-/// A majority-ack group settles after the same crash. Two of the three members run, and both their logs have the message of the
-/// node that stopped.
+/// A worked example of first-in first-out majority-ack in a group of nodes 0, 1 and 2, with nothing to run: node 0 stopped before its
+/// message was carried to node 2, and the others relayed it. The group is settled, two of the three members run, and both their logs have
+/// the message.
 pub fn a_majority_ack_group_settles_after_a_crash()
     ensures legal { IsLegal bounds address (opened kind.FifoMajority ++ crash) }
     ensures settled { IsSettled bounds address (opened kind.FifoMajority ++ crash) runs (spec_of kind.FifoMajority) }
@@ -78,8 +85,9 @@ pub fn a_majority_ack_group_settles_after_a_crash()
     ensures two { log_in kind.FifoMajority crash 2 ≡ message ∷ [] }
 {}
 
-/// If two of the three members stopped, a majority-ack group settles too, but nothing is promised. The message that was accepted
-/// at the running member is in no log, although the others are noticed.
+/// A worked example of majority-ack in a group of nodes 0, 1 and 2, with nothing to run: nodes 1 and 2 stopped before the message came to
+/// them, and node 0, which said it, holds both for crashed. The group is settled, but nothing is promised without a majority: the message
+/// is not in the log of node 0.
 pub fn majority_ack_promises_nothing_without_a_majority()
     ensures legal { IsLegal bounds address (opened kind.Majority ++ left_alone) }
     ensures settled { IsSettled bounds address (opened kind.Majority ++ left_alone) only_first (spec_of kind.Majority) }
@@ -87,8 +95,8 @@ pub fn majority_ack_promises_nothing_without_a_majority()
     ensures undelivered { log_in kind.Majority left_alone 0 ≡ [] }
 {}
 
-/// With best effort a group settles after the same crash, and the message of the node that stopped is in only one of the two
-/// logs.
+/// A worked example of best effort in a group of nodes 0, 1 and 2, with nothing to run: node 0 stopped before its message was carried to
+/// node 2. The group is settled, and the message is in the log of node 1 and not in that of node 2.
 pub fn best_effort_does_not_agree()
     ensures legal { IsLegal bounds address (opened kind.Beb ++ loss) }
     ensures settled { IsSettled bounds address (opened kind.Beb ++ loss) runs (spec_of kind.Beb) }

@@ -1,17 +1,17 @@
-//! Laws of one group: what its nodes have done for each other, and what their logs have in common.
+//! Laws of a group by itself, without other tenants, links or frames: what its nodes have done for each other, and what their logs have
+//! in common. The functions have nothing to run.
 ghost use Rattle.gb_duties.specs.Agreement.{IsAgreed};
 ghost use Rattle.gb_duties.specs.Duties.{DeliveredAreOfMembers, IsDutiful, LoggedAreDelivered};
 
 use gb_fifo::order::{gives_up_whole_runs, top_is_the_greatest};
 use gb_stack::stands::module_logs;
 
-/// Duties: they hold after every event, at each node that made the group and did not drop it, for each message that was
-/// delivered there and each other member. An eager node, and a majority-ack node, has noticed the member or put the message out
-/// to it. A lazy node has done so if the message is its own or of an origin that it noticed, and a best-effort node if the
-/// message is its own. At an all-ack node the member is noticed, or has said the message or taken it in, whether or not it
-/// dropped the group since. At a majority-ack node more than half of the members have said the message or taken it in. Each
-/// message delivered at a node is of a member of the group, and each message in a log is delivered. All this holds whichever
-/// versions of the packet text the nodes send.
+/// A law, with nothing to run, of what each node that made a group, and did not drop it, has done for each other member and each message
+/// that it delivered, after every event. An eager or majority-ack node holds the member for crashed or has queued the message for it. A
+/// lazy node has done so if the message is its own or of an origin that it holds for crashed, and a best-effort node if the message is
+/// its own. At an all-ack node the member is held for crashed, or has had the message: said it or taken it in, whether or not it dropped
+/// the group since. At a majority-ack node more than half of the members have had the message. Each message delivered at a node is of a
+/// member of the group, and each message in a log is delivered. All this holds whichever versions of packets the nodes send.
 pub fn duties()
     ensures dutiful { IsDutiful }
     ensures members { DeliveredAreOfMembers }
@@ -21,11 +21,12 @@ pub fn duties()
     gives_up_whole_runs();
 }
 
-/// Agreement, if a group is settled, whichever nodes are taken as those that run. The logs of the running members hold each
-/// message that was accepted at a running member and, except with best effort, the same messages. With all-ack and majority-ack
-/// they also hold each message in the log of a member that stopped. With majority-ack all this needs more than half of the
-/// members to run. The members of a settled group all send one version of the packet text: if the versions differ, a member lets
-/// fall what is too long for its own.
+/// A law, with nothing to run, of a settled group: all members made it alike before the first message, no running member dropped it,
+/// nothing is in transit, and the running members hold the stopped members, and no other, for crashed. The logs of the running members
+/// hold each message that was accepted at a running member and, except with best effort, the same messages. With all-ack and majority-ack
+/// they also hold each message in the log of a member that stopped. With majority-ack all this needs more than half of the members to
+/// run. The members of a settled group all send one version of packets, since with different versions a member discards what is too long
+/// for its own.
 pub fn agreement()
     ensures { IsAgreed }
 {

@@ -1,4 +1,4 @@
-//! The layer that keeps each origin's order.
+//! The layer of first-in first-out order: it hands up the messages of each origin as 1, 2, 3, ..
 ghost use Rattle.std.specs.Prelude.{◌≡◌, ◌+◌, ◌≤◌, vec_len, vec_capacity};
 ghost use Rattle.gb_fifo.specs.Entries.{noted_by};
 ghost use Rattle.gb_fifo.specs.FifoMachine.{FifoState, fifo_next, fifo_gives};
@@ -24,7 +24,8 @@ pub struct Fifo<L> {
 }
 
 impl<L: Broadcast> Fifo<L> {
-    /// Returns a fifo over a layer to which no call was made yet.
+    /// Returns a first-in first-out layer over `lower`, a layer to which no call was made yet. It holds no message back yet. Takes no
+    /// memory.
     pub fn new(alloc: Global, lower: L) -> Self
         requires { L.is_fresh (L.meaning lower) }
         ensures lower { (⟦<Fifo<L> as Layer>⟧.meaning result).lower ≡ L.meaning lower }

@@ -1,4 +1,4 @@
-//! The entries of a fifo, in the order of first mention.
+//! What a fifo knows of each message: an entry for each, in the order in which they were first mentioned.
 ghost use Rattle.std.specs.Prelude.{◌≡◌, ℕ, ◌+◌, ◌≤◌, ◌<◌, ◌∷◌, [], ◌++◌, true, map, take, drop, length, slice_index, vec_len, vec_capacity, count_by};
 ghost use Rattle.std.specs.List.{list_any};
 ghost use Rattle.gb_types.specs.declared.limits.TheConstants.{NODES};
@@ -91,7 +91,7 @@ fn find_after(entries: &[Entry], places: Places, origin: NodeId, k: usize) -> Op
 }
 
 impl Ledger {
-    /// Returns a ledger without entries.
+    /// Returns an empty ledger, which keeps what a fifo knows of each message. Its table covers no message. Takes no memory.
     pub fn new(alloc: Global) -> Ledger
         ensures { result.list.items ≡ [] }
     {
@@ -102,7 +102,8 @@ impl Ledger {
         }
     }
 
-    /// Makes the table cover the members' messages numbered from 1 to `width`. There are no entries yet.
+    /// Makes the table, by which entries are found at once, cover the messages numbered 1 to `width` of each member, and takes its
+    /// memory. The ledger has no entries yet. `Err` if memory runs out.
     pub fn cover(&mut self, members: &NodeSet, width: u16) -> Result<(), OutOfMemory>
         requires { self.old.list.items ≡ [] }
         ensures { self.new.list ≡ self.old.list }
@@ -134,7 +135,8 @@ impl Ledger {
         }
     }
 
-    /// Adds an entry of `m` if there is none.
+    /// Adds an entry of `m` at the end, as a message that has not come from the layer below yet. Changes nothing if there is an entry of
+    /// `m` already. Takes no memory.
     pub fn note(&mut self, m: MsgId)
         requires { vec_len self.old.list + 1 ≤ vec_capacity self.old.list }
         ensures items { self.new.list.items ≡ noted self.old.list.items m }
@@ -254,8 +256,9 @@ fn take_out(ups: &mut Vec<Up>, first: usize, end: usize)
     ups.truncate(first + (count - end));
 }
 
-/// Receives, one by one, the messages that the layer below brought up: the pairs from index `first` on. Replaces these pairs by
-/// those that are handed up.
+/// Takes in at a fifo, one by one, the messages that the layer below brought up: those of `ups` from index `first` on. Records in
+/// `ledger` that they came. Replaces them in `ups` by the messages that the fifo hands up now: with each one, the next messages of its
+/// origin without a gap that have come, each once. Takes no memory.
 pub fn take_all(ledger: &mut Ledger, ups: &mut Vec<Up>, first: usize)
     requires first { first ≤ vec_len ups.old }
     requires room { count_by is_ungiven ledger.old.list.items ≤ free ups.old }

@@ -1,4 +1,4 @@
-//! Laws of the order in which a fifo hands messages up, over every layer below. They have no code.
+//! Laws of first-in first-out order: in which order a fifo hands messages up, over every layer below. The functions have nothing to run.
 ghost use Rattle.std.specs.Prelude.{◌≡◌, ℕ, ◌+◌, ◌≤◌, true, false, List, ◌++◌};
 ghost use Rattle.gb_types.specs.declared.node.NodeId.{NodeId};
 ghost use Rattle.gb_types.specs.declared.message.MsgId.{MsgId};
@@ -11,20 +11,23 @@ ghost use Rattle.gb_fifo.specs.OrderLaws.{AllIn, NoneTwice};
 use crate::fifo::Fifo;
 use gb_layer::{Broadcast, Layer};
 
-/// The top is the greatest number up to which each message of the origin is in the list; the next message is not.
+/// A law, with nothing to run: the top of an origin in a list of messages (`top`) is the greatest number up to which all its messages are
+/// in the list. The next one is not.
 pub fn top_is_the_greatest()
     ensures stand { (origin : NodeId) (delivered : List MsgId) (seq : ℕ) → 1 ≤ seq → seq ≤ top origin delivered → is_in delivered (numbered origin seq) ≡ true }
     ensures ends { (origin : NodeId) (delivered : List MsgId) → is_in delivered (numbered origin (top origin delivered + 1)) ≡ false }
 {}
 
-/// Over each history, whatever the layer below brings up, each origin's messages come up as 1, 2, 3, ..
+/// A law of a fifo over any layer, with nothing to run: after every list of calls, whatever the layer below brings up, the messages of
+/// each origin that the fifo has handed up are 1, 2, 3, .. without a gap.
 pub fn one_two_three<L: Broadcast>()
     ensures { (s : FifoState L.State) (past : List Call) → ⟦<Fifo<L> as Layer>⟧.is_fresh s
         → RunsFromOne (messages (all_ups ⟦<Fifo<L> as Layer>⟧.next ⟦<Fifo<L> as Layer>⟧.gives s past)) }
 {}
 
-/// Over each history, the messages that come up are those that the layer below brings up, in the order of each origin. A call hands
-/// up what its own messages from below release, given all that came up below before. It sends what the layer below sends.
+/// A law of a fifo over any layer, with nothing to run: over every list of calls, the messages that it hands up are those that the layer
+/// below brings up, put into the order of each origin (`in_order`). A call hands up what its own messages from below complete, given all
+/// that came from below before. It sends what the layer below sends.
 pub fn in_origin_order<L: Broadcast>()
     ensures up { (s : FifoState L.State) (past : List Call) (c : Call) → ⟦<Fifo<L> as Layer>⟧.is_fresh s
         → messages (⟦<Fifo<L> as Layer>⟧.gives (after ⟦<Fifo<L> as Layer>⟧.next s past) c).ups
@@ -35,13 +38,14 @@ pub fn in_origin_order<L: Broadcast>()
         → messages (all_ups ⟦<Fifo<L> as Layer>⟧.next ⟦<Fifo<L> as Layer>⟧.gives s past) ≡ in_order (messages (all_ups L.next L.gives s.lower past)) }
 {}
 
-/// The order grows at its end: messages that are delivered later change nothing of what was handed up before.
+/// A law, with nothing to run: messages that are delivered later only add to the end of the order. They change nothing of what was handed
+/// up before.
 pub fn grows_at_its_end()
     ensures { (earlier later : List MsgId) → in_order (earlier ++ later) ≡ in_order earlier ++ ordered_after earlier later }
 {}
 
-/// From any list of messages the order hands up each origin's messages from 1 to its top, in this order. Each is in the list and is
-/// handed up once, however often it is in the list.
+/// A law, with nothing to run: from any list of delivered messages, the order hands up each origin's messages from 1 to its top, rising.
+/// Each of them is in the list, and is handed up once, however often it is there.
 pub fn gives_up_whole_runs()
     ensures numbers { (origin : NodeId) (delivered : List MsgId) → numbers_of origin.number (in_order delivered) ≡ upto (top origin delivered) }
     ensures runs { (delivered : List MsgId) → RunsFromOne (in_order delivered) }

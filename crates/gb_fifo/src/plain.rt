@@ -1,4 +1,4 @@
-//! The order of each origin's messages, computed straight from its definition: slow, for short lists, to compare layers with.
+//! First-in first-out order of messages, computed straight from its definition: slow, for short lists, to compare layers with.
 ghost use Rattle.std.specs.Prelude.{◌≡◌, ◌++◌, drop, map, IfOk, OnOk};
 ghost use Rattle.gb_fifo.specs.Order as order;
 ghost use Rattle.gb_fifo.specs.Order.{numbered, upto};
@@ -50,7 +50,9 @@ fn add_numbered(
     Ok(())
 }
 
-/// Returns the delivered messages in the order of each origin. Each is held back until those before it were delivered.
+/// Returns the messages that first-in first-out order hands up, in that order, when `delivered` are delivered one by one: each is held
+/// back until those of its origin with lower numbers were delivered, and those that stay held back are left out. `Err` if memory runs
+/// out.
 pub fn in_order(alloc: Global, delivered: &[MsgId]) -> Result<Vec<MsgId>, OutOfMemory>
     ensures { IfOk result (λ given. given.items ≡ order.in_order delivered.now) }
 {

@@ -1,4 +1,4 @@
-//! The faults of bytes that are not a packet.
+//! Why bytes are not a packet.
 ghost use Rattle.std.specs.Prelude.{◌≡◌};
 
 use thiserror::Error;
@@ -41,7 +41,7 @@ pub enum PacketFault {
 impl PacketFault {
     ghost use Rattle.gb_frame.specs.Faults.{fault_number};
 
-    /// Returns the fault's number in the table of faults, from 1.
+    /// Returns the fault's number in the table of faults, 1 to 10, in the order in which they are tested.
     pub fn number(self) -> u8
         ensures { result ≡ fault_number self }
     {

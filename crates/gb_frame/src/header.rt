@@ -8,7 +8,7 @@ use crate::limits::{HEADER, TAG};
 use crate::number::{u16_at, u64_at};
 use gb_types::Version;
 
-/// Returns the version that the version byte stands for. Returns version 1 if it stands for none.
+/// Returns the version that the version byte of a packet's header stands for, or version 1 if it stands for none.
 pub fn version_of(bytes: &[u8]) -> Version
     requires { HEADER ≤ length bytes.now }
     ensures { result ≡ version_read bytes.now }
@@ -16,7 +16,7 @@ pub fn version_of(bytes: &[u8]) -> Version
     Version::from_byte(bytes[2]).unwrap_or(Version::One)
 }
 
-/// Returns the base of the header's acknowledgement: every frame with a lower number was received.
+/// Returns the base of the acknowledgement in a packet's header: each frame with a lower number was received. It is not tested here.
 pub fn base_of(bytes: &[u8]) -> u64
     requires { HEADER ≤ length bytes.now }
     ensures { result ≡ base_in bytes.now }
@@ -24,7 +24,8 @@ pub fn base_of(bytes: &[u8]) -> u64
     u64_at(bytes, 5)
 }
 
-/// Returns the mask of the header's acknowledgement: bit i is 1 if frame base + i was received.
+/// Returns the mask of the acknowledgement in a packet's header: bit i, of value 2 to the i, is 1 if frame base + i was received. It is
+/// not tested here.
 pub fn mask_of(bytes: &[u8]) -> u64
     requires { HEADER ≤ length bytes.now }
     ensures { result ≡ mask_in bytes.now }
@@ -32,7 +33,7 @@ pub fn mask_of(bytes: &[u8]) -> u64
     u64_at(bytes, 13)
 }
 
-/// Returns the number of the header's frame. It is 0 if the packet carries no frame.
+/// Returns the number of the frame that a packet's header names, or 0 if the packet carries no frame.
 pub fn frame_of(bytes: &[u8]) -> u64
     requires { HEADER ≤ length bytes.now }
     ensures { result ≡ frame_in bytes.now }
@@ -40,7 +41,7 @@ pub fn frame_of(bytes: &[u8]) -> u64
     u64_at(bytes, 21)
 }
 
-/// Returns the number of items that the header names.
+/// Returns the number of items that a packet's header names. Whether they are there is not tested here.
 pub fn count_of(bytes: &[u8]) -> u16
     requires { HEADER ≤ length bytes.now }
     ensures { result ≡ count_in bytes.now }
@@ -48,7 +49,7 @@ pub fn count_of(bytes: &[u8]) -> u16
     u16_at(bytes, 29)
 }
 
-/// Returns true if the first two bytes are `GB`.
+/// Returns true if the first two bytes of a packet's header are `GB`, and false otherwise.
 pub fn has_magic(bytes: &[u8]) -> bool
     requires { HEADER ≤ length bytes.now }
     ensures { result ≡ is_magic bytes.now }
@@ -56,7 +57,8 @@ pub fn has_magic(bytes: &[u8]) -> bool
     bytes[0] == b'G' && bytes[1] == b'B'
 }
 
-/// Returns true if sender and destination of a header are two different nodes below `nodes`.
+/// Returns true if the sender and the destination that a packet's header names are two different nodes below `nodes`, and false
+/// otherwise.
 pub fn has_nodes(nodes: u8, bytes: &[u8]) -> bool
     requires { HEADER ≤ length bytes.now }
     ensures { result ≡ is_between_nodes nodes bytes.now }
@@ -64,7 +66,7 @@ pub fn has_nodes(nodes: u8, bytes: &[u8]) -> bool
     bytes[3] < nodes && bytes[4] < nodes && bytes[3] != bytes[4]
 }
 
-/// Returns true if the acknowledgement's base is not 0 and bit 0 of its mask is clear.
+/// Returns true if the acknowledgement in a packet's header has a base above 0 and a mask whose bit 0 is 0, and false otherwise.
 pub fn has_acknowledgement(bytes: &[u8]) -> bool
     requires { HEADER ≤ length bytes.now }
     ensures { result ≡ is_acknowledgement bytes.now }
@@ -72,7 +74,7 @@ pub fn has_acknowledgement(bytes: &[u8]) -> bool
     base_of(bytes) > 0 && mask_of(bytes) % 2 == 0
 }
 
-/// Returns true if there are items if and only if the frame number is not 0.
+/// Returns true if a packet's header names a frame and at least one item, or neither. Returns false if it names only one of them.
 pub fn has_counted_frame(bytes: &[u8]) -> bool
     requires { HEADER ≤ length bytes.now }
     ensures { result ≡ is_counted bytes.now }
@@ -84,7 +86,7 @@ pub fn has_counted_frame(bytes: &[u8]) -> bool
     }
 }
 
-/// Returns the bytes between the header and the tag.
+/// Returns the bytes between the header and the tag of a packet: the texts of its items. They are not copied.
 pub fn texts_of(bytes: &[u8]) -> &[u8]
     requires { SHORTEST ≤ length bytes.now }
     ensures { result.now ≡ items_in bytes.now }

@@ -1,4 +1,4 @@
-//! Items, each a message of a group, and their texts.
+//! Items, each a message of a group on its way to a node, and how they are written in a packet and read again.
 ghost use Rattle.std.specs.Prelude.{◌≡◌, ◌+◌, ◌≤◌, ◌++◌, List, length, MatchOption, IsSome, All, None, Some, vec_len, vec_capacity};
 ghost use Rattle.gb_types.specs.declared.limits.TheConstants.{PAYLOAD};
 ghost use Rattle.gb_types.specs.Version.{limits_of};
@@ -42,7 +42,7 @@ ghost use Rattle.gb_frame.specs.declared.item.Item.{Item};
 impl Item {
     ghost use Rattle.gb_frame.specs.Packet.{item_of};
 
-    /// Returns the item as a view, with its payload where it is.
+    /// Returns the item as a view. The payload is not copied.
     pub fn view(&self) -> ItemView<'_>
         ensures { item_of result ≡ self.now }
     {
@@ -98,8 +98,8 @@ fn put_head(version: Version, item: ItemView<'_>, text: &mut Vec<u8>)
     }
 }
 
-/// Appends the text of an item in this version. Texts of versions 1 and 2 name no generation: their items are of generation 0.
-/// Takes no memory.
+/// Appends the text of an item in this version to `text`: its header and its payload. The item's generation is 0 in versions 1 and 2,
+/// whose texts name none. Takes no memory: `text` has room for it.
 pub fn put_item(version: Version, item: ItemView<'_>, text: &mut Vec<u8>)
     requires generation { HasGeneration version (item_of item) }
     requires payload { length item.payload.now ≤ PAYLOAD }
@@ -115,7 +115,7 @@ pub fn put_item(version: Version, item: ItemView<'_>, text: &mut Vec<u8>)
     append(text, payload);
 }
 
-/// Appends the texts of items in this version. Takes no memory.
+/// Appends the texts of the items in this version to `text`, one after the other. Takes no memory: `text` has room for them.
 pub fn put_items(version: Version, items: &[Item], text: &mut Vec<u8>)
     requires generations { All (HasGeneration version) items.now }
     requires payloads { All (λ i. length i.payload ≤ PAYLOAD) items.now }
@@ -141,8 +141,8 @@ fn generation_of(version: Version, texts: &[u8]) -> u32
     }
 }
 
-/// Returns the item at the front of these texts, and the texts behind it. `None` if there is no whole item, or if its payload is
-/// longer than the limit. Takes no memory.
+/// Returns the item at the front of `texts`, without copying its payload, and the bytes behind it. `None` if the bytes do not begin with
+/// a whole item of this version, or if its payload is longer than `limit` bytes. Takes no memory.
 #[tactic(auto, unfolding(crate::specs::Reading::item_at))]
 pub fn first_item(version: Version, limit: usize, texts: &[u8]) -> Option<(ItemView<'_>, &[u8])>
     ensures { MatchOption result (item_at version limit texts.now ≡ None) (λ x. item_at version limit texts.now ≡ Some (item_of x.0, x.1.now)) }
@@ -182,7 +182,7 @@ pub(crate) fn skip_items(version: Version, limit: usize, count: u16, texts: &[u8
     Some(rest)
 }
 
-/// Returns the number of items that have these texts in this version. Takes no memory.
+/// Returns how many items of this version `texts` has, which are the texts of whole items and nothing else. Takes no memory.
 pub fn count_items(version: Version, texts: &[u8]) -> u16
     requires { length texts.now ≤ ROOM }
     ensures { (items : List Item) → AreTexts version texts.now items → result ≡ length items }

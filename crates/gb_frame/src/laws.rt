@@ -1,23 +1,23 @@
-//! Laws of the packet text: calls with nothing to run, whose contracts are the laws.
+//! Laws of how packets are written as bytes and read. The functions have nothing to run: their contracts are the laws.
 ghost use Rattle.gb_frame.specs.Batch.{TextsTellItems};
 ghost use Rattle.gb_frame.specs.Laws.{OneTextHasOnePacket, OnePacketHasOneText, WhatIsWrittenIsRead};
 
-/// Bytes are the text of at most one packet, under a key.
+/// A law, with nothing to run: under one key, the same bytes are the text of at most one packet.
 pub fn one_text_has_one_packet()
     ensures { OneTextHasOnePacket }
 {}
 
-/// A packet has one text under a key.
+/// A law, with nothing to run: under one key, a packet has at most one text.
 pub fn one_packet_has_one_text()
     ensures { OnePacketHasOneText }
 {}
 
-/// A packet's text is read as that packet.
+/// A law, with nothing to run: the text of a packet under a key is read under that key as the same packet.
 pub fn what_is_written_is_read()
     ensures { WhatIsWrittenIsRead }
 {}
 
-/// Texts of items determine the items, in each version.
+/// A law, with nothing to run: in each version, the texts of items, one after the other, are read as exactly these items.
 pub fn texts_tell_items()
     ensures { TextsTellItems }
 {}

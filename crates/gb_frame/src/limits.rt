@@ -25,7 +25,8 @@ const _: () = prove!(HEADER == 31 && TAG == 8);
 
 const _: () = prove!(NODES == 32 && PAYLOAD == 4_096 && PACKET == 16_384);
 
-/// Returns the greatest number of bytes of the items of a packet of this version.
+/// Returns the greatest number of bytes that all items of a packet of this version have together: its longest packet without header and
+/// tag.
 pub fn room(version: Version) -> usize
     ensures value { result ≡ room_of version }
     ensures most { result ≤ ROOM }

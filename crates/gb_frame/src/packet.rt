@@ -1,4 +1,4 @@
-//! Packets, and which of them can be written.
+//! Packets, what one node sends another at once, as values, and which of them can be written.
 ghost use Rattle.std.specs.Prelude.{◌≡◌, ◌↔◌, ◌+◌, ◌≤◌, length, IsTrue, IsSome, IfSome, All};
 ghost use Rattle.gb_types.specs.Version.{limits_of};
 ghost use Rattle.gb_frame.specs.Room.{room_of};
@@ -40,8 +40,8 @@ pub struct Packet {
 ghost use Rattle.gb_frame.specs.Packet.{content, packet_of};
 ghost use Rattle.gb_frame.specs.Spelling.{items_text, IsWithinLimits};
 
-/// Returns the number of bytes that a packet of this version has left beside these items. `None` if the items do not fit, or if a
-/// payload is longer than the version allows.
+/// Returns how many bytes of items a packet of this version can take beside `items`, 0 if it is full. `None` if the items do not fit, or
+/// if a payload is longer than the version allows.
 pub fn room_beside(version: Version, items: &[Item]) -> Option<usize>
     ensures fits { IsSome result ↔ (All (λ i. length i.payload ≤ (limits_of version).payload) items.now × (length (items_text version items.now) ≤ room_of version)) }
     ensures left { IfSome result (λ room. length (items_text version items.now) + room ≡ room_of version) }
@@ -63,7 +63,7 @@ pub fn room_beside(version: Version, items: &[Item]) -> Option<usize>
 }
 
 impl Packet {
-    /// Returns the packet without its items.
+    /// Returns the fields of the packet without its items.
     pub fn head(&self) -> Head
         ensures { packet_of result self.now.items.items ≡ content self.now }
     {
@@ -77,7 +77,9 @@ impl Packet {
         }
     }
 
-    /// Returns true if this packet can be written.
+    /// Returns true if the packet keeps to the limits of its version: two different nodes that the version can name, an acknowledgement
+    /// with a base above 0 and bit 0 of the mask 0, a frame if and only if there are items, and items that fit. Returns false otherwise.
+    /// That the version can name the items' generations is not tested.
     pub fn is_within_limits(&self) -> bool
         ensures { IsTrue result ↔ IsWithinLimits (content self.now) }
     {

@@ -1,4 +1,4 @@
-//! Reading packets.
+//! Reading packets from bytes.
 ghost use Rattle.std.specs.Prelude.{◌≡◌, Ok, IfOk, IfErr, is_ok, true};
 ghost use Rattle.gb_frame.specs.Packet.{Content};
 ghost use Rattle.gb_frame.specs.Reading.{fault_in, reading};
@@ -55,8 +55,8 @@ fn first_fault(bytes: &[u8], key: &HmacKey) -> Option<PacketFault>
     None
 }
 
-/// Returns the packet that these bytes are under a key, or the first fault. The payloads stay where they are in the bytes, so the
-/// result lives no longer than the bytes. The call takes no memory, so its error has no case for that.
+/// Returns the packet that these bytes are under `key`. The payloads stay where they are in the bytes, so the result lives no longer than
+/// the bytes. Takes no memory. `Err` with the first fault, in the order of `PacketFault`, if the bytes are no packet under that key.
 pub fn decode<'a>(bytes: &'a [u8], key: &HmacKey) -> Result<PacketView<'a>, PacketFault>
     // The bytes are the text of the packet that is returned.
     ensures read { IfOk result (IsText key.now bytes.now) }
@@ -72,8 +72,8 @@ pub fn decode<'a>(bytes: &'a [u8], key: &HmacKey) -> Result<PacketView<'a>, Pack
     }
 }
 
-/// Returns the packet that bytes are under a key, if it is known that they are one, as of a packet that a node wrote. Nothing is
-/// tested again, and no tag is computed.
+/// Returns the packet that these bytes are under `key`, if the caller knows that they are one, as of a packet that a node of the cluster
+/// wrote. Nothing is tested again, and no tag is computed. Takes no memory.
 pub fn decode_known<'a>(bytes: &'a [u8], key: &HmacKey) -> PacketView<'a>
     requires { is_ok (reading key.now bytes.now) ≡ true }
     ensures { reading key.now bytes.now ≡ Ok result }

@@ -8,7 +8,7 @@ use crate::limits::TAG;
 use gb_cap::HmacKey;
 use gb_cap::compare::count_differences;
 
-/// Returns the tag of a text under a key.
+/// Returns the tag of a packet whose bytes before the tag are `text`: the first 8 bytes of their HMAC-SHA-256 under `key`.
 #[tactic(auto, unfolding(crate::specs::Spelling::tag_of))]
 pub fn tag(text: &[u8], key: &HmacKey) -> [u8; TAG]
     ensures { result ≡ tag_of key.now text.now }
@@ -19,7 +19,7 @@ pub fn tag(text: &[u8], key: &HmacKey) -> [u8; TAG]
     ]
 }
 
-/// Returns true if the last bytes are the tag of the bytes before them.
+/// Returns true if the last 8 bytes are the tag of the bytes before them under `key`, and false otherwise.
 pub fn has_tag(bytes: &[u8], key: &HmacKey) -> bool
     requires { TAG ≤ length bytes.now }
     ensures { result ≡ is_tagged key.now bytes.now }

@@ -1,4 +1,4 @@
-//! Packets whose payloads stay where they were read.
+//! Packets that were read, and their items: the payloads stay where they were read.
 ghost use Rattle.std.specs.Prelude.{◌≡◌, ◌≤◌, ◌<◌, List, [], length, Some};
 ghost use Rattle.std.specs.Iterator.{YieldsFirstBy, item_count};
 ghost use Rattle.gb_types.specs.declared.limits.TheConstants.{NODES};
@@ -59,21 +59,21 @@ impl<'a> PacketView<'a> {
         }
     }
 
-    /// Returns the packet without its items.
+    /// Returns the fields of the packet without its items.
     pub fn head(&self) -> Head
         ensures { packet_of result self.now.items ≡ self.now }
     {
         self.head
     }
 
-    /// Returns the number of items.
+    /// Returns the number of the packet's items, 0 if it carries no frame.
     pub fn len(&self) -> u16
         ensures { result ≡ length self.now.items }
     {
         self.count
     }
 
-    /// Returns the items in turn. Neither the call nor the iteration takes memory.
+    /// Returns an iterator over the packet's items, in order. Neither the call nor the iteration takes memory.
     pub fn items(&self) -> ItemViews<'a>
         ensures { result ≡ self.now.items }
     {
@@ -102,8 +102,8 @@ impl<'a> Model for ItemViews<'a> {
 }
 
 impl<'a> ItemViews<'a> {
-    /// Returns in turn the items whose texts in this version are at the front of `texts`, with no packet round them. Takes no
-    /// memory.
+    /// Returns an iterator over the items whose texts in this version are at the front of `texts`, with no packet round them. It ends
+    /// where no whole item follows. Neither the call nor the iteration takes memory.
     pub fn of_texts(version: Version, texts: &'a [u8]) -> ItemViews<'a>
         ensures { result ≡ batch_in version texts.now }
     {

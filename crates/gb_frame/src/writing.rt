@@ -1,4 +1,4 @@
-//! Writing packets.
+//! Writing packets as bytes.
 ghost use Rattle.std.specs.Prelude.{◌≡◌, ◌+◌, ◌≤◌, ◌++◌, List, length, drop, All, IfOk, vec_len, vec_capacity};
 ghost use Rattle.gb_frame.specs.declared.limits.TheConstants.{HEADER, TAG, SHORTEST};
 ghost use Rattle.gb_frame.specs.declared.item.Item.{Item};
@@ -47,7 +47,8 @@ fn put_tag(start: usize, key: &HmacKey, text: &mut Vec<u8>)
     append(text, &end);
 }
 
-/// Returns the one text of a packet under a key.
+/// Returns the bytes of a packet, in memory that it takes: header, items and the tag under `key`. The caller knows that the packet keeps
+/// to its limits. `Err` if memory runs out.
 pub fn encode(alloc: Global, packet: &Packet, key: &HmacKey) -> Result<Vec<u8>, OutOfMemory>
     requires limits { IsWithinLimits (content packet.now) }
     requires generations { All (HasGeneration packet.now.version) (content packet.now).items }
@@ -62,8 +63,9 @@ pub fn encode(alloc: Global, packet: &Packet, key: &HmacKey) -> Result<Vec<u8>, 
     Ok(text)
 }
 
-/// Appends the text of the packet with this head and `count` items, as `encode` returns it. `texts` are the texts of the items in
-/// the head's version, which `put_item` wrote. Takes no memory.
+/// Appends the bytes of the packet with this head and `count` items to `packet`, as `encode` returns them: header, items and the tag
+/// under `key`. `texts` are the texts of the items in the head's version, as `put_item` writes them. Takes no memory: `packet` has room
+/// for it.
 pub fn wrap(head: Head, count: u16, texts: &[u8], key: &HmacKey, packet: &mut Vec<u8>)
     requires packet { (items : List Item) × AreTexts head.version texts.now items × (length items ≡ count) × IsWithinLimits (packet_of head items) }
     requires room { vec_len packet.old + SHORTEST + length texts.now ≤ vec_capacity packet.old }

@@ -204,7 +204,7 @@ fn no_places(alloc: Global) -> [PlaceSet; NODES]
 }
 
 impl Groups {
-    /// Returns the groups of a new node: none.
+    /// Returns the groups of a new node: no rooms and no groups. Takes no memory.
     pub fn new(alloc: Global) -> Groups
         ensures { result ≡ no_groups }
     {
@@ -218,7 +218,7 @@ impl Groups {
         }
     }
 
-    /// Returns the number of groups that a list has: those that live here, and those that were dropped and whose places were not
+    /// Returns the number of groups that `list` shows: those that live here, and those that were dropped and whose places were not
     /// taken since.
     pub fn used(&self) -> usize
         ensures { result ≡ length (used self.now.rows) }
@@ -226,7 +226,8 @@ impl Groups {
         self.slots.used()
     }
 
-    /// Returns the place where the group with this address lives. `None` if it does not live here.
+    /// Returns the place where the group with this address lives, an index among the places of this node's rooms. `None` if it does
+    /// not live here.
     pub fn find(&self, addr: Addr) -> Option<usize>
         ensures place { result ≡ living_place addr self.now.rows }
         ensures at { IfSome result (λ place. Some place ≡ place_of addr self.now.rows) }
@@ -235,7 +236,8 @@ impl Groups {
         self.slots.living(addr)
     }
 
-    /// Returns true if the group, or a later generation of its room, was made here.
+    /// Returns true if the group with this address, or a later generation of its room, was made here. If so, it can be made here no
+    /// more.
     pub fn is_passed(&self, addr: Addr) -> bool
         ensures { result ≡ is_passed addr self.now.rooms }
     {
@@ -245,14 +247,14 @@ impl Groups {
         }
     }
 
-    /// Returns true if the group lives here, or can be made here no more.
+    /// Returns true if the group with this address lives here, or if it, or a later generation of its room, was made here.
     pub fn was_made(&self, addr: Addr) -> bool
         ensures { result ≡ is_some (group_in addr self.now) }
     {
         self.find(addr).is_some() || self.is_passed(addr)
     }
 
-    /// Returns the number of other generations of the group's room that live here.
+    /// Returns the number of other generations of the group's room that live here, 0 to 4. It is 0 if the room has no group here.
     pub fn others_living(&self, addr: Addr) -> usize
         ensures { result ≡ others_living addr self.now.rows }
     {
@@ -274,8 +276,10 @@ impl Groups {
         }
     }
 
-    /// Receives an item from a node, at a node that sends this version of the packet text. The item is let fall if it is longer
-    /// than a message may be here, if its group is not here, or by the group's rules.
+    /// Receives an item from the node `from` for the group that the item names. The group's broadcast may deliver the item to the
+    /// group's log, and may queue messages for other members. The item is discarded without effect in these cases: its origin is no
+    /// node, it is longer than a message of `version` may be, its group does not live here, or the group's rules discard it.
+    /// `version` is that of the packets that this node sends.
     pub fn item(&mut self, version: Version, from: NodeId, item: ItemView<'_>)
         ensures rows { self.new.rows ≡ item_came version from (view_item item.entry) self.old.rows }
         ensures rooms { self.new.rooms ≡ self.old.rooms }
@@ -300,7 +304,8 @@ impl Groups {
         }
     }
 
-    /// Records that a node acknowledged a message of a group.
+    /// Records in the group with this address that the node `dest` acknowledged the message `m`. Nothing changes if the group does
+    /// not live here.
     pub fn done(&mut self, dest: NodeId, addr: Addr, m: MsgId)
         ensures rows { self.new.rows ≡ on_address addr (slot_done dest m) self.old.rows }
         ensures rooms { self.new.rooms ≡ self.old.rooms }
@@ -312,9 +317,11 @@ impl Groups {
         }
     }
 
-    /// Makes a group, at the lowest free place of its room, at the node `me`, which has noticed these nodes. Its first group begins a
-    /// room, behind the others. Besides the group's own memory it takes memory for the room, and for two sets of each member: in each
-    /// 8 bytes for every 64 places, in a `Vec`, which doubles its capacity as it grows. No other call takes memory for the sets.
+    /// Makes a group, at the lowest free place of its room, at the node `me`. `noticed` are the nodes that `me` holds for crashed.
+    /// The first group of a room begins the room, behind the others. `Err` if memory is refused; then nothing has changed.
+    ///
+    /// It takes the group's own memory, memory for the room, and for each member two sets with 8 bytes for every 64 places. No
+    /// other call takes memory for the sets.
     pub fn make(
         &mut self,
         addr: Addr,
@@ -350,7 +357,8 @@ impl Groups {
         }
     }
 
-    /// Opens the group with this address and returns the reply: Ok, NoGroup, Spent or WrongPhase. After a refusal nothing has changed.
+    /// Opens the group with this address. Returns `Done`, or a refusal: `Spent` if the group was dropped or can be made no more,
+    /// `NoGroup` if it was not made yet, `WrongPhase` if it was opened before. After a refusal nothing has changed.
     pub fn open_group(&mut self, addr: Addr) -> Reply
         ensures reply { result ≡ group_reply open_answer addr self.old }
         ensures rooms { self.new.rooms ≡ self.old.rooms }
@@ -364,7 +372,8 @@ impl Groups {
         }
     }
 
-    /// Shuts the group with this address and returns the reply: Ok, NoGroup, Spent or WrongPhase. After a refusal nothing has changed.
+    /// Shuts the group with this address. Returns `Done`, or a refusal: `Spent` if the group was dropped or can be made no more,
+    /// `NoGroup` if it was not made yet, `WrongPhase` if it is not open. After a refusal nothing has changed.
     pub fn shut_group(&mut self, addr: Addr) -> Reply
         ensures reply { result ≡ group_reply shut_answer addr self.old }
         ensures rooms { self.new.rooms ≡ self.old.rooms }
@@ -378,8 +387,9 @@ impl Groups {
         }
     }
 
-    /// Drops the group with this address and returns the reply: Ok, NoGroup or Spent. What waits in the group is discarded, and its place
-    /// is free for another generation of its room.
+    /// Drops the group with this address. Returns `Done`, or a refusal: `Spent` if the group was dropped or can be made no more,
+    /// `NoGroup` if it was not made yet. What waits in the group is discarded, and its place is free for another generation of its
+    /// room. After a refusal nothing has changed.
     pub fn drop_group(&mut self, addr: Addr) -> Reply
         ensures reply { result ≡ group_reply drop_answer addr self.old }
         ensures rooms { self.new.rooms ≡ self.old.rooms }
@@ -398,8 +408,11 @@ impl Groups {
         }
     }
 
-    /// Says a payload in the group with this address and returns the reply. `place` is the place that `find` returned, and `version` that
-    /// of the packets that the node sends. The message gets the number `seq` if the caller names one.
+    /// Broadcasts a payload in the group with this address. Returns `Said` with the message's number. The message is then queued to
+    /// be sent to each other member that is not held for crashed. If the group does not live here, returns the refusal `Spent` or
+    /// `NoGroup`. Other refusals, in this order: `WrongPhase`, `BadPlace` if `seq` is given and is not the next number, `TooLong`,
+    /// `Budget`, `Bytes`, `Window`. After a refusal nothing has changed. `place` is what `find` returned, and `version` that of the
+    /// packets that the node sends.
     pub fn say(
         &mut self,
         version: Version,
@@ -427,8 +440,9 @@ impl Groups {
         }
     }
 
-    /// Returns the reply to a fetch of at most `most` entries of the log of the group with this address, from entry `from` on. `place` is
-    /// the place that `find` returned.
+    /// Returns at most `most` entries of the log of the group with this address, from entry `from` on, counted from 0, as `Log`.
+    /// Else returns a refusal: `Spent` or `NoGroup` if the group does not live here, `BadPlace` if `from` is beyond the log's end
+    /// or `most` is above 16, `OutOfMemory` if memory for the copies is refused. Changes nothing. `place` is what `find` returned.
     pub fn fetch(&self, addr: Addr, place: Option<usize>, from: u32, most: u32) -> Reply
         requires { place ≡ living_place addr self.now.rows }
         ensures { IsReply (group_reply (λ s. fetch_answer s from most) addr self.now) result }
@@ -439,7 +453,8 @@ impl Groups {
         }
     }
 
-    /// Returns up to `most` of the groups that live here or were dropped, from the `from`-th on, in the order of their places.
+    /// Returns up to `most` rows for the groups that live here or were dropped, in the order of their places, without the first
+    /// `from` of them. `Err` if memory is refused. Changes nothing.
     pub fn list(&self, from: usize, most: usize) -> Result<Vec<GroupRow>, OutOfMemory>
         ensures { IfOk result (λ rows. rows.items ≡ listed_from self.now.rows from most) }
     {
@@ -464,7 +479,8 @@ impl Groups {
         self.memberships[who.index()].next(from)
     }
 
-    /// Records in each group that a node is noticed. Groups that do not have it among their members take no time.
+    /// Records in each group that has the node `who` among its members that `who` is held for crashed. A group's broadcast may then
+    /// deliver messages, and may queue some to be sent. Other groups take no time.
     pub fn notice(&mut self, who: NodeId)
         ensures rows { self.new.rows ≡ map (on_slot (slot_noticed who)) self.old.rows }
         ensures rooms { self.new.rooms ≡ self.old.rooms }
@@ -477,8 +493,9 @@ impl Groups {
         }
     }
 
-    /// Returns the number of items of this version in the next batch for `dest` of at most `room` bytes, and the number of their
-    /// bytes. `room` is at most 65,535. If `room` holds the longest message, a batch without items means that nothing waits.
+    /// Returns two numbers: how many items the next batch for `dest` has, as text of `version` in at most `room` bytes, and the
+    /// number of their bytes. `room` is at most 65,535. Changes nothing. If `room` holds the longest message, 0 items means that
+    /// nothing waits for `dest`.
     pub fn measure(&self, version: Version, dest: NodeId, room: usize) -> (u16, usize)
         requires { room ≤ 65535 }
         ensures count { result.0 ≡ length (batch version dest.number room self.now) }
@@ -499,9 +516,9 @@ impl Groups {
         )
     }
 
-    /// Appends the items of the next batch for `dest`, as text of this version. The batch is the longest front of the walk that
-    /// fits into the room, at most 65,535 bytes. `count` and the capacity of `out` are those that `measure` returned. Takes no
-    /// memory.
+    /// Takes the items of the next batch for `dest` out of their groups' queues and appends them to `out`, as text of `version`.
+    /// The batch is the longest front of the walk round the groups that fits into `room` bytes. The next batch for `dest` begins
+    /// where this one ended. `count` is the number that `measure` returned, and `out` has capacity for the bytes. Takes no memory.
     pub fn pack_into(
         &mut self,
         version: Version,

@@ -1,4 +1,5 @@
-//! The walk round the groups. It takes no time for groups where nothing waits.
+//! The walk round a node's groups, by which packing chooses the waiting items of a batch, one item a visit. It takes no time for groups
+//! where nothing waits.
 ghost use Rattle.std.specs.Prelude.{◌≡◌, ◌<◌, ◌≤◌, ◌+◌, ◌*◌, ◌++◌, [], length, take, sum_by, slice_index_or, All, IfSome, MatchOption, vec_len, vec_capacity};
 ghost use Rattle.gb_frame.specs.Spelling.{items_text, IsItem};
 ghost use Rattle.gb_groups.specs.Ahead.{ahead, IsActive, IsTurn};
@@ -13,7 +14,9 @@ use crate::slots::Slots;
 use gb_rules::room::GENERATIONS;
 use gb_types::{NodeId, Version};
 
-/// Returns the first place from `from` on, going round, where something waits for `dest`.
+/// Returns the first place, from `from` on, of a group where an item waits for the node `dest`. Behind the last place the search
+/// goes on at place 0. `None` if nothing waits for `dest` in any group. `busy` is the set of the places where something waits for
+/// `dest`.
 pub fn next_place(slots: &Slots, busy: &PlaceSet, dest: NodeId, from: usize) -> Option<usize>
     requires from { from ≤ length slots.now.rows }
     requires index { IsBusy dest.number busy.now slots.now.rows }
@@ -34,8 +37,10 @@ pub fn next_place(slots: &Slots, busy: &PlaceSet, dest: NodeId, from: usize) -> 
     }
 }
 
-/// Appends the next `count` items of the walk for `dest`, as text of this version, and marks them as sent. Returns the new cursor.
-/// Takes no memory.
+/// Takes the next `count` items of the walk round the groups for the node `dest`, which begins at place `from`, out of their
+/// groups' queues, and appends them to `out` as text of `version`. Changes the groups and `busy`. Returns the place where the next
+/// walk begins: that of the next item, or if nothing is left, the first place of the room behind the last item's. If `count` is 0
+/// and nothing waits, that is `from`. Takes no memory.
 pub fn advance(
     slots: &mut Slots,
     busy: &mut PlaceSet,
@@ -160,9 +165,10 @@ fn measure_busy<const N: usize>(
     (count, room - left)
 }
 
-/// Returns the number of items of the walk to a node that fit, as text of this version, and the number of their bytes. `busy` is
-/// the node's set of busy places. If it is not empty, it is copied: one word at a node of up to 64 groups, 8 words up to 512, else
-/// all.
+/// Returns two numbers: how many items of the walk round the groups for the node `dest`, from place `from` on, fit into `room`
+/// bytes as text of `version`, and the number of their bytes. `busy` is the set of the places where something waits for `dest`.
+/// Changes nothing. If `busy` is not empty, its words are copied to the stack: one at a node of up to 64 places, 8 up to 512, else
+/// all 64.
 pub fn measure(
     slots: &Slots,
     busy: &PlaceSet,

@@ -1,4 +1,5 @@
-//! Sets of places, 64 in a word.
+//! Sets of places (the indices at which a node keeps its groups), 64 in a word. A node has such sets for the groups where something
+//! waits for another node, and for the groups that have a node among their members.
 ghost use Rattle.std.specs.Prelude.{◌≡◌, ◌≢◌, ◌<◌, ◌≤◌, ◌+◌, ◌*◌, ◌/◌, ℕ, length, slice_index_or, max, IfSome, OnOk, OnErr, MatchOption};
 ghost use Rattle.gb_types.specs.declared.limits.TheConstants.{PLACES};
 ghost use Rattle.gb_groups.specs.PlaceSet.{has, IsNext, IsSummary};
@@ -28,7 +29,7 @@ impl Model for PlaceSet {
 }
 
 impl PlaceSet {
-    /// Returns the empty set. It has no words, and takes no memory.
+    /// Returns the empty set of places, the indices of a node's groups. It has no words, and takes no memory.
     pub fn new(alloc: Global) -> PlaceSet
         ensures { (p : ℕ) → has result p ≡ 0 }
     {
@@ -38,8 +39,8 @@ impl PlaceSet {
         }
     }
 
-    /// Makes the set have words for the places up to `place`, 8 bytes for each 64 places. If memory is refused, the set stays as it
-    /// was.
+    /// Reserves words for the places up to `place`, 8 bytes for each 64 places. The set's places stay the same. `Err` if memory is
+    /// refused; then the set is as before.
     pub fn cover(&mut self, place: usize) -> Result<(), OutOfMemory>
         requires { place < PLACES }
         ensures same { (p : ℕ) → has self.new p ≡ has self.old p }
@@ -54,7 +55,8 @@ impl PlaceSet {
         Ok(())
     }
 
-    /// Returns the words of the first 64 * N places. `None` if the set has more words.
+    /// Returns the set's words, followed by zeros, as the words of the first 64 * N places. `None` if the set has more than N
+    /// words.
     pub fn first_words<const N: usize>(&self) -> Option<[u64; N]>
         requires { N ≤ 64 }
         ensures same { IfSome result (λ words. (p : ℕ) → has words p ≡ has self.now p) }
@@ -66,7 +68,8 @@ impl PlaceSet {
         Some(padded(&self.words))
     }
 
-    /// Returns the words of all places.
+    /// Returns the set's words, followed by zeros, as the words of all 4,096 places. Bit `p % 64` of word `p / 64` is 1 if place
+    /// `p` is in the set.
     pub fn words(&self) -> [u64; 64]
         ensures same { (p : ℕ) → has result p ≡ has self.now p }
         ensures summary { (summary : ℕ) → IsSummary self.now summary → IsSummary result summary }
@@ -74,21 +77,21 @@ impl PlaceSet {
         padded(&self.words)
     }
 
-    /// Returns the summary: bit `n` is 1 if word `n` has a place.
+    /// Returns a word whose bit `n` is 1 if word `n` of the set is not 0.
     pub fn summary(&self) -> u64
         ensures { IsSummary self.now result }
     {
         self.summary
     }
 
-    /// Returns the least place of the set that is `from` or greater.
+    /// Returns the least place of the set that is `from` or greater. `None` if the set has no such place.
     pub fn next(&self, from: usize) -> Option<usize>
         ensures { MatchOption result ((p : ℕ) → from ≤ p → has self.now p ≡ 0) (λ q. IsNext self.now from q) }
     {
         next_of(&self.words, self.summary, from)
     }
 
-    /// Removes a place from the set.
+    /// Removes `place` from the set. Nothing changes if it is not there.
     pub fn remove(&mut self, place: usize)
         ensures here { has self.new place ≡ 0 }
         ensures others { (p : ℕ) → p ≢ place → has self.new p ≡ has self.old p }
@@ -99,7 +102,7 @@ impl PlaceSet {
         }
     }
 
-    /// Inserts a place into the set, which has a word for it.
+    /// Inserts `place` into the set. The set must have a word for it (`cover`). Takes no memory.
     pub fn insert(&mut self, place: usize)
         requires { place < 64 * length self.old }
         ensures here { has self.new place ≡ 1 }
@@ -122,7 +125,8 @@ fn padded<const N: usize>(words: &[u64]) -> [u64; N]
     padded
 }
 
-/// Returns the least place of a set that is `from` or greater, by its words and their summary.
+/// Returns the least place that is `from` or greater of the set with these words. `None` if it has no such place. Bit `n` of
+/// `summary` is 1 if word `n` is not 0.
 pub fn next_of(words: &[u64], summary: u64, from: usize) -> Option<usize>
     requires few { length words.now ≤ 64 }
     requires summary { IsSummary words.now summary }
@@ -145,7 +149,7 @@ pub fn next_of(words: &[u64], summary: u64, from: usize) -> Option<usize>
     Some(index * 64 + words[index].trailing_zeros() as usize)
 }
 
-/// Removes a place from a set, by its words and their summary.
+/// Removes `place` from the set with these words, and clears the word's bit in `summary` if the word becomes 0.
 pub fn remove_of(words: &mut [u64], summary: &mut u64, place: usize)
     requires few { length words.old ≤ 64 }
     requires place { place < 64 * length words.old }

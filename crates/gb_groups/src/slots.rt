@@ -1,4 +1,5 @@
-//! The places of a node's rooms, and the slots of the groups that live there.
+//! The slots of the groups that live at a node (a slot is one group there: its messages, its log and what waits to be sent), and the
+//! places of the node's rooms, at which they are found.
 ghost use Rattle.std.specs.Prelude.{◌≡◌, ◌<◌, ◌≤◌, ◌+◌, ◌&&◌, not, [], ℕ, Some, None, is_some, count_by, take, drop, length, slice_get, slice_index_or, slice_set, position, ◌++◌, OnOk, if◌then◌else◌, OnErr, IfOk, true, false, IfSome, MatchOption, vec_len, vec_capacity};
 ghost use Rattle.gb_types.specs.declared.limits.TheConstants.{PAYLOAD, PLACES};
 ghost use Rattle.gb_rules.specs.Address.{is_addr};
@@ -92,7 +93,7 @@ fn is_at(places: &IndexMap<Addr, Place>, place: usize, addr: Addr) -> bool
 }
 
 impl Slots {
-    /// Returns the slots of a new node: none.
+    /// Returns the slots of a new node: no places and no groups. Takes no memory.
     pub fn new(alloc: Global) -> Slots
         ensures { result.rows ≡ [] }
     {
@@ -104,7 +105,7 @@ impl Slots {
         }
     }
 
-    /// Returns the number of places.
+    /// Returns the number of places, four for each room that was begun.
     pub fn len(&self) -> usize
         ensures len { result ≡ length self.now.rows }
         ensures counters { HaveCounters self.now.rows }
@@ -125,7 +126,7 @@ impl Slots {
         }
     }
 
-    /// Returns the first place from `from` on where no group lives. The number of places if groups live at all of them.
+    /// Returns the first place from `from` on where no group lives, or the number of places if a group lives at each of them.
     pub fn first_free(&self, from: usize) -> usize
         requires { from ≤ length self.now.rows }
         ensures { result ≡ first_free from self.now.rows }
@@ -162,8 +163,9 @@ impl Slots {
         }
     }
 
-    /// Returns the place of the group that was last made with this address. The place that was last used and the place in the next
-    /// room that answers to it are compared first, since the items of a frame are mostly in that order.
+    /// Returns the place of the group that was last made with this address, whether it lives or was dropped. `None` if its place
+    /// was never taken, or was taken again. The place that was last used and the place in the next room are compared first, since
+    /// the items of a frame are mostly in that order.
     pub fn find(&self, addr: Addr) -> Option<usize>
         ensures place { result ≡ position (λ row. is_addr addr row.addr) self.now.rows }
         ensures apart { AreApart self.now.rows }
@@ -179,7 +181,8 @@ impl Slots {
         self.places.get_index_of(&addr)
     }
 
-    /// Returns the place where the group with this address lives. `None` if it does not live here.
+    /// Returns the place where the group with this address lives. `None` if it was never made here, was dropped, or its place was
+    /// taken again.
     pub fn living(&self, addr: Addr) -> Option<usize>
         ensures place { result ≡ living_place addr self.now.rows }
         ensures at { IfSome result (λ place. Some place ≡ place_of addr self.now.rows) }
@@ -193,7 +196,7 @@ impl Slots {
         }
     }
 
-    /// Returns the slot of the group at a place. `None` if the group was dropped.
+    /// Returns the slot of the group that lives at a place. `None` if no group lives there.
     pub fn slot(&self, place: usize) -> Option<&Slot>
         ensures slot { MatchOption result ((row_at self.now.rows place).slot ≡ None) (λ s. (row_at self.now.rows place).slot ≡ Some s.now) }
         ensures short { IfSome result (λ s. IsShort PAYLOAD (Some s.now)) }
@@ -204,7 +207,7 @@ impl Slots {
         self.slots.get(key)
     }
 
-    /// Returns the address of the group at a place.
+    /// Returns the address of the group that was last made at a place. It has tenant 0 if none was made there.
     pub fn addr(&self, place: usize) -> Addr
         requires { place < length self.now.rows }
         ensures { result ≡ (row_at self.now.rows place).addr }
@@ -213,8 +216,8 @@ impl Slots {
         *addr
     }
 
-    /// Returns the payload length, in bytes, of item `nth` (from 0) of those that wait for `dest` in the group at a place, and the
-    /// number of items that wait. Inlined: packing calls it once an item.
+    /// Returns two numbers for the group at a place: the payload length, in bytes, of item `nth` (from 0) of those that wait for
+    /// `dest`, and how many items wait for `dest`. Inlined: packing calls it once an item.
     #[inline(always)]
     pub fn measure_at(&self, place: usize, dest: NodeId, nth: usize) -> (usize, usize)
         requires { nth < length (queue dest.number (row_at self.now.rows place)) }
@@ -229,8 +232,8 @@ impl Slots {
         (payload.len(), slot.waiting_for(dest))
     }
 
-    /// Appends the first item that waits for `dest` in the group at a place, as text of this version, and marks it as sent. Returns
-    /// the number of items that wait afterwards. Takes no memory.
+    /// Takes the first item that waits for `dest` in the group at a place, and appends it to `out` as text of `version`. Returns
+    /// the number of items that still wait for `dest` there. Takes no memory.
     pub fn give(&mut self, version: Version, place: usize, dest: NodeId, out: &mut Vec<u8>) -> usize
         requires place { place < length self.old.rows }
         requires named { AreNamed version self.old.rows }
@@ -255,8 +258,9 @@ impl Slots {
         slot.waiting_for(dest)
     }
 
-    /// Receives an item from a node into the group at a place. Returns true if something was put out. If so, something waits for
-    /// each node that the group reaches; if not, as many items wait for each node as before.
+    /// Receives an item from the node `from` into the group at a place. Returns true if the group queued a message to be sent; then
+    /// something waits for each other member that is not held for crashed. Returns false if it queued none, or if no group lives
+    /// there; then as many items wait for each node as before.
     pub fn came(
         &mut self,
         place: usize,
@@ -279,7 +283,7 @@ impl Slots {
         false
     }
 
-    /// Records that a node acknowledged a message of the group at a place.
+    /// Records in the group at a place that the node `dest` acknowledged the message `m`. Nothing changes if no group lives there.
     pub fn done(&mut self, place: usize, dest: NodeId, m: MsgId)
         ensures { self.new.rows ≡ slice_set self.old.rows place (on_slot (slot_done dest m) (row_at self.old.rows place)) }
     {
@@ -291,7 +295,8 @@ impl Slots {
         }
     }
 
-    /// Records in the group at a place that a node is noticed.
+    /// Records in the group at a place that the node `who` is held for crashed. The group's broadcast may then deliver messages,
+    /// and may queue some to be sent. Nothing changes if no group lives there.
     pub fn notice(&mut self, place: usize, who: NodeId)
         ensures { self.new.rows ≡ slice_set self.old.rows place (on_slot (slot_noticed who) (row_at self.old.rows place)) }
     {
@@ -302,7 +307,8 @@ impl Slots {
         }
     }
 
-    /// Opens the group at a place and returns the reply. Spent if it was dropped.
+    /// Opens the group at a place. Returns `Done`, or a refusal: `Spent` if no group lives there, `WrongPhase` if it was opened
+    /// before. After a refusal nothing has changed.
     pub fn open_group(&mut self, place: usize) -> Reply
         ensures reply { result ≡ unless_gone open_answer (row_at self.old.rows place).slot }
         ensures rows { self.new.rows ≡ slice_set self.old.rows place (on_slot (slot_moved Phase.Opened result) (row_at self.old.rows place)) }
@@ -315,7 +321,8 @@ impl Slots {
         Reply::Refused(Refusal::Spent)
     }
 
-    /// Shuts the group at a place and returns the reply. Spent if it was dropped.
+    /// Shuts the group at a place. Returns `Done`, or a refusal: `Spent` if no group lives there, `WrongPhase` if it is not open.
+    /// After a refusal nothing has changed.
     pub fn shut_group(&mut self, place: usize) -> Reply
         ensures reply { result ≡ unless_gone shut_answer (row_at self.old.rows place).slot }
         ensures rows { self.new.rows ≡ slice_set self.old.rows place (on_slot (slot_moved Phase.Shut result) (row_at self.old.rows place)) }
@@ -328,9 +335,10 @@ impl Slots {
         Reply::Refused(Refusal::Spent)
     }
 
-    /// Says a payload in the group at a place and returns the reply. `version` is that of the packets that the node sends. The message gets
-    /// the number `seq` if the caller names one. Spent if the group was dropped. A message that gets a number is put out: it waits for each
-    /// node that the group reaches.
+    /// Broadcasts a payload in the group at a place. Returns `Said` with the message's number. The message is then queued to be
+    /// sent to each other member that is not held for crashed. Refusals, in this order: `Spent` if no group lives there,
+    /// `WrongPhase`, `BadPlace` if `seq` is given and is not the next number, `TooLong`, `Budget`, `Bytes`, `Window`. After a
+    /// refusal the group is as before. `version` is that of the packets that the node sends.
     pub fn say(&mut self, version: Version, place: usize, seq: Option<u32>, payload: &[u8]) -> Reply
         ensures reply { result ≡ unless_gone (λ s. say_answer version s (record { payload = payload.now; seq = seq })) (row_at self.old.rows place).slot }
         ensures rows { self.new.rows ≡ slice_set self.old.rows place (on_slot (slot_said payload.now result) (row_at self.old.rows place)) }
@@ -345,8 +353,9 @@ impl Slots {
         Reply::Refused(Refusal::Spent)
     }
 
-    /// Returns the reply to a fetch of at most `most` entries of the log of the group at a place, from entry `from` on. Spent if the group
-    /// was dropped.
+    /// Returns at most `most` entries of the log of the group at a place, from entry `from` on, counted from 0, as `Log`. Else
+    /// returns a refusal: `Spent` if no group lives there, `BadPlace` if `from` is beyond the log's end or `most` is above 16,
+    /// `OutOfMemory` if memory for the copies is refused.
     pub fn fetch(&self, place: usize, from: u32, most: u32) -> Reply
         ensures { IsReply (unless_gone (λ s. fetch_answer s from most) (row_at self.now.rows place).slot) result }
     {
@@ -397,7 +406,7 @@ impl Slots {
         if self.is_used(place) { 1 } else { 0 }
     }
 
-    /// Returns the number of places where a group was made.
+    /// Returns the number of places where a group was made, whether it lives or was dropped.
     pub fn used(&self) -> usize
         ensures { result ≡ length (used self.now.rows) }
     {
@@ -408,7 +417,8 @@ impl Slots {
         count
     }
 
-    /// Returns up to `most` of the places where a group was made, from the `from`-th on, in the order of the places.
+    /// Returns up to `most` rows for the places where a group was made, in the order of the places, without the first `from` of
+    /// them. `Err` if memory is refused.
     pub fn list(
         &self,
         alloc: Global,
@@ -437,7 +447,8 @@ impl Slots {
         Ok(rows)
     }
 
-    /// Drops the group at a place, which the group keeps, and returns the reply. Spent if it was dropped before.
+    /// Drops the group at a place and ends its slot. Returns `Done`, or the refusal `Spent` if no group lives there. The place
+    /// keeps the group's address until another generation takes it.
     pub fn remove(&mut self, place: usize) -> Reply
         ensures reply { result ≡ unless_gone drop_answer (row_at self.old.rows place).slot }
         ensures rows { self.new.rows ≡ slice_set self.old.rows place (gone (row_at self.old.rows place)) }
@@ -452,8 +463,9 @@ impl Slots {
         Reply::Done
     }
 
-    /// Makes a group at a place where none lives, or at the first place of a new room, at the node `me`, which has noticed these
-    /// nodes.
+    /// Makes a group at a place where none lives, or at the first place of a new room, at the node `me`. `noticed` are the nodes
+    /// that `me` holds for crashed. Takes all memory that the group will need. `Err` if memory is refused; then nothing has
+    /// changed.
     pub fn add(
         &mut self,
         alloc: Global,

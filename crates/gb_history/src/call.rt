@@ -28,7 +28,8 @@ fn call_of(call: &GroupCall) -> Call
     }
 }
 
-/// Returns the calls of the broadcast, the newest first.
+/// Returns the calls of a group as the calls of its broadcast: the same calls without payloads, the newest first. `Err` if memory
+/// is refused.
 #[tactic(auto, unfolding(crate::specs::History::calls_of))]
 pub fn calls_of(alloc: Global, told: &[GroupCall]) -> Result<Vec<Call>, OutOfMemory>
     ensures { IfOk result (λ v. v.items ≡ history.calls_of told.now) }
@@ -43,7 +44,7 @@ pub fn calls_of(alloc: Global, told: &[GroupCall]) -> Result<Vec<Call>, OutOfMem
     }
 }
 
-/// Returns the number of messages that were said here.
+/// Returns the number of calls in which the group's member at this node says a message of its own.
 #[tactic(auto, unfolding(crate::specs::History::said_in))]
 pub fn said_in(told: &[GroupCall]) -> usize
     ensures count { result ≡ history.said_in told.now }

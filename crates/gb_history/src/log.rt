@@ -24,7 +24,8 @@ fn members_of(alloc: Global, spec: &Spec) -> Result<Vec<NodeId>, OutOfMemory>
     Ok(members)
 }
 
-/// Returns the log: what the group delivered, in order.
+/// Returns the log of a group at the node `me` after these calls: the messages that it delivered, in order, with their payloads.
+/// `told` has the newest call first, and `spec` are the group's parameters. `Err` if memory is refused.
 #[tactic(auto, using(crate::proofs::LogLemmas::log_is))]
 pub fn log_of(
     alloc: Global,
@@ -41,7 +42,8 @@ pub fn log_of(
     entries_in(alloc, known.as_slice(), &delivered)
 }
 
-/// Returns what the newest call made the group broadcast, in order.
+/// Returns the messages that the newest of these calls makes the group send to its other members, in order, with their payloads.
+/// They are none if there is no call. `Err` if memory is refused.
 #[tactic(auto, unfolding(crate::specs::History::calls_of))]
 pub fn puts_of(
     alloc: Global,
@@ -62,7 +64,8 @@ pub fn puts_of(
     }
 }
 
-/// Returns the number of payload bytes of an origin's known messages. `Err` if it exceeds 32 bits, or if memory is refused.
+/// Returns the number of payload bytes of the messages of `origin` that these calls name, each message counted once. `Err` if it
+/// exceeds 32 bits, or if memory is refused.
 pub fn bytes_in(alloc: Global, told: &[GroupCall], origin: NodeId) -> Result<u32, OutOfMemory>
     ensures { IfOk result (λ n. n ≡ history.bytes_in told.now origin.number) }
 {
@@ -70,7 +73,9 @@ pub fn bytes_in(alloc: Global, told: &[GroupCall], origin: NodeId) -> Result<u32
     bytes_of(known.as_slice(), origin)
 }
 
-/// Returns true if an item that comes from a node is let fall after these calls.
+/// Returns true if the group at the node `me`, after these calls, discards the item `x` that comes from the node `from`, without
+/// effect. `told` has the newest call first. `Err` if memory is refused, or if the payload bytes of the item's origin exceed 32
+/// bits.
 pub fn falls_after(
     alloc: Global,
     spec: &Spec,

@@ -93,7 +93,8 @@ fn add_new(alloc: Global, entries: &mut Entries, x: &Entry) -> Result<(), OutOfM
     Ok(())
 }
 
-/// Returns the messages of the group's calls, with the payloads that they had when they were first named.
+/// Returns the messages that these calls name, each once, in the order in which they were first named, with the payloads that they
+/// had then. `told` has the newest call first. `Err` if memory is refused.
 #[tactic(auto, unfolding(crate::specs::History::known))]
 pub fn known(alloc: Global, told: &[GroupCall]) -> Result<Entries, OutOfMemory>
     ensures { IfOk result (λ e. e ≡ history.known told.now) }

@@ -1,4 +1,4 @@
-//! The lowest layer.
+//! The lowest layer of a broadcast at a node: it sends what is said here, and hands up what is said and what comes.
 ghost use Rattle.std.specs.Prelude.{◌≡◌};
 ghost use Rattle.std.proofs.Common.{refl};
 ghost use Rattle.gb_types.specs.declared.node.NodeId.{NodeId};
@@ -19,7 +19,7 @@ pub struct Beb {
 }
 
 impl Beb {
-    /// Returns a layer at the node `me`.
+    /// Returns the lowest layer of a broadcast, at the node `me`. It has no state besides `me`.
     pub fn new(me: NodeId) -> Beb
         ensures meaning { ⟦<Beb as Layer>⟧.meaning result ≡ me }
         ensures fresh { ⟦<Beb as Layer>⟧.is_fresh (⟦<Beb as Layer>⟧.meaning result) }

@@ -1,4 +1,4 @@
-//! A layer that hands up only what came from its origin.
+//! A layer of a broadcast that hands up only what came from its origin.
 ghost use Rattle.std.specs.Prelude.{◌≡◌, ◌≤◌, ◌++◌, take, drop, filter, vec_len, vec_capacity};
 ghost use Rattle.gb_layer.specs.Machine.{is_own, own_gives};
 ghost use Rattle.gb_layer.specs.DirectLemmas.{direct_sends_handed_in, direct_ups_handed_in, direct_up_once, direct_sent_once, direct_noticed_once, own_pairs};

@@ -1,4 +1,4 @@
-//! The trait of a layer.
+//! The trait of a layer of a broadcast: what each call of a layer does, and the laws that each layer obeys.
 ghost use Rattle.std.specs.Prelude.{◌≡◌, ℕ, ◌+◌, ◌-◌, ◌≤◌, ◌++◌, IfOk, OnOk, length, true, vec_capacity};
 ghost use Rattle.gb_types.specs.declared.node.NodeId.{NodeId};
 ghost use Rattle.gb_layer.specs.declared.call.Call.{Call};
@@ -58,15 +58,16 @@ pub trait Layer {
     fn me(&self) -> NodeId
         ensures { result ≡ me (meaning self.now) };
 
-    /// Reserves the layer's own memory for the next `calls` calls. Returns the room that they need in the two lists. If memory is
-    /// refused, the state stays as it was.
+    /// Reserves the layer's own memory for the next `calls` calls. Returns the room that these calls need in the lists of messages
+    /// to send and of pairs that come up. `Err` if memory is refused; then the state stays as it was.
     fn prepare(&mut self, calls: usize) -> Result<Room, OutOfMemory>
         ensures meaning { meaning self.new ≡ meaning self.old }
         ensures room { IfOk result (λ most. has_room self.new most.sends most.ups calls) };
 
-    /// Reserves, once, all of the layer's own memory for calls about messages of these members, numbered from 1 to `msgs`. The two
-    /// lists are to be emptied after each `calls` calls. Returns the room that the calls need in the two lists. If memory is
-    /// refused, the state stays as it was.
+    /// Reserves, once, all of the layer's own memory for calls about messages of these members, numbered from 1 to `msgs`. The
+    /// layer must be empty: no message was handed in yet. Returns the room that `calls` calls need in the lists of messages to send
+    /// and of pairs that come up, which the caller empties after each `calls` calls. `Err` if memory is refused; then the state
+    /// stays as it was.
     fn prepare_whole(
         &mut self,
         members: &NodeSet,
@@ -78,8 +79,8 @@ pub trait Layer {
         ensures whole { OnOk result (is_whole self.new (record { members = members.now; msgs = msgs; calls = calls })) }
         ensures need { IfOk result (λ most. most ≡ need (record { members = members.now; msgs = msgs; calls = calls })) };
 
-    /// Reserves memory for the next `calls` calls, in the layer and in the two lists. If memory is refused, the state and the
-    /// lists' items stay as they were.
+    /// Reserves memory for the next `calls` calls, in the layer and in the two lists. `Err` if memory is refused. In both cases the
+    /// state and the lists' items stay as they were.
     final fn ready(
         &mut self,
         calls: usize,
@@ -97,9 +98,9 @@ pub trait Layer {
         Ok(())
     }
 
-    /// Reserves, once, all the memory for calls about messages of these members, numbered from 1 to `msgs`. The two lists are to be
-    /// emptied after each `calls` calls and keep their memory. If memory is refused, the state and the lists' items stay as they
-    /// were.
+    /// Reserves, once, memory for all calls about messages of these members, numbered from 1 to `msgs`, in the layer and in the two
+    /// lists. The layer must be empty: no message was handed in yet. The caller empties the lists after each `calls` calls, and
+    /// they keep their memory. `Err` if memory is refused. In both cases the state and the lists' items stay as they were.
     final fn whole(
         &mut self,
         members: &NodeSet,
@@ -124,8 +125,10 @@ pub trait Layer {
         Ok(())
     }
 
-    /// Executes a call: the layer's own work. `say`, `came` and `notice` each make one such call. It adds no more pairs than it has
-    /// room for. While it runs it may put further pairs behind the list's items.
+    /// Executes a call and changes the layer's state. Appends to `sends` the messages to send to each other member, and to `ups`
+    /// the pairs of a sender and a message that come up. Takes no memory: the layer and the lists must have room for the call.
+    /// `say`, `came` and `notice` each make one such call. While it runs it may put further pairs behind the items of `ups`, and
+    /// remove them again.
     fn take(&mut self, call: Call, sends: &mut Vec<MsgId>, ups: &mut Vec<Up>)
         requires { has_room self.old (free sends.old) (free ups.old) 1 }
         ensures meaning { meaning self.new ≡ next (meaning self.old) call }
@@ -137,7 +140,7 @@ pub trait Layer {
         ensures sends_memory { vec_capacity sends.old ≤ vec_capacity sends.new }
         ensures ups_memory { vec_capacity ups.old ≤ vec_capacity ups.new };
 
-    /// Broadcasts `m`, a message of this node.
+    /// Broadcasts `m`, a message of this node: `take` of `Say`. Changes the state, and appends to `sends` and `ups`.
     final fn say(&mut self, m: MsgId, sends: &mut Vec<MsgId>, ups: &mut Vec<Up>)
         requires { has_room self.old (free sends.old) (free ups.old) 1 }
         ensures meaning { meaning self.new ≡ next (meaning self.old) (Say m) }
@@ -152,7 +155,8 @@ pub trait Layer {
         self.take(Call::Say(m), sends, ups);
     }
 
-    /// Receives `m` from another node: its origin, or a node that relayed it.
+    /// Receives `m` from the node `from`, its origin or a node that relayed it: `take` of `Came`. Changes the state, and appends to
+    /// `sends` and `ups`.
     final fn came(&mut self, from: NodeId, m: MsgId, sends: &mut Vec<MsgId>, ups: &mut Vec<Up>)
         requires { has_room self.old (free sends.old) (free ups.old) 1 }
         ensures meaning { meaning self.new ≡ next (meaning self.old) (Came from m) }
@@ -167,7 +171,7 @@ pub trait Layer {
         self.take(Call::Came(from, m), sends, ups);
     }
 
-    /// Records that another node is noticed to have crashed.
+    /// Records that the node `who` is held for crashed: `take` of `Notice`. Changes the state, and appends to `sends` and `ups`.
     final fn notice(&mut self, who: NodeId, sends: &mut Vec<MsgId>, ups: &mut Vec<Up>)
         requires { has_room self.old (free sends.old) (free ups.old) 1 }
         ensures meaning { meaning self.new ≡ next (meaning self.old) (Notice who) }

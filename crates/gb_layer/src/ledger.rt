@@ -1,4 +1,4 @@
-//! The entries of a relay, with a table that finds them.
+//! The entries of a relay, one for each message that was handed in, with a table that finds them.
 ghost use Rattle.std.specs.Prelude.{◌≡◌, ◌+◌, ◌≤◌, ◌&&◌, true, [], count_by, OnOk, map, length, MatchOption, vec_len, vec_capacity};
 ghost use Rattle.std.specs.List.{list_any};
 ghost use Rattle.gb_layer.specs.EntryLemmas.{keys};
@@ -21,7 +21,7 @@ pub struct Ledger {
 }
 
 impl Ledger {
-    /// Returns a ledger without entries.
+    /// Returns a ledger, a relay's list of the messages that were handed in, without entries. Takes no memory.
     pub fn new(alloc: Global) -> Ledger
         ensures { result.list.items ≡ [] }
     {
@@ -31,7 +31,8 @@ impl Ledger {
         }
     }
 
-    /// Makes the table cover the members' messages numbered from 1 to `width`. There are no entries yet.
+    /// Makes the table cover the members' messages numbered from 1 to `width`. The ledger must have no entries. `Err` if memory is
+    /// refused; then there are still no entries.
     pub fn cover(&mut self, members: &NodeSet, width: u16) -> Result<(), OutOfMemory>
         requires { self.old.list.items ≡ [] }
         ensures list { self.new.list ≡ self.old.list }
@@ -47,7 +48,8 @@ impl Ledger {
         place(self.list.len(), v)
     }
 
-    /// Returns the places where an entry of `m` may stand.
+    /// Returns a range of places in this relay's list of entries outside of which no entry of the message `m` stands. It is one
+    /// place or none if the table covers `m`, else all places.
     pub fn places(&self, m: MsgId) -> Places
         ensures places { StandsAmong (is_for m) result.from result.to self.now.list.items }
         ensures within { result.to ≤ length self.now.list.items }
@@ -55,7 +57,7 @@ impl Ledger {
         self.table.places(m, self.list.len())
     }
 
-    /// Returns true if there is an entry of `m`.
+    /// Returns true if this relay has an entry of the message `m`: it was handed in before.
     pub fn has(&self, m: MsgId) -> bool
         ensures { result ≡ list_any (is_for m) self.now.list.items }
     {
@@ -68,7 +70,7 @@ impl Ledger {
         }
     }
 
-    /// Returns true if `m` was sent from here.
+    /// Returns true if this relay has an entry of the message `m` that is marked as sent from this node.
     pub fn was_sent(&self, m: MsgId) -> bool
         ensures { result ≡ is_sent self.now.list.items m }
     {
@@ -81,7 +83,8 @@ impl Ledger {
         }
     }
 
-    /// Adds an entry of `m` if there is none.
+    /// Adds an entry of the message `m` to this relay's list, not sent and not handed up, if there is none. Takes no memory: the
+    /// list must have space for it.
     pub fn note(&mut self, m: MsgId)
         requires { vec_len self.old.list + 1 ≤ vec_capacity self.old.list }
         ensures items { self.new.list.items ≡ noted self.old.list.items m }
@@ -96,7 +99,8 @@ impl Ledger {
         }
     }
 
-    /// Adds an entry of `m` if there is none, and marks `m` as sent from here.
+    /// Adds an entry of the message `m` to this relay's list if there is none, and marks the entry as sent from this node. Takes no
+    /// memory: the list must have space for it.
     pub fn note_sent(&mut self, m: MsgId)
         requires { vec_len self.old.list + 1 ≤ vec_capacity self.old.list }
         ensures items { self.new.list.items ≡ map (marked_sent m) (noted self.old.list.items m) }
@@ -113,7 +117,8 @@ impl Ledger {
         }
     }
 
-    /// Records that this node and `via` hold `m`, whose entry, if there is one, is at one of these places.
+    /// Records in this relay's entry of the message `m` that this node (`me`) and the node `via` hold `m`. Nothing changes if there
+    /// is no entry of `m`. The argument `places` is what the function `places` returned for `m`.
     pub fn hold(&mut self, places: Places, me: NodeId, via: NodeId, m: MsgId)
         requires places { StandsAmong (is_for m) places.from places.to self.old.list.items }
         requires within { places.to ≤ length self.old.list.items }
@@ -124,7 +129,7 @@ impl Ledger {
         hold_in(&mut self.list, places, me, via, m);
     }
 
-    /// Marks `m` as sent from here.
+    /// Marks this relay's entry of the message `m` as sent from this node. Nothing changes if there is none.
     pub fn mark_sent(&mut self, m: MsgId)
         ensures items { self.new.list.items ≡ map (marked_sent m) self.old.list.items }
         ensures len { vec_len self.new.list ≡ vec_len self.old.list }

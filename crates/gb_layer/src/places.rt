@@ -1,4 +1,4 @@
-//! Places of entries in a list.
+//! Ranges of places in a relay's list of entries.
 ghost use Rattle.std.specs.Prelude.{ℕ, ◌<◌};
 ghost use Rattle.gb_layer.specs.Places.{IsAmong};
 
@@ -10,7 +10,8 @@ pub struct Places {
 }
 
 impl Places {
-    /// Adds place `k`, and each place between it and the others.
+    /// Makes this range of places in a relay's list have place `k` too, and each place between it and the others. An empty range
+    /// gets `k` alone.
     pub fn widen(&mut self, k: usize)
         requires { k < usize.MAX }
         ensures stay { (i : ℕ) → IsAmong self.old.from self.old.to i → IsAmong self.new.from self.new.to i }

@@ -1,4 +1,4 @@
-//! A layer that relays by a rule.
+//! A layer of a broadcast that relays messages by a rule.
 ghost use Rattle.std.specs.Prelude.{◌≡◌, ℕ, ◌+◌, ◌≤◌, ◌<◌, [], ◌∷◌, ◌++◌, slice_get, vec_len, vec_capacity, IfSome, length, count_by, map, filter, true};
 ghost use Rattle.gb_layer.specs.declared.call.Call.TheVariants.{Say, Came};
 ghost use Rattle.gb_layer.specs.Room.{free, Stays};
@@ -112,7 +112,8 @@ fn deliver_in<R: Rule>(
 impl<L: Layer, R: Rule> Relay<L, R> {
     ghost use Rattle.gb_layer.specs.RelayState.{state_of, IsWhole, unsent, ungiven};
 
-    /// Returns a relay over the layer `lower`, by a rule, in a group with these members. It has no entries and has noticed nobody.
+    /// Returns a relay over the layer `lower`, by a rule, in a group with these members. It has no entries and holds no node for
+    /// crashed. Takes no memory.
     pub fn new(alloc: Global, lower: L, rule: R, members: NodeSet) -> Relay<L, R>
         ensures meaning { ⟦<Relay<L, R> as Layer>⟧.meaning result ≡ at_start (L.meaning lower) members }
         ensures fresh { L.is_fresh (L.meaning lower) → ⟦<Relay<L, R> as Layer>⟧.is_fresh (⟦<Relay<L, R> as Layer>⟧.meaning result) }
@@ -129,7 +130,6 @@ impl<L: Layer, R: Rule> Relay<L, R> {
 
     /// Makes a call of the layer below, and records who holds what came up. Inlined, so that no call is written to memory and read
     /// again.
-    /// memory and read again.
     #[inline(always)]
     fn call_lower(&mut self, call: Call, sends: &mut Vec<MsgId>, ups: &mut Vec<Up>)
         requires { L.has_room self.old.lower (free sends.old) (free ups.old) 1 }

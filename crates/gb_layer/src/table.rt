@@ -1,4 +1,4 @@
-//! A table from a message to its place in a list.
+//! A table that finds the place of a message in a relay's list of entries.
 ghost use Rattle.std.specs.Prelude.{◌≡◌, ◌+◌, ◌≤◌, ◌<◌, ◌++◌, ◌∷◌, [], true, false, List, length, OnOk, MatchOption};
 ghost use Rattle.std.specs.List.{list_any};
 ghost use Rattle.std.specs.declared.option.Option.TheVariants.{None};
@@ -22,7 +22,8 @@ pub struct Table {
     pub width: u16,
 }
 
-/// Returns the place, below `count`, that a table means by `v`: `v - 1`. `None` if there is no such place.
+/// Returns the place that the number `v` of a table means in a relay's list of `count` entries: `v - 1`. `None` if `v` is 0 or
+/// above `count`.
 pub fn place(count: usize, v: usize) -> Option<usize>
     ensures { MatchOption result (IsNowhere count v) (IsThere count v) }
 {
@@ -49,7 +50,7 @@ fn span(nodes: &NodeSet) -> usize
 }
 
 impl Table {
-    /// Returns a table that covers no message.
+    /// Returns a table of the places of messages in a relay's list. It covers no message yet. Takes no memory.
     pub fn new(alloc: Global) -> Table
         ensures told { result.told.items ≡ [] }
         ensures width { result.width ≡ 0 }
@@ -60,8 +61,8 @@ impl Table {
         }
     }
 
-    /// Makes the table cover the members' messages numbered from 1 to `width`. It is empty before. It takes two bytes for each
-    /// number of each node up to the last member.
+    /// Makes the table cover the members' messages numbered from 1 to `width`. The table must be empty. It takes two bytes for each
+    /// of these numbers of each node up to the last member. `Err` if memory is refused; then the table is as before.
     pub fn cover(&mut self, members: &NodeSet, width: u16) -> Result<(), OutOfMemory>
         ensures { OnOk result (self.new.width ≡ width) }
     {
@@ -71,7 +72,8 @@ impl Table {
         Ok(())
     }
 
-    /// Returns what the table says of `m`: 0, or one more than its place. `None` if the table does not cover `m`.
+    /// Returns what the table says of the place of the message `m` in a relay's list: 0 if `m` has none, else one more than the
+    /// place. `None` if the table does not cover `m`.
     pub fn told(&self, m: MsgId) -> Option<usize>
         ensures { result ≡ told self.now.width self.now.told.items m }
     {
@@ -93,7 +95,8 @@ impl Table {
         if at < self.told.len() { Some(at) } else { None }
     }
 
-    /// Records `m`, which follows `count` other messages.
+    /// Records that the message `m` stands at place `count` of a relay's list, behind the others. If `count` is 65,535 or more, the
+    /// table covers no message from then on. Nothing changes if the table does not cover `m`. Takes no memory.
     pub fn note(&mut self, m: MsgId, count: usize)
         ensures { (ms : List MsgId) → length ms ≡ count → list_any (λ x. same x m) ms ≡ false
             → leads self.old.width self.old.told.items 0 ms ≡ true → leads self.new.width self.new.told.items 0 (ms ++ m ∷ []) ≡ true }
@@ -110,7 +113,8 @@ impl Table {
         }
     }
 
-    /// Returns the places where `m` may stand among `count` messages.
+    /// Returns the range of places where `m` may stand in a list of `count` messages. If the table covers `m`, it is the place of
+    /// `m`, or no place. Else it is all places.
     pub fn places(&self, m: MsgId, count: usize) -> Places
         ensures stands { (ms : List MsgId) → length ms ≡ count → leads self.now.width self.now.told.items 0 ms ≡ true
             → StandsAmong (λ x. same x m) result.from result.to ms }

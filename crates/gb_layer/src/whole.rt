@@ -1,4 +1,4 @@
-//! A layer that reserved its memory once takes no more.
+//! Calls of a layer of a broadcast that reserved all its memory once: they take no more.
 ghost use Rattle.std.specs.Prelude.{◌≡◌, ◌↔◌, ◌+◌, ◌≤◌, true, IsSome, IfOk, IfSome};
 ghost use Rattle.gb_layer.specs.Limit as limit;
 
@@ -7,7 +7,7 @@ use crate::effects::Up;
 use crate::layer::Layer;
 use gb_types::{MsgId, NodeSet, OutOfMemory};
 
-/// Returns the number of messages of these members, numbered from 1 to `msgs`, plus `calls`. `None` if the sum exceeds
+/// Returns the number of messages of these members, numbered from 1 to `msgs` each, plus `calls`. `None` if the sum exceeds
 /// `usize::MAX`.
 pub fn message_and_call_count(members: &NodeSet, msgs: u16, calls: usize) -> Option<usize>
     ensures fits { IsSome result ↔ (limit.message_count (record { members = members.now; msgs = msgs; calls = calls }) + calls ≤ usize.MAX) }
@@ -27,7 +27,7 @@ fn is_counted(members: &NodeSet, msgs: u16, m: MsgId) -> bool
 }
 
 /// Returns true if a layer that reserved memory for messages of these members, numbered from 1 to `msgs`, has the memory for the
-/// call.
+/// call. A call that names a message or a sender outside of these is not within. A crash notice always is.
 pub fn is_within(members: &NodeSet, msgs: u16, call: Call) -> bool
     ensures { result ≡ limit.is_within (record { members = members.now; msgs = msgs; calls = 1 }) call }
 {
@@ -38,9 +38,9 @@ pub fn is_within(members: &NodeSet, msgs: u16, call: Call) -> bool
     }
 }
 
-/// Reserves all memory of a layer to which no message was handed in yet, then makes two calls without `ready` between them.
-/// Discards the effects of the first. Returns true if it did so. Returns false, with nothing done, if one of the calls is not
-/// within the limit.
+/// Reserves all memory of a layer to which no message was handed in yet, then makes two calls without `ready` between them. Returns
+/// true if both calls were made; then `sends` and `ups` have the effects of the second call only. Returns false, with nothing done,
+/// if one of the calls is not within the members and numbers. `Err` if memory is refused; then no call was made.
 pub fn take_two<L: Layer>(
     layer: &mut L,
     members: &NodeSet,

@@ -50,8 +50,8 @@ pub enum LinesFault {
     TooManyReads,
 }
 
-/// What the lines of a text are: lines that were written are the lines that are read, even if the last one lacks its
-/// line feed; and each text is its lines.
+/// A law of `LineBuffer`: lines that were written, each with its line feed, are the lines that are read, even if the last one lacks
+/// its line feed; and each text is its lines. The function does nothing when it runs; its contract is the law.
 pub fn lines_are_the_pieces_of_a_text()
     ensures written { WrittenLinesAreRead }
     ensures last { LastMayLackItsLineFeed }
@@ -166,7 +166,8 @@ impl Model for LineBuffer {
 }
 
 impl LineBuffer {
-    /// Returns a buffer before the first read.
+    /// Returns a buffer that reads a text line by line, before its first read. It takes 131,072 bytes, and no more later. `Err` if
+    /// memory is refused.
     pub fn new(alloc: Global) -> Result<LineBuffer, OutOfMemory>
         ensures { IfOk result
             (λ lines. lines ≡ record { line = []; unread = []; has_ended = false; reads = 0 }) }
@@ -183,14 +184,15 @@ impl LineBuffer {
         })
     }
 
-    /// Returns the line that the last call of `next` found, without its line feed. It is empty if that call found none.
+    /// Returns the line that the last call of `next` found, without its line feed. It is empty if that call found none, or if there
+    /// was no call.
     pub fn line(&self) -> &[u8]
         ensures { result.now ≡ self.now.line }
     {
         &self.bytes[self.line_start..self.line_end]
     }
 
-    /// Returns true if the next line cannot be returned without a read.
+    /// Returns true if `next` cannot find the next line, its excess length or the end of the text without a read.
     pub fn wants_read(&self) -> bool
         ensures { IsTrue result ↔ WantsRead self.now }
     {
@@ -281,7 +283,10 @@ impl LineBuffer {
         }
     }
 
-    /// Finds the next line of what is left of the text; `line` returns it. If no line is found, nothing of the text is lost.
+    /// Finds the next line of the text, and reads from `reader` if that is needed. Returns `Given` if there is one, which `line`
+    /// then returns; `TooLong` if it has more than 65,536 bytes; `End` if the text is at its end. `Err` with `Read` if a read
+    /// failed, and with `TooManyReads` if 64,000,000 reads were made and one more is needed. If no line is found, nothing of the
+    /// text is lost. Takes no memory.
     pub fn next<R: Read>(&mut self, reader: &mut R) -> Result<NextLine, LinesFault>
         ensures given { result ≡ Ok NextLine.Given
             → WhereKnown (GivesLine self.new.line) (left self.old (R.remaining reader.old))

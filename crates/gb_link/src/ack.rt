@@ -1,11 +1,12 @@
-// Acknowledgements by a base and a mask.
+//! Acknowledgements of the frames of a link, by a base and a mask: each frame below the base is acknowledged, and frame base + i if bit
+//! i of the mask is 1.
 ghost use Rattle.std.specs.Prelude.{◌≡◌};
 ghost use Rattle.gb_link.specs.Ack.{covers};
 
 use gb_types::limits::LINK_WINDOW;
 
-/// Returns true if the acknowledgement covers frame `number`: if it is below the base, or is `base + i` and bit `i` of the mask is
-/// set.
+/// Returns true if an acknowledgement with this base and mask covers frame `number`: if `number` is below `base`, or is `base + i`
+/// and bit `i` of `mask` is 1.
 pub fn covers(base: u64, mask: u64, number: u64) -> bool
     ensures { result ≡ covers base mask number }
 {

@@ -1,9 +1,9 @@
-// Laws of a sender and a receiver together.
+//! Laws of the two ends of one link, a sender and a receiver, together.
 ghost use Rattle.std.specs.Prelude.{List};
 ghost use Rattle.gb_link.specs.Link.{LinkEvent, run, IsSound};
 
 /// A law of every link whose network may lose, delay, repeat and reorder frames and acknowledgements. Each frame that arrives and
-/// was pushed is within the receiver's window. Each number is received for the first time once. Each frame that is done was
+/// was pushed is within the receiver's window. Each number is received for the first time once. Each frame that is acknowledged was
 /// received. The function does nothing when it runs; its contract is the law.
 pub fn soundness<F>()
     ensures { (events : List (LinkEvent F)) → IsSound (run events) }

@@ -1,4 +1,4 @@
-// The receiving end of a link.
+//! The receiving end of a link between two nodes: which frame numbers came.
 ghost use Rattle.std.specs.Prelude.{◌≡◌, ℕ, ◌%◌, ◌≤◌, true, List};
 ghost use Rattle.std.specs.FinSet as set;
 ghost use Rattle.gb_types.specs.declared.limits.TheConstants.{LAST_FRAME};
@@ -45,15 +45,16 @@ impl Model for Receiver {
 }
 
 impl Receiver {
-    /// Returns a receiver that has received nothing.
+    /// Returns the receiving end of a link, to which no frame came. Takes no memory.
     pub fn new() -> Receiver
         ensures { result ≡ set.empty }
     {
         Receiver { base: 1, mask: 0 }
     }
 
-    /// Receives the number of an arriving frame. Returns whether it is received for the first time, was received before, or is outside the
-    /// window, which has the 64 numbers from the least one that is not received, up to `LAST_FRAME`.
+    /// Receives the number of an arriving frame. Returns `Seen` if the number was received before, and `Outside` if it is above
+    /// `LAST_FRAME` or outside the window; then nothing has changed. Else returns `First`, and the number is received. The window
+    /// has the 64 numbers from the least one that is not received.
     pub fn admit(&mut self, number: u64) -> Admission
         requires { 1 ≤ number }
         ensures answer { result ≡ admission self.old number }

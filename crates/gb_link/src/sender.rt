@@ -1,4 +1,4 @@
-// The sending end of a link.
+//! The sending end of a link between two nodes: the frames that are not acknowledged.
 ghost use Rattle.std.specs.Prelude.{◌≡◌, ◌≤◌, [], ◌∷◌, IsTrue, OnOk, OnErr, IfOk, IfSome, Some, MatchOption, position, nat_eq, find};
 ghost use Rattle.std.specs.VecDeque.{deque_len, deque_capacity};
 ghost use Rattle.std.specs.Option.{option_map, option_copied};
@@ -36,7 +36,7 @@ impl<F> Model for Sender<F> {
 }
 
 impl<F: Drop> Sender<F> {
-    /// Returns a sender to which no frame was pushed.
+    /// Returns the sending end of a link, to which no frame was pushed. Takes no memory.
     pub fn new(alloc: Global) -> Sender<F>
         ensures { result ≡ new_window }
     {
@@ -46,8 +46,8 @@ impl<F: Drop> Sender<F> {
         }
     }
 
-    /// Returns true if one more frame may be pushed: its number is at most `LAST_FRAME`, and at most 63 above the lowest undone
-    /// one.
+    /// Returns true if one more frame may be pushed: its number would be at most `LAST_FRAME`, and at most 63 above the lowest
+    /// undone one. An undone frame is one that is not acknowledged.
     pub fn room(&self) -> bool
         ensures room { result ≡ has_room self.now }
         ensures window { IsWindow self.now }
@@ -55,7 +55,8 @@ impl<F: Drop> Sender<F> {
         is_open(self.next, &self.undone)
     }
 
-    /// Pushes a frame. Returns its number.
+    /// Adds a frame to the undone ones, those that are not acknowledged. Returns its number, one above that of the frame before;
+    /// the first is 1. The sender must have room for it (`room`). `Err` if memory is refused; then nothing has changed.
     pub fn push(&mut self, frame: F) -> Result<u64, OutOfMemory>
         requires { IsTrue (has_room self.old) }
         ensures number { IfOk result (λ number. number ≡ self.old.next) }
@@ -69,7 +70,8 @@ impl<F: Drop> Sender<F> {
         Ok(number)
     }
 
-    /// Returns the undone frame of this number, with the number. For 0, returns the lowest undone frame.
+    /// Returns the frame with this number and the number, if it is not acknowledged. For 0, returns the lowest frame that is not
+    /// acknowledged. `None` if there is no such frame.
     pub fn again(&self, number: u64) -> Option<(u64, &F)>
         ensures { option_map (λ found. (found.0, found.1.now)) result ≡ frame_again self.now number }
     {
@@ -79,8 +81,8 @@ impl<F: Drop> Sender<F> {
         parts(held_under(&self.undone, number))
     }
 
-    /// Removes the lowest undone frame that the acknowledgement covers, and returns it with its number; it is done then. To take a
-    /// whole acknowledgement, call until the result is `None`.
+    /// Removes the lowest undone frame that the acknowledgement covers, and returns its number and the frame. `None` if it covers
+    /// no undone frame; then nothing has changed. To take a whole acknowledgement, call until the result is `None`.
     pub fn acked(&mut self, base: u64, mask: u64) -> Option<(u64, F)>
         ensures handed_out { result ≡ lowest_covered self.old base mask }
         ensures done { self.new ≡ acknowledged self.old base mask }

@@ -1,4 +1,4 @@
-//! The sending end of a link whose frames are built where they stay.
+//! The sending end of a link between two nodes, whose frames are built where they stay, without a copy.
 ghost use Rattle.std.specs.Prelude.{◌≡◌, ◌≤◌, ◌<◌, true, false, [], ◌∷◌, length, IsTrue, OnOk, OnErr, IfOk, MatchOption, Some, vec_capacity};
 ghost use Rattle.std.specs.Option.{option_map};
 ghost use Rattle.std.specs.Borrow.{Lends, sem};
@@ -41,7 +41,8 @@ impl<F> Model for SpacedSender<F> {
 impl<F: Drop> SpacedSender<F> {
     ghost use Rattle.gb_link.specs.contracts.spaced.SpacedSender.{the_row};
 
-    /// Returns true if one more frame may be pushed or committed, as `Sender::room` does.
+    /// Returns true if one more frame may be pushed or committed: its number would be at most `LAST_FRAME`, and at most 63 above
+    /// the lowest undone one. An undone frame is one that is not acknowledged.
     pub fn room(&self) -> bool
         ensures room { result ≡ has_room self.now.window }
         ensures window { IsWindow self.now.window }
@@ -49,7 +50,8 @@ impl<F: Drop> SpacedSender<F> {
         is_open(self.next, &self.undone)
     }
 
-    /// Pushes a frame. Returns its number. What `space` reserved is used up.
+    /// Adds a frame to the undone ones, those that are not acknowledged. Returns its number. The sender must have room for it
+    /// (`room`). What `space` reserved is used up. `Err` if memory is refused; then nothing has changed.
     pub fn push(&mut self, frame: F) -> Result<u64, OutOfMemory>
         requires { IsTrue (has_room self.old.window) }
         ensures number { IfOk result (λ number. number ≡ self.old.window.next) }
@@ -64,7 +66,8 @@ impl<F: Drop> SpacedSender<F> {
         Ok(number)
     }
 
-    /// Returns the undone frame of this number, with the number. For 0, returns the lowest undone frame.
+    /// Returns the frame with this number and the number, if it is not acknowledged. For 0, returns the lowest frame that is not
+    /// acknowledged. `None` if there is no such frame.
     pub fn again(&self, number: u64) -> Option<(u64, &F)>
         ensures { option_map (λ found. (found.0, found.1.now)) result ≡ frame_again self.now.window number }
     {
@@ -74,7 +77,8 @@ impl<F: Drop> SpacedSender<F> {
         parts(held_under(&self.undone, number))
     }
 
-    /// Removes the lowest undone frame that the acknowledgement covers and returns it, as `Sender::acked` does.
+    /// Removes the lowest undone frame that the acknowledgement covers, and returns its number and the frame. `None` if it covers
+    /// no undone frame; then nothing has changed. To take a whole acknowledgement, call until the result is `None`.
     pub fn acked(&mut self, base: u64, mask: u64) -> Option<(u64, F)>
         ensures handed_out { result ≡ lowest_covered self.old.window base mask }
         ensures done { self.new ≡ record self.old { window = acknowledged self.old.window base mask } }
@@ -84,7 +88,7 @@ impl<F: Drop> SpacedSender<F> {
         take_covered(&mut self.undone, base, mask)
     }
 
-    /// Returns the spare, for the caller to write in.
+    /// Returns the spare buffer, for the caller to write the next frame in. `commit` then makes it a frame.
     pub fn spare(&mut self) -> &mut F
         ensures* writes_back { sem 𝓛 (Lends (the_row F.row) F.row self.entry result (λ w. record self.old { spare = w })) }
         ensures value { result.now ≡ self.old.spare }
@@ -94,7 +98,7 @@ impl<F: Drop> SpacedSender<F> {
 }
 
 impl SpacedSender<Vec<u8>> {
-    /// Returns a sender to which no frame was pushed, with an empty spare.
+    /// Returns the sending end of a link, to which no frame was pushed, with an empty spare buffer. Takes no memory.
     pub fn new(alloc: Global) -> SpacedSender<Vec<u8>>
         ensures window { result.window ≡ new_window }
         ensures spaced { result.spaced ≡ false }
@@ -109,8 +113,8 @@ impl SpacedSender<Vec<u8>> {
         }
     }
 
-    /// Reserves memory for the spare to become the next frame, and empties it, with capacity for `len` bytes. The sender is spaced
-    /// then until its next `push` or `commit`. If memory is refused, the spare's bytes stay.
+    /// Reserves memory for the spare buffer to become the next frame of the link, with capacity for `len` bytes, and empties the
+    /// spare. The reservation holds until the next `push` or `commit`. `Err` if memory is refused; then the spare's bytes stay.
     pub fn space(&mut self, len: usize) -> Result<(), OutOfMemory>
         requires { IsTrue (has_room self.old.window) }
         ensures window { self.new.window ≡ self.old.window }
@@ -126,7 +130,8 @@ impl SpacedSender<Vec<u8>> {
         Ok(())
     }
 
-    /// Makes the memory of a frame that is done the spare, empty.
+    /// Makes the memory of `frame`, which `acked` returned, the spare buffer for the next frame of the link. The spare is empty
+    /// then.
     pub fn reuse(&mut self, mut frame: Vec<u8>)
         ensures window { self.new.window ≡ self.old.window }
         ensures spaced { self.new.spaced ≡ self.old.spaced }
@@ -137,7 +142,8 @@ impl SpacedSender<Vec<u8>> {
         self.spare = frame;
     }
 
-    /// Makes the spare the next frame. Returns its number. Takes no memory.
+    /// Makes the bytes of the spare buffer the next frame of the link, and returns its number. The spare must not be empty, `space`
+    /// must have been called, and the sender must have room. The spare is empty then. Takes no memory.
     pub fn commit(&mut self) -> u64
         requires room { IsTrue (has_room self.old.window) }
         requires spaced { IsTrue self.old.spaced }

@@ -1,4 +1,5 @@
-// The common parts of the clients of these tests: a server's lines, connections, and requests with their tokens.
+//! Clients of a server on this machine, for the tests of a node's loop: the server's words and lines, connections, and requests with
+//! their tokens.
 ghost use Rattle.std.specs.Prelude.{◌≤◌, vec_len, IfOk};
 ghost use Rattle.gb_session.specs.declared.grammar.TheConstants.{BODY};
 
@@ -46,7 +47,8 @@ static STATUS: &[u8] = b"status 674e623760cac750ae766b788c59c762f116bab90bcfb901
 
 static STOP: &[u8] = b"stop 674e623760cac750ae766b788c59c762f116bab90bcfb901f9c20ac06448c55d";
 
-/// Returns true if a server with these words serves, and ends well with these lines.
+/// Runs a server with these words until it ends. Returns true if its exit status is 0 and it wrote exactly `lines` to standard
+/// output.
 pub fn serves<
     H: Net<Listener = TcpListener, Stream = TcpStream>
         + Threads
@@ -70,13 +72,13 @@ pub fn serves<
     status == 0 && found.as_slice() == lines
 }
 
-/// Returns the address of a port of this machine.
+/// Returns the address of this port of 127.0.0.1.
 pub fn address(port: u16) -> SocketAddr {
     SocketAddr::V4(SocketAddrV4::new(Ipv4Addr::LOCALHOST, port))
 }
 
-/// Returns a connection to a port of this machine, as soon as a server listens there. `None` if none does within ten seconds. Each
-/// read waits for ten seconds at most.
+/// Connects to a port of 127.0.0.1, as soon as a server listens there, and returns the connection. `None` if none does within about
+/// ten seconds. Each read of the connection waits for ten seconds at most.
 pub fn connect<H: Net<Stream = TcpStream> + Clock>(rt: &H, port: u16) -> Option<TcpStream> {
     for _ in 0..1_000 {
         if let Ok(stream) = TcpStream::connect(rt, address(port)) {
@@ -89,7 +91,8 @@ pub fn connect<H: Net<Stream = TcpStream> + Clock>(rt: &H, port: u16) -> Option<
     None
 }
 
-/// Asks `count` requests on one connection, one at a time. Returns the number of replies that were right.
+/// Connects to a port of this machine and sends the request `OPEN` `count` times, each once the reply before it is there. Returns
+/// the number of replies that are `DENIED`. It stops at the first request that cannot be sent or whose reply does not come.
 pub fn ask_often<H: Net<Stream = TcpStream> + Clock>(rt: &H, port: u16, count: u32) -> u32 {
     let Some(mut stream) = connect(rt, port) else {
         return 0;
@@ -107,7 +110,8 @@ pub fn ask_often<H: Net<Stream = TcpStream> + Clock>(rt: &H, port: u16, count: u
     right
 }
 
-/// Sends requests without ever reading, until the system takes no more of them for a while. Returns the connection.
+/// Connects to a port of this machine and sends the request `OPEN` again and again, without reading, until a write fails or waits
+/// for 200 milliseconds. Returns the connection. `None` if there is no connection, or if 20,000,000 requests were taken.
 pub fn flood_requests<H: Net<Stream = TcpStream> + Clock>(rt: &H, port: u16) -> Option<TcpStream> {
     let mut stream = connect(rt, port)?;
     let _ = stream.set_write_timeout(Some(Duration::from_millis(200)));
@@ -126,7 +130,8 @@ pub struct Member {
     stream: TcpStream,
 }
 
-/// Returns a member of a server with this base port.
+/// Connects to the node `node` of a server with this base port, at the port `base_port` + 64 + the node's number. Returns a member
+/// with this connection. `Err` with `Connection` if no server listens there within about ten seconds.
 pub fn joined<H: Net<Stream = TcpStream> + Clock>(
     rt: &H,
     base_port: u16,
@@ -153,23 +158,25 @@ fn body_of(alloc: Global, node: NodeId, head: Head, line: &str) -> Result<Vec<u8
     request_of(alloc, &SECRETS, node, &asked)
 }
 
-/// Sends a member's node a request. The words are those of gb_ctl.
+/// Sends a request to a member's node, without reading the reply. `head` is the kind of request and `line` its other words, as
+/// gb_ctl takes them; the token is added. `Err` if the words spell no request, if it could not be sent, or if memory is refused.
 pub fn ask(alloc: Global, member: &mut Member, head: Head, line: &str) -> Result<(), ClientFault> {
     let body = body_of(alloc, member.node, head, line)?;
     send(&mut member.stream, &body)
 }
 
-/// Returns the next reply of a member's node.
+/// Reads the next reply of a member's node and returns its text. `Err` with `Late` if it does not come in ten seconds, with `Lost`
+/// if the connection failed or ended, with `NoReply` if it is too long, and with `OutOfMemory` if memory is refused.
 pub fn told(alloc: Global, member: &mut Member) -> Result<Vec<u8>, ClientFault> {
     receive(alloc, &mut member.stream)
 }
 
-/// Returns true if a member's connection has not failed.
+/// Returns true if the system reports no error on a member's connection.
 pub fn is_sound(member: &Member) -> bool {
     matches!(member.stream.take_error(), Ok(None))
 }
 
-/// Returns the reply of a member's node to a request. The words are those of gb_ctl.
+/// Sends a request to a member's node, as `ask` does, and returns the text of the reply, as `told` does. `Err` as with these.
 pub fn reply(
     alloc: Global,
     member: &mut Member,
@@ -189,13 +196,15 @@ fn reply_to(alloc: Global, member: &mut Member, body: &[u8]) -> Result<Vec<u8>, 
     told(alloc, member)
 }
 
-/// Asks for the end of the server at a member's node. Returns true if it is granted, and the connection ends.
+/// Sends the administrator's request that ends the server to a member's node. Returns true if the reply is `ok` and the connection
+/// ends behind it. `Err` as with `reply`.
 pub fn stops(alloc: Global, member: &mut Member) -> Result<bool, ClientFault> {
     let text = reply_to(alloc, member, STOP)?;
     Ok(text.as_slice() == b"ok".as_slice() && is_at_end(member))
 }
 
-/// Asks for the end of the server at node 0 of a server with this base port. Returns true if it is granted.
+/// Connects to node 0 of a server with this base port and asks for the end of the server, as `stops` does. Returns true if the
+/// reply is `ok` and the connection ends behind it, and false in all other cases.
 pub fn end_server<H: Net<Stream = TcpStream> + Clock>(
     rt: &H,
     alloc: Global,
@@ -207,7 +216,8 @@ pub fn end_server<H: Net<Stream = TcpStream> + Clock>(
     stops(alloc, &mut admin).unwrap_or(false)
 }
 
-/// Returns true if a member's connection has ended, and nothing more came.
+/// Reads from a member's connection. Returns true if it ended and nothing more came; false if a byte came, the connection failed,
+/// or nothing happened for ten seconds.
 pub fn is_at_end(member: &mut Member) -> bool {
     let mut space = [0u8; 1];
     matches!(member.stream.read(&mut space), Ok(0))
@@ -223,14 +233,15 @@ fn figure_in(alloc: Global, text: &[u8], name: &[u8]) -> Result<u64, ClientFault
     Err(ClientFault::NoReply)
 }
 
-/// Returns the figure of a member's node whose word begins with `name`.
+/// Asks a member's node for its status with the administrator's token. Returns the number behind `name` in the first word of the
+/// reply that begins with `name`. `Err` with `NoReply` if there is no such number, and else as with `reply`.
 pub fn figure(alloc: Global, member: &mut Member, name: &[u8]) -> Result<u64, ClientFault> {
     let text = reply_to(alloc, member, STATUS)?;
     figure_in(alloc, &text, name)
 }
 
-/// Returns the figure of a member's node whose word begins with `name`, as soon as it is at least `least`. `Late`: it was not
-/// within ten seconds.
+/// Asks a member's node for a figure, as `figure` does, every ten milliseconds, until it is at least `least`, and returns it. `Err`
+/// with `Late` if it was not so after 1,000 times, and else as with `figure`.
 pub fn figure_at_last<H: Clock>(
     rt: &H,
     alloc: Global,
@@ -248,7 +259,9 @@ pub fn figure_at_last<H: Clock>(
     Err(ClientFault::Late)
 }
 
-/// Returns true if a member's node sends these replies.
+/// Sends the requests of a table to a member's node, one after the other, and compares the replies. A row has the kind of the
+/// request, its other words as gb_ctl takes them, and the text of the reply that must come. Returns true if all replies are these,
+/// false at the first that is another. `Err` as with `reply`.
 pub fn gives(
     alloc: Global,
     member: &mut Member,
@@ -286,15 +299,17 @@ fn wait_of(alloc: Global, node: NodeId, lines: &[&str], wait: u32) -> Result<Vec
     await_text(alloc, &fetches, wait)
 }
 
-/// Returns the reply of a member's node to fetches that do not wait, at the places of these lines. Their number is not limited.
+/// Sends one message with fetches that do not wait to a member's node, and returns the text of the reply. Each of `lines` has the
+/// words of one fetch, as gb_ctl takes them. Their number is not limited here. `Err` as with `reply`.
 pub fn fetches(alloc: Global, member: &mut Member, lines: &[&str]) -> Result<Vec<u8>, ClientFault> {
     let mut body = places_of(alloc, member.node, b"await", lines)?;
     body.extend_from_slice(b" 0")?;
     reply_to(alloc, member, &body)
 }
 
-/// Returns the reply of a member's node to fetches that wait for at most `wait` milliseconds, at the places of these lines, and
-/// the milliseconds that it took. The words of a line are those of gb_ctl's fetch.
+/// Sends one message with fetches that wait for at most `wait` milliseconds to a member's node. Each of `lines` has the words of
+/// one fetch, as gb_ctl takes them. Returns the milliseconds until the reply was there, and its text. `Err` as with `reply`, and
+/// with `Connection` if the clock fails.
 pub fn waits<H: Clock>(
     rt: &H,
     alloc: Global,

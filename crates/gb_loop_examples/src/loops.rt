@@ -1,4 +1,4 @@
-// The loop of one node of a cluster whose other nodes do not run.
+//! The loop of one node of a cluster whose other nodes do not run, as tests.
 ghost use Rattle.std.specs.Prelude.{◌≡◌, ◌≤◌, vec_len, IfSome};
 ghost use Rattle.gb_host.specs.Pasts.{AreBlank, books_of};
 ghost use Rattle.gb_host.specs.Plans.{IsPlan};
@@ -50,7 +50,7 @@ pub struct Watch<'a, H> {
 }
 
 impl<'a, H: Clock> Watch<'a, H> {
-    /// Returns the watch of a loop that begins now.
+    /// Returns the watch of a loop that begins now. The loop ends after `most` rounds, or once `others` nodes are held for crashed.
     pub fn new(clock: &'a H, others: usize, most: u64) -> Watch<'a, H> {
         let begun = match Instant::now(clock) {
             Ok(begun) => Some(begun),
@@ -68,13 +68,13 @@ impl<'a, H: Clock> Watch<'a, H> {
         }
     }
 
-    /// Tells the loop to end.
+    /// Makes the loop end in its next round.
     pub fn end(&self) {
         self.is_over.store(true, Ordering::SeqCst);
     }
 
-    /// Returns the number of ticks when the other nodes were noticed, and the microseconds from the making of the watch to then.
-    /// Both are 0 if they were not noticed.
+    /// Returns two numbers: the ticks that had passed when enough other nodes were held for crashed, and the microseconds from the
+    /// making of the watch to then. Both are 0 if that did not happen.
     pub fn noticed(&self) -> (u64, u64) {
         (
             self.ticks.load(Ordering::SeqCst),
@@ -212,7 +212,8 @@ fn run_host<
     Some(close(host, seats).is_ok())
 }
 
-/// Runs the loop of a node that runs alone, until it ends. Returns true if it ended well.
+/// Opens the sockets of a node that runs alone and runs its loop, until `ending` ends it. Returns true if the loop ran and the host
+/// was closed well. Returns false if a socket could not be opened, memory was refused, or the host was not closed well.
 pub fn runs<H: Wait + Clock, N: Net<Listener = TcpListener, Stream = TcpStream>, E: Ending>(
     rt: &H,
     net: &N,

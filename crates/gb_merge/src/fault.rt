@@ -24,7 +24,7 @@ impl AuditFault {
     ghost use Rattle.std.specs.Prelude.{◌≡◌};
     ghost use Rattle.gb_merge.specs.FaultNumber.{fault_number};
 
-    /// Returns the fault's number, 1 to 4.
+    /// Returns the fault's number: 1 for `Stranger`, 2 for `Stuck`, 3 for `Differs`, 4 for `OutOfMemory`.
     pub fn number(self) -> u8
         ensures { result ≡ fault_number self }
     {

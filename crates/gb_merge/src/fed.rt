@@ -13,8 +13,9 @@ use gb_node::past::packets_say;
 use gb_types::Plan;
 use std::alloc::Global;
 
-/// Merges those entries of the tapes that were not refused for lack of memory, as `merge` merges all entries, and returns the events. A
-/// refused entry changed nothing at its node. A fault speaks of the tapes without the refused entries.
+/// Merges those entries of the tapes that were not refused for lack of memory, as `merge` merges all entries, and returns the
+/// events of the cluster. A refused entry changed nothing at its node. `Err` with the faults of `merge`, which speak of the tapes
+/// without the refused entries.
 pub fn merge_fed(alloc: Global, plan: &Plan, tapes: &[Tape]) -> Result<Vec<Event>, AuditFault>
     requires plan { IsClusterPlan plan.now }
     requires one_each { length tapes.now ≡ plan.now.nodes }
@@ -25,9 +26,9 @@ pub fn merge_fed(alloc: Global, plan: &Plan, tapes: &[Tape]) -> Result<Vec<Event
     merge_entries(alloc, plan, tapes)
 }
 
-/// The events that `merge_fed` returns are one run of a cluster, in which each group is what it is alone. Each node ends in this
-/// run as the replay of its whole tape. A group that had no request refused for lack of memory at a node got there the replies
-/// of the run. The function does nothing when it runs; its contract is the law.
+/// A law: the events that `merge_fed` returns are one run of a cluster, in which each group does what it does by itself, without
+/// other tenants, links or frames. Each node ends in this run as the replay of its whole tape. A group that had no request refused
+/// for lack of memory at a node got there the replies of the run. The function does nothing when it runs; its contract is the law.
 pub fn fed_is_one_run()
     ensures { FedIsOneRun }
 {
@@ -36,8 +37,8 @@ pub fn fed_is_one_run()
     packets_say();
 }
 
-/// A node that refuses for lack of memory stays as it was, whatever the request was. The function does nothing when it runs; its
-/// contract is the law.
+/// A law: a node that refuses an event for lack of memory stays as it was, whatever the event was. The function does nothing when
+/// it runs; its contract is the law.
 pub fn refusals_leave_nodes()
     ensures { RefusalsLeaveNodes }
 {}

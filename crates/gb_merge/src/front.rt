@@ -13,9 +13,10 @@ use gb_node::Tape;
 use gb_types::Plan;
 use std::alloc::Global;
 
-/// Merges the first entries of each tape, as many as possible, and returns the events. An entry is left out exactly if it, or one before it
-/// in its tape, is a packet for the node that no merged entry has sent. For a missing tape the caller passes an empty one. `Err` with
-/// `Differs` if an answer among these entries is not its replay's, or refuses for lack of memory.
+/// Merges the first entries of each tape, as many as possible, and returns the events of the cluster. An entry is left out exactly
+/// if it, or one before it in its tape, is a packet for the node that no merged entry has sent. For a missing tape the caller
+/// passes an empty one. `Err` with `Differs` if an answer among the tapes' entries is not its replay's, or refuses for lack of
+/// memory, and with `OutOfMemory` if memory is refused here.
 pub fn merge_front(alloc: Global, plan: &Plan, tapes: &[Tape]) -> Result<Vec<Event>, AuditFault>
     requires plan { IsClusterPlan plan.now }
     requires one_each { length tapes.now ≡ plan.now.nodes }
@@ -33,8 +34,8 @@ pub fn merge_front(alloc: Global, plan: &Plan, tapes: &[Tape]) -> Result<Vec<Eve
     Ok(woven.events)
 }
 
-/// The events that `merge_front` returns are one run of a cluster. The function does nothing when it runs; its contract is the
-/// law.
+/// A law: the events that `merge_front` returns are one run of a cluster. The function does nothing when it runs; its contract is
+/// the law.
 pub fn front_is_one_run()
     ensures { FrontIsOneRun }
 {

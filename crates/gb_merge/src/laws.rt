@@ -4,9 +4,9 @@ ghost use Rattle.gb_merge.specs.Merged.{MergedIsOneRun};
 
 use gb_isolation::laws::{ample_runs_feed_all, groups_are_isolated};
 
-/// The merged events are one run of a cluster, in which at each node happened what its tape says. So each law of every run holds
-/// of what the running nodes did. No answer in the run refuses for lack of memory, so each group in it is what it is alone,
-/// whatever other tenants did. The function does nothing when it runs; its contract is the law.
+/// A law: the events that `merge` returns are one run of a cluster, in which at each node happened what its tape says. So each law
+/// of every run holds of what the running nodes did. No answer in the run refuses for lack of memory, so each group in it does what
+/// it does by itself, whatever other tenants did. The function does nothing when it runs; its contract is the law.
 pub fn merged_is_one_run()
     ensures { MergedIsOneRun }
 {
@@ -14,8 +14,8 @@ pub fn merged_is_one_run()
     ample_runs_feed_all();
 }
 
-/// The merged events are those of all entries of all tapes and no others, each at its place among those of its tape. The
-/// function does nothing when it runs; its contract is the law.
+/// A law: the events that `merge` returns are those of all entries of all tapes and no others, each at its place among those of its
+/// tape. The function does nothing when it runs; its contract is the law.
 pub fn merged_has_each_entry()
     ensures { MergedHasEachEntry }
 {}

@@ -1,4 +1,4 @@
-//! Merging tapes.
+//! Merging the tapes of a cluster's nodes (what happened at each, with its answers) into one run of the cluster.
 ghost use Rattle.std.specs.Prelude.{◌≡◌, length, IfOk, IfErr};
 ghost use Rattle.gb_cluster.specs.ClusterValue.{IsClusterPlan};
 ghost use Rattle.gb_merge.specs.Faults.{IsFault};
@@ -15,11 +15,16 @@ use gb_node::Tape;
 use gb_types::Plan;
 use std::alloc::Global;
 
-/// Merges the tapes of a cluster's nodes: one tape for each node, in the order of their numbers. Returns events of the cluster
-/// in which each node's events are the entries of its tape, in order, and whose run from the start gives the tapes' answers. It
-/// takes, again and again, the next entry of the lowest-numbered node whose next entry can go. A packet for the node can go once
-/// an equal one was sent, and becomes the arrival of the first equal one. Each other entry can go at once; bytes that are no
-/// packet for the node are noise. The tapes are copied only into the events.
+/// Merges the tapes of a cluster's nodes, one for each node, in the order of their numbers. Returns events of the cluster in which
+/// each node's events are the entries of its tape, in order, and whose run from the start has the tapes' answers. Bytes that are no
+/// packet for the node are noise. Takes memory, for the events above all.
+///
+/// `Err` with `Stranger` if a packet came to a node that no tape sent; else with `Stuck` if the tapes are no run since nodes wait
+/// for one another's packets, or with `Differs` if an answer is not its replay's or refuses for lack of memory. `Err` with
+/// `OutOfMemory` if memory is refused here.
+///
+/// It takes, again and again, the next entry of the lowest-numbered node whose next entry can go. A packet for the node can go once
+/// an equal one was sent, and becomes the arrival of the first equal one. Each other entry can go at once.
 pub fn merge(alloc: Global, plan: &Plan, tapes: &[Tape]) -> Result<Vec<Event>, AuditFault>
     requires plan { IsClusterPlan plan.now }
     requires one_each { length tapes.now ≡ plan.now.nodes }

@@ -1,4 +1,4 @@
-//! What merging the tapes of steps returns.
+//! What merging the tapes of worked steps at nodes returns, compared with tables, as tests.
 ghost use Rattle.std.specs.Prelude.{◌≤◌};
 ghost use Rattle.gb_cluster.specs.ClusterValue.{IsClusterPlan};
 
@@ -28,14 +28,15 @@ pub struct Case {
     pub told: Result<&'static [&'static str], AuditFault>,
 }
 
-/// Returns a plan by which node 1 sends another version than the others.
+/// Returns the plan of a cluster of `nodes` nodes, at least 1 and at most 3, with 4 places for rooms. Node 1 sends version 2 of the
+/// packet text, the others version 1.
 pub fn plan(nodes: u8) -> Plan
     ensures { IsClusterPlan result }
 {
     plan_with(nodes, 4)
 }
 
-/// Returns the same plan with this number of places.
+/// Returns the plan that `plan` returns, but with `places` places for rooms.
 pub fn plan_with(nodes: u8, places: u16) -> Plan
     requires { places ≤ 1024 }
     ensures { IsClusterPlan result }
@@ -143,7 +144,8 @@ fn run(
     merge_part(alloc, plan, part, tapes)
 }
 
-/// Returns what merging the tapes of steps returns.
+/// Takes `steps` at the new nodes of a cluster of `nodes` nodes, empties the tape of the node `lost`, if one is given, and merges
+/// this part of the tapes. Returns the merged events. `Err` with the fault of merging, or with `OutOfMemory`.
 pub fn merged(
     alloc: Global,
     part: Part,
@@ -186,31 +188,36 @@ fn holds(alloc: Global, case: &Case) -> bool {
     }
 }
 
-/// Checks that merging returns what the case says.
+/// Takes the steps of a case and merges their tapes. The test aborts with a message unless that returns the events or the fault of
+/// the case. If the case has events, merging the front of the tapes, and merging the entries that were not refused for lack of
+/// memory, must return the same.
 pub fn judge(rt: &impl Abort, alloc: Global, case: &Case) {
     let held = holds(alloc, case);
     assert!(rt; held);
 }
 
-/// Checks that merging the front of the case's tapes returns these events, in letters.
+/// Takes the steps of a case and merges the front of their tapes. The test aborts with a message unless that returns these events,
+/// each as two letters as in `Case`.
 pub fn judge_front(rt: &impl Abort, alloc: Global, case: &Case, front: &[&str]) {
     let held = gives(alloc, Part::Front, case, front);
     assert!(rt; held);
 }
 
-/// Checks that merging the front of the case's tapes ends with this fault.
+/// Takes the steps of a case and merges the front of their tapes. The test aborts with a message unless that ends with this fault.
 pub fn judge_front_fault(rt: &impl Abort, alloc: Global, case: &Case, fault: AuditFault) {
     let held = faults(alloc, Part::Front, case, fault);
     assert!(rt; held);
 }
 
-/// Checks that merging the entries of the case's tapes that were not refused for lack of memory returns these events, in letters.
+/// Takes the steps of a case and merges the entries of their tapes that were not refused for lack of memory. The test aborts with a
+/// message unless that returns these events, each as two letters as in `Case`.
 pub fn judge_fed(rt: &impl Abort, alloc: Global, case: &Case, fed: &[&str]) {
     let held = gives(alloc, Part::Fed, case, fed);
     assert!(rt; held);
 }
 
-/// Checks that merging those entries ends with this fault.
+/// Takes the steps of a case and merges the entries of their tapes that were not refused for lack of memory. The test aborts with a
+/// message unless that ends with this fault.
 pub fn judge_fed_fault(rt: &impl Abort, alloc: Global, case: &Case, fault: AuditFault) {
     let held = faults(alloc, Part::Fed, case, fault);
     assert!(rt; held);

@@ -39,7 +39,7 @@ pub enum Asked {
     Fetch(u32, u32),
 }
 
-/// Returns the node with this number, below 16.
+/// Returns the node with the number `number` modulo 16.
 pub fn node(number: u8) -> NodeId {
     NodeId::new(number % 16)
 }
@@ -65,7 +65,8 @@ fn spec() -> Spec {
     }
 }
 
-/// Returns the request at a node.
+/// Returns the request that `asked` names, at the node `me`, with the token that it needs. It is of the tenant 7, and of its one
+/// group. `Err` if memory for a message is refused.
 pub fn request(alloc: Global, me: NodeId, asked: Asked) -> Result<Request, OutOfMemory> {
     Ok(match asked {
         Asked::AddTenant => Request::AddTenant(token(&ADMIN_KEY, Need::Admin), TENANT),

@@ -1,4 +1,4 @@
-//! Steps at nodes, and the tapes that they leave.
+//! Worked steps at nodes, and the tapes that they leave, for the tests of merging.
 ghost use Rattle.gb_cluster.specs.ClusterValue.{IsClusterPlan};
 
 use crate::requests::{Asked, node, request};
@@ -42,7 +42,7 @@ pub struct Taped {
     tape: Vec<TapeEntry>,
 }
 
-/// Adds the nodes of a cluster, at which nothing happened.
+/// Appends the nodes of a cluster to `nodes`, each with nothing happened and an empty tape. `Err` if memory is refused.
 pub fn start(alloc: Global, plan: &Plan, nodes: &mut Vec<Taped>) -> Result<(), OutOfMemory>
     requires { IsClusterPlan plan.now }
 {
@@ -170,7 +170,8 @@ fn take(alloc: Global, nodes: &mut [Taped], me: NodeId, step: Step) -> Result<()
     }
 }
 
-/// Takes steps in turn.
+/// Takes these steps at their nodes, one after the other. Each changes its node and appends an entry to the node's tape. A step at
+/// a node that is not there is left out. `Err` if memory is refused.
 pub fn take_all(alloc: Global, nodes: &mut [Taped], steps: &[At]) -> Result<(), OutOfMemory> {
     for (number, step) in steps {
         take(alloc, nodes, node(*number), *step)?;
@@ -178,14 +179,15 @@ pub fn take_all(alloc: Global, nodes: &mut [Taped], steps: &[At]) -> Result<(), 
     Ok(())
 }
 
-/// Loses the tape of a node.
+/// Empties the tape of the node with this number. Nothing changes if there is no such node.
 pub fn lose(nodes: &mut [Taped], number: u8) {
     if let Some(taped) = nodes.get_mut(usize::from(number)) {
         taped.tape.clear();
     }
 }
 
-/// Takes the tapes from the nodes.
+/// Takes the tapes from the nodes, whose tapes are empty then, and appends them to `tapes` in the order of the nodes. `Err` if
+/// memory is refused.
 pub fn hand_over(
     alloc: Global,
     nodes: &mut [Taped],

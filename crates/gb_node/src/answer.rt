@@ -1,4 +1,4 @@
-//! The answer to an event at a node.
+//! The answer of a node to an event: a reply, what came of bytes, a packet that is sent, or the nodes that a tick reports.
 ghost use Rattle.std.specs.Prelude.{◌≡◌, ◌↔◌, [], IfOk, IsTrue, vec_capacity};
 ghost use Rattle.gb_node.specs.Reads.{IsWithin};
 
@@ -84,7 +84,7 @@ pub enum Halted {
 }
 
 impl NodeAnswer {
-    /// Returns a copy of the answer.
+    /// Returns a copy of the answer. `Err` if memory is refused.
     pub fn duplicate(&self, alloc: Global) -> Result<NodeAnswer, OutOfMemory>
         ensures { IfOk result (λ a. a ≡ self.now) }
     {
@@ -97,8 +97,8 @@ impl NodeAnswer {
         })
     }
 
-    /// Returns a copy of the answer, which is no log. Its packet, if it has one, is copied into `room`, an empty vector with
-    /// room for it.
+    /// Returns a copy of the answer, which must not be a log. Its packet, if it has one, is copied into `room`, an empty vector
+    /// with capacity for it. Takes no memory.
     pub fn in_room(&self, room: Vec<u8>) -> NodeAnswer
         requires empty { room.items ≡ [] }
         requires room { IsWithin (vec_capacity room) self.now }
@@ -113,7 +113,7 @@ impl NodeAnswer {
         }
     }
 
-    /// Returns true if the answers are the same.
+    /// Returns true if the two answers are equal.
     pub fn is(&self, other: &NodeAnswer) -> bool
         ensures { IsTrue result ↔ (self.now ≡ other.now) }
     {

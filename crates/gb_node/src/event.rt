@@ -1,4 +1,4 @@
-//! What happens at a node.
+//! What happens at a node: a request, bytes that came, a packet to be sent, a tick of the time, or a stop.
 ghost use Rattle.std.specs.Prelude.{◌≡◌, ◌↔◌, IfOk, IsTrue};
 ghost use Rattle.gb_node.specs.Reads.{is_read};
 
@@ -43,7 +43,7 @@ impl Drop for NodeEvent {
 }
 
 impl NodeEvent {
-    /// Returns a copy of the event.
+    /// Returns a copy of the event. `Err` if memory is refused.
     pub fn duplicate(&self, alloc: Global) -> Result<NodeEvent, OutOfMemory>
         ensures { IfOk result (λ e. e ≡ self.now) }
     {
@@ -58,7 +58,8 @@ impl NodeEvent {
         })
     }
 
-    /// Returns true if the event only reads: whatever the answer is, the node stays as it was.
+    /// Returns true if the event changes nothing at the node, whatever the answer is: a fetch of a log, a frame that is sent again,
+    /// or an acknowledgement that is sent.
     pub fn only_reads(&self) -> bool
         ensures { result ≡ is_read self.now }
     {
@@ -70,7 +71,7 @@ impl NodeEvent {
         }
     }
 
-    /// Returns true if the events are the same.
+    /// Returns true if the two events are equal, including tokens.
     pub fn is(&self, other: &NodeEvent) -> bool
         ensures { IsTrue result ↔ (self.now ≡ other.now) }
     {

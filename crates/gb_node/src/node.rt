@@ -1,4 +1,4 @@
-//! The node.
+//! The node: its tenants and groups, its links to the other nodes and its crash detector, and what each event does at it.
 ghost use Rattle.std.specs.Prelude.{◌≡◌, ◌≤◌, ◌<◌, ◌+◌, [], IsSome, vec_capacity, List, true, false, length, replicate, sum_by, None, Some, MatchOption, IfOk, OnOk, OnErr, Ok, is_ok};
 ghost use Rattle.std.specs.FinSet as set;
 ghost use Rattle.gb_types.specs.Version.{limits_of};
@@ -186,7 +186,7 @@ struct Measured {
 }
 
 impl Node {
-    /// Returns a node at which nothing has happened.
+    /// Returns a node by its plan, at which nothing has happened. Takes no memory.
     pub fn start(alloc: Global, plan: &NodePlan) -> Node
         requires cluster { plan.now.nodes ≤ (limits_of plan.now.version).nodes }
         requires member { plan.now.me.number < plan.now.nodes }
@@ -214,8 +214,9 @@ impl Node {
         }
     }
 
-    /// Returns the reply to a request. Without the token that it needs, a running node answers Denied, whatever groups it has. After a
-    /// refusal nothing has changed.
+    /// Executes a request and returns the reply. Refusals come in this order: `Stopped` if the node has stopped; `Denied` if the
+    /// token is not the one that the request needs, whatever groups there are; the refusals of the rules of tenants and groups;
+    /// `OutOfMemory`. After a refusal nothing has changed.
     pub fn request(&mut self, request: &Request) -> Reply
         ensures turn { IsTurn self.old (NodeEvent.Request request.now) (NodeAnswer.Reply result) self.new }
         ensures denied { self.old.stopped ≡ false → is_admitted request.now self.old.table ≡ false → (result ≡ Reply.Refused Refusal.Denied) × (self.new ≡ self.old) }
@@ -228,16 +229,17 @@ impl Node {
         self.table.request(request, &noticed)
     }
 
-    /// Returns true if this is the administrator's token.
+    /// Returns true if `token` is the administrator's token, whether the node has stopped or not.
     pub fn is_admin(&self, token: &Token) -> bool
         ensures { result ≡ is_token self.now.table.admin_key Admin token.now }
     {
         self.table.is_admin(token)
     }
 
-    /// Returns at most `most` of the groups that live at the node or were dropped there, from the place `from` on, in the order of their
-    /// places. The token has to be the administrator's. A list is no event: nothing changes. Refusals: Stopped if the node has stopped;
-    /// Denied if the token is another; BadPlace if there are fewer than `from` groups, or `most` is above 64.
+    /// Returns at most `most` of the groups that live at the node or were dropped there, in the order of their places, without the
+    /// first `from` of them, and their total number. A list is no event: nothing changes. `Err` with `Stopped` if the node has
+    /// stopped, with `Denied` if `token` is not the administrator's, with `BadPlace` if there are fewer than `from` groups or
+    /// `most` is above 64, and with `OutOfMemory` if memory is refused, in this order.
     pub fn list(&self, token: &Token, from: u32, most: u32) -> Result<Listing, Refusal>
         ensures { Lists self.now token.now from most result }
     {
@@ -372,8 +374,10 @@ impl Node {
         Ok(self.write_frame(to, number, next.count, packet))
     }
 
-    /// Packs what waits for a node as the next frame of the link to it. Returns the packet to send. `Nothing` if the node is no other one
-    /// of the cluster or was noticed, its link has no room, or nothing waits. After `Nothing`, as after a refusal, nothing has changed.
+    /// Takes items that wait for the node `to` out of the groups' queues, as the next frame of the link to it, and returns the
+    /// packet to send. Returns `Nothing` if `to` is not another node of the cluster or is held for crashed, if the window of the
+    /// link has no room for a frame, or if nothing waits. Returns `Refused` with `Stopped` if the node has stopped, and with
+    /// `OutOfMemory` if memory is refused. After `Nothing` and `Refused` nothing has changed.
     pub fn pack(&mut self, to: NodeId) -> Sent
         ensures turn { IsTurn self.old (NodeEvent.Pack to) (NodeAnswer.Sent result) self.new }
         ensures spelt { IsSpelt self.old (NodeEvent.Pack to) (NodeAnswer.Sent result) }
@@ -409,8 +413,9 @@ impl Node {
         Ok(frame_packet(self.head(to, number), count, texts, self.key.key(), packet))
     }
 
-    /// Returns the packet that sends an unacknowledged frame again, by its number; 0 stands for the lowest such number.
-    /// Changes nothing.
+    /// Returns the packet that sends a frame to the node `to` again, if it is not acknowledged. `number` is the frame's number; 0
+    /// stands for the lowest such number. Returns `Nothing` if `to` is not another node of the cluster or is held for crashed, or
+    /// if there is no such frame. Returns `Refused` with `Stopped` or `OutOfMemory`. Changes nothing.
     pub fn again(&self, to: NodeId, number: u64) -> Sent
         ensures turn { IsTurn self.now (NodeEvent.Again to number) (NodeAnswer.Sent result) self.now }
         ensures spelt { IsSpelt self.now (NodeEvent.Again to number) (NodeAnswer.Sent result) }
@@ -441,7 +446,8 @@ impl Node {
         self.key.bare_packet(self.alloc, head)
     }
 
-    /// Returns a packet that is an acknowledgement alone. Changes nothing.
+    /// Returns a packet to the node `to` that only acknowledges what came from there so far. Returns `Nothing` if `to` is not
+    /// another node of the cluster. Returns `Refused` with `Stopped` or `OutOfMemory`. Changes nothing that contracts see.
     pub fn ack(&mut self, to: NodeId) -> Sent
         ensures turn { IsTurn self.old (NodeEvent.Ack to) (NodeAnswer.Sent result) self.new }
         ensures spelt { IsSpelt self.old (NodeEvent.Ack to) (NodeAnswer.Sent result) }
@@ -495,15 +501,18 @@ impl Node {
         Ok(packet)
     }
 
-    /// Returns true if bytes are a packet of the cluster for this node, stopped or not.
+    /// Returns true if the bytes are a packet of this cluster for this node: well formed, with the right tag, and from another node
+    /// of the cluster. It is the same if the node has stopped. Changes nothing.
     pub fn is_packet(&self, bytes: &[u8]) -> bool
         ensures { result ≡ is_ok (read_at self.now bytes.now) }
     {
         self.read(bytes).is_ok()
     }
 
-    /// Takes bytes that came, without a copy, and returns what they were: a good packet, or the first fault. After a fault nothing has
-    /// changed, and its sender does not count as heard. Takes no memory.
+    /// Takes bytes that came, without a copy. Returns `Refused` with `Stopped` if the node has stopped; `Fault` with the first
+    /// fault if they are no packet for this node; else `Good`, with the sender and what became of the frame. For a good packet its
+    /// sender counts as heard, the acknowledged frames are done, and the items of a frame that comes for the first time are handed
+    /// to their groups. Else nothing has changed. Takes no memory.
     pub fn packet(&mut self, bytes: &[u8]) -> PacketAnswer
         ensures { IsTurn self.old (NodeEvent.Packet bytes.now) (NodeAnswer.Taken result) self.new }
     {
@@ -524,8 +533,8 @@ impl Node {
         decode_known(bytes, self.key.key())
     }
 
-    /// Takes bytes that are known to be a packet of the cluster for this node, since one of its nodes sent them. Does and returns what
-    /// `packet` does, without a test and without computing a tag. Takes no memory.
+    /// Takes bytes that are known to be a packet of the cluster for this node, since one of its nodes sent them. Does and returns
+    /// what `packet` does, but does not test the bytes and computes no tag. Takes no memory.
     pub fn known_packet(&mut self, bytes: &[u8]) -> PacketAnswer
         requires { is_ok (read_at self.old bytes.now) ≡ true }
         ensures { IsTurn self.old (NodeEvent.Packet bytes.now) (NodeAnswer.Taken result) self.new }
@@ -537,8 +546,9 @@ impl Node {
         PacketAnswer::Good(self.take_packet(&packet))
     }
 
-    /// Makes one tick of the node's time pass. Returns the nodes that are noticed now. Each group notices them too, in rising order. Takes
-    /// no memory.
+    /// Makes one tick of the node's time pass. Returns `Noticed` with the nodes that are held for crashed from this tick on, since
+    /// no good packet came from them for too many ticks. Each group records them too, in rising order of their numbers. Returns
+    /// `Refused` with `Stopped` if the node has stopped; then nothing has changed. Takes no memory.
     pub fn tick(&mut self) -> Ticked
         ensures { IsTurn self.old NodeEvent.Tick (NodeAnswer.Ticked result) self.new }
     {
@@ -550,7 +560,8 @@ impl Node {
         Ticked::Noticed(found)
     }
 
-    /// Stops the node for good. Returns Done, or Stopped if it had stopped before. It answers Stopped to every later event.
+    /// Stops the node for good. Returns `Done`, or `Refused` with `Stopped` if it had stopped before. It answers `Stopped` to every
+    /// later event.
     pub fn stop(&mut self) -> Halted
         ensures { IsTurn self.old NodeEvent.Stop (NodeAnswer.Halted result) self.new }
     {
@@ -561,7 +572,9 @@ impl Node {
         Halted::Done
     }
 
-    /// Makes one event happen and returns the node's answer to it.
+    /// Makes one event happen at the node, by `request`, `packet`, `pack`, `again`, `ack`, `tick` or `stop`, and returns the node's
+    /// answer to it. What the answer refuses has changed nothing. The function does no input or output: a packet to send is in the
+    /// answer.
     #[tactic(auto, using(crate::proofs::ReadLemmas::reads))]
     pub fn take(&mut self, event: &NodeEvent) -> NodeAnswer
         ensures turn { IsTurn self.old event.now result self.new }

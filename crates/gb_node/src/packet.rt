@@ -14,8 +14,8 @@ use gb_frame::writing::wrap;
 use gb_types::OutOfMemory;
 use std::alloc::Global;
 
-/// Returns the packet with this head and a frame of `count` items. `texts` are the items' texts, of the head's version. The
-/// packet is written into `packet`, an empty vector with room for it.
+/// Returns the packet with this head, a frame of `count` items, and its tag under `key`. `texts` are the items' texts, of the
+/// head's version. The packet is written into `packet`, an empty vector with capacity for it. Takes no memory.
 pub fn frame_packet(
     head: Head,
     count: u16,
@@ -37,7 +37,7 @@ pub fn frame_packet(
     PacketText::from(packet)
 }
 
-/// Returns the packet with this head and no frame.
+/// Returns the packet with this head, no frame, and its tag under `key`. `Err` if memory is refused.
 pub fn bare_packet(alloc: Global, head: Head, key: &HmacKey) -> Result<PacketText, OutOfMemory>
     requires head { IsHead head }
     requires frame { head.frame ≡ 0 }

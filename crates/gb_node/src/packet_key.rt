@@ -105,7 +105,7 @@ fn again_or_anew(
 }
 
 impl PacketKey {
-    /// Returns the key, under which no packet was sent yet.
+    /// Returns the key of a cluster's packets. No packet is kept yet.
     pub fn new(key: &Key) -> PacketKey
         ensures { result ≡ key.now }
     {
@@ -115,14 +115,15 @@ impl PacketKey {
         }
     }
 
-    /// Returns the key, with its pads hashed.
+    /// Returns the key, prepared for computing the tags of packets.
     pub fn key(&self) -> &HmacKey
         ensures { result.now ≡ self.now }
     {
         &self.key
     }
 
-    /// Returns the packet with this head and no frame.
+    /// Returns the packet with this head, no frame, and its tag under the key. If the last such packet to the same node had the
+    /// same head, it is copied; else the new one is kept for the next call. `Err` if memory is refused.
     pub fn bare_packet(&mut self, alloc: Global, head: Head) -> Result<PacketText, OutOfMemory>
         requires head { IsHead head }
         requires frame { head.frame ≡ 0 }

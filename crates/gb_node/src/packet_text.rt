@@ -23,7 +23,7 @@ impl PacketText {
         self.bytes.as_slice()
     }
 
-    /// Returns the bytes, without copying them.
+    /// Returns the bytes and gives up the value. They are not copied.
     pub fn into_vec(self) -> Vec<u8>
         ensures { result.items ≡ self }
     {

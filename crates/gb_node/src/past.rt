@@ -8,8 +8,8 @@ use gb_frame::laws::what_is_written_is_read;
 use gb_groups::each::each_group;
 use gb_slot::history::stands;
 
-/// A law of every node, whatever happens at it: its links, its detector, its tenants, whether it stopped and each of its groups
-/// are what the events and answers of its past say. Each group's slot stands for what the past told that group. The function
+/// A law of every node, whatever happens at it: its links, its crash detector, its tenants, whether it stopped and each of its
+/// groups are what the events and answers of its past say. Each group's slot stands for what the past told that group. The function
 /// does nothing when it runs; its contract is the law.
 pub fn pasts_say()
     ensures { PastsSay }
@@ -22,8 +22,8 @@ pub fn pasts_say()
 
 /// A law of every node, whatever happens at it: each of its answers is what the events and answers before it say. A request is
 /// answered by the rules of tenants and groups. A packet that is packed is one for another node, and has the first of the items
-/// that wait there in each group. A packet that is taken is one for this node from another node, and its frame comes for the
-/// first time only once. A tick notices other nodes of the cluster that were not noticed before. The function does nothing when
+/// that wait there in each group. A packet that is taken is one for this node from another node, and its frame comes for the first
+/// time only once. A tick reports other nodes of the cluster that were not held for crashed before. The function does nothing when
 /// it runs; its contract is the law.
 pub fn answers_say()
     ensures { AnswersSay }
@@ -34,9 +34,9 @@ pub fn answers_say()
     noticed_by_calls();
 }
 
-/// A law of every node, whatever happens at it. A node that sends a packet runs. The packet says what its event is to send, goes
-/// to another node of the cluster and is read back under the cluster's key. Only a sending or a request is ever refused for lack
-/// of memory. The function does nothing when it runs; its contract is the law.
+/// A law of every node, whatever happens at it. A node that sends a packet runs. The packet is the one that the event asks for,
+/// goes to another node of the cluster, and is read back under the cluster's key. Only a request, or an event that sends, is ever
+/// refused for lack of memory. The function does nothing when it runs; its contract is the law.
 pub fn packets_say()
     ensures senders { SendersRun }
     ensures packets { PacketsSay }

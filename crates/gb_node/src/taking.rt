@@ -43,8 +43,9 @@ fn finish_frame(table: &mut Table, by: NodeId, version: Version, texts: &[u8])
     }
 }
 
-/// Takes an acknowledgement from a node: marks the frames that it newly covers as done, in rising order of their numbers.
-/// Returns the number of these frames, at most 64.
+/// Takes an acknowledgement, with this base and mask, from the node `by`. Removes the frames that it newly covers from `window`, in
+/// rising order of their numbers, and records in `table` that `by` acknowledged their items. Returns the number of these frames, 0
+/// to 64. Takes no memory.
 pub fn take_ack(table: &mut Table, window: &mut Window, by: NodeId, base: u64, mask: u64) -> u32
     ensures count { result ≡ length (freed window.old.window base mask) }
     ensures window { window.new ≡ record window.old { window = without_done base mask window.old.window } }
@@ -71,8 +72,9 @@ fn bring(table: &mut Table, from: NodeId, packet: &PacketView<'_>)
     }
 }
 
-/// Takes a packet's frame, if it has one. Its items come if its number comes for the first time. Returns what became of the
-/// frame, and the number of items that came.
+/// Takes the frame of a packet from the node `from`, if it has one. Its number is recorded in `receiver`. If it comes for the first
+/// time, its items are handed to their groups in `table`, in order. Returns what became of the frame, and the number of items that
+/// were handed on, 0 unless it came for the first time. Takes no memory.
 pub fn take_frame(
     table: &mut Table,
     receiver: &mut Receiver,
@@ -98,7 +100,7 @@ pub fn take_frame(
     }
 }
 
-/// Notices these nodes in each group, in rising order.
+/// Records in each group of `table` that the nodes of `found` are held for crashed, in rising order of their numbers.
 pub fn notice_each(table: &mut Table, found: &NodeSet)
     ensures { table.new ≡ notice_each table.old (rising found.now) }
 {

@@ -43,7 +43,7 @@ impl Model for Tape {
 }
 
 impl Tape {
-    /// Returns the entries, the oldest first.
+    /// Returns the entries of the tape, the oldest first. Each is an event at the node with its answer.
     pub fn as_slice(&self) -> &[TapeEntry]
         ensures { result.now ≡ self.now }
     {

@@ -37,7 +37,7 @@ impl Model for Window {
 }
 
 impl Window {
-    /// Returns the window of a link on which nothing was sent. Its texts are of this version.
+    /// Returns the window of a link on which nothing was sent. Its frames will have texts of this version. Takes no memory.
     pub fn new(alloc: Global, version: Version) -> Window
         ensures { result ≡ new_frames version }
     {
@@ -47,14 +47,15 @@ impl Window {
         }
     }
 
-    /// Returns the version of the texts.
+    /// Returns the version of the frames' texts.
     pub fn version(&self) -> Version
         ensures { result ≡ self.now.version }
     {
         self.version
     }
 
-    /// Returns true if one more frame may be sent.
+    /// Returns true if one more frame may be sent: its number would be at most 63 above the lowest that is not acknowledged, and a
+    /// number is left.
     pub fn room(&self) -> bool
         ensures room { result ≡ has_room self.now.window }
         ensures window { IsWindow self.now.window }
@@ -62,7 +63,8 @@ impl Window {
         self.sender.room()
     }
 
-    /// Returns the number and the texts of the frame with this number, if it is not acknowledged; for 0, of the lowest such frame.
+    /// Returns the frame with this number, as the number and the texts of its items, if it is not acknowledged. For 0, returns the
+    /// lowest frame that is not acknowledged. `None` if there is no such frame.
     pub fn again(&self, number: u64) -> Option<(u64, &[u8])>
         ensures { MatchOption result (frame_again self.now.window number ≡ None) (λ r. (frame_again self.now.window number ≡ Some (r.0, batch_in self.now.version r.1.now)) × IsBatch self.now.version r.1.now × (0 < r.0)) }
     {
@@ -74,8 +76,9 @@ impl Window {
         }
     }
 
-    /// Removes the lowest open frame that the acknowledgement covers. Returns its number and the texts of its items. `None` if it covers no
-    /// open frame. To take a whole acknowledgement, call until there is none.
+    /// Removes the lowest frame that is not acknowledged yet and that this acknowledgement covers. Returns its number and the texts
+    /// of its items. `None` if it covers no such frame; then nothing has changed. To take a whole acknowledgement, call until the
+    /// result is `None`.
     pub fn acked(&mut self, base: u64, mask: u64) -> Option<(u64, Vec<u8>)>
         ensures first { MatchOption result (freed self.old.window base mask ≡ []) (λ u. (freed self.old.window base mask ≡ (u.0, batch_in self.old.version u.1.items) ∷ freed self.new.window base mask) × IsBatch self.old.version u.1.items) }
         ensures done { self.new ≡ record self.old { window = acknowledged self.old.window base mask } }
@@ -83,15 +86,17 @@ impl Window {
         self.sender.acked(base, mask)
     }
 
-    /// Gives back the memory of a frame that is done, for one that is packed later.
+    /// Keeps the memory of a frame that `acked` returned for a frame that is packed later.
     pub fn reuse(&mut self, texts: Vec<u8>)
         ensures { self.new ≡ self.old }
     {
         self.sender.reuse(texts);
     }
 
-    /// Packs the next batch of a table for a node, which may have `most` bytes and has `count` items with `bytes` bytes, where it stays,
-    /// as the next frame. Returns its number. Without memory nothing has changed.
+    /// Takes the next batch for the node `to` out of the queues of `table`, and makes it the next frame of this window. Returns the
+    /// frame's number. The batch has at most `most` bytes; `count` and `bytes` are its items and their bytes, as `Table::measure`
+    /// returned them. The items are written where the frame stays, without a copy. `Err` if memory is refused; then nothing has
+    /// changed.
     pub fn pack(
         &mut self,
         table: &mut Table,

@@ -1,4 +1,4 @@
-//! Calls of a slot with their expected answers.
+//! Calls of one group at a node with their expected answers, as tests.
 ghost use Rattle.gb_slot.specs.Effects.{AreReady};
 
 use gb_layer::Effects;
@@ -14,7 +14,7 @@ pub const OTHER: u8 = 3;
 
 pub const STRANGER: u8 = 4;
 
-/// Returns the node with this number, below 32.
+/// Returns the node with the number `number` modulo 32.
 pub fn node(number: u8) -> NodeId {
     NodeId::new(number % 32)
 }
@@ -149,7 +149,8 @@ fn holds(version: Version, slot: &mut Slot, effects: &mut Effects, step: Step) -
     }
 }
 
-/// Makes each call at a node of this version, and fails the test at the first whose answer is not the step's.
+/// Makes these calls of a group's slot in turn, at a node of this version. The test aborts with a message at the first whose answer
+/// is not the step's.
 pub fn compare(
     rt: &impl Abort,
     version: Version,

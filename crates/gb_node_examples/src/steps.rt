@@ -1,4 +1,4 @@
-// Three nodes, and steps at them with what they must tell. Tables name nodes by their numbers.
+//! Three nodes, and steps at them with what they must tell, as tests. Tables name nodes by their numbers.
 ghost use Rattle.std.specs.Prelude.{◌<◌, ◌≤◌};
 ghost use Rattle.gb_types.specs.Version.{limits_of};
 
@@ -21,7 +21,7 @@ pub const THIRD: u8 = 2;
 /// The last node of a cluster of 32.
 pub const LAST: u8 = 31;
 
-/// Returns the node with this number, below 32.
+/// Returns the node with the number `number` modulo 32.
 pub fn node(number: u8) -> NodeId {
     NodeId::new(number % 32)
 }
@@ -118,7 +118,8 @@ fn start(alloc: Global, number: u8, nodes: u8, version: Version) -> Node
     start_with(alloc, number, nodes, version, 16_345)
 }
 
-/// Returns the three nodes of a cluster of version 1, at which nothing has happened.
+/// Returns the three nodes of a cluster whose nodes send version 1 of the packet text, at which nothing has happened. `Err` if
+/// memory is refused.
 pub fn three(alloc: Global) -> Result<Vec<Node>, OutOfMemory> {
     let mut nodes = Vec::new(alloc);
     for number in 0..3u8 {
@@ -127,7 +128,8 @@ pub fn three(alloc: Global) -> Result<Vec<Node>, OutOfMemory> {
     Ok(nodes)
 }
 
-/// Returns the three nodes of a cluster, the first of version 2 and the others of version 1, at which nothing has happened.
+/// Returns the three nodes of a cluster whose first node sends version 2 of the packet text and the others version 1, at which
+/// nothing has happened. `Err` if memory is refused.
 pub fn unlike(alloc: Global) -> Result<Vec<Node>, OutOfMemory> {
     let mut nodes = three(alloc)?;
     if let Some(first) = nodes.first_mut() {
@@ -136,7 +138,8 @@ pub fn unlike(alloc: Global) -> Result<Vec<Node>, OutOfMemory> {
     Ok(nodes)
 }
 
-/// Returns the three nodes of a cluster, the first of version 2 and with room for 1,400 bytes of items a packet, the others of version 1.
+/// Returns the three nodes of a cluster, at which nothing has happened. The first sends version 2 of the packet text, with at most
+/// 1,400 bytes of items a packet, and the others version 1. `Err` if memory is refused.
 pub fn narrow(alloc: Global) -> Result<Vec<Node>, OutOfMemory> {
     let mut nodes = three(alloc)?;
     if let Some(first) = nodes.first_mut() {
@@ -145,7 +148,8 @@ pub fn narrow(alloc: Global) -> Result<Vec<Node>, OutOfMemory> {
     Ok(nodes)
 }
 
-/// Returns the first two nodes and the last one of a cluster of 32 nodes of this version, at which nothing has happened.
+/// Returns the first two nodes and the last one of a cluster of 32 nodes that send this version, at which nothing has happened.
+/// `Err` if memory is refused.
 pub fn far(alloc: Global, version: Version) -> Result<Vec<Node>, OutOfMemory>
     requires { 32 ≤ (limits_of version).nodes }
 {
@@ -231,7 +235,8 @@ fn keep(alloc: Global, sent: &mut Vec<PacketText>, answer: &NodeAnswer) -> Resul
     Ok(sent.push(PacketText::from(bytes))?)
 }
 
-/// Takes a step at a node. Returns true if the node's answer is the line's.
+/// Takes the step of a line at its node, and appends a copy of the packet that the node sends, if any, to `sent`. Returns true if
+/// the node's answer is the line's, false if it is another or if the node is not there. `Err` if memory is refused.
 pub fn holds(
     alloc: Global,
     nodes: &mut [Node],
@@ -250,7 +255,8 @@ pub fn holds(
     }
 }
 
-/// Takes the steps of the lines in turn, and fails the test at the first whose answer is not the line's.
+/// Takes the steps of these lines in turn at their nodes, and appends the packets that they send to `sent`. The test aborts with a
+/// message at the first line whose answer is not the node's. `Err` if memory is refused.
 pub fn compare(
     rt: &impl Abort,
     alloc: Global,
@@ -265,7 +271,8 @@ pub fn compare(
     Ok(())
 }
 
-/// Takes the steps of the lines at nodes that have sent nothing yet, as `compare` does.
+/// Takes the steps of these lines in turn at nodes that have sent nothing yet, as `compare` does. The test aborts with a message at
+/// the first line whose answer is not the node's. `Err` if memory is refused.
 pub fn run_at(
     rt: &impl Abort,
     alloc: Global,
@@ -276,7 +283,8 @@ pub fn run_at(
     compare(rt, alloc, nodes, &mut sent, lines)
 }
 
-/// Takes the steps of the lines at the three nodes that `three` returns, as `compare` does.
+/// Takes the steps of these lines in turn at the three nodes that `three` returns, as `compare` does. The test aborts with a
+/// message at the first line whose answer is not the node's. `Err` if memory is refused.
 pub fn run(rt: &impl Abort, alloc: Global, lines: &[Line]) -> Result<(), OutOfMemory> {
     let mut nodes = three(alloc)?;
     run_at(rt, alloc, &mut nodes, lines)

@@ -1,4 +1,5 @@
-// Packets from the first node to the second that no node sent, and texts that are no packet for the second node.
+//! Packets from the first node to the second that no node sent, and texts that are no packet for the second node, for tests of whole
+//! nodes.
 use crate::steps::SECOND;
 use gb_cap::Key;
 use gb_cap::hmac::hmac;
@@ -28,7 +29,8 @@ fn spell(text: &mut Vec<u8>, numbers: &[u64], items: &[u8]) -> Result<(), OutOfM
     seal(text, &CLUSTER_KEY)
 }
 
-/// Returns a packet from the first node to the second, with this base, mask and frame, and these items behind their count.
+/// Returns a packet of version 1 from the first node to the second, with a good tag. `numbers` are the base, the mask and the
+/// frame's number; `items` are the two bytes of the number of items, and the items. `Err` if memory is refused.
 pub fn packet(alloc: Global, numbers: &[u64], items: &[u8]) -> Result<PacketText, OutOfMemory> {
     let mut text = Vec::from_slice(alloc, b"GB\x01\0\x01")?;
     spell(&mut text, numbers, items)?;
@@ -45,7 +47,8 @@ fn put_item(text: &mut Vec<u8>, seq: u8, len: u16) -> Result<(), OutOfMemory> {
     Ok(())
 }
 
-/// Returns a packet of version 2 from the first node to the second: frame 1, three items of 4,096 bytes and one of `last` bytes.
+/// Returns a packet of version 2 from the first node to the second, with a good tag: frame 1, three items with payloads of 4,096
+/// bytes and one with `last` bytes. `Err` if memory is refused.
 pub fn long_packet(alloc: Global, last: u16) -> Result<PacketText, OutOfMemory> {
     let mut items = Vec::from_slice(alloc, b"\0\x04")?;
     for seq in 1..4u8 {
@@ -192,7 +195,8 @@ fn disturb_node(rt: &impl Abort, alloc: Global, node: &mut Node) -> Result<(), O
     Ok(())
 }
 
-/// Hands each of the texts to the second node, and fails the test unless the node answers with the text's fault.
+/// Hands texts with a fault to the second of the nodes. The test aborts with a message unless the node answers each with its fault,
+/// or if there is no second node. `Err` if memory is refused.
 pub fn disturb(rt: &impl Abort, alloc: Global, nodes: &mut [Node]) -> Result<(), OutOfMemory> {
     match nodes.get_mut(usize::from(SECOND)) {
         Some(node) => disturb_node(rt, alloc, node),

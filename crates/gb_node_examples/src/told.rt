@@ -1,4 +1,4 @@
-//! Replies in short.
+//! Replies of a node in short, as tests compare them.
 use gb_types::{Refusal, Reply};
 
 #[derive(Clone, Copy, PartialEq)]
@@ -9,7 +9,7 @@ pub enum Told {
     Refused(Refusal),
 }
 
-/// Returns what a test looks at in a reply: its refusal, the length of its log, or that it is neither.
+/// Returns what a test looks at in a reply: the refusal, the number of entries of a log, or `Done` for each other reply.
 pub fn in_short(reply: &Reply) -> Told {
     match reply {
         Reply::Refused(why) => Told::Refused(*why),

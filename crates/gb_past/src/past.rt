@@ -1,4 +1,4 @@
-//! A past that one owner keeps, and its witnesses.
+//! A past: a list of entries that only grows and that memory does not hold, kept by one owner, with its witnesses.
 ghost use Rattle.std.specs.Prelude.{◌≡◌, ◌++◌, ◌∷◌, [], ◌⊎◌, None};
 ghost use mathlib.Core.List.{IsPrefix};
 ghost use Rattle.logbook.specs.Pages.{may_write};
@@ -50,7 +50,7 @@ impl<E, S: Story<E>> Model for Seen<E, S> {
 }
 
 impl<E, S: Story<E>> Past<E, S> {
-    /// Returns a new past with no entry.
+    /// Returns a new past, a list that only grows and that no memory holds, with no entry.
     pub fn new() -> Past<E, S>
         ensures { result.log ≡ [] }
     {
@@ -68,7 +68,8 @@ impl<E, S: Story<E>> Past<E, S> {
         }
     }
 
-    /// Adds an entry. This makes two atomic steps on a word that only the owner has, and takes no memory.
+    /// Adds an entry behind the others: the one that `M` says stands for `about`. Makes two atomic steps on a word that only the
+    /// owner has. Takes no memory.
     pub fn add<X, M: Told<X, E>>(&mut self, about: &X)
         requires { S.goes_on self.old.log (M.entry about.now) }
         ensures book { self.new.book ≡ self.old.book }
@@ -81,7 +82,7 @@ impl<E, S: Story<E>> Past<E, S> {
         self.pen = next;
     }
 
-    /// Returns a witness of all entries.
+    /// Returns a witness of all entries that the past has now. Takes no memory.
     pub fn seen(&self) -> Seen<E, S>
         ensures { result ≡ self.now }
     {
@@ -94,7 +95,7 @@ impl<E, S: Story<E>> Past<E, S> {
 }
 
 impl<E, S: Story<E>> Seen<E, S> {
-    /// Returns another witness, which knows the same entries.
+    /// Returns another witness of the same past, which knows the same entries. Takes no memory.
     pub fn again(&self) -> Seen<E, S>
         ensures { result ≡ self.now }
     {
@@ -104,7 +105,7 @@ impl<E, S: Story<E>> Seen<E, S> {
         }
     }
 
-    /// Becomes a witness of all entries that its past has now. The past stays as it is.
+    /// Makes this a witness of all entries that its past has now. The past stays as it is.
     pub fn learn(&mut self, past: &mut Past<E, S>)
         requires { self.old.book ≡ past.old.book }
         ensures past { past.new ≡ past.old }
@@ -119,7 +120,8 @@ impl<E, S: Story<E>> Seen<E, S> {
         self.marks = past.marks.again();
     }
 
-    /// A law: of two witnesses of one past, the log of one begins with the log of the other.
+    /// A law: of two witnesses of one past, the entries of one begin with all entries of the other. The function does nothing; its
+    /// contract is the law.
     pub fn compare(&self, other: &Seen<E, S>)
         requires { self.now.book ≡ other.now.book }
         ensures { IsPrefix self.now.log other.now.log ⊎ IsPrefix other.now.log self.now.log }
@@ -128,7 +130,8 @@ impl<E, S: Story<E>> Seen<E, S> {
         both.learn(&other.marks);
     }
 
-    /// A law: each entry was one that may come after those before it.
+    /// A law: each entry that the witness knows was one that may come after those before it, as the past's `Story` says. The
+    /// function does nothing; its contract is the law.
     pub fn is_story(&self)
         ensures { IsStory S.goes_on self.now.log }
     {

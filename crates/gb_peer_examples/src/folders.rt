@@ -1,10 +1,10 @@
-// Folders for one test each.
+//! Temporary folders and cluster files, for one test each.
 use std::alloc::Global;
 use std::fs;
 use std::fs::Files;
 use std::random::RandomSource;
 
-/// Makes a folder of a new name for temporary files. Returns its name, or None if that is not possible.
+/// Makes a new folder `/tmp/foqradesh-N`, with a random number N, and returns its name. `None` if it cannot be made.
 pub fn folder<R: Files + RandomSource>(rt: &R, alloc: Global) -> Option<String> {
     let mut bytes = [0u8; 8];
     rt.fill_bytes(&mut bytes).ok()?;
@@ -14,7 +14,7 @@ pub fn folder<R: Files + RandomSource>(rt: &R, alloc: Global) -> Option<String> 
     Some(name)
 }
 
-/// Writes a file in a folder. Returns its name, or None if that is not possible.
+/// Writes `text` to the file `cluster.toml` in a folder, and returns the file's name. `None` if it cannot be written.
 pub fn file<R: Files>(rt: &R, alloc: Global, folder: &str, text: &[u8]) -> Option<String> {
     let name = format!(in alloc; "{folder}/cluster.toml").ok()?;
     fs::write(rt, name.as_str(), text).ok()?;

@@ -1,4 +1,4 @@
-// Words, files and addresses by which a node does not serve.
+//! Words, files and addresses by which a node of a cluster of several machines does not serve, as tests.
 use crate::folders::{file, folder};
 use gb_peer_run::peer_main::peer_main;
 use std::alloc::{AllocGlobal, Global};
@@ -22,7 +22,8 @@ pub struct Run {
     pub errors: Vec<u8>,
 }
 
-/// Returns how a node with these words and this standard input ends.
+/// Runs a node of a cluster of several machines with these words and this standard input, until it ends. Returns its exit status,
+/// and what it wrote to standard output and to standard error.
 pub fn run_of<
     H: Net<Listener = TcpListener, Stream = TcpStream>
         + Threads

@@ -1,4 +1,5 @@
-//! The host of a node, by the file of its cluster and its keys.
+//! What a node of a cluster of several machines is started with, by the cluster's file and its keys: the plan of its host and the
+//! options of its loop.
 ghost use Rattle.std.specs.Prelude.{◌≡◌, ◌≤◌, ◌<◌, IfOk, IfErr, length};
 ghost use Rattle.gb_cluster_file.specs.Cluster.{IsWithin};
 ghost use Rattle.gb_host.specs.Plans.{IsPlan};
@@ -16,7 +17,7 @@ use gb_server::serve_main::{FIRST, beats_of};
 use gb_types::Plan;
 use gb_types::limits::NODES;
 
-/// Returns the number of nodes of a cluster.
+/// Returns the number of nodes of the cluster, 1 to 32.
 pub fn node_count(file: &ClusterFile) -> u8
     requires { IsWithin file.now }
     ensures value { result ≡ length file.now.nodes.items }
@@ -26,8 +27,8 @@ pub fn node_count(file: &ClusterFile) -> u8
     file.nodes.len() as u8
 }
 
-/// Returns the plan of a host of nodes of a cluster, with its keys. Each node sends the version of the file, and packets are tagged under
-/// the key of the run. What happens goes through rings where records are wanted.
+/// Returns the plan of a host of this cluster's nodes, with its keys. Each node sends the version of the file, and packets are
+/// tagged under the key of the file's run. The host keeps what happens in rings for a record exactly if `records` is true.
 pub fn host_plan(file: &ClusterFile, keys: Keys, records: bool) -> HostPlan
     requires { IsWithin file.now }
     ensures is { result ≡ host_of file.now keys records }
@@ -49,7 +50,9 @@ pub fn host_plan(file: &ClusterFile, keys: Keys, records: bool) -> HostPlan
     }
 }
 
-/// Returns how the loop of a node behaves, with this limit of connections.
+/// Returns how the loop of a node behaves: its ticks by the file, its limits by the words of the command line, and at most
+/// `connections` connections at once. For 0 messages a connection in the words, their number is not limited. Times are in
+/// microseconds.
 pub fn options_of(file: &ClusterFile, plan: PeerPlan, connections: u64) -> LoopOptions
     ensures { ArePeerOptions file.now plan connections result }
 {

@@ -150,8 +150,9 @@ fn line_of(alloc: Global, fault: PeerFault, dir: &str) -> Result<Vec<u8>, OutOfM
     Ok(line)
 }
 
-/// Writes the line that tells why a node does not serve to its end, and what to do about it. Why words or a file are refused is told where they
-/// were read, and a server's own fault by gb_server. Returns false if it could not be written, or there was no memory for it.
+/// Writes a line to `errors` that tells why a node does not serve to its end, and what to do about it. `dir` is the folder of the
+/// marks. Returns true if it was written, or if the fault is told elsewhere: a refused file or a server's own fault. Returns false
+/// if it could not be written, or if memory is refused.
 pub fn complain<E: Write>(alloc: Global, fault: PeerFault, dir: &str, errors: &mut E) -> bool
     ensures { result ≡ true → Appends (E.contents errors.old) (E.contents errors.new) (complaint dir.now fault) }
 {

@@ -41,8 +41,9 @@ fn refuse_text<E: Write>(
     }
 }
 
-/// Returns what the file with this name says of a cluster. Why it is refused is written to `errors`: that it cannot be read, or which line or
-/// field of it is wrong.
+/// Reads the cluster file with this name from the disk, and returns what it says. `Err` with `RefusedFile` if it cannot be read, is
+/// no UTF-8 text or is no cluster file; then a line in `errors` says why. `Err` with `OutOfMemory`, as a server's fault, if memory
+/// is refused.
 pub fn read_file<F: Files + AllocGlobal, E: Write>(
     files: &F,
     alloc: Global,

@@ -1,4 +1,4 @@
-//! What the start of a node in a run leaves on disk: a node number speaks once in a run.
+//! The mark: the file that the start of a node in a run leaves on disk, so that a node number speaks once in a run.
 ghost use Rattle.std.specs.Prelude.{◌≡◌, ◌++◌, OnOk, IfOk};
 ghost use Rattle.gb_peer_run.specs.Marks.{mark_name};
 
@@ -22,7 +22,8 @@ pub enum Marked {
     Failed,
 }
 
-/// Appends the name of the mark of a node in a run, in a folder: `DIR/run-R-node-I.mark`.
+/// Appends to `name` the path of the mark of a node in a run, in the folder `dir`: `DIR/run-R-node-I.mark`. `Err` if memory is
+/// refused.
 pub fn put_mark_name(name: &mut Vec<u8>, dir: &str, run: u64, node: u8) -> Result<(), OutOfMemory>
     ensures { OnOk result (name.new.items ≡ name.old.items ++ mark_name dir.now run node) }
 {
@@ -34,7 +35,7 @@ pub fn put_mark_name(name: &mut Vec<u8>, dir: &str, run: u64, node: u8) -> Resul
     put_bytes(name, b".mark")
 }
 
-/// Returns the name of the mark of a node in a run, in a folder.
+/// Returns the path of the mark of a node in a run, in the folder `dir`: `DIR/run-R-node-I.mark`. `Err` if memory is refused.
 pub fn mark_name(alloc: Global, dir: &str, run: u64, node: u8) -> Result<Vec<u8>, OutOfMemory>
     ensures { IfOk result (λ name. name.items ≡ mark_name dir.now run node) }
 {
@@ -70,8 +71,9 @@ fn settle<F: Files>(files: &F, dir: &str) {
     }
 }
 
-/// Marks that a node begins in a run, by a file in a folder that is made if it was not there. Returns whether it was marked now, was marked
-/// before, or cannot be marked.
+/// Marks that a node begins in a run, by a new file in the folder `dir`. The folder is made if it was not there, and the file is on
+/// the disk when the function returns. Returns `New` if the file was made now, `Old` if it was there before, `Failed` if it could
+/// not be made or written. `Err` if memory is refused.
 pub fn mark<F: Files>(
     files: &F,
     alloc: Global,

@@ -418,11 +418,14 @@ fn serve<
     serve_words(rt, alloc, &read, reader, writer, errors)
 }
 
-/// Serves one node of a cluster by the words of a command line. The first word is the program's name; the others name the cluster's file,
-/// the node, and a folder for the mark of its start. The reader has the keys, and behind them the line `stop`, which ends the node. Writes
-/// a line for what is served and a line for how it ended to `writer`. The log goes to `errors`, and there too why the node did not serve to
-/// its end, unless the words were refused. Returns the exit status: 0 if all connections were served or the node was told to end; 2 for
-/// refused words, a refused file or a refused address; 1 otherwise. When it returns, its threads have ended and its sockets are closed.
+/// Serves one node of a cluster by the words of a command line, until it ends. The first word is the program's name; the others
+/// name the cluster's file, the node, and a folder for the mark of its start. `reader` has the keys, and behind them the line
+/// `stop`, which ends the node. Writes a line for what is served and a line for how it ended to `writer`. Writes the log to
+/// `errors`, and there too why the node did not serve to its end, unless the words were refused.
+///
+/// Returns the exit status: 0 if all connections were served or the node was told to end; 2 if the words, the cluster's file or the
+/// address for sessions are refused; 1 for any other fault, or if the last line could not be written. When it returns, its threads
+/// have ended and its sockets are closed.
 pub fn peer_main<
     H: Net<Listener = TcpListener, Stream = TcpStream>
         + Threads

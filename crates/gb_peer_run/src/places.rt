@@ -64,8 +64,9 @@ fn resolve_all<H: Net>(
     Ok(places)
 }
 
-/// Resolves the names of a cluster's file, once. Returns where each node takes packets, and where node `me` takes sessions. All addresses
-/// for packets are of the family of the node's own, IPv4 or IPv6.
+/// Resolves the names of a cluster's file, once, by asking the system. Returns where each node takes packets, and where node `me`
+/// takes sessions. All addresses for packets are of the family of the node's own, IPv4 or IPv6. `Err` with `NotFound` and a node's
+/// number if an address of it is not found, and with `OutOfMemory`, as a server's fault, if memory is refused.
 pub fn places_of<H: Net>(
     rt: &H,
     alloc: Global,

@@ -11,8 +11,9 @@ use gb_types::NodeId;
 use std::alloc::Global;
 use std::net::{Net, TcpListener, TcpStream};
 
-/// Binds and returns the sockets of a node: for packets at its own place among those of all nodes, and for sessions. If one cannot be
-/// bound, none is left open.
+/// Binds and returns the sockets of node `me`: UDP for packets at its own place in `places`, and TCP for sessions. `Err` with
+/// `Packets` or `Sessions` and the address if that one cannot be bound, and with `OutOfMemory`, as a server's fault, if memory is
+/// refused. Then no socket is left open.
 pub fn open_sockets<H: Net<Listener = TcpListener, Stream = TcpStream>>(
     rt: &H,
     alloc: Global,

@@ -1,4 +1,4 @@
-//! What a node prints, and its exit status.
+//! What one node of a cluster of several machines prints on standard output, and its exit status.
 ghost use Rattle.std.specs.Prelude.{◌≡◌, ◌++◌, true, Err, IfOk, OnOk, decimal};
 ghost use Rattle.std.specs.Io.KnownBytes.{Appends};
 ghost use Rattle.gb_peer_run.specs.Told.{begun_line, closed_line, fault_line, fault_status, serving_line};
@@ -11,7 +11,8 @@ use gb_types::number::put_number;
 use std::alloc::Global;
 use std::io::Write;
 
-/// Returns the line that tells which node is served, of how many, and in which run.
+/// Returns the line that tells which node is served, of how many, and in which run: `serving node I of N in run R`. `Err` if memory
+/// is refused.
 pub fn serving_line(alloc: Global, node: u8, nodes: u8, run: u64) -> Result<Vec<u8>, OutOfMemory>
     ensures { IfOk result (λ line. line.items ≡ serving_line node nodes run) }
 {
@@ -49,14 +50,15 @@ fn tell_begun<W: Write>(alloc: Global, writer: &mut W, node: u8, run: u64) -> bo
     }
 }
 
-/// Writes the line of a node that ended in order. Returns false if it could not be written.
+/// Writes `closed`, the line of a node that ended in order, to `writer`. Returns false if it could not be written.
 pub fn tell_closed<W: Write>(writer: &mut W) -> bool
     ensures { result ≡ true → Appends (W.contents writer.old) (W.contents writer.new) closed_line }
 {
     tell(writer, b"closed\n")
 }
 
-/// Writes the line that tells why a node did not serve to its end. Returns false if it could not be written, or there was no memory for it.
+/// Writes the line that tells why a node did not serve to its end to `writer`. Returns false if it could not be written, or if
+/// memory for it is refused.
 pub fn tell_fault<W: Write>(alloc: Global, writer: &mut W, fault: PeerFault) -> bool
     ensures { result ≡ true → Appends (W.contents writer.old) (W.contents writer.new) (fault_line fault) }
 {
@@ -73,7 +75,7 @@ pub fn tell_fault<W: Write>(alloc: Global, writer: &mut W, fault: PeerFault) -> 
     }
 }
 
-/// Returns the exit status for a fault: 2 if the words or the cluster's file are refused, otherwise 1.
+/// Returns the exit status for a fault: 2 if the words, the cluster's file or the address for sessions are refused, otherwise 1.
 pub fn fault_status(fault: PeerFault) -> u8
     ensures { result ≡ fault_status fault }
 {

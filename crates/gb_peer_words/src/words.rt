@@ -130,8 +130,9 @@ fn words_of<'a>(matches: &ArgMatches<'a>) -> Option<PeerWords<'a>>
     Some(PeerWords { cluster, dir, plan })
 }
 
-/// Returns what the words of a command line name and tell a node to do. The first word is the program's name. `Refused` if `clap` refuses
-/// the words, or if their address for the status is none.
+/// Returns what the words of a command line name and tell a node to do. The first word is the program's name. `Err` with `Refused`
+/// if `clap` refuses the words, or if the text of their address for the status is no address. `Err` with `OutOfMemory` if memory is
+/// refused.
 pub fn read_words<'a>(alloc: Global, words: &'a [&'a str]) -> Result<PeerWords<'a>, WordFault>
     ensures given { IfOk result (λ read. IsReadOf (matches_of peer_app (map (λ word. word.now) words.entry.now)) read) }
     ensures within { IfOk result (λ read. IsWithin read.plan) }
@@ -151,7 +152,7 @@ pub fn read_words<'a>(alloc: Global, words: &'a [&'a str]) -> Result<PeerWords<'
     }
 }
 
-/// Returns why words are refused. It is empty if `read_words` takes them.
+/// Returns why `read_words` refuses these words, for the user. The text is empty if it takes them. `Err` if memory is refused.
 pub fn refusal_text(alloc: Global, words: &[&str]) -> Result<String, AllocError> {
     match command(alloc)?.try_get_matches_from(words) {
         Ok(matches) => status_refusal(alloc, &matches),
@@ -159,8 +160,8 @@ pub fn refusal_text(alloc: Global, words: &[&str]) -> Result<String, AllocError>
     }
 }
 
-/// Returns the text that words ask for: the help, or, if the word behind the program's name is `-V`, its version. `None` if they ask for
-/// neither.
+/// Returns the text that words ask for: the help, or, if the word behind the program's name is `-V`, the program's name and
+/// version. `None` if they ask for neither. `Err` if memory is refused.
 pub fn asked_text(alloc: Global, words: &[&str]) -> Result<Option<String>, AllocError>
     ensures taken { takes peer_app (map (λ word. word.now) words.entry.now) ≡ true → IfOk result (λ text. text ≡ None) }
 {

@@ -94,7 +94,8 @@ fn loopback(port: u16) -> SocketAddr
     SocketAddr::V4(SocketAddrV4::new(Ipv4Addr::new(127, 0, 0, 1), port))
 }
 
-/// Returns the addresses of nodes on this machine: that of node i is port base + i of the address 127.0.0.1.
+/// Returns the addresses of `nodes` nodes on this machine, by number: node i has port `base` + i of the address 127.0.0.1. `Err` if
+/// memory is refused. No socket is opened.
 pub fn loopback_places(alloc: Global, nodes: u8, base: u16) -> Result<Vec<SocketAddr>, OutOfMemory>
     requires nodes { nodes ≤ NODES }
     requires ports { base + NODES ≤ 2 ^ 16 }
@@ -115,7 +116,9 @@ fn bound<R: Net>(rt: &R, address: SocketAddr) -> io::Result<UdpSocket> {
 }
 
 impl UdpPort {
-    /// Binds and returns the socket of node `me` at its own address. `places` are the addresses of all nodes, by number.
+    /// Binds a UDP socket at the address of node `me`, and returns a port over it. `places` are the addresses of all nodes, by
+    /// number. `Err` with `Port` if the system does not bind it, and with `OutOfMemory` if memory is refused; then no socket is
+    /// left.
     pub fn bind<R: Net>(
         rt: &R,
         alloc: Global,
@@ -138,8 +141,8 @@ impl UdpPort {
         })
     }
 
-    /// Binds and returns the socket of node `me` of this number of nodes on this machine: node i is at port base + i of the address
-    /// 127.0.0.1.
+    /// Binds a UDP socket for node `me` of `nodes` nodes on this machine, and returns a port over it. Node i is at port `base` + i
+    /// of the address 127.0.0.1. `Err` as with `bind`.
     pub fn bind_loopback<R: Net>(
         rt: &R,
         alloc: Global,
@@ -157,7 +160,7 @@ impl UdpPort {
 }
 
 impl UdpPort {
-    /// Returns the file descriptor of the socket, for waiting on it.
+    /// Returns the file descriptor of the socket, so that a caller can wait until a datagram comes.
     pub fn raw_fd(&self) -> RawFd {
         self.socket.as_raw_fd()
     }
@@ -170,7 +173,8 @@ impl Port for UdpPort {
 
     ghost receives = { λ old _ new. IsSamePort old new };
 
-    /// Hands the packet to the system. Returns false if it has no room. `Device`: the system failed, or there is no such node.
+    /// Hands the packet to the system. Returns false if the system has no room. `Err` with `Device` if the system failed, or if
+    /// there is no such node.
     fn send(&mut self, to: NodeId, bytes: &[u8]) -> Result<bool, PortFault>
         ensures fault { OnErr result (self.new.failures ≡ self.old.failures + 1) }
         ensures well { OnOk result (self.new.failures ≡ self.old.failures) }
@@ -189,7 +193,8 @@ impl Port for UdpPort {
         }
     }
 
-    /// Returns the next datagram that came, cut to `SPACE` bytes. `None` if there is none.
+    /// Returns the next datagram that came, cut to `SPACE` bytes. `None` if there is none. `Err` with `Device` if the system
+    /// failed, and with `OutOfMemory` if memory is refused; then the datagram is lost.
     fn recv(&mut self) -> Result<Option<Vec<u8>>, PortFault>
         ensures fault { OnErr result (self.new.failures ≡ self.old.failures + 1) }
         ensures well { OnOk result (self.new.failures ≡ self.old.failures) }

@@ -48,7 +48,8 @@ pub struct Recording<R: RecordName, L: Tapes, W: Write> {
     pub ghost among: { (bytes : List ℕ) → is_sent bytes recent.items ≡ true → is_sent bytes written.log ≡ true },
 }
 
-/// Writes the first line of a record.
+/// Writes the first line of a node's record to `writer` and flushes it. `Err` with `OutOfMemory` if there is no memory for the line;
+/// then nothing is written. `Err` with `Write` if the write or the flush failed; then a part of the line may be written.
 pub fn write_head<W: Write>(
     alloc: Global,
     writer: &mut W,
@@ -77,8 +78,9 @@ fn write_text<W: Write>(writer: &mut W, text: &[u8]) -> Result<(), WriteFault>
     Ok(())
 }
 
-/// Writes what a recorder has whose recording was given up, at most as much as its ring holds, and the end, by one call of the writer, and
-/// flushes it.
+/// Writes what a node's recorder still has, whose recording was given up: at most as many entries as its ring holds, and the end. They
+/// are lines, written to `writer` by one call and flushed. `Err` with `OutOfMemory` if there is no memory for the lines; then none is
+/// written. `Err` with `Write` if the write or the flush failed; then a part may be written.
 #[tactic(auto, using(crate::proofs::WriteLemmas::is_recorded_rest))]
 pub fn write_rest<L: Tapes, W: Write>(
     alloc: Global,
@@ -161,7 +163,8 @@ fn write_new<L: Tapes, W: Write>(
 }
 
 impl<R: RecordName, L: Tapes, W: Write> Recording<R, L, W> {
-    /// Returns a recording of what a recorder takes, which has taken nothing, to a writer. It notes what was written in a past of its own.
+    /// Returns a recording, which writes to `writer` as lines what a node's recorder takes. The recorder has taken nothing yet. What
+    /// was written is noted in the past `written`, which is empty. Nothing is written yet.
     #[tactic(auto, using(crate::proofs::WriteLemmas::filed_new, crate::proofs::WriteLemmas::among_none))]
     pub fn new(
         alloc: Global,
@@ -189,16 +192,17 @@ impl<R: RecordName, L: Tapes, W: Write> Recording<R, L, W> {
         }
     }
 
-    /// Returns true after a fault.
+    /// Returns true if a write of this recording failed or there was no memory for it. Then it writes nothing more.
     pub fn is_over(&self) -> bool
         ensures { IsTrue result ↔ IsSome self.now.fault }
     {
         self.fault.is_some()
     }
 
-    /// Writes what the recorder has, at most as much as its ring holds, by one call of the writer, and flushes it. `Write` if a write or
-    /// the flush failed; a part of the lines may be written then. `OutOfMemory` if there was no memory for the lines; none is written then.
-    /// After a fault no more is taken or written, and each later call returns that fault.
+    /// Takes what the node's recorder has, at most as much as its ring holds, and writes it as lines by one call of the writer, which
+    /// it flushes. `Err` with `Write` if the write or the flush failed; then a part of the lines may be written. `Err` with
+    /// `OutOfMemory` if there is no memory for the lines; then none is written. After an `Err` nothing more is taken or written, and
+    /// each later call returns the same.
     #[tactic(auto, using(crate::proofs::WriteLemmas::filed_more, crate::proofs::WriteLemmas::filed_over, crate::proofs::WriteLemmas::among_more, crate::proofs::WriteLemmas::among_none, crate::proofs::WriteLemmas::is_recorded))]
     pub fn record(&mut self) -> Result<(), WriteFault>
         ensures begun { self.new.begun.value ≡ self.old.begun.value }
@@ -227,7 +231,8 @@ impl<R: RecordName, L: Tapes, W: Write> Recording<R, L, W> {
         Ok(())
     }
 
-    /// Returns true if an entry that was written since a packet was last asked for sent the packet with these bytes.
+    /// Returns true if one of the entries that were written since the last call of `ask` sent the packet with these bytes. Then forgets
+    /// these entries, so the next call knows only later ones.
     #[tactic(auto, using(crate::proofs::WriteLemmas::among_none))]
     pub fn ask(&mut self, packet: &[u8]) -> bool
         ensures is { result ≡ is_sent packet.now self.old.recent.items }
@@ -240,7 +245,7 @@ impl<R: RecordName, L: Tapes, W: Write> Recording<R, L, W> {
         is_sent
     }
 
-    /// Shows a witness all that was written. What it knew is the beginning of that.
+    /// Makes the witness `seen` know all entries that this recording has written. What it knew before is the beginning of these.
     pub fn show(&mut self, seen: &mut NodeSeen)
         requires { seen.old.book ≡ R.book }
         ensures all { seen.new ≡ self.new.written }
@@ -251,7 +256,7 @@ impl<R: RecordName, L: Tapes, W: Write> Recording<R, L, W> {
         seen.learn(&mut self.written);
     }
 
-    /// Gives up the recording. Returns its recorder and its writer.
+    /// Gives up the recording. Returns the node's recorder and the writer. Nothing is written.
     pub fn into_parts(self) -> (Recorder<L>, W)
         ensures recorder { result.0 ≡ self.recorder }
         ensures writer { result.1 ≡ self.writer }

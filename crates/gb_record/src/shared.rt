@@ -16,20 +16,21 @@ pub struct SharedRecording<R: RecordName, L: Tapes, W: Write> {
 }
 
 impl<R: RecordName, L: Tapes, W: Write> SharedRecording<R, L, W> {
-    /// Returns the recording, shared by those who write to it in turn.
+    /// Returns a record that a node's port and the writer of its replies share within one thread. It owns the recording.
     pub fn new(recording: Recording<R, L, W>) -> SharedRecording<R, L, W> {
         SharedRecording {
             cell: RefCell::new(recording),
         }
     }
 
-    /// Gives up the sharing. Returns the recording.
+    /// Gives up the sharing, and returns the recording.
     pub fn into_inner(self) -> Recording<R, L, W> {
         let SharedRecording { cell } = self;
         cell.into_inner()
     }
 
-    /// Writes what the node's recorder has. Returns false after a fault.
+    /// Writes to the record what the node's recorder has. Returns true if all of it is written. False if this write or an earlier one
+    /// failed, or if the record is in use.
     pub fn settle(&self) -> bool {
         match self.cell.try_borrow_mut() {
             Ok(mut recording) => recording.record().is_ok(),

@@ -57,8 +57,8 @@ fn hand_on<P: Port>(
 }
 
 impl<'a, R: RecordName, L: Tapes, W: Write, P: Port> WrittenFirst<'a, R, L, W, P> {
-    /// Returns a port round another one. It hands on a packet only once the record has the entry that sent it. `written` is what is seen of
-    /// the record's past.
+    /// Returns a port round `port`. It hands a packet on only once the record has the entry that sent it; another packet is lost and
+    /// counted as a failure. `written` is a witness of what the record has.
     pub fn new(
         port: P,
         record: &'a SharedRecording<R, L, W>,
@@ -78,7 +78,7 @@ impl<'a, R: RecordName, L: Tapes, W: Write, P: Port> WrittenFirst<'a, R, L, W, P
         }
     }
 
-    /// Returns the port that was wrapped.
+    /// Gives up this port, and returns the port that it stands round.
     pub fn into_port(self) -> P
         ensures { result ≡ self.entry.port }
     {

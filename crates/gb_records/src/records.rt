@@ -76,7 +76,7 @@ fn search(records: &[Record], m: MsgId) -> Option<usize>
 }
 
 impl Records {
-    /// Returns an empty list of records.
+    /// Returns an empty list of the records of a stack's messages. Takes no memory yet.
     #[tactic(auto, using(crate::proofs::PlaceLemmas::once_none))]
     pub fn new(alloc: Global) -> Records
         ensures { result.list.items ≡ [] }
@@ -90,7 +90,8 @@ impl Records {
         }
     }
 
-    /// Makes the table cover the members' messages numbered from 1 to `width`. There are no records yet.
+    /// Takes memory for the table by which records are found, so that it covers the messages of these members that are numbered from 1
+    /// to `width`. There are no records yet. `Err` if there is no memory.
     pub fn cover(&mut self, members: &NodeSet, width: u16) -> Result<(), OutOfMemory>
         requires { self.old.list.items ≡ [] }
         ensures list { self.new.list ≡ self.old.list }
@@ -99,7 +100,7 @@ impl Records {
         self.table.cover(members, width)
     }
 
-    /// Returns the place of the record of `m`, if there is one.
+    /// Returns the place of the record of message `m` in the list, from 0. `None` if it has no record.
     pub fn find(&self, m: MsgId) -> Option<usize>
         ensures { MatchOption result (list_any (is_for m) self.now.list.items ≡ false) (λ i. slice_get (keys self.now.list.items) i ≡ Some m) }
     {
@@ -115,7 +116,8 @@ impl Records {
         }
     }
 
-    /// Adds a record of `m` if there is none. Returns the place of the record of `m`.
+    /// Returns the place of the record of message `m` in the list, from 0. If it has no record, a new one is added at the end, which
+    /// says that nothing happened to the message. The list has capacity for it, so no memory is taken.
     pub fn note(&mut self, m: MsgId) -> usize
         requires { vec_len self.old.list + 1 ≤ vec_capacity self.old.list }
         ensures items { self.new.list.items ≡ noted self.old.list.items m }
@@ -201,7 +203,8 @@ fn give_next(records: &mut Records, origin: NodeId, ups: &mut Vec<Up>) -> bool
     }
 }
 
-/// Hands up the next messages of an origin, as long as the broadcast brought the next one up.
+/// Appends to `ups` the messages of an origin that are due in first-in first-out order, from the next number on, as long as the
+/// broadcast has brought up the message with that number. Marks these as handed up in `records`. `ups` has capacity for them.
 pub fn release(records: &mut Records, origin: NodeId, ups: &mut Vec<Up>)
     requires { count_by is_ungiven records.old.list.items ≤ free ups.old }
     ensures order { order_entries records.new.list.items ≡ released origin.number (length records.old.list.items) (order_entries records.old.list.items) }

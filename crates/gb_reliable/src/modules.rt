@@ -13,8 +13,9 @@ use crate::eager::Eagerly;
 use crate::lazy::Lazily;
 use gb_layer::{Beb, Layer, Relay};
 
-/// `Lazy` over `Beb` at the node `me`, in a group with these members, is lazy reliable broadcast. Over every lawful history, what a
-/// call hands up is what the module delivers, what it sends is what the module broadcasts, and all that came up is the log.
+/// A law: `Lazy` over `Beb`, at the node `me` in a group with these members, is lazy reliable broadcast. Over every lawful history,
+/// what a call hands up is what the module delivers, what it sends is what the module broadcasts, and all that came up is the log. It
+/// does nothing.
 pub fn lazy()
     ensures up { (me : NodeId) (members : Nodes) (past : List Call) (c : Call) → IsLawful me.number (c ∷ past)
         → messages (⟦<Relay<Beb, Lazily> as Layer>⟧.gives (after ⟦<Relay<Beb, Lazily> as Layer>⟧.next (at_start me members) past) c).ups ≡ delivers Lazy me.number (set.items members) c past }
@@ -24,8 +25,9 @@ pub fn lazy()
         → messages (all_ups ⟦<Relay<Beb, Lazily> as Layer>⟧.next ⟦<Relay<Beb, Lazily> as Layer>⟧.gives (at_start me members) past) ≡ log Lazy me.number (set.items members) past }
 {}
 
-/// `Eager` over `Beb` at the node `me`, in a group with these members, is eager reliable broadcast. Over every lawful history, what
-/// a call hands up is what the module delivers, what it sends is what the module broadcasts, and all that came up is the log.
+/// A law: `Eager` over `Beb`, at the node `me` in a group with these members, is eager reliable broadcast. Over every lawful history,
+/// what a call hands up is what the module delivers, what it sends is what the module broadcasts, and all that came up is the log. It
+/// does nothing.
 pub fn eager()
     ensures up { (me : NodeId) (members : Nodes) (past : List Call) (c : Call) → IsLawful me.number (c ∷ past)
         → messages (⟦<Relay<Beb, Eagerly> as Layer>⟧.gives (after ⟦<Relay<Beb, Eagerly> as Layer>⟧.next (at_start me members) past) c).ups ≡ delivers Eager me.number (set.items members) c past }

@@ -7,7 +7,8 @@ use gb_types::OutOfMemory;
 use gb_types::memory::put_bytes;
 use gb_types::number::put_number;
 
-/// Appends the line of a fault.
+/// Appends to `out` the line that says why a run is no schedule for gb_sim, with its line end. `Err` if there is no memory; then a part
+/// of the line may be there.
 pub fn put_complaint(out: &mut Vec<u8>, fault: ReplayFault) -> Result<(), OutOfMemory>
     ensures { OnOk result (out.new.items ≡ out.old.items ++ complaint fault) }
 {

@@ -81,7 +81,8 @@ fn put_event_line(out: &mut Vec<u8>, node: NodeId, event: &NodeEvent) -> Result<
     }
 }
 
-/// Appends an event.
+/// Appends the line of a schedule that makes this event of a cluster happen to `out`, without a line end. `Err` if there is no memory;
+/// then a part of the line may be there.
 pub fn put_line(out: &mut Vec<u8>, event: &Event) -> Result<(), OutOfMemory>
     ensures { OnOk result (out.new.items ≡ out.old.items ++ line_of event.now) }
 {
@@ -132,7 +133,8 @@ fn put_versions(out: &mut Vec<u8>, versions: &[Version]) -> Result<(), OutOfMemo
     }
 }
 
-/// Appends the line that starts a cluster with this plan.
+/// Appends the first line of a schedule, which starts a cluster with this plan, to `out`, without a line end. `Err` if there is no
+/// memory; then a part of the line may be there.
 pub fn put_first_line(out: &mut Vec<u8>, plan: &Plan) -> Result<(), OutOfMemory>
     requires few { plan.now.nodes ≤ MOST }
     ensures { OnOk result (out.new.items ≡ out.old.items ++ first_line plan.now) }

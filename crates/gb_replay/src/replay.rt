@@ -76,7 +76,10 @@ fn compare(alloc: Global, replay: &Replay) -> Result<(), ReplayFault>
     }
 }
 
-/// Returns the events of a cluster as a schedule, and its answers, which are gb_sim's.
+/// Returns the events of a cluster as a schedule for gb_sim, with the answers that gb_sim writes for it. It runs the events, and then
+/// the schedule as gb_sim does, to compare the answers. `Err`, in this order: `Places` if the plan has another number of places than
+/// 1,024, `TooMany` for 1,000,000 events or more, `NoNode` if an event is at a node that is not there, `Differs` with the line if
+/// gb_sim answers otherwise. `Err` with `OutOfMemory` if there is no memory, or a node of the run had none.
 pub fn replay(alloc: Global, plan: &Plan, events: &[Event]) -> Result<Replay, ReplayFault>
     requires plan { IsClusterPlan plan.now }
     ensures ok { IfOk result (λ text. IsReplay plan.now events.now text.schedule.items text.answers.items) }

@@ -120,8 +120,9 @@ fn take_steps(cluster: &mut Cluster, events: &[Event], text: &mut Replay) -> Res
     Ok(())
 }
 
-/// Runs the events of a cluster from its start. Returns them as a schedule, with its answers. An event that asks what no line of a schedule
-/// asks is a comment there. OutOfMemory also if a node of the cluster had no memory.
+/// Runs the events of a cluster from its start, and returns them as a schedule, with their answers as text. An event that no line of a
+/// schedule can ask is a comment in it. `Err` with `NoNode` if an event is at a node that is not there, and with `OutOfMemory` if there
+/// is no memory or a node of the run had none.
 pub fn schedule_of(alloc: Global, plan: &Plan, events: &[Event]) -> Result<Replay, StepFault>
     requires plan { IsClusterPlan plan.now }
     ensures ok { IfOk result (λ text. IsReplay plan.now events.now text.schedule.items text.answers.items) }

@@ -4,7 +4,7 @@ ghost use Rattle.gb_rules.specs.Address.{is_addr};
 
 use gb_types::Addr;
 
-/// Returns true if both addresses are the same.
+/// Returns true if both addresses name the same group: tenant, number and generation are equal.
 pub fn is_same(addr: Addr, other: Addr) -> bool
     ensures { result ≡ is_addr addr other }
 {

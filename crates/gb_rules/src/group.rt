@@ -9,7 +9,7 @@ use crate::usage::Usage;
 use gb_types::limits::FETCH;
 use gb_types::{Refusal, Spec, Version};
 
-/// Returns Ok if a group in this phase may be opened. WrongPhase if it was opened before.
+/// Returns `Ok` if a group in this phase may be opened. `Err` with `WrongPhase` if it was opened before, or is gone.
 pub fn check_open(phase: Phase) -> Result<(), Refusal>
     ensures { done_reply result ≡ open_in phase }
 {
@@ -21,7 +21,7 @@ pub fn check_open(phase: Phase) -> Result<(), Refusal>
     }
 }
 
-/// Returns Ok if a group in this phase may be shut. WrongPhase if it is not open.
+/// Returns `Ok` if a group in this phase may be shut. `Err` with `WrongPhase` if it is not open.
 pub fn check_shut(phase: Phase) -> Result<(), Refusal>
     ensures { done_reply result ≡ shut_in phase }
 {
@@ -40,7 +40,8 @@ pub fn is_too_long(version: Version, payload: &[u8]) -> bool
     payload.len() > version.limits().payload
 }
 
-/// Returns true if the caller names the number of its message, and it is not the next after `said` messages.
+/// Returns true if the caller names a number `seq` for its message, and it is not the next one, `said` + 1. `said` is the number of
+/// messages that the member has said.
 pub fn is_out_of_turn(said: u32, seq: Option<u32>) -> bool
     ensures { result ≡ is_out_of_turn said seq }
 {
@@ -50,10 +51,10 @@ pub fn is_out_of_turn(said: u32, seq: Option<u32>) -> bool
     }
 }
 
-/// Returns Ok if a member with this usage may say the payload as its next message of a group, under the number `seq` if the caller
-/// names one. Refusals, in this order: WrongPhase if the group is not open, BadPlace if the caller names another number than the
-/// next, TooLong above the payload limit of the version that the node sends, Budget if all messages are said, Bytes if the payload
-/// bytes would exceed their limit, Window if too many messages are unfinished.
+/// Returns `Ok` if a member with this usage may say the payload as its next message of a group, under the number `seq` if the caller
+/// names one. `Err`, in this order: `WrongPhase` if the group is not open, `BadPlace` if `seq` is not the next number, `TooLong` if the
+/// payload is longer than `version` allows, which is the version that the node sends, `Budget` if all messages are said, `Bytes` if the
+/// payload bytes would exceed their limit, `Window` if too many own messages are unfinished.
 pub fn check_say(
     version: Version,
     spec: &Spec,
@@ -88,7 +89,8 @@ pub fn check_say(
     Ok(())
 }
 
-/// Returns true if a read of a log with `count` entries is refused: `from` is above `count`, or more than 16 entries are asked for.
+/// Returns true if a read of a log with `count` entries has to be refused: `from` is above `count`, or `most`, the number of entries
+/// that are asked for, is above 16.
 pub fn is_bad_place(count: usize, from: u32, most: u32) -> bool
     ensures test { result ≡ is_bad_place count from most }
     ensures place { result ≡ false → from ≤ count }

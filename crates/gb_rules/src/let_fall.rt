@@ -1,11 +1,13 @@
-//! Which items from other nodes are let fall.
+//! Which items from other nodes are let fall: taken in without any effect.
 ghost use Rattle.std.specs.Prelude.{◌≡◌, []};
 ghost use Rattle.gb_rules.specs.LetFall.{is_let_fall};
 
 use gb_types::{MsgId, NodeId, Spec};
 
-/// Returns true if an item that came from a node is let fall. `before` says that the same item came from it before, `known` that
-/// the message is known here. `seen` is the number of payload bytes of its origin that came here.
+/// Returns true if message `m`, which came from node `from` to node `me`, has to be dropped (let fall). That is so if `from` or the
+/// origin is no member, if `from` is `me`, if the message came from there `before`, if its number is 0 or above the group's number of
+/// messages, or if it is not `known` here and either is an own message or would exceed the limit of its origin's payload bytes. `seen`
+/// is the number of these bytes that came here.
 pub fn is_let_fall(
     spec: &Spec,
     me: NodeId,

@@ -18,7 +18,7 @@ pub struct Reserve {
 }
 
 impl Reserve {
-    /// Returns the limits that the row sets for each group of its tenant.
+    /// Returns the limits that a tenant's row sets for each group of the tenant.
     pub fn of(row: &TenantRow) -> Reserve
         ensures { result ≡ reserve_of row.now }
     {

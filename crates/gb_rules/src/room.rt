@@ -15,7 +15,7 @@ pub const ROOMS: u16 = 1_024;
 // Definitions cite this value.
 const _: () = prove!(ROOMS == 1_024 && ROOMS as usize * GENERATIONS == PLACES as usize);
 
-/// Returns the address of the first generation of a group's room, which stands for the room.
+/// Returns the name of a group's room: the address of the room's first generation.
 pub fn name_of(addr: Addr) -> Addr
     ensures { result ≡ name_of addr }
 {
@@ -26,28 +26,29 @@ pub fn name_of(addr: Addr) -> Addr
     }
 }
 
-/// Returns true if both addresses are in one room.
+/// Returns true if both addresses are in one room: tenant and number are equal.
 pub fn is_same_room(addr: Addr, other: Addr) -> bool
     ensures { result ≡ is_same_room addr other }
 {
     addr.tenant == other.tenant && addr.group == other.group
 }
 
-/// Returns true if `other` is in the room of `addr`, at its generation or a later one.
+/// Returns true if `other` is in the room of `addr`, and its generation is that of `addr` or a later one.
 pub fn is_reached_by(addr: Addr, other: Addr) -> bool
     ensures { result ≡ is_reached_by addr other }
 {
     is_same_room(addr, other) && addr.generation <= other.generation
 }
 
-/// Returns true if `other` is another generation of the room of `addr`.
+/// Returns true if `other` is in the room of `addr`, with another generation.
 pub fn is_other_generation(addr: Addr, other: Addr) -> bool
     ensures { result ≡ is_other_generation addr other }
 {
     is_same_room(addr, other) && !is_same(addr, other)
 }
 
-/// Returns true if packets of the version name the generation of a group: the first in every version, later ones in version 3.
+/// Returns true if packets of this version can name the generation of the group. Every version can name generation 0; version 3 can
+/// name all.
 pub fn can_name(version: Version, addr: Addr) -> bool
     ensures { result ≡ can_name version addr }
 {

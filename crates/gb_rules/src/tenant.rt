@@ -7,7 +7,7 @@ use crate::room::{GENERATIONS, can_name};
 use gb_types::limits::{BYTES, GROUPS, MESSAGES, WINDOW};
 use gb_types::{Addr, NodeId, Refusal, Reply, Spec, TenantRow, Version};
 
-/// Returns true if a row asks for more than the service allows.
+/// Returns true if a tenant's row asks for more than the service allows, or has a 0 as tenant, groups, messages or window.
 pub fn is_over_limits(row: &TenantRow) -> bool
     ensures { result ≡ is_over_limits row.now }
 {
@@ -20,9 +20,10 @@ pub fn is_over_limits(row: &TenantRow) -> bool
     row.window == 0 || row.window > WINDOW
 }
 
-/// Returns the answer to the row of a tenant, at a node with `places` places. `there` says that the tenant is there already, and
-/// `before` is the number of groups that the other tenants reserved. Refusals, in this order: OverReserve, TenantThere, NoRoom if
-/// the tenant's groups would exceed the places.
+/// Returns the reply to a request that adds a tenant with this row, at a node whose tenants may reserve `places` rooms. `before` is the
+/// number of rooms that its other tenants have reserved, and `there` says that the tenant is there already. Refusals, in this order:
+/// `OverReserve` if the row exceeds the limits of the service, `TenantThere`, `NoRoom` if too few rooms are left. Otherwise the reply
+/// is `Done`.
 pub fn answer_tenant(places: u32, before: u32, there: bool, row: &TenantRow) -> Reply
     ensures { result ≡ tenant_answer places before there row.now }
 {
@@ -55,10 +56,11 @@ fn is_over_reserve(reserve: &Reserve, spec: &Spec) -> bool
     spec.window == 0 || spec.window > reserve.window
 }
 
-/// Returns the answer to a request to make the group with this address, at a node that sends this version of the packet text.
-/// `made` says that the group, or a later generation of its room, was made here before, and `living` is the number of other
-/// generations of its room that live here. Refusals, in this order: NoGroup if its tenant has no such number, Spent, NoRoom if four
-/// generations live here, BadMembers, OverReserve. A generation that packets of the version cannot name is OverReserve.
+/// Returns the reply to a request that makes the group `addr`, at the node `me` of `nodes` nodes, which sends this version of the
+/// packet text. `made` says that the group, or a later generation of its room, was made here before. `living` is the number of other
+/// generations of its room that live here. Refusals, in this order: `NoGroup` if its tenant has no such number, `Spent` if `made`,
+/// `NoRoom` if `living` is 4 or more, `BadMembers` if the members lack this node or name one that is not there, `OverReserve` if
+/// packets of the version cannot name the generation or `spec` exceeds `reserve`. Otherwise the reply is `Done`.
 pub fn answer_make(
     version: Version,
     nodes: usize,

@@ -507,8 +507,8 @@ fn find_step(nodes: u8, line: &[u8]) -> Option<Step>
     }
 }
 
-/// Returns the step that a line spells. `None` if it spells none. `nodes` is the number of nodes of the cluster; `None` before
-/// a cluster is started.
+/// Returns the step that a line of a schedule spells: a fetch, or what is asked of links, time and a node's end. `None` if it spells
+/// none. `nodes` is the number of nodes of the cluster, or `None` before a cluster is started; then there is no step.
 pub fn read_step(nodes: Option<u8>, line: &[u8]) -> Option<Step>
     requires { ForSome nodes (λ count. (1 ≤ count) × (count ≤ NODES)) }
     ensures spelt { (step : TheStep) → (result ≡ Some step)
@@ -571,8 +571,9 @@ fn read_arguments(
     }
 }
 
-/// Returns the command that a line which spells no step spells. `None` if it spells none. `nodes` is the number of nodes of the
-/// cluster; `None` before a cluster is started. Each request but a forged one has its token.
+/// Returns the command that a line of a schedule spells, if it spells no step. `Ok(None)` if it spells none. `Err` if there is no
+/// memory. `nodes` is the number of nodes of the cluster, or `None` before a cluster is started. A request has its token, made and kept
+/// by `keys`, unless it is a forged one.
 pub fn read_other_command(
     alloc: Global,
     keys: &mut Keys,
@@ -602,8 +603,9 @@ pub fn read_other_command(
     read_arguments(alloc, keys, nodes, head, arguments)
 }
 
-/// Returns the command that a line spells. `None` if it spells none. `nodes` is the number of nodes of the cluster; `None`
-/// before a cluster is started. Each request but a forged one has its token.
+/// Returns the command that a line of a schedule spells. `Ok(None)` if it spells none. `Err` if there is no memory. `nodes` is the
+/// number of nodes of the cluster, or `None` before a cluster is started. A request has its token, made and kept by `keys`, unless it
+/// is a forged one.
 pub fn read_command(
     alloc: Global,
     keys: &mut Keys,
@@ -621,14 +623,14 @@ pub fn read_command(
     }
 }
 
-/// Returns true if a line asks for nothing: it is empty, or it is a comment, which begins with `#`.
+/// Returns true if a line of a schedule asks for nothing: it is empty, or a comment, which begins with `#`.
 pub fn is_silent(line: &[u8]) -> bool
     ensures { IsTrue result ↔ IsSilent line.now }
 {
     matches!(line, [] | [b'#', ..])
 }
 
-/// A line that asks for nothing spells no command. So the two tests may be made in either order.
+/// A law: a line of a schedule that asks for nothing spells no command. So the two tests may be made in either order. It does nothing.
 pub fn silent_lines_spell_nothing()
     ensures { SilentLinesSpellNothing }
 {}

@@ -77,7 +77,7 @@ fn head_like(word: &[u8]) -> Option<Head>
     }
 }
 
-/// Returns the head that a word names. `None` if it names none.
+/// Returns the head of a schedule's line that its first word names. `None` if the word names no head.
 pub fn read_head(word: &[u8]) -> Option<Head>
     ensures { (head : Head) → (result ≡ Some head) ↔ (word.now ≡ head_word head) }
 {

@@ -19,7 +19,7 @@ pub const ADMIN_KEY: Key = [0x22; 32];
 /// The token of a forged request. It is made without a key.
 pub const NO_TOKEN: Token = [0; 32];
 
-/// Returns the key of a tenant: 30 bytes 0x33, then its number in two bytes.
+/// Returns the key of a tenant in every schedule: 30 bytes 0x33, then the tenant's number in two bytes, the higher one first.
 pub fn tenant_key(tenant: TenantId) -> Key
     ensures { result ≡ tenant_key tenant }
 {
@@ -100,7 +100,8 @@ fn place_of(tenant: TenantId, group: u16, node: u8) -> usize {
 }
 
 impl Keys {
-    /// Returns keys for which no tenant was named yet.
+    /// Returns the maker of a schedule's tokens, for which no tenant was named yet. If there is no memory for its table of recent
+    /// tokens, it has none and is slower.
     pub fn new(alloc: Global) -> Keys {
         Keys {
             admin: HmacKey::new(&ADMIN_KEY),
@@ -110,21 +111,21 @@ impl Keys {
         }
     }
 
-    /// Returns the administrator's token.
+    /// Returns the administrator's token, which is the same in every schedule.
     pub fn admin(&self) -> Token
         ensures { result ≡ admin_token }
     {
         self.admin.token(Need::Admin)
     }
 
-    /// Returns the token of a tenant.
+    /// Returns the token of a tenant. Keeps the tenant's hashed key for later calls, if there is memory for it.
     pub fn tenant(&mut self, tenant: TenantId) -> Token
         ensures { result ≡ tenant_token tenant }
     {
         self.token(tenant, Need::Tenant(tenant))
     }
 
-    /// Returns the token of a group's member at a node.
+    /// Returns the token of a group's member at a node. Keeps it for later calls, if there is memory for it.
     #[inline(always)]
     pub fn member(&mut self, address: Addr, node: NodeId) -> Token
         ensures { result ≡ member_token address node }

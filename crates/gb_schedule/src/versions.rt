@@ -20,8 +20,9 @@ fn read_version(word: &[u8]) -> Option<Version>
     Version::from_byte(byte as u8)
 }
 
-/// Reads the versions of the nodes of a cluster, separated by commas. Returns `None` if they are not one for each of `nodes`
-/// nodes, or if one of them cannot name all nodes. The indices past the last node have One.
+/// Returns the versions of the packet text that the nodes of a cluster send, which a word spells as their bytes, separated by commas.
+/// The indices past the last node have version 1. `None` if there is not one for each of `nodes` nodes, or if one of them cannot name
+/// all nodes.
 pub fn read_versions(nodes: u8, word: &[u8]) -> Option<[Version; NODES]>
     requires { (1 ≤ nodes) × (nodes ≤ NODES) }
     ensures { (versions : List TheVersion) → (result ≡ Some versions)

@@ -24,7 +24,7 @@ fn word_len(text: &[u8]) -> usize
     }
 }
 
-/// Returns the first word of a text, and what stands behind the space after it. `None` if there is no space.
+/// Returns the first word of a line's text, and what stands behind the space after it. The latter is `None` if there is no space.
 pub fn cut_word(text: &[u8]) -> (&[u8], Option<&[u8]>)
     ensures more { IfSome result.1 (λ rest. words_of text.now ≡ result.0.now ∷ words_of rest.now) }
     ensures last { IfNone result.1 (words_of text.now ≡ result.0.now ∷ []) }
@@ -116,8 +116,8 @@ fn one_digit_at(text: &[u8], from: usize) -> Option<(u64, Option<usize>)>
     Some((number, Some(end + 1)))
 }
 
-/// Returns the number that a word writes, which stands in a text from `from` on, and the index of the next word, if there is one.
-/// `None` if the word writes no number of 64 bits.
+/// Returns two things: the number that a word of a line writes in decimal, which begins at the index `from`, and the index of the next
+/// word, which is `None` if there is none. Returns `None` if the word writes no number below 2^64.
 #[inline(always)]
 pub fn number_at(text: &[u8], from: usize) -> Option<(u64, Option<usize>)>
     requires { from ≤ length text.now }
@@ -139,8 +139,8 @@ pub fn number_at(text: &[u8], from: usize) -> Option<(u64, Option<usize>)>
     Some((number, Some(end + 1)))
 }
 
-/// Returns the number that the last word of a text writes, which stands in it from `from` on. `None` if the word writes no number
-/// of 64 bits, or if a word stands behind it.
+/// Returns the number that the last word of a line writes in decimal, which begins at the index `from`. `None` if the word writes no
+/// number below 2^64, or if a word stands behind it.
 #[inline(always)]
 pub fn last_number_at(text: &[u8], from: usize) -> Option<u64>
     requires { from ≤ length text.now }
@@ -178,8 +178,8 @@ fn find_numbers(text: &[u8], numbers: &mut [u64; NUMBERS]) -> Option<usize>
     None
 }
 
-/// Returns the numbers that the words of a text write. `None` if they are not `N` numbers of 64 bits, or if one is larger than its
-/// bound in `most`. `N` is at most `NUMBERS`.
+/// Returns the `N` numbers that the words of a text write in decimal, in order. `None` if there are not exactly `N` words, a word
+/// writes no number below 2^64, or a number is greater than its bound in `most`. `N` is at most 5.
 #[inline(always)]
 pub fn numbers_in<const N: usize>(text: &[u8], most: [u64; N]) -> Option<[u64; N]>
     requires { N ≤ NUMBERS }
@@ -200,7 +200,8 @@ pub fn numbers_in<const N: usize>(text: &[u8], most: [u64; N]) -> Option<[u64; N
     Some(numbers)
 }
 
-/// Puts the words of a line into an array. Returns the number of words. `None` if the line has more than `WORDS`.
+/// Puts the words of a line into the array `words`, in order, and returns their number, at least 1. `None` if the line has more than 9;
+/// then the array has the first 9. Takes no memory.
 pub fn words_in<'a>(line: &'a [u8], words: &mut [&'a [u8]; WORDS]) -> Option<usize>
     ensures found { IfSome result (λ count. (count ≤ length words.new) × (map (λ word. word.now) (take count words.new) ≡ words_of line.now)) }
     ensures none { IfNone result (WORDS < length (words_of line.now)) }

@@ -33,7 +33,7 @@ const _: () = prove!(MOST_CONNECTIONS == 60_000 && MOST_REQUESTS == 4_000_000_00
 
 const _: () = prove!(CONNECTIONS == 1_024);
 
-/// Returns an option `--name` with a number from `least` to `most`.
+/// Returns an option `--name` for `clap`, whose value is a number from `least` to `most`.
 pub fn number_arg<'a>(alloc: Global, name: &'static str, least: u16, most: u32) -> Arg<'a>
     ensures rule { rule_of result ≡ number_rule name.entry.now least most false }
     ensures local { result.global ≡ false }
@@ -44,7 +44,7 @@ pub fn number_arg<'a>(alloc: Global, name: &'static str, least: u16, most: u32) 
         .value_parser(ValueParser::Signed(i64::from(least), i64::from(most)))
 }
 
-/// Returns an option `--name` with a text.
+/// Returns an option `--name` for `clap`, whose value is a text.
 pub fn text_arg<'a>(alloc: Global, name: &'static str) -> Arg<'a>
     ensures rule { rule_of result ≡ text_rule name.entry.now }
     ensures local { result.global ≡ false }
@@ -55,7 +55,7 @@ pub fn text_arg<'a>(alloc: Global, name: &'static str) -> Arg<'a>
         .value_parser(ValueParser::String)
 }
 
-/// Returns an option `--name` without a value.
+/// Returns an option `--name` for `clap`, which has no value.
 pub fn flag_arg<'a>(alloc: Global, name: &'static str) -> Arg<'a>
     ensures rule { rule_of result ≡ flag_rule name.entry.now }
     ensures local { result.global ≡ false }
@@ -66,7 +66,7 @@ pub fn flag_arg<'a>(alloc: Global, name: &'static str) -> Arg<'a>
         .value_parser(ValueParser::Bool)
 }
 
-/// Returns the option `--sessions`.
+/// Returns the option `--sessions K` of a server, 0 to 1,000: how many connections a node serves in all. 0 is no limit.
 pub fn sessions_arg<'a>(alloc: Global) -> Arg<'a>
     ensures rule { rule_of result ≡ sessions_rule }
     ensures local { result.global ≡ false }
@@ -76,7 +76,8 @@ pub fn sessions_arg<'a>(alloc: Global) -> Arg<'a>
         .help("how many connections a node serves in all; 0, or not given: for ever")
 }
 
-/// Returns the option `--idle`.
+/// Returns the option `--idle SECONDS` of a server, 0 to 60,000: after how long without a byte a connection that asked something is
+/// closed. 0 is never.
 pub fn idle_arg<'a>(alloc: Global) -> Arg<'a>
     ensures rule { rule_of result ≡ idle_rule }
     ensures local { result.global ≡ false }
@@ -88,7 +89,7 @@ pub fn idle_arg<'a>(alloc: Global) -> Arg<'a>
         )
 }
 
-/// Returns the option `--connections`.
+/// Returns the option `--connections C` of a server, 1 to 60,000: how many connections a node serves at once.
 pub fn connections_arg<'a>(alloc: Global) -> Arg<'a>
     ensures rule { rule_of result ≡ connections_rule }
     ensures local { result.global ≡ false }
@@ -98,7 +99,7 @@ pub fn connections_arg<'a>(alloc: Global) -> Arg<'a>
         .help("how many connections a node serves at once, one more is closed; 1,024 if not given")
 }
 
-/// Returns the option `--session-requests`.
+/// Returns the option `--session-requests R` of a server, 0 to 4,000,000,000: how many messages a connection may ask. 0 is no limit.
 pub fn requests_arg<'a>(alloc: Global) -> Arg<'a>
     ensures rule { rule_of result ≡ requests_rule }
     ensures local { result.global ≡ false }
@@ -108,7 +109,7 @@ pub fn requests_arg<'a>(alloc: Global) -> Arg<'a>
         .help("how many messages a connection may ask; 0, or not given: there is no limit")
 }
 
-/// Returns the option `--stop-at-end`.
+/// Returns the option `--stop-at-end` of a server: it ends in order when standard input ends.
 pub fn stop_arg<'a>(alloc: Global) -> Arg<'a>
     ensures rule { rule_of result ≡ flag_rule (codes "stop-at-end") }
     ensures local { result.global ≡ false }
@@ -118,7 +119,7 @@ pub fn stop_arg<'a>(alloc: Global) -> Arg<'a>
     )
 }
 
-/// Returns the option `--status`.
+/// Returns the option `--status ADDR` of a server: the address where it answers requests for its status by HTTP.
 pub fn status_arg<'a>(alloc: Global) -> Arg<'a>
     ensures rule { rule_of result ≡ status_rule }
     ensures local { result.global ≡ false }
@@ -128,7 +129,7 @@ pub fn status_arg<'a>(alloc: Global) -> Arg<'a>
     )
 }
 
-/// Returns the option `--quiet`.
+/// Returns the option `--quiet` of a server: it writes no log.
 pub fn quiet_arg<'a>(alloc: Global) -> Arg<'a>
     ensures rule { rule_of result ≡ flag_rule (codes "quiet") }
     ensures local { result.global ≡ false }
@@ -136,7 +137,7 @@ pub fn quiet_arg<'a>(alloc: Global) -> Arg<'a>
     flag_arg(alloc, "quiet").help("write no log to standard error")
 }
 
-/// Returns the option `--record`.
+/// Returns the option `--record` of a server: what happens at a node is written to a file.
 pub fn record_arg<'a>(alloc: Global) -> Arg<'a>
     ensures rule { rule_of result ≡ flag_rule (codes "record") }
     ensures local { result.global ≡ false }
@@ -146,7 +147,7 @@ pub fn record_arg<'a>(alloc: Global) -> Arg<'a>
     )
 }
 
-/// Returns the option `--sync`.
+/// Returns the option `--sync` of a server: what `--record` writes is on the disk before anything leaves the node.
 pub fn sync_arg<'a>(alloc: Global) -> Arg<'a>
     ensures rule { rule_of result ≡ flag_rule (codes "sync") }
     ensures local { result.global ≡ false }
@@ -156,7 +157,8 @@ pub fn sync_arg<'a>(alloc: Global) -> Arg<'a>
     )
 }
 
-/// Returns the address that is given for the status, if one is given. `None` if its text is no address.
+/// Returns the address that the option `--status` has in words that `clap` took, and `Some(None)` if the option is not given. `None` if
+/// its text is no address.
 pub fn status_of(matches: &ArgMatches<'_>) -> Option<Option<SocketAddr>>
     ensures read { IfSome result (IsAddressOf (one_of (codes "status") (rows_of (found_of matches.now)))) }
     ensures none { IfNone result (HasAddress (one_of (codes "status") (rows_of (found_of matches.now))) → ⊥) }
@@ -167,7 +169,7 @@ pub fn status_of(matches: &ArgMatches<'_>) -> Option<Option<SocketAddr>>
     }
 }
 
-/// Returns the fault for the error of a parse.
+/// Returns the fault for an error of `clap`: `OutOfMemory` if it lacked memory, else `Refused`.
 pub fn fault_from(error: &Error) -> WordFault
     ensures refused { result ≡ WordFault.Refused → kind_of error.now ≢ ErrorKind.OutOfMemory }
     ensures memory { result ≡ WordFault.OutOfMemory → kind_of error.now ≡ ErrorKind.OutOfMemory }
@@ -181,7 +183,8 @@ pub fn fault_from(error: &Error) -> WordFault
 /// The end of the text of a refusal.
 pub static HINT: &str = "\n\nFor more information, try '--help'.\n";
 
-/// Returns why the text that is given for the status is no address. It is empty if none is given, or if it is an address.
+/// Returns the text that says why the value of the option `--status` is no address. It is empty if the option is not given, or is an
+/// address. `Err` if there is no memory.
 pub fn status_refusal(alloc: Global, matches: &ArgMatches<'_>) -> Result<String, AllocError> {
     if status_of(matches).is_some() {
         return Ok(String::new(alloc));
@@ -192,8 +195,8 @@ pub fn status_refusal(alloc: Global, matches: &ArgMatches<'_>) -> Result<String,
     )
 }
 
-/// Returns the text that words ask for whose parse failed with this error: the help, or, if the word behind the program's name is
-/// `-V`, the program's name and version. `None` if they ask for neither.
+/// Returns the text that the words of a command line ask for, which `clap` refused with this error: the help, or, if the word behind
+/// the program's name is `-V`, the program's name and version. `Ok(None)` if they ask for neither. `Err` if there is no memory.
 pub fn text_asked(
     alloc: Global,
     error: &Error,

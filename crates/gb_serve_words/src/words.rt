@@ -161,9 +161,10 @@ fn words_of<'a>(matches: &ArgMatches<'a>) -> Option<ServeWords<'a>>
     Some(ServeWords { dir, plan })
 }
 
-/// Returns what the words of a command line name and tell a server to do. The first word is the program's name. `Refused`: `clap` refuses
-/// the words, their version does not exist or cannot name their number of nodes, their text for the status is no address, or they want records
-/// beside tapes or without a folder.
+/// Returns what the words of gb_serve's command line tell a server to do: a plan, and the folder for records. The first word is the
+/// program's name. `Err` with `Refused` if `clap` refuses the words, their version does not exist or cannot name their number of nodes,
+/// their text for the status is no address, or they want records beside tapes or without a folder. `Err` with `OutOfMemory` if there is
+/// no memory.
 pub fn read_words<'a>(alloc: Global, words: &'a [&'a str]) -> Result<ServeWords<'a>, WordFault>
     ensures given { IfOk result (λ read. IsReadOf (matches_of serve_app (map (λ word. word.now) words.entry.now)) read) }
     ensures within { IfOk result (λ read. IsWithin read.plan) }
@@ -219,7 +220,8 @@ fn record_refusal(alloc: Global, matches: &ArgMatches<'_>) -> Result<String, All
     Ok(String::new(alloc))
 }
 
-/// Returns why words are refused. It is empty if they are a plan.
+/// Returns the text that says why the words of gb_serve's command line are refused. It is empty if they are a plan. `Err` if there is
+/// no memory.
 pub fn refusal_text(alloc: Global, words: &[&str]) -> Result<String, AllocError> {
     match command(alloc)?.try_get_matches_from(words) {
         Ok(matches) => plan_refusal(alloc, &matches),
@@ -227,8 +229,8 @@ pub fn refusal_text(alloc: Global, words: &[&str]) -> Result<String, AllocError>
     }
 }
 
-/// Returns the text that words ask for: the help, or, if the word behind the program's name is `-V`, its name and version.
-/// `None` if they ask for neither.
+/// Returns the text that the words of gb_serve's command line ask for: the help, or, if the word behind the program's name is `-V`, the
+/// program's name and version. `Ok(None)` if they ask for neither. `Err` if there is no memory.
 pub fn asked_text(alloc: Global, words: &[&str]) -> Result<Option<String>, AllocError>
     ensures taken { takes serve_app (map (λ word. word.now) words.entry.now) ≡ true → IfOk result (λ text. text ≡ None) }
 {

@@ -1,4 +1,5 @@
-//! What a thread does itself, beside those that it starts: unlike them, it can be said what it leaves in what it was lent.
+//! What a server's main thread does itself, beside the threads that it starts: unlike them, it can be said what it leaves in what it
+//! was lent.
 ghost use Rattle.std.specs.Prelude.{◌≡◌};
 
 /// Work that is done once, with what it may be given and what it makes of that.
@@ -9,7 +10,7 @@ pub trait Task {
 
     ghost run_gives: { Self → Self.Output → Type 0 };
 
-    /// Does the work.
+    /// Does the work, once, and ends it. Returns what the work makes, as the implementation's `run_gives` says.
     fn run(self) -> Self::Output
         requires { can_run self }
         ensures { run_gives self result };
@@ -35,7 +36,8 @@ impl<'a, F: FnMut() -> A, A> Task for Lent<'a, F> {
     }
 }
 
-/// Does nothing. A reference that was given back and is passed here is known to the borrow checker as the one that was lent.
+/// Does nothing. Ends the loan of a reference: a reference that was given back and is passed here is known to the borrow checker as the
+/// one that was lent.
 pub fn take_back<T>(x: &mut T)
     ensures { x.new ≡ x.old }
 {}

@@ -200,8 +200,8 @@ fn complaint(alloc: Global, name: &[u8], fault: ServeFault) -> Result<Vec<u8>, O
     Ok(line)
 }
 
-/// Writes the line that tells why a server did not serve to its end, behind the name of the program. Returns false if it could not be
-/// written, or there was no memory for it.
+/// Writes to `writer` one line, which tells why a server did not serve to its end, behind `name`, the name of the program. Returns true
+/// if it was written and flushed. False if it could not be, or there was no memory for it.
 pub fn complain<W: Write>(alloc: Global, name: &[u8], fault: ServeFault, writer: &mut W) -> bool
     ensures { result ≡ true → Appends (W.contents writer.old) (W.contents writer.new) (complaint name.now fault) }
 {

@@ -1,4 +1,4 @@
-//! The threads of a server.
+//! The threads of a server: they are made, and waited for until they have ended.
 use crate::beside::{Lent, Task, take_back};
 use crate::recorded::{LeftLog, NodeLog, take_log};
 use crate::signals::Signals;
@@ -16,7 +16,8 @@ use std::thread;
 use std::thread::{JoinHandle, SpawnError, Threads};
 use std::time::Clock;
 
-/// Keeps a thread that was started. If it could not be started or cannot be kept, the server is over.
+/// Adds a thread of a server that was started to `threads`. If it could not be started, or there is no memory to keep it, sets the
+/// signal that the server has failed, which ends it.
 pub fn keep<T: Drop, F: Drop>(
     threads: &mut Vec<JoinHandle<T>>,
     started: Result<JoinHandle<T>, SpawnError<F>>,
@@ -132,10 +133,11 @@ fn hold<
     )
 }
 
-/// Holds a server until the signals say that it is over. Makes a thread for each node's loop, with a seat and, if the host's nodes have
-/// recorders, the node's log, and a thread for the desk, while this thread calls `beside`. Returns what is left of the nodes, and what
-/// `beside` returned. OutOfMemory if a loop could not begin, or if not all threads could be made; the signals say the latter before
-/// `beside` is called, and no connection was served then.
+/// Runs the threads of a server until the signals say that it is over, and calls `beside` in this thread meanwhile. There is a thread
+/// for each node's loop, with a seat and, if the host's nodes have recorders, the node's log; and one for the desk, which writes the
+/// log and tells the status. Returns the seats and logs that are left of the nodes, and what `beside` returned. The former is `Err`
+/// with `OutOfMemory` if a loop could not begin or a thread could not be made. The signals say the latter before `beside` is called,
+/// and no connection was served then.
 pub fn hold_beside<
     L: Tapes + Send + Sync,
     H: Net<Listener = TcpListener, Stream = TcpStream> + Threads + Wait + Clock + Sync,

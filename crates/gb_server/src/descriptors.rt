@@ -14,8 +14,9 @@ pub const BESIDE: u64 = 4;
 // Definitions cite these values.
 const _: () = prove!(SPARE == 16 && BESIDE == 4);
 
-/// Returns the limit of connections at each node: `wanted`, but no more than leaves the server the descriptors that it holds besides, and
-/// at least 1. `descriptors` is the number that the process may hold.
+/// Returns the limit of connections at each node of a server: `wanted`, or less if the process may not hold enough descriptors, but at
+/// least 1. `descriptors` is the number that the process may hold. Of these, 16 are kept for the server and 4 for each of the `nodes`
+/// nodes.
 pub fn connections_of(wanted: u64, nodes: u8, descriptors: u64) -> u64
     requires nodes { 1 ≤ nodes }
     requires wanted { 1 ≤ wanted }
@@ -29,7 +30,8 @@ pub fn connections_of(wanted: u64, nodes: u8, descriptors: u64) -> u64
     room.min(wanted).max(1)
 }
 
-/// Returns the number of descriptors that the process may hold at once. It is 2^64 - 1 if the system does not say or sets no limit.
+/// Asks the system, and returns the number of descriptors that the process may hold at once. It is 2^64 - 1 if the system does not say
+/// or sets no limit.
 pub fn descriptor_limit() -> u64 {
     let mut limit = rlimit {
         rlim_cur: u64::MAX,

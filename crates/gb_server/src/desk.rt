@@ -15,12 +15,13 @@ pub struct Desk {
 }
 
 impl Desk {
-    /// Writes the first line of the log.
+    /// Writes the first line of the server's log to `errors`, unless the log is quiet. A line that cannot be written is lost.
     pub fn begin<E: Write>(&self, errors: &mut E) {
         self.log.begin(&self.first, errors);
     }
 
-    /// Writes what is new to the log, and answers who asks for the status. Waits for nobody.
+    /// Writes to `errors` what is new for the server's log, unless it is quiet, and answers each client that asks for the status, as
+    /// far as it can now. Waits for nobody.
     pub fn look<H: Clock, E: Write>(&mut self, rt: &H, signals: &Signals, errors: &mut E) {
         self.log.look(signals, errors);
         if let Some(status) = self.status.as_mut() {

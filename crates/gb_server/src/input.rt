@@ -7,7 +7,8 @@ use std::io::Read;
 
 /// Bytes that come at their own time.
 pub trait Input: Read {
-    /// Waits until a read would not wait, for this number of milliseconds at most. Returns false if it would still wait.
+    /// Waits for at most this number of milliseconds until a read would not wait. Returns true if there is something to read or the
+    /// input has ended. False if a read would still wait.
     fn is_ready(&self, millis: u16) -> bool;
 }
 

@@ -40,8 +40,10 @@ fn is_stop(line: &[u8]) -> bool
     characters(line) == b"stop".as_slice()
 }
 
-/// Reads a byte of a line into the space behind the `filled` bytes. Returns the number of bytes of the line that are filled then, and what
-/// came. A line that is too long for its space is no order: its last byte gives way to the next.
+/// Reads one byte of a line of standard input into `space`, behind its first `filled` bytes. Returns the number of bytes of the line
+/// that are filled then, and what came: `Stop` if it ends a line `stop`, `End` if the input has ended or could not be read, else
+/// `Nothing`. After the end of a line 0 bytes are filled. A line that is too long for `space` is no order: its last byte is replaced by
+/// the next.
 pub fn hear<R: Read>(reader: &mut R, space: &mut [u8], filled: usize) -> (usize, Heard)
     requires { filled < length space.old }
     ensures within { result.0 < length space.new }
@@ -102,7 +104,8 @@ fn heed_once<H: Clock, R: Input>(
     Place { filled, is_open }
 }
 
-/// Reads standard input until the server is over. The line `stop` ends the server, and so does the end of the input if `stops_at_end`.
+/// Reads standard input until the server is over. The line `stop` sets the signal that ends the server, and so does the end of the
+/// input if `stops_at_end`. Other lines change nothing.
 pub fn heed<H: Wait + Clock, R: Input>(
     rt: &H,
     signals: &Signals,

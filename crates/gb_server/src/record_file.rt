@@ -75,7 +75,8 @@ impl Write for RecordFile {
     }
 }
 
-/// Returns the name of the record of a node in a run, in a folder: `DIR/run-R-node-I.record`.
+/// Returns the path of the file of a node's record in a run: `DIR/run-RUN-node-NODE.record`, both as decimal numbers. `Err` if there is
+/// no memory.
 pub fn record_name(
     alloc: Global,
     dir: &str,
@@ -124,7 +125,9 @@ fn begin(alloc: Global, file: &mut File, head: &RecordHead) -> bool {
     write_head(alloc, file, head).is_ok() && file.sync_all().is_ok()
 }
 
-/// Makes the record of a node, in a folder that is made if it was not there, writes its first line, and returns it.
+/// Makes the file of a node's record in the folder of `place`, writes its first line to the disk, and returns it. The folder is made if
+/// it is not there. `Err` with `There` if the file is there already, `Unmade` if it cannot be made, `Unwritten` if its first line
+/// cannot be written, and `OutOfMemory` if there is no memory for its name.
 pub fn open_record<F: Files<File = File>>(
     files: &F,
     alloc: Global,
@@ -154,7 +157,9 @@ pub fn open_record<F: Files<File = File>>(
     })
 }
 
-/// Makes and returns the records of this number of nodes from the first on. Returns none without a place for them.
+/// Makes the files of the records of `nodes` nodes, numbered from `first` on, as `open_record` does, and returns them in that order.
+/// Returns an empty list, and makes none, if `place` is `None`. `Err` with the fault of the first record that cannot be made; those
+/// before it stay in the folder.
 pub fn open_records<F: Files<File = File>>(
     files: &F,
     alloc: Global,

@@ -1,4 +1,4 @@
-//! What the loop of a node records by, and what is left of it.
+//! What the loop of a node records by, which is its log (a recorder and a file), and what is left of it.
 ghost use Rattle.std.specs.Prelude.{◌≡◌, [], false, IfSome, length, vec_len};
 ghost use Rattle.gb_host.specs.HostValue.{AreOpened};
 
@@ -22,7 +22,7 @@ pub struct NodeLog<L: Tapes> {
 }
 
 impl<L: Tapes> NodeLog<L> {
-    /// Returns the recorder and the file of its record.
+    /// Takes a node's log apart: returns its recorder, which has taken nothing, and the file of its record.
     #[tactic(auto, using(crate::proofs::RecordedLemmas::none_of))]
     pub fn into_parts(self) -> (Recorder<L>, RecordFile)
         ensures { (result.0.entries ≡ []) × (result.0.is_whole ≡ false) }
@@ -77,8 +77,8 @@ fn log_of<L: Tapes>(place: Option<Recorder<L>>, files: &mut Vec<RecordFile>) -> 
     Some(NodeLog { recorder, file })
 }
 
-/// Returns the recorders of a host that was just opened, with the files of their nodes' records, which are in the order of the nodes. A
-/// recorder without its file is left out.
+/// Returns the logs of the nodes of a host that was just opened: each recorder with the file of its node's record. The files are in the
+/// order of the nodes. A recorder without its file is left out. `Err` if there is no memory.
 pub fn logs_of<L: Tapes>(
     alloc: Global,
     plan: &HostPlan,
@@ -99,7 +99,7 @@ pub fn logs_of<L: Tapes>(
     Ok(logs)
 }
 
-/// Takes the log of a node out of a list and returns it. `None` if none is there.
+/// Removes the log of a node from `logs` and returns it. `None` if it has no log there; then nothing changes.
 pub fn take_log<L: Tapes>(logs: &mut Vec<NodeLog<L>>, node: NodeId) -> Option<NodeLog<L>> {
     let at = logs.iter().position(|log| log.file.node == node)?;
     Some(logs.swap_remove(at))
@@ -114,7 +114,8 @@ fn end_log<L: Tapes>(alloc: Global, log: LeftLog<L>) -> bool {
     write_rest(alloc, &mut recorder, &mut file).is_ok() && recorder.into_past().is_some()
 }
 
-/// Gives up a host, and writes what its recorders still have, and the ends of their records. Returns true if all records are whole.
+/// Gives up a host, and writes to the files what its recorders still have, and the ends of their records. Returns true if all records
+/// are whole. False if one could not be written to its end.
 pub fn end_records<L: Tapes, H: Wait>(
     rt: &H,
     alloc: Global,

@@ -1,4 +1,4 @@
-//! The threads of a server, and what stands beside them.
+//! The threads of a server from their start to their end, and what stands beside them.
 ghost use Rattle.std.specs.Prelude.{◌≡◌, ℕ, List, OnOk};
 ghost use Rattle.std.specs.Io.KnownBytes.{Appends, Consumes};
 
@@ -95,8 +95,10 @@ fn desk_of<H: Clock>(
     Ok(Desk { log, first, status })
 }
 
-/// Holds a server, tells that it serves once all its loops have begun, and heeds standard input. Tells its status at this listener, if there
-/// is one. Returns what is left of the nodes.
+/// Runs the threads of a server to their end. Writes `service.line` to `writer` once the loops of all nodes have begun, reads `stop`
+/// from `reader`, writes the log to `errors`, and tells the status at `listener`, if there is one. Returns the seats and logs that are
+/// left of the nodes. `Err` with `OutOfMemory` if there is no memory, a thread could not be made or a loop could not begin; with
+/// `Write` if the line could not be written; and with `Unrecorded` if a record could not be written.
 pub fn run<
     L: Tapes + Send + Sync,
     H: Net<Listener = TcpListener, Stream = TcpStream> + Threads + Wait + Clock + Sync,

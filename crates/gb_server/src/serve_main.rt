@@ -76,8 +76,9 @@ pub const FIRST: u64 = 10_000_000;
 
 const _: () = prove!(FIRST == 10_000_000);
 
-/// Returns the microseconds between two ticks, and after how many without anything sent to a node it is sent a sign of life: eight times
-/// in the silence that makes a node noticed, or twice a tick where that is below 8 ticks.
+/// Returns two times in microseconds. The first is that between two ticks; `tick` is in milliseconds. The second is how long nothing
+/// may be sent to a node before it is sent a sign of life: an eighth of `silence` ticks, rounded down to ticks, or half a tick if
+/// `silence` is below 8. After `silence` ticks without a packet a node is held for crashed (noticed as crashed).
 pub fn beats_of(tick: u16, silence: u16) -> (u64, u64)
     ensures tick { result.0 ≡ tick * 1000 }
     ensures beat { result.1 ≡ beat_of tick silence }
@@ -234,8 +235,10 @@ fn serve_plan<
     )
 }
 
-/// Serves by the words of a command line, in the run with this number. The reader has the keys, and behind them the line `stop`. Writes
-/// what it serves, and its log to `errors`. Returns how it ended, which is still to be told.
+/// Runs a whole server by the words of a command line, in the run with the number `run`. Reads the keys from `reader`, and behind them
+/// the line `stop`. Writes the line that tells what is served to `writer`, and the log to `errors`. Binds sockets, makes threads and,
+/// if the words ask for it, files of records. Returns how it ended; no line tells that yet. `Err` with the first fault: `RefusedWords`
+/// before anything is read or written, then `BadKeys`, `NoRun` if `run` is `None`, and those of sockets, records, threads and the end.
 pub fn serve<
     H: Net<Listener = TcpListener, Stream = TcpStream>
         + Threads
@@ -283,11 +286,12 @@ fn explain<E: Write>(alloc: Global, outcome: Result<Ended, ServeFault>, errors: 
     }
 }
 
-/// Serves by the words of a command line, in the run with this number. The first word is the program's name; `run` is `None` if the system
-/// had no number. The reader has the keys, and behind them the line `stop`, which ends the server. Writes a line for what it serves and a
-/// line for how it ended. Its log is written to `errors`, and there too why it did not serve to its end, unless the words were refused.
-/// Returns the exit status: 0 if all connections were served or the server was told to end, and its tapes were merged or its records are
-/// whole; 2 for refused words; 1 otherwise. When it returns, its threads have ended and its sockets are closed.
+/// Runs a whole server by the words of a command line, in the run with the number `run`. The first word is the program's name. `run` is
+/// `None` if the system had no random number. Reads the keys from `reader`, and behind them the line `stop`, which ends the server.
+/// Writes a line for what it serves and a line for how it ended to `writer`. Writes its log to `errors`, and there too why it did not
+/// serve to its end, unless the words were refused. Returns the exit status: 0 if all connections were served or the server was told to
+/// end, and its tapes were merged or its records are whole; 2 for refused words; 1 otherwise. When it returns, its threads have ended
+/// and its sockets are closed.
 pub fn serve_main<
     H: Net<Listener = TcpListener, Stream = TcpStream>
         + Threads

@@ -32,7 +32,7 @@ pub struct ServerLog {
     is_end_told: bool,
 }
 
-/// Appends an address: the IP address, that of IPv6 in brackets, a colon and the port.
+/// Appends an address to `out`: the IP address, that of IPv6 in brackets, a colon and the port. `Err` if there is no memory.
 pub fn put_address(out: &mut Vec<u8>, address: SocketAddr) -> Result<(), OutOfMemory>
     ensures { OnOk result (out.new.items ≡ out.old.items ++ socket_text address) }
 {
@@ -86,7 +86,8 @@ fn put_version(out: &mut Vec<u8>, version: &[u8], nodes: u64) -> Result<(), OutO
     put_number(out, nodes)
 }
 
-/// Returns what the first line of the log of `gb_serve` begins with: the version of the program, the number of nodes, and their ports.
+/// Returns the beginning of the first line of the log of `gb_serve`: the version of the program, the number of nodes, and their ports.
+/// `base` is the first UDP port; the first TCP port is 64 above it. `Err` if there is no memory.
 pub fn begin_front(
     alloc: Global,
     version: &[u8],
@@ -103,7 +104,8 @@ pub fn begin_front(
     Ok(front)
 }
 
-/// Returns the first line of the log: what it begins with, and the address where the status is told, if it is.
+/// Returns the first line of a server's log: `front`, and then the address where the status is told, if there is one. `Err` if there is
+/// no memory.
 pub fn first_line(
     alloc: Global,
     front: &[u8],
@@ -133,7 +135,8 @@ fn end_words(why: Why) -> &'static [u8]
     }
 }
 
-/// Returns the line that tells why a server ends, behind the name of the program.
+/// Returns the line of a server's log that tells why the server ends, behind `name`, the name of the program. `Err` if there is no
+/// memory.
 pub fn end_line(alloc: Global, name: &[u8], why: Why) -> Result<Vec<u8>, OutOfMemory>
     ensures { IfOk result (λ line. line.items ≡ end_line_of name.now why) }
 {
@@ -171,7 +174,8 @@ fn write<E: Write>(errors: &mut E, lines: Result<Vec<u8>, OutOfMemory>) {
 }
 
 impl ServerLog {
-    /// Returns a log of the program with this name, which has told nothing yet. It is of this number of nodes, numbered from `first` on.
+    /// Returns the log of a server, which has told nothing yet. `name` is the name of the program, with which each line begins. The
+    /// server has `nodes` nodes, numbered from `first` on. If `is_quiet`, the log writes nothing. `Err` if there is no memory.
     pub fn new(
         alloc: Global,
         name: &[u8],
@@ -196,7 +200,7 @@ impl ServerLog {
         })
     }
 
-    /// Writes the first line of the log.
+    /// Writes the first line of the log to `errors`, unless the log is quiet. A line that cannot be written is lost.
     pub fn begin<E: Write>(&self, line: &[u8], errors: &mut E)
         ensures quiet { self.now.is_quiet ≡ true → errors.new ≡ errors.old }
     {
@@ -232,7 +236,8 @@ impl ServerLog {
         }
     }
 
-    /// Writes what is new since the last look: at the nodes, and why the server ends.
+    /// Writes to `errors` what is new since the last look, unless the log is quiet: news of the nodes, and, once, why the server ends.
+    /// Notes in this log what was told. A line that cannot be written is lost.
     pub fn look<E: Write>(&mut self, signals: &Signals, errors: &mut E)
         ensures quiet { self.old.is_quiet ≡ true → errors.new ≡ errors.old }
         ensures same { self.new.is_quiet ≡ self.old.is_quiet }

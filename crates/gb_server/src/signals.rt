@@ -67,7 +67,8 @@ pub struct Signals {
 }
 
 impl Signals {
-    /// Returns the signals of a server that has not begun. It has this number of nodes, numbered from `first` on.
+    /// Returns the signals of a server that has not begun: nothing is set. It has `nodes` nodes, numbered from `first` on. `Err` if
+    /// there is no memory for their figures.
     pub fn new(alloc: Global, first: NodeId, nodes: u8) -> Result<Signals, OutOfMemory> {
         let board = Board::new(alloc, first, nodes)?;
         let count = u64::from(nodes);
@@ -83,60 +84,60 @@ impl Signals {
         })
     }
 
-    /// Returns true if all loops have begun.
+    /// Returns true if the loops of all nodes have begun.
     pub fn have_begun(&self) -> bool {
         self.waiting.load(Ordering::SeqCst) == 0
     }
 
-    /// Says that connections may be served: each thread was made, or one could not be made and the server is over.
+    /// Sets the signal that connections may be served. All threads are made then, or one could not be made and the server is over.
     pub fn begin(&self) {
         self.is_begun.store(true, Ordering::SeqCst);
     }
 
-    /// Tells the loops to end for this reason, unless they end for another already.
+    /// Sets the signal that the loops of all nodes end, for this reason. If another reason is set already, nothing changes.
     pub fn end(&self, why: Why) {
         let _ = self
             .why
             .compare_exchange(0, number_of(why), Ordering::SeqCst, Ordering::SeqCst);
     }
 
-    /// Returns why the loops end. `None` if they do not end.
+    /// Returns the reason for which the loops of the nodes end. `None` if they do not end.
     pub fn why(&self) -> Option<Why> {
         why_of(self.why.load(Ordering::SeqCst))
     }
 
-    /// Says that the threads of all loops have ended.
+    /// Sets the signal that the threads of all nodes' loops have ended.
     pub fn leave(&self) {
         self.have_left.store(true, Ordering::SeqCst);
     }
 
-    /// Returns true if the threads of all loops have ended.
+    /// Returns true if the threads of all nodes' loops have ended.
     pub fn have_left(&self) -> bool {
         self.have_left.load(Ordering::SeqCst)
     }
 
-    /// Says that a record could not be written: the loops end.
+    /// Sets the signal that a record could not be written, and that the loops of all nodes end for that reason.
     pub fn miss_record(&self) {
         self.lacks_record.store(true, Ordering::SeqCst);
         self.end(Why::Unrecorded);
     }
 
-    /// Returns true if a record could not be written.
+    /// Returns true if the signal is set that a record could not be written.
     pub fn lacks_record(&self) -> bool {
         self.lacks_record.load(Ordering::SeqCst)
     }
 
-    /// Returns the board on which the loops put their figures.
+    /// Returns the board on which the nodes' loops put their figures for other threads to read.
     pub fn board(&self) -> &Board {
         &self.board
     }
 
-    /// Returns true if connections may be served.
+    /// Returns true if the signal is set that connections may be served.
     pub fn is_begun(&self) -> bool {
         self.is_begun.load(Ordering::SeqCst)
     }
 
-    /// Returns true if a thread could not be made, or a loop could not begin.
+    /// Returns true if the signal is set that a thread could not be made, or a loop could not begin.
     pub fn has_failed(&self) -> bool {
         self.has_failed.load(Ordering::SeqCst)
     }

@@ -149,7 +149,7 @@ impl StatusClient {
 }
 
 impl StatusServer {
-    /// Returns a status server without clients. The calls of its listener do not wait.
+    /// Returns a server of the status by HTTP, at this listener, without clients. The calls of the listener do not wait.
     pub fn new<H: Clock>(rt: &H, alloc: Global, listener: TcpListener) -> StatusServer {
         StatusServer {
             alloc,
@@ -159,7 +159,7 @@ impl StatusServer {
         }
     }
 
-    /// Returns the address where it listens. `None` if the system does not say.
+    /// Returns the address where this status server listens. `None` if the system does not say.
     pub fn address(&self) -> Option<SocketAddr> {
         self.listener.local_addr().ok()
     }
@@ -192,7 +192,9 @@ impl StatusServer {
         }
     }
 
-    /// Takes in new clients, and answers each client as far as it can now, with the figures of a board. Waits for nobody.
+    /// Takes in new clients that ask for the status, and answers each client as far as it can now, with the figures of `board`. Drops
+    /// clients that are served or lost, and those that came 2 seconds ago or earlier. `is_over` says that the server ends. Waits for
+    /// nobody.
     pub fn look<H: Clock>(&mut self, rt: &H, board: &Board, is_over: bool) {
         let now = self.clock.now(rt);
         self.accept(now);

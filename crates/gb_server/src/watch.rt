@@ -1,5 +1,5 @@
-//! What the threads of a server do that are no loop's: one tells when the server serves and heeds standard input, the other writes the log and
-//! answers who asks for the status.
+//! What the threads of a server do that are no loop's: one tells when the server serves and heeds standard input, the other writes the
+//! log and answers who asks for the status.
 ghost use Rattle.std.specs.Prelude.{◌≡◌, ℕ, List, true};
 ghost use Rattle.std.specs.Io.KnownBytes.{Appends, Consumes};
 
@@ -22,8 +22,9 @@ const LAST_LOOK: u64 = 10;
 
 const _: () = prove!(LOOK == 50 && LAST_LOOK == 10);
 
-/// Writes this line once all loops have begun, and heeds standard input until the server is over. Returns false if a thread could not be made,
-/// a loop could not begin, or the line could not be written, which ends the server.
+/// Writes `line` to `writer` once the loops of all nodes have begun, and then reads standard input until the server is over, as
+/// `orders::heed` does. Returns true then. False if a thread could not be made, a loop could not begin, or the line could not be
+/// written; the last ends the server.
 pub fn watch<H: Wait + Clock, R: Input, W: Write>(
     rt: &H,
     signals: &Signals,
@@ -71,7 +72,9 @@ fn serve_desk<H: Wait + Clock, E: Write>(
     }
 }
 
-/// Writes the log's first line once all loops have begun, and serves the desk until the threads of all loops have ended.
+/// Writes the first line of the server's log once the loops of all nodes have begun. Then writes what is new for the log, and answers
+/// who asks for the status, until the threads of all loops have ended. Does nothing if a thread could not be made or a loop could not
+/// begin.
 pub fn attend<H: Wait + Clock, E: Write>(rt: &H, signals: &Signals, attending: Attending<'_, E>) {
     let Attending { desk, errors } = attending;
     let mut desk = desk;

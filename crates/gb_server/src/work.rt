@@ -1,4 +1,4 @@
-//! What the thread of a node does. It owns its seat, and gives it back.
+//! What the thread of a node does in a server: it runs the node's loop. It owns its seat, and gives it back.
 ghost use Rattle.std.specs.Prelude.{◌≡◌, []};
 
 use crate::gates::wait_to_begin;
@@ -92,8 +92,8 @@ fn run_recorded<
     LeftNode { seat, log }
 }
 
-/// Runs the loop of a node until the server is over, once all threads have been made. With a log it keeps a record: a packet or a reply
-/// leaves only once what led to it was written. Returns what is left of the node.
+/// Waits until all threads have been made, and runs the loop of a node until the server is over. With a log it keeps a record: a packet
+/// or a reply leaves only once what led to it was written. Returns what is left of the node: its seat, and its log if it had one.
 pub fn run_node<L: Tapes, H: Net<Listener = TcpListener, Stream = TcpStream> + Wait + Clock>(
     rt: &H,
     alloc: Global,

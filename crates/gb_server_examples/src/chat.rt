@@ -52,7 +52,8 @@ pub struct Member {
     stream: TcpStream,
 }
 
-/// Returns a member of a server with this base port.
+/// Connects to the sessions of a node of a server with this base port, and returns the member of a chat at that node. `Err` with
+/// `Connection` if nobody listens there within ten seconds.
 pub fn joined<H: Net<Stream = TcpStream> + Clock>(
     rt: &H,
     base_port: u16,
@@ -81,7 +82,8 @@ fn body_of(alloc: Global, node: NodeId, head: Head, line: &str) -> Result<Vec<u8
     request_of(alloc, &SECRETS, node, &asked)
 }
 
-/// Returns the reply of a member's node to a request. The words are those of gb_ctl.
+/// Sends a request to a chat member's node, and returns the text of its reply. `head` is the kind of request, and `line` the words
+/// behind it, as gb_ctl has them. `Err` if the words are no request, the connection fails, or there is no memory.
 pub fn reply(
     alloc: Global,
     member: &mut Member,
@@ -93,7 +95,9 @@ pub fn reply(
     receive(alloc, &mut member.stream)
 }
 
-/// Returns true if a member's node sends these replies.
+/// Sends requests to a chat member's node, one after the other, and compares the replies. Each row of `table` has the kind of request,
+/// the words behind it, and the wanted text of the reply. Returns false at the first reply that is another, else true. `Err` as
+/// `reply`.
 pub fn gives(
     alloc: Global,
     member: &mut Member,

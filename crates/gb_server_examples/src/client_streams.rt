@@ -18,7 +18,8 @@ pub struct Asking {
 }
 
 impl Asking {
-    /// Returns a reader of this number of requests. The read with the number `fails_at`, from 1, fails; with 0 none fails.
+    /// Returns a reader, as a client, that has `requests` requests to open a group, one in each read, and then ends. The read with the
+    /// number `fails_at`, from 1, fails. With 0 none fails.
     pub fn new(requests: u64, fails_at: u64) -> Asking {
         Asking {
             requests,
@@ -51,7 +52,8 @@ pub struct Told<'a> {
 }
 
 impl<'a> Told<'a> {
-    /// Returns a writer that counts the replies `Denied`. The write with the number `fails_at`, from 1, fails; with 0 none fails.
+    /// Returns a writer, as a client, that adds 1 to `denied` for each reply `Denied` that is written to it. The write with the number
+    /// `fails_at`, from 1, fails. With 0 none fails.
     pub fn new(denied: &'a AtomicU64, fails_at: u64) -> Told<'a> {
         Told {
             denied,

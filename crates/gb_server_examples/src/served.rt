@@ -26,7 +26,8 @@ pub struct Run {
     pub errors: Vec<u8>,
 }
 
-/// Returns how a server with these words and this standard input ends.
+/// Runs a whole server with these words as its command line and these bytes as its standard input, until it ends. Returns its exit
+/// status and what it wrote to standard output and to standard error.
 pub fn run_of<
     H: Net<Listener = TcpListener, Stream = TcpStream>
         + Threads
@@ -54,7 +55,8 @@ pub fn run_of<
     }
 }
 
-/// Returns true if a server with these words and keys ends with this status and prints these lines.
+/// Runs a whole server with these words and keys until it ends. Returns true if it ends with this exit status and writes exactly these
+/// lines to standard output.
 pub fn prints<
     H: Net<Listener = TcpListener, Stream = TcpStream>
         + Threads
@@ -67,7 +69,8 @@ pub fn prints<
     run.status == status && run.lines.as_slice() == lines
 }
 
-/// Returns true if a client that sends the first bytes to a port gets the others in reply.
+/// Sends `bytes` to a server's port, as a client, and reads to the end. Returns true if exactly the bytes `want` come back. False if
+/// others come, or it cannot connect or read.
 pub fn is_told<H: Net<Stream = TcpStream> + Clock>(
     rt: &H,
     alloc: Global,
@@ -278,7 +281,8 @@ static BOUND: [&str; 7] = [
     "1",
 ];
 
-/// Returns true if a node's two ports can be bound.
+/// Returns true if a node's UDP port `packets` and its TCP port `clients` can both be bound on this machine. They are closed again at
+/// once.
 pub fn is_free<H: Net<Listener = TcpListener, Stream = TcpStream>>(
     rt: &H,
     packets: u16,

@@ -8,12 +8,13 @@ use std::time::{Clock, Duration};
 /// The reply to a message that is no request.
 pub static MALFORMED: &[u8] = b"\x00\x00\x00\x14refused 14 Malformed";
 
-/// Returns the address of a port of this machine.
+/// Returns the address of this port on 127.0.0.1.
 pub fn address(port: u16) -> SocketAddr {
     SocketAddr::V4(SocketAddrV4::new(Ipv4Addr::LOCALHOST, port))
 }
 
-/// Returns a connection to a port of this machine, as soon as a server listens there. `None` if none does within ten seconds.
+/// Connects to a TCP port of this machine, again and again until a server listens there, and returns the connection. `None` if that
+/// takes more than ten seconds.
 pub fn connect<H: Net<Stream = TcpStream> + Clock>(rt: &H, port: u16) -> Option<TcpStream> {
     for _ in 0..1_000 {
         if let Ok(stream) = TcpStream::connect(rt, address(port)) {
@@ -24,8 +25,8 @@ pub fn connect<H: Net<Stream = TcpStream> + Clock>(rt: &H, port: u16) -> Option<
     None
 }
 
-/// Returns what a server writes to a client that sends these bytes, sends no more, and reads to the end. `None` if it could not
-/// connect or read.
+/// Connects to a TCP port of this machine, sends these bytes and no more, and returns all that the server writes until it closes.
+/// `None` if it cannot connect, write or read.
 pub fn told<H: Net<Stream = TcpStream> + Clock>(
     rt: &H,
     alloc: Global,
@@ -41,7 +42,8 @@ pub fn told<H: Net<Stream = TcpStream> + Clock>(
     Some(text)
 }
 
-/// Sends these bytes and closes the connection at once. Returns true if it could connect.
+/// Connects to a TCP port of this machine, sends these bytes and closes the connection at once, without reading. Returns false if it
+/// cannot connect, else true.
 pub fn leaves<H: Net<Stream = TcpStream> + Clock>(rt: &H, port: u16, bytes: &[u8]) -> bool {
     let Some(mut stream) = connect(rt, port) else {
         return false;

@@ -125,7 +125,8 @@ fn read_await_text(alloc: Global, body: &[u8]) -> Result<Option<Awaited>, OutOfM
     Ok(None)
 }
 
-/// Reads the body of a message. Returns what it asks, or None if it asks nothing.
+/// Returns what the body of a client's message asks: a request, fetches that wait, or an operation. `Ok(None)` if it asks nothing.
+/// `Err` if there is no memory.
 pub fn read_ask(alloc: Global, body: &[u8]) -> Result<Option<Ask>, OutOfMemory>
     ensures some { IfOk result (λ found. IfSome found (IsAskText body.now)) }
     ensures none { IfOk result (λ found. IfNone found ((ask : TheAsk) → IsAskText body.now ask → ⊥)) }

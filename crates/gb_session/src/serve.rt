@@ -203,9 +203,10 @@ fn serve_pieces<A: Answers, R: Read, W: Write>(
     Ok(SessionEnd::Limit)
 }
 
-/// Answers what the reader's messages ask, and writes each reply with its length before the next is asked, until the input ends, a message
-/// is Malformed or a limit is reached. Fetches that wait are answered at once. All messages of a read are answered before the next read.
-/// Returns how the session ended.
+/// Holds a client's session: answers what the messages of `reader` ask, and writes each reply with its length to `writer` before the
+/// next is asked, until the input ends, a message is malformed or a limit is reached. Fetches that wait are answered at once. All
+/// messages of a read are answered before the next read. Returns how the session ended. `Err` with `Read`, `Write` or `OutOfMemory` if
+/// a read, a write or a request for memory failed; then the client may have a part of a reply.
 pub fn serve<A: Answers, R: Read, W: Write>(
     alloc: Global,
     answers: &mut A,

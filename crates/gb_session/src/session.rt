@@ -98,7 +98,9 @@ impl Model for Session {
     ghost invariant = { IsHeld };
 }
 
-/// Returns what the message at the front of the bytes asks.
+/// Returns what stands at the front of some bytes of a client's stream: `Begun` for less than a whole message, `Malformed` for a length
+/// above the limit or a message that asks nothing, else `Message` with what it asks and the message's size in bytes. `Err` if there is
+/// no memory.
 pub fn read_ask_front(alloc: Global, bytes: &[u8]) -> Result<AskFront, OutOfMemory>
     ensures { IfOk result (IsAskFront bytes.now) }
 {
@@ -278,7 +280,7 @@ fn answer_front<A: Answers>(
 }
 
 impl Session {
-    /// Returns a session that has taken no bytes. It answers at most `left` messages.
+    /// Returns a client's session that has taken no bytes. It answers at most `left` messages. Takes no memory yet.
     pub fn new(alloc: Global, left: u64) -> Session
         ensures { result ≡ record { kept = []; left = left } }
     {
@@ -302,7 +304,8 @@ impl Session {
         Ok(())
     }
 
-    /// Keeps the next bytes of the stream. If there is no memory, nothing has changed.
+    /// Keeps the next bytes of the client's stream in this session, and answers nothing. `Err` if there is no memory; then nothing has
+    /// changed.
     pub fn put(&mut self, piece: &[u8]) -> Result<(), OutOfMemory>
         ensures ok { OnOk result (self.new ≡ record { kept = self.old.kept ++ piece.now; left = self.old.left }) }
         ensures err { OnErr result (self.new ≡ self.old) }
@@ -314,8 +317,10 @@ impl Session {
         put_bytes(&mut self.bytes, piece)
     }
 
-    /// Answers the message in front, if it is whole, and appends its reply. If `is_late`, an `await` that finds nothing is answered with an
-    /// empty log. Returns what was done. If there is no memory, the message may have been asked, and it stays in front.
+    /// Answers the message at the front of the bytes that this session keeps, and appends its reply to `out`. Returns `Answered` with
+    /// the message's size, `Hungry` if no whole message is there, `Parked` if it is fetches that wait and find nothing, or `Ended` if
+    /// the message is malformed or the limit of messages is reached. If `is_late`, fetches that find nothing are answered with an empty
+    /// log. `Err` if there is no memory; then the message may have been asked, and it stays in front.
     pub fn answer_next<A: Answers>(
         &mut self,
         answers: &mut A,
@@ -387,11 +392,12 @@ impl Session {
         }
     }
 
-    /// Keeps the next bytes of the stream, then answers the whole messages in turn and appends their replies to `out`. It stops when `out`
-    /// has `room` bytes or more. The piece may be empty. If `is_late`, an `await` that finds nothing is answered with an empty log. Returns
-    /// why it stopped. If there is no memory, the session is over: either the piece is not kept and nothing was asked, or messages in front
-    /// were answered and stepped over. The next message may then have been asked; it has no reply in `out` and stays in front, so another
-    /// call would ask it again.
+    /// Keeps the next bytes of the client's stream, which may be none, then answers the whole messages in turn and appends their
+    /// replies to `out`. If `is_late`, fetches that wait and find nothing are answered with an empty log. Returns why it stopped:
+    /// `Full` as soon as `out` has `room` bytes or more, `Hungry` without another whole message, `Parked` at fetches that find nothing,
+    /// or `Ended`. `Err` if there is no memory, and the session is over: either the piece is not kept and nothing was asked, or
+    /// messages in front were answered and stepped over. The next message may then have been asked; it has no reply in `out` and stays
+    /// in front, so another call would ask it again.
     pub fn take<A: Answers>(
         &mut self,
         answers: &mut A,
@@ -411,7 +417,7 @@ impl Session {
         self.answer_whole(answers, is_late, out, room)
     }
 
-    /// Returns how the session ends if the stream ends here: Finished between two messages, Cut inside one.
+    /// Returns how the session ends if the client's stream ends here: `Finished` between two messages, `Cut` inside one.
     pub fn end_of_input(&self) -> SessionEnd
         ensures { EndsBehind self.now.kept result }
     {

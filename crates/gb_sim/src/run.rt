@@ -1,4 +1,4 @@
-//! What the program does, over any reader and any writers.
+//! What the program gb_sim does, over any reader and any writers: it runs a schedule of a cluster.
 ghost use Rattle.gb_sim.specs.Run.{HasRun};
 
 use gb_simulate::SimFault;
@@ -19,9 +19,10 @@ pub struct Ended {
     pub told: Result<(), SimFault>,
 }
 
-/// Runs the schedule that the reader has and writes its answers, and behind them `out of memory` if memory lacked. What went wrong is
-/// written to `errors`, in one line. Returns how it ended, which decides the exit status. The memory of the cluster is not given back: the
-/// program ends.
+/// Runs the schedule of a cluster that `reader` has, and writes its answers to `writer`, and behind them `out of memory` if memory
+/// lacked. What went wrong is written to `errors`, in one line. Returns the exit status, 0 if all lines were read, 1 if a read or a
+/// write failed, 2 for a bad line, 3 for lack of memory; and whether what went wrong could be told. The memory of the cluster is not
+/// given back: the program ends.
 pub fn run_schedule<R: Read, W: Write, E: Write>(
     alloc: Global,
     reader: &mut R,

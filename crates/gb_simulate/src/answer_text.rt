@@ -14,7 +14,8 @@ use gb_types::number::put_number;
 use gb_types::reply_text::put_reply;
 use gb_types::{NodeSet, OutOfMemory, Refusal, Reply};
 
-/// Appends the text of a refusal.
+/// Appends the text of a refusal to `out`, such as `refused 1 Denied`, without a line end. `Err` if there is no memory; then a part of
+/// it may be there.
 pub fn put_refusal(out: &mut Vec<u8>, why: Refusal) -> Result<(), OutOfMemory>
     ensures ok { OnOk result (out.new.items ≡ out.old.items ++ reply_spelling (Reply.Refused why)) }
     ensures err { OnErr result (StartsWith out.new.items out.old.items) }
@@ -77,7 +78,8 @@ fn put_fault(out: &mut Vec<u8>, fault: PacketFault) -> Result<(), OutOfMemory>
     Ok(())
 }
 
-/// Appends what became of bytes that came.
+/// Appends to `out` what became of bytes that came to a node, without a line end: `good FRAME ITEMS DONE`, `fault NUMBER NAME`, or a
+/// refusal. `Err` if there is no memory; then a part of it may be there.
 pub fn put_packet(out: &mut Vec<u8>, taken: &PacketAnswer) -> Result<(), OutOfMemory>
     ensures ok { OnOk result (out.new.items ≡ out.old.items ++ packet_spelling taken.now) }
     ensures err { OnErr result (StartsWith out.new.items out.old.items) }
@@ -157,7 +159,8 @@ fn put_noticed(out: &mut Vec<u8>, found: &NodeSet) -> Result<(), OutOfMemory>
     }
 }
 
-/// Appends the answer of a tick: the nodes that it newly noticed.
+/// Appends to `out` the answer to a tick at a node, without a line end: `noticed` and the numbers of the nodes that it newly holds for
+/// crashed (noticed as crashed), `noticed -` for none, or a refusal. `Err` if there is no memory; then a part of it may be there.
 pub fn put_ticked(out: &mut Vec<u8>, ticked: &Ticked) -> Result<(), OutOfMemory>
     ensures ok { OnOk result (out.new.items ≡ out.old.items ++ ticked_spelling ticked.now) }
     ensures err { OnErr result (StartsWith out.new.items out.old.items) }
@@ -168,7 +171,8 @@ pub fn put_ticked(out: &mut Vec<u8>, ticked: &Ticked) -> Result<(), OutOfMemory>
     }
 }
 
-/// Appends the answer to a stop.
+/// Appends to `out` the answer to a stop of a node, without a line end: `ok` or a refusal. `Err` if there is no memory; then a part of
+/// it may be there.
 pub fn put_halted(out: &mut Vec<u8>, halted: Halted) -> Result<(), OutOfMemory>
     ensures ok { OnOk result (out.new.items ≡ out.old.items ++ halted_spelling halted) }
     ensures err { OnErr result (StartsWith out.new.items out.old.items) }
@@ -197,7 +201,8 @@ fn put_line(out: &mut Vec<u8>, answer: &Answer) -> Result<(), OutOfMemory>
     put_bytes(out, b"\n")
 }
 
-/// Appends the line of an answer. The two most frequent answers are tested for first.
+/// Appends to `out` the line of a cluster's answer to an event, with its line end. `Err` if there is no memory; then a part of it may
+/// be there. The two most frequent answers are tested for first.
 #[inline(always)]
 pub fn put_answer(out: &mut Vec<u8>, answer: &Answer) -> Result<(), OutOfMemory>
     ensures ok { OnOk result (out.new.items ≡ out.old.items ++ ended (answer_spelling answer.now)) }
@@ -210,7 +215,7 @@ pub fn put_answer(out: &mut Vec<u8>, answer: &Answer) -> Result<(), OutOfMemory>
     }
 }
 
-/// Appends the line that a cluster was started.
+/// Appends to `out` the line `ok`, which says that a cluster was started. `Err` if there is no memory.
 pub fn put_started(out: &mut Vec<u8>) -> Result<(), OutOfMemory>
     ensures ok { OnOk result (out.new.items ≡ out.old.items ++ ended (codes "ok")) }
     ensures err { OnErr result (StartsWith out.new.items out.old.items) }
@@ -219,7 +224,8 @@ pub fn put_started(out: &mut Vec<u8>) -> Result<(), OutOfMemory>
     Ok(())
 }
 
-/// Appends the line that says which line is bad.
+/// Appends to `out` the line `bad line NUMBER`, which says which line of a schedule is bad. `Err` if there is no memory; then a part of
+/// it may be there.
 pub fn put_bad_line(out: &mut Vec<u8>, number: u64) -> Result<(), OutOfMemory>
     ensures ok { OnOk result (out.new.items ≡ out.old.items ++ bad_line number) }
     ensures err { OnErr result (StartsWith out.new.items out.old.items) }

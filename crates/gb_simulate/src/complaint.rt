@@ -48,8 +48,9 @@ fn put_reason(text: &mut Vec<u8>, number: u64, why: BadLine) -> Result<(), OutOf
     Ok(())
 }
 
-/// Writes the line that says what went wrong. If all lines were read, writes nothing. Only the line of a bad line takes
-/// memory.
+/// Writes to `writer` one line that says what went wrong in a schedule. Writes nothing if all lines were read. `Err` with `Write` if a
+/// write failed; then a part of the line may be written. `Err` with `OutOfMemory` if there is no memory; only the line of a bad line
+/// takes some.
 pub fn complain<W: Write>(
     alloc: Global,
     outcome: &Result<SimEnd, SimFault>,

@@ -11,9 +11,10 @@ use gb_isolation::laws::{
     settled_groups_agree, ticks_answer_new_notices,
 };
 
-/// What `simulate` writes is the text of a run: a cluster is started, its events are those that the lines spell, and its
-/// answers are the lines that are written. That run keeps every law of runs: those of its nodes, its packets and its links,
-/// of ticks and refusals, and isolation, alone and beside another run, integrity, order, duties and agreement of its groups.
+/// A law: what `simulate` writes is the text of a run. A cluster is started, its events are those that the lines spell, and its answers
+/// are the lines that are written. That run keeps every law of runs: those of its nodes, its packets and its links, of ticks and
+/// refusals, and of the isolation, alone and beside another run, the integrity, order, duties and agreement of its groups. It does
+/// nothing.
 pub fn texts_are_of_runs()
     ensures { TextsAreOfRuns }
 {

@@ -203,8 +203,9 @@ fn why_none(cluster: &Option<Cluster>) -> BadLine
     }
 }
 
-/// Obeys the line with this number and appends the line of its answer. Returns why the line is bad, if it is. If memory lacks, the cluster
-/// may have taken the event, and a part of the answer may stand behind what was there.
+/// Does what a line of a schedule asks, in the cluster, and appends the line of its answer to `text`. `number` is the line's number,
+/// from 1. `cluster` is `None` until a line starts it. Returns `Ok(None)` if the line is good, and else why it is bad; then nothing was
+/// done. `Err` if there is no memory; then the cluster may have taken the event, and a part of the answer may be in `text`.
 pub fn answer_line(
     alloc: Global,
     number: u64,

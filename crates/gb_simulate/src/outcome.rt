@@ -1,4 +1,4 @@
-//! How a schedule ends.
+//! How a schedule ends: all lines are read, a line is bad, or there is a fault; and the exit status.
 ghost use Rattle.std.specs.Prelude.{◌≡◌};
 ghost use Rattle.gb_simulate.specs.Status.{status};
 ghost use Rattle.gb_simulate.specs.declared.outcome.SimFault.TheVariants.{Read as ReadFault, OutOfMemory as NoMemory};
@@ -59,7 +59,8 @@ impl From<LinesFault> for SimFault {
     }
 }
 
-/// Returns the exit status of the program: 0 if all lines were read, 1 if a read or a write failed, 2 for a bad line, 3 for lack of memory.
+/// Returns the exit status of gb_sim for how a schedule ended: 0 if all lines were read, 1 if a read or a write failed, 2 for a bad
+/// line, 3 for lack of memory.
 pub fn status_of(outcome: &Result<SimEnd, SimFault>) -> u8
     ensures { result ≡ status outcome.now }
 {

@@ -162,10 +162,11 @@ fn answer_all<R: Read, W: Write>(
     answer_lines(alloc, reader, writer, lines, &mut keys, cluster, gathered)
 }
 
-/// Runs the schedule that the reader holds and writes its answers: a line for each event, up to the end, the first bad line or a fault.
-/// Each answer is written whole, unless a write fails. Answers are gathered, and written and flushed before each read and at the end.
-/// `cluster` becomes the cluster that the schedule starts: one that was there before is dropped first, and the caller drops this one.
-/// Returns how the schedule ended.
+/// Runs the schedule of a cluster that `reader` holds, line by line, and writes its answers to `writer`: a line for each event, up to
+/// the end, the first bad line or a fault. Each answer is written whole, unless a write fails. Answers are gathered, and written and
+/// flushed before each read and at the end. `cluster` becomes the cluster that the schedule starts: one that was there before is
+/// dropped first, and the caller drops this one. Returns `All` if all lines were read, or `BadLine` with the line's number and why it
+/// is bad. `Err` with `Read`, `Write` or `OutOfMemory`.
 pub fn simulate<R: Read, W: Write>(
     alloc: Global,
     reader: &mut R,

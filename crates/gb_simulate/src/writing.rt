@@ -34,8 +34,8 @@ fn flush<W: Write>(writer: &mut W) -> Result<(), SimFault>
     }
 }
 
-/// Writes a whole text and flushes it. `Write` if a write failed; the writer has then taken a front of the text, which may be empty or
-/// whole.
+/// Writes a whole text to `writer` and flushes it. `Err` with `Write` if a write or the flush failed; then the writer has taken a front
+/// of the text, which may be empty or whole.
 pub fn write_text<W: Write>(writer: &mut W, text: &[u8]) -> Result<(), SimFault>
     ensures ok { OnOk result (Appends (W.contents writer.old) (W.contents writer.new) text.now) }
     ensures fault { IfErr result (λ why. (why ≡ SimFault.Write) × AppendsFront (W.contents writer.old) (W.contents writer.new) text.now) }
@@ -50,7 +50,8 @@ pub fn write_text<W: Write>(writer: &mut W, text: &[u8]) -> Result<(), SimFault>
     Err(SimFault::Write)
 }
 
-/// Writes the line `out of memory` behind the answers if a schedule ended so. Returns the same outcome, or the fault of this write.
+/// Writes the line `out of memory` to `writer` if a schedule ended for lack of memory, else nothing. Returns `outcome` again, or `Err`
+/// with `Write` if this write failed.
 pub fn tell_want_of_memory<W: Write>(
     outcome: Result<SimEnd, SimFault>,
     writer: &mut W,

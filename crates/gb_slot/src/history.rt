@@ -1,7 +1,8 @@
 //! Laws: the histories that a slot stands for.
 ghost use Rattle.gb_slot.specs.HistoryLaws.{FreshStands, MovedStands, SaidStands, CameStands, NoticedStands, DoneStands, TookStands, LogIs, FallsIs, WaitingSaid, WaitingCame, WaitingNoticed, WaitingTook, WaitingElsewhere};
 
-/// For every history that a slot stands for, the slot holds what the group's broadcast makes of the history.
+/// A law: for every history of a group that a slot stands for, the slot holds what the group's broadcast makes of that history: its
+/// log, and the messages that wait for each node. It does nothing.
 pub fn stands()
     ensures fresh { FreshStands }
     ensures opened { MovedStands }

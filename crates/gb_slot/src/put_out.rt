@@ -1,4 +1,4 @@
-//! A message that was put out.
+//! A message that was put out: it is queued to be sent to the group's other members.
 use gb_types::MsgId;
 
 /// A message that was put out, and the place in the store where its payload is looked for first. The place only saves a search: the

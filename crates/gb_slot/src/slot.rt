@@ -95,16 +95,17 @@ impl Model for Slot {
 impl Slot {
     ghost use Rattle.gb_slot.specs.Slot.{IsWithinLimits, new_slot, usage_of, shown, waiting, slot_moved, slot_said, slot_came, slot_noticed, slot_done, slot_took};
 
-    /// Returns a new group at the node `me`, one of its members, which has noticed these nodes. What is broadcast is put out to the
-    /// other members.
+    /// Returns a new group at the node `me`, one of its members, which holds the nodes `noticed` for crashed (noticed as crashed). Each
+    /// message that it broadcasts is queued to be sent to the group's other members. `Err` with `OutOfMemory` if there is no memory,
+    /// and with no other refusal.
     ///
-    /// All memory that the group alone ever needs is taken here. Let n be the number of members; each says at most `msgs` messages
+    /// All memory that the group by itself ever needs is taken here. Let n be the number of members; each says at most `msgs` messages
     /// with at most `bytes` payload bytes in all. The group takes n * `bytes` payload bytes. It takes 22 bytes for each of the n *
-    /// `msgs` messages: 12 in the store, 4 in the log, 6 in what is put out; and 12 more if the broadcast relays or keeps the order
-    /// of each origin. It takes 4 bytes for each of `msgs` own messages, for the nodes that have it for good. It takes one table,
-    /// by which messages are found, of 2 * `msgs` bytes for each node up to the last member; and a second one if the broadcast
-    /// relays or keeps an order. The lists of effects get capacity for a call of the group, 4 and 6 bytes for each message. All
-    /// groups to which these lists are lent share it. OutOfMemory if memory is refused.
+    /// `msgs` messages: 12 in the store, 4 in the log, 6 in the queue to the other members; and 12 more if the broadcast relays or
+    /// keeps the order of each origin. It takes 4 bytes for each of `msgs` own messages, for the nodes that have it for good. It takes
+    /// one table, by which messages are found, of 2 * `msgs` bytes for each node up to the last member; and a second one if the
+    /// broadcast relays or keeps an order. The lists of `effects` get capacity for a call of the group, 4 and 6 bytes for each message.
+    /// All groups to which these lists are lent share it.
     pub fn new(
         alloc: Global,
         spec: Spec,
@@ -162,7 +163,8 @@ impl Slot {
         })
     }
 
-    /// Opens the group for its member's messages. WrongPhase if it was opened before.
+    /// Opens this group, so that its member here may say messages. `Err` with `WrongPhase` if it was opened before; then nothing
+    /// changes.
     pub fn open_group(&mut self) -> Result<(), Refusal>
         ensures answer { done_reply result ≡ open_answer (shown self.old) }
         ensures present { is_gone self.old.phase ≡ false }
@@ -173,7 +175,7 @@ impl Slot {
         Ok(())
     }
 
-    /// Shuts the group: its member says nothing more. WrongPhase if it is not open.
+    /// Shuts this group: its member here says nothing more. `Err` with `WrongPhase` if it is not open; then nothing changes.
     pub fn shut_group(&mut self) -> Result<(), Refusal>
         ensures answer { done_reply result ≡ shut_answer (shown self.old) }
         ensures present { is_gone self.old.phase ≡ false }
@@ -195,11 +197,13 @@ impl Slot {
         }
     }
 
-    /// Broadcasts a payload at a node that sends this version of the packet text, under the number `seq` if the caller names one.
-    /// Returns its number here. Refusals, in this order: WrongPhase if the group is not open, BadPlace if the caller names another
-    /// number than the next, TooLong above the version's payload limit, Budget if all messages are said, Bytes if the payload bytes
-    /// would exceed their limit, Window if too many messages are unfinished. A message that gets a number is put out at once: then
-    /// something waits for each other member that was not noticed. Takes no memory.
+    /// Broadcasts a payload in this group and returns the number that the message got among this member's own, from 1. `version` is the
+    /// version of the packet text that the node sends, and `seq` the number that the message must get, if the caller names one. The
+    /// message is queued at once to be sent to each other member that is not held for crashed (noticed as crashed). `Err`, in this
+    /// order: `WrongPhase` if the group is not open, `BadPlace` if `seq` is not the next number, `TooLong` if the payload is longer
+    /// than the version allows, `Budget` if all messages are said, `Bytes` if the payload bytes would exceed their limit, `Window` if
+    /// too many own messages are unfinished. After an `Err` nothing has changed. Takes no memory: the lists of `effects` are used and
+    /// emptied.
     pub fn say(
         &mut self,
         version: Version,
@@ -245,9 +249,10 @@ impl Slot {
         Ok(number)
     }
 
-    /// Receives an item from a node: it is let fall, or handed to the broadcast. Returns true if something was put out. If so,
-    /// something waits for each other member that was not noticed; if not, as many items wait for each node as before. Takes no
-    /// memory.
+    /// Takes a message into this group that node `from` sent. It is dropped if the group's rules say so, and else handed to the
+    /// broadcast, which may append messages to the log. Returns true if the broadcast queued something to be sent; then something waits
+    /// for each other member that is not held for crashed (noticed as crashed). If false, as many messages wait for each node as
+    /// before. Takes no memory: the lists of `effects` are used and emptied.
     pub fn came(
         &mut self,
         from: NodeId,
@@ -288,8 +293,9 @@ impl Slot {
         self.outgoing.len() != count
     }
 
-    /// Records that a node is noticed to have crashed. From then on nothing waits for it. If the node is not another member,
-    /// nothing changes. Takes no memory.
+    /// Records in this group that node `who` is held for crashed (noticed as crashed). From then on nothing waits to be sent to it. The
+    /// broadcast may append messages to the log and queue messages for others. If `who` is not another member, nothing changes. Takes
+    /// no memory: the lists of `effects` are used and emptied.
     pub fn notice(&mut self, who: NodeId, effects: &mut Effects)
         requires ready { AreReady self.old.spec effects.old }
         ensures state { self.new ≡ slot_noticed who self.old }
@@ -310,7 +316,7 @@ impl Slot {
         );
     }
 
-    /// Records that a node acknowledged a message, if the message was said here. Takes no memory.
+    /// Records that node `dest` acknowledged message `m`. If the message was not said here, nothing changes. Takes no memory.
     pub fn done(&mut self, dest: NodeId, m: MsgId)
         ensures state { self.new ≡ slot_done dest m self.old }
     {
@@ -326,15 +332,16 @@ impl Slot {
         }
     }
 
-    /// Returns, for each message that was said here, in order, the nodes that have it for good.
+    /// Returns, for each message that was said here, in order, the nodes that are known to have it for good.
     pub fn acknowledged(&self) -> &[NodeSet]
         ensures { result.now ≡ self.now.acknowledged }
     {
         &self.acknowledged
     }
 
-    /// Returns up to `max` entries of the log, from place `from` on; places count from 0. BadPlace if `from` is above the log's
-    /// length, or if more than 16 entries are asked for.
+    /// Returns copies of at most `max` entries of the group's log, from place `from` on. Places count from 0. `Err` with `BadPlace` if
+    /// `from` is above the log's length or `max` is above 16, and with `OutOfMemory` if there is no memory for the copies. Changes
+    /// nothing.
     pub fn fetch(&self, from: u32, max: u32) -> Result<Vec<Entry>, Refusal>
         ensures answer { IsReply (fetch_answer (shown self.now) from max) (log_reply result) }
         ensures present { is_gone self.now.phase ≡ false }
@@ -349,21 +356,21 @@ impl Slot {
         }
     }
 
-    /// Returns the parameters of the group.
+    /// Returns the parameters of the group: its kind of broadcast, its members and its limits.
     pub fn spec(&self) -> &Spec
         ensures { result.now ≡ self.now.spec }
     {
         &self.spec
     }
 
-    /// Returns the group's phase.
+    /// Returns the group's phase: made, opened or shut.
     pub fn phase(&self) -> Phase
         ensures { result ≡ self.now.phase }
     {
         self.phase
     }
 
-    /// Returns the number of messages that were delivered here.
+    /// Returns the number of messages that this member has delivered, which is the length of its log.
     pub fn log_len(&self) -> usize
         ensures { result ≡ length self.now.log }
     {
@@ -377,7 +384,8 @@ impl Slot {
         &self.spec.members
     }
 
-    /// Returns this node and the noticed nodes. Of the members, these are the ones to which nothing is put out.
+    /// Returns this node and the nodes that it holds for crashed (noticed as crashed). Of the members, these are the ones to which
+    /// nothing is sent.
     pub fn passed_over(&self) -> NodeSet
         ensures { result ≡ set.insert self.now.noticed self.now.me.number }
     {
@@ -393,7 +401,8 @@ impl Slot {
         self.spec.members.contains(dest) && dest != self.me && !self.noticed.contains(dest)
     }
 
-    /// Returns the first item that waits for the node, with its payload. `None` if nothing waits.
+    /// Returns the first message that waits to be sent to node `dest`, with its payload. `None` if nothing waits for it. Changes
+    /// nothing.
     pub fn peek(&self, dest: NodeId) -> Option<(MsgId, &[u8])>
         ensures { MatchOption result (waiting self.now dest.number ≡ []) (λ r. (rest : List EntryValue) × (waiting self.now dest.number ≡ record { origin = r.0.origin; seq = r.0.seq; payload = r.1.now } ∷ rest)) }
     {
@@ -409,7 +418,8 @@ impl Slot {
         }
     }
 
-    /// Returns the item at a place among those that wait for the node, with its payload; places count from 0.
+    /// Returns the message at a place among those that wait to be sent to node `dest`, with its payload. Places count from 0, and
+    /// `place` is below their number. Changes nothing.
     #[inline(always)]
     pub fn peek_at(&self, dest: NodeId, place: usize) -> (MsgId, &[u8])
         requires { place < length (waiting self.now dest.number) }
@@ -423,7 +433,8 @@ impl Slot {
         )
     }
 
-    /// Returns the number of items that wait for the node.
+    /// Returns the number of messages that wait to be sent to node `dest`. It is 0 if `dest` is this node, no member, or held for
+    /// crashed (noticed as crashed).
     pub fn waiting_for(&self, dest: NodeId) -> usize
         ensures { result ≡ length (waiting self.now dest.number) }
     {
@@ -435,7 +446,7 @@ impl Slot {
             .saturating_sub(self.taken[dest.index()] as usize)
     }
 
-    /// Marks the first `count` items that wait for the node as taken to be sent to it.
+    /// Removes the first `count` messages from those that wait to be sent to node `dest`. At least `count` of them wait.
     pub fn took(&mut self, dest: NodeId, count: usize)
         requires { count ≤ length (waiting self.old dest.number) }
         ensures state { self.new ≡ slot_took dest.number count self.old }

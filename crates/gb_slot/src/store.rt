@@ -208,8 +208,9 @@ fn put_few(m: MsgId, payload: &[u8], entries: &mut Vec<Entry>)
 }
 
 impl Store {
-    /// Returns an empty store, with memory for a number of messages and a number of payload bytes in all. The members' messages
-    /// numbered from 1 to `width` are found by a table, others by a search.
+    /// Returns an empty store of the messages that a group's slot knows. It takes memory for `messages` messages and for `bytes`
+    /// payload bytes in all. Messages of these members, numbered from 1 to `width`, are found by a table, others by a search. `Err` if
+    /// there is no memory.
     pub fn new(
         alloc: Global,
         members: &NodeSet,
@@ -246,7 +247,8 @@ impl Store {
         count_bytes(&mut self.seen, m, payload);
     }
 
-    /// Appends a message and a copy of its payload. Takes no memory.
+    /// Appends a message that was said here to this store, with a copy of its payload. The message is not in the store yet, and the
+    /// store has capacity for it, so no memory is taken.
     pub fn push(&mut self, m: MsgId, payload: &[u8])
         requires new { has self.old.entries m ≡ false }
         requires place { length self.old.entries < self.old.places }
@@ -259,14 +261,15 @@ impl Store {
         self.add(m, payload, NodeSet::new());
     }
 
-    /// Returns the number of payload bytes of an origin's messages.
+    /// Returns the number of payload bytes of all messages of an origin in the store.
     pub fn bytes_of(&self, origin: NodeId) -> u32
         ensures { result ≡ bytes_of origin.number self.now.entries }
     {
         self.seen[origin.index()]
     }
 
-    /// Returns the place of the message, if it is here, and true if it was taken in from the node. Places count from 0.
+    /// Returns two things: the place of message `m` in the store, from 0, or `None` if it is not there; and true if it was taken in
+    /// from node `from`.
     pub fn known_from(&self, m: MsgId, from: NodeId) -> (Option<usize>, bool)
         ensures place { IfSome result.0 (λ i. slice_get (map message_of self.now.entries) i ≡ Some m) }
         ensures entries { is_some result.0 ≡ has self.now.entries m }
@@ -286,8 +289,8 @@ impl Store {
         mark(&mut self.kept, place, from);
     }
 
-    /// Records that a message was taken in from a node. `known` is its place, if it is here. If it is not here yet, it is appended,
-    /// with a copy of its payload. Takes no memory.
+    /// Records in this store that message `m` was taken in from node `from`. `known` is the message's place, or `None` if it is not in
+    /// the store. If it is not, it is appended with a copy of its payload; the store has capacity for it, so no memory is taken.
     pub fn take_in(&mut self, m: MsgId, payload: &[u8], from: NodeId, known: Option<usize>)
         requires stands { IfSome known (λ i. slice_get (map message_of self.old.entries) i ≡ Some m) }
         requires known { is_some known ≡ has self.old.entries m }
@@ -309,15 +312,15 @@ impl Store {
         }
     }
 
-    /// Returns the place of the message, if it is here. Places count from 0.
+    /// Returns the place of message `m` in the store, from 0. `None` if it is not there.
     pub fn place(&self, m: MsgId) -> Option<usize>
         ensures { MatchOption result (has self.now.entries m ≡ false) (λ i. slice_get (map message_of self.now.entries) i ≡ Some m) }
     {
         find_recent(&self.kept, &self.table, m)
     }
 
-    /// Returns the payload of a message. It is empty if the message is not here. If the message is at `place`, no search is made.
-    /// Inlined: packing calls it twice an item.
+    /// Returns the payload of message `m`. It is empty if the message is not in the store. `place` is where the message is looked for
+    /// first, which only saves a search. Inlined: packing calls it twice an item.
     #[inline(always)]
     pub fn payload_at(&self, m: MsgId, place: usize) -> &[u8]
         ensures { result.now ≡ payload_in self.now.entries m }
@@ -325,8 +328,9 @@ impl Store {
         payload_at(&self.kept, &self.table, &self.bytes, m, place)
     }
 
-    /// Appends the message with a copy of its payload to entries with capacity for one more. If the message is at `place`, no
-    /// search is made. If memory is refused, the entries stay as they were.
+    /// Appends message `m`, with a copy of its payload, to `entries`, which has capacity for one more. `place` is where the message is
+    /// looked for first, which only saves a search. `Err` if there is no memory for a payload of more than 16 bytes; then `entries` is
+    /// as it was.
     pub fn put_entry(
         &self,
         alloc: Global,

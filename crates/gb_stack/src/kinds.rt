@@ -1,11 +1,12 @@
-//! The parts of a kind.
+//! The parts of a kind of broadcast: its module, and whether it keeps the order of each origin.
 ghost use Rattle.std.specs.Prelude.{◌≡◌};
 ghost use Rattle.gb_stack.specs.Kinds as kinds;
 
 use gb_layer::BroadcastModule;
 use gb_types::Kind;
 
-/// Returns the module of broadcast that a kind is, or keeps an order over.
+/// Returns which of the five modules of broadcast a kind is made of, without regard to its order: best-effort, lazy, eager, all-ack or
+/// majority-ack.
 pub fn broadcast_module(kind: Kind) -> BroadcastModule
     ensures { result ≡ kinds.module_of kind }
 {
@@ -23,7 +24,7 @@ pub fn broadcast_module(kind: Kind) -> BroadcastModule
     }
 }
 
-/// Returns true if a kind keeps the order of each origin.
+/// Returns true if a kind of broadcast delivers the messages of each origin in the order in which they were said.
 pub fn is_fifo(kind: Kind) -> bool
     ensures { result ≡ kinds.is_fifo kind }
 {

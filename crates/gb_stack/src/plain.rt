@@ -11,7 +11,8 @@ use gb_layer::{Call, plain};
 use gb_types::{Kind, MsgId, NodeId, OutOfMemory};
 use std::alloc::Global;
 
-/// Returns what the newest call of a history broadcasts from here, in order. An empty history broadcasts nothing.
+/// Returns the messages that the newest call of a history makes node `me` send, in order, by the definition of the kind of broadcast.
+/// They are none for an empty history. The newest call is first in `history`. `Err` if there is no memory. Slow: for tests.
 pub fn broadcasts(
     alloc: Global,
     kind: Kind,
@@ -23,7 +24,8 @@ pub fn broadcasts(
     plain::broadcasts(alloc, broadcast_module(kind), me, history)
 }
 
-/// Returns the log of a history: what its calls delivered, the oldest first.
+/// Returns the log of node `me` after a history: the messages that its calls delivered, the oldest first, by the definition of the kind
+/// of broadcast. The newest call is first in `history`. `Err` if there is no memory. Slow: for tests.
 pub fn log(
     alloc: Global,
     kind: Kind,

@@ -139,8 +139,8 @@ impl Stack {
         }
     }
 
-    /// Returns the stack of a group at the node `me`, which has noticed these nodes. The stack starts as if it had taken, one after
-    /// the other, the notices of the other members among them.
+    /// Returns the broadcast of a group at the node `me`, which holds the nodes `noticed` for crashed (noticed as crashed). It starts
+    /// as if it had been told, one after the other, that the other members among them are crashed. `Err` if there is no memory.
     pub fn new(
         alloc: Global,
         spec: &Spec,

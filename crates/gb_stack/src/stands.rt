@@ -5,9 +5,9 @@ ghost use Rattle.gb_stack.specs.Stands.{NewStackStands, CalledStackStands, Hands
 use crate::stack::Stack;
 use gb_layer::modules::each_once;
 
-/// The state of a stack stands for the history of its calls. A new stack stands for the notices that it starts with, and a call
-/// adds itself. For each lawful history that a stack stands for, what a call hands up is what the kind delivers then, what it sends
-/// is what the kind broadcasts then, and all that came up is the kind's log.
+/// A law: the state of a stack stands for the history of its calls. A new stack stands for the notices that it starts with, and a call
+/// adds itself. For each lawful history that a stack stands for, what a call hands up is what the kind delivers then, what it sends is
+/// what the kind broadcasts then, and all that came up is the kind's log. It does nothing.
 pub fn stands()
     ensures new { NewStackStands }
     ensures called { CalledStackStands }
@@ -17,21 +17,21 @@ pub fn stands()
     ensures grows { LogGrows }
 {}
 
-/// Whatever the history, the log of a fifo kind has each origin's messages as 1, 2, 3, .., without a gap. In the log of each kind,
-/// each message was said or came, and occurs once.
+/// A law of two parts. Whatever the history, the log of a first-in first-out kind has each origin's messages as 1, 2, 3, .., without a
+/// gap. In the log of each kind, each message was said or came, and occurs once. It does nothing.
 pub fn logs()
     ensures runs { FifoLogRuns }
     ensures once { KindLogOnce }
     ensures mentioned { KindLogMentioned }
 {}
 
-/// Whatever the history, the log of a module has the messages that are delivered, each once. A fifo kind reorders this log; another
-/// kind leaves it as it is.
+/// A law: whatever the history, the log of a module of broadcast has the messages that are delivered, each once. A first-in first-out
+/// kind reorders this log; another kind leaves it as it is. It does nothing.
 pub fn module_logs()
     ensures { ModuleLogHasDelivered }
 {}
 
-/// The laws of a broadcast hold of a stack as `Stack::new` returns it: no message comes up twice.
+/// A law: no message comes up twice from a stack that `Stack::new` returned. It does nothing.
 pub fn starts()
     ensures { StartedHandsUpEachOnce }
 {

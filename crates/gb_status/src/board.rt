@@ -41,7 +41,8 @@ fn set_of(bits: u64) -> NodeSet {
 }
 
 impl Board {
-    /// Returns a board for `count` nodes from `first` on. All its numbers are 0.
+    /// Returns a board for the figures of `count` nodes from number `first` on. All its numbers are 0, and no node is held for crashed
+    /// (noticed as crashed). `Err` if there is no memory.
     pub fn new(alloc: Global, first: NodeId, count: u8) -> Result<Board, OutOfMemory> {
         let mut numbers = Vec::new(alloc);
         let mut noticed = Vec::new(alloc);
@@ -69,7 +70,8 @@ impl Board {
         }
     }
 
-    /// Stores the figures of a node and the nodes that it noticed. If the node has no row, nothing is stored.
+    /// Stores the figures of a node on the board, and the set of nodes that it holds for crashed (noticed as crashed). They replace
+    /// those that were stored for it. If the node has no row on the board, nothing is stored. Takes no memory and no lock.
     pub fn put(&self, node: NodeId, figures: &Figures, noticed: &NodeSet) {
         let Some(place) = self.place(node) else {
             return;
@@ -85,7 +87,7 @@ impl Board {
         }
     }
 
-    /// Returns the stored figures of a node. All are 0 if the node has no row.
+    /// Returns the figures that are stored for a node. All are 0 if the node has no row on the board.
     pub fn figures(&self, node: NodeId) -> Figures {
         let mut figures = Figures::new();
         let Some(place) = self.place(node) else {
@@ -100,7 +102,8 @@ impl Board {
         figures
     }
 
-    /// Returns the stored set of nodes that a node noticed. It is empty if the node has no row.
+    /// Returns the set of nodes that a node holds for crashed (noticed as crashed), as it is stored. It is empty if the node has no row
+    /// on the board.
     pub fn noticed(&self, node: NodeId) -> NodeSet {
         match self.place(node) {
             Some(place) => match self.noticed.get(usize::from(place)) {
@@ -111,7 +114,7 @@ impl Board {
         }
     }
 
-    /// Returns the stored figures of each node that has a row, in the order of their numbers.
+    /// Returns the stored figures of each node that has a row on the board, by rising numbers of nodes. `Err` if there is no memory.
     pub fn all(&self, alloc: Global) -> Result<Vec<NodeFigures>, OutOfMemory> {
         let mut all = Vec::new(alloc);
         for place in 0..self.count {

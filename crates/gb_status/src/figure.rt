@@ -184,7 +184,7 @@ pub const FIGURES: [Figure; COUNT] = [
 ];
 
 impl Figure {
-    /// Returns its index in a table of figures.
+    /// Returns the index of this figure in a table of all figures, below 55.
     pub fn place(self) -> usize
         ensures is { result ≡ place_of self }
         ensures bound { result < COUNT }
@@ -192,7 +192,7 @@ impl Figure {
         self as usize
     }
 
-    /// Returns its name in the reply to a session's `status`.
+    /// Returns the name of this figure in the reply to a session's `status`, such as `requests_make`.
     pub fn word(self) -> &'static [u8]
         ensures { result.now ≡ word_of self }
     {
@@ -255,7 +255,8 @@ impl Figure {
         }
     }
 
-    /// Returns its name in the text that Prometheus reads. Some figures share a name and differ by their labels.
+    /// Returns the name of this figure in the text that Prometheus reads, such as `foqradesh_requests_total`. Some figures share a name
+    /// and differ by their labels.
     pub fn family(self) -> &'static [u8]
         ensures { result.now ≡ family_of self }
     {
@@ -318,7 +319,8 @@ impl Figure {
         }
     }
 
-    /// Returns the labels that stand behind the node's label in that text's braces.
+    /// Returns the labels of this figure behind the node's label in the text that Prometheus reads, such as `,kind="make"`. They are
+    /// empty if the figure's name says all.
     pub fn label(self) -> &'static [u8]
         ensures { result.now ≡ label_of self }
     {
@@ -381,7 +383,8 @@ impl Figure {
         }
     }
 
-    /// Returns the two lines that stand in that text above the first figure with a name. They are empty for its other figures.
+    /// Returns the two lines, HELP and TYPE, that stand above the first figure with a name in the text that Prometheus reads. They are
+    /// empty for the other figures with that name.
     pub fn head(self) -> &'static [u8]
         ensures { result.now ≡ head_of self }
     {

@@ -1,4 +1,4 @@
-//! What a node counts.
+//! What a node counts: a number for each figure.
 ghost use Rattle.std.specs.Prelude.{◌≡◌, ◌+◌, slice_index, slice_set, replicate};
 ghost use Rattle.gb_status.specs.Figures.{value_of, capped};
 ghost use Rattle.gb_status.specs.Names.{place_of};
@@ -21,7 +21,7 @@ pub struct NodeFigures {
 }
 
 impl Figures {
-    /// Returns figures that are all 0.
+    /// Returns the figures of a node that has counted nothing: all are 0.
     pub fn new() -> Figures
         ensures { result.numbers ≡ replicate 55 0 }
     {
@@ -30,21 +30,21 @@ impl Figures {
         }
     }
 
-    /// Returns the number of a figure.
+    /// Returns the number of this node's figure.
     pub fn value(&self, figure: Figure) -> u64
         ensures { result ≡ value_of self.now figure }
     {
         self.numbers[figure.place()]
     }
 
-    /// Sets the number of a figure.
+    /// Sets one of these figures to `number`.
     pub fn set(&mut self, figure: Figure, number: u64)
         ensures { self.new.numbers ≡ slice_set self.old.numbers (place_of figure) number }
     {
         self.numbers[figure.place()] = number;
     }
 
-    /// Adds `count` to a figure. At 2^64 - 1 it stays there.
+    /// Adds `count` to one of these figures. A sum above 2^64 - 1 becomes 2^64 - 1.
     #[inline(always)]
     pub fn add(&mut self, figure: Figure, count: u64)
         ensures { self.new.numbers ≡ slice_set self.old.numbers (place_of figure) (capped (value_of self.old figure + count)) }

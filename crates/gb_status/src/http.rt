@@ -63,7 +63,9 @@ fn place_asked(target: &[u8]) -> Asked
     }
 }
 
-/// Returns what these bytes ask for.
+/// Returns what the bytes of an HTTP request ask for: `Metrics` for `GET /metrics`, `Health` for `GET /healthz`, `OtherPlace` for
+/// another GET, `OtherMethod` for another method. `More` if the head of the request is not whole, and `NoRequest` if the bytes can be
+/// no head of at most 64 fields.
 pub fn asked_for(bytes: &[u8]) -> Asked
     ensures { Asks bytes.now result }
 {
@@ -146,7 +148,8 @@ fn note_of(asked: Asked, is_serving: bool) -> &'static [u8]
     }
 }
 
-/// Returns the answer to what is asked for: the figures of these nodes, whether they are served, or why there is neither.
+/// Returns the whole HTTP answer to what is asked for: 200 with the figures of all nodes; 200 or 503 for the health, as `is_serving`
+/// says; 404 for another place; 405 for another method; 400 for what is no whole request. `Err` if there is no memory.
 pub fn answer(
     alloc: Global,
     asked: Asked,
@@ -163,7 +166,8 @@ pub fn answer(
     response(alloc, code_of(asked, is_serving), &body)
 }
 
-/// Returns the answer to the bytes of a request. `None` if the head of the request is not whole and more of it may come.
+/// Returns the whole HTTP answer to the bytes of a request, as `answer` makes it. `Ok(None)` if the head of the request is not whole
+/// and `may_come` says that more of it may come. `Err` if there is no memory.
 pub fn reply(
     alloc: Global,
     bytes: &[u8],
@@ -182,7 +186,7 @@ pub fn reply(
     Ok(Some(text))
 }
 
-/// Returns true if the loops of these nodes run.
+/// Returns true if the loop of each of these nodes runs, by its figure `Running`.
 pub fn all_run(all: &[NodeFigures]) -> bool
     ensures { result ≡ all_run all.now }
 {

@@ -23,7 +23,7 @@ pub struct Told {
 }
 
 impl Told {
-    /// Returns a record of a node of which nothing was told.
+    /// Returns the record of a node of which the log has told nothing.
     pub fn new() -> Told
         ensures noticed { result.noticed ≡ set.empty }
         ensures others { (result.is_full ≡ false) × (result.is_short ≡ false) }
@@ -35,7 +35,8 @@ impl Told {
         }
     }
 
-    /// Notes that what is new by these figures was told.
+    /// Records here that the log has told what is new by these figures: the nodes `noticed`, which are held for crashed (noticed as
+    /// crashed), that the node closes connections since it has as many as are allowed, and that it lacked memory.
     pub fn note(&mut self, figures: &Figures, noticed: &NodeSet)
         ensures noticed { self.new.noticed ≡ set.union self.old.noticed noticed.now }
         ensures full { self.new.is_full ≡ (self.old.is_full || is_full figures.now) }
@@ -187,8 +188,10 @@ fn put_short(
     )
 }
 
-/// Appends the lines that tell what is new of the node with this number, by its figures and the nodes that it noticed. Each
-/// line begins with the name of the program.
+/// Appends to `out` the log's lines of what is new of the node with this number: for each node of `noticed` that was not told, that it
+/// is held for crashed (noticed as crashed); and, once each, that the node closes connections since it has as many as are allowed, and
+/// that it lacked memory. `told` says what the log told before. Each line begins with `name`, the name of the program. `Err` if there
+/// is no memory; then a part of them may be there.
 pub fn put_news(
     out: &mut Vec<u8>,
     name: &[u8],

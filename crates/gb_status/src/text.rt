@@ -1,4 +1,4 @@
-//! How figures are written.
+//! How figures are written: as the text that Prometheus reads, and as the reply to a session's `status`.
 ghost use Rattle.std.specs.Prelude.{◌≡◌, ◌++◌, IfOk, OnOk};
 ghost use Rattle.std.specs.List.{flat_map};
 ghost use Rattle.gb_status.specs.Figures.{figure_text, front_text, line_text, metrics_text, status_text, word_text, words_text};
@@ -57,7 +57,7 @@ fn put_figures(
     Ok(())
 }
 
-/// Returns the figures of these nodes in the text exposition format 0.0.4 of Prometheus.
+/// Returns the figures of these nodes as text that Prometheus reads, in its text exposition format 0.0.4. `Err` if there is no memory.
 pub fn metrics_text(alloc: Global, all: &[NodeFigures]) -> Result<Vec<u8>, OutOfMemory>
     ensures { IfOk result (λ text. text.items ≡ metrics_text all.now) }
 {
@@ -86,7 +86,8 @@ fn put_words(out: &mut Vec<u8>, list: &[Figure], figures: &Figures) -> Result<()
     Ok(())
 }
 
-/// Returns the text of the reply to a session's `status`: that word, and for each figure a space and `NAME=NUMBER`.
+/// Returns the text of the reply to a session's `status`: that word, and for each figure a space and `NAME=NUMBER`. `Err` if there is
+/// no memory.
 pub fn status_text(alloc: Global, figures: &Figures) -> Result<Vec<u8>, OutOfMemory>
     ensures { IfOk result (λ text. text.items ≡ status_text figures.now) }
 {

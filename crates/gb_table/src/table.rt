@@ -102,8 +102,8 @@ fn is_kept(token: &Token, kept: &Token) -> bool
 }
 
 impl Table {
-    /// Returns a table with no tenant and no group, at node `me` of `nodes` nodes. The node sends packets of this version. Its
-    /// tenants may reserve `places` rooms in all. Who holds the administrator's key may add tenants.
+    /// Returns the table of node `me` of `nodes` nodes, with no tenant and no group. The node sends packets of this version. Its
+    /// tenants may reserve `places` rooms in all. Who holds the administrator's key may add tenants. Takes no memory yet.
     pub fn new(
         alloc: Global,
         me: NodeId,
@@ -129,7 +129,7 @@ impl Table {
         }
     }
 
-    /// Returns the table's node.
+    /// Returns the node whose table this is.
     pub fn me(&self) -> NodeId
         ensures { result ≡ self.now.me }
     {
@@ -320,9 +320,10 @@ impl Table {
             .say(self.version, addr, place, message.seq, payload)
     }
 
-    /// Returns the reply to a request at a node that has noticed the nodes `noticed`. Denied comes first and is the same in three cases:
-    /// the token is not the one that the request needs, the tenant is not here, or the token is another group's. Then come the refusals of
-    /// the rules in their order, and OutOfMemory last. After a refusal nothing has changed.
+    /// Does what the request asks, in this table, and returns the reply. `noticed` are the nodes that this node holds for crashed
+    /// (noticed as crashed). The reply `Denied` comes before all others: the token is not the one that the request needs, the tenant is
+    /// not here, or the token is another group's. Then come the other refusals in the order of the rules, and `OutOfMemory` last. After
+    /// a refusal nothing has changed.
     pub fn request(&mut self, request: &Request, noticed: &NodeSet) -> Reply
         ensures reply { IsReplyTo request.now (table_reply request.now self.old) result }
         ensures state { self.new ≡ table_did noticed.now request.now result self.old }
@@ -343,16 +344,17 @@ impl Table {
         }
     }
 
-    /// Returns true if `token` is the administrator's token.
+    /// Returns true if `token` is the token of the administrator.
     pub fn is_admin(&self, token: &Token) -> bool
         ensures { result ≡ is_token self.now.admin_key Admin token.now }
     {
         self.admin_key.admits(Need::Admin, token)
     }
 
-    /// Returns at most `most` of the groups that live at the node or were dropped there, from the `from`-th on, in the order of their
-    /// places, with their total number. `Err` with `Denied` if the token is not the administrator's, with `BadPlace` if there are
-    /// fewer than `from` groups or `most` is above 64, and with `OutOfMemory` if there is no memory for the list.
+    /// Returns some of the groups that live at the node, or were dropped and whose places are not taken again: at most `most`, from the
+    /// `from`-th on, in the order of their places; and the number of all of these. `Err` with `Denied` if the token is not the
+    /// administrator's, with `BadPlace` if there are fewer than `from` groups or `most` is above 64, and with `OutOfMemory` if there is
+    /// no memory for the list.
     pub fn list(&self, token: &Token, from: u32, most: u32) -> Result<Listing, Refusal>
         ensures groups { IfOk result (λ listing. list_answer token.now from most self.now ≡ Ok listing.groups.items) }
         ensures total { IfOk result (λ listing. listing.total ≡ length (used self.now.groups.rows)) }
@@ -372,8 +374,8 @@ impl Table {
         }
     }
 
-    /// Takes in an item that came from a node. The item is let fall if its group is not here, if its payload is longer than this
-    /// node's version allows, or if the group's rules say so.
+    /// Takes a message that came from node `from` into its group. The message is dropped, and nothing changes, if its group is not
+    /// here, if its payload is longer than this node's version allows, or if the group's rules say so.
     pub fn item(&mut self, from: NodeId, item: ItemView<'_>)
         ensures state { self.new ≡ table_came from (view_item item.entry) self.old }
         ensures others { OthersKept (address_of (view_item item.entry)) self.old.groups.rows self.new.groups.rows }
@@ -381,8 +383,7 @@ impl Table {
         self.groups.item(self.version, from, item);
     }
 
-    /// Takes a node's acknowledgement of a message of a group. If the message was not said here, nothing changes, and the group
-    /// is not looked up.
+    /// Records that node `dest` has acknowledged message `m` of a group. If the message was not said at this node, nothing changes.
     pub fn done(&mut self, dest: NodeId, addr: Addr, m: MsgId)
         ensures state { self.new ≡ table_done dest addr m self.old }
         ensures others { OthersKept addr self.old.groups.rows self.new.groups.rows }
@@ -393,16 +394,16 @@ impl Table {
         self.groups.done(dest, addr, m);
     }
 
-    /// Notices a node in each group.
+    /// Tells each group of the table that node `who` is held for crashed (noticed as crashed), for good. A group of which it is a
+    /// member records that, and may deliver or relay messages.
     pub fn notice(&mut self, who: NodeId)
         ensures { self.new ≡ table_noticed who self.old }
     {
         self.groups.notice(who);
     }
 
-    /// Returns the number of items in the next batch for the node `dest`, and the number of bytes that they take: at most
-    /// `room`, which is at most 65,535. If `room` is enough for the longest item, a batch without items means that nothing
-    /// waits.
+    /// Returns the number of messages in the next batch for node `dest`, and the number of bytes that they take, at most `room`. `room`
+    /// is at most 65,535. If `room` is enough for the longest message, 0 messages mean that nothing waits for `dest`. Changes nothing.
     pub fn measure(&self, dest: NodeId, room: usize) -> (u16, usize)
         requires { room ≤ 65535 }
         ensures count { result.0 ≡ length (batch self.now.version dest.number room self.now.groups) }
@@ -413,9 +414,9 @@ impl Table {
         self.groups.measure(self.version, dest, room)
     }
 
-    /// Appends the texts of the items in the next batch for the node `dest`. They take at most `room` bytes, which is at most
-    /// 65,535. `count` is the number of items that `measure` returned for this room, and `out` has room for the bytes that it
-    /// returned. Takes no memory.
+    /// Appends the next batch of messages for node `dest` to `out` as text, and removes them from what waits. They take at most `room`
+    /// bytes, which is at most 65,535. `count` is the number that `measure` returned for this `room`, and `out` has capacity for the
+    /// bytes that it returned, so no memory is taken.
     pub fn pack_into(&mut self, dest: NodeId, room: usize, count: u16, out: &mut Vec<u8>)
         requires room { room ≤ 65535 }
         requires count { count ≡ length (batch self.old.version dest.number room self.old.groups) }

@@ -83,7 +83,7 @@ impl Model for Tenants {
 }
 
 impl Tenants {
-    /// Returns an empty list of tenants.
+    /// Returns an empty list of tenants. Takes no memory yet.
     pub fn new(alloc: Global) -> Tenants
         ensures { result ≡ [] }
     {
@@ -100,7 +100,7 @@ impl Tenants {
         self.rows.get(&tenant)
     }
 
-    /// Returns the row of a tenant, or `None` if the tenant is not here.
+    /// Returns the limits and the key of a tenant. `None` if the tenant is not here.
     pub fn row(&self, tenant: TenantId) -> Option<&TenantRow>
         ensures { option_copied result ≡ row_of tenant self.now }
     {
@@ -110,14 +110,14 @@ impl Tenants {
         }
     }
 
-    /// Returns the number of rooms that the tenants reserve in all.
+    /// Returns the sum of the rooms that the tenants of this list reserve.
     pub fn reserved(&self) -> u32
         ensures { result ≡ reserved self.now }
     {
         self.reserved
     }
 
-    /// Adds a tenant, which is not here yet. `Err` if there is no memory; then nothing has changed.
+    /// Adds a tenant, which is not in the list yet, at the end of this list. `Err` if there is no memory; then the list is as it was.
     pub fn add(&mut self, row: &TenantRow) -> Result<(), OutOfMemory>
         requires fresh { row_of row.now.tenant self.old ≡ None }
         requires few { reserved self.old + row.now.groups ≤ ROOMS }
@@ -130,7 +130,7 @@ impl Tenants {
         Ok(())
     }
 
-    /// Returns the token for `need` under the key of a tenant, or `None` if the tenant is not here.
+    /// Returns the token for `need` under the key of a tenant. `None` if the tenant is not here.
     pub fn token(&self, tenant: TenantId, need: Need) -> Option<Token>
         ensures { result ≡ option_map (λ row. token_of row.key need) (row_of tenant self.now) }
     {
@@ -140,7 +140,7 @@ impl Tenants {
         }
     }
 
-    /// Returns true if the tenant is here and `token` is the one for `need` under its key.
+    /// Returns true if `token` is the token for `need` under the tenant's key. False if it is another, or if the tenant is not here.
     pub fn admits(&self, tenant: TenantId, need: Need, token: &Token) -> bool
         ensures { result ≡ is_by_row need token.now (row_of tenant self.now) }
     {

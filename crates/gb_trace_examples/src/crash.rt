@@ -133,7 +133,8 @@ const ALL_ACK: [(u8, Told); 11] = [
     (1, Told::Fetch),
 ];
 
-/// Returns the part of this run that concerns the tenant's group, written by hand.
+/// Returns the part of the run in which two of three nodes stop that concerns the group of this tenant, 7, 8 or 9. Each step is the
+/// number of a node and what happens there. It is written by hand.
 pub fn told(tenant: u16) -> &'static [(u8, Told)] {
     match tenant {
         7 => &BEST_EFFORT,
@@ -177,7 +178,7 @@ fn add(alloc: Global, events: &mut Vec<Event>, act: Act) -> Result<(), OutOfMemo
     }
 }
 
-/// Returns all events of the run.
+/// Returns the events of a run of three nodes, two of which stop, in order. `Err` if there is no memory.
 pub fn events(alloc: Global) -> Result<Vec<Event>, OutOfMemory> {
     let mut events = Vec::new(alloc);
     for act in ACTS {

@@ -16,8 +16,9 @@ pub struct Shown {
     pub seen: Observation,
 }
 
-/// Returns what a run shows of a group. `None` if the group lacked memory, or if what is seen of it in the run is not what is seen
-/// of the group alone under the projection.
+/// Returns what a run shows of a group: the part of the run that concerns it (its projection), and what is seen of it. `Ok(None)` if a
+/// request of the group was refused for lack of memory, or if the group by itself, without other tenants, links or frames, does not
+/// show the same under that projection. `Err` if there is no memory.
 pub fn show(
     alloc: Global,
     plan: &Plan,
@@ -38,7 +39,7 @@ pub fn show(
     Ok(Some(Shown { steps, seen }))
 }
 
-/// Returns the projection of a run on a group. `None` where `show` is.
+/// Returns the part of a run that concerns a group (its projection), as `show` does. `Ok(None)` and `Err` in the same cases.
 pub fn projection(
     alloc: Global,
     plan: &Plan,

@@ -30,7 +30,7 @@ pub const PLAN: Plan = Plan {
 
 const TENANT_KEY: Key = [2; 32];
 
-/// Returns the address of the one group of a tenant.
+/// Returns the address of the one group of a tenant: number 1, generation 0.
 pub fn group_of(tenant: u16) -> Addr {
     Addr {
         tenant,
@@ -50,7 +50,7 @@ fn row(tenant: u16) -> TenantRow {
     }
 }
 
-/// Returns a group of this kind with these members.
+/// Returns the parameters of a group of this kind with these members, and with small limits: 4 messages, 4,096 bytes, 4 unfinished.
 pub fn spec_with(kind: Kind, members: NodeSet) -> Spec {
     Spec {
         kind,
@@ -61,7 +61,7 @@ pub fn spec_with(kind: Kind, members: NodeSet) -> Spec {
     }
 }
 
-/// Returns a best-effort group of both nodes.
+/// Returns the parameters of a best-effort group of the two nodes.
 pub fn spec() -> Spec {
     let mut members = NodeSet::new();
     members.insert(FIRST);
@@ -83,7 +83,8 @@ fn ask(events: &mut Vec<Event>, node: NodeId, request: Request) -> Result<(), Ou
     Ok(())
 }
 
-/// Adds the requests that take a tenant in at a node, and make and open its group there.
+/// Appends three requests at a node to the events of a run: add a tenant, make its group with these parameters, open it. `Err` if there
+/// is no memory; then some may be there.
 pub fn furnish(
     events: &mut Vec<Event>,
     node: NodeId,
@@ -97,7 +98,8 @@ pub fn furnish(
     ask(events, node, Request::OpenGroup(owner(addr), addr))
 }
 
-/// Adds the request that says these bytes in a group at a node.
+/// Appends to the events of a run the request at a node that says a message with these bytes in a tenant's group. `Err` if there is no
+/// memory; then nothing is appended.
 pub fn say_bytes(
     alloc: Global,
     events: &mut Vec<Event>,
@@ -111,7 +113,8 @@ pub fn say_bytes(
     ask(events, node, said)
 }
 
-/// Adds the request that says the number of the tenant in its group at a node.
+/// Appends to the events of a run the request at a node that says the tenant's number, in two bytes, in its group. `Err` if there is no
+/// memory; then nothing is appended.
 pub fn say(
     alloc: Global,
     events: &mut Vec<Event>,
@@ -121,13 +124,14 @@ pub fn say(
     say_bytes(alloc, events, node, tenant, &tenant.to_be_bytes())
 }
 
-/// Adds the drop of a tenant's group at a node.
+/// Appends to the events of a run the request that drops a tenant's group at a node. `Err` if there is no memory.
 pub fn drop_group(events: &mut Vec<Event>, node: NodeId, tenant: u16) -> Result<(), OutOfMemory> {
     let addr = group_of(tenant);
     ask(events, node, Request::DropGroup(owner(addr), addr))
 }
 
-/// Adds a fetch of the log of a tenant's group at a node.
+/// Appends to the events of a run the request that fetches the log of a tenant's group at a node: at most 16 entries from its beginning.
+/// `Err` if there is no memory.
 pub fn fetch(events: &mut Vec<Event>, node: NodeId, tenant: u16) -> Result<(), OutOfMemory> {
     let addr = group_of(tenant);
     ask(
@@ -137,9 +141,10 @@ pub fn fetch(events: &mut Vec<Event>, node: NodeId, tenant: u16) -> Result<(), O
     )
 }
 
-/// Returns the events of a run. Both nodes have the groups of three tenants, and each says something at the first node. One frame
-/// has the three messages; it comes to the second node twice. One say has another node's token. The last tenant drops its group
-/// at the second node, which then stops. The logs are fetched.
+/// Returns the events of a run of two nodes, in order. Both have the groups of three tenants, and each tenant says a message at the
+/// first node. One frame has the three messages, and comes to the second node twice. One request for a fetch has another node's token.
+/// The last tenant drops its group at the second node. One log is fetched there before that node stops, and another after. `Err` if
+/// there is no memory.
 pub fn events(alloc: Global) -> Result<Vec<Event>, OutOfMemory> {
     let mut events = Vec::new(alloc);
     add_events(alloc, &mut events)?;
@@ -174,7 +179,8 @@ fn step(steps: &mut Vec<GroupStep>, node: NodeId, event: GroupEvent) -> Result<(
     Ok(())
 }
 
-/// Returns the part of this run that concerns a tenant's group, written by hand.
+/// Returns the part of the run of `events` that concerns the group of this tenant, 7, 8 or 9, step by step. It is written by hand.
+/// `Err` if there is no memory.
 pub fn steps(alloc: Global, tenant: u16) -> Result<Vec<GroupStep>, OutOfMemory> {
     let mut steps = Vec::new(alloc);
     add_steps(alloc, tenant, &mut steps)?;

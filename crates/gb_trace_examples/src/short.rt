@@ -20,7 +20,8 @@ fn short_of(reply: &Reply) -> Got {
     }
 }
 
-/// Returns true if these are the replies.
+/// Returns true if a group's replies at a node are exactly the wanted ones, in order. Logs are compared by their numbers of entries
+/// alone.
 pub fn are_replies(replies: &[Reply], wanted: &[Got]) -> bool {
     if replies.len() != wanted.len() {
         return false;
@@ -56,8 +57,8 @@ fn is_silent(node: &NodeSeen) -> bool {
     }
 }
 
-/// Returns true if this is seen: these replies at the two nodes, and one item with this payload that went from the first to the
-/// second node.
+/// Returns true if exactly this is seen of a group at two nodes: the replies `first` at the first node and `second` at the second, and
+/// one message with this payload, which went from the first node to the second. Logs are compared by their numbers of entries alone.
 pub fn is_seen(seen: &Observation, first: &[Got], second: &[Got], payload: &[u8]) -> bool {
     match seen.nodes() {
         [sender, other] => {
@@ -76,7 +77,7 @@ fn is_same_entry(entry: &Entry, other: &Entry) -> bool {
         && entry.payload.as_slice() == other.payload.as_slice()
 }
 
-/// Returns true if both lists have the same entries in the same order.
+/// Returns true if both logs have the same entries in the same order: origin, number and payload.
 pub fn are_same_entries(entries: &[Entry], others: &[Entry]) -> bool {
     if entries.len() != others.len() {
         return false;
@@ -115,7 +116,8 @@ fn is_same_node(node: &NodeSeen, other: &NodeSeen) -> bool {
     true
 }
 
-/// Returns true if both observations have the same number of nodes, and the same is seen at each node.
+/// Returns true if the same is seen of a group in both observations: as many nodes, and at each node the same replies and the same
+/// messages that it sent to each node.
 pub fn is_same(seen: &Observation, other: &Observation) -> bool {
     let (nodes, others) = (seen.nodes(), other.nodes());
     if nodes.len() != others.len() {

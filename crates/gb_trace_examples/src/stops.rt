@@ -52,7 +52,8 @@ fn is_named(plan: &Plan) -> bool
     true
 }
 
-/// Returns true if a cluster may be started with this plan.
+/// Returns true if a cluster may be started with this plan: its nodes, versions, places and silence are within their limits. Its room
+/// is not looked at.
 pub fn is_plan(plan: &Plan) -> bool
     ensures { IsTrue result → IsClusterPlan plan.now }
 {
@@ -160,7 +161,9 @@ fn read_all(
     Ok(None)
 }
 
-/// Returns the plan of a schedule, with its events added, if each of its lines spells a command in its place.
+/// Reads a schedule. Returns the plan that its first line spells, and appends to `events` the events of its other lines. `Ok(None)` if
+/// a line does not spell a command in its place, or no cluster may be started with the plan; then some events may be there. `Err` if
+/// there is no memory.
 pub fn read(
     alloc: Global,
     lines: &[&[u8]],
@@ -317,7 +320,9 @@ fn is_right_trace(
     Ok(are_right(events, answers, packets) && are_alone(alloc, plan, events, trace)?)
 }
 
-/// Returns the trace of these events, if a cluster may be started with the plan and all is right in the trace.
+/// Runs these events in a cluster with this plan, and returns the answers and packets. `Ok(None)` if no cluster may be started with the
+/// plan, an event names a node that is not there, or something is wrong in the run: an answer does not fit its event, a stopped node
+/// does not refuse, or a group is not seen as it is by itself. `Err` if there is no memory.
 pub fn right_trace(
     alloc: Global,
     plan: Plan,
@@ -382,8 +387,8 @@ fn first_wrong(
     Ok(None)
 }
 
-/// Returns true if logs with these numbers of entries were fetched, in order, each request was granted, and each event came to a
-/// node that had not stopped.
+/// Returns true if the logs that a run fetched have exactly these numbers of entries, in order, and no answer is a refusal: each
+/// request is granted, and no event comes to a stopped node.
 pub fn are_fetched(answers: &[Answer], logs: &[usize]) -> bool {
     let mut left = logs;
     for answer in answers {

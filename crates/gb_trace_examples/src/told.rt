@@ -39,7 +39,8 @@ fn told_of(event: &GroupEvent) -> Told {
     }
 }
 
-/// Returns true if these are the steps: the number of a node, and what happens there.
+/// Returns true if the steps of a group are exactly the wanted ones, in order. Each is the number of a node and what happens there,
+/// without the arguments of requests.
 pub fn are_steps(steps: &[GroupStep], wanted: &[(u8, Told)]) -> bool {
     if steps.len() != wanted.len() {
         return false;
@@ -53,7 +54,8 @@ pub fn are_steps(steps: &[GroupStep], wanted: &[(u8, Told)]) -> bool {
     true
 }
 
-/// Returns true if these are the same steps, in short.
+/// Returns true if both lists have the same steps of a group, in order. Compared are the nodes and what happens there, without the
+/// arguments of requests.
 pub fn are_same_steps(steps: &[GroupStep], wanted: &[GroupStep]) -> bool {
     if steps.len() != wanted.len() {
         return false;

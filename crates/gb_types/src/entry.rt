@@ -20,7 +20,7 @@ pub struct Entry {
 impl Entry {
     ghost use Rattle.gb_types.specs.Entry.{message_of};
 
-    /// Returns the origin and the number of the message.
+    /// Returns the name of the entry's message: its origin and its number.
     pub fn message(&self) -> MsgId
         ensures { result ≡ message_of self.now }
     {
@@ -30,7 +30,7 @@ impl Entry {
         }
     }
 
-    /// Returns a copy of the entry.
+    /// Returns a copy of the entry. `Err` if there is no memory for its payload.
     pub fn duplicate(&self, alloc: Global) -> Result<Entry, OutOfMemory>
         ensures { IfOk result (λ e. e ≡ self.now) }
     {
@@ -65,7 +65,7 @@ impl Model for Entries {
 }
 
 impl Entries {
-    /// Returns an empty list.
+    /// Returns an empty list. Takes no memory yet.
     pub fn new(alloc: Global) -> Entries
         ensures { result ≡ [] }
     {
@@ -95,7 +95,7 @@ impl Entries {
         self.items.as_slice()
     }
 
-    /// Adds an entry at the end. If memory is refused, the list stays as it was and the entry is lost.
+    /// Adds an entry at the end of this list. `Err` if there is no memory; then the list is as it was, and `entry` is dropped.
     pub fn push(&mut self, entry: Entry) -> Result<(), OutOfMemory>
         ensures ok { OnOk result (self.new ≡ self.old ++ entry ∷ []) }
         ensures err { OnErr result (self.new ≡ self.old) }
@@ -107,7 +107,7 @@ impl Entries {
 }
 
 impl Entries {
-    /// Returns a copy of these entries.
+    /// Returns a list with a copy of each of these entries, in their order. `Err` if there is no memory.
     pub fn from_slice(alloc: Global, entries: &[Entry]) -> Result<Entries, OutOfMemory>
         ensures { IfOk result (λ e. e ≡ entries.now) }
     {

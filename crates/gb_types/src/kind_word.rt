@@ -5,7 +5,7 @@ ghost use Rattle.gb_types.specs.KindWord.{kind_word};
 
 use crate::kind::Kind;
 
-/// Returns the word for a kind.
+/// Returns the word for a kind of broadcast, such as `lazy`, or `flazy` for the same in first-in first-out order.
 pub fn word_of(kind: Kind) -> &'static [u8]
     ensures { result.now ≡ kind_word kind }
 {
@@ -42,7 +42,7 @@ fn kind_like(word: &[u8]) -> Option<Kind>
     }
 }
 
-/// Returns the kind that the word names. `None` if it names no kind.
+/// Returns the kind of broadcast that the word names. `None` if it names no kind.
 pub fn read_kind(word: &[u8]) -> Option<Kind>
     ensures { (k : Kind) → (result ≡ Some k) ↔ (word.now ≡ kind_word k) }
 {

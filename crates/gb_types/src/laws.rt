@@ -4,32 +4,33 @@ ghost use Rattle.gb_types.specs.Laws.{OneTextOneReply, OneWordOneNumber, OneWord
 
 use crate::number::read_number;
 
-/// Two replies with one text are equal.
+/// A law: replies with the same text are equal. It does nothing.
 pub fn one_text_one_reply()
     ensures { OneTextOneReply }
 {}
 
-/// Two numbers with one word are equal.
+/// A law: numbers with the same word are equal. It does nothing.
 pub fn one_word_one_number()
     ensures { OneWordOneNumber }
 {}
 
-/// Two kinds with one word are equal.
+/// A law: kinds of broadcast with the same word are equal. It does nothing.
 pub fn one_word_one_kind()
     ensures { OneWordOneKind }
 {}
 
-/// Two sets of members with one word are equal.
+/// A law: sets of members with the same word are equal. It does nothing.
 pub fn one_word_one_group()
     ensures { OneWordOneGroup }
 {}
 
-/// A payload that is written as a word reads back.
+/// A law: the word that is written for a payload is read as that payload. It does nothing.
 pub fn payload_reads_back()
     ensures { PayloadReadsBack }
 {}
 
-/// Returns the number that is read from the word of `number`. Its contract is a law: that is the number itself.
+/// Returns the number that the word spells. A law: if the word is written for `number`, and `number` is at most `max`, this is
+/// `number`.
 pub fn number_reads_back(word: &[u8], number: u64, max: u64) -> Option<u64>
     requires written { word.now ≡ decimal number }
     requires within { number ≤ max }

@@ -77,7 +77,8 @@ fn is_spelled(bytes: &[u8], word: &[u8]) -> bool
     is_rest_spelled(left, digits)
 }
 
-/// Returns the bytes that a word spells, if it is written in lower case. `None`: read it digit by digit.
+/// Returns the bytes that a word of hexadecimal digits spells, if they are in lower case. `Ok(None)` if the word is anything else; then
+/// the caller reads it digit by digit. `Err` if there is no memory for the bytes.
 pub fn read_lower(alloc: Global, word: &[u8]) -> Result<Option<Vec<u8>>, OutOfMemory>
     ensures { IfOk result (λ found. IfSome found (λ bytes. decode_of word.now ≡ Ok bytes.items)) }
 {
@@ -89,7 +90,8 @@ pub fn read_lower(alloc: Global, word: &[u8]) -> Result<Option<Vec<u8>>, OutOfMe
     Ok(is_found.then_some(bytes))
 }
 
-/// Returns the 32 bytes that a word of 64 digits spells, if it is written in lower case. `None`: read it digit by digit.
+/// Returns the 32 bytes that a word of 64 hexadecimal digits spells, if they are in lower case. `None` if the word is anything else;
+/// then the caller reads it digit by digit.
 pub fn read_lower_token(word: &[u8]) -> Option<[u8; 32]>
     ensures { IfSome result (λ token. (length word.now ≡ 64) × (decode_of word.now ≡ Ok token)) }
 {

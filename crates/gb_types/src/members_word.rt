@@ -18,8 +18,8 @@ fn read_node(word: &[u8]) -> Option<NodeId>
     Some(NodeId::new(number as u8))
 }
 
-/// Returns the members that the word spells: one or more numbers of nodes, strictly rising, separated by commas. `None` if it
-/// spells none.
+/// Returns the set of members that the word spells: one or more numbers of nodes, 0 to 31, strictly rising, separated by commas. `None`
+/// if the word is anything else.
 pub fn read_members(word: &[u8]) -> Option<NodeSet>
     ensures { (s : set.FinSet nat_cmp)
         → (result ≡ Some s) ↔ (AreNodes s × (s ≢ set.empty) × (word.now ≡ members_word s)) }

@@ -21,14 +21,14 @@ impl Drop for NewMessage {
 }
 
 impl NewMessage {
-    /// Returns a message with this payload, which gets the next number.
+    /// Returns a message with this payload, for which the caller names no number. It gets the next number of its origin.
     pub fn new(payload: Payload) -> NewMessage
         ensures { result ≡ record { payload = payload; seq = None } }
     {
         NewMessage { payload, seq: None }
     }
 
-    /// Returns a copy of the message.
+    /// Returns a copy of the message. `Err` if there is no memory for its payload.
     pub fn duplicate(&self, alloc: Global) -> Result<NewMessage, OutOfMemory>
         ensures { IfOk result (λ message. message ≡ self.now) }
     {

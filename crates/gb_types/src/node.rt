@@ -18,7 +18,7 @@ pub struct NodeId {
 }
 
 impl NodeId {
-    /// Returns the node with this number.
+    /// Returns the node with this number, which is below `NODES` (32).
     pub fn new(number: u8) -> NodeId
         requires { number < NODES }
         ensures { result.number ≡ number }
@@ -38,7 +38,7 @@ impl NodeId {
         }
     }
 
-    /// Returns the number as an index of a table over nodes.
+    /// Returns the node's number, for use as an index of a table over nodes. It is below `NODES`, which is 32.
     pub fn index(self) -> usize
         ensures value { result ≡ self.number }
         ensures bound { result < NODES }
@@ -92,7 +92,7 @@ fn count_both(bits: u32, other: u32) -> usize
 }
 
 impl NodeSet {
-    /// Returns the empty set.
+    /// Returns the empty set of nodes. Takes no memory.
     pub fn new() -> NodeSet
         ensures { result ≡ set.empty }
     {
@@ -120,14 +120,14 @@ impl NodeSet {
         self.bits == 0
     }
 
-    /// Returns true if each of these nodes is in the other set.
+    /// Returns true if each node of this set is in the other set.
     pub fn is_subset(&self, other: &NodeSet) -> bool
         ensures { result ≡ set.is_subset self.now other.now }
     {
         is_within(self.bits, other.bits, other.bits)
     }
 
-    /// Returns the first node of the set with this number or a greater one.
+    /// Returns the node of the set with the least number that is `number` or greater. `None` if there is no such node.
     pub fn next_from(&self, number: usize) -> Option<NodeId>
         ensures { MatchOption result (rising_from self.now number ≡ [])
             (λ n. rising_from self.now number ≡ n.number ∷ rising_from self.now (n.number + 1)) }
@@ -143,7 +143,7 @@ impl NodeSet {
         Some(NodeId::new(first as u8))
     }
 
-    /// Returns the nodes of the set, rising.
+    /// Returns an iterator over the nodes of the set, by rising numbers.
     pub fn nodes(&self) -> Nodes<'_>
         ensures rising { result ≡ rising self.now }
         ensures whole { AreNodes self.now }
@@ -162,14 +162,14 @@ impl NodeSet {
         }
     }
 
-    /// Returns true if each of these nodes is in one of the two sets.
+    /// Returns true if each node of this set is in `first` or in `second`.
     pub fn is_covered(&self, first: &NodeSet, second: &NodeSet) -> bool
         ensures { result ≡ list_all (λ p. set.contains first.now p || set.contains second.now p) (set.items self.now) }
     {
         is_within(self.bits, first.bits, second.bits)
     }
 
-    /// Returns true if each of these nodes has a number below `bound`.
+    /// Returns true if each node of this set has a number below `bound`.
     pub fn is_below(&self, bound: usize) -> bool
         ensures { result ≡ list_all (λ p. nat_lt p bound) (set.items self.now) }
     {
@@ -183,14 +183,14 @@ impl NodeSet {
         count_both(self.bits, other.bits)
     }
 
-    /// Returns true if more than half of the members are in the set.
+    /// Returns true if more than half of the nodes of `members` are in this set.
     pub fn has_majority_of(&self, members: &NodeSet) -> bool
         ensures { result ≡ has_majority (set.contains members.now) (set.contains self.now) }
     {
         members.count_in(self) > members.count_in(members) / 2
     }
 
-    /// Inserts the node.
+    /// Adds the node to this set. If it is in the set already, nothing changes.
     pub fn insert(&mut self, node: NodeId)
         ensures { self.new ≡ set.insert self.old node.number }
     {

@@ -37,8 +37,8 @@ fn read_digits(word: &[u8]) -> Option<u64>
     Some(number)
 }
 
-/// Returns the number that the word spells. `None` if it spells no number, or if the number is greater than `max`. The word may
-/// have any length.
+/// Returns the number that the word spells: decimal digits without a leading zero, of any length. `None` if the word spells no number,
+/// or if the number is greater than `max`.
 #[inline(always)]
 pub fn read_number(word: &[u8], max: u64) -> Option<u64>
     ensures { (n : ℕ) → (result ≡ Some n) ↔ ((n ≤ max) × (word.now ≡ decimal n)) }
@@ -50,7 +50,7 @@ pub fn read_number(word: &[u8], max: u64) -> Option<u64>
     (number <= max).then_some(number)
 }
 
-/// Appends a number in decimal. If memory is refused, `out` stays as it was.
+/// Appends a number to `out` in decimal. `Err` if there is no memory; then `out` is as it was.
 #[inline(always)]
 pub fn put_number(out: &mut Vec<u8>, number: u64) -> Result<(), OutOfMemory>
     ensures ok { OnOk result (out.new.items ≡ out.old.items ++ decimal number) }

@@ -83,7 +83,7 @@ impl Model for Payload {
 }
 
 impl Payload {
-    /// Returns a payload without bytes.
+    /// Returns a payload without bytes. Takes no memory.
     pub fn new() -> Payload
         ensures { result ≡ [] }
     {
@@ -92,7 +92,7 @@ impl Payload {
         }
     }
 
-    /// Replaces the bytes by a copy of these, in the payload itself.
+    /// Replaces the bytes of this payload by a copy of `bytes`, which are at most 16. Takes no memory.
     pub fn set_few(&mut self, bytes: &[u8])
         requires { length bytes.now ≤ INLINE }
         ensures { self.new ≡ bytes.now }
@@ -105,7 +105,8 @@ impl Payload {
         }
     }
 
-    /// Returns a payload with a copy of these bytes. Up to `INLINE` bytes take no memory, so the call succeeds.
+    /// Returns a payload with a copy of these bytes. Up to 16 bytes take no memory, so the call succeeds. `Err` if there is no memory
+    /// for more.
     pub fn from_slice(alloc: Global, bytes: &[u8]) -> Result<Payload, OutOfMemory>
         ensures ok { IfOk result (λ p. p ≡ bytes.now) }
         ensures succeeds { length bytes.now ≤ INLINE → IsOk result }
@@ -132,7 +133,7 @@ impl Payload {
         self.as_slice().is_empty()
     }
 
-    /// Returns the bytes.
+    /// Returns the bytes of the payload.
     pub fn as_slice(&self) -> &[u8]
         ensures { result.now ≡ self.now }
     {
@@ -142,7 +143,8 @@ impl Payload {
         }
     }
 
-    /// Returns the bytes. They are not copied if they are in memory of their own.
+    /// Returns the bytes of the payload and ends it. Bytes in memory of their own are not copied. `Err` if there is no memory to copy
+    /// the others, which are at most 16.
     pub fn into_vec(self, alloc: Global) -> Result<Vec<u8>, OutOfMemory>
         ensures { IfOk result (λ v. v.items ≡ self) }
     {
@@ -153,7 +155,7 @@ impl Payload {
         }
     }
 
-    /// Returns a copy of the payload. Up to `INLINE` bytes take no memory, so the call succeeds.
+    /// Returns a copy of the payload. Up to 16 bytes take no memory, so the call succeeds. `Err` if there is no memory for more.
     pub fn duplicate(&self, alloc: Global) -> Result<Payload, OutOfMemory>
         ensures ok { IfOk result (λ p. p ≡ self.now) }
         ensures succeeds { length self.now ≤ INLINE → IsOk result }

@@ -36,8 +36,8 @@ fn read_any(alloc: Global, word: &[u8]) -> Result<Option<Payload>, OutOfMemory>
     }
 }
 
-/// Returns the bytes that the word spells, with digits of either case. `None` if it is neither `-` nor an even number of digits, at
-/// least two.
+/// Returns the payload that the word spells: `-` for no bytes, or two hexadecimal digits of either case for each byte. `Ok(None)` if
+/// the word is anything else. `Err` if there is no memory for the bytes.
 pub fn read_payload(alloc: Global, word: &[u8]) -> Result<Option<Payload>, OutOfMemory>
     ensures { IfOk result (λ found. found ≡ payload_of word.now) }
 {
@@ -71,7 +71,8 @@ fn put_digits(out: &mut Vec<u8>, bytes: &[u8]) -> Result<(), OutOfMemory>
     Ok(())
 }
 
-/// Appends the word for `bytes`, in lower case. If memory is refused, `out` stays as it was.
+/// Appends the word for `bytes` to `out`: two hexadecimal digits in lower case for each byte, or `-` if there are no bytes. `Err` if
+/// there is no memory; then `out` is as it was.
 pub fn put_payload(out: &mut Vec<u8>, bytes: &[u8]) -> Result<(), OutOfMemory>
     ensures ok { OnOk result (out.new.items ≡ out.old.items ++ payload_word bytes.now) }
     ensures err { OnErr result (out.new.items ≡ out.old.items) }

@@ -1,4 +1,4 @@
-//! The plan of a cluster.
+//! The plan of a cluster: what it is started with.
 ghost use Rattle.std.specs.Prelude.{◌≡◌};
 ghost use Rattle.gb_types.specs.Version.{bounds_of, version_at};
 
@@ -34,7 +34,7 @@ pub struct Bounds {
 }
 
 impl Plan {
-    /// Returns what a group reads of the cluster.
+    /// Returns the part of the plan that groups read: the number of nodes, and the version of the packet text that each node sends.
     pub fn bounds(&self) -> Bounds
         ensures { result ≡ bounds_of self.now }
     {
@@ -46,7 +46,7 @@ impl Plan {
 }
 
 impl Bounds {
-    /// Returns the version that a node sends.
+    /// Returns the version of the packet text that the node sends.
     pub fn version_of(&self, node: NodeId) -> Version
         ensures { result ≡ version_at self.now.versions node.number }
     {

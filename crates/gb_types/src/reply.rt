@@ -18,7 +18,7 @@ pub enum Reply {
 }
 
 impl Reply {
-    /// Returns a copy of the reply. Only a log takes memory.
+    /// Returns a copy of the reply. Only a log takes memory. `Err` if there is none for it.
     pub fn duplicate(&self, alloc: Global) -> Result<Reply, OutOfMemory>
         ensures ok { IfOk result (λ r. r ≡ self.now) }
         ensures err { OnErr result ((entries : List EntryValue) × (self.now ≡ Reply.Log entries)) }

@@ -16,14 +16,14 @@ use crate::payload_word::read_payload;
 use crate::spec::Spec;
 use std::alloc::Global;
 
-/// Returns the number of two bytes that the word spells, 0 to 65,535.
+/// Returns the number that the word spells in decimal, 0 to 65,535. `None` if it spells no such number.
 pub fn read_u16(word: &[u8]) -> Option<u16>
     ensures { (n : ℕ) → (result ≡ Some n) ↔ (IsShort n × (word.now ≡ decimal n)) }
 {
     Some(read_number(word, 65_535)? as u16)
 }
 
-/// Returns the number of four bytes that the word spells, 0 to 4,294,967,295.
+/// Returns the number that the word spells in decimal, 0 to 4,294,967,295. `None` if it spells no such number.
 pub fn read_u32(word: &[u8]) -> Option<u32>
     ensures { (n : ℕ) → (result ≡ Some n) ↔ (IsLong n × (word.now ≡ decimal n)) }
 {
@@ -55,7 +55,8 @@ fn read_generation(behind: Option<&[u8]>) -> Option<u32>
     Some(generation)
 }
 
-/// Returns the number of a group among its tenant's, and its generation: G, or G.N for a generation after the first.
+/// Returns the number of a group within its tenant, 0 to 65,535, and its generation. The word is `NUMBER` for generation 0, or
+/// `NUMBER.GENERATION` for a generation from 1 on. `None` if it is anything else.
 pub fn read_group(word: &[u8]) -> Option<(u16, u32)>
     ensures { (n : ℕ × ℕ) → (result ≡ Some n) ↔ AreGroupNumbers word.now n }
 {
@@ -65,7 +66,8 @@ pub fn read_group(word: &[u8]) -> Option<(u16, u32)>
     Some((number, generation))
 }
 
-/// Returns the address of a group: T and G, or T and G.N.
+/// Returns the address of a group. The word `tenant` is its tenant's number. The word `group` is `NUMBER` for generation 0, or
+/// `NUMBER.GENERATION` for a generation from 1 on. `None` if a word is anything else.
 pub fn read_address(tenant: &[u8], group: &[u8]) -> Option<Addr>
     ensures { (address : TheAddress) → (result ≡ Some address)
         ↔ (IsShort address.tenant × (tenant.now ≡ decimal address.tenant)
@@ -80,7 +82,8 @@ pub fn read_address(tenant: &[u8], group: &[u8]) -> Option<Addr>
     })
 }
 
-/// Returns the limits of a group: MSGS BYTES WINDOW.
+/// Returns the limits of a group, each 0 to 4,294,967,295, in this order: the messages and the payload bytes that a member may say, and
+/// the messages of a member that may be unfinished at once. `None` if a word spells no such number.
 pub fn read_limits(msgs: &[u8], bytes: &[u8], window: &[u8]) -> Option<(u32, u32, u32)>
     ensures { (n : ℕ × ℕ × ℕ) → (result ≡ Some n)
         ↔ ((IsLong n.0 × (msgs.now ≡ decimal n.0))
@@ -93,7 +96,8 @@ pub fn read_limits(msgs: &[u8], bytes: &[u8], window: &[u8]) -> Option<(u32, u32
     Some((msgs, bytes, window))
 }
 
-/// Returns the parameters of a group: KIND MEMBERS MSGS BYTES WINDOW.
+/// Returns the parameters of a group, which five words spell: its kind of broadcast, its members, and the three limits of
+/// `read_limits`. `None` if there are not five words, or one of them is wrong.
 pub fn read_spec(words: &[&[u8]]) -> Option<Spec>
     ensures { (spec : TheSpec) → (result ≡ Some spec)
         ↔ SpellsSpec spec (map (λ word. word.now) words.now) }
@@ -125,7 +129,8 @@ fn read_seq(words: &[&[u8]]) -> Option<Option<u32>>
     }
 }
 
-/// Returns the message that the words spell: PAYLOAD, or PAYLOAD SEQ.
+/// Returns the message that the words spell: its payload, and then, if there is a second word, the number that it must get. `Ok(None)`
+/// if the words are anything else. `Err` if there is no memory for the payload.
 pub fn read_message(alloc: Global, words: &[&[u8]]) -> Result<Option<NewMessage>, OutOfMemory>
     ensures { IfOk result (λ found. (message : TheMessage) → (found ≡ Some message)
         ↔ SpellsMessage message (map (λ word. word.now) words.now)) }

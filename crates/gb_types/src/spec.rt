@@ -19,7 +19,7 @@ pub struct Spec {
 }
 
 impl Spec {
-    /// Returns a copy.
+    /// Returns a copy of the parameters. Takes no memory.
     pub fn duplicate(&self) -> Spec
         ensures { result ≡ self.now }
     {

@@ -29,7 +29,8 @@ pub struct VersionLimits {
 }
 
 impl Version {
-    /// Returns the limits of the version. This is the one table of limits by version.
+    /// Returns the limits of this version of the packet text: its byte, how many nodes, payload bytes and packet bytes it allows, and
+    /// the bytes of an item before its payload.
     pub fn limits(self) -> VersionLimits
         ensures value { result ≡ limits_of self }
         ensures greatest { AreWithinGreatest result }
@@ -60,7 +61,7 @@ impl Version {
         }
     }
 
-    /// Returns the version that a byte of a packet stands for. `None` if it stands for no version.
+    /// Returns the version of the packet text that a packet's version byte, 1 to 3, stands for. `None` for any other byte.
     pub fn from_byte(byte: u8) -> Option<Version>
         ensures { result ≡ version_named byte }
     {

@@ -13,9 +13,9 @@ use crate::all_ack::AllAcked;
 use crate::majority_ack::MajorityAcked;
 use gb_layer::{Beb, Layer, Relay};
 
-/// `AllAck` over `Beb` at the node `me`, in a group with these members, is all-ack uniform reliable broadcast. Over every lawful
-/// history, what a call hands up is what the module delivers, what it sends is what the module broadcasts, and all that came up is
-/// the log.
+/// A law: `AllAck` over `Beb`, at the node `me` in a group with these members, is all-ack uniform reliable broadcast. Over every lawful
+/// history, what a call hands up is what the module delivers, what it sends is what the module broadcasts, and all that came up is the
+/// log. It does nothing.
 pub fn all_ack()
     ensures up { (me : NodeId) (members : Nodes) (past : List Call) (c : Call) → IsLawful me.number (c ∷ past)
         → messages (⟦<Relay<Beb, AllAcked> as Layer>⟧.gives (after ⟦<Relay<Beb, AllAcked> as Layer>⟧.next (at_start me members) past) c).ups ≡ delivers AllAck me.number (set.items members) c past }
@@ -25,9 +25,9 @@ pub fn all_ack()
         → messages (all_ups ⟦<Relay<Beb, AllAcked> as Layer>⟧.next ⟦<Relay<Beb, AllAcked> as Layer>⟧.gives (at_start me members) past) ≡ log AllAck me.number (set.items members) past }
 {}
 
-/// `MajorityAck` over `Beb` at the node `me`, in a group with these members, is majority-ack uniform reliable broadcast. Over every
-/// lawful history, what a call hands up is what the module delivers, what it sends is what the module broadcasts, and all that came
-/// up is the log.
+/// A law: `MajorityAck` over `Beb`, at the node `me` in a group with these members, is majority-ack uniform reliable broadcast. Over
+/// every lawful history, what a call hands up is what the module delivers, what it sends is what the module broadcasts, and all that
+/// came up is the log. It does nothing.
 pub fn majority_ack()
     ensures up { (me : NodeId) (members : Nodes) (past : List Call) (c : Call) → IsLawful me.number (c ∷ past)
         → messages (⟦<Relay<Beb, MajorityAcked> as Layer>⟧.gives (after ⟦<Relay<Beb, MajorityAcked> as Layer>⟧.next (at_start me members) past) c).ups ≡ delivers MajorityAck me.number (set.items members) c past }

@@ -322,13 +322,14 @@ fn make_turn<L: Tapes, H: Wait, P: Port>(
     }
 }
 
-/// Makes `turns` turns, numbered from 1. Each turn passes the gate and then receives at most 16 packets from the port, each of
-/// which is an event at the node. Then it does this for each other node, in rising order: a pack; if that gave no packet and 8
-/// divides the turn's number, an again of the lowest unacknowledged frame; if a good packet of that node came in this turn or 16
-/// divides the turn's number, an ack. Each packet is handed to the port at once; a packet that the port does not take is lost.
-/// The pump ends early if the gate returns false, at the first answer Stopped, and at a fault of the host other than that it
-/// could not keep the call. A call that the host could not keep did not happen and is counted; if it was to take a packet, that
-/// packet is lost. None is counted if the host keeps no calls.
+/// Carries the packets of a node of a host, from a seat and over a port, for at most `turns` turns, numbered from 1. Each turn passes
+/// the gate and then receives at most 16 packets from the port, each of which is an event at the node. Then it does this for each other
+/// node, in rising order: a pack; if that returned no packet and 8 divides the turn's number, an again of the lowest unacknowledged
+/// frame; if a good packet of that node came in this turn or 16 divides the turn's number, an ack. Each packet is handed to the port at
+/// once; a packet that the port does not take is lost. Returns the number of whole turns, the number of calls that the host could not
+/// keep, and why it ended: all turns were made, the gate returned false, the node answered Stopped, or the host had another fault. A
+/// call that the host could not keep did not happen; if it was to take a packet, that packet is lost. None is counted if the host keeps
+/// no calls.
 pub fn pump<L: Tapes, H: Wait, P: Port, G: Gate>(
     rt: &H,
     host: &Host<L>,

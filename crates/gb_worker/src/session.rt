@@ -62,11 +62,11 @@ impl<'a, L: Tapes, H: Wait, G: Gate> Answers for Desk<'a, L, H, G> {
     }
 }
 
-/// Answers the requests of `reader` by calls at a node, and writes each reply to `writer`. The rest is as in
-/// `gb_session::serve::serve`, whose result it returns. The gate is passed before each call. Once it has returned false, no call
-/// is made and each reply is Stopped. The reply to an operation is Denied. If the host had no memory for a call, or the node's
-/// recorder is behind, the reply is OutOfMemory; at any other fault of the host it is Stopped. In all these cases nothing
-/// happened at the node.
+/// Holds a client's session at a node of a host, from a seat: answers the requests of `reader` by calls at the node, and writes each
+/// reply to `writer`, as `gb_session::serve::serve` does. Returns how the session ended, with the same `Err`. The gate is passed before
+/// each call. Once it has returned false, no call is made and each reply is Stopped. The reply to an operation is Denied. If the host
+/// had no memory for a call, or the node's recorder is behind, the reply is OutOfMemory; at any other fault of the host it is Stopped.
+/// In all these cases nothing happened at the node.
 pub fn session<L: Tapes, H: Wait, R: Read, W: Write, G: Gate>(
     rt: &H,
     alloc: Global,

@@ -23,9 +23,9 @@ pub struct Stream<R, W> {
 /// How one of the sessions ended.
 pub type Ending = Result<SessionEnd, SessionFault>;
 
-/// Holds a session with each client, all at once, each in a thread of its own, from a seat and by a gate of its own. Returns how
-/// each ended, in the order of the clients; `Err`, once all have ended, if there is no memory for that list. If no thread can be
-/// made, the sessions are held one after the other.
+/// Holds a session with each client of a host, all at once, each in a thread of its own, from a seat and by a gate of its own. If no
+/// thread can be made, the sessions are held one after the other. Returns how each ended, in the order of `streams`. `Err`, once all
+/// have ended, if there is no memory for that list.
 pub fn sessions<
     L: Tapes + Send + Sync,
     H: Threads + Wait + Sync,

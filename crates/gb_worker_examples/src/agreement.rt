@@ -18,7 +18,8 @@ fn copied(alloc: Global, calls: &[SeatEntry]) -> Result<Vec<SeatEntry>, OutOfMem
     Ok(copies)
 }
 
-/// Adds the calls of each seat, copied.
+/// Appends to `lists`, for each seat of a host, a copy of the list of its calls with their answers. `Err` if there is no memory; then
+/// the lists of some seats may be missing.
 pub fn copy_lists<L: Tapes>(
     alloc: Global,
     seats: &[Seat<L>],
@@ -72,7 +73,8 @@ fn is_told(tapes: &[Tape], seat: usize, calls: &[SeatEntry]) -> bool {
     true
 }
 
-/// Returns true if the tapes have, for each seat at each node, exactly the calls of its list there.
+/// Returns true if the tapes of a closed host have, for each seat at each node, exactly the calls of the seat's list there, in order,
+/// and nothing else. `tapes` are by nodes and `lists` by seats. False at the first difference.
 pub fn agree(tapes: &[Tape], lists: &[Vec<SeatEntry>]) -> bool {
     let mut calls: usize = 0;
     for seat in 0..lists.len() {
@@ -84,7 +86,7 @@ pub fn agree(tapes: &[Tape], lists: &[Vec<SeatEntry>]) -> bool {
     calls == count_entries(tapes)
 }
 
-/// Returns the number of entries of the tapes.
+/// Returns the number of entries of all these tapes of a host.
 pub fn count_entries(tapes: &[Tape]) -> usize {
     let mut count: usize = 0;
     for tape in tapes {
@@ -93,7 +95,7 @@ pub fn count_entries(tapes: &[Tape]) -> usize {
     count
 }
 
-/// Returns the number of entries of a seat in the tapes.
+/// Returns the number of entries that the calls of a seat left in all these tapes of a host.
 pub fn entries_of(tapes: &[Tape], seat: u32) -> usize {
     let mut count: usize = 0;
     for tape in tapes {

@@ -55,7 +55,9 @@ pub enum Unanswered {
     Other,
 }
 
-/// Calls a node and returns its answer. The gate is passed while the node's lock is held.
+/// Calls a node of a host from a seat, once, and returns the node's answer. `gate` is passed while the node's lock is held. `Err` with
+/// `NoNode` if the host does not have the node, `OutOfMemory` if there is no memory, `Behind` if the node's recorder is too far behind,
+/// and `Other` for the host's other faults.
 pub fn call<L: Tapes, R: Wait, G: Gate>(
     rt: &R,
     host: &Host<L>,
@@ -91,8 +93,9 @@ fn ask_once<L: Tapes, R: Wait>(
     }
 }
 
-/// Asks a node, again and again while it has no memory for it, and returns the answer. `None` if that takes too long, or if the host
-/// refuses for another reason.
+/// Calls a node of a host from a seat with a copy of `event`, and returns the node's answer. While there is no memory for it, asks
+/// again each millisecond, 10,000 times in all at most. `None` if there is no memory even then, or if the host refuses the call for
+/// another reason.
 pub fn ask<L: Tapes, R: Wait + Clock>(
     rt: &R,
     alloc: Global,
@@ -135,7 +138,7 @@ fn tell<L: Tapes, R: Wait + Clock>(
     let _ = answer(rt, alloc, host, seat, node, request);
 }
 
-/// Returns the request that adds the tenant.
+/// Returns the administrator's request that adds tenant 7 with 4 groups. It makes no call.
 pub fn add_tenant() -> Request {
     let row = TenantRow {
         tenant: 7,
@@ -166,7 +169,8 @@ fn make(node: NodeId, addr: Addr) -> Request {
     Request::Make(token(&TENANT_KEY, Need::Tenant(7)), addr, spec)
 }
 
-/// Adds the tenant at a node, makes a group there, and opens it.
+/// Makes three requests at a node of a host, from a seat: adds tenant 7, makes its group `addr`, and opens it. `addr` is `ALONE`, an
+/// all-ack group of this node only, or `BOTH`, a best-effort group of both nodes. The replies are ignored.
 pub fn prepare<L: Tapes, R: Wait + Clock>(
     rt: &R,
     alloc: Global,
@@ -181,7 +185,8 @@ pub fn prepare<L: Tapes, R: Wait + Clock>(
     tell(rt, alloc, host, seat, node, Request::OpenGroup(owner, addr));
 }
 
-/// Makes the group of both nodes at each of them, from the last seat.
+/// Makes and opens the group `BOTH` at each of the two nodes of a host, from the last seat, as `prepare` does. Does nothing without a
+/// seat.
 pub fn prepare_both<L: Tapes, R: Wait + Clock>(
     rt: &R,
     alloc: Global,
@@ -202,7 +207,8 @@ fn said(answer: &Option<NodeAnswer>) -> Option<u16> {
     }
 }
 
-/// Says words in a group at a node. Returns the number of the message, if it was said.
+/// Says a message with these bytes in a group at a node of a host, from a seat. Returns the number that the message got, from 1. `None`
+/// if it was refused or the node did not answer.
 pub fn say<L: Tapes, R: Wait + Clock>(
     rt: &R,
     alloc: Global,
@@ -218,7 +224,8 @@ pub fn say<L: Tapes, R: Wait + Clock>(
     said(&answer(rt, alloc, host, seat, node, request))
 }
 
-/// Returns the answer to a fetch in a group at a node.
+/// Fetches at most 16 entries of a group's log from its beginning, at a node of a host, from a seat. Returns the node's answer. `None` if
+/// the node did not answer.
 pub fn log<L: Tapes, R: Wait + Clock>(
     rt: &R,
     alloc: Global,
@@ -232,7 +239,8 @@ pub fn log<L: Tapes, R: Wait + Clock>(
     answer(rt, alloc, host, seat, node, request)
 }
 
-/// Fetches in a group at a node. Returns true if its log is exactly the first message of a node, and that message is these words.
+/// Fetches a group's log at a node of a host, from a seat. Returns true if the log has exactly one entry, the first message of node
+/// `origin`, with the bytes `words`. False in all other cases.
 pub fn fetch<L: Tapes, R: Wait + Clock>(
     rt: &R,
     alloc: Global,

@@ -29,7 +29,9 @@ fn jobs_of<'s, 'r, 'a, L: Tapes, P>(
     }
 }
 
-/// Returns what each of at most four roles counted. Each role runs in its own thread from the seat with its number.
+/// Runs each role in a thread of its own, from the seat with its number, on one host, until all have ended. Returns what each of at
+/// most four roles counted, in their order, as `roles::work` returns it; 0 where there is no role, and four zeros if there was no
+/// memory for them.
 pub fn all_work<L: Tapes + Send + Sync, P: Port + Send + Drop, R: Threads + Wait + Clock + Sync>(
     rt: &R,
     alloc: Global,
@@ -78,7 +80,8 @@ fn day<P: Port + Send + Drop, R: Threads + Wait + Clock + Sync>(
     whole(rt, alloc, version, tape, count, &mut scene).ok()
 }
 
-/// Returns a day of two roles, without the group of both nodes.
+/// Opens a host of two nodes, with tapes or without, runs two roles on it, each in a thread of its own, and closes it. Returns what is
+/// left of the host. `None` if there is no memory or the host refuses. No group has both nodes as members.
 pub fn day_of_two<R: Threads + Wait + Clock + Sync>(
     rt: &R,
     alloc: Global,
@@ -90,7 +93,9 @@ pub fn day_of_two<R: Threads + Wait + Clock + Sync>(
     day(rt, alloc, Version::One, tape, false, roles)
 }
 
-/// Returns a day with tapes of two roles at each node, without the group of both nodes.
+/// Opens a host of two nodes with tapes, runs four roles on it, each in a thread of its own, and closes it. The roles have the seats in
+/// this order: `first.0`, `second.0`, `first.1`, `second.1`. Returns what is left of the host. `None` if there is no memory or the host
+/// refuses. No group has both nodes as members.
 pub fn day_of_four<'a, R: Threads + Wait + Clock + Sync>(
     rt: &R,
     alloc: Global,

@@ -10,7 +10,8 @@ use gb_types::{NodeId, Version};
 use std::rt::HostRuntime;
 use std::sync::Wait;
 
-/// Returns true if a tick at a node that the host does not have is refused, and nothing is noted.
+/// Calls node 2, which a host of two nodes does not have, from a seat. Returns true if the call is refused with `NoNode`, and the
+/// seat's list has no call.
 pub fn is_refused<L: Tapes, R: Wait>(rt: &R, host: &Host<L>, seat: &mut Seat<L>) -> bool {
     let node = NodeId { number: 2 };
     let is_missing = match call(rt, host, seat, node, NodeEvent::Tick, &mut Open) {

@@ -30,7 +30,7 @@ pub struct Meeting {
 }
 
 impl Meeting {
-    /// Returns counters that are all 0.
+    /// Returns the counters that callers at two locked nodes share. All are 0.
     pub fn new() -> Meeting {
         Meeting {
             inside: AtomicU64::new(0),
@@ -71,7 +71,9 @@ impl<R: Clock> Gate for Held<'_, R> {
     }
 }
 
-/// Calls a node, and holds its lock. Returns true if both locks were held at one time.
+/// Makes a node of a host tick, from a seat, and holds the node's lock until another caller holds the other node's lock, two more
+/// callers wait, and 200 milliseconds have passed. Changes the counters of `meeting`. Returns true if both locks were held at one time.
+/// False if that took more than 10 seconds or the call failed.
 pub fn hold<L: Tapes, R: Wait + Clock>(
     rt: &R,
     host: &Host<L>,
@@ -88,7 +90,9 @@ pub fn hold<L: Tapes, R: Wait + Clock>(
     is_answered && gate.is_met
 }
 
-/// Calls a node once both locks are held. Returns true if it was answered only after a gate inside had been left.
+/// Waits until both nodes' locks are held, and then makes a node of a host tick, from a seat. Changes the counters of `meeting`.
+/// Returns true if the node answered only after one of the callers inside a lock had left it. False if it answered earlier, the call
+/// failed, or the locks were not held within 10 seconds.
 pub fn call_behind<L: Tapes, R: Wait + Clock>(
     rt: &R,
     host: &Host<L>,

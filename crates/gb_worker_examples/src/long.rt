@@ -70,8 +70,9 @@ fn count_found<L: Tapes, R: Wait + Clock>(
     }
 }
 
-/// Says the messages at node 0, packs them there, and brings the packet to node 1. Returns the number of messages that were said,
-/// the bytes of the packet, and the number of messages that are found at node 1.
+/// Says the four messages that fill the longest packet in the group `BOTH` at node 0 of a host, packs them there, and brings the packet
+/// to node 1. All calls are from the first seat. Returns four numbers: the messages that were said, the bytes of the packet, the
+/// messages that are found in the log at node 1, and 0. All are 0 without a seat.
 pub fn fill_a_packet<L: Tapes, R: Wait + Clock>(
     rt: &R,
     alloc: Global,
@@ -107,7 +108,8 @@ fn a_full_packet_is_carried(rt: HostRuntime) {
     }
 }
 
-/// Ticks node 0 a hundred thousand times, from the first seat. Returns the number of ticks that were answered, and three zeros.
+/// Makes node 0 of a host tick a hundred thousand times, from the first seat. Returns the number of ticks that were answered, and three
+/// zeros.
 pub fn fill_a_tape<L: Tapes, R: Wait>(rt: &R, host: &Host<L>, seats: &mut [Seat<L>]) -> [u64; 4] {
     let mut count: u64 = 0;
     if let Some(seat) = seats.first_mut() {
@@ -130,7 +132,8 @@ fn a_hundred_thousand_calls_stand_on_a_tape(rt: HostRuntime) {
     assert!(rt; left.calls == [100_000, 0] && left.agree && left.merged);
 }
 
-/// Ticks each node once, from the seat with its number. Returns the number of ticks that were answered, and three zeros.
+/// Makes each node of a host tick once, from the seat with the node's number. Returns the number of ticks that were answered, and three
+/// zeros.
 pub fn tick_each<L: Tapes, R: Wait>(rt: &R, host: &Host<L>, seats: &mut [Seat<L>]) -> [u64; 4] {
     let mut count: u64 = 0;
     let mut number: u8 = 0;

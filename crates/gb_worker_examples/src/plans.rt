@@ -12,7 +12,8 @@ pub const FIRST: NodeId = NodeId { number: 0 };
 
 pub const SECOND: NodeId = NodeId { number: 1 };
 
-/// Returns the plan of two nodes that send this version, with tapes or without.
+/// Returns the plan of a host for tests: two nodes that send this version of the packet text, with tapes if `tape`, and without
+/// recorders.
 pub fn two_nodes(version: Version, tape: bool) -> HostPlan
     ensures nodes { result.cluster.nodes ≡ 2 }
     ensures limits { IsPlan result }
@@ -32,7 +33,7 @@ pub fn two_nodes(version: Version, tape: bool) -> HostPlan
     }
 }
 
-/// Returns the plan of as many nodes as there may be, with tapes.
+/// Returns the plan of a host for tests: 32 nodes, the most that there may be, with tapes.
 pub fn most_nodes() -> HostPlan
     ensures nodes { result.cluster.nodes ≡ 32 }
     ensures limits { IsPlan result }
@@ -52,7 +53,7 @@ pub fn most_nodes() -> HostPlan
     }
 }
 
-/// Returns the plan of two nodes whose entries go to recorders.
+/// Returns the plan of a host for tests: two nodes whose entries go to recorders, without tapes.
 pub fn two_recorded() -> HostPlan
     ensures nodes { result.cluster.nodes ≡ 2 }
     ensures limits { IsPlan result }
@@ -64,7 +65,7 @@ pub fn two_recorded() -> HostPlan
     }
 }
 
-/// Returns a list of two. `None` if there is no memory for it.
+/// Returns a list of these two values, in order. `None` if there is no memory for it.
 pub fn pair<T: Drop>(alloc: Global, first: T, second: T) -> Option<Vec<T>>
     ensures { IfSome result (λ list. vec_len list ≡ 2) }
 {

@@ -66,7 +66,7 @@ fn is_caller<P>(role: &Role<'_, P>) -> bool {
     }
 }
 
-/// Returns the number of callers among the roles.
+/// Returns the number of callers among the roles: those that say or fetch messages. Pumps run until these have ended.
 pub fn count_callers<P>(roles: &[Role<'_, P>]) -> u64 {
     let mut count: u64 = 0;
     for role in roles {
@@ -147,8 +147,9 @@ fn keep_to_itself<L: Tapes, R: Wait + Clock>(
     seq == 1 && is_fetched
 }
 
-/// Runs a role. Returns what it counted: failures of a port, turns of a ticker, messages said or found, or calls that were
-/// answered as expected.
+/// Runs a role on a host, from a seat, to its end. Returns one number by the role: for a pump the failures of its port, for a ticker
+/// its turns, for a sayer the messages that were said; for each other role 1 if it went as expected, else 0. A caller that ends takes 1
+/// from `callers`.
 pub fn work<L: Tapes, P: Port, R: Wait + Clock>(
     rt: &R,
     alloc: Global,

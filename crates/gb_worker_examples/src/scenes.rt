@@ -177,7 +177,9 @@ fn run<L: Tapes + Send + Sync, P: Port + Send + Drop, R: Threads + Wait + Clock 
     left_of(alloc, plan, counts, &close(host, seats), &lists)
 }
 
-/// Plays a scene on a host of this plan with `count` seats. Returns what is left of the host.
+/// Opens a host of this plan with `count` seats, plays a scene on it, and closes it. Returns what is left of the host: what was
+/// counted, and what its tapes and seats say. `Err` with `ForeignSeat` if the seats at the end are not all those of the host, and with
+/// `Other` if the host could not be opened or closed.
 pub fn whole_of<P: Port + Send + Drop, R: Threads + Wait + Clock + Sync>(
     rt: &R,
     alloc: Global,
@@ -193,8 +195,8 @@ pub fn whole_of<P: Port + Send + Drop, R: Threads + Wait + Clock + Sync>(
     run::<Brand, P, R>(rt, alloc, plan, count, scene, pasts)
 }
 
-/// Plays a scene on a host of two nodes that send this version, with tapes or without, and with `count` seats. Returns what is left of the
-/// host.
+/// Opens a host of two nodes that send this version of the packet text, with tapes if `tape` and with `count` seats, plays a scene on
+/// it, and closes it. Returns what `whole_of` returns.
 pub fn whole<P: Port + Send + Drop, R: Threads + Wait + Clock + Sync>(
     rt: &R,
     alloc: Global,
