@@ -1,20 +1,10 @@
 #!/usr/bin/env bash
 # Measures what `gb_serve --record` costs: says and fetches a second on one connection with 1 and with 32 requests ahead, at a server without records,
 # at another one without, at one with --record, and at one with --record --sync; then how many bytes an event takes in a record, and how many entries
-# gb_audit goes through in a second. All are asked by one program, bench/serve/play.rs, which plain rustc compiles into bench/out. gb_serve and gb_audit are
-# built first, unless SERVE and AUDIT name them. The records are written to a folder below TMPDIR, or /tmp: its disk is part of what is measured.
+# gb_audit goes through in a second. All are asked by one program, bench/serve/play.rs, which plain rustc compiles into bench/out. gb_serve and gb_audit are those of bin/,
+# where ./install puts them, unless SERVE and AUDIT name others. The records are written to a folder below TMPDIR, or /tmp: its disk is part of what is measured.
 # Words: how many requests are made in each measurement with 32 ahead, 60,000 if not given (a sixth of that with 1 ahead and with --sync), and how many
 # rounds are made, 5 if not given.
 set -eu
-top=$(cd "$(dirname "$0")/.." && pwd)
-for name in gb_serve gb_audit; do
-    wanted=SERVE
-    [ "$name" = gb_serve ] || wanted=AUDIT
-    if [ -z "${!wanted:-}" ]; then
-        (cd "$top/crates/$name" && "${RT:-rt}" run <stdin >/dev/null 2>&1) || true
-    fi
-done
-mkdir -p "$top/bench/out/serve"
-rustc --edition 2021 -O -o "$top/bench/out/serve/play" "$top/bench/serve/play.rs"
-exec python3 "$top/bench/record.py" "${SERVE:-$top/crates/gb_serve/out/gb_serve}" "${AUDIT:-$top/crates/gb_audit/out/gb_audit}" \
-    "$top/bench/out/serve/play" "${1:-60000}" "${2:-5}"
+. "$(dirname "$0")/load.bash"
+exec python3 "$top/bench/record.py" "$serve" "${AUDIT:-$top/bin/gb_audit}" "$play" "${1:-60000}" "${2:-5}"

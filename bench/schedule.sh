@@ -1,16 +1,13 @@
 #!/usr/bin/env bash
 # Prints how many lines a second gb_sim answers, on a schedule of 10,000 and on one of 100,000 lines of says,
 # packs, arrives, acknowledgements and fetches of 16 groups of 4 tenants on a cluster of 4 nodes, and the ratio of the two times.
-# gb_sim is built first, or give a program that was built, and then how many nodes there are (4 if not given), the version of packets
+# gb_sim is that of bin/, where ./install puts it, or give another one, and then how many nodes there are (4 if not given), the version of packets
 # that they send (1) and how many bytes a payload has (2).
 set -eu
 top=$(cd "$(dirname "$0")/.." && pwd)
 work=$top/bench/out/schedule
 mkdir -p "$work"
-if [ $# = 0 ]; then
-    (cd "$top/crates/gb_sim" && "${RT:-rt}" run <stdin >/dev/null)
-fi
-program=${1:-$top/crates/gb_sim/out/gb_sim}
+program=${1:-$top/bin/gb_sim}
 for lines in 10000 100000; do
     python3 "$top/bench/schedule.py" "$lines" "${@:2}" >"$work/$lines"
 done
