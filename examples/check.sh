@@ -4,7 +4,7 @@
 # failed write and for a failed read, 3 for want of memory.
 set -euo pipefail
 here=$(cd "$(dirname "$0")" && pwd)
-program=$(realpath "${1:-$here/../crates/gb_sim/out/gb_sim}")
+program=$(realpath "${1:-$here/../bin/gb_sim}")
 work=$(mktemp -d)
 trap 'rm -rf "$work"' EXIT
 
