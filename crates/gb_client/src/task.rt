@@ -128,8 +128,9 @@ pub enum Task<'a> {
     At(Server, Errand<'a>),
 }
 
-/// Returns the body of the request with this head and these words at `node`, with the token that `secrets` have for it. `Err` with
-/// `Words` if the words spell no request, with `Missing` if the secrets have no token for it, and with `OutOfMemory`.
+/// Returns the text of a whole request to `node`: its head, which is its first word, such as `make`; the token that `secrets` have for it;
+/// and these words. `Err` with `Words` if the words spell no request with that head, with `Missing` if the secrets have no token for it,
+/// and with `OutOfMemory`.
 pub fn ask(
     alloc: Global,
     secrets: &Secrets,

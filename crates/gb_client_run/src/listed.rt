@@ -51,8 +51,9 @@ fn listed_node<'a>(file: &'a Value, tenant: u16, node: NodeId) -> Result<Listed<
     }
 }
 
-/// Returns where the sessions of the nodes `nodes` of a tenant's cluster are, in that order, by the directory `file`. `Err` with `Node`,
-/// the node and the reason, for the first node of which the directory does not say it, and with `OutOfMemory`.
+/// Returns for each of `nodes`, in that order, the host and port where clients reach its sessions, as the parsed directory file `file` has
+/// them for the tenant's cluster. `Err` with `Node`, the node and the reason, for the first node that the file has no such place for, and
+/// with `OutOfMemory`.
 #[tactic(auto, using(crate::proofs::ListingLemmas::nodes_more, crate::proofs::ListingLemmas::places_more))]
 pub fn list<'a>(
     alloc: Global,

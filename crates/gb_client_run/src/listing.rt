@@ -26,9 +26,10 @@ fn print_refusal<W: Write>(alloc: Global, text: &[u8], writer: &mut W) -> Result
     }
 }
 
-/// Asks `node` for its figures and prints them in a line, or its refusal. Returns the exit status: 0, or 1 after a refusal. `Err` with
-/// the fault if the node could not be asked or had no reply, with `NoReply` if what came is neither, and with `Output` if the line could
-/// not be printed.
+/// Asks `node` for its figures, with the administrator's token of `target`, and prints them in a line to `writer`, or the node's refusal.
+/// Takes memory for the request and the reply. Returns the exit status: 0, or 1 after a refusal. `Err` with the fault if the node could not
+/// be asked or had no reply, with `NoReply` if what came is neither, with `Output` if the line could not be printed, and with
+/// `OutOfMemory`.
 pub fn print_status<N: Nodes, W: Write>(
     alloc: Global,
     nodes: &mut N,

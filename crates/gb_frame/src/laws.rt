@@ -2,12 +2,12 @@
 ghost use Rattle.gb_frame.specs.Batch.{TextsTellItems};
 ghost use Rattle.gb_frame.specs.Laws.{OneTextHasOnePacket, OnePacketHasOneText, WhatIsWrittenIsRead};
 
-/// A law, with nothing to run: under one key, the same bytes are the text of at most one packet.
+/// A law, with nothing to run: under one key, the same bytes are the text of at most one packet. So decoding is a function.
 pub fn one_text_has_one_packet()
     ensures { OneTextHasOnePacket }
 {}
 
-/// A law, with nothing to run: under one key, a packet has at most one text.
+/// A law, with nothing to run: under one key, a packet has at most one text, its bytes. So encoding is a function.
 pub fn one_packet_has_one_text()
     ensures { OnePacketHasOneText }
 {}

@@ -114,7 +114,7 @@ impl<L: Tapes> Hosted<L> {
         (node, Tape::from(into_tape(alloc, kept)))
     }
 
-    /// Gives up the node. Where it has a recorder this is told that all was taken, once its ring has room.
+    /// Gives up the node. If it has a recorder, this waits until its ring has room, and then tells the recorder that no more entries come.
     pub fn end<R: Wait>(self, rt: &R) {
         let Hosted {
             alloc: _,

@@ -38,9 +38,10 @@ pub fn is_within(members: &NodeSet, msgs: u16, call: Call) -> bool
     }
 }
 
-/// Reserves all memory of a layer to which no message was handed in yet, then makes two calls without `ready` between them. Returns
-/// true if both calls were made; then `sends` and `ups` have the effects of the second call only. Returns false, with nothing done,
-/// if one of the calls is not within the members and numbers. `Err` if memory is refused; then no call was made.
+/// Takes all memory of a layer, which is one step of a group's broadcast, at once, and then makes two calls of it without calling `ready`,
+/// which otherwise reserves memory before each call. No message was handed in to the layer before. Returns true if both calls were made;
+/// then `sends` and `ups` have the effects of the second call only. Returns false, with nothing done, if one of the calls is not of these
+/// members and of the numbers 1 to `msgs`. `Err` if memory is refused; then no call was made.
 pub fn take_two<L: Layer>(
     layer: &mut L,
     members: &NodeSet,

@@ -345,8 +345,11 @@ impl<'a, L: Tapes, H: Wait, P: Port> Mail<'a, L, H, P> {
         Some(Arrival { good, hint })
     }
 
-    /// Makes one event happen by which the node sends to another one. The packet that it makes is handed to the port at once. Returns true
-    /// if it made one.
+    /// Makes one event happen at the node by which it sends to node `to`: a pack, an acknowledgement, or a frame once more. Waits for the
+    /// node's lock; the host may take memory to keep the call. If the node answers with a packet, it is handed to the port at once; the
+    /// port may lose it, as a network may. `lost`, which counts packets that came and were not handed in, stays as it was, and so does
+    /// `origin`, the seat and the port as they were at first. Returns true if the node answered with a packet; false if it answered
+    /// otherwise or the host refused the call.
     pub fn send(&mut self, event: NodeEvent, to: NodeId) -> bool
         requires { destination event ≡ Some to }
         ensures mailed { HasMailed P.sends P.receives self.new.lost self.old.port self.new.port self.old.seat.calls self.new.seat.calls }

@@ -209,15 +209,16 @@ pub fn judge_front_fault(rt: &impl Abort, alloc: Global, case: &Case, fault: Aud
     assert!(rt; held);
 }
 
-/// Takes the steps of a case and merges the entries of their tapes that were not refused for lack of memory. The test aborts with a
-/// message unless that returns these events, each as two letters as in `Case`.
+/// Takes the steps of a case at new nodes in memory, and merges those entries of their tapes that were not refused for lack of memory.
+/// Takes memory for nodes, tapes and events, and does no input or output. The test aborts with a message unless that returns these events,
+/// each as two letters as in `Case`.
 pub fn judge_fed(rt: &impl Abort, alloc: Global, case: &Case, fed: &[&str]) {
     let held = gives(alloc, Part::Fed, case, fed);
     assert!(rt; held);
 }
 
-/// Takes the steps of a case and merges the entries of their tapes that were not refused for lack of memory. The test aborts with a
-/// message unless that ends with this fault.
+/// Takes the steps of a case at new nodes in memory, and merges those entries of their tapes that were not refused for lack of memory. The
+/// test aborts with a message unless that ends with this fault.
 pub fn judge_fed_fault(rt: &impl Abort, alloc: Global, case: &Case, fault: AuditFault) {
     let held = faults(alloc, Part::Fed, case, fault);
     assert!(rt; held);

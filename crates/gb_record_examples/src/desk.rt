@@ -14,7 +14,7 @@ pub struct Desk {
 }
 
 impl Desk {
-    /// Returns a desk on which nothing was written.
+    /// Returns a desk, a text in memory that tests write to by a `Pen`. It is empty.
     pub fn new(alloc: Global) -> Desk {
         Desk {
             text: RefCell::new(Vec::new(alloc)),

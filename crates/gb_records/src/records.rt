@@ -1,4 +1,4 @@
-//! The records of a stack, in the order of first mention.
+//! What the layers of one group's stack know of each of its messages: a record for each, in the order of first mention.
 ghost use Rattle.std.specs.Prelude.{◌≡◌, ℕ, ◌+◌, ◌≤◌, ◌<◌, ◌∷◌, ◌++◌, ◌&&◌, not, [], Some, length, slice_get, slice_index, count_by, true, false, MatchOption, vec_len, vec_capacity, OnOk};
 ghost use Rattle.std.specs.List.{list_any, IsDistinct};
 ghost use Rattle.std.proofs.Props.{props};
@@ -203,8 +203,10 @@ fn give_next(records: &mut Records, origin: NodeId, ups: &mut Vec<Up>) -> bool
     }
 }
 
-/// Appends to `ups` the messages of an origin that are due in first-in first-out order, from the next number on, as long as the
-/// broadcast has brought up the message with that number. Marks these as handed up in `records`. `ups` has capacity for them.
+/// Hands up what a group's stack may deliver next of one origin. `records` has, for each message of the group, what the stack's broadcast
+/// and its first-in first-out order know of it. Appends to `ups` the messages of `origin` that are due, from the next number on, as long as
+/// the broadcast has brought up the message with that number, and marks them in `records` as handed up. `ups` has capacity for them. Takes
+/// no memory.
 pub fn release(records: &mut Records, origin: NodeId, ups: &mut Vec<Up>)
     requires { count_by is_ungiven records.old.list.items ≤ free ups.old }
     ensures order { order_entries records.new.list.items ≡ released origin.number (length records.old.list.items) (order_entries records.old.list.items) }

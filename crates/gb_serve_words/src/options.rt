@@ -109,7 +109,8 @@ pub fn requests_arg<'a>(alloc: Global) -> Arg<'a>
         .help("how many messages a connection may ask; 0, or not given: there is no limit")
 }
 
-/// Returns the option `--stop-at-end` of a server: it ends in order when standard input ends.
+/// Returns the option `--stop-at-end` of a server: it ends in order when standard input ends. Takes no memory; `alloc` is kept in the
+/// option for later.
 pub fn stop_arg<'a>(alloc: Global) -> Arg<'a>
     ensures rule { rule_of result ≡ flag_rule (codes "stop-at-end") }
     ensures local { result.global ≡ false }

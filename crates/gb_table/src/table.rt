@@ -394,8 +394,9 @@ impl Table {
         self.groups.done(dest, addr, m);
     }
 
-    /// Tells each group of the table that node `who` is held for crashed (noticed as crashed), for good. A group of which it is a
-    /// member records that, and may deliver or relay messages.
+    /// Tells each group of the table, which has the tenants and the groups of one node, that node `who` is held for crashed (noticed as
+    /// crashed), for good. A group that has it as a member records that, and delivers and queues for other members what its kind then asks
+    /// for; other groups do not change. Nothing is sent. Takes no memory.
     pub fn notice(&mut self, who: NodeId)
         ensures { self.new ≡ table_noticed who self.old }
     {

@@ -98,8 +98,8 @@ pub fn furnish(
     ask(events, node, Request::OpenGroup(owner(addr), addr))
 }
 
-/// Appends to the events of a run the request at a node that says a message with these bytes in a tenant's group. `Err` if there is no
-/// memory; then nothing is appended.
+/// Appends a request to the events of a run that a test makes: at `node`, say a message with these bytes in the group of the tenant that
+/// `group_of` returns. `Err` if there is no memory; then nothing is appended.
 pub fn say_bytes(
     alloc: Global,
     events: &mut Vec<Event>,
@@ -113,8 +113,8 @@ pub fn say_bytes(
     ask(events, node, said)
 }
 
-/// Appends to the events of a run the request at a node that says the tenant's number, in two bytes, in its group. `Err` if there is no
-/// memory; then nothing is appended.
+/// Appends a request to the events of a run that a test makes: at `node`, say the tenant's number, in two bytes with the higher one first,
+/// in the group of the tenant that `group_of` returns. `Err` if there is no memory; then nothing is appended.
 pub fn say(
     alloc: Global,
     events: &mut Vec<Event>,

@@ -1,5 +1,5 @@
-// A node stops after each event of worked schedules. Each group is still seen as it is alone, and the stopped node refuses
-// each later event.
+//! Tests in which a node stops: worked schedules are read, and a node stops after each of their events in turn. Each group is still seen
+//! as it is alone, and the stopped node refuses each later event.
 ghost use Rattle.std.specs.Prelude.{◌≡◌, ℕ, ◌<◌, ◌≤◌, IsTrue};
 ghost use Rattle.gb_cluster.specs.ClusterValue.{IsClusterPlan};
 ghost use Rattle.gb_types.specs.declared.limits.TheConstants.{NODES as MOST};
@@ -161,9 +161,10 @@ fn read_all(
     Ok(None)
 }
 
-/// Reads a schedule. Returns the plan that its first line spells, and appends to `events` the events of its other lines. `Ok(None)` if
-/// a line does not spell a command in its place, or no cluster may be started with the plan; then some events may be there. `Err` if
-/// there is no memory.
+/// Reads a schedule, a text of commands as gb_sim reads it. The tests of this module run it on a cluster, stop a node after each event in
+/// turn, and compare what is seen of each group with what is seen of it alone. Returns the plan that the first line spells, and appends to
+/// `events` the events of the other lines. `Ok(None)` if a line does not spell a command in its place, or no cluster may be started with
+/// the plan. `Err` if there is no memory. In both cases some events may have been appended.
 pub fn read(
     alloc: Global,
     lines: &[&[u8]],

@@ -71,9 +71,9 @@ impl<R: Clock> Gate for Held<'_, R> {
     }
 }
 
-/// Makes a node of a host tick, from a seat, and holds the node's lock until another caller holds the other node's lock, two more
-/// callers wait, and 200 milliseconds have passed. Changes the counters of `meeting`. Returns true if both locks were held at one time.
-/// False if that took more than 10 seconds or the call failed.
+/// Makes a node of a host tick, from a seat, and holds the node's lock until another caller holds the other node's lock, two more callers
+/// wait for a lock, and 200 milliseconds have passed. The tick may take memory for the seat's list and the tape; nothing is sent. Changes
+/// the counters of `meeting`. Returns true if both locks were held at one time. False if that took more than 10 seconds or the call failed.
 pub fn hold<L: Tapes, R: Wait + Clock>(
     rt: &R,
     host: &Host<L>,
