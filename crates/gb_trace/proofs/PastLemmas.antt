@@ -7,7 +7,7 @@ use Rattle.std.proofs.lemmas.List.{take_all, take_more, reverse-append}
 use Rattle.gb_types.specs.declared.address.Addr.{Addr}
 use Rattle.gb_types.specs.declared.node.NodeId.{NodeId}
 use Rattle.gb_types.specs.declared.plan.Plan.{Plan}
-use Rattle.gb_node.specs.Past.{Happened}
+use Rattle.gb_node.specs.Past.{Happened, added, tenants_in}
 use Rattle.gb_cluster.specs.Run.{Did, past_at}
 use Rattle.gb_isolation.specs.Project.{gives, project, reply_in, replies_in}
 use Rattle.gb_trace.specs.Deeds.{past_in}
@@ -41,6 +41,19 @@ longer f more a ds i d was now lt is at grows adds so = adds ∙ (ap (λ xs. xs 
 pub as_long : {X : Type 0} (f : List Happened → List X) (a : NodeId) (ds : List Did) (i : ℕ) (d : Did) (was : List X) → i < length ds → d ≡ get_or ds i d → nat_eq d.node.number a.number ≡ false
     → was ≡ f (past_in a (take i ds)) → was ≡ f (past_in a (take (i + 1) ds))
 as_long f a ds i d was lt is at so = so ∙ ap f (sym (elsewhere a ds i d lt is at))
+
+-- the tenants that were added, after one thing more
+pub added_here : (a : NodeId) (ds : List Did) (i : ℕ) (d : Did) → i < length ds → d ≡ get_or ds i d → nat_eq d.node.number a.number ≡ true
+    → tenants_in (past_in a (take (i + 1) ds)) ≡ tenants_in (past_in a (take i ds)) ++ added d.event d.answer
+unfolding tenants_in
+added_here a ds i d lt is at = ap tenants_in (here a ds i d lt is at)
+
+pub added_elsewhere : (a : NodeId) (ds : List Did) (i : ℕ) (d : Did) → i < length ds → d ≡ get_or ds i d → nat_eq d.node.number a.number ≡ false → tenants_in (past_in a (take (i + 1) ds)) ≡ tenants_in (past_in a (take i ds))
+added_elsewhere a ds i d lt is at = ap tenants_in (elsewhere a ds i d lt is at)
+
+pub none_added : (a : NodeId) → tenants_in (past_in a []) ≡ []
+unfolding tenants_in past_at
+none_added a = refl
 
 -- the replies at a node, before anything happened and with one thing more
 pub no_replies : (me : NodeId) (g : Addr) (a : NodeId) → replies_in me g (past_in a []) ≡ []

@@ -1,9 +1,10 @@
 -- If no refusal of memory was found for a group, it had no request refused for lack of memory; and what one more event changes in this.
-use Rattle.std.proofs.Common.{◌≡◌, ℕ, ◌+◌, ◌<◌, Bool, true, false, not, ◌&&◌, ◌||◌, List, [], ◌∷◌, ◌++◌, length, take, get_or, Option, Some, None, nat_eq, refl, sym, ap, ◌∙◌, append_assoc, Bor}
-use Rattle.std.proofs.lemmas.List.{append-nil, reverse-append}
+use Rattle.std.proofs.Common.{◌≡◌, ℕ, ◌+◌, ◌<◌, Bool, true, false, not, ◌&&◌, ◌||◌, List, [], ◌∷◌, ◌++◌, length, take, get_or, replicate, Option, Some, None, nat_eq, refl, sym, ap, ◌∙◌, append_assoc, Bor}
+use Rattle.std.proofs.lemmas.List.{append-nil, reverse-append, get_or-replicate}
 use Rattle.std.specs.Option.{option_copied, option_or}
 use Rattle.std.specs.Prelude.{reverse, option_map, if◌then◌else◌}
 use Rattle.gb_types.specs.declared.address.Addr.{Addr}
+use Rattle.gb_types.specs.declared.limits.TheConstants.{NODES}
 use Rattle.gb_types.specs.declared.node.NodeId.{NodeId}
 use Rattle.gb_types.specs.declared.request.Request.TheVariants.{AddTenant}
 use Rattle.gb_types.specs.declared.spec.TenantRow.{TenantRow}
@@ -22,6 +23,7 @@ use Rattle.gb_cluster.specs.declared.event.Event.{Event}
 use Rattle.gb_cluster.specs.declared.event.Event.TheVariants.{At, Arrive}
 use Rattle.gb_cluster.specs.declared.posted.Posted.{Posted}
 use Rattle.gb_isolation.specs.Project.{is_starved_by, is_fed}
+use Rattle.gb_trace.specs.Kept.{AreRows}
 use Rattle.gb_trace.specs.Refused.{is_untaken_by, is_refused_for, is_lacked_by, rows_by}
 use Rattle.gb_trace.specs.Trace.{did_in, did_with, own_answer, sent_as, run_of, all_did}
 use Rattle.gb_rules.specs.Tenant.{row_of}
@@ -196,3 +198,13 @@ found_more tenant found one now rows more all all_are found_is one_is now_is =
 pub copied_or : {X : Type 0} (o p : Option (Bor X)) → option_copied (option_or o p) ≡ option_or (option_copied o) (option_copied p)
 copied_or None p = refl
 copied_or (Some x) p = refl
+
+-- the rows that are kept, before anything happened and after one event more
+pub rows_begin : (tenant : ℕ) (ps : List Posted) → AreRows tenant (run_of [] [] ps) (replicate NODES None)
+rows_begin tenant ps a = get_or-replicate NODES a.number None None a.below ∙ ap (row_of tenant) (sym (no_rows a ps))
+
+pub rows_go_on : (tenant : ℕ) (ps : List Posted) (es : List Event) (rs : List Answer) (i : ℕ) (e : Event) (r : Answer) (rows later : List (Option TenantRow)) → i < length es → i < length rs → e ≡ get_or es i e → r ≡ get_or rs i r
+    → AreRows tenant (run_of (take i es) (take i rs) ps) rows → ((a : NodeId) → get_or later a.number None ≡ option_or (get_or rows a.number None) (row_of tenant (rows_by a e r))) → AreRows tenant (run_of (take (i + 1) es) (take (i + 1) rs) ps) later
+rows_go_on tenant ps es rs i e r rows later lt ls is it was keeps a =
+    found_more tenant (get_or rows a.number None) (row_of tenant (rows_by a e r)) (get_or later a.number None) (tenants_in (past_at a (run_of (take i es) (take i rs) ps))) (rows_by a e r) (tenants_in (past_at a (run_of (take (i + 1) es) (take (i + 1) rs) ps)))
+    (rows_more a ps es rs i e r lt ls is it) (was a) refl (keeps a)

@@ -4,3 +4,4 @@ pub mod Counts
 pub mod Observed
 pub mod Run
 pub mod Refused
+pub mod Kept

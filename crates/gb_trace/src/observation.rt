@@ -1,34 +1,39 @@
 //! What is seen of a group in a run, computed plainly from its meaning.
 ghost use Rattle.std.specs.Prelude.{◌≡◌, ◌≤◌, ◌++◌, reverse, IfOk, OnOk, map};
+ghost use Rattle.std.specs.Option.{option_copied};
 ghost use Rattle.gb_types.specs.declared.limits.TheConstants.{NODES as MOST};
+ghost use Rattle.gb_rules.specs.Tenant.{row_of};
 ghost use Rattle.gb_alone.specs.Observation.{numbers_below};
 ghost use Rattle.gb_node.specs.NodeStep.{node_numbered};
-ghost use Rattle.gb_node.specs.Past.{packed_for, frames_to};
+ghost use Rattle.gb_node.specs.Past.{packed_for, frames_to, tenants_in};
 ghost use Rattle.gb_isolation.specs.Project.{group_items_of, reply_in, replies_in};
 ghost use Rattle.gb_trace.specs.Deeds.{past_in};
 ghost use Rattle.gb_trace.specs.Observed.{observed, observed_at};
 ghost use Rattle.gb_trace.specs.Trace.{run_of};
 
 use crate::deed::{Deed, deeds_of};
-use crate::past::is_own_request;
+use crate::past::{is_own_by, row_in};
 use crate::reading::{add_items, packed};
 use crate::trace::Trace;
 use gb_alone::{NodeSeen, Observation};
 use gb_cap::HmacKey;
 use gb_cluster::Event;
 use gb_node::{NodeAnswer, NodeEvent};
-use gb_types::{Addr, Entries, NodeId, OutOfMemory, Plan, Reply};
+use gb_types::{Addr, Entries, NodeId, OutOfMemory, Plan, Reply, TenantRow};
 use std::alloc::Global;
 
-/// If `deed` is a request of the group at the node `a`, adds a copy of its reply. `before` is what happened before.
+/// If `deed` is a request of the group at the node `a`, adds a copy of its reply. `before` is what happened before, and `row` is
+/// the row of the group's tenant at the node by then.
 fn add_reply(
     alloc: Global,
     addr: Addr,
     a: NodeId,
     before: &[Deed],
+    row: Option<&TenantRow>,
     deed: &Deed,
     replies: &mut Vec<Reply>,
 ) -> Result<(), OutOfMemory>
+    requires { option_copied row ≡ row_of addr.tenant (tenants_in (past_in a before.now)) }
     ensures { OnOk result (replies.new.items ≡ replies.old.items ++ reply_in a addr (past_in a before.now) deed.now.event deed.now.answer) }
 {
     let NodeEvent::Request(request) = deed.event() else {
@@ -37,7 +42,7 @@ fn add_reply(
     let NodeAnswer::Reply(reply) = deed.answer() else {
         return Ok(());
     };
-    if is_own_request(addr, a, before, request) {
+    if is_own_by(addr, a, row, request) {
         replies.push(reply.duplicate(alloc)?)?;
     }
     Ok(())
@@ -53,10 +58,12 @@ fn replies_at(
     ensures { IfOk result (λ v. v.items ≡ replies_in a addr (past_in a deeds.now)) }
 {
     let mut replies = Vec::new(alloc);
+    let mut row = None;
     for i in 0..deeds.len() {
         let deed = &deeds[i];
         if deed.is_at(a) {
-            add_reply(alloc, addr, a, &deeds[..i], deed, &mut replies)?;
+            add_reply(alloc, addr, a, &deeds[..i], row, deed, &mut replies)?;
+            row = row.or(row_in(addr.tenant, deed));
         }
     }
     Ok(replies)

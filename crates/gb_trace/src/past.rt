@@ -42,7 +42,7 @@ pub(crate) fn row_added<'a>(
 }
 
 /// Returns the row of the tenant, if `deed` added it.
-fn row_in(tenant: u16, deed: &Deed) -> Option<&TenantRow>
+pub(crate) fn row_in(tenant: u16, deed: &Deed) -> Option<&TenantRow>
     ensures { option_copied result ≡ row_of tenant (added deed.now.event deed.now.answer) }
 {
     match deed.event() {

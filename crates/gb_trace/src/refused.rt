@@ -1,10 +1,11 @@
-//! Whether a group was refused memory in a run, computed plainly from its meaning, with no copy of the run.
-ghost use Rattle.std.specs.Prelude.{◌≡◌, ◌≤◌, false, true, length, take};
-ghost use Rattle.std.specs.Option.{option_copied};
+//! Whether a group was refused memory in a run, computed in one pass, with no copy of the run.
+ghost use Rattle.std.specs.Prelude.{◌≡◌, false, true, None, List, slice_index_or};
+ghost use Rattle.std.specs.Option.{option_copied, option_or};
+ghost use Rattle.gb_types.specs.declared.node.NodeId.{NodeId as AnyNode};
 ghost use Rattle.gb_rules.specs.Tenant.{row_of};
-ghost use Rattle.gb_node.specs.Past.{tenants_in};
-ghost use Rattle.gb_cluster.specs.Run.{past_at};
+ghost use Rattle.gb_cluster.specs.Run.{Did};
 ghost use Rattle.gb_isolation.specs.Project.{is_fed};
+ghost use Rattle.gb_trace.specs.Kept.{AreRows};
 ghost use Rattle.gb_trace.specs.Refused.{is_lacked_by, is_refused_for, rows_by};
 ghost use Rattle.gb_trace.specs.Trace.{run_of};
 
@@ -12,6 +13,7 @@ use crate::past::{is_own_by, row_added};
 use crate::trace::Trace;
 use gb_cluster::{Answer, Event};
 use gb_node::NodeEvent;
+use gb_types::limits::NODES;
 use gb_types::{Addr, NodeId, Refusal, Reply, Request, TenantRow};
 
 /// Returns the row of the tenant, if the event with its answer added it at the node `a`.
@@ -30,40 +32,21 @@ fn row_in<'a>(a: NodeId, tenant: u16, event: &'a Event, answer: &Answer) -> Opti
     row_added(tenant, request, reply)
 }
 
-/// Returns the row of the tenant at the node `a` after the first `count` events, or `None` if it was not added by then.
-#[tactic(auto, using(crate::proofs::RefusedLemmas::rows_more, crate::proofs::RefusedLemmas::no_rows, crate::proofs::PastLemmas::find_later))]
-fn row_at<'a>(
-    trace: &Trace,
-    events: &'a [Event],
-    count: usize,
-    a: NodeId,
-    tenant: u16,
-) -> Option<&'a TenantRow>
-    requires events { count ≤ length events.now }
-    requires answers { count ≤ length trace.now.answers.items }
-    ensures { option_copied result ≡ row_of tenant (tenants_in (past_at a (run_of (take count events.now) (take count trace.now.answers.items) trace.now.packets.items))) }
+/// Keeps the tenant's row at the node of the event, if the event with its answer added it there and none was kept before.
+fn keep_row(rows: &mut [Option<TenantRow>; NODES], tenant: u16, event: &Event, answer: &Answer)
+    ensures { (a : AnyNode) → slice_index_or rows.new a.number None ≡ option_or (slice_index_or rows.old a.number None) (row_of tenant (rows_by a event.now answer.now)) }
 {
-    let answers = trace.answers.as_slice();
-    let mut found = None;
-    for i in 0..count {
-        found = found.or(row_in(a, tenant, &events[i], &answers[i]));
+    if let Event::At(node, _) = event {
+        let at = node.index();
+        let added = row_in(*node, tenant, event, answer).copied();
+        rows[at] = rows[at].or(added);
     }
-    found
 }
 
-/// Returns true if `event`, which follows the first `count` events, was refused for lack of memory and is a request of the group
-/// or one that adds its tenant.
-fn is_lacking(
-    trace: &Trace,
-    events: &[Event],
-    count: usize,
-    addr: Addr,
-    event: &Event,
-    answer: &Answer,
-) -> bool
-    requires events { count ≤ length events.now }
-    requires answers { count ≤ length trace.now.answers.items }
-    ensures { result ≡ is_lacked_by addr (run_of (take count events.now) (take count trace.now.answers.items) trace.now.packets.items) event.now answer.now }
+/// Returns true if the event was refused for lack of memory and is a request of the group or one that adds its tenant. `rows`
+/// has, for each node, the row of the group's tenant as it was before the event.
+fn is_lacking(rows: &[Option<TenantRow>; NODES], addr: Addr, event: &Event, answer: &Answer) -> bool
+    ensures { (run : List Did) → AreRows addr.tenant run rows.now → result ≡ is_lacked_by addr run event.now answer.now }
 {
     let Event::At(node, NodeEvent::Request(request)) = event else {
         return false;
@@ -74,7 +57,7 @@ fn is_lacking(
     if let Request::AddTenant(_, row) = request {
         return row.tenant == addr.tenant;
     }
-    let row = row_at(trace, events, count, *node, addr.tenant);
+    let row = rows[node.index()].as_ref();
     is_own_by(addr, *node, row, request)
 }
 
@@ -88,9 +71,13 @@ pub fn refused_for(trace: &Trace, events: &[Event], addr: Addr) -> bool
 {
     let answers = trace.answers.as_slice();
     let count = events.len().min(answers.len());
+    let mut rows = [None; NODES];
     let mut lacked = false;
     for i in 0..count {
-        lacked = is_lacking(trace, events, i, addr, &events[i], &answers[i]) || lacked;
+        let event = &events[i];
+        let answer = &answers[i];
+        lacked = is_lacking(&rows, addr, event, answer) || lacked;
+        keep_row(&mut rows, addr.tenant, event, answer);
     }
     lacked
 }
