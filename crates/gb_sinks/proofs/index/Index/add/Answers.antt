@@ -1,0 +1,23 @@
+use Rattle.std.proofs.Common.{◌≡◌, ◌≤◌, ◌+◌, ◌++◌, ◌∷◌, [], length, ap, ◌∙◌, arith}
+use Rattle.std.proofs.lemmas.List.{length_push}
+use Rattle.gb_layer.specs.Table.{leads}
+use Rattle.gb_sinks.specs.Places.{all_differ}
+use Rattle.gb_sinks.proofs.IndexLemmas.{differ_push}
+use Rattle.gb_sinks.proofs.index.Index.add.Goals as goal
+
+pub invariant_of-self-2 : goal.invariant_of-self-2
+invariant_of-self-2 c =
+    let i = c.args.self.now in
+    let ms = i.list.items in
+    let m = c.args.m in
+    let items : c.push_reserved.new.self.items ≡ ms ++ m ∷ [] = c.push_reserved.ensures.items ∙ ap (λ xs. xs ++ m ∷ []) c.reserve.ensures.items in
+    let len : length c.push_reserved.new.self.items ≡ length ms + 1 = ap length items ∙ length_push ms m in
+    let place = c.len-place.ensures in
+    let ok = i.list.ok.0 in
+    let less = c.if-place-ge-PLACES.false in
+    let new = c.note.new.self in
+    record {
+      few = (let h : length c.push_reserved.new.self.items ≤ 65536 = omega (arith, len, place, ok, less) in h);
+      differ = ap all_differ items ∙ differ_push ms m c.requires i.differ;
+      leads = ap (leads new.width new.told.items 0) items ∙ c.note.ensures ms (omega (arith, place, ok)) c.requires i.leads;
+    }

@@ -1,0 +1,71 @@
+//! The lowest layer.
+ghost use Rattle.std.specs.Prelude.{◌≡◌, List};
+ghost use Rattle.std.proofs.Common.{refl};
+ghost use Rattle.gb_types.specs.declared.message.MsgId.{MsgId};
+ghost use Rattle.gb_types.specs.declared.node.NodeId.{NodeId};
+ghost use Rattle.gb_layer.specs.BebMachine.{beb_gives};
+
+use crate::call::PlacedCall;
+use crate::index::Index;
+use crate::layer::{Bounded, Layer};
+use crate::sink::Sink;
+use gb_layer::Room;
+use gb_types::{NodeId, OutOfMemory};
+
+/// Sends each message that is said. Hands up each message that is said and each that comes, from any node (Cachin, Guerraoui,
+/// Rodrigues 2011, Algorithm 3.1, Basic Broadcast). It keeps nothing of a message.
+#[derive(Drop)]
+pub struct Beb {
+    me: NodeId,
+}
+
+impl Beb {
+    /// Returns a layer at the node `me`.
+    pub fn new(me: NodeId) -> Beb
+        ensures { (ms : List MsgId) → ⟦<Beb as Layer>⟧.meaning ms result ≡ me }
+    {
+        Beb { me }
+    }
+}
+
+impl Layer for Beb {
+    ghost State = { NodeId };
+
+    ghost meaning = { λ _ b. b.me };
+
+    ghost me = { λ s. s };
+
+    ghost next = { λ s _. s };
+
+    ghost gives = { beb_gives };
+
+    ghost knows = { λ _ _ _ _. Unit {0} };
+
+    fn me(&self) -> NodeId {
+        self.me
+    }
+
+    fn whole(&mut self, _places: usize) -> Result<(), OutOfMemory> {
+        Ok(())
+    }
+
+    #[inline(always)]
+    fn take<O: Sink>(&mut self, index: &Index, call: PlacedCall, out: &mut O) {
+        match call {
+            PlacedCall::Say(place) => {
+                out.send(index, place);
+                out.up(index, self.me, place);
+            }
+            PlacedCall::Came(from, place) => out.up(index, from, place),
+            PlacedCall::Notice(_) => {}
+        }
+    }
+
+    ghost grows = { λ ms more x n w k. (refl, tt) };
+}
+
+impl Bounded for Beb {
+    fn most(&self) -> Room {
+        Room { sends: 1, ups: 1 }
+    }
+}

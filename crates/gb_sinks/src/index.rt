@@ -1,0 +1,106 @@
+//! The index of a group's messages.
+ghost use Rattle.std.specs.Prelude.{◌≡◌, ◌<◌, ◌≤◌, ◌++◌, ◌∷◌, [], true, false, cond, length, OnOk, IfOk, OnErr, MatchOption};
+ghost use Rattle.std.specs.List.{list_any};
+ghost use Rattle.gb_types.specs.Message.{same};
+ghost use Rattle.gb_layer.specs.Table.{leads};
+ghost use Rattle.gb_sinks.specs.Places.{message_at, all_differ};
+
+use gb_layer::{Places, Table};
+use gb_types::{MsgId, NodeSet, OutOfMemory};
+use std::alloc::Global;
+
+/// The number of messages that an index can hold: one for each `u16`.
+pub const PLACES: usize = 65_536;
+
+/// The messages of a group, each at a place of its own, in the order in which they were added. A place stands for the same message
+/// for good.
+#[derive(Drop)]
+pub struct Index {
+    pub list: Vec<MsgId>,
+    pub table: Table,
+    ghost few: { length list.items ≤ 65536 },
+    ghost differ: { all_differ list.items ≡ true },
+    ghost leads: { leads table.width table.told.items 0 list.items ≡ true },
+}
+
+impl Index {
+    /// Returns an index without messages.
+    pub fn new(alloc: Global) -> Index
+        ensures { result.list.items ≡ [] }
+    {
+        Index {
+            list: Vec::new(alloc),
+            table: Table::new(alloc),
+        }
+    }
+
+    /// Makes the index find the members' messages numbered from 1 to `width` without a search. It has no messages before. It takes two
+    /// bytes for each number of each node up to the last member.
+    pub fn cover(&mut self, members: &NodeSet, width: u16) -> Result<(), OutOfMemory>
+        requires { self.old.list.items ≡ [] }
+        ensures { self.new.list.items ≡ self.old.list.items }
+    {
+        self.table.cover(members, width)
+    }
+
+    /// Returns the message at a place.
+    pub fn message(&self, place: u16) -> MsgId
+        requires { place < length self.now.list.items }
+        ensures { result ≡ message_at self.now.list.items place }
+    {
+        self.list[usize::from(place)]
+    }
+
+    /// Returns true if the message at `i` is `m`.
+    fn is_at(&self, i: usize, m: MsgId) -> bool
+        requires { i < length self.now.list.items }
+        ensures { result ≡ same (message_at self.now.list.items i) m }
+    {
+        self.list[i] == m
+    }
+
+    /// Returns the place of `m`. `None` if `m` is not in the index.
+    pub fn find(&self, m: MsgId) -> Option<u16>
+        ensures { MatchOption result (list_any (λ x. same x m) self.now.list.items ≡ false)
+            (λ p. (p < length self.now.list.items) × (message_at self.now.list.items p ≡ m)) }
+    {
+        let places = self.table.places(m, self.list.len());
+        for i in places.from..places.to {
+            if self.is_at(i, m) {
+                return Some(i as u16);
+            }
+        }
+        None
+    }
+
+    /// Adds `m`, which is not in the index, at its end. Returns its place. OutOfMemory also if the index holds `PLACES` messages.
+    fn add(&mut self, m: MsgId) -> Result<u16, OutOfMemory>
+        requires { list_any (λ x. same x m) self.old.list.items ≡ false }
+        ensures place { IfOk result (λ p. p ≡ length self.old.list.items) }
+        ensures added { OnOk result (self.new.list.items ≡ self.old.list.items ++ m ∷ []) }
+        ensures kept { OnErr result (self.new.list.items ≡ self.old.list.items) }
+    {
+        let place = self.list.len();
+        if place >= PLACES {
+            return Err(OutOfMemory);
+        }
+        self.list.reserve(1)?;
+        self.table.note(m, place);
+        self.list.push_reserved(m);
+        Ok(place as u16)
+    }
+
+    /// Returns the place of `m`, which is added at the end if it is not in the index. OutOfMemory also if it is to be added and the
+    /// index holds `PLACES` messages. Then the index stays as it was.
+    pub fn place(&mut self, m: MsgId) -> Result<u16, OutOfMemory>
+        ensures within { IfOk result (λ p. p < length self.new.list.items) }
+        ensures is { IfOk result (λ p. message_at self.new.list.items p ≡ m) }
+        ensures items { OnOk result (self.new.list.items ≡ cond (list_any (λ x. same x m) self.old.list.items) self.old.list.items (self.old.list.items ++ m ∷ [])) }
+        ensures kept { OnErr result (self.new.list.items ≡ self.old.list.items) }
+    {
+        match self.find(m) {
+            Some(place) => Ok(place),
+            None => self.add(m),
+        }
+    }
+}
