@@ -1,7 +1,8 @@
 -- How many items of a group frames have, and what their counts add to the projection.
-use Rattle.std.proofs.Common.{◌≡◌, ◌≢◌, ℕ, zero, suc, ◌+◌, ◌-◌, ◌<◌, Bool, List, [], ◌∷◌, ◌++◌, map, length, take, get_or, length-take, refl, sym, ap, ◌∙◌, arith, append_assoc, length-append}
+use Rattle.std.proofs.Common.{◌≡◌, ◌≢◌, ℕ, zero, suc, ◌+◌, ◌-◌, ◌<◌, Bool, false, not, ◌&&◌, List, [], ◌∷◌, ◌++◌, map, length, take, get_or, length-take, refl, sym, ap, ◌∙◌, arith, append_assoc, length-append}
 use Rattle.std.specs.Prelude.{sum, if◌then◌else◌}
-use Rattle.std.proofs.lemmas.List.{append-nil, map-append, take-map, take_more}
+use Rattle.std.proofs.Math.Bool.{and-false}
+use Rattle.std.proofs.lemmas.List.{append-nil, take-map, take_more}
 use Rattle.std.proofs.lemmas.List.Sums.{sum_by-cons, sum_by_more}
 use Rattle.gb_types.specs.declared.address.Addr.{Addr}
 use Rattle.gb_types.specs.declared.node.NodeId.{NodeId}
@@ -11,13 +12,15 @@ use Rattle.gb_alone.specs.declared.event.GroupEvent.{GroupEvent}
 use Rattle.gb_alone.specs.declared.event.GroupEvent.TheVariants.{Came, Done}
 use Rattle.gb_alone.specs.declared.event.GroupStep.{GroupStep}
 use Rattle.gb_node.specs.NodeStep.{node_numbered}
-use Rattle.gb_node.specs.Past.{Happened, read, packed_for, frames_to}
-use Rattle.gb_cluster.specs.Run.{past_at}
+use Rattle.gb_link.specs.Ack.{covers}
+use Rattle.gb_node.specs.Past.{Happened, read, frames_to, is_acked}
 use Rattle.gb_types.specs.declared.plan.Plan.{Plan}
+use Rattle.gb_cluster.specs.Run.{Did, past_at}
 use Rattle.gb_isolation.proofs.MarkLemmas.{group_items_of-none, group_items_of-one}
-use Rattle.gb_isolation.specs.Project.{group_items, group_items_of, offset, if_any, comes, all_acknowledged, is_new_ack, acknowledges}
-use Rattle.gb_trace.specs.Counts.{counts_acknowledged}
-use Rattle.gb_trace.specs.Deeds.{past_in}
+use Rattle.gb_isolation.specs.Project.{group_items, group_items_of, offset, if_any, comes, all_acknowledged, is_new_ack, acknowledges, brings}
+use Rattle.gb_trace.specs.Counts.{counts_acknowledged, is_newly}
+use Rattle.gb_trace.specs.declared.frames.Frames.{Frames}
+use Rattle.gb_trace.specs.Kept.{IsFront, KeepsFrames}
 
 -- one step, where there are any items
 pub any_some : (a : NodeId) (k : ℕ) (event : GroupEvent) → k ≢ 0 → if_any a k event ≡ record { node = a; event = event } ∷ []
@@ -49,15 +52,6 @@ text_one g key text c is = ap (λ (cs : List Content). length (group_items_of g 
 abbrev pub counted : Addr → List (List Item) → List ℕ
 counted g fs = map (λ f. length (group_items g f)) fs
 
--- the frames that were packed before anything happened, and with one thing more
-pub no_counts : (g : Addr) (key : List ℕ) (b : ℕ) (a : NodeId) → counted g (frames_to key b (past_in a [])) ≡ []
-unfolding frames_to past_at
-no_counts g key b a = refl
-
-pub counts_more : (g : Addr) (key : List ℕ) (b : ℕ) (h : Happened) (past : List Happened) → counted g (frames_to key b (h ∷ past)) ≡ counted g (frames_to key b past) ++ counted g (packed_for key b h.event h.answer)
-unfolding frames_to
-counts_more g key b h past = map-append (λ f. length (group_items g f)) (frames_to key b past) (packed_for key b h.event h.answer)
-
 counts_are : (g : Addr) (fs : List (List Item)) → length (group_items_of g fs) ≡ sum (counted g fs)
 unfolding group_items_of
 counts_are g [] = refl
@@ -65,7 +59,7 @@ counts_are g (f ∷ fs) =
     length-append (group_items g f) (group_items_of g fs) ∙ (ap (λ n. length (group_items g f) + n) (counts_are g fs) ∙ sym (sum_by-cons (λ n. n) (length (group_items g f)) (counted g fs)))
 
 -- the items of the first frames
-pub offset_is : (g : Addr) (fs : List (List Item)) (n : ℕ) → offset g fs n ≡ sum (take n (counted g fs))
+offset_is : (g : Addr) (fs : List (List Item)) (n : ℕ) → offset g fs n ≡ sum (take n (counted g fs))
 offset_is g fs n = counts_are g (take n fs) ∙ ap sum (sym (take-map (λ f. length (group_items g f)) n fs))
 
 -- what is acknowledged of frames
@@ -106,13 +100,73 @@ counted_on a b new ks i place before now later lt is adds was =
     ∙ ap (λ xs. before ++ xs) (ap (λ xs. counts_acknowledged a b new 1 0 (take i ks) ++ xs) (ap (λ n. if new n then if_any a k (Done b place k) else []) number ∙ ap (λ p. if new (1 + length (take i ks)) then if_any a k (Done b p k) else []) behind)
     ∙ (sym (counted_more a b new 1 0 (take i ks) k) ∙ ap (counts_acknowledged a b new 1 0) (sym (take_more ks i 0 lt))))))
 
+pub get_or_default : {X : Type 0} (xs : List X) (i : ℕ) (d e : X) → i < length xs → get_or xs i d ≡ get_or xs i e
+get_or_default [] i d e lt = absurd (omega (arith, lt))
+get_or_default (x ∷ xs) zero d e lt = refl
+get_or_default (x ∷ xs) (suc i) d e lt = get_or_default xs i d e (omega (arith, lt))
+
+-- the same, from the mark of the frame
+pub counted_on_marked : (a b : NodeId) (c : Content) (acked : List Bool) (ks : List ℕ) (i place : ℕ) (before now later : List GroupStep) (t : Bool) (k : ℕ) → i < length ks → i < length acked → t ≡ get_or acked i t → k ≡ get_or ks i 0
+    → place ≡ 1 + sum (take i ks) → later ≡ now ++ (if covers c.base c.mask (i + 1) && not t then if_any a k (Done b place k) else []) → now ≡ before ++ counts_acknowledged a b (is_newly c acked) 1 0 (take i ks)
+    → later ≡ before ++ counts_acknowledged a b (is_newly c acked) 1 0 (take (i + 1) ks)
+counted_on_marked a b c acked ks i place before now later t k lt ls at number is adds was =
+    let index : i ≡ i + 1 - 1 = omega arith in
+    let marked : t ≡ get_or acked (i + 1 - 1) false = at ∙ (get_or_default acked i t false ls ∙ ap (λ n. get_or acked n false) index) in
+    counted_on a b (is_newly c acked) ks i place before now later lt is
+    (adds ∙ ap (λ xs. now ++ xs) (ap (λ s. if covers c.base c.mask (i + 1) && not s then if_any a k (Done b place k) else []) marked ∙ ap (λ n. if is_newly c acked (i + 1) then if_any a n (Done b place n) else []) number))
+    was
+
 pub place_on : (ks : List ℕ) (i place next : ℕ) → i < length ks → place ≡ 1 + sum (take i ks) → next ≡ place + get_or ks i 0 → next ≡ 1 + sum (take (i + 1) ks)
 place_on ks i place next lt is adds = let more = sum_by_more (λ n. n) ks i 0 lt in omega (arith, is, adds, more)
 
--- what a packet acknowledges, by the numbers of items of the frames for its sender
-pub acknowledged_is : (plan : Plan) (g : Addr) (past : List Happened) (a : NodeId) (c : Content) (key ks : List ℕ) (n : ℕ) → key ≡ plan.cluster_key → n ≡ c.from → ks ≡ counted g (frames_to key n past)
-    → counts_acknowledged a (node_numbered c.from) (is_new_ack key past c) 1 0 ks ≡ acknowledges plan g past a c
-acknowledged_is plan g past a c key ks n same is are =
-    ap (counts_acknowledged a (node_numbered c.from) (is_new_ack key past c) 1 0) (are ∙ ap (λ m. counted g (frames_to key m past)) is)
-    ∙ (sym (all_counted g a (node_numbered c.from) (is_new_ack key past c) 1 0 (frames_to key c.from past))
-    ∙ ap (λ k. all_acknowledged g a (node_numbered c.from) (is_new_ack k past c) 1 0 (frames_to k c.from past)) same)
+-- what two tests give that agree on the numbers of these frames
+counted_alike : (a b : NodeId) (p q : ℕ → Bool) (n before : ℕ) (ks : List ℕ) → ((i : ℕ) → i < length ks → p (n + i) ≡ q (n + i)) → counts_acknowledged a b p n before ks ≡ counts_acknowledged a b q n before ks
+counted_alike a b p q n before [] alike = refl
+counted_alike a b p q n before (k ∷ ks) alike =
+    let first : n + 0 ≡ n = omega arith in
+    ap (λ t. (if t then if_any a k (Done b (before + 1) k) else []) ++ counts_acknowledged a b p (n + 1) (before + k) ks) (ap p (sym first) ∙ (alike 0 (omega arith) ∙ ap q first))
+    ∙ ap (λ xs. one_counted a b q n before k ++ xs) (counted_alike a b p q (n + 1) (before + k) ks (λ i lt. let next : n + 1 + i ≡ n + (i + 1) = omega arith in ap p next ∙ (alike (i + 1) (omega (arith, lt)) ∙ ap q (sym next))))
+
+-- what a test gives that no number of these frames passes
+counted_none : (a b : NodeId) (n before : ℕ) (ks : List ℕ) → counts_acknowledged a b (λ m. false) n before ks ≡ []
+counted_none a b n before [] = refl
+counted_none a b n before (k ∷ ks) = counted_none a b (n + 1) (before + k) ks
+
+-- the first frames, where they were acknowledged before
+pub front_counted : (a b : NodeId) (c : Content) (acked : List Bool) (ks : List ℕ) (front : ℕ) (steps : List GroupStep) → IsFront acked front → steps ≡ steps ++ counts_acknowledged a b (is_newly c acked) 1 0 (take front ks)
+front_counted a b c acked ks front steps was =
+    sym (ap (λ xs. steps ++ xs) (counted_alike a b (is_newly c acked) (λ m. false) 1 0 (take front ks) old ∙ counted_none a b 1 0 (take front ks)) ∙ append-nil steps)
+  where
+    old : (i : ℕ) → i < length (take front ks) → is_newly c acked (1 + i) ≡ false
+    old i lt =
+        let place : 1 + i - 1 ≡ i = omega arith in
+        let within : i < front = omega (arith, lt, length-take front ks) in
+        ap (λ n. covers c.base c.mask (1 + i) && not (get_or acked n false)) place ∙ (ap (λ t. covers c.base c.mask (1 + i) && not t) (was.all i within) ∙ and-false (covers c.base c.mask (1 + i)))
+
+-- what a packet acknowledges, by what is kept of the frames for its sender
+pub acknowledged_is : (plan : Plan) (g : Addr) (past : List Happened) (a : NodeId) (c : Content) (n : ℕ) (f : Frames) → n ≡ c.from → KeepsFrames plan g n past f
+    → counts_acknowledged a (node_numbered c.from) (is_newly c f.acked.items) 1 0 f.counts.items ≡ acknowledges plan g past a c
+acknowledged_is plan g past a c n f is kept =
+    counted_alike a (node_numbered c.from) (is_newly c f.acked.items) (is_new_ack plan.cluster_key past c) 1 0 f.counts.items alike
+    ∙ (ap (counts_acknowledged a (node_numbered c.from) (is_new_ack plan.cluster_key past c) 1 0) (kept.counts ∙ ap (λ m. counted g (frames_to plan.cluster_key m past)) is)
+    ∙ sym (all_counted g a (node_numbered c.from) (is_new_ack plan.cluster_key past c) 1 0 (frames_to plan.cluster_key c.from past)))
+  where
+    alike : (i : ℕ) → i < length f.counts.items → is_newly c f.acked.items (1 + i) ≡ is_new_ack plan.cluster_key past c (1 + i)
+    alike i lt =
+        let place : 1 + i - 1 ≡ i = omega arith in
+        let number : i + 1 ≡ 1 + i = omega arith in
+        ap (λ m. covers c.base c.mask (1 + i) && not (get_or f.acked.items m false)) place
+        ∙ ap (λ t. covers c.base c.mask (1 + i) && not t) (kept.acked i lt ∙ (ap (λ m. is_acked plan.cluster_key n m past) number ∙ ap (λ m. is_acked plan.cluster_key m (1 + i) past) is))
+
+-- the place of a frame's items
+before_is : (plan : Plan) (g : Addr) (past : List Happened) (b n : ℕ) (f : Frames) → KeepsFrames plan g b past f → sum (take n f.counts.items) ≡ offset g (frames_to plan.cluster_key b past) n
+before_is plan g past b n f kept = ap (λ ks. sum (take n ks)) kept.counts ∙ sym (offset_is g (frames_to plan.cluster_key b past) n)
+
+-- what a frame brings
+pub brought_is : (plan : Plan) (g : Addr) (run : List Did) (a : NodeId) (c : Content) (from : NodeId) (place n count : ℕ) (f : Frames) → from ≡ node_numbered c.from → n ≡ c.frame - 1 → place ≡ sum (take n f.counts.items) → count ≡ length (group_items g c.items)
+    → KeepsFrames plan g a.number (past_at from run) f → comes from a place count ≡ brings plan g run a c
+brought_is plan g run a c from place n count f is number placed counts kept =
+    ap (λ p. comes from a p count) (placed ∙ before_is plan g (past_at from run) a.number n f kept)
+    ∙ (ap (comes from a (offset g (frames_to plan.cluster_key a.number (past_at from run)) n)) counts
+    ∙ (ap (λ m. comes from a (offset g (frames_to plan.cluster_key a.number (past_at from run)) m) (length (group_items g c.items))) number
+    ∙ ap (λ (b : NodeId). comes b a (offset g (frames_to plan.cluster_key a.number (past_at b run)) (c.frame - 1)) (length (group_items g c.items))) is))

@@ -1,12 +1,9 @@
 -- Frames and a group's items in them.
-use Rattle.std.proofs.Common.{◌≡◌, ℕ, Bool, false, List, [], ◌∷◌, ◌++◌, refl, ◌∙◌, ap, sym}
-use Rattle.std.specs.List.{list_any}
-use Rattle.std.proofs.Math.Bool.{or-false}
+use Rattle.std.proofs.Common.{◌≡◌, ℕ, List, [], ◌∷◌, ◌++◌, refl, ◌∙◌, ap, sym}
 use Rattle.std.proofs.lemmas.List.{append-nil}
 use Rattle.gb_types.specs.declared.address.Addr.{Addr}
 use Rattle.gb_types.specs.declared.entry.Entry.{Entry}
 use Rattle.gb_types.specs.declared.node.NodeId.{NodeId}
-use Rattle.gb_frame.specs.Packet.{Content}
 use Rattle.gb_frame.specs.declared.item.Item.{Item}
 use Rattle.gb_node.specs.Past.{Happened, packed_for, frames_to}
 use Rattle.gb_cluster.specs.Run.{past_at}
@@ -29,10 +26,3 @@ no_frame g fs xs is = sym (ap (λ ys. xs ++ ys) (ap (group_items_of g) is ∙ gr
 pub no_items : (g : Addr) (key : List ℕ) (b : ℕ) (a : NodeId) → group_items_of g (frames_to key b (past_in a [])) ≡ []
 unfolding group_items_of frames_to past_at
 no_items g key b a = refl
-
--- whether a packet passes a test, of none and of one
-pub any_none : (p : Content → Bool) (cs : List Content) → cs ≡ [] → list_any p cs ≡ false
-any_none p cs is = ap (list_any p) is
-
-pub any_one : (p : Content → Bool) (cs : List Content) (c : Content) → cs ≡ c ∷ [] → list_any p cs ≡ p c
-any_one p cs c is = ap (list_any p) is ∙ or-false (p c)

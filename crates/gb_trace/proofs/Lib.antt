@@ -9,3 +9,5 @@ pub mod AskedLemmas
 pub mod RunLemmas
 pub mod RefusedLemmas
 pub mod LogLemmas
+pub mod KeptFrameLemmas
+pub mod KeptLemmas

@@ -1,20 +1,20 @@
 //! What requests add to the projection of a run on a group.
-ghost use Rattle.std.specs.Prelude.{◌≡◌, ◌≤◌, ◌++◌, [], ◌∷◌, true, IfOk, OnOk, if◌then◌else◌};
+ghost use Rattle.std.specs.Prelude.{◌≡◌, ◌++◌, [], ◌∷◌, IfOk, OnOk, if◌then◌else◌};
 ghost use Rattle.std.specs.Option.{option_to_list};
-ghost use Rattle.gb_types.specs.declared.limits.TheConstants.{SILENCE_MIN as LEAST};
-ghost use Rattle.gb_types.specs.declared.address.Addr.{Addr as AnyAddr};
 ghost use Rattle.gb_alone.specs.declared.event.GroupEvent.TheVariants.{Stop as Ends};
-ghost use Rattle.gb_isolation.specs.Project.{command_for, made_by, is_own_request as is_own, is_noticed_at, ticked, tenant_given, other_given, with_stop, is_met, asked};
+ghost use Rattle.gb_isolation.specs.Project.{command_for, made_by, is_own_request as is_own, is_noticed_at, ticked, tenant_given, other_given, with_stop, asked};
 ghost use Rattle.gb_node.specs.declared.answer.NodeAnswer.TheVariants.{Reply as Replied};
 ghost use Rattle.gb_node.specs.declared.event.NodeEvent.TheVariants.{Request as Asked};
 ghost use Rattle.gb_trace.specs.Deeds.{past_in};
+ghost use Rattle.gb_trace.specs.Kept.{KeepsLinks, KeepsNode};
 
 use crate::deed::Deed;
+use crate::kept::NodeKept;
+use crate::links::Link;
 use crate::noticed::add_noticed;
-use crate::past::{is_own_request, made, was_met, was_stopped};
+use crate::past::{is_own_request, made};
 use crate::steps::{add, at};
 use gb_alone::{GroupEvent, GroupStep};
-use gb_cap::HmacKey;
 use gb_rules::Reserve;
 use gb_rules::room::is_other_generation;
 use gb_types::{Addr, NodeId, OutOfMemory, Plan, Reply, Request};
@@ -22,7 +22,7 @@ use std::alloc::Global;
 
 /// Returns the command that `request` makes for a group at the node `a`. `Ok(None)` if the request names no group.
 fn command(alloc: Global, a: NodeId, request: &Request) -> Result<Option<GroupStep>, OutOfMemory>
-    ensures { (addr : AnyAddr) → IfOk result (λ s. option_to_list s ≡ command_for a request.now) }
+    ensures { IfOk result (λ s. option_to_list s ≡ command_for a request.now) }
 {
     Ok(match request {
         Request::AddTenant(_, _) => None,
@@ -36,26 +36,26 @@ fn command(alloc: Global, a: NodeId, request: &Request) -> Result<Option<GroupSt
 }
 
 /// Adds the group's steps from a request of the group, with its reply, at a running node. If the request makes the group, these
-/// include the notices of the members that are noticed there.
+/// include the notices of the members that are noticed there. `before` is what happened before, and `links` what is kept of the
+/// node's links.
 fn of_own(
     alloc: Global,
     plan: &Plan,
     addr: Addr,
-    key: &HmacKey,
     before: &[Deed],
+    links: &[Link],
     a: NodeId,
     request: &Request,
     reply: &Reply,
     steps: &mut Vec<GroupStep>,
 ) -> Result<(), OutOfMemory>
-    requires least { LEAST ≤ plan.now.silence }
-    requires key { key.now ≡ plan.now.cluster_key }
+    requires { KeepsLinks plan.now addr (past_in a before.now) links.now }
     ensures { OnOk result (steps.new.items ≡ steps.old.items ++ (command_for a request.now ++ ticked a (is_noticed_at plan.now a (past_in a before.now)) (made_by addr (Asked request.now) (Replied reply.now)))) }
 {
     add(command(alloc, a, request)?, steps)?;
     match made(addr, request, reply) {
         None => Ok(()),
-        Some(spec) => add_noticed(plan, key, a, spec, before, steps),
+        Some(spec) => add_noticed(plan, addr, a, spec, before, links, steps),
     }
 }
 
@@ -97,26 +97,36 @@ fn other(addr: Addr, a: NodeId, request: &Request, reply: &Reply) -> Option<Grou
     }
 }
 
-/// Adds the group's steps from a request, with its reply, at a running node.
+/// Adds the group's steps from a request, with its reply, at a running node. `before` is what happened before, and `node` what is
+/// kept of it at the node.
 fn of_running(
     alloc: Global,
     plan: &Plan,
     addr: Addr,
-    key: &HmacKey,
     before: &[Deed],
+    node: &NodeKept,
     a: NodeId,
     request: &Request,
     reply: &Reply,
     steps: &mut Vec<GroupStep>,
 ) -> Result<(), OutOfMemory>
-    requires least { LEAST ≤ plan.now.silence }
-    requires key { key.now ≡ plan.now.cluster_key }
+    requires { KeepsNode plan.now addr a (past_in a before.now) node.now }
     ensures { OnOk result (steps.new.items ≡ steps.old.items ++ (tenant_given addr a request.now reply.now ++ (other_given addr a request.now reply.now ++ (if is_own a addr (past_in a before.now) request.now then command_for a request.now ++ ticked a (is_noticed_at plan.now a (past_in a before.now)) (made_by addr (Asked request.now) (Replied reply.now)) else [])))) }
 {
     add(tenant(addr, a, request, reply), steps)?;
     add(other(addr, a, request, reply), steps)?;
-    if is_own_request(addr, a, before, request) {
-        of_own(alloc, plan, addr, key, before, a, request, reply, steps)?;
+    if is_own_request(addr, a, before, node.row.as_ref(), request) {
+        of_own(
+            alloc,
+            plan,
+            addr,
+            before,
+            &node.links,
+            a,
+            request,
+            reply,
+            steps,
+        )?;
     }
     Ok(())
 }
@@ -131,45 +141,45 @@ fn add_stop(a: NodeId, met: bool, steps: &mut Vec<GroupStep>) -> Result<(), OutO
     Ok(())
 }
 
-/// Adds the group's steps from a request of the group at a node that has stopped. The first such request also adds the stop.
+/// Adds the group's steps from a request of the group at a node that has stopped. This includes the stop, unless a request of the
+/// group met it before (`met`).
 fn of_stopped(
     alloc: Global,
-    addr: Addr,
-    before: &[Deed],
     a: NodeId,
+    met: bool,
     request: &Request,
     steps: &mut Vec<GroupStep>,
 ) -> Result<(), OutOfMemory>
-    ensures { OnOk result (steps.new.items ≡ steps.old.items ++ with_stop a (is_met a addr (past_in a before.now)) (command_for a request.now)) }
+    ensures { OnOk result (steps.new.items ≡ steps.old.items ++ with_stop a met (command_for a request.now)) }
 {
     if let Some(step) = command(alloc, a, request)? {
-        add_stop(a, was_met(addr, a, before), steps)?;
+        add_stop(a, met, steps)?;
         steps.push(step)?;
     }
     Ok(())
 }
 
-/// Adds the group's steps from `request`, with its reply, at the node `a`. `before` is what happened before.
+/// Adds the group's steps from `request`, with its reply, at the node `a`. `before` is what happened before, and `node` what is kept
+/// of it at the node.
 pub(crate) fn of_request(
     alloc: Global,
     plan: &Plan,
     addr: Addr,
-    key: &HmacKey,
     before: &[Deed],
+    node: &NodeKept,
     a: NodeId,
     request: &Request,
     reply: &Reply,
     steps: &mut Vec<GroupStep>,
 ) -> Result<(), OutOfMemory>
-    requires least { LEAST ≤ plan.now.silence }
-    requires key { key.now ≡ plan.now.cluster_key }
+    requires { KeepsNode plan.now addr a (past_in a before.now) node.now }
     ensures { OnOk result (steps.new.items ≡ steps.old.items ++ asked a addr (is_noticed_at plan.now a (past_in a before.now)) (past_in a before.now) request.now reply.now) }
 {
-    if !was_stopped(a, before) {
-        return of_running(alloc, plan, addr, key, before, a, request, reply, steps);
+    if !node.stopped {
+        return of_running(alloc, plan, addr, before, node, a, request, reply, steps);
     }
-    if is_own_request(addr, a, before, request) {
-        return of_stopped(alloc, addr, before, a, request, steps);
+    if is_own_request(addr, a, before, node.row.as_ref(), request) {
+        return of_stopped(alloc, a, node.met, request, steps);
     }
     Ok(())
 }

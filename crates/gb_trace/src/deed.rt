@@ -1,5 +1,5 @@
 //! What happened at nodes, read from events, answers and packets.
-ghost use Rattle.std.specs.Prelude.{◌≡◌, ◌++◌, ◌&&◌, nat_eq, IfOk, OnOk, Some, None, MatchOption};
+ghost use Rattle.std.specs.Prelude.{◌≡◌, ◌++◌, nat_eq, IfOk, OnOk, Some, None, MatchOption};
 ghost use Rattle.gb_cluster.specs.ClusterStep.{packet_numbered};
 ghost use Rattle.gb_trace.specs.Trace.{sent_as, own_answer, did_with, did_in, all_did};
 

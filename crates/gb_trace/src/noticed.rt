@@ -1,19 +1,18 @@
 //! The notices in the projection of a run on a group.
-ghost use Rattle.std.specs.Prelude.{◌≡◌, ◌≤◌, ◌++◌, ◌&&◌, [], ◌∷◌, OnOk, if◌then◌else◌};
+ghost use Rattle.std.specs.Prelude.{◌≡◌, ◌++◌, ◌&&◌, [], ◌∷◌, OnOk, if◌then◌else◌};
 ghost use Rattle.std.specs.FinSet as set;
-ghost use Rattle.gb_types.specs.declared.limits.TheConstants.{SILENCE_MIN as LEAST};
+ghost use Rattle.std.specs.Option.{option_copied};
 ghost use Rattle.gb_rules.specs.Group.{is_other};
 ghost use Rattle.gb_alone.specs.declared.event.GroupEvent.TheVariants.{Notice};
 ghost use Rattle.gb_isolation.specs.Project.{is_noticed_at, notices, ticked};
-ghost use Rattle.gb_isolation.specs.Project as projected;
 ghost use Rattle.gb_trace.specs.Deeds.{past_in};
+ghost use Rattle.gb_trace.specs.Kept.{KeepsLinks};
 
 use crate::deed::Deed;
-use crate::past::made_with;
+use crate::links::Link;
 use crate::silence::was_noticed;
 use crate::steps::at;
 use gb_alone::{GroupEvent, GroupStep};
-use gb_cap::HmacKey;
 use gb_types::limits::NODES;
 use gb_types::{Addr, NodeId, NodeSet, OutOfMemory, Plan, Spec};
 
@@ -33,22 +32,23 @@ fn add_notice(
     Ok(())
 }
 
-/// Adds the notices of the members that are noticed at the node `a`.
+/// Adds the notices of the members that are noticed at the node `a`. `before` is what happened before, and `links` what is kept of
+/// the links of `a`.
 pub(crate) fn add_noticed(
     plan: &Plan,
-    key: &HmacKey,
+    addr: Addr,
     a: NodeId,
     spec: &Spec,
     before: &[Deed],
+    links: &[Link],
     steps: &mut Vec<GroupStep>,
 ) -> Result<(), OutOfMemory>
-    requires least { LEAST ≤ plan.now.silence }
-    requires key { key.now ≡ plan.now.cluster_key }
+    requires { KeepsLinks plan.now addr (past_in a before.now) links.now }
     ensures { OnOk result (steps.new.items ≡ steps.old.items ++ notices a spec.now (is_noticed_at plan.now a (past_in a before.now))) }
 {
     for b in 0..NODES {
         let other = NodeId::new(b as u8);
-        let new = was_noticed(plan, key, a, other, before);
+        let new = was_noticed(plan, addr, a, other, before, links);
         add_notice(a, spec, other, new, steps)?;
     }
     Ok(())
@@ -70,17 +70,17 @@ fn add_found(
     Ok(())
 }
 
-/// Adds the group's steps from a tick that noticed the nodes `found`, if the group was made at the node.
+/// Adds the group's steps from a tick that noticed the nodes `found`. `made` is the spec with which the group was made at the node,
+/// if it was.
 pub(crate) fn of_tick(
-    addr: Addr,
-    before: &[Deed],
     a: NodeId,
+    made: Option<&Spec>,
     found: &NodeSet,
     steps: &mut Vec<GroupStep>,
 ) -> Result<(), OutOfMemory>
-    ensures { OnOk result (steps.new.items ≡ steps.old.items ++ ticked a (set.contains found.now) (projected.made_with addr (past_in a before.now))) }
+    ensures { OnOk result (steps.new.items ≡ steps.old.items ++ ticked a (set.contains found.now) (option_copied made.entry)) }
 {
-    match made_with(addr, a, before) {
+    match made {
         None => Ok(()),
         Some(spec) => add_found(a, spec, found, steps),
     }

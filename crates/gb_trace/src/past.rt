@@ -1,8 +1,8 @@
-//! Questions about a node's past. `deeds` is all that happened in a run so far, in order.
+//! Questions about what happened at a node, one thing at a time, and about its requests.
 ghost use Rattle.std.specs.Prelude.{◌≡◌, ◌&&◌, List};
 ghost use Rattle.std.specs.Option.{option_copied};
 ghost use Rattle.gb_rules.specs.Tenant.{row_of};
-ghost use Rattle.gb_node.specs.Past.{added, tenants_in, is_stopped};
+ghost use Rattle.gb_node.specs.Past.{added, tenants_in};
 ghost use Rattle.gb_node.specs.Past as occurred;
 ghost use Rattle.gb_table.specs.Admission.{has_group_token, is_by_row};
 ghost use Rattle.gb_types.specs.declared.spec.TenantRow.{TenantRow as RowValue};
@@ -10,13 +10,15 @@ ghost use Rattle.gb_node.specs.declared.answer.NodeAnswer.TheVariants.{Reply as 
 ghost use Rattle.gb_node.specs.declared.event.NodeEvent.TheVariants.{Request as Asked};
 ghost use Rattle.gb_isolation.specs.Project as projected;
 ghost use Rattle.gb_trace.specs.Deeds.{past_in};
+ghost use Rattle.gb_trace.specs.Kept.{KeepsNode};
 
 use crate::deed::Deed;
+use crate::kept::NodeKept;
 use gb_cap::token::admits;
 use gb_cap::{Need, Token};
 use gb_node::{Halted, NodeAnswer, NodeEvent};
 use gb_rules::address::is_same;
-use gb_types::{Addr, NodeId, Reply, Request, Spec, TenantRow};
+use gb_types::{Addr, NodeId, Plan, Reply, Request, Spec, TenantRow};
 
 /// Returns the row of the tenant, if the request with its reply added it.
 pub(crate) fn row_added<'a>(
@@ -54,21 +56,6 @@ pub(crate) fn row_in(tenant: u16, deed: &Deed) -> Option<&TenantRow>
     }
 }
 
-/// Returns the row of the tenant at the node, or `None` if the tenant was not added there.
-#[tactic(auto, using(crate::proofs::PastLemmas::here, crate::proofs::PastLemmas::elsewhere, crate::proofs::PastLemmas::whole, crate::proofs::PastLemmas::find_later), unfolding(gb_node::specs::Past::tenants_in, gb_cluster::specs::Run::past_at))]
-pub(crate) fn row_at(a: NodeId, tenant: u16, deeds: &[Deed]) -> Option<&TenantRow>
-    ensures { option_copied result ≡ row_of tenant (tenants_in (past_in a deeds.now)) }
-{
-    let mut found = None;
-    for i in 0..deeds.len() {
-        let deed = &deeds[i];
-        if deed.is_at(a) {
-            found = found.or(row_in(tenant, deed));
-        }
-    }
-    found
-}
-
 /// Returns true if `row` is there and `token` is the token for `need` under its key.
 fn is_token(need: Need, token: &Token, row: Option<&TenantRow>) -> bool
     ensures { result ≡ is_by_row need token.now (option_copied row.entry) }
@@ -100,15 +87,23 @@ pub(crate) fn is_own_by(addr: Addr, a: NodeId, row: Option<&TenantRow>, request:
     is_same(addr, *named) && is_token(need, token, row)
 }
 
-/// Returns true if the request is one of the group at the node: it names the group and has the token that it needs there.
-pub(crate) fn is_own_request(addr: Addr, a: NodeId, deeds: &[Deed], request: &Request) -> bool
-    ensures { result ≡ projected.is_own_request a addr (past_in a deeds.now) request.now }
+/// Returns true if the request is one of the group at the node: it names the group and has the token that it needs there. `row`
+/// is the row of the group's tenant at the node, and `before` is what happened before.
+pub(crate) fn is_own_request(
+    addr: Addr,
+    a: NodeId,
+    before: &[Deed],
+    row: Option<&TenantRow>,
+    request: &Request,
+) -> bool
+    requires { option_copied row ≡ row_of addr.tenant (tenants_in (past_in a before.now)) }
+    ensures { result ≡ projected.is_own_request a addr (past_in a before.now) request.now }
 {
-    is_own_by(addr, a, row_at(a, addr.tenant, deeds), request)
+    is_own_by(addr, a, row, request)
 }
 
 /// Returns true if the node stopped by `deed`.
-fn stops(deed: &Deed) -> bool
+pub(crate) fn stops(deed: &Deed) -> bool
     ensures { result ≡ occurred.stops deed.now.event deed.now.answer }
 {
     match deed.event() {
@@ -120,25 +115,11 @@ fn stops(deed: &Deed) -> bool
     }
 }
 
-/// Returns true if the node has stopped.
-#[tactic(auto, using(crate::proofs::PastLemmas::here, crate::proofs::PastLemmas::elsewhere, crate::proofs::PastLemmas::whole), unfolding(gb_node::specs::Past::is_stopped, gb_cluster::specs::Run::past_at))]
-pub(crate) fn was_stopped(a: NodeId, deeds: &[Deed]) -> bool
-    ensures { result ≡ is_stopped (past_in a deeds.now) }
-{
-    let mut stopped = false;
-    for i in 0..deeds.len() {
-        let deed = &deeds[i];
-        if deed.is_at(a) {
-            stopped = stops(deed) || stopped;
-        }
-    }
-    stopped
-}
-
-/// Returns true if `deed` is a request of the group at the node `a`, after the node had stopped. `before` is what happened
-/// before.
-fn meets(addr: Addr, a: NodeId, before: &[Deed], deed: &Deed) -> bool
-    ensures { result ≡ projected.is_met_by a addr (past_in a before.now) deed.now.event deed.now.answer }
+/// Returns true if `deed` is a request of the group, after the node where it happened had stopped. `before` is what happened
+/// before, and `node` what is kept of it at that node.
+pub(crate) fn meets(plan: &Plan, addr: Addr, before: &[Deed], node: &NodeKept, deed: &Deed) -> bool
+    requires { KeepsNode plan.now addr deed.now.node (past_in deed.now.node before.now) node.now }
+    ensures { result ≡ projected.is_met_by deed.now.node addr (past_in deed.now.node before.now) deed.now.event deed.now.answer }
 {
     let NodeEvent::Request(request) = deed.event() else {
         return false;
@@ -146,22 +127,7 @@ fn meets(addr: Addr, a: NodeId, before: &[Deed], deed: &Deed) -> bool
     let NodeAnswer::Reply(_) = deed.answer() else {
         return false;
     };
-    was_stopped(a, before) && is_own_request(addr, a, before, request)
-}
-
-/// Returns true if a request of the group met the node's stop.
-#[tactic(auto, using(crate::proofs::PastLemmas::here, crate::proofs::PastLemmas::elsewhere, crate::proofs::PastLemmas::whole), unfolding(gb_isolation::specs::Project::is_met, gb_cluster::specs::Run::past_at))]
-pub(crate) fn was_met(addr: Addr, a: NodeId, deeds: &[Deed]) -> bool
-    ensures { result ≡ projected.is_met a addr (past_in a deeds.now) }
-{
-    let mut met = false;
-    for i in 0..deeds.len() {
-        let deed = &deeds[i];
-        if deed.is_at(a) {
-            met = meets(addr, a, &deeds[..i], deed) || met;
-        }
-    }
-    met
+    node.stopped && is_own_request(addr, deed.node(), before, node.row.as_ref(), request)
 }
 
 /// Returns the spec with which the request makes the group, or `None` if it, with its reply, does not make it.
@@ -184,7 +150,7 @@ pub(crate) fn made<'a>(addr: Addr, request: &'a Request, reply: &Reply) -> Optio
 }
 
 /// Returns the spec with which `deed` makes the group, or `None` if it does not make it.
-fn makes(addr: Addr, deed: &Deed) -> Option<&Spec>
+pub(crate) fn makes(addr: Addr, deed: &Deed) -> Option<&Spec>
     ensures { option_copied result ≡ projected.made_by addr deed.now.event deed.now.answer }
 {
     match deed.event() {
@@ -194,19 +160,4 @@ fn makes(addr: Addr, deed: &Deed) -> Option<&Spec>
         },
         _ => None,
     }
-}
-
-/// Returns the spec with which the group was made at the node, or `None` if it was not made there.
-#[tactic(auto, using(crate::proofs::PastLemmas::here, crate::proofs::PastLemmas::elsewhere, crate::proofs::PastLemmas::whole), unfolding(gb_isolation::specs::Project::made_with, gb_cluster::specs::Run::past_at))]
-pub(crate) fn made_with(addr: Addr, a: NodeId, deeds: &[Deed]) -> Option<&Spec>
-    ensures { option_copied result ≡ projected.made_with addr (past_in a deeds.now) }
-{
-    let mut made = None;
-    for i in 0..deeds.len() {
-        let deed = &deeds[i];
-        if deed.is_at(a) {
-            made = makes(addr, deed).or(made);
-        }
-    }
-    made
 }

@@ -1,5 +1,5 @@
 //! The packets that were packed and that came, read from their texts, and the items of a group in them.
-ghost use Rattle.std.specs.Prelude.{◌≡◌, ◌++◌, [], ◌∷◌, length, IfOk, OnOk, MatchOption};
+ghost use Rattle.std.specs.Prelude.{ℕ, ◌≡◌, ◌++◌, List, [], ◌∷◌, false, length, nat_eq, IfOk, OnOk, MatchOption};
 ghost use Rattle.gb_frame.specs.Packet.{item_of};
 ghost use Rattle.gb_frame.specs.Items.{entry_of, names};
 ghost use Rattle.gb_node.specs.NodeStep.{node_numbered};
@@ -53,6 +53,16 @@ pub(crate) fn packed<'a>(key: &HmacKey, b: NodeId, deed: &'a Deed) -> Option<Pac
         return None;
     }
     read(key, text.as_slice())
+}
+
+/// Returns the node for which `deed` may have packed a packet, or `None` if it packed none.
+pub(crate) fn target(deed: &Deed) -> Option<NodeId>
+    ensures { MatchOption result ((key : List ℕ) (b : ℕ) → past.packed_for key b deed.now.event deed.now.answer ≡ []) (λ to. (key : List ℕ) (b : ℕ) → nat_eq to.number b ≡ false → past.packed_for key b deed.now.event deed.now.answer ≡ []) }
+{
+    match deed.event() {
+        NodeEvent::Pack(to) => Some(*to),
+        _ => None,
+    }
 }
 
 /// Returns true if the item is the group's.

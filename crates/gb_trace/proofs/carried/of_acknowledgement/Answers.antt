@@ -1,4 +1,4 @@
-use Rattle.std.proofs.Common.{◌≡◌, ◌++◌, ◌∙◌, List, subst}
+use Rattle.std.proofs.Common.{◌≡◌, ◌++◌, List, subst}
 use Rattle.std.specs.Prelude.{OnOk}
 use Rattle.gb_alone.specs.declared.event.GroupStep.{GroupStep}
 use Rattle.gb_trace.specs.Deeds.{past_in}
@@ -8,5 +8,5 @@ use Rattle.gb_trace.proofs.carried.of_acknowledgement.Goals as goal
 pub returns : goal.returns
 returns c =
     subst (λ (xs : List GroupStep). OnOk c.add_all_acknowledged.result (c.add_all_acknowledged.new.steps.items ≡ c.args.steps.now.items ++ xs))
-    (acknowledged_is c.args.plan.now c.args.addr (past_in c.args.a c.args.before.now) c.args.a c.args.packet.now c.args.key.now c.as_slice.result.now c.sender.result.number c.requires c.sender.ensures.number (c.as_slice.ensures.value ∙ c.in_ok-counts.ensures))
+    (acknowledged_is c.args.plan.now c.args.addr (past_in c.args.a c.args.before.now) c.args.a c.args.packet.now c.sender.result.number c.link_at-link.result.now.frames c.sender.ensures.number c.link_at-link.ensures.frames)
     c.add_all_acknowledged.ensures

@@ -1,8 +1,5 @@
-use Rattle.std.proofs.Common.{◌<◌, ◌||◌, ◌∙◌, Bool, length, take, ap, sym, arith, get_or, None}
-use Rattle.gb_types.specs.declared.node.NodeId.{NodeId}
-use Rattle.gb_rules.specs.Tenant.{row_of}
-use Rattle.gb_trace.specs.Kept.{AreRows}
-use Rattle.gb_trace.specs.Refused.{is_refused_for, rows_by}
+use Rattle.std.proofs.Common.{◌<◌, ◌||◌, ◌∙◌, Bool, length, take, ap, sym, arith}
+use Rattle.gb_trace.specs.Refused.{is_refused_for}
 use Rattle.gb_trace.specs.Trace.{run_of}
 use Rattle.gb_trace.proofs.RefusedLemmas.{refused_more, none_refused, rows_begin, rows_go_on}
 use Rattle.gb_trace.proofs.refused.refused_for.Goals as goal

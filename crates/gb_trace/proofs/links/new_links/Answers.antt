@@ -1,0 +1,16 @@
+use Rattle.std.proofs.Common.{◌≡◌, ◌∙◌, arith}
+use Rattle.gb_types.specs.declared.limits.TheConstants.{NODES}
+use Rattle.gb_trace.specs.Kept.{IsBare}
+use Rattle.gb_trace.proofs.KeptLemmas.{so_far_none, so_far_on}
+use Rattle.gb_trace.proofs.links.new_links.Goals as goal
+
+pub loop-init : goal.loop-init
+loop-init c = rw c.new-links.ensures.items (so_far_none IsBare)
+
+pub loop-preserved : goal.loop-preserved
+loop-preserved c = so_far_on IsBare c.loop.links.items c.push.new.self.items c.new.result c.loop.counter c.in_ok-push.ensures.items c.new.ensures c.loop.invariant
+
+pub returns : goal.returns
+returns c =
+    let all : c.loop.counter ≡ NODES = omega arith in
+    record { many = c.loop.invariant.many ∙ all; each = λ n d lt. c.loop.invariant.each n d (omega (arith, lt, all)) }

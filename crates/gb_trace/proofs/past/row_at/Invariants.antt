@@ -1,9 +1,0 @@
-use Rattle.std.proofs.Common.{◌≡◌, take}
-use Rattle.std.specs.Option.{option_copied}
-use Rattle.gb_rules.specs.Tenant.{row_of}
-use Rattle.gb_node.specs.Past.{tenants_in}
-use Rattle.gb_trace.specs.Deeds.{past_in}
-use Rattle.gb_trace.proofs.past.row_at.Given as goal
-
-abbrev pub invariant-loop-i : goal.invariant-loop-i
-invariant-loop-i l = option_copied l.found ≡ row_of l.tenant (tenants_in (past_in l.a (take l.i l.deeds)))

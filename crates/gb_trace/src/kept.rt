@@ -1,0 +1,131 @@
+//! What is kept of a run for its projection on a group, so that no question about the past needs to look back at what happened.
+ghost use Rattle.std.specs.Prelude.{◌≡◌, ◌≤◌, ◌∷◌, ◌||◌, IfOk, OnOk, reverse};
+ghost use Rattle.std.specs.Option.{option_or};
+ghost use Rattle.gb_types.specs.declared.limits.TheConstants.{SILENCE_MIN as LEAST};
+ghost use Rattle.gb_isolation.specs.Project.{made_by};
+ghost use Rattle.gb_trace.specs.Deeds.{past_in};
+ghost use Rattle.gb_trace.specs.Kept.{AreNew, IsNew, Keeps, KeepsNode};
+
+use crate::deed::Deed;
+use crate::links::{Link, keep_links, new_links};
+use crate::past::{makes, meets, row_in, stops};
+use gb_cap::HmacKey;
+use gb_types::limits::NODES;
+use gb_types::{Addr, NodeId, OutOfMemory, Plan, Spec, TenantRow};
+use std::alloc::Global;
+
+/// What is kept of what happened at a node.
+#[derive(Drop)]
+pub(crate) struct NodeKept {
+    /// The row of the group's tenant, if it was added.
+    pub row: Option<TenantRow>,
+    /// True if the node stopped.
+    pub stopped: bool,
+    /// True if a request of the group met the node's stop.
+    pub met: bool,
+    /// The spec with which the group was made last, if it was made.
+    pub made: Option<Spec>,
+    /// The link between this node and each other node.
+    pub links: Vec<Link>,
+}
+
+/// Returns what is kept of a node where nothing has happened.
+fn new_node(alloc: Global) -> Result<NodeKept, OutOfMemory>
+    ensures { IfOk result IsNew }
+{
+    Ok(NodeKept {
+        row: None,
+        stopped: false,
+        met: false,
+        made: None,
+        links: new_links(alloc)?,
+    })
+}
+
+/// Returns what is kept of each node before anything has happened.
+pub(crate) fn new_nodes(alloc: Global) -> Result<Vec<NodeKept>, OutOfMemory>
+    ensures { IfOk result (λ v. AreNew v.items) }
+{
+    let mut nodes = Vec::new(alloc);
+    for _ in 0..NODES {
+        nodes.push(new_node(alloc)?)?;
+    }
+    Ok(nodes)
+}
+
+/// Returns true if `first` or `second` is true.
+fn either(first: bool, second: bool) -> bool
+    ensures { result ≡ (first || second) }
+{
+    first || second
+}
+
+/// Keeps the spec with which `deed` makes the group, if it does.
+fn keep_made(addr: Addr, deed: &Deed, made: &mut Option<Spec>)
+    ensures { made.new ≡ option_or (made_by addr deed.now.event deed.now.answer) made.old }
+{
+    if let Some(spec) = makes(addr, deed) {
+        *made = Some(spec.duplicate());
+    }
+}
+
+/// Takes in `deed`, which happened at this node. `before` is what happened before.
+fn keep_at(
+    plan: &Plan,
+    addr: Addr,
+    key: &HmacKey,
+    before: &[Deed],
+    deed: &Deed,
+    node: &mut NodeKept,
+) -> Result<(), OutOfMemory>
+    requires least { LEAST ≤ plan.now.silence }
+    requires key { key.now ≡ plan.now.cluster_key }
+    requires kept { KeepsNode plan.now addr deed.now.node (past_in deed.now.node before.now) node.old }
+    ensures { OnOk result (KeepsNode plan.now addr deed.now.node (record { event = deed.now.event; answer = deed.now.answer } ∷ past_in deed.now.node before.now) node.new) }
+{
+    let met = meets(plan, addr, before, node, deed);
+    keep_links(plan, addr, key, before, deed, &mut node.links)?;
+    node.row = node.row.or(row_in(addr.tenant, deed).copied());
+    node.stopped = either(stops(deed), node.stopped);
+    node.met = either(met, node.met);
+    keep_made(addr, deed, &mut node.made);
+    Ok(())
+}
+
+/// Takes in `deed`. `before` is what happened before.
+pub(crate) fn keep(
+    plan: &Plan,
+    addr: Addr,
+    key: &HmacKey,
+    before: &[Deed],
+    deed: &Deed,
+    nodes: &mut Vec<NodeKept>,
+) -> Result<(), OutOfMemory>
+    requires least { LEAST ≤ plan.now.silence }
+    requires key { key.now ≡ plan.now.cluster_key }
+    requires kept { Keeps plan.now addr (reverse before.now) nodes.old.items }
+    ensures { OnOk result (Keeps plan.now addr (deed.now ∷ reverse before.now) nodes.new.items) }
+{
+    keep_at(
+        plan,
+        addr,
+        key,
+        before,
+        deed,
+        &mut nodes[deed.node().index()],
+    )
+}
+
+/// Returns what is kept of the node `a`. `before` is what happened before, and `nodes` what is kept of it.
+pub(crate) fn node_at<'a>(
+    plan: &Plan,
+    addr: Addr,
+    before: &[Deed],
+    nodes: &'a [NodeKept],
+    a: NodeId,
+) -> &'a NodeKept
+    requires { Keeps plan.now addr (reverse before.now) nodes.now }
+    ensures { KeepsNode plan.now addr a (past_in a before.now) result.now }
+{
+    &nodes[a.index()]
+}

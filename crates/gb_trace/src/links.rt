@@ -1,0 +1,153 @@
+//! What is kept of the links of a node, one for each other node.
+ghost use Rattle.std.specs.Prelude.{◌≡◌, ◌≤◌, [], ◌∷◌, IfOk, OnOk};
+ghost use Rattle.gb_types.specs.declared.limits.TheConstants.{SILENCE_MIN as LEAST};
+ghost use Rattle.gb_node.specs.Past as past;
+ghost use Rattle.gb_trace.specs.Deeds.{past_in};
+ghost use Rattle.gb_trace.specs.Kept.{AreBare, IsBare, IsFront, KeepsLink, KeepsLinks, Takes, Ticks, TickAll};
+
+use crate::deed::Deed;
+use crate::frames::Frames;
+use crate::reading::{came, count_in, packed, sender, target};
+use crate::silence::{is_silent, ticks};
+use gb_cap::HmacKey;
+use gb_frame::PacketView;
+use gb_types::limits::NODES;
+use gb_types::{Addr, NodeId, OutOfMemory, Plan};
+use std::alloc::Global;
+use std::collections::HashSet;
+
+/// What is kept of the link between a node and another node.
+#[derive(Drop)]
+pub(crate) struct Link {
+    /// The frames that were packed for the other node.
+    pub frames: Frames,
+    /// The numbers of the frames that came from it, and 0 if a packet without a frame came.
+    pub came: HashSet<u64>,
+    /// For how many ticks in a row it was not heard.
+    pub unheard: u64,
+    /// True if it was silent for too long at some moment.
+    pub silent: bool,
+}
+
+impl Link {
+    /// Returns the link before anything has happened.
+    fn new(alloc: Global) -> Link
+        ensures { IsBare result }
+    {
+        Link {
+            frames: Frames::new(alloc),
+            came: HashSet::new(alloc),
+            unheard: 0,
+            silent: false,
+        }
+    }
+
+    /// Takes in a packet that came from the other node.
+    fn take(&mut self, packet: &PacketView<'_>) -> Result<(), OutOfMemory>
+        requires { IsFront self.old.frames.acked.items self.old.frames.front }
+        ensures { OnOk result (Takes packet.now self.old self.new) }
+    {
+        let head = packet.head();
+        self.came.insert(head.frame)?;
+        self.frames.acknowledge(head.base, head.mask);
+        self.unheard = 0;
+        Ok(())
+    }
+
+    /// Takes in a tick. `Err` also if more than 2^64 - 1 of them followed one another.
+    fn tick(&mut self, silence: u16) -> Result<(), OutOfMemory>
+        ensures { OnOk result (Ticks silence self.old self.new) }
+    {
+        let Some(unheard) = self.unheard.checked_add(1) else {
+            return Err(OutOfMemory);
+        };
+        self.silent = is_silent(unheard, silence, self.silent);
+        self.unheard = unheard;
+        Ok(())
+    }
+}
+
+/// Returns a link for each node, before anything has happened.
+pub(crate) fn new_links(alloc: Global) -> Result<Vec<Link>, OutOfMemory>
+    ensures { IfOk result (λ v. AreBare v.items) }
+{
+    let mut links = Vec::new(alloc);
+    for _ in 0..NODES {
+        links.push(Link::new(alloc))?;
+    }
+    Ok(links)
+}
+
+/// Takes in a tick at each link.
+fn tick_all(silence: u16, links: &mut Vec<Link>) -> Result<(), OutOfMemory>
+    ensures { OnOk result (TickAll silence links.old.items links.new.items) }
+{
+    for i in 0..links.len() {
+        links[i].tick(silence)?;
+    }
+    Ok(())
+}
+
+/// Takes in `deed`, which took no packet and is no tick: if it packed a frame, that is added.
+fn keep_packed(
+    plan: &Plan,
+    addr: Addr,
+    key: &HmacKey,
+    before: &[Deed],
+    deed: &Deed,
+    links: &mut Vec<Link>,
+) -> Result<(), OutOfMemory>
+    requires least { LEAST ≤ plan.now.silence }
+    requires key { key.now ≡ plan.now.cluster_key }
+    requires untaken { past.came key.now deed.now.event deed.now.answer ≡ [] }
+    requires unticked { past.ticks deed.now.event deed.now.answer ≡ [] }
+    requires kept { KeepsLinks plan.now addr (past_in deed.now.node before.now) links.old.items }
+    ensures { OnOk result (KeepsLinks plan.now addr (record { event = deed.now.event; answer = deed.now.answer } ∷ past_in deed.now.node before.now) links.new.items) }
+{
+    let Some(to) = target(deed) else {
+        return Ok(());
+    };
+    match packed(key, to, deed) {
+        None => Ok(()),
+        Some(packet) => links[to.index()].frames.pack(count_in(addr, &packet)),
+    }
+}
+
+/// Takes in `deed`, which happened at the node of these links. `before` is what happened before.
+pub(crate) fn keep_links(
+    plan: &Plan,
+    addr: Addr,
+    key: &HmacKey,
+    before: &[Deed],
+    deed: &Deed,
+    links: &mut Vec<Link>,
+) -> Result<(), OutOfMemory>
+    requires least { LEAST ≤ plan.now.silence }
+    requires key { key.now ≡ plan.now.cluster_key }
+    requires kept { KeepsLinks plan.now addr (past_in deed.now.node before.now) links.old.items }
+    ensures { OnOk result (KeepsLinks plan.now addr (record { event = deed.now.event; answer = deed.now.answer } ∷ past_in deed.now.node before.now) links.new.items) }
+{
+    if let Some(packet) = came(key, deed) {
+        return links[sender(&packet).index()].take(&packet);
+    }
+    if ticks(deed) {
+        return tick_all(plan.silence, links);
+    }
+    keep_packed(plan, addr, key, before, deed, links)
+}
+
+/// Returns what is kept of the link to the node `b`. `links` is what is kept of the links of the node `a`, and `before` what
+/// happened before.
+pub(crate) fn link_at<'a>(
+    plan: &Plan,
+    addr: Addr,
+    before: &[Deed],
+    a: NodeId,
+    links: &'a [Link],
+    b: NodeId,
+) -> &'a Link
+    requires { KeepsLinks plan.now addr (past_in a before.now) links.now }
+    ensures { KeepsLink plan.now addr b.number (past_in a before.now) result.now }
+{
+    &links[b.index()]
+}
