@@ -40,6 +40,7 @@ pub record ArePlaces (counts places : List ℕ) (total : ℕ) : Type 0 where
   pub each : (n : ℕ) → n < length counts → slice_index_or places n 0 ≡ sum (take n counts)
   pub all : total ≡ sum counts
 
+-- no frame was packed
 pub record HasNoFrames (f : Frames) : Type 0 where
   pub counts : f.counts.items ≡ []
   pub places : f.places.items ≡ []
@@ -57,18 +58,19 @@ pub record KeepsFrames (plan : Plan) (g : Addr) (b : ℕ) (past : List Happened)
 
 -- Links.
 
--- before anything happened
+-- a link before anything happened
 pub record IsBare (link : Link) : Type 0 where
   pub frames : HasNoFrames link.frames
   pub came : IsEmpty link.came
   pub unheard : link.unheard ≡ 0
   pub silent : link.silent ≡ false
 
+-- each link of a node is so, and there is one for each node
 pub record AreBare (links : List Link) : Type 0 where
   pub many : length links ≡ NODES
   pub each : (n : ℕ) (d : Link) → n < NODES → IsBare (slice_index_or links n d)
 
--- a packet came
+-- a packet of the other node changes the link so
 pub record Takes (c : Content) (old new : Link) : Type 0 where
   pub counts : new.frames.counts.items ≡ old.frames.counts.items
   pub places : new.frames.places.items ≡ old.frames.places.items
@@ -79,13 +81,14 @@ pub record Takes (c : Content) (old new : Link) : Type 0 where
   pub unheard : new.unheard ≡ 0
   pub silent : new.silent ≡ old.silent
 
--- the time ticked
+-- a tick changes the link so
 pub record Ticks (silence : ℕ) (old new : Link) : Type 0 where
   pub frames : new.frames ≡ old.frames
   pub came : new.came ≡ old.came
   pub unheard : new.unheard ≡ old.unheard + 1
   pub silent : new.silent ≡ (nat_le silence (old.unheard + 1) || old.silent)
 
+-- a tick changes each of these links so
 pub record TickAll (silence : ℕ) (old new : List Link) : Type 0 where
   pub many : length new ≡ length old
   pub each : (n : ℕ) (d : Link) → n < length old → Ticks silence (slice_index_or old n d) (slice_index_or new n d)
@@ -97,13 +100,14 @@ pub record KeepsLink (plan : Plan) (g : Addr) (b : ℕ) (past : List Happened) (
   pub unheard : link.unheard ≡ count_by is_tick (since_heard b (watched plan.cluster_key past))
   pub silent : link.silent ≡ is_noticed plan.silence b (watched plan.cluster_key past)
 
+-- the links of a node
 pub record KeepsLinks (plan : Plan) (g : Addr) (past : List Happened) (links : List Link) : Type 0 where
   pub many : length links ≡ NODES
   pub each : (n : ℕ) (d : Link) → n < NODES → KeepsLink plan g n past (slice_index_or links n d)
 
 -- Nodes.
 
--- where nothing happened
+-- a node where nothing happened
 pub record IsNew (node : NodeKept) : Type 0 where
   pub row : node.row ≡ None
   pub stopped : node.stopped ≡ false
@@ -111,6 +115,7 @@ pub record IsNew (node : NodeKept) : Type 0 where
   pub made : node.made ≡ None
   pub links : AreBare node.links.items
 
+-- each node is so
 pub record AreNew (nodes : List NodeKept) : Type 0 where
   pub many : length nodes ≡ NODES
   pub each : (n : ℕ) (d : NodeKept) → n < NODES → IsNew (slice_index_or nodes n d)

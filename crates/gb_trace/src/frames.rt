@@ -17,7 +17,7 @@ pub(crate) struct Frames {
     pub total: u64,
     /// For each frame, whether it is acknowledged.
     pub acked: Vec<bool>,
-    /// So many frames from the first on are acknowledged. Only the others are looked at again.
+    /// The number of frames, from the first on, that are known to be acknowledged. Only the others are looked at again.
     pub front: usize,
 }
 
