@@ -1,1 +1,4 @@
 pub mod IndexLemmas
+pub mod ColumnLemmas
+pub mod RoomLemmas
+pub mod KnowsLemmas

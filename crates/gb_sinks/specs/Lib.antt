@@ -2,3 +2,6 @@ pub mod Places
 pub mod Sinks
 pub mod Own
 pub mod Lists
+pub mod Column
+pub mod Below
+pub mod RelayColumn

@@ -16,6 +16,10 @@ one_up u = record { sends = []; ups = u ∷ [] }
 abbrev pub sends_alone : List MsgId → Gives
 sends_alone ms = record { sends = ms; ups = [] }
 
+-- pairs that come up alone
+abbrev pub ups_alone : List Up → Gives
+ups_alone us = record { sends = []; ups = us }
+
 -- the state of a sink that took the effects of a call: first what is sent, then what comes up
 abbrev pub folded : {S : Type 0} → (S → MsgId → S) → (S → Up → S) → S → Gives → S
 folded sent risen s g = fold risen (fold sent s g.sends) g.ups

@@ -7,18 +7,21 @@
 //! (`modules`). Only tests run them.
 //!
 //! Read `layer::Layer` first, then `sink::Sink`. `index::Index` has the messages by place. `beb::Beb` is the lowest layer,
-//! `direct::Direct` over it is best-effort broadcast. `lists::Lists` is the uppermost sink, and `calls::make_call` makes one call of
+//! `direct::Direct` over it is best-effort broadcast, and `relay::Relay` relays by a rule of gb_layer. `lists::Lists` is the uppermost sink, and `calls::make_call` makes one call of
 //! a layer over it.
 #![tactic(auto)]
 
 pub mod beb;
+mod below;
 pub mod call;
 pub mod calls;
+pub mod column;
 pub mod direct;
 pub mod index;
 pub mod layer;
 pub mod lists;
 pub mod modules;
+pub mod relay;
 pub mod sink;
 
 pub use beb::Beb;
@@ -27,4 +30,5 @@ pub use direct::Direct;
 pub use index::Index;
 pub use layer::{Bounded, Layer};
 pub use lists::{Lists, PlacedUp};
+pub use relay::Relay;
 pub use sink::Sink;

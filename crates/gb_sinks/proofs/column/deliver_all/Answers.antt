@@ -1,0 +1,115 @@
+use Rattle.std.proofs.Common.{◌≡◌, ℕ, ◌≤◌, ◌<◌, ◌+◌, ◌∷◌, ◌++◌, ◌∙◌, [], List, cond, map, filter, fold, take, drop, set, get_or, length, refl, ap, sym, subst, arith, add-one, suc, drop-cons}
+use Rattle.std.proofs.Math.ListN.{drop_of_length-le}
+use Rattle.gb_layer.specs.declared.entries.Entry.{Entry}
+use Rattle.gb_layer.specs.Relay.{due_to_deliver, handed, up_of}
+use Rattle.gb_layer.proofs.MappedLemmas.{mapped_more, mapped_at, mapped_from}
+use Rattle.gb_layer.proofs.PlacesLemmas.{get_within}
+use Rattle.gb_sinks.specs.Sinks.{ups_alone}
+use Rattle.gb_sinks.specs.Column.{zipped, no_entry}
+use Rattle.gb_sinks.proofs.ColumnLemmas.{length-zipped}
+use Rattle.gb_sinks.proofs.KnowsLemmas.{at_itself}
+use Rattle.gb_sinks.proofs.RoomLemmas.{one_step, first_room, then_room}
+use Rattle.gb_sinks.proofs.column.deliver_all.Goals as goal
+
+pub loop-i-init : goal.loop-i-init
+loop-i-init g c = record {
+  count = c.len-count.ensures;
+  len = refl;
+  capacity = refl;
+  entries = refl;
+  out = refl;
+  room = c.requires.room;
+}
+
+-- the entries from a place on are the one there and those after it
+split : (zs es : List Entry) (f : Entry → Entry) (i : ℕ) → es ≡ map f (take i zs) ++ drop i zs → i < length zs → i < length es → drop i zs ≡ get_or es i no_entry ∷ drop (i + 1) zs
+split zs es f i e lt lt' =
+    let x = get_or es i no_entry in
+    drop-cons zs i x lt ∙ (λ j. sym (mapped_at f zs es i x e lt (at_itself es i no_entry lt')) j ∷ drop (sym (add-one i) j) zs)
+
+pub deliver_at-requires-clause-room : goal.deliver_at-requires-clause-room
+deliver_at-requires-clause-room g c =
+    let ms = c.args.index.now.list.items in
+    let due = due_to_deliver g.R.Rule.rules c.args.me c.args.members.now c.args.noticed.now in
+    let zs = zipped ms c.args.column.now.items in
+    let es = zipped ms c.loop-i.column.items in
+    let i = c.loop-i.i in
+    let was = c.loop-i.invariant in
+    let s = g.O.Sink.state ms c.loop-i.out in
+    let within = c.requires.within in
+    let test = c.loop-i-test.true in
+    let ok = c.args.column.now.ok.0 in
+    let ok' = c.loop-i.column.ok.0 in
+    let count = was.count in
+    let len = was.len in
+    let a = length-zipped ms c.args.column.now.items within in
+    let b = length-zipped ms c.loop-i.column.items (omega (arith, within, ok, ok', len)) in
+    let parts = split zs es (handed due) i was.entries (omega (arith, test, ok, count, a)) (omega (arith, test, ok, ok', count, len, b)) in
+    let x = get_or es i no_entry in
+    let rest = filter due (drop (i + 1) zs) in
+    let room = subst (λ (ds : List Entry). g.O.Sink.takes s (ups_alone (map up_of (filter due ds)))) parts was.room in
+    first_room g.O.Sink.sent g.O.Sink.risen g.O.Sink.takes g.met.O.Sink.splits (due x) s x rest room
+
+pub loop-i-preserved : goal.loop-i-preserved
+loop-i-preserved g c =
+    let ms = c.args.index.now.list.items in
+    let due = due_to_deliver g.R.Rule.rules c.args.me c.args.members.now c.args.noticed.now in
+    let zs = zipped ms c.args.column.now.items in
+    let es = zipped ms c.loop-i.column.items in
+    let i = c.loop-i.i in
+    let was = c.loop-i.invariant in
+    let kept = c.deliver_at.ensures in
+    let s = g.O.Sink.state ms c.loop-i.out in
+    let within = c.requires.within in
+    let test = c.loop-i-test.true in
+    let ok = c.args.column.now.ok.0 in
+    let ok' = c.loop-i.column.ok.0 in
+    let count = was.count in
+    let len = was.len in
+    let a = length-zipped ms c.args.column.now.items within in
+    let b = length-zipped ms c.loop-i.column.items (omega (arith, within, ok, ok', len)) in
+    let lt : i < length zs = omega (arith, test, ok, count, a) in
+    let lt' : i < length es = omega (arith, test, ok, ok', count, len, b) in
+    let parts = split zs es (handed due) i was.entries lt lt' in
+    let x = get_or es i no_entry in
+    let rest = filter due (drop (i + 1) zs) in
+    let room = subst (λ (ds : List Entry). g.O.Sink.takes s (ups_alone (map up_of (filter due ds)))) parts was.room in
+    record {
+      count = count;
+      len = kept.len ∙ len;
+      capacity = kept.capacity ∙ was.capacity;
+      entries = kept.entries ∙ mapped_more (handed due) zs es i x (handed due x) was.entries lt (at_itself es i no_entry lt') refl;
+      out = ap (λ (t : g.O.Sink.State). fold g.O.Sink.risen t (map up_of rest)) kept.out
+          ∙ (one_step g.O.Sink.sent g.O.Sink.risen g.O.Sink.takes g.met.O.Sink.splits (due x) s x rest
+          ∙ (sym (ap (λ (ds : List Entry). fold g.O.Sink.risen s (map up_of (filter due ds))) parts) ∙ was.out));
+      room = subst (λ (t : g.O.Sink.State). g.O.Sink.takes t (ups_alone (map up_of rest))) (sym kept.out) (then_room g.O.Sink.sent g.O.Sink.risen g.O.Sink.takes g.met.O.Sink.splits (due x) s x rest room);
+    }
+
+pub returns-clause-entries : goal.returns-clause-entries
+returns-clause-entries g c =
+    let ms = c.args.index.now.list.items in
+    let due = due_to_deliver g.R.Rule.rules c.args.me c.args.members.now c.args.noticed.now in
+    let zs = zipped ms c.args.column.now.items in
+    let i = c.loop-i.i in
+    let was = c.loop-i.invariant in
+    let test = c.loop-i-test.false in
+    let ok = c.args.column.now.ok.0 in
+    let count = was.count in
+    let a = length-zipped ms c.args.column.now.items c.requires.within in
+    let past : length zs ≤ i = omega (arith, test, ok, count, a) in
+    was.entries ∙ mapped_from (handed due) zs i (λ k x le at. absurd (let w = get_within zs k x at in omega (arith, w, le, past)))
+
+pub returns-clause-out : goal.returns-clause-out
+returns-clause-out g c =
+    let ms = c.args.index.now.list.items in
+    let due = due_to_deliver g.R.Rule.rules c.args.me c.args.members.now c.args.noticed.now in
+    let zs = zipped ms c.args.column.now.items in
+    let i = c.loop-i.i in
+    let was = c.loop-i.invariant in
+    let s = g.O.Sink.state ms c.loop-i.out in
+    let test = c.loop-i-test.false in
+    let ok = c.args.column.now.ok.0 in
+    let count = was.count in
+    let a = length-zipped ms c.args.column.now.items c.requires.within in
+    let past : length zs ≤ i = omega (arith, test, ok, count, a) in
+    sym (ap (λ (ds : List Entry). fold g.O.Sink.risen s (map up_of (filter due ds))) (drop_of_length-le zs past)) ∙ was.out
