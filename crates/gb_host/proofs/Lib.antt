@@ -5,5 +5,6 @@ pub mod ClosingLemmas
 pub mod PlanLemmas
 pub mod HereLemmas
 pub mod KeptLemmas
+pub mod NothingLemmas
 pub mod RingLemmas
 pub mod OpenLemmas

@@ -7,6 +7,7 @@ pub mod Replay
 pub mod Calls
 pub mod Copied
 pub mod Happened
+pub mod Nothing
 pub mod Fits
 pub mod Closing
 pub mod Placed

@@ -1,10 +1,11 @@
 //! The host.
-ghost use Rattle.std.specs.Prelude.{◌≡◌, ◌+◌, ◌<◌, ◌≤◌, ◌++◌, ◌∷◌, [], true, false, None, IfSome, IfOk, IfErr, OnOk, OnErr, length, vec_len};
+ghost use Rattle.std.specs.Prelude.{◌≡◌, ◌+◌, ◌<◌, ◌≤◌, ◌++◌, ◌∷◌, [], true, false, None, IfNone, IfSome, IfOk, IfErr, OnOk, OnErr, length, vec_len};
 ghost use Rattle.std.specs.FinSet as set;
 ghost use Rattle.gb_types.specs.declared.limits.TheConstants.{NODES};
 ghost use Rattle.gb_host.specs.Happened.{GoesOn};
 ghost use Rattle.gb_host.specs.HostValue.{AreHere, AreNew, AreOpened, IsOpened, IsRefused};
 ghost use Rattle.gb_host.specs.Listed.{IsListed};
+ghost use Rattle.gb_host.specs.Nothing.{gives_nothing, GaveNothing};
 ghost use Rattle.gb_host.specs.Pasts.{AreBlank, AreOfBooks, AreUnseen, book_at, books_of};
 ghost use Rattle.gb_host.specs.Plans.{IsPlan};
 
@@ -153,6 +154,39 @@ impl<L: Tapes> Host<L> {
         }
         let _ = gate.pass();
         hosted.step(seat, event)
+    }
+
+    /// Makes one event happen at a node as `call_at` does, unless it gives nothing: a pack or an again at a node that has nothing to
+    /// send. Then it is no event, and `None` is returned: nothing has changed, and neither the node's past nor the seat has it.
+    pub fn call_to_send<R: Wait, G: Gate>(
+        &self,
+        rt: &R,
+        seat: &mut Seat<L>,
+        node: NodeId,
+        event: NodeEvent,
+        gate: &mut G,
+    ) -> Result<Option<NodeAnswer>, HostFault>
+        ensures here { OnOk result (set.contains self.now.here node.number ≡ true) }
+        ensures past { IfOk result (λ o. IfSome o (λ a. GoesOn L.plan node seat.old seat.new event a)) }
+        ensures calls { IfOk result (λ o. IfSome o (λ a. seat.new.calls ≡ seat.old.calls ++ record { node = node; event = event; answer = a } ∷ [])) }
+        ensures something { IfOk result (λ o. IfSome o (λ a. gives_nothing event a ≡ false)) }
+        ensures nothing { IfOk result (λ o. IfNone o (GaveNothing L.plan node seat.old event)) }
+        ensures same { IfOk result (λ o. IfNone o (seat.new ≡ seat.old)) }
+        ensures number { seat.new.number ≡ seat.old.number }
+        ensures fault { IfErr result (IsRefused L.plan self.now.here seat.old node) }
+        ensures err { OnErr result (seat.new ≡ seat.old) }
+    {
+        let is_here = self.here.contains(node);
+        if !is_here {
+            drop(event);
+            return Err(HostFault::NoNode);
+        }
+        let mut hosted = self.lock_of(rt, node).lock(rt);
+        if hosted.me().number != node.number {
+            never(rt);
+        }
+        let _ = gate.pass();
+        hosted.step_to_send(seat, event)
     }
 
     /// Lists at most `most` of a node's groups from the place `from` on, in the order in which they were made. The token has to

@@ -1,11 +1,12 @@
 //! A node under its lock.
-ghost use Rattle.std.specs.Prelude.{◌≡◌, ◌+◌, ◌-◌, ◌<◌, ◌≤◌, ◌^◌, ◌++◌, ◌∷◌, [], List, true, false, length, vec_len, IfOk, IfErr, OnOk, OnErr, IsSome, Option, cond, slice_index, slice_set, vec_capacity};
+ghost use Rattle.std.specs.Prelude.{◌≡◌, ◌&&◌, ◌+◌, ◌-◌, ◌<◌, ◌≤◌, ◌^◌, ◌++◌, ◌∷◌, [], List, true, false, length, vec_len, IfOk, IfErr, IfNone, IfSome, OnOk, OnErr, OnSome, IsSome, Option, cond, slice_index, slice_set, vec_capacity};
 ghost use Rattle.gb_node.specs.NodeStep.{IsTurn, IsSpelt};
 ghost use Rattle.gb_node.specs.NodeValue.{new_node};
 ghost use Rattle.gb_host.specs.Happened.{GoesOn};
 ghost use Rattle.gb_host.specs.HostValue.{IsUnkept};
 ghost use Rattle.gb_host.specs.KeptPast.{kept_entries, IsKeptAt};
 ghost use Rattle.gb_host.specs.Listed.{IsListed};
+ghost use Rattle.gb_host.specs.Nothing.{is_nothing, gives_nothing, GaveNothing, GivesNothing};
 ghost use Rattle.gb_host.specs.Pasts.{book_at};
 ghost use Rattle.gb_host.specs.Plans.{plan_of, IsPlan};
 ghost use Rattle.gb_host.specs.Replay.{IsReplay};
@@ -13,13 +14,14 @@ ghost use Rattle.gb_host.specs.Replay.{IsReplay};
 use crate::copies::answers;
 use crate::fault::HostFault;
 use crate::kept::{Kept, into_tape, keep, make_room};
+use crate::laws::nothing_changes;
 use crate::names::Tapes;
-use crate::pasts::{Made, NodePast, note};
+use crate::pasts::{Made, NodePast, note, show};
 use crate::plan::HostPlan;
 use crate::seat::Seat;
 use gb_cap::Token;
 use gb_node::past::pasts_say;
-use gb_node::{Node, NodeAnswer, NodeEvent, NodePlan, Tape};
+use gb_node::{Node, NodeAnswer, NodeEvent, NodePlan, Sent, Tape};
 use gb_table::Listing;
 use gb_types::{NodeId, Refusal};
 use std::alloc::Global;
@@ -150,6 +152,34 @@ impl<L: Tapes> Hosted<L> {
     }
 }
 
+// Returns true if the answer is that nothing is sent.
+fn is_nothing(answer: &NodeAnswer) -> bool
+    ensures { result ≡ is_nothing answer.now }
+{
+    match answer {
+        NodeAnswer::Sent(Sent::Nothing) => true,
+        _ => false,
+    }
+}
+
+// Returns true if the event is a pack or an again, and its answer is that nothing is sent.
+fn gives_nothing(event: &NodeEvent, answer: &NodeAnswer) -> bool
+    ensures { result ≡ gives_nothing event.now answer.now }
+{
+    match event {
+        NodeEvent::Pack(_) => is_nothing(answer),
+        NodeEvent::Again(_, _) => is_nothing(answer),
+        _ => false,
+    }
+}
+
+// Returns true if an event is left out: it gives nothing, and those that give nothing are left out.
+fn is_left_out(skips: bool, event: &NodeEvent, answer: &NodeAnswer) -> bool
+    ensures { result ≡ (skips && gives_nothing event.now answer.now) }
+{
+    skips && gives_nothing(event, answer)
+}
+
 impl<L: Tapes> Hosted<L> {
     /// Makes one event happen, atomic under the node's lock, and returns the node's answer. The past goes on with an entry, which the seat
     /// sees, and the seat's calls with a call. With tapes memory holds both, and with a ring the entry goes to the recorder. After a
@@ -161,6 +191,59 @@ impl<L: Tapes> Hosted<L> {
         ensures goes_on { IfOk result (λ a. GoesOn L.plan self.old.me seat.old seat.new event a) }
         ensures calls { IfOk result (λ a. seat.new.calls ≡ seat.old.calls ++ record { node = self.old.me; event = event; answer = a } ∷ []) }
         ensures counts { OnOk result (seat.new.counts ≡ slice_set seat.old.counts self.old.me.number (slice_index seat.old.counts self.old.me.number + 1)) }
+        ensures numbers { (self.new.me ≡ self.old.me) × (self.new.book ≡ self.old.book) × (seat.new.number ≡ seat.old.number) }
+        ensures fault { IfErr result (λ why. IsUnkept L.plan (slice_index seat.old.counts self.old.me.number) why) }
+        ensures err { OnErr result ((self.new ≡ self.old) × (seat.new ≡ seat.old)) }
+    {
+        match self.step_or_skip(seat, event, false) {
+            Ok(Some(answer)) => Ok(answer),
+            Ok(None) => unreachable!(),
+            Err(fault) => Err(fault),
+        }
+    }
+
+    /// One event as by `step`, unless it gives nothing: a pack or an again at a node that has nothing to send. Then it is no event,
+    /// and `None` is returned: nothing has changed, and neither the past, a tape, a ring nor the seat has it.
+    pub fn step_to_send(
+        &mut self,
+        seat: &mut Seat<L>,
+        event: NodeEvent,
+    ) -> Result<Option<NodeAnswer>, HostFault>
+        ensures turn { IfOk result (λ o. IfSome o (λ a. IsTurn self.old.node event a self.new.node)) }
+        ensures spelt { IfOk result (λ o. IfSome o (λ a. IsSpelt self.old.node event a)) }
+        ensures something { IfOk result (λ o. IfSome o (λ a. gives_nothing event a ≡ false)) }
+        ensures past { IfOk result (λ o. IfSome o (λ a. self.new.past ≡ self.old.past ++ record { seat = seat.old.number; count = slice_index seat.old.counts self.old.me.number; event = event; answer = a } ∷ [])) }
+        ensures goes_on { IfOk result (λ o. IfSome o (λ a. GoesOn L.plan self.old.me seat.old seat.new event a)) }
+        ensures calls { IfOk result (λ o. IfSome o (λ a. seat.new.calls ≡ seat.old.calls ++ record { node = self.old.me; event = event; answer = a } ∷ [])) }
+        ensures counts { IfOk result (λ o. OnSome o (seat.new.counts ≡ slice_set seat.old.counts self.old.me.number (slice_index seat.old.counts self.old.me.number + 1))) }
+        ensures nothing { IfOk result (λ o. IfNone o (GivesNothing self.old.node event)) }
+        ensures gave_nothing { IfOk result (λ o. IfNone o (GaveNothing L.plan self.old.me seat.old event)) }
+        ensures same { IfOk result (λ o. IfNone o ((self.new ≡ self.old) × (seat.new ≡ seat.old))) }
+        ensures numbers { (self.new.me ≡ self.old.me) × (self.new.book ≡ self.old.book) × (seat.new.number ≡ seat.old.number) }
+        ensures fault { IfErr result (λ why. IsUnkept L.plan (slice_index seat.old.counts self.old.me.number) why) }
+        ensures err { OnErr result ((self.new ≡ self.old) × (seat.new ≡ seat.old)) }
+    {
+        self.step_or_skip(seat, event, true)
+    }
+
+    // One event. If `skips`, one that gives nothing is left out, and `None` is returned.
+    fn step_or_skip(
+        &mut self,
+        seat: &mut Seat<L>,
+        event: NodeEvent,
+        skips: bool,
+    ) -> Result<Option<NodeAnswer>, HostFault>
+        ensures turn { IfOk result (λ o. IfSome o (λ a. IsTurn self.old.node event a self.new.node)) }
+        ensures spelt { IfOk result (λ o. IfSome o (λ a. IsSpelt self.old.node event a)) }
+        ensures something { IfOk result (λ o. IfSome o (λ a. (skips && gives_nothing event a) ≡ false)) }
+        ensures past { IfOk result (λ o. IfSome o (λ a. self.new.past ≡ self.old.past ++ record { seat = seat.old.number; count = slice_index seat.old.counts self.old.me.number; event = event; answer = a } ∷ [])) }
+        ensures goes_on { IfOk result (λ o. IfSome o (λ a. GoesOn L.plan self.old.me seat.old seat.new event a)) }
+        ensures calls { IfOk result (λ o. IfSome o (λ a. seat.new.calls ≡ seat.old.calls ++ record { node = self.old.me; event = event; answer = a } ∷ [])) }
+        ensures counts { IfOk result (λ o. OnSome o (seat.new.counts ≡ slice_set seat.old.counts self.old.me.number (slice_index seat.old.counts self.old.me.number + 1))) }
+        ensures skips { IfOk result (λ o. IfNone o (skips ≡ true)) }
+        ensures nothing { IfOk result (λ o. IfNone o (GivesNothing self.old.node event)) }
+        ensures gave_nothing { IfOk result (λ o. IfNone o (GaveNothing L.plan self.old.me seat.old event)) }
+        ensures same { IfOk result (λ o. IfNone o ((self.new ≡ self.old) × (seat.new ≡ seat.old))) }
         ensures numbers { (self.new.me ≡ self.old.me) × (self.new.book ≡ self.old.book) × (seat.new.number ≡ seat.old.number) }
         ensures fault { IfErr result (λ why. IsUnkept L.plan (slice_index seat.old.counts self.old.me.number) why) }
         ensures err { OnErr result ((self.new ≡ self.old) × (seat.new ≡ seat.old)) }
@@ -205,6 +288,15 @@ impl<L: Tapes> Hosted<L> {
                 return Err(fault);
             }
         };
+        if is_left_out(skips, &event, &answer) {
+            // The node is as it was, and the copies of such an answer hold no memory.
+            nothing_changes();
+            drop(event);
+            drop(answer);
+            drop(copies);
+            show(past, &seen[at]);
+            return Ok(None);
+        }
         counts[at] = count + 1;
         let call = Made {
             node: *me,
@@ -215,6 +307,6 @@ impl<L: Tapes> Hosted<L> {
         };
         note(past, &mut seen[at], calls, &call);
         keep(kept, list, *me, *number, count, event, copies, past);
-        Ok(answer)
+        Ok(Some(answer))
     }
 }

@@ -14,6 +14,7 @@ pub mod here;
 pub mod host;
 pub mod hosted;
 pub mod kept;
+pub mod laws;
 pub mod names;
 pub mod noted;
 pub mod outlet;

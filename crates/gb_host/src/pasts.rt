@@ -60,6 +60,16 @@ pub fn new_pasts(alloc: Global, nodes: u8) -> Result<Vec<NodePast>, OutOfMemory>
     Ok(pasts)
 }
 
+// A past begins with what was seen of it. Nothing is added to it.
+pub(crate) fn show(past: &mut NodePast, seen: &NodeSeen)
+    requires { seen.now.book ≡ past.old.book }
+    ensures past { past.new ≡ past.old }
+    ensures before { (others : List Noted) × (past.old.log ≡ seen.now.log ++ others) }
+{
+    let mut both = seen.again();
+    both.learn(past);
+}
+
 // Adds a call to its node's past and to its seat's calls, and shows the past to the seat.
 pub(crate) fn note(past: &mut NodePast, seen: &mut NodeSeen, calls: &mut SeatPast, call: &Made<'_>)
     requires { seen.old.book ≡ past.old.book }
