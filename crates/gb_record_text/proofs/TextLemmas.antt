@@ -13,7 +13,7 @@ rising_all : (s : set.FinSet nat_cmp) → rising s ≡ rising_from s 0
 unfolding rising rising_from
 rising_all s = refl
 
-joined_by_commas : (n : ℕ) (rest : List ℕ) → join_with_byte 44 (map decimal (n ∷ rest)) ≡ decimal n ++ each_after_comma rest
+pub joined_by_commas : (n : ℕ) (rest : List ℕ) → join_with_byte 44 (map decimal (n ∷ rest)) ≡ decimal n ++ each_after_comma rest
 joined_by_commas n [] = sym (append-nil (decimal n))
 joined_by_commas n (m ∷ rest) = ap (λ behind. decimal n ++ (44 ∷ behind)) (joined_by_commas m rest)
 

@@ -1,2 +1,4 @@
 pub mod RecordText
 pub mod Records
+pub mod Fits
+pub mod Laws

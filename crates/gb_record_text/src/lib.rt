@@ -3,7 +3,9 @@
 //! the text.
 #![tactic(auto)]
 
+mod fits;
 pub mod head;
+pub mod laws;
 pub mod reader;
 pub mod reading;
 pub mod record;

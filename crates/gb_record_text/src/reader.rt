@@ -1,7 +1,9 @@
 //! Reading a whole record: one that its node ended, or one that was cut short.
 ghost use Rattle.std.specs.Prelude.{◌≡◌, ◌≢◌, ◌++◌, ◌∷◌, IfOk, IfSome, IfNone, All};
+ghost use Rattle.gb_record_text.specs.Fits.{FitsRecord};
 ghost use Rattle.gb_record_text.specs.Records.{IsRecord};
 
+use crate::fits::head_fits;
 use crate::head::{RecordHead, read_head};
 use crate::reading::read_entry;
 use gb_node::TapeEntry;
@@ -51,7 +53,8 @@ fn cut_line(text: &[u8]) -> Option<(&[u8], &[u8])>
 
 /// Returns the record that a text is. What stands behind the last line feed is left out; `torn` counts its bytes.
 pub fn read_record(alloc: Global, text: &[u8]) -> Result<Record, ReadFault>
-    ensures { IfOk result (λ read. IsRecord read text.now) }
+    ensures text { IfOk result (λ read. IsRecord read text.now) }
+    ensures fits { IfOk result FitsRecord }
 {
     let Some((line, behind)) = cut_line(text) else {
         return Err(ReadFault::BadLine(1));
@@ -59,6 +62,7 @@ pub fn read_record(alloc: Global, text: &[u8]) -> Result<Record, ReadFault>
     let Some(head) = read_head(alloc, line)? else {
         return Err(ReadFault::BadLine(1));
     };
+    head_fits(&head);
     let mut record = Record {
         head,
         entries: Vec::new(alloc),

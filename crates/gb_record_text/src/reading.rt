@@ -1,7 +1,9 @@
 //! How the line of an entry is read. What was read is written again and compared with the line, so each line is read exactly.
 ghost use Rattle.std.specs.Prelude.{◌≡◌, IfOk, IfSome};
+ghost use Rattle.gb_record_text.specs.Fits.{FitsEntry};
 ghost use Rattle.gb_record_text.specs.RecordText.{entry_line};
 
+use crate::fits::entry_fits;
 use crate::writing::put_entry;
 use gb_frame::PacketFault;
 use gb_node::{
@@ -427,12 +429,14 @@ fn read_words(alloc: Global, words: &[&[u8]]) -> Result<Option<ReadEntry>, OutOf
 
 /// Returns the entry of a line without its line feed, and the node that the line names. `None` if it is not the line of an entry.
 pub fn read_entry(alloc: Global, line: &[u8]) -> Result<Option<ReadEntry>, OutOfMemory>
-    ensures { IfOk result (λ found. IfSome found (λ read. entry_line read.node read.entry ≡ line.now)) }
+    ensures line { IfOk result (λ found. IfSome found (λ read. entry_line read.node read.entry ≡ line.now)) }
+    ensures fits { IfOk result (λ found. IfSome found (λ read. FitsEntry read.entry)) }
 {
     let words = split_words(alloc, line)?;
     let Some(read) = read_words(alloc, &words)? else {
         return Ok(None);
     };
+    entry_fits(&read.entry);
     let mut text = Vec::new(alloc);
     put_entry(&mut text, read.node, &read.entry)?;
     if text.as_slice() != line {

@@ -1,0 +1,7 @@
+use Rattle.std.proofs.Common.{take}
+use Rattle.std.specs.Prelude.{All}
+use Rattle.gb_types.specs.Laws.{FitsEntry}
+use Rattle.gb_record_text.proofs.fits.log_fits.Given as goal
+
+abbrev pub invariant-loop-entry : goal.invariant-loop-entry
+invariant-loop-entry l = All FitsEntry (take l.entry-index l.entries)

@@ -1,0 +1,81 @@
+-- The numbers of an entry of a tape, and of a record's first line, are within their types.
+use Rattle.std.specs.Prelude.{◌<◌, ◌^◌, All}
+use Rattle.std.specs.Option.{ForSome}
+use Rattle.hex.specs.Hex.{IsBytes}
+use Rattle.gb_types.specs.Laws.{FitsReply}
+use Rattle.gb_types.specs.RequestWords.{IsShort, IsLong, IsGroup}
+use Rattle.gb_types.specs.Rising.{AreNodes}
+use Rattle.gb_types.specs.declared.address.Addr.{Addr}
+use Rattle.gb_types.specs.declared.new_message.NewMessage.{NewMessage}
+use Rattle.gb_types.specs.declared.request.Request.{Request}
+use Rattle.gb_types.specs.declared.request.Request.TheVariants.{AddTenant, Make, OpenGroup, ShutGroup, DropGroup, Say, Fetch}
+use Rattle.gb_types.specs.declared.spec.Spec.{Spec}
+use Rattle.gb_types.specs.declared.spec.TenantRow.{TenantRow}
+use Rattle.gb_node.specs.declared.answer.NodeAnswer.{NodeAnswer}
+use Rattle.gb_node.specs.declared.answer.NodeAnswer.TheVariants.{Reply as Replied, Taken, Sent, Ticked}
+use Rattle.gb_node.specs.declared.answer.PacketAnswer.TheVariants.{Good as TakenGood}
+use Rattle.gb_node.specs.declared.answer.Sent.TheVariants.{Packet as SentPacket}
+use Rattle.gb_node.specs.declared.answer.Ticked.TheVariants.{Noticed}
+use Rattle.gb_node.specs.declared.event.NodeEvent.{NodeEvent}
+use Rattle.gb_node.specs.declared.event.NodeEvent.TheVariants.{Request as Asked, Packet as Came, Again}
+use Rattle.gb_node.specs.declared.tape.TapeEntry.{TapeEntry}
+use Rattle.gb_record_text.specs.declared.head.RecordHead.{RecordHead}
+use Rattle.gb_record_text.specs.declared.reader.Record.{Record}
+
+abbrev pub FitsAddress : Addr → Type 0
+FitsAddress addr = IsShort addr.tenant × IsGroup addr
+
+pub record FitsRow (row : TenantRow) : Type 0 where
+  pub tenant : IsShort row.tenant
+  pub key : IsBytes row.key
+  pub groups : IsLong row.groups
+  pub msgs : IsLong row.msgs
+  pub bytes : IsLong row.bytes
+  pub window : IsLong row.window
+
+pub record FitsSpec (spec : Spec) : Type 0 where
+  pub members : AreNodes spec.members
+  pub msgs : IsLong spec.msgs
+  pub bytes : IsLong spec.bytes
+  pub window : IsLong spec.window
+
+abbrev pub FitsMessage : NewMessage → Type 0
+FitsMessage message = IsBytes message.payload × ForSome message.seq IsLong
+
+abbrev pub FitsRequest : Request → Type 0
+FitsRequest (AddTenant token row) = IsBytes token × FitsRow row
+FitsRequest (Make token addr spec) = IsBytes token × FitsAddress addr × FitsSpec spec
+FitsRequest (OpenGroup token addr) = IsBytes token × FitsAddress addr
+FitsRequest (ShutGroup token addr) = IsBytes token × FitsAddress addr
+FitsRequest (DropGroup token addr) = IsBytes token × FitsAddress addr
+FitsRequest (Say token addr message) = IsBytes token × FitsAddress addr × FitsMessage message
+FitsRequest (Fetch token addr from most) = IsBytes token × FitsAddress addr × IsLong from × IsLong most
+
+abbrev pub FitsEvent : NodeEvent → Type 0
+FitsEvent (Asked request) = FitsRequest request
+FitsEvent (Came bytes) = IsBytes bytes
+FitsEvent (Again to frame) = frame < 2 ^ 64
+FitsEvent event = Unit {0}
+
+abbrev pub FitsAnswer : NodeAnswer → Type 0
+FitsAnswer (Replied reply) = FitsReply reply
+FitsAnswer (Taken (TakenGood good)) = IsLong good.items × IsLong good.done
+FitsAnswer (Sent (SentPacket text)) = IsBytes text
+FitsAnswer (Ticked (Noticed found)) = AreNodes found
+FitsAnswer answer = Unit {0}
+
+pub record FitsEntry (e : TapeEntry) : Type 0 where
+  pub seat : IsLong e.seat
+  pub count : e.count < 2 ^ 64
+  pub event : FitsEvent e.event
+  pub answer : FitsAnswer e.answer
+
+pub record FitsHead (h : RecordHead) : Type 0 where
+  pub nodes : IsShort h.nodes
+  pub silence : IsShort h.silence
+  pub places : IsShort h.places
+  pub room : IsShort h.room
+
+pub record FitsRecord (r : Record) : Type 0 where
+  pub head : FitsHead r.head
+  pub entries : All FitsEntry r.entries.items

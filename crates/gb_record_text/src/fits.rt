@@ -1,0 +1,201 @@
+//! That each number of a value is within its type, for the clauses that name it. The functions only look at the numbers.
+ghost use Rattle.std.specs.Prelude.{All};
+ghost use Rattle.std.specs.Option.{ForSome};
+ghost use Rattle.hex.specs.Hex.{IsBytes};
+ghost use Rattle.gb_types.specs.Laws.{FitsEntry as FitsLogEntry, FitsReply};
+ghost use Rattle.gb_types.specs.RequestWords.{IsLong};
+ghost use Rattle.gb_types.specs.Rising.{AreNodes};
+ghost use Rattle.gb_record_text.specs.Fits.{FitsAddress, FitsRow, FitsSpec, FitsMessage, FitsRequest, FitsEvent, FitsAnswer, FitsEntry, FitsHead};
+
+use crate::head::RecordHead;
+use gb_node::{Good, NodeAnswer, NodeEvent, PacketAnswer, Sent, TapeEntry, Ticked};
+use gb_types::{Addr, Entry, NewMessage, NodeSet, Reply, Request, Spec, TenantRow};
+
+fn bytes_fit(bytes: &[u8])
+    ensures { IsBytes bytes.now }
+{}
+
+fn key_fits(key: &[u8; 32])
+    ensures { IsBytes key.now }
+{
+    bytes_fit(key.as_slice());
+}
+
+fn members_fit(members: &NodeSet)
+    ensures { AreNodes members.now }
+{
+    let _nodes = members.nodes();
+}
+
+fn address_fits(addr: &Addr)
+    ensures { FitsAddress addr.now }
+{
+    let _tenant = addr.tenant;
+    let _group = addr.group;
+    let _generation = addr.generation;
+}
+
+fn row_fits(row: &TenantRow)
+    ensures { FitsRow row.now }
+{
+    let _tenant = row.tenant;
+    let _groups = row.groups;
+    let _msgs = row.msgs;
+    let _bytes = row.bytes;
+    let _window = row.window;
+    key_fits(&row.key);
+}
+
+fn spec_fits(spec: &Spec)
+    ensures { FitsSpec spec.now }
+{
+    let _msgs = spec.msgs;
+    let _bytes = spec.bytes;
+    let _window = spec.window;
+    members_fit(&spec.members);
+}
+
+fn seq_fits(seq: Option<u32>)
+    ensures { ForSome seq IsLong }
+{
+    if let Some(number) = seq {
+        let _number = number;
+    }
+}
+
+fn message_fits(message: &NewMessage)
+    ensures { FitsMessage message.now }
+{
+    bytes_fit(message.payload.as_slice());
+    seq_fits(message.seq);
+}
+
+fn request_fits(request: &Request)
+    ensures { FitsRequest request.now }
+{
+    match request {
+        Request::AddTenant(token, row) => {
+            key_fits(token);
+            row_fits(row);
+        }
+        Request::Make(token, addr, spec) => {
+            key_fits(token);
+            address_fits(addr);
+            spec_fits(spec);
+        }
+        Request::OpenGroup(token, addr) => {
+            key_fits(token);
+            address_fits(addr);
+        }
+        Request::ShutGroup(token, addr) => {
+            key_fits(token);
+            address_fits(addr);
+        }
+        Request::DropGroup(token, addr) => {
+            key_fits(token);
+            address_fits(addr);
+        }
+        Request::Say(token, addr, message) => {
+            key_fits(token);
+            address_fits(addr);
+            message_fits(message);
+        }
+        Request::Fetch(token, addr, from, most) => {
+            key_fits(token);
+            address_fits(addr);
+            let _from = *from;
+            let _most = *most;
+        }
+    }
+}
+
+fn event_fits(event: &NodeEvent)
+    ensures { FitsEvent event.now }
+{
+    match event {
+        NodeEvent::Request(request) => request_fits(request),
+        NodeEvent::Packet(text) => bytes_fit(text.as_slice()),
+        NodeEvent::Again(_, frame) => {
+            let _frame = *frame;
+        }
+        NodeEvent::Pack(_) => {}
+        NodeEvent::Ack(_) => {}
+        NodeEvent::Tick => {}
+        NodeEvent::Stop => {}
+    }
+}
+
+fn log_entry_fits(entry: &Entry)
+    ensures { FitsLogEntry entry.now }
+{
+    let _seq = entry.seq;
+    bytes_fit(entry.payload.as_slice());
+}
+
+fn log_fits(entries: &[Entry])
+    ensures { All FitsLogEntry entries.now }
+{
+    for entry in entries {
+        log_entry_fits(entry);
+    }
+}
+
+fn reply_fits(reply: &Reply)
+    ensures { FitsReply reply.now }
+{
+    match reply {
+        Reply::Done => {}
+        Reply::Said(seq) => {
+            let _seq = *seq;
+        }
+        Reply::Log(entries) => {
+            let _count = entries.len();
+            log_fits(entries.as_slice());
+        }
+        Reply::Refused(_) => {}
+    }
+}
+
+fn good_fits(good: &Good)
+    ensures { FitsAnswer (NodeAnswer.Taken (PacketAnswer.Good good.now)) }
+{
+    let _items = good.items;
+    let _done = good.done;
+}
+
+fn answer_fits(answer: &NodeAnswer)
+    ensures { FitsAnswer answer.now }
+{
+    match answer {
+        NodeAnswer::Reply(reply) => reply_fits(reply),
+        NodeAnswer::Taken(PacketAnswer::Good(good)) => good_fits(good),
+        NodeAnswer::Taken(PacketAnswer::Fault(_)) => {}
+        NodeAnswer::Taken(PacketAnswer::Refused(_)) => {}
+        NodeAnswer::Sent(Sent::Packet(text)) => bytes_fit(text.as_slice()),
+        NodeAnswer::Sent(Sent::Nothing) => {}
+        NodeAnswer::Sent(Sent::Refused(_)) => {}
+        NodeAnswer::Ticked(Ticked::Noticed(found)) => members_fit(found),
+        NodeAnswer::Ticked(Ticked::Refused(_)) => {}
+        NodeAnswer::Halted(_) => {}
+    }
+}
+
+/// The numbers of an entry are within their types.
+pub(crate) fn entry_fits(entry: &TapeEntry)
+    ensures { FitsEntry entry.now }
+{
+    let _seat = entry.seat;
+    let _count = entry.count;
+    event_fits(&entry.event);
+    answer_fits(&entry.answer);
+}
+
+/// The numbers of a first line are within their types.
+pub(crate) fn head_fits(head: &RecordHead)
+    ensures { FitsHead head.now }
+{
+    let _nodes = head.nodes;
+    let _silence = head.silence;
+    let _places = head.places;
+    let _room = head.room;
+}
