@@ -1,6 +1,6 @@
 -- What a node's port carried since its loop began.
-use Rattle.std.proofs.Common.{◌≡◌, ℕ, ◌==◌, Bool, false, List, [], ◌∷◌, ◌++◌, refl, sym, ap, ◌∙◌, Option, Some, Result, Ok, Err}
-use Rattle.std.specs.Prelude.{IfOk, OnErr}
+use Rattle.std.proofs.Common.{◌≡◌, ℕ, ◌==◌, Bool, false, List, [], ◌∷◌, ◌++◌, refl, sym, ap, ◌∙◌, Option, Some, None, Result, Ok, Err}
+use Rattle.std.specs.Prelude.{IfNone, IfOk, IfSome, OnErr}
 use Rattle.std.proofs.Math.Logic.{∥∥₁_map}
 use Rattle.std.proofs.lemmas.Bool.Decides.{Decides-eqb}
 use Rattle.std.proofs.lemmas.List.Folds.{list_all-append}
@@ -35,6 +35,13 @@ pub called_one : {S : Type 0} (seen : S → List SeatEntry) (s t : S) (me : Node
 called_one seen s t me event (Ok a) made same = (noted me event a ∷ [], made, and_both ((Decides-eqb me.number me.number).1 refl) refl)
 called_one seen s t me event (Err why) made same = ([], ap seen same ∙ sym (append_nil (seen s)), refl)
 
+-- so where the call may have had no answer
+pub called_or_not : {S : Type 0} (seen : S → List SeatEntry) (s t : S) (me : NodeId) (event : NodeEvent) (outcome : Result (Option NodeAnswer) HostFault)
+    → IfOk outcome (λ o. IfSome o (λ a. seen t ≡ seen s ++ noted me event a ∷ [])) → IfOk outcome (λ o. IfNone o (t ≡ s)) → OnErr outcome (t ≡ s) → HasCalled me (seen s) (seen t)
+called_or_not seen s t me event (Ok (Some a)) made none same = (noted me event a ∷ [], made, and_both ((Decides-eqb me.number me.number).1 refl) refl)
+called_or_not seen s t me event (Ok None) made none same = ([], ap seen none ∙ sym (append_nil (seen s)), refl)
+called_or_not seen s t me event (Err why) made none same = ([], ap seen same ∙ sym (append_nil (seen s)), refl)
+
 -- what was called, and what is called then
 pub called_more : (me : NodeId) (old mid new : List SeatEntry) → ∥ HasCalled me old mid ∥₁ → HasCalled me mid new → ∥ HasCalled me old new ∥₁
 called_more me old mid new before next =
@@ -55,6 +62,18 @@ quiet sends receives p old new me e a none is = (noted me e a ∷ [], is, [], re
 -- nothing was added
 pub still : {P : Type 0} (sends : Sends P) (receives : Receives P) (p : P) (old new : List SeatEntry) → new ≡ old → HasCarried sends receives p p old new
 still sends receives p old new is = ([], is ∙ sym (append_nil old), [], refl, refl)
+
+-- an event by which nothing travels, or that gave nothing
+pub quiet_asked : {P : Type 0} (sends : Sends P) (receives : Receives P) (p : P) (old new : List SeatEntry) (me : NodeId) (e : NodeEvent) (asked : Option NodeAnswer) (a : NodeAnswer)
+    → IfSome asked (λ b. a ≡ b) → IfSome asked (λ b. new ≡ old ++ noted me e b ∷ []) → IfNone asked (new ≡ old) → traffic_of e a ≡ [] → HasCarried sends receives p p old new
+quiet_asked sends receives p old new me e (Some b) a is made none nowhere = quiet sends receives p old new me e b (ap (traffic_of e) (sym is) ∙ nowhere) made
+quiet_asked sends receives p old new me e None a is made none nowhere = still sends receives p old new none
+
+-- an event that gave a packet was called
+pub made_packet : (old new : List SeatEntry) (me : NodeId) (e : NodeEvent) (asked : Option NodeAnswer) (a : NodeAnswer) (text : List ℕ)
+    → IfSome asked (λ b. a ≡ b) → IfNone asked (a ≡ answers.Sent sents.Nothing) → IfSome asked (λ b. new ≡ old ++ noted me e b ∷ []) → a ≡ answers.Sent (sents.Packet text) → new ≡ old ++ noted me e a ∷ []
+made_packet old new me e (Some b) a text is nothing made packet = made ∙ ap (λ (c : NodeAnswer). old ++ noted me e c ∷ []) (sym is)
+made_packet old new me e None a text is nothing made packet = absurd (cc)
 
 -- a call by which nothing travels, or that was not made
 pub quiet_call : {P : Type 0} (sends : Sends P) (receives : Receives P) (lost : ℕ) (p : P) (old new : List SeatEntry) (me : NodeId) (event : NodeEvent) (outcome : Result NodeAnswer HostFault)

@@ -2,7 +2,7 @@
 ghost use Rattle.std.specs.Prelude.{◌≡◌, ◌++◌, ◌∷◌, [], true, false, Ok, Some, IfOk, IfErr, OnOk, OnErr, IfSome, IfNone};
 ghost use Rattle.gb_node.specs.declared.answer.NodeAnswer.{NodeAnswer as AnswerValue};
 ghost use Rattle.gb_node.specs.declared.answer.NodeAnswer.TheVariants.{Sent as WasSent};
-ghost use Rattle.gb_node.specs.declared.answer.Sent.TheVariants.{Packet as SentPacket};
+ghost use Rattle.gb_node.specs.declared.answer.Sent.TheVariants.{Nothing as SentNothing, Packet as SentPacket};
 ghost use Rattle.gb_host.specs.HostValue.{IsRefused};
 ghost use Rattle.gb_worker.specs.Answered.{destination, gives_packet};
 ghost use Rattle.gb_worker.specs.Asked.{reply_at, reply_of};
@@ -16,7 +16,7 @@ use crate::counts::{
 };
 use crate::hint::{Hint, hint_of, put_addresses};
 use crate::operate::operate;
-use gb_host::{Host, HostFault, Seat, Tapes};
+use gb_host::{Host, HostFault, Open, Seat, Tapes};
 use gb_node::{Good, NodeAnswer, NodeEvent, PacketAnswer, PacketText, Sent};
 use gb_port::Port;
 use gb_session::{Answers, Operation};
@@ -72,7 +72,7 @@ pub struct Mail<'a, L: Tapes, H, P: Port> {
     pub ghost mailed: { ∥ HasMailed P.sends P.receives lost origin.port.value port origin.seat.value.calls seat.calls ∥₁ },
 }
 
-// One event at a node: the only call of the host here.
+// One event at a node.
 fn ask<L: Tapes, H: Wait>(
     rt: &H,
     host: &Host<L>,
@@ -87,6 +87,33 @@ fn ask<L: Tapes, H: Wait>(
     ensures here { HasCalled node seat.old.calls seat.new.calls }
 {
     host.call(rt, seat, node, event)
+}
+
+// One event by which a node sends to another, unless it gives nothing: None then, as no event has happened.
+fn ask_to_send<L: Tapes, H: Wait>(
+    rt: &H,
+    host: &Host<L>,
+    seat: &mut Seat<L>,
+    node: NodeId,
+    event: NodeEvent,
+) -> Result<Option<NodeAnswer>, HostFault>
+    ensures made { IfOk result (λ o. IfSome o (λ a. seat.new.calls ≡ seat.old.calls ++ noted node event a ∷ [])) }
+    ensures nothing { IfOk result (λ o. IfNone o (seat.new.calls ≡ seat.old.calls)) }
+    ensures none { OnErr result (seat.new.calls ≡ seat.old.calls) }
+    ensures here { HasCalled node seat.old.calls seat.new.calls }
+{
+    host.call_to_send(rt, seat, node, event, &mut Open)
+}
+
+// Returns the answer to an event by which a node sends: that nothing is sent, if the event gave nothing.
+fn answer_of(asked: Option<NodeAnswer>) -> NodeAnswer
+    ensures some { IfSome asked (λ a. result ≡ a) }
+    ensures none { IfNone asked (result ≡ WasSent SentNothing) }
+{
+    match asked {
+        Some(answer) => answer,
+        None => NodeAnswer::Sent(Sent::Nothing),
+    }
 }
 
 // What a client is told of a call.
@@ -191,7 +218,8 @@ fn note_lack(answer: &NodeAnswer, is_short: &mut bool) {
     }
 }
 
-// One event by which a node sends to another. What it gives is handed to the port at once. Returns true if it gave a packet.
+// One event by which a node sends to another. What it gives is handed to the port at once. Returns true if it gave a packet. A pack
+// or an again that gives nothing is no event.
 fn send_at<L: Tapes, H: Wait, P: Port>(
     rt: &H,
     host: &Host<L>,
@@ -208,13 +236,14 @@ fn send_at<L: Tapes, H: Wait, P: Port>(
     ensures here { HasCalled node seat.old.calls seat.new.calls }
 {
     let figure = sent_figure(&event);
-    let answer = match ask(rt, host, seat, node, event) {
-        Ok(answer) => answer,
+    let asked = match ask_to_send(rt, host, seat, node, event) {
+        Ok(asked) => asked,
         Err(_) => {
             *is_short = true;
             return false;
         }
     };
+    let answer = answer_of(asked);
     note_lack(&answer, is_short);
     let text = match packet_of(answer) {
         Some(text) => text,
@@ -349,7 +378,7 @@ impl<'a, L: Tapes, H: Wait, P: Port> Mail<'a, L, H, P> {
     /// node's lock; the host may take memory to keep the call. If the node answers with a packet, it is handed to the port at once; the
     /// port may lose it, as a network may. `lost`, which counts packets that came and were not handed in, stays as it was, and so does
     /// `origin`, the seat and the port as they were at first. Returns true if the node answered with a packet; false if it answered
-    /// otherwise or the host refused the call.
+    /// otherwise or the host refused the call. A pack or a frame once more that gives nothing is no event.
     pub fn send(&mut self, event: NodeEvent, to: NodeId) -> bool
         requires { destination event ≡ Some to }
         ensures mailed { HasMailed P.sends P.receives self.new.lost self.old.port self.new.port self.old.seat.calls self.new.seat.calls }

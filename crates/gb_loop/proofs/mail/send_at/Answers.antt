@@ -1,19 +1,23 @@
 use Rattle.std.proofs.Common.{◌≡◌}
+use Rattle.gb_node.specs.declared.answer.NodeAnswer.{NodeAnswer}
 use Rattle.gb_node.specs.declared.answer.NodeAnswer.TheVariants as answers
 use Rattle.gb_node.specs.declared.answer.Sent.TheVariants as sents
 use Rattle.gb_worker.proofs.CarryLemmas.{carried_out}
-use Rattle.gb_loop.proofs.MailLemmas.{gives_none, quiet, still}
+use Rattle.gb_loop.proofs.MailLemmas.{gives_none, made_packet, quiet_asked, still}
 use Rattle.gb_loop.proofs.mail.send_at.Goals as goal
 
 pub returns-in-Err-clause-carried : goal.returns-in-Err-clause-carried
-returns-in-Err-clause-carried g c = still g.P.Port.sends g.P.Port.receives c.args.port.now c.args.seat.now.calls c.ask.new.seat.calls c.in-Err.ensures.none
+returns-in-Err-clause-carried g c = still g.P.Port.sends g.P.Port.receives c.args.port.now c.args.seat.now.calls c.ask_to_send.new.seat.calls c.in-Err.ensures.none
 
 pub returns-in-None-clause-carried : goal.returns-in-None-clause-carried
 returns-in-None-clause-carried g c =
-    quiet g.P.Port.sends g.P.Port.receives c.args.port.now c.args.seat.now.calls c.ask.new.seat.calls c.args.node c.args.event c.in-Ok.answer
-    (gives_none c.args.event c.args.to c.in-Ok.answer c.requires c.in-None.ensures.none) c.in-Ok.ensures.made
+    let answer : NodeAnswer = c.answer_of-answer.result in
+    quiet_asked g.P.Port.sends g.P.Port.receives c.args.port.now c.args.seat.now.calls c.ask_to_send.new.seat.calls c.args.node c.args.event c.in-Ok.asked answer
+    c.answer_of-answer.ensures.some c.in-Ok.ensures.made c.in-Ok.ensures.nothing (gives_none c.args.event c.args.to answer c.requires c.in-None.ensures.none)
 
 pub returns-clause-carried : goal.returns-clause-carried
 returns-clause-carried g c =
-    let is : c.in-Ok.answer ≡ answers.Sent (sents.Packet c.in-Some.text) = c.in-Some.ensures.some in
-    carried_out g.P.Port.sends g.P.Port.receives c.args.port.now c.send.new.self c.args.seat.now.calls c.ask.new.seat.calls c.args.node c.args.event c.args.to c.in-Ok.answer c.in-Some.text c.as_slice.result.now c.send.result c.requires is c.as_slice.ensures c.send.ensures.is c.in-Ok.ensures.made
+    let answer : NodeAnswer = c.answer_of-answer.result in
+    let is : answer ≡ answers.Sent (sents.Packet c.in-Some.text) = c.in-Some.ensures.some in
+    let made = made_packet c.args.seat.now.calls c.ask_to_send.new.seat.calls c.args.node c.args.event c.in-Ok.asked answer c.in-Some.text c.answer_of-answer.ensures.some c.answer_of-answer.ensures.none c.in-Ok.ensures.made is in
+    carried_out g.P.Port.sends g.P.Port.receives c.args.port.now c.send.new.self c.args.seat.now.calls c.ask_to_send.new.seat.calls c.args.node c.args.event c.args.to answer c.in-Some.text c.as_slice.result.now c.send.result c.requires is c.as_slice.ensures c.send.ensures.is made
