@@ -10,7 +10,7 @@ use Rattle.gb_sinks.specs.declared.call.PlacedCall.{PlacedCall}
 use Rattle.gb_sinks.specs.declared.call.PlacedCall.TheVariants.{Say, Came, Notice}
 use Rattle.gb_sinks.specs.declared.column.Held.{Held}
 use Rattle.gb_sinks.specs.declared.relay.Relay.{Relay}
-use Rattle.gb_sinks.specs.Places.{message_at, all_differ, told, IsNext, reached, told_after}
+use Rattle.gb_sinks.specs.Places.{message_at, all_differ, told, Names, IsNext, reached, told_after}
 use Rattle.gb_sinks.specs.Column.{zipped}
 use Rattle.gb_sinks.specs.RelayColumn.{Knows, RelayKnows}
 use Rattle.gb_sinks.proofs.ColumnLemmas.{found_beyond}
@@ -54,6 +54,12 @@ sent_within ms hs p differ lt h =
           let z : true ≡ false = sym some ∙ none in
           absurd (cc)
     ] refl
+
+-- a weaker fact of the place that a call names
+pub names_more : (P Q : ℕ → Type 0) → ((p : ℕ) → P p → Q p) → (call : PlacedCall) → Names P call → Names Q call
+names_more P Q f (Say p) h = f p h
+names_more P Q f (Came q p) h = f p h
+names_more P Q f (Notice q) h = tt
 
 -- a repeated notice tells no place
 pub repeat_after : {S : Type 0} (s : State S) (ms : List MsgId) (call : PlacedCall) (n : ℕ) → is_repeat s (told ms call) ≡ true → told_after n call ≡ n

@@ -2,3 +2,4 @@ pub mod IndexLemmas
 pub mod ColumnLemmas
 pub mod RoomLemmas
 pub mod KnowsLemmas
+pub mod BoundLemmas

@@ -1,5 +1,6 @@
 pub mod Places
 pub mod Sinks
+pub mod Single
 pub mod Own
 pub mod Lists
 pub mod Column

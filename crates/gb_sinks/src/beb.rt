@@ -4,10 +4,11 @@ ghost use Rattle.std.proofs.Common.{refl};
 ghost use Rattle.gb_types.specs.declared.message.MsgId.{MsgId};
 ghost use Rattle.gb_types.specs.declared.node.NodeId.{NodeId};
 ghost use Rattle.gb_layer.specs.BebMachine.{beb_gives};
+ghost use Rattle.gb_sinks.specs.Single.{beb_sends_one};
 
 use crate::call::PlacedCall;
 use crate::index::Index;
-use crate::layer::{Bounded, Layer};
+use crate::layer::{Bounded, Layer, Single};
 use crate::sink::Sink;
 use gb_layer::Room;
 use gb_types::{NodeId, OutOfMemory};
@@ -68,4 +69,8 @@ impl Bounded for Beb {
     fn most(&self) -> Room {
         Room { sends: 1, ups: 1 }
     }
+}
+
+impl Single for Beb {
+    ghost sends_one = { beb_sends_one };
 }

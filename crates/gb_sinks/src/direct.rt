@@ -8,7 +8,7 @@ ghost use Rattle.gb_sinks.specs.Own.{OwnState, own_sent, own_risen, own_takes, o
 
 use crate::call::PlacedCall;
 use crate::index::Index;
-use crate::layer::{Bounded, Layer};
+use crate::layer::{Bounded, Layer, Single};
 use crate::sink::Sink;
 use gb_layer::Room;
 use gb_types::{NodeId, OutOfMemory};
@@ -109,4 +109,8 @@ impl<L: Bounded> Bounded for Direct<L> {
     fn most(&self) -> Room {
         self.lower.most()
     }
+}
+
+impl<L: Single> Single for Direct<L> {
+    ghost sends_one = { L.sends_one };
 }

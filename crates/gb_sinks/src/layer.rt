@@ -6,6 +6,7 @@ ghost use Rattle.gb_layer.specs.declared.call.Call.{Call};
 ghost use Rattle.gb_layer.specs.Machine.{Gives};
 ghost use Rattle.gb_sinks.specs.Places.{told, Names, IsNext, MayTake, told_after};
 ghost use Rattle.gb_sinks.specs.Sinks.{folded};
+ghost use Rattle.gb_sinks.specs.Single.{SendsAtMostOne};
 
 use crate::call::PlacedCall;
 use crate::index::Index;
@@ -68,4 +69,9 @@ pub trait Bounded: Layer {
     fn most(&self) -> Room
         ensures sends { (ms : List MsgId) (n w : ℕ) (c : Call) → Self.knows ms self.now n w → length (Self.gives (Self.meaning ms self.now) c).sends ≤ result.sends }
         ensures ups { (ms : List MsgId) (n w : ℕ) (c : Call) → Self.knows ms self.now n w → length (Self.gives (Self.meaning ms self.now) c).ups ≤ result.ups };
+}
+
+/// A layer of which each call sends at most one message.
+pub trait Single: Layer {
+    ghost sends_one: { SendsAtMostOne Self.gives };
 }

@@ -4,11 +4,12 @@
 //!
 //! **The product does not run these layers yet.** It runs gb_stack, over gb_records. This crate proves that layers of this form do what
 //! gb_layer's layers do: their states, steps and effects are gb_layer's, so that gb_layer's laws of the modules hold of them
-//! (`modules`). Only tests run them.
+//! (`modules`). Only tests run them. A relay here looks at each place of its column in each call; the places where something is due are
+//! not kept between calls.
 //!
 //! Read `layer::Layer` first, then `sink::Sink`. `index::Index` has the messages by place. `beb::Beb` is the lowest layer,
-//! `direct::Direct` over it is best-effort broadcast, and `relay::Relay` relays by a rule of gb_layer. `lists::Lists` is the uppermost sink, and `calls::make_call` makes one call of
-//! a layer over it.
+//! `direct::Direct` over it is best-effort broadcast, and `relay::Relay` relays by a rule of gb_layer. `lists::Lists` is the uppermost
+//! sink, and `calls::make_call` makes one call of a layer over it.
 #![tactic(auto)]
 
 pub mod beb;
@@ -23,6 +24,8 @@ pub mod lists;
 pub mod modules;
 pub mod relay;
 pub mod sink;
+#[cfg(test)]
+mod tests;
 
 pub use beb::Beb;
 pub use call::PlacedCall;

@@ -13,9 +13,9 @@ use crate::below::call_lower;
 use crate::call::PlacedCall;
 use crate::column::{Held, deliver_all, is_due, mark_sent, note, was_sent};
 use crate::index::Index;
-use crate::layer::Layer;
+use crate::layer::{Bounded, Layer, Single};
 use crate::sink::Sink;
-use gb_layer::Rule;
+use gb_layer::{Room, Rule};
 use gb_types::{NodeId, NodeSet, OutOfMemory};
 use std::alloc::Global;
 
@@ -252,4 +252,14 @@ impl<L: Layer, R: Rule> Layer for Relay<L, R> {
     }
 
     ghost grows = { relay_grows L.meaning L.knows L.grows };
+}
+
+impl<L: Single, R: Rule> Bounded for Relay<L, R> {
+    fn most(&self) -> Room {
+        let places = self.column.len();
+        Room {
+            sends: places + 2,
+            ups: places + 1,
+        }
+    }
 }

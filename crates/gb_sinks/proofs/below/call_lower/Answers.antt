@@ -1,8 +1,6 @@
 use Rattle.std.proofs.Common.{rules, ◌≡◌, ◌∙◌, ap, vec_len, vec_capacity}
-use Rattle.std.specs.Global.{Vec}
 use Rattle.gb_types.specs.declared.node.NodeId.{NodeId}
 use Rattle.gb_layer.specs.Relay.{taken_in}
-use Rattle.gb_sinks.specs.declared.column.Held.{Held}
 use Rattle.gb_sinks.specs.Places.{told}
 use Rattle.gb_sinks.specs.Column.{zipped}
 use Rattle.gb_sinks.specs.Below.{BelowState, below_column_name, below_out_name, below_len, below_capacity, below_entries, below_inner}
@@ -14,9 +12,9 @@ returns-clause-entries g c =
     let column = c.args.column.now in
     let given = g.L.Layer.gives (g.L.Layer.meaning ms c.args.lower.now) (told ms c.args.call) in
     let s : BelowState g.O.Sink.State = record { column_name = _; out_name = _; me = c.me-me.result; len = vec_len column; capacity = vec_capacity column; entries = zipped ms column.items; inner = g.O.Sink.state ms c.args.out.now } in
-    let back : c.column-1.given.0 ≡ c.take.new.out.column.now = search (rules, below_column_name) in
-    ap (λ (v : Vec Held). zipped ms v.items) back
-    ∙ (below_entries g.O.Sink.sent s _ given c.take.ensures.out ∙ ap (λ (n : NodeId). taken_in n given.ups (zipped ms column.items)) (c.me-me.ensures ms))
+    let here : zipped ms c.take.new.out.column.now.items ≡ taken_in (g.L.Layer.me (g.L.Layer.meaning ms c.args.lower.now)) given.ups (zipped ms column.items) =
+    below_entries g.O.Sink.sent s _ given c.take.ensures.out ∙ ap (λ (n : NodeId). taken_in n given.ups (zipped ms column.items)) (c.me-me.ensures ms) in
+    search (rules, below_column_name, here)
 
 pub returns-clause-len : goal.returns-clause-len
 returns-clause-len g c = search (rules, below_column_name, below_len)

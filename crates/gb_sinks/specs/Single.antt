@@ -1,0 +1,16 @@
+-- Layers of which each call sends at most one message.
+use Rattle.std.proofs.Common.{ℕ, ◌≤◌, length, arith}
+use Rattle.gb_types.specs.declared.node.NodeId.{NodeId}
+use Rattle.gb_layer.specs.declared.call.Call.{Call}
+use Rattle.gb_layer.specs.declared.call.Call.TheVariants.{Say, Came, Notice}
+use Rattle.gb_layer.specs.BebMachine.{beb_gives}
+use Rattle.gb_layer.specs.Machine.{Gives}
+
+-- each call sends at most one message
+abbrev pub SendsAtMostOne : {S : Type 0} → (S → Call → Gives) → Type 0
+SendsAtMostOne {S} gives = (s : S) (c : Call) → length (gives s c).sends ≤ 1
+
+pub beb_sends_one : SendsAtMostOne beb_gives
+beb_sends_one me (Say m) = omega arith
+beb_sends_one me (Came p m) = omega arith
+beb_sends_one me (Notice q) = omega arith
