@@ -44,3 +44,7 @@ pub record IsOfEntries (plan : Plan) (tapes : List (List TapeEntry)) (events : L
 -- every replay of merged events is of the tapes' entries
 abbrev pub ReplaysAreOfEntries : Type 0
 ReplaysAreOfEntries = (plan : Plan) (tapes : List (List TapeEntry)) (events : List Event) (m : IsMergedFront plan tapes events) (schedule answers : List ℕ) (r : IsReplay plan events schedule answers) → IsOfEntries plan tapes events m schedule answers r
+
+-- from whatever tapes the events were merged, the texts are those of a replay of these tapes' entries
+abbrev pub ReplaysEntries : Plan → List Event → List ℕ → List ℕ → Type 0
+ReplaysEntries plan events schedule answers = (tapes : List (List TapeEntry)) (m : IsMergedFront plan tapes events) → (r : IsReplay plan events schedule answers) × IsOfEntries plan tapes events m schedule answers r

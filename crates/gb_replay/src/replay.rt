@@ -3,9 +3,11 @@ ghost use Rattle.std.specs.Prelude.{◌≡◌, IfOk, IfErr, OnOk};
 ghost use Rattle.gb_cluster.specs.ClusterValue.{IsClusterPlan};
 ghost use Rattle.gb_simulate.specs.Text.{IsText};
 ghost use Rattle.gb_simulate.specs.declared.outcome.SimEnd.TheVariants as Ends;
+ghost use Rattle.gb_replay.specs.Entries.{ReplaysEntries};
 ghost use Rattle.gb_replay.specs.Replay.{IsReplay, IsReplayFault, IsOtherFault};
 
 use crate::difference::first_difference;
+use crate::laws::answers_are_the_records;
 use crate::steps::{Replay, StepFault, schedule_of};
 use gb_cluster::Event;
 use gb_rules::room::ROOMS;
@@ -79,13 +81,16 @@ fn compare(alloc: Global, replay: &Replay) -> Result<(), ReplayFault>
 /// Returns the events of a cluster as a schedule for gb_sim, with the answers that gb_sim writes for it. It runs the events, and then
 /// the schedule as gb_sim does, to compare the answers. `Err`, in this order: `Places` if the plan has another number of places than
 /// 1,024, `TooMany` for 1,000,000 events or more, `NoNode` if an event is at a node that is not there, `Differs` with the line if
-/// gb_sim answers otherwise. `Err` with `OutOfMemory` if there is no memory, or a node of the run had none.
+/// gb_sim answers otherwise. `Err` with `OutOfMemory` if there is no memory, or a node of the run had none. If the events
+/// were merged from tapes, both texts are made of the tapes' entries.
 pub fn replay(alloc: Global, plan: &Plan, events: &[Event]) -> Result<Replay, ReplayFault>
     requires plan { IsClusterPlan plan.now }
     ensures ok { IfOk result (λ text. IsReplay plan.now events.now text.schedule.items text.answers.items) }
     ensures simulated { IfOk result (λ text. IsText text.schedule.items text.answers.items Ends.All) }
+    ensures entries { IfOk result (λ text. ReplaysEntries plan.now events.now text.schedule.items text.answers.items) }
     ensures err { IfErr result (IsReplayFault plan.now events.now) }
 {
+    answers_are_the_records();
     if plan.places != ROOMS {
         return Err(ReplayFault::Places);
     }
