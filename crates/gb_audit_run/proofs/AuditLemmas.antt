@@ -2,12 +2,10 @@
 use Rattle.std.proofs.Common.{◌≡◌, ◌≢◌, ℕ, zero, suc, ◌+◌, ◌<◌, ◌≤◌, Bool, true, false, nat_eq, List, [], ◌∷◌, ◌++◌, length, map, take, get_or, All, ◌↔◌, refl, sym, ap, ◌∙◌, subst, arith, inl, inr, append_assoc}
 use Rattle.std.specs.Prelude.{Option, Some, None, IsSome, Vec, vec_len, find, AllPairs, sum, slice_get}
 use Rattle.std.specs.List.{range_with_len, AllZip}
-use Rattle.std.specs.Option.{option_map_or, option_or}
-use Rattle.std.proofs.Math.ListN.{set}
+use Rattle.std.proofs.Math.ListN.{set, get_or-map}
 use Rattle.std.proofs.lemmas.Bool.{cases_eq, cases_lt, eq-eqb, ne_eqb}
 use Rattle.std.proofs.lemmas.List.{take_more, take_all, take-map, get_or-take, length-take-le, map-append, get_or-set_same, get_or-set_other, length-set, length-map, same_lists, get_or_default, append-nil}
-use Rattle.std.proofs.Math.ListN.{get_or-map}
-use Rattle.std.proofs.lemmas.List.Elements.{All-append, All-get_or}
+use Rattle.std.proofs.lemmas.List.Elements.{All-append, All-get_or, All-head, All-tail}
 use Rattle.std.proofs.lemmas.Slice.Zip.{all_zipped_more}
 use Rattle.std.proofs.lemmas.List.FromFn.{length-map-range_with_len, get_or-map-range_with_len, map-range_with_len_more}
 use Rattle.std.proofs.lemmas.List.Sums.{sum_by-take-le, sum_by-append, sum_by-cons}
@@ -19,7 +17,10 @@ use Rattle.gb_node.specs.declared.tape.TapeEntry.{TapeEntry}
 use Rattle.gb_record_text.specs.declared.head.RecordHead.{RecordHead}
 use Rattle.gb_record_text.specs.declared.reader.Record.{Record}
 use Rattle.gb_audit_run.specs.declared.audit.Source.{Source}
-use Rattle.gb_audit_run.specs.Audits.{AreOfOne, HasText, is_of, entries_of}
+use Rattle.gb_record_text.specs.Fits.{FitsRecord}
+use Rattle.gb_record_text.specs.Laws.{AreSame, OneTextOneRecord}
+use Rattle.gb_audit_run.specs.Audits.{AreOfOne, HasText, is_of, entries_of, IsAllAnswered, AreTheOnly}
+use Rattle.std.specs.Option.{option_map_or, option_or}
 
 -- a test of each element of a list, from the first on
 
@@ -176,3 +177,19 @@ none_left left popped none variant = empty left.items (by left.items refl)
         let some : 0 < vec_len left = omega (arith, left.ok.0, ap length e) in
         let is : IsSome popped = variant.1 some in
         absurd (subst (λ (o : Option Record). IsSome o → ⊥) (sym none) (λ i. cc) is)
+
+-- texts are of one list of records
+
+same_each : OneTextOneRecord → (sources : List Source) (records others : List Record) → AllZip HasText sources records → AllZip HasText sources others → All FitsRecord records → All FitsRecord others → All IsAllAnswered records → All IsAllAnswered others → AllZip AreSame records others
+same_each law [] [] [] have its fits fit answered are = tt
+same_each law [] [] (s ∷ others) have its fits fit answered are = absurd its
+same_each law [] (r ∷ records) others have its fits fit answered are = absurd have
+same_each law (x ∷ sources) [] others have its fits fit answered are = absurd have
+same_each law (x ∷ sources) (r ∷ records) [] have its fits fit answered are = absurd its
+same_each law (x ∷ sources) (r ∷ records) (s ∷ others) have its fits fit answered are = (
+  law r s x.text.now (All-head FitsRecord r records fits) (All-head FitsRecord s others fit) (All-head IsAllAnswered r records answered) (All-head IsAllAnswered s others are) have.0 its.0,
+  same_each law sources records others have.1 its.1 (All-tail FitsRecord r records fits) (All-tail FitsRecord s others fit) (All-tail IsAllAnswered r records answered) (All-tail IsAllAnswered s others are),
+)
+
+pub the_only : OneTextOneRecord → (sources : List Source) (records : List Record) → AllZip HasText sources records → All FitsRecord records → All IsAllAnswered records → AreTheOnly sources records
+the_only law sources records have fits answered others are fit its = same_each law sources records others have are.read fits fit answered its

@@ -6,15 +6,18 @@ use Rattle.gb_types.specs.Version.{version_at}
 use Rattle.gb_types.specs.declared.plan.Plan.{Plan}
 use Rattle.gb_node.specs.declared.tape.TapeEntry.{TapeEntry}
 use Rattle.gb_cluster.specs.ClusterValue.{IsClusterPlan}
-use Rattle.gb_cluster.specs.declared.event.Event.{Event}
 use Rattle.gb_merge.specs.Front.{IsMergedFront}
+use Rattle.gb_record_text.specs.Fits.{FitsRecord}
+use Rattle.gb_record_text.specs.Laws.{IsAnswered, AreSame}
 use Rattle.gb_record_text.specs.Records.{IsRecord}
 use Rattle.gb_record_text.specs.declared.head.RecordHead.{RecordHead}
 use Rattle.gb_record_text.specs.declared.reader.Record.{Record}
+use Rattle.gb_audit_run.specs.Counts.{AreCounted}
 use Rattle.gb_audit_run.specs.declared.audit.Audited.{Audited}
 use Rattle.gb_audit_run.specs.declared.audit.Source.{Source}
 use Rattle.gb_audit_run.specs.declared.audit.Verdict.TheVariants.{Whole}
 use Rattle.gb_audit_run.specs.declared.cluster.ClusterKeys.{ClusterKeys}
+use Rattle.gb_cluster.specs.declared.event.Event.{Event}
 
 -- two first lines that may be of two nodes of one cluster
 pub record AreOfOne (first other : RecordHead) : Type 0 where
@@ -33,6 +36,14 @@ pub record AreRecords (sources : List Source) (records : List Record) : Type 0 w
   pub read : AllZip HasText sources records
   pub one : AllPairs (λ (r : Record) (s : Record). AreOfOne r.head s.head) records
 
+-- each answer of the record is one to its event
+abbrev pub IsAllAnswered : Record → Type 0
+IsAllAnswered r = All IsAnswered r.entries.items
+
+-- the texts are of no records that say anything else, as far as each answer of these is one to its event, as a node's answers are
+abbrev pub AreTheOnly : List Source → List Record → Type 0
+AreTheOnly sources records = (others : List Record) → AreRecords sources others → All FitsRecord others → All IsAllAnswered others → AllZip AreSame records others
+
 -- what a first line says is what the plan has
 pub record IsOfPlan (plan : Plan) (head : RecordHead) : Type 0 where
   pub here : head.node.number < plan.nodes
@@ -50,11 +61,14 @@ is_of b r = nat_eq r.head.node.number b
 abbrev pub entries_of : List Record → ℕ → List TapeEntry
 entries_of records b = option_map_or (λ (r : Record). r.entries.items) (find (is_of b) records) []
 
--- What is audited are these texts: the plan and the tapes are those of their records, under these keys. The events are a run of
--- the first entries of the tapes, and the verdict is `Whole` exactly if they are all of them.
+-- What is audited are these texts: the plan and the tapes are those of their records, under these keys. The texts are of these
+-- records alone, and each seat's entries count from 0 on without a gap. The events are a run of the first entries of the tapes, and
+-- the verdict is `Whole` exactly if they are all of them.
 pub record IsAudit (sources : List Source) (keys : ClusterKeys) (run : Audited) : Type 0 where
   pub records : List Record
   pub are : AreRecords sources records
+  pub only : AreTheOnly sources records
+  pub counted : All (λ (r : Record). AreCounted r.entries.items) records
   pub plan : IsClusterPlan run.plan
   pub fit : All (λ (r : Record). IsOfPlan run.plan r.head) records
   pub cluster_key : run.plan.cluster_key ≡ keys.cluster

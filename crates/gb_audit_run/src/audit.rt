@@ -1,18 +1,25 @@
 //! The audit of the records of a cluster's nodes: whether what they recorded is one run of the cluster.
-ghost use Rattle.std.specs.Prelude.{◌≡◌, ◌≢◌, ◌<◌, ◌↔◌, length, map, sum, AllPairs, All, IfOk, IfSome, IsTrue};
+ghost use Rattle.std.specs.Prelude.{◌≡◌, ◌≢◌, ◌<◌, ◌↔◌, length, map, sum, AllPairs, All, IfOk, IfSome, IfNone, IsTrue};
 ghost use Rattle.std.specs.List.{range_with_len};
 ghost use Rattle.gb_cluster.specs.ClusterValue.{IsClusterPlan};
+ghost use Rattle.gb_record_text.specs.Fits.{FitsRecord};
+ghost use Rattle.gb_record_text.specs.Laws.{IsAnswered};
+ghost use Rattle.gb_audit_run.specs.Counts.{AreCounted};
 ghost use Rattle.gb_audit_run.specs.Audits.{AreOfOne, AreRecords, IsAudit, IsOfPlan, entries_of};
 ghost use Rattle.gb_audit_run.specs.declared.audit.Verdict.TheVariants.{Whole};
 
 use crate::cluster::{ClusterKeys, are_of_one, plan_of};
+use crate::counts::first_gap;
 use crate::left::{is_sent, merged_counts, sender_of};
-use crate::lines::{put_bad_line, put_fault, put_left, put_merged, put_stranger, put_tape};
+use crate::lines::{
+    put_bad_line, put_fault, put_gap, put_left, put_merged, put_stranger, put_tape,
+};
 use crate::replay::first_wrong;
 use gb_cluster::Event;
 use gb_merge::AuditFault;
 use gb_merge::front::{front_is_one_run, merge_front};
 use gb_node::Tape;
+use gb_record_text::laws::one_text_one_record;
 use gb_record_text::reader::read_record;
 use gb_record_text::{ReadFault, Record, RecordHead};
 use gb_types::limits::NODES;
@@ -76,7 +83,8 @@ fn read_all(
     sources: &[Source<'_>],
     out: &mut Vec<u8>,
 ) -> Result<Option<Vec<Record>>, OutOfMemory>
-    ensures { IfOk result (λ found. IfSome found (λ records. AreRecords sources.now records.items)) }
+    ensures records { IfOk result (λ found. IfSome found (λ records. AreRecords sources.now records.items)) }
+    ensures fit { IfOk result (λ found. IfSome found (λ records. All FitsRecord records.items)) }
 {
     let mut records: Vec<Record> = Vec::new(alloc);
     for source in sources {
@@ -120,6 +128,14 @@ fn heads_of(alloc: Global, records: &[Record]) -> Result<Vec<RecordHead>, OutOfM
     Ok(heads)
 }
 
+// Returns the name of the file at a place.
+fn name_at<'a>(sources: &[Source<'a>], place: usize) -> &'a str {
+    match sources.get(place) {
+        Some(source) => source.name,
+        None => "-",
+    }
+}
+
 // Returns true if each answer of each record is the one that its node returns when it is replayed alone. Otherwise the last line
 // says which one is not.
 fn are_replayed(
@@ -131,21 +147,41 @@ fn are_replayed(
 ) -> Result<bool, OutOfMemory>
     requires plan { IsClusterPlan plan.now }
     requires here { All (λ r. r.head.node.number < plan.now.nodes) records.now }
+    ensures { IfOk result (λ right. IsTrue right → All (λ r. All IsAnswered r.entries.items) records.now) }
 {
-    for place in 0..records.len().min(sources.len()) {
+    for place in 0..records.len() {
         let record = &records[place];
         let node = record.head.node;
         if let Some(wrong) = first_wrong(alloc, plan, node, &record.entries) {
-            put_fault(
-                out,
-                AuditFault::Differs.number(),
-                sources[place].name,
-                wrong,
-            )?;
+            let name = name_at(sources, place);
+            put_fault(out, AuditFault::Differs.number(), name, wrong)?;
             return Ok(false);
         }
     }
     Ok(true)
+}
+
+// An entry whose count is not the next one of its seat: the place of its record, and its own place there.
+#[derive(Clone, Copy)]
+struct Gap {
+    record: usize,
+    entry: usize,
+}
+
+// Returns the first gap in the counts of the records' entries. `None` if they have none.
+fn find_gap(alloc: Global, records: &[Record]) -> Result<Option<Gap>, OutOfMemory>
+    ensures { IfOk result (λ found. IfNone found (All (λ r. AreCounted r.entries.items) records.now)) }
+{
+    for place in 0..records.len() {
+        let record = &records[place];
+        if let Some(entry) = first_gap(alloc, &record.entries)? {
+            return Ok(Some(Gap {
+                record: place,
+                entry,
+            }));
+        }
+    }
+    Ok(None)
 }
 
 // Returns a label for each number of a node: the name of its record and whether it is whole.
@@ -273,8 +309,8 @@ fn tell_all(
 /// finding. Returns the part of the records that is one run of the cluster, with a verdict: `Whole` if that is all of them, `Left` if
 /// entries are left and a record was cut short or is missing, `Refused` if entries are left although all records are whole, or if an
 /// entry that is left takes a packet that its sender's whole record did not send. `None` if there is no record, a file is no record, the
-/// records are not of one cluster, an answer is not the one that its node returns when it is replayed alone, or no run can be merged; a
-/// last line then says why, except if there is no record. `Err` if memory runs out.
+/// records are not of one cluster, an answer is not the one that its node returns when it is replayed alone, the counts of a seat's entries
+/// have a gap, or no run can be merged; a last line then says why, except if there is no record. `Err` if memory runs out.
 pub fn audit(
     alloc: Global,
     sources: &[Source<'_>],
@@ -296,6 +332,8 @@ pub fn audit(
     if !are_replayed(alloc, &plan, sources, &records, out)? {
         return Ok(None);
     }
+    one_text_one_record();
+    let gap = find_gap(alloc, &records)?;
     let labels = labels_of(sources, &records);
     let tapes = tapes_of(alloc, plan.nodes, records)?;
     front_is_one_run();
@@ -313,6 +351,10 @@ pub fn audit(
         let counts = merged_counts(alloc, &tapes, &events)?;
         tell_all(&plan, &tapes, &labels, &counts, out)?
     };
+    if let Some(Gap { record, entry }) = gap {
+        put_gap(out, name_at(sources, record), entry)?;
+        return Ok(None);
+    }
     put_merged(out, events.len())?;
     Ok(Some(Audited {
         plan,

@@ -3,6 +3,7 @@
 
 pub mod audit;
 pub mod cluster;
+pub mod counts;
 pub mod left;
 pub mod lines;
 pub mod replay;

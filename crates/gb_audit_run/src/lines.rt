@@ -70,6 +70,15 @@ pub fn put_fault(
     put_bytes(out, b"\n")
 }
 
+/// Appends the line `gap FILE line L`: the count of the entry in line L of the record `name` is not the next of its seat. `place` is the number
+/// of entries before it, so L is `place` + 2. `Err` if memory runs out; then `out` may have a part of the line.
+pub fn put_gap(out: &mut Vec<u8>, name: &str, place: usize) -> Result<(), OutOfMemory> {
+    put_bytes(out, b"gap ")?;
+    put_bytes(out, name.as_bytes())?;
+    put_field(out, b"line", line_of(place))?;
+    put_bytes(out, b"\n")
+}
+
 /// Appends the line `left FILE line L entries R awaits I`: the R entries of the record `name` from line L on are not in the run, and the
 /// first of them takes a packet of node I. `place` is the number of entries before them, so L is `place` + 2. If `from` is `None`, the
 /// first takes no packet, and ` awaits I` is left out. `Err` if memory runs out; then `out` may have a part of the line.

@@ -13,21 +13,22 @@ use gb_types::{NodeId, OutOfMemory};
 use std::alloc::Global;
 use std::rt::HostRuntime;
 
-// Both nodes make a group and open it. Node 0 says a message, packs it and takes its acknowledgement; node 1 takes it and fetches it.
-// Both have seven entries.
-static STEPS: [At; 14] = [
+// Both nodes make a group and open it. Node 1 sends a packet that nobody takes. Node 0 says a message, packs it and takes its
+// acknowledgement; node 1 takes it and fetches it. Node 0 has seven entries, and node 1 eight.
+static STEPS: [At; 15] = [
     (0, Step::Ask(Asked::AddTenant)),
     (0, Step::Ask(Asked::MakeGroup)),
     (0, Step::Ask(Asked::OpenGroup)),
     (1, Step::Ask(Asked::AddTenant)),
     (1, Step::Ask(Asked::MakeGroup)),
     (1, Step::Ask(Asked::OpenGroup)),
+    (1, Step::Ack(0)),
     (0, Step::Ask(Asked::Say(b"a"))),
     (0, Step::Pack(1)),
     (1, Step::Come(0, 4)),
     (1, Step::Ask(Asked::Fetch(0, 16))),
     (1, Step::Ack(0)),
-    (0, Step::Come(1, 5)),
+    (0, Step::Come(1, 6)),
     (0, Step::Tick),
     (1, Step::Tick),
 ];
@@ -165,46 +166,53 @@ fn is_told(
     Ok(out.as_slice() == case.lines.as_bytes() && status_of(&found) == case.status)
 }
 
-static CASES: [Case; 10] = [
+static CASES: [Case; 11] = [
     Case {
         first: Change::None,
         second: Change::None,
-        lines: "tape a node 0 entries 7 whole\ntape b node 1 entries 7 whole\nmerged 14 events\n",
+        lines: "tape a node 0 entries 7 whole\ntape b node 1 entries 8 whole\nmerged 15 events\n",
         status: 0,
     },
     // An answer is changed: what node 1 fetched.
     Case {
         first: Change::None,
-        second: Change::Replace(6, b"0:1:61", b"0:1:62"),
-        lines: "tape a node 0 entries 7 whole\ntape b node 1 entries 7 whole\naudit fault 3 b line 6\n",
+        second: Change::Replace(7, b"0:1:61", b"0:1:62"),
+        lines: "tape a node 0 entries 7 whole\ntape b node 1 entries 8 whole\naudit fault 3 b line 7\n",
         status: 1,
     },
     // An entry is dropped: the opening of the group in which node 0 says a message.
     Case {
         first: Change::Drop(4),
         second: Change::None,
-        lines: "tape a node 0 entries 6 whole\ntape b node 1 entries 7 whole\naudit fault 3 a line 4\n",
+        lines: "tape a node 0 entries 6 whole\ntape b node 1 entries 8 whole\naudit fault 3 a line 4\n",
         status: 1,
     },
     // Two entries are exchanged: the making of the group and its opening.
     Case {
         first: Change::Exchange(3),
         second: Change::None,
-        lines: "tape a node 0 entries 7 whole\ntape b node 1 entries 7 whole\naudit fault 3 a line 3\n",
+        lines: "tape a node 0 entries 7 whole\ntape b node 1 entries 8 whole\naudit fault 3 a line 3\n",
         status: 1,
     },
     // A packet is invented: node 0, whose record is whole, did not send the one that node 1 took.
     Case {
         first: Change::End(5),
         second: Change::None,
-        lines: "tape a node 0 entries 4 whole\ntape b node 1 entries 7 whole\naudit fault 1 b line 5\nmerged 7 events\n",
+        lines: "tape a node 0 entries 4 whole\ntape b node 1 entries 8 whole\naudit fault 1 b line 6\nmerged 8 events\n",
+        status: 1,
+    },
+    // An entry is dropped whose packet nobody took: all else is one run, and the counts of its seat have a gap.
+    Case {
+        first: Change::None,
+        second: Change::Drop(5),
+        lines: "tape a node 0 entries 7 whole\ntape b node 1 entries 7 whole\ngap b line 5\n",
         status: 1,
     },
     // A record is cut short: node 1 waits for a packet that may have been sent behind the cut.
     Case {
         first: Change::Cut(5, 3),
         second: Change::None,
-        lines: "tape a node 0 entries 4 cut torn 3\ntape b node 1 entries 7 whole\nleft b line 5 entries 4 awaits 0\nmerged 7 events\n",
+        lines: "tape a node 0 entries 4 cut torn 3\ntape b node 1 entries 8 whole\nleft b line 6 entries 4 awaits 0\nmerged 8 events\n",
         status: 3,
     },
     // The record is said to be another node's.

@@ -149,9 +149,10 @@ fn note(
     event: NodeEvent,
     answer: NodeAnswer,
 ) -> Result<(), OutOfMemory> {
+    let count = tape.len() as u64;
     tape.push(TapeEntry {
         seat: 0,
-        count: 0,
+        count,
         event,
         answer,
     })?;

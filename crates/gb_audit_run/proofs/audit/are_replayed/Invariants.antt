@@ -1,0 +1,7 @@
+use Rattle.std.proofs.Common.{take}
+use Rattle.std.specs.Prelude.{All}
+use Rattle.gb_audit_run.specs.Audits.{IsAllAnswered}
+use Rattle.gb_audit_run.proofs.audit.are_replayed.Given as goal
+
+abbrev pub invariant-loop-place : goal.invariant-loop-place
+invariant-loop-place l = All IsAllAnswered (take l.place l.records)
