@@ -4,12 +4,12 @@ ghost use Rattle.gb_host.specs.HostValue.{AreHere};
 ghost use Rattle.gb_host.specs.Pasts.{AreBlank, books_of};
 ghost use Rattle.gb_host.specs.Plans.{IsPlan};
 
-use crate::asking::{ALONE, Unanswered, WORDS, add_tenant, call, log, prepare, say};
+use crate::asking::{ALONE, BOTH, Unanswered, WORDS, add_tenant, call, log, prepare, say};
 use crate::plans::{FIRST, SECOND, two_nodes, two_recorded};
 use gb_host::here::only;
 use gb_host::pasts::new_pasts;
 use gb_host::{Host, HostPlan, NodePast, Open, Recorder, Seat, Taken, Tapes};
-use gb_node::{NodeAnswer, NodeEvent};
+use gb_node::{NodeAnswer, NodeEvent, Sent};
 use gb_types::{NodeId, Reply, Version};
 use std::alloc::Global;
 use std::marker::Brand;
@@ -25,6 +25,8 @@ const WAITING: u64 = 16_384;
 enum Trial {
     // Three calls are made and taken.
     InOrder,
+    // It is asked for packets, before and after it has one to send.
+    Sending,
     // Its ring is filled with entries, and one entry is taken.
     Full,
 }
@@ -69,6 +71,50 @@ fn take_in_order<L: Tapes, R: Wait>(
         && takes(recorder, (1, 0), &NodeEvent::Pack(FIRST), &packed)
         && takes(recorder, (0, 1), &NodeEvent::Ack(FIRST), &acknowledged);
     is_empty && are_taken && recorder.take().is_none()
+}
+
+// Asks node 1 for a packet. Returns whether there was one, or `None` if the answer is another one.
+fn sends<L: Tapes, R: Wait>(
+    rt: &R,
+    host: &Host<L>,
+    seat: &mut Seat<L>,
+    event: NodeEvent,
+) -> Option<bool> {
+    match host.call_to_send(rt, seat, SECOND, event, &mut Open) {
+        Ok(Some(NodeAnswer::Sent(Sent::Packet(_)))) => Some(true),
+        Ok(None) => Some(false),
+        _ => None,
+    }
+}
+
+// Asks for packets to node 0 while nothing waits for it, and then for those with a message. Returns true if exactly the seven
+// events that are not left out are entries, and the last one has its number among these.
+fn send<L: Tapes, R: Wait + Clock>(
+    rt: &R,
+    alloc: Global,
+    host: &Host<L>,
+    seat: &mut Seat<L>,
+    recorder: &mut Recorder<L>,
+) -> bool {
+    let early_pack = sends(rt, host, seat, NodeEvent::Pack(FIRST));
+    let early_again = sends(rt, host, seat, NodeEvent::Again(FIRST, 0));
+    let is_empty = recorder.take().is_none();
+    prepare(rt, alloc, host, seat, SECOND, BOTH);
+    let said = say(rt, alloc, host, seat, SECOND, BOTH, WORDS);
+    let pack = sends(rt, host, seat, NodeEvent::Pack(FIRST));
+    let late_pack = sends(rt, host, seat, NodeEvent::Pack(FIRST));
+    let again = sends(rt, host, seat, NodeEvent::Again(FIRST, 0));
+    let is_ticked = made(rt, host, seat, NodeEvent::Tick).is_some();
+    let left = drain(recorder);
+    early_pack == Some(false)
+        && early_again == Some(false)
+        && is_empty
+        && said == Some(1)
+        && pack == Some(true)
+        && late_pack == Some(false)
+        && again == Some(true)
+        && is_ticked
+        && left == (7, 6)
 }
 
 // Asks for `times` ticks. Returns the number of ticks that are answered.
@@ -129,7 +175,7 @@ fn fill<L: Tapes, R: Wait>(
 type Tried = (bool, bool, bool);
 
 // Runs a trial on a host of node 1 alone, and closes the host.
-fn run<L: Tapes, R: Wait>(
+fn run<L: Tapes, R: Wait + Clock>(
     rt: &R,
     alloc: Global,
     plan: HostPlan,
@@ -149,6 +195,7 @@ fn run<L: Tapes, R: Wait>(
     let mut first = seats.pop()?;
     let is_right = match trial {
         Trial::InOrder => take_in_order(rt, &host, &mut first, &mut second, &mut recorder),
+        Trial::Sending => send(rt, alloc, &host, &mut first, &mut recorder),
         Trial::Full => fill(rt, &host, &mut first, &mut recorder),
     };
     let is_open = recorder.take().is_none();
@@ -162,7 +209,7 @@ fn run<L: Tapes, R: Wait>(
     Some((is_right, is_open && is_ended, is_node && is_whole))
 }
 
-fn tried<R: Wait>(rt: &R, alloc: Global, trial: Trial) -> Option<Tried> {
+fn tried<R: Wait + Clock>(rt: &R, alloc: Global, trial: Trial) -> Option<Tried> {
     let pasts = new_pasts(alloc, 2).ok()?;
     run::<Brand, R>(rt, alloc, two_recorded(), trial, pasts)
 }
@@ -216,6 +263,12 @@ fn are_alike(some: &[NodeAnswer], others: &[NodeAnswer]) -> bool {
 #[test]
 fn a_recorder_takes_what_a_node_did(rt: HostRuntime) {
     let tried = tried(&rt, rt.alloc(), Trial::InOrder);
+    assert!(rt; tried == Some((true, true, true)));
+}
+
+#[test]
+fn a_pack_or_an_again_that_gives_nothing_is_no_entry(rt: HostRuntime) {
+    let tried = tried(&rt, rt.alloc(), Trial::Sending);
     assert!(rt; tried == Some((true, true, true)));
 }
 
