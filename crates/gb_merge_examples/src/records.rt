@@ -7,6 +7,7 @@ use gb_audit_run::verdict::status_of;
 use gb_audit_run::{ClusterKeys, Source};
 use gb_node::Tape;
 use gb_record_text::RecordHead;
+use gb_record_text::laws::same_lines_same_entries;
 use gb_record_text::record::write_record;
 use gb_types::memory::put_bytes;
 use gb_types::{NodeId, OutOfMemory};
@@ -258,6 +259,7 @@ fn are_told(alloc: Global) -> Result<bool, OutOfMemory> {
 
 #[test]
 fn an_audit_finds_what_was_changed(rt: HostRuntime) {
+    same_lines_same_entries();
     let told = are_told(rt.alloc());
     assert!(rt; told == Ok(true));
 }
