@@ -72,27 +72,20 @@ impl Write for FailingPen<'_> {
     }
 }
 
-// A host of two nodes with one seat, and the recorder of its first node.
-#[derive(Drop)]
-struct Opened<L: Tapes> {
-    host: Host<L>,
-    seat: Seat<L>,
-    recorder: Recorder<L>,
-    ghost fresh: { (recorder.entries ≡ []) × (recorder.is_whole ≡ false) },
-}
-
-// Opens a host, with records in a folder that is removed again.
+// Opens a host of two nodes with one seat, and with records in a folder that is removed again. Returns the host, the seat, and the recorder
+// of the first node.
 fn open_recorded<L: Tapes, R: Files<File = File> + RandomSource + AllocGlobal>(
     rt: &R,
     alloc: Global,
     plan: HostPlan,
     pasts: Vec<NodePast>,
-) -> Option<Opened<L>>
+) -> Option<(Host<L>, Seat<L>, Recorder<L>)>
     requires plan { plan ≡ L.plan }
     requires limits { IsPlan plan }
     requires two { plan.cluster.nodes ≡ 2 }
     requires pasts { (vec_len pasts ≡ plan.cluster.nodes) × AreBlank pasts.items }
     requires books { books_of pasts.items ≡ L.books }
+    ensures { IfSome result (λ r. (r.2.entries ≡ []) × (r.2.is_whole ≡ false)) }
 {
     let here = all_nodes(plan.cluster.nodes);
     let (host, seats, recorders) = Host::<L>::open(alloc, plan, here, 1, pasts).ok()?;
@@ -109,11 +102,7 @@ fn open_recorded<L: Tapes, R: Files<File = File> + RandomSource + AllocGlobal>(
     let log = logs.into_iter().next()?;
     let (recorder, file) = log.into_parts();
     drop(file);
-    Some(Opened {
-        host,
-        seat,
-        recorder,
-    })
+    Some((host, seat, recorder))
 }
 
 // Returns true if a tick at the first node is answered.
@@ -126,16 +115,15 @@ fn ticks<L: Tapes, R: Wait>(rt: &R, host: &Host<L>, seat: &mut Seat<L>) -> bool 
 fn failing<R: RecordName, L: Tapes, H: Wait>(
     rt: &H,
     alloc: Global,
-    opened: Opened<L>,
+    host: Host<L>,
+    seat: Seat<L>,
+    recorder: Recorder<L>,
     written: NodePast,
 ) -> Option<([bool; 3], Vec<u8>)>
-    requires { (written.log ≡ []) × (written.book ≡ R.book) }
+    requires recorder { (recorder.entries ≡ []) × (recorder.is_whole ≡ false) }
+    requires written { (written.log ≡ []) × (written.book ≡ R.book) }
 {
-    let Opened {
-        host,
-        mut seat,
-        recorder,
-    } = opened;
+    let mut seat = seat;
     let desk = Desk::new(alloc);
     let pen = FailingPen {
         pen: Pen { desk: &desk },
@@ -156,13 +144,36 @@ fn failing<R: RecordName, L: Tapes, H: Wait>(
     Some(([first, second, third], desk.into_text()))
 }
 
+// The same of a host that is opened for it.
+fn failed<L: Tapes, H: Wait + Files<File = File> + RandomSource + AllocGlobal>(
+    rt: &H,
+    alloc: Global,
+    plan: HostPlan,
+    pasts: Vec<NodePast>,
+) -> Option<([bool; 3], Vec<u8>)>
+    requires plan { plan ≡ L.plan }
+    requires limits { IsPlan plan }
+    requires two { plan.cluster.nodes ≡ 2 }
+    requires pasts { (vec_len pasts ≡ plan.cluster.nodes) × AreBlank pasts.items }
+    requires books { books_of pasts.items ≡ L.books }
+{
+    let (host, seat, recorder) = open_recorded::<L, H>(rt, alloc, plan, pasts)?;
+    failing::<Brand, L, H>(rt, alloc, host, seat, recorder, Past::new())
+}
+
+// The same of two new nodes.
+fn fail_second<H: Wait + Files<File = File> + RandomSource + AllocGlobal>(
+    rt: &H,
+    alloc: Global,
+) -> Option<([bool; 3], Vec<u8>)> {
+    let pasts = new_pasts(alloc, 2).ok()?;
+    failed::<Brand, H>(rt, alloc, two_recorded(), pasts)
+}
+
 #[test]
 fn a_record_whose_write_fails_has_what_was_written_before(rt: HostRuntime) {
     let alloc = rt.alloc();
-    let plan = two_recorded();
-    let pasts = new_pasts(alloc, 2).expect(&rt, "pasts");
-    let opened = open_recorded::<Brand, _>(&rt, alloc, plan, pasts).expect(&rt, "a host");
-    let found = failing::<Brand, Brand, _>(&rt, alloc, opened, Past::new());
+    let found = fail_second(&rt, alloc);
     let (went, text) = found.expect(&rt, "ticks");
     assert!(rt; went == [true, false, false]);
     let lines = b"0 0 tick 0 > noticed -\n0 1 tick 0 > noticed -\n";
@@ -170,28 +181,27 @@ fn a_record_whose_write_fails_has_what_was_written_before(rt: HostRuntime) {
 }
 
 // What became of three packets that were handed to a port which writes first: one that no event sent, one that an event sent, and this once
-// more; how many bytes were written when the second left; and how many packets came to the other node.
+// more; how many bytes were written when the second left; and whether that packet, and no other, came to the other node.
 #[derive(Clone, Copy)]
-struct Handed {
+struct Passed {
     went: [bool; 3],
     written: usize,
-    came: usize,
+    came: bool,
 }
 
 // Hands the packets on.
 fn hand<R: RecordName, L: Tapes, H: Wait>(
     rt: &H,
     alloc: Global,
-    opened: Opened<L>,
+    host: Host<L>,
+    seat: Seat<L>,
+    recorder: Recorder<L>,
     written: NodePast,
-) -> Option<Handed>
-    requires { (written.log ≡ []) × (written.book ≡ R.book) }
+) -> Option<Passed>
+    requires recorder { (recorder.entries ≡ []) × (recorder.is_whole ≡ false) }
+    requires written { (written.log ≡ []) × (written.book ≡ R.book) }
 {
-    let Opened {
-        host,
-        mut seat,
-        recorder,
-    } = opened;
+    let mut seat = seat;
     let desk = Desk::new(alloc);
     let seen = written.seen();
     let recording = Recording::<R, L, _>::new(alloc, recorder, Pen { desk: &desk }, written);
@@ -212,30 +222,54 @@ fn hand<R: RecordName, L: Tapes, H: Wait>(
     let second = port.send(SECOND, packet.as_slice()).is_ok();
     let written = desk.len().saturating_sub(unwritten);
     let third = port.send(SECOND, packet.as_slice()).is_ok();
-    let mut came = 0;
-    while let Ok(Some(bytes)) = far.recv() {
-        if bytes.as_slice() != packet.as_slice() {
-            return None;
-        }
-        came += 1;
-    }
+    let came = match far.recv() {
+        Ok(Some(bytes)) => bytes.as_slice() == packet.as_slice(),
+        _ => false,
+    };
+    let ends = match far.recv() {
+        Ok(found) => found.is_none(),
+        Err(_) => false,
+    };
     drop(port);
-    Some(Handed {
+    Some(Passed {
         went: [first, second, third],
         written,
-        came,
+        came: came && ends,
     })
+}
+
+// The same of a host that is opened for it.
+fn handed<L: Tapes, H: Wait + Files<File = File> + RandomSource + AllocGlobal>(
+    rt: &H,
+    alloc: Global,
+    plan: HostPlan,
+    pasts: Vec<NodePast>,
+) -> Option<Passed>
+    requires plan { plan ≡ L.plan }
+    requires limits { IsPlan plan }
+    requires two { plan.cluster.nodes ≡ 2 }
+    requires pasts { (vec_len pasts ≡ plan.cluster.nodes) × AreBlank pasts.items }
+    requires books { books_of pasts.items ≡ L.books }
+{
+    let (host, seat, recorder) = open_recorded::<L, H>(rt, alloc, plan, pasts)?;
+    hand::<Brand, L, H>(rt, alloc, host, seat, recorder, Past::new())
+}
+
+// The same of two new nodes.
+fn hand_first<H: Wait + Files<File = File> + RandomSource + AllocGlobal>(
+    rt: &H,
+    alloc: Global,
+) -> Option<Passed> {
+    let pasts = new_pasts(alloc, 2).ok()?;
+    handed::<Brand, H>(rt, alloc, two_recorded(), pasts)
 }
 
 #[test]
 fn a_packet_leaves_once_it_is_written(rt: HostRuntime) {
     let alloc = rt.alloc();
-    let plan = two_recorded();
-    let pasts = new_pasts(alloc, 2).expect(&rt, "pasts");
-    let opened = open_recorded::<Brand, _>(&rt, alloc, plan, pasts).expect(&rt, "a host");
-    let found = hand::<Brand, Brand, _>(&rt, alloc, opened, Past::new());
-    let handed = found.expect(&rt, "an acknowledgement");
-    assert!(rt; handed.went == [false, true, false] && handed.came == 1);
-    // The line of the acknowledgement: `0 0 ack 0 1 > packet `, 63 bytes as digits, and a line feed.
-    assert!(rt; handed.written == 21 + 2 * 63 + 1);
+    let found = hand_first(&rt, alloc);
+    let passed = found.expect(&rt, "an acknowledgement");
+    assert!(rt; passed.went == [false, true, false] && passed.came);
+    // The line of the acknowledgement: `0 0 ack 0 1 > packet `, 39 bytes as digits, and a line feed.
+    assert!(rt; passed.written == 21 + 2 * 39 + 1);
 }
