@@ -36,7 +36,8 @@ pub fn plan(nodes: u8) -> Plan
     plan_with(nodes, 4)
 }
 
-/// Returns the plan that `plan` returns, but with `places` places for rooms.
+/// Returns the plan of a cluster of `nodes` nodes, at least 1 and at most 3, whose tenants may reserve `places` rooms in all at a node. Node 1
+/// sends version 2 of the packet text, the others version 1.
 pub fn plan_with(nodes: u8, places: u16) -> Plan
     requires { places ≤ 1024 }
     ensures { IsClusterPlan result }
