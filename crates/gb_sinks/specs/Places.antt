@@ -48,7 +48,7 @@ told_after n (Say p) = reached n p
 told_after n (Came q p) = reached n p
 told_after n (Notice q) = n
 
--- a layer that knows so many places, with memory for so many, may be told the place that the call names
+-- A layer was told of the first `count` places, and has memory for `memory` places. The place that the call names is the next one, or an earlier one.
 pub record MayTake (known : ℕ → ℕ → Type 0) (call : PlacedCall) : Type 0 where
   pub count : ℕ
   pub memory : ℕ

@@ -37,7 +37,8 @@ impl Lists {
         }
     }
 
-    /// Makes room for so many further items. If memory is refused, the items stay as they were.
+    /// Reserves memory for `room.sends` more messages to send and `room.ups` more pairs that come up. `Err` if memory is refused. The items
+    /// stay as they were in both cases.
     pub fn reserve(&mut self, room: Room) -> Result<(), OutOfMemory>
         ensures sends { self.new.sends.items ≡ self.old.sends.items }
         ensures ups { self.new.ups.items ≡ self.old.ups.items }

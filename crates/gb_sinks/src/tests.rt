@@ -50,7 +50,7 @@ fn is_next_place(place: u16, told: usize, places: usize) -> bool
     false
 }
 
-/// Returns true if a layer that was told the first `told` of so many places may be told the call.
+/// Returns true if a layer that was told of the first `told` places, and has memory for `places` places, may be told the call.
 fn is_next(call: PlacedCall, told: usize, places: usize) -> bool
     ensures { result ≡ true → Names (IsNext told places) call }
 {
