@@ -1,3 +1,4 @@
+pub mod DigitLemmas
 pub mod TextLemmas
 pub mod LineLemmas
 pub mod RecordLemmas

@@ -3,9 +3,11 @@
 //! the text.
 #![tactic(auto)]
 
+mod digits;
 mod fits;
 pub mod head;
 pub mod laws;
+mod log;
 pub mod reader;
 pub mod reading;
 pub mod record;

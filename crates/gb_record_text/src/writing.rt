@@ -6,13 +6,13 @@ ghost use Rattle.gb_types.specs.RequestWords.{group_word};
 ghost use Rattle.gb_types.specs.Rising.{rising, rising_from};
 ghost use Rattle.gb_record_text.specs.RecordText.{after_space, address_text, token_text, limits_text, row_text, spec_text, message_text, each_after_comma, request_text, event_text, taken_text, sent_text, answer_text, entry_line};
 
+use crate::digits::{put_digits, put_payload};
+use crate::log::put_reply;
 use gb_node::{NodeAnswer, NodeEvent, PacketAnswer, Sent, TapeEntry};
 use gb_simulate::answer_text::{put_halted, put_packet, put_refusal, put_ticked};
 use gb_types::kind_word::word_of;
 use gb_types::memory::put_bytes;
 use gb_types::number::put_number;
-use gb_types::payload_word::put_payload;
-use gb_types::reply_text::put_reply;
 use gb_types::{Addr, NewMessage, NodeId, NodeSet, OutOfMemory, Request, Spec, TenantRow};
 
 /// Appends bytes.
@@ -34,7 +34,7 @@ pub(crate) fn put_after(out: &mut Vec<u8>, number: u64) -> Result<(), OutOfMemor
 fn put_key(out: &mut Vec<u8>, key: &[u8; 32]) -> Result<(), OutOfMemory>
     ensures { OnOk result (out.new.items ≡ out.old.items ++ encode_lower key.now) }
 {
-    put_payload(out, key.as_slice())
+    put_digits(out, key.as_slice())
 }
 
 /// Appends ` by TOKEN`.
