@@ -167,6 +167,24 @@ broke answers late s t session session' new piece before after room (Ok step) sa
 broke answers late s t session session' new piece before after room (Err why) same breaks =
     inr (subst (λ (v : SessionValue). BreaksOff answers late s t v.kept new.kept before after v.left new.left room) same breaks)
 
+-- what is taken where it lies, and where memory failed there
+pub took_here : {S E : Type 0} (answers : Answering S) (late : Bool) (s t : S) (old new : SessionValue) (piece rest before after : List ℕ) (n m room : ℕ) (result : Result Step E)
+    → old.kept ≡ [] → n ≡ old.left → new ≡ record { kept = rest; left = m } → IfOk result (Takes answers late s t piece rest before after n m room)
+    → IfOk result (Takes answers late s t (old.kept ++ piece) new.kept before after old.left new.left room)
+took_here answers late s t old new piece rest before after n m room result none some is takes =
+    subst (λ (v : SessionValue). IfOk result (Takes answers late s t (old.kept ++ piece) v.kept before after old.left v.left room)) (sym is)
+    (subst (λ k. IfOk result (Takes answers late s t (k ++ piece) rest before after old.left m room)) (sym none)
+    (subst (λ k. IfOk result (Takes answers late s t piece rest before after k m room)) some takes))
+
+pub broke_here : {S E : Type 0} (answers : Answering S) (late : Bool) (s t : S) (old new : SessionValue) (piece rest before after : List ℕ) (n m room : ℕ) (result : Result Step E)
+    → old.kept ≡ [] → n ≡ old.left → new ≡ record { kept = rest; left = m } → OnErr result (BreaksOff answers late s t piece rest before after n m room)
+    → OnErr result (FailsPiece answers late s t old piece new before after room)
+broke_here answers late s t old new piece rest before after n m room (Ok step) none some is breaks = tt
+broke_here answers late s t old new piece rest before after n m room (Err why) none some is breaks =
+    inr (subst (λ (v : SessionValue). BreaksOff answers late s t (old.kept ++ piece) v.kept before after old.left v.left room) (sym is)
+    (subst (λ k. BreaksOff answers late s t (k ++ piece) rest before after old.left m room) (sym none)
+    (subst (λ k. BreaksOff answers late s t piece rest before after k m room) some breaks)))
+
 pub nothing_put : {S : Type 0} (answers : Answering S) (late : Bool) (s : S) (old new : SessionValue) (piece before : List ℕ) (room : ℕ) → new ≡ old → FailsPiece answers late s s old piece new before before room
 nothing_put answers late s old new piece before room same = inl (same, refl, refl)
 

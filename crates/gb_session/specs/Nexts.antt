@@ -63,3 +63,7 @@ behind session other = session
 abbrev pub IsThere : SessionValue → Next → Type 0
 IsThere session (Answered end) = (end ≤ length session.kept) × (0 < session.left)
 IsThere session other = Unit {0}
+
+-- a session that keeps what stands behind the first bytes
+abbrev pub session_at : List ℕ → ℕ → ℕ → SessionValue
+session_at bytes at left = record { kept = drop at bytes; left = left }

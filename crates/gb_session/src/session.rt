@@ -1,8 +1,9 @@
 //! A client's session as a value: bytes in, replies out, and nothing that waits.
-ghost use Rattle.std.specs.Prelude.{◌≡◌, ◌≤◌, ◌<◌, ◌++◌, [], List, ℕ, length, drop, IfOk, IfSome, IfNone, OnErr, OnOk, Option};
+ghost use Rattle.std.specs.Prelude.{◌≡◌, ◌≤◌, ◌<◌, ◌+◌, ◌++◌, [], List, ℕ, length, take, drop, true, vec_len, vec_capacity, IfOk, IfSome, IfNone, OnErr, OnOk, Option};
+ghost use Rattle.std.specs.Io.{StartsWith};
 ghost use Rattle.gb_types.specs.declared.reply.Reply.{Reply as TheReply};
 ghost use Rattle.gb_types.specs.declared.request.Request.{Request as TheRequest};
-ghost use Rattle.gb_session.specs.Nexts.{IsAskFront, IsOutcome, IsNext, FailsNext, IsThere, behind};
+ghost use Rattle.gb_session.specs.Nexts.{IsAskFront, IsOutcome, IsNext, FailsNext, IsThere, session_at, behind};
 ghost use Rattle.gb_session.specs.Progress.{EndsBehind};
 ghost use Rattle.gb_session.specs.Runs.{IsRun};
 ghost use Rattle.gb_session.specs.Settled.{fetch_of, is_empty_log, label_of, answer_text, Finds, FindsNone};
@@ -179,59 +180,76 @@ fn settle<A: Answers>(alloc: Global, answers: &mut A, ask: Ask, is_late: bool) -
     }
 }
 
-// Returns the text of a reply, behind `at K ` if the label is K.
-fn text_of(alloc: Global, label: Option<usize>, reply: &Reply) -> Result<Vec<u8>, OutOfMemory>
-    ensures { IfOk result (λ text. text.items ≡ answer_text label reply.now) }
+// Appends the text of a reply, behind `at K ` if the label is K. Without memory a part of the text may stand behind the earlier bytes.
+fn put_text(out: &mut Vec<u8>, label: Option<usize>, reply: &Reply) -> Result<(), OutOfMemory>
+    ensures ok { OnOk result (out.new.items ≡ out.old.items ++ answer_text label reply.now) }
+    ensures err { OnErr result (StartsWith out.new.items out.old.items) }
 {
-    let mut text = Vec::new(alloc);
     if let Some(at) = label {
-        put_bytes(&mut text, b"at ")?;
-        put_number(&mut text, at as u64)?;
-        put_bytes(&mut text, b" ")?;
+        put_bytes(out, b"at ")?;
+        put_number(out, at as u64)?;
+        put_bytes(out, b" ")?;
     }
-    put_reply(&mut text, reply)?;
-    Ok(text)
+    put_reply(out, reply)
 }
 
-// Returns the text with its length in front. A text of more than `REPLY` bytes is refused.
-fn frame(alloc: Global, text: &[u8]) -> Result<Vec<u8>, OutOfMemory>
-    ensures { IfOk result (λ message. message.items ≡ framed text.now) }
-{
-    if text.len() > REPLY {
-        return Err(OutOfMemory);
-    }
-    let length = text.len() as u32;
-    let mut message = Vec::from_slice(alloc, &length.to_be_bytes())?;
-    message.extend_from_slice(text)?;
-    Ok(message)
-}
-
-// Appends a text with its length. Without memory nothing has changed.
-fn put_framed(alloc: Global, out: &mut Vec<u8>, text: &[u8]) -> Result<(), OutOfMemory>
-    ensures ok { OnOk result (out.new.items ≡ out.old.items ++ framed text.now) }
+// Writes the length of the text behind index `start + 4` into the four bytes from `start` on. A text of more than `REPLY` bytes is
+// refused, and nothing has changed.
+fn write_length(out: &mut Vec<u8>, start: usize) -> Result<(), OutOfMemory>
+    requires { start + 4 ≤ vec_len out.old }
+    ensures ok { OnOk result (out.new.items ≡ take start out.old.items ++ framed (drop (start + 4) out.old.items)) }
     ensures err { OnErr result (out.new.items ≡ out.old.items) }
 {
-    let message = frame(alloc, text)?;
-    put_bytes(out, &message)
+    let length = out.len() - (start + 4);
+    if length > REPLY {
+        return Err(OutOfMemory);
+    }
+    let length = (length as u32).to_be_bytes();
+    out[start..start + 4].copy_from_slice(&length);
+    Ok(())
+}
+
+// Appends a reply with its length. Without memory a part of it may stand behind the earlier bytes.
+fn put_framed(out: &mut Vec<u8>, label: Option<usize>, reply: &Reply) -> Result<(), OutOfMemory>
+    ensures ok { OnOk result (out.new.items ≡ out.old.items ++ framed (answer_text label reply.now)) }
+    ensures err { OnErr result (StartsWith out.new.items out.old.items) }
+{
+    let start = out.len();
+    put_bytes(out, &[0; 4])?;
+    put_text(out, label, reply)?;
+    write_length(out, start)
 }
 
 // Appends a reply with its length. Without memory nothing has changed.
-fn put_answer(
-    alloc: Global,
-    out: &mut Vec<u8>,
-    label: Option<usize>,
-    reply: &Reply,
-) -> Result<(), OutOfMemory>
+fn put_answer(out: &mut Vec<u8>, label: Option<usize>, reply: &Reply) -> Result<(), OutOfMemory>
     ensures ok { OnOk result (out.new.items ≡ out.old.items ++ framed (answer_text label reply.now)) }
     ensures err { OnErr result (out.new.items ≡ out.old.items) }
 {
-    let text = text_of(alloc, label, reply)?;
-    put_framed(alloc, out, &text)
+    let start = out.len();
+    let put = put_framed(out, label, reply);
+    if put.is_err() {
+        out.truncate(start);
+    }
+    put
+}
+
+// Appends a reply to an operation, with its length. Without memory a part of it may stand behind the earlier bytes.
+fn put_operated<A: Answers>(
+    answers: &A,
+    operation: Operation,
+    out: &mut Vec<u8>,
+) -> Result<(), OutOfMemory>
+    ensures ok { OnOk result ((text : List ℕ) × A.answers.tells operation text × (out.new.items ≡ out.old.items ++ framed text)) }
+    ensures err { OnErr result (StartsWith out.new.items out.old.items) }
+{
+    let start = out.len();
+    put_bytes(out, &[0; 4])?;
+    answers.operate(operation, out)?;
+    write_length(out, start)
 }
 
 // Appends a reply to an operation, with its length. Without memory nothing has changed.
 fn put_told<A: Answers>(
-    alloc: Global,
     answers: &A,
     operation: Operation,
     out: &mut Vec<u8>,
@@ -239,9 +257,12 @@ fn put_told<A: Answers>(
     ensures ok { OnOk result ((text : List ℕ) × A.answers.tells operation text × (out.new.items ≡ out.old.items ++ framed text)) }
     ensures err { OnErr result (out.new.items ≡ out.old.items) }
 {
-    let mut text = Vec::new(alloc);
-    answers.operate(operation, &mut text)?;
-    put_framed(alloc, out, &text)
+    let start = out.len();
+    let put = put_operated(answers, operation, out);
+    if put.is_err() {
+        out.truncate(start);
+    }
+    put
 }
 
 // Answers the message at the front of the bytes and appends its reply. Returns the Limit if `left` is 0.
@@ -262,20 +283,79 @@ fn answer_front<A: Answers>(
     match read_ask_front(alloc, bytes)? {
         AskFront::Begun => Ok(Next::Hungry),
         AskFront::Malformed => {
-            put_answer(alloc, out, None, &Reply::Refused(Refusal::Malformed))?;
+            put_answer(out, None, &Reply::Refused(Refusal::Malformed))?;
             Ok(Next::Ended(SessionEnd::Malformed))
         }
         AskFront::Message(ask, end) => match settle(alloc, answers, ask, is_late) {
             Outcome::Replied(label, reply) => {
-                put_answer(alloc, out, label, &reply)?;
+                put_answer(out, label, &reply)?;
                 Ok(Next::Answered(end))
             }
             Outcome::Waits(awaited) => Ok(Next::Parked(awaited)),
             Outcome::Operates(operation) => {
-                put_told(alloc, answers, operation, out)?;
+                put_told(answers, operation, out)?;
                 Ok(Next::Answered(end))
             }
         },
+    }
+}
+
+// Answers the message behind the first `at` bytes as `answer_front` does, and steps over it if it is answered.
+fn answer_one<A: Answers>(
+    answers: &mut A,
+    bytes: &[u8],
+    at: &mut usize,
+    left: &mut u64,
+    is_late: bool,
+    out: &mut Vec<u8>,
+) -> Result<Next, OutOfMemory>
+    requires { at.old ≤ length bytes.now }
+    ensures within { at.new ≤ length bytes.now }
+    ensures ok { IfOk result (λ next. IsNext A.answers is_late answers.old answers.new (drop at.old bytes.now) left.old out.old.items out.new.items next
+        × (session_at bytes.now at.new left.new ≡ behind (session_at bytes.now at.old left.old) next)) }
+    ensures err { OnErr result (FailsNext A.answers is_late answers.old answers.new (drop at.old bytes.now) left.old out.old.items out.new.items) }
+    ensures stays { OnErr result ((at.new ≡ at.old) × (left.new ≡ left.old)) }
+{
+    let alloc = *out.allocator();
+    match answer_front(alloc, answers, &bytes[*at..], *left, is_late, out)? {
+        Next::Answered(end) => {
+            *at += end;
+            *left -= 1;
+            Ok(Next::Answered(end))
+        }
+        Next::Hungry => Ok(Next::Hungry),
+        Next::Parked(awaited) => Ok(Next::Parked(awaited)),
+        Next::Ended(end) => Ok(Next::Ended(end)),
+    }
+}
+
+// Answers the messages behind the first `at` bytes that are whole, in turn, while there is room, and steps over them.
+fn answer_each<A: Answers>(
+    answers: &mut A,
+    bytes: &[u8],
+    at: &mut usize,
+    left: &mut u64,
+    is_late: bool,
+    out: &mut Vec<u8>,
+    room: usize,
+) -> Result<Step, OutOfMemory>
+    requires { at.old ≤ length bytes.now }
+    ensures within { at.new ≤ length bytes.now }
+    ensures ok { IfOk result (Takes A.answers is_late answers.old answers.new (drop at.old bytes.now) (drop at.new bytes.now)
+        out.old.items out.new.items left.old left.new room) }
+    ensures fails { OnErr result (BreaksOff A.answers is_late answers.old answers.new (drop at.old bytes.now) (drop at.new bytes.now)
+        out.old.items out.new.items left.old left.new room) }
+{
+    'messages: loop {
+        if out.len() >= room {
+            return Ok(Step::Full);
+        }
+        match answer_one(answers, bytes, at, left, is_late, out)? {
+            Next::Answered(_) => {}
+            Next::Hungry => return Ok(Step::Hungry),
+            Next::Parked(awaited) => return Ok(Step::Parked(awaited)),
+            Next::Ended(end) => return Ok(Step::Ended(end)),
+        }
     }
 }
 
@@ -392,6 +472,90 @@ impl Session {
         }
     }
 
+    // Returns true if no bytes are kept.
+    fn keeps_nothing(&self) -> bool
+        ensures { result ≡ true → self.now.kept ≡ [] }
+    {
+        self.at == self.bytes.len()
+    }
+
+    // Keeps the bytes behind the first `at`, in memory that is there, and nothing else.
+    fn keep(&mut self, memory: Vec<u8>, bytes: &[u8], at: usize, left: u64)
+        requires empty { memory.items ≡ [] }
+        requires room { length bytes.now ≤ vec_capacity memory }
+        requires within { at ≤ length bytes.now }
+        ensures { self.new ≡ session_at bytes.now at left }
+    {
+        let mut memory = memory;
+        memory.extend_from_slice(&bytes[at..]).unwrap();
+        self.bytes = memory;
+        self.at = 0;
+        self.left = left;
+        self.release();
+    }
+
+    // Answers the messages of a piece where they lie, in turn, while there is room, and keeps the bytes behind them. The memory for
+    // these is taken first.
+    fn take_here<A: Answers>(
+        &mut self,
+        answers: &mut A,
+        piece: &[u8],
+        is_late: bool,
+        out: &mut Vec<u8>,
+        room: usize,
+    ) -> Result<Step, OutOfMemory>
+        requires { self.old.kept ≡ [] }
+        ensures ok { IfOk result (Takes A.answers is_late answers.old answers.new (self.old.kept ++ piece.now) self.new.kept
+            out.old.items out.new.items self.old.left self.new.left room) }
+        ensures fails { OnErr result (FailsPiece A.answers is_late answers.old answers.new self.old piece.now self.new
+            out.old.items out.new.items room) }
+    {
+        let memory = Vec::with_capacity(self.alloc, piece.len())?;
+        let mut at = 0;
+        let mut left = self.left;
+        let step = answer_each(answers, piece, &mut at, &mut left, is_late, out, room);
+        self.keep(memory, piece, at, left);
+        step
+    }
+
+    // Keeps a piece behind the bytes that are kept, then answers the whole messages in turn, while there is room.
+    fn take_behind<A: Answers>(
+        &mut self,
+        answers: &mut A,
+        piece: &[u8],
+        is_late: bool,
+        out: &mut Vec<u8>,
+        room: usize,
+    ) -> Result<Step, OutOfMemory>
+        ensures ok { IfOk result (Takes A.answers is_late answers.old answers.new (self.old.kept ++ piece.now) self.new.kept
+            out.old.items out.new.items self.old.left self.new.left room) }
+        ensures fails { OnErr result (FailsPiece A.answers is_late answers.old answers.new self.old piece.now self.new
+            out.old.items out.new.items room) }
+    {
+        self.put(piece)?;
+        self.answer_whole(answers, is_late, out, room)
+    }
+
+    // Takes a piece: where it lies if nothing is kept, else behind what is kept.
+    fn take_either<A: Answers>(
+        &mut self,
+        answers: &mut A,
+        piece: &[u8],
+        is_late: bool,
+        out: &mut Vec<u8>,
+        room: usize,
+    ) -> Result<Step, OutOfMemory>
+        ensures ok { IfOk result (Takes A.answers is_late answers.old answers.new (self.old.kept ++ piece.now) self.new.kept
+            out.old.items out.new.items self.old.left self.new.left room) }
+        ensures fails { OnErr result (FailsPiece A.answers is_late answers.old answers.new self.old piece.now self.new
+            out.old.items out.new.items room) }
+    {
+        if self.keeps_nothing() {
+            return self.take_here(answers, piece, is_late, out, room);
+        }
+        self.take_behind(answers, piece, is_late, out, room)
+    }
+
     /// Keeps the next bytes of the client's stream, which may be none, then answers the whole messages in turn and appends their
     /// replies to `out`. If `is_late`, fetches that wait and find nothing are answered with an empty log. Returns why it stopped:
     /// `Full` as soon as `out` has `room` bytes or more, `Hungry` without another whole message, `Parked` at fetches that find nothing,
@@ -413,8 +577,7 @@ impl Session {
         ensures fails { OnErr result (FailsPiece A.answers is_late answers.old answers.new self.old piece.now self.new
             out.old.items out.new.items room) }
     {
-        self.put(piece)?;
-        self.answer_whole(answers, is_late, out, room)
+        self.take_either(answers, piece, is_late, out, room)
     }
 
     /// Returns how the session ends if the client's stream ends here: `Finished` between two messages, `Cut` inside one.
