@@ -1,12 +1,11 @@
 -- What a change at one place of a column makes of the entries.
-use Rattle.std.proofs.Common.{◌≡◌, ℕ, ◌+◌, ◌≤◌, ◌<◌, Bool, true, false, cond, not, ◌&&◌, ◌||◌, List, [], ◌∷◌, ◌++◌, length, map, set, get_or, slice_get, refl, ap, sym, ◌∙◌, arith, zero, suc}
+use Rattle.std.proofs.Common.{◌≡◌, ℕ, ◌≤◌, ◌<◌, Bool, true, false, ◌||◌, List, [], ◌∷◌, ◌++◌, length, map, set, get_or, slice_get, refl, ap, sym, ◌∙◌, arith, zero, suc}
 use Rattle.std.specs.declared.option.Option.TheVariants.{Some}
 use Rattle.std.specs.List.{list_any}
 use Rattle.std.proofs.lemmas.List.Folds.{list_any_at}
 use Rattle.std.proofs.Math.Bool.{or-false}
 use Rattle.gb_types.specs.declared.message.MsgId.{MsgId}
 use Rattle.gb_types.specs.Message.{same}
-use Rattle.gb_types.proofs.SameLemmas.{same_itself}
 use Rattle.gb_types.proofs.BoolLemmas.{and_left, and_right, or_left, or_right, not_true}
 use Rattle.gb_layer.specs.FirstMentionLemmas.{same_swap}
 use Rattle.gb_layer.specs.declared.entries.Entry.{Entry}
@@ -16,14 +15,14 @@ use Rattle.gb_sinks.specs.Places.{no_message, message_at, all_differ}
 use Rattle.gb_sinks.specs.Column.{entry_of, zipped}
 
 -- the first message is not at a later place
-apart : (x : MsgId) (ms : List MsgId) (p : ℕ) → p < length ms → list_any (λ y. same y x) ms ≡ false → same x (message_at ms p) ≡ false
+pub apart : (x : MsgId) (ms : List MsgId) (p : ℕ) → p < length ms → list_any (λ y. same y x) ms ≡ false → same x (message_at ms p) ≡ false
 apart x ms p lt n =
     elim (same x (message_at ms p)) as (λ b. same x (message_at ms p) ≡ b → b ≡ false) [
       | true ↦ λ h. (let k = list_any_at (λ y. same y x) ms p no_message lt (same_swap (message_at ms p) x ∙ h) in sym k ∙ n)
       | false ↦ λ _. refl
     ] refl
 
-alone : (x : MsgId) (ms : List MsgId) → all_differ (x ∷ ms) ≡ true → list_any (λ y. same y x) ms ≡ false
+pub alone : (x : MsgId) (ms : List MsgId) → all_differ (x ∷ ms) ≡ true → list_any (λ y. same y x) ms ≡ false
 alone x ms d = not_true _ (and_left _ _ d)
 
 pub length-zipped : (ms : List MsgId) (hs : List Held) → length hs ≤ length ms → length (zipped ms hs) ≡ length hs

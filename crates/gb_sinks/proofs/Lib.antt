@@ -1,5 +1,11 @@
 pub mod IndexLemmas
 pub mod ColumnLemmas
+pub mod DueLemmas
 pub mod RoomLemmas
 pub mod KnowsLemmas
 pub mod BoundLemmas
+pub mod MarksLemmas
+pub mod ReleaseLemmas
+pub mod LastLemmas
+pub mod FifoLemmas
+pub mod FifoBoundLemmas

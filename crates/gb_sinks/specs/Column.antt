@@ -1,10 +1,10 @@
 -- The column of a relay: what it remembers of the message at each place.
-use Rattle.std.proofs.Common.{◌≡◌, ℕ, ◌≤◌, true, false, List, [], ◌∷◌, ◌++◌, length, vec_capacity, refl, ap, arith, suc}
+use Rattle.std.proofs.Common.{◌≡◌, ◌≤◌, true, false, List, [], ◌∷◌, ◌++◌, length, refl, ap, arith}
 use Rattle.std.specs.FinSet as set
 use Rattle.gb_types.specs.declared.node.NodeId.{NodeId}
 use Rattle.gb_types.specs.declared.message.MsgId.{MsgId}
 use Rattle.gb_layer.specs.declared.entries.Entry.{Entry}
-use Rattle.gb_layer.specs.Relay.{State, new_entry}
+use Rattle.gb_layer.specs.Relay.{new_entry}
 use Rattle.gb_sinks.specs.declared.column.Held.{Held}
 use Rattle.gb_sinks.specs.Places.{no_message}
 

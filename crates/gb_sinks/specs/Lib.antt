@@ -1,8 +1,15 @@
 pub mod Places
 pub mod Sinks
 pub mod Single
+pub mod Last
+pub mod Paired
+pub mod PairedLemmas
 pub mod Own
 pub mod Lists
 pub mod Column
+pub mod Due
 pub mod Below
 pub mod RelayColumn
+pub mod Marks
+pub mod Ordered
+pub mod FifoMarks

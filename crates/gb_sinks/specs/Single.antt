@@ -1,6 +1,5 @@
 -- Layers of which each call sends at most one message.
-use Rattle.std.proofs.Common.{ℕ, ◌≤◌, length, arith}
-use Rattle.gb_types.specs.declared.node.NodeId.{NodeId}
+use Rattle.std.proofs.Common.{◌≤◌, length, arith}
 use Rattle.gb_layer.specs.declared.call.Call.{Call}
 use Rattle.gb_layer.specs.declared.call.Call.TheVariants.{Say, Came, Notice}
 use Rattle.gb_layer.specs.BebMachine.{beb_gives}

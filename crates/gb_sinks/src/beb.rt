@@ -62,6 +62,8 @@ impl Layer for Beb {
         }
     }
 
+    ghost me_stays = { λ s c. refl };
+
     ghost grows = { λ ms more x n w k. (refl, tt) };
 }
 

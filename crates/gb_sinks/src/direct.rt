@@ -102,6 +102,8 @@ impl<L: Layer> Layer for Direct<L> {
         take_own(&mut self.lower, index, call, out);
     }
 
+    ghost me_stays = { L.me_stays };
+
     ghost grows = { λ ms more d. L.grows ms more d.lower };
 }
 

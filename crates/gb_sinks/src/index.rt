@@ -1,12 +1,16 @@
 //! The index of a group's messages.
-ghost use Rattle.std.specs.Prelude.{◌≡◌, ◌<◌, ◌≤◌, ◌++◌, ◌∷◌, [], true, false, cond, length, OnOk, IfOk, OnErr, MatchOption};
+ghost use Rattle.std.specs.Prelude.{◌≡◌, ℕ, ◌+◌, ◌<◌, ◌≤◌, ◌++◌, ◌∷◌, [], true, false, cond, length, slice_index, OnOk, IfOk, OnErr, MatchOption};
 ghost use Rattle.std.specs.List.{list_any};
 ghost use Rattle.gb_types.specs.Message.{same};
+ghost use Rattle.gb_types.specs.declared.limits.TheConstants.{NODES};
 ghost use Rattle.gb_layer.specs.Table.{leads};
+ghost use Rattle.gb_fifo.specs.Order.{is_in, numbered};
 ghost use Rattle.gb_sinks.specs.Places.{message_at, all_differ};
+ghost use Rattle.gb_sinks.specs.Last.{last_of};
 
 use gb_layer::{Places, Table};
-use gb_types::{MsgId, NodeSet, OutOfMemory};
+use gb_types::limits::NODES;
+use gb_types::{MsgId, NodeId, NodeSet, OutOfMemory};
 use std::alloc::Global;
 
 /// The number of messages that an index can hold: one for each `u16`.
@@ -18,9 +22,12 @@ pub const PLACES: usize = 65_536;
 pub struct Index {
     pub list: Vec<MsgId>,
     pub table: Table,
+    /// For each node the greatest number of its messages.
+    pub last: [u16; NODES],
     ghost few: { length list.items ≤ 65536 },
     ghost differ: { all_differ list.items ≡ true },
     ghost leads: { leads table.width table.told.items 0 list.items ≡ true },
+    ghost greatest: { (origin : ℕ) → origin < NODES → slice_index last origin ≡ last_of origin list.items },
 }
 
 impl Index {
@@ -31,6 +38,7 @@ impl Index {
         Index {
             list: Vec::new(alloc),
             table: Table::new(alloc),
+            last: [0; NODES],
         }
     }
 
@@ -73,6 +81,26 @@ impl Index {
         None
     }
 
+    /// Returns the greatest number of the origin's messages in the index, 0 if it has none there.
+    pub fn last(&self, origin: NodeId) -> u16
+        ensures { result ≡ last_of origin.number self.now.list.items }
+    {
+        self.last[origin.index()]
+    }
+
+    /// Returns the place of the origin's message number `count + 1`. `None` if it is not in the index. If the origin has no message of a
+    /// greater number than `count`, nothing is looked up.
+    pub fn find_next(&self, origin: NodeId, count: u16) -> Option<u16>
+        ensures { MatchOption result (is_in self.now.list.items (numbered origin (count + 1)) ≡ false)
+            (λ p. (p < length self.now.list.items) × (message_at self.now.list.items p ≡ numbered origin (count + 1))) }
+    {
+        if count >= self.last(origin) {
+            return None;
+        }
+        let seq = count + 1;
+        self.find(MsgId { origin, seq })
+    }
+
     /// Adds `m`, which is not in the index, at its end. Returns its place. OutOfMemory also if the index holds `PLACES` messages.
     fn add(&mut self, m: MsgId) -> Result<u16, OutOfMemory>
         requires { list_any (λ x. same x m) self.old.list.items ≡ false }
@@ -84,9 +112,13 @@ impl Index {
         if place >= PLACES {
             return Err(OutOfMemory);
         }
+        let known = self.last(m.origin);
+        let last = known.max(m.seq);
         self.list.reserve(1)?;
         self.table.note(m, place);
         self.list.push_reserved(m);
+        let node = m.origin.index();
+        self.last[node] = last;
         Ok(place as u16)
     }
 

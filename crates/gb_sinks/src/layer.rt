@@ -3,6 +3,7 @@ ghost use Rattle.std.specs.Prelude.{◌≡◌, ℕ, ◌≤◌, ◌<◌, ◌++◌
 ghost use Rattle.gb_types.specs.declared.message.MsgId.{MsgId};
 ghost use Rattle.gb_types.specs.declared.node.NodeId.{NodeId};
 ghost use Rattle.gb_layer.specs.declared.call.Call.{Call};
+ghost use Rattle.gb_layer.specs.Laws.{StaysAtItsNode};
 ghost use Rattle.gb_layer.specs.Machine.{Gives};
 ghost use Rattle.gb_sinks.specs.Places.{told, Names, IsNext, MayTake, told_after};
 ghost use Rattle.gb_sinks.specs.Sinks.{folded};
@@ -58,6 +59,9 @@ pub trait Layer {
         ensures meaning { meaning index.now.list.items self.new ≡ next (meaning index.now.list.items self.old) (told index.now.list.items call) }
         ensures out { O.state index.now.list.items out.new ≡ folded O.sent O.risen (O.state index.now.list.items out.old) (gives (meaning index.now.list.items self.old) (told index.now.list.items call)) }
         ensures known { (n w : ℕ) → knows index.now.list.items self.old n w → Names (IsNext n w) call → knows index.now.list.items self.new (told_after n call) w };
+
+    /// A layer stays at its node.
+    ghost me_stays: { StaysAtItsNode next me };
 
     /// More messages in the index change neither the state nor what the layer knows.
     ghost grows: { (ms more : List MsgId) (x : Self) (n w : ℕ) → knows ms x n w → (meaning (ms ++ more) x ≡ meaning ms x) × knows (ms ++ more) x n w };

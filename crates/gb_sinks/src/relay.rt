@@ -4,6 +4,7 @@ ghost use Rattle.std.specs.declared.option.Option.TheVariants.{None, Some};
 ghost use Rattle.gb_types.specs.declared.message.MsgId.{MsgId};
 ghost use Rattle.gb_types.specs.declared.node.NodeId.{NodeId};
 ghost use Rattle.gb_layer.specs.Relay.{State, at_start, due_message, relay_if, relay_if_sends, relayed, relayed_sends, begun, begun_sends, given, given_ups, is_repeat, relay_next, relay_gives};
+ghost use Rattle.gb_layer.specs.RelayLemmas.{relay_me_stays};
 ghost use Rattle.gb_sinks.specs.declared.call.PlacedCall.TheVariants.{Say, Came};
 ghost use Rattle.gb_sinks.specs.Places.{message_at, told, Names, IsNext, MayTake, told_after, reached};
 ghost use Rattle.gb_sinks.specs.Sinks.{sends_alone, folded};
@@ -11,11 +12,11 @@ ghost use Rattle.gb_sinks.specs.Column.{zipped};
 
 use crate::below::call_lower;
 use crate::call::PlacedCall;
-use crate::column::{Held, deliver_all, is_due, mark_sent, note, was_sent};
+use crate::column::{Held, deliver_all, is_due, mark_sent, note, still_due, was_sent};
 use crate::index::Index;
 use crate::layer::{Bounded, Layer, Single};
 use crate::sink::Sink;
-use gb_layer::{Room, Rule};
+use gb_layer::{Places, Room, Rule};
 use gb_types::{NodeId, NodeSet, OutOfMemory};
 use std::alloc::Global;
 
@@ -24,7 +25,8 @@ use std::alloc::Global;
 /// the order of the places.
 ///
 /// It keeps a column: who holds the message at each place, and whether it was sent and handed up. A call first relays all that is due
-/// and then hands up all that is due.
+/// and then hands up all that is due. It also keeps where something may be due, and looks at these places alone: those of the messages
+/// that the layer below has just brought up, and after a new notice all.
 #[derive(Drop)]
 pub struct Relay<L, R> {
     lower: L,
@@ -32,6 +34,8 @@ pub struct Relay<L, R> {
     members: NodeSet,
     noticed: NodeSet,
     column: Vec<Held>,
+    /// The places where something may be due.
+    due: Places,
 }
 
 impl<L: Layer, R: Rule> Relay<L, R> {
@@ -48,6 +52,7 @@ impl<L: Layer, R: Rule> Relay<L, R> {
             members,
             noticed: NodeSet::new(),
             column: Vec::new(alloc),
+            due: Places { from: 0, to: 0 },
         }
     }
 
@@ -67,7 +72,7 @@ impl<L: Layer, R: Rule> Relay<L, R> {
     #[inline(always)]
     fn relay_at<O: Sink>(&mut self, index: &Index, i: usize, out: &mut O)
         requires within { i < length self.old.column.items }
-        requires known { (w : ℕ) × Knows L.knows index.now.list.items self.old w }
+        requires known { (w : ℕ) × Knows L.meaning L.me R.rules L.knows index.now.list.items self.old w }
         requires room { O.takes (O.state index.now.list.items out.old)
             (sends_alone (relay_if_sends L.next L.gives L.me R.rules (state_of L.meaning index.now.list.items self.old) (slice_get (zipped index.now.list.items self.old.column.items) i))) }
         ensures state { state_of L.meaning index.now.list.items self.new
@@ -75,7 +80,7 @@ impl<L: Layer, R: Rule> Relay<L, R> {
         ensures out { O.state index.now.list.items out.new
             ≡ fold O.sent (O.state index.now.list.items out.old) (relay_if_sends L.next L.gives L.me R.rules (state_of L.meaning index.now.list.items self.old) (slice_get (zipped index.now.list.items self.old.column.items) i)) }
         ensures len { length self.new.column.items ≡ length self.old.column.items }
-        ensures known { (w : ℕ) → Knows L.knows index.now.list.items self.old w → Knows L.knows index.now.list.items self.new w }
+        ensures known { (w : ℕ) → Knows L.meaning L.me R.rules L.knows index.now.list.items self.old w → Knows L.meaning L.me R.rules L.knows index.now.list.items self.new w }
     {
         if self.is_due_at(index, i) {
             let place = i as u16;
@@ -83,6 +88,7 @@ impl<L: Layer, R: Rule> Relay<L, R> {
             call_lower(
                 &mut self.lower,
                 &mut self.column,
+                &mut self.due,
                 index,
                 PlacedCall::Say(place),
                 out,
@@ -93,16 +99,19 @@ impl<L: Layer, R: Rule> Relay<L, R> {
     /// Relays each message that is due, in the order of the places.
     #[inline(always)]
     fn relay_all<O: Sink>(&mut self, index: &Index, out: &mut O)
-        requires known { (w : ℕ) × Knows L.knows index.now.list.items self.old w }
+        requires known { (w : ℕ) × Knows L.meaning L.me R.rules L.knows index.now.list.items self.old w }
         requires room { O.takes (O.state index.now.list.items out.old) (sends_alone (relayed_sends L.next L.gives L.me R.rules (state_of L.meaning index.now.list.items self.old))) }
         ensures state { state_of L.meaning index.now.list.items self.new ≡ relayed L.next L.gives L.me R.rules (state_of L.meaning index.now.list.items self.old) }
         ensures out { O.state index.now.list.items out.new
             ≡ fold O.sent (O.state index.now.list.items out.old) (relayed_sends L.next L.gives L.me R.rules (state_of L.meaning index.now.list.items self.old)) }
         ensures len { length self.new.column.items ≡ length self.old.column.items }
-        ensures known { (w : ℕ) → Knows L.knows index.now.list.items self.old w → Knows L.knows index.now.list.items self.new w }
+        ensures known { (w : ℕ) → Knows L.meaning L.me R.rules L.knows index.now.list.items self.old w → Knows L.meaning L.me R.rules L.knows index.now.list.items self.new w }
     {
         let count = self.column.len();
-        for i in 0..count {
+        for i in self.due.from..count {
+            if i >= self.due.to {
+                return;
+            }
             self.relay_at(index, i, out);
         }
     }
@@ -110,7 +119,7 @@ impl<L: Layer, R: Rule> Relay<L, R> {
     /// Relays each message that is due, and then hands up each message that is due.
     #[inline(always)]
     fn finish<O: Sink>(&mut self, index: &Index, out: &mut O)
-        requires known { (w : ℕ) × Knows L.knows index.now.list.items self.old w }
+        requires known { (w : ℕ) × Knows L.meaning L.me R.rules L.knows index.now.list.items self.old w }
         requires room { O.takes (O.state index.now.list.items out.old) (record {
           sends = relayed_sends L.next L.gives L.me R.rules (state_of L.meaning index.now.list.items self.old);
           ups = given_ups L.me R.rules (relayed L.next L.gives L.me R.rules (state_of L.meaning index.now.list.items self.old));
@@ -120,31 +129,34 @@ impl<L: Layer, R: Rule> Relay<L, R> {
           sends = relayed_sends L.next L.gives L.me R.rules (state_of L.meaning index.now.list.items self.old);
           ups = given_ups L.me R.rules (relayed L.next L.gives L.me R.rules (state_of L.meaning index.now.list.items self.old));
         }) }
-        ensures known { (n w : ℕ) → RelayKnows L.knows index.now.list.items self.old n w → RelayKnows L.knows index.now.list.items self.new n w }
+        ensures known { (n w : ℕ) → RelayKnows L.meaning L.me R.rules L.knows index.now.list.items self.old n w → RelayKnows L.meaning L.me R.rules L.knows index.now.list.items self.new n w }
     {
         self.relay_all(index, out);
         let me = self.lower.me();
+        let places = self.due;
         deliver_all(
             &mut self.column,
             index,
+            places,
             &self.rule,
             me,
             &self.members,
             &self.noticed,
             out,
         );
+        self.due = still_due(&self.column, index, places, &self.rule, me, &self.noticed);
     }
 
     /// Says the message at `place` below, unless it was sent from here.
     #[inline(always)]
     fn begin_say<O: Sink>(&mut self, index: &Index, place: u16, out: &mut O)
         requires there { place < length index.now.list.items }
-        requires known { MayTake (RelayKnows L.knows index.now.list.items self.old) (Say place) }
+        requires known { MayTake (RelayKnows L.meaning L.me R.rules L.knows index.now.list.items self.old) (Say place) }
         requires room { O.takes (O.state index.now.list.items out.old) (sends_alone (begun_sends L.next L.gives L.me (state_of L.meaning index.now.list.items self.old) (told index.now.list.items (Say place)))) }
         ensures state { state_of L.meaning index.now.list.items self.new ≡ begun L.next L.gives L.me (state_of L.meaning index.now.list.items self.old) (told index.now.list.items (Say place)) }
         ensures out { O.state index.now.list.items out.new
             ≡ fold O.sent (O.state index.now.list.items out.old) (begun_sends L.next L.gives L.me (state_of L.meaning index.now.list.items self.old) (told index.now.list.items (Say place))) }
-        ensures known { (n w : ℕ) → RelayKnows L.knows index.now.list.items self.old n w → IsNext n w place → RelayKnows L.knows index.now.list.items self.new (reached n place) w }
+        ensures known { (n w : ℕ) → RelayKnows L.meaning L.me R.rules L.knows index.now.list.items self.old n w → IsNext n w place → RelayKnows L.meaning L.me R.rules L.knows index.now.list.items self.new (reached n place) w }
     {
         note(&mut self.column, index, place);
         if !was_sent(&self.column, index, place) {
@@ -152,6 +164,7 @@ impl<L: Layer, R: Rule> Relay<L, R> {
             call_lower(
                 &mut self.lower,
                 &mut self.column,
+                &mut self.due,
                 index,
                 PlacedCall::Say(place),
                 out,
@@ -163,17 +176,18 @@ impl<L: Layer, R: Rule> Relay<L, R> {
     #[inline(always)]
     fn begin_came<O: Sink>(&mut self, index: &Index, from: NodeId, place: u16, out: &mut O)
         requires there { place < length index.now.list.items }
-        requires known { MayTake (RelayKnows L.knows index.now.list.items self.old) (Came from place) }
+        requires known { MayTake (RelayKnows L.meaning L.me R.rules L.knows index.now.list.items self.old) (Came from place) }
         requires room { O.takes (O.state index.now.list.items out.old) (sends_alone (begun_sends L.next L.gives L.me (state_of L.meaning index.now.list.items self.old) (told index.now.list.items (Came from place)))) }
         ensures state { state_of L.meaning index.now.list.items self.new ≡ begun L.next L.gives L.me (state_of L.meaning index.now.list.items self.old) (told index.now.list.items (Came from place)) }
         ensures out { O.state index.now.list.items out.new
             ≡ fold O.sent (O.state index.now.list.items out.old) (begun_sends L.next L.gives L.me (state_of L.meaning index.now.list.items self.old) (told index.now.list.items (Came from place))) }
-        ensures known { (n w : ℕ) → RelayKnows L.knows index.now.list.items self.old n w → IsNext n w place → RelayKnows L.knows index.now.list.items self.new (reached n place) w }
+        ensures known { (n w : ℕ) → RelayKnows L.meaning L.me R.rules L.knows index.now.list.items self.old n w → IsNext n w place → RelayKnows L.meaning L.me R.rules L.knows index.now.list.items self.new (reached n place) w }
     {
         note(&mut self.column, index, place);
         call_lower(
             &mut self.lower,
             &mut self.column,
+            &mut self.due,
             index,
             PlacedCall::Came(from, place),
             out,
@@ -184,21 +198,26 @@ impl<L: Layer, R: Rule> Relay<L, R> {
     #[inline(always)]
     fn begin<O: Sink>(&mut self, index: &Index, call: PlacedCall, out: &mut O)
         requires there { Names (λ p. p < length index.now.list.items) call }
-        requires known { MayTake (RelayKnows L.knows index.now.list.items self.old) call }
+        requires known { MayTake (RelayKnows L.meaning L.me R.rules L.knows index.now.list.items self.old) call }
         requires room { O.takes (O.state index.now.list.items out.old) (sends_alone (begun_sends L.next L.gives L.me (state_of L.meaning index.now.list.items self.old) (told index.now.list.items call))) }
         ensures state { state_of L.meaning index.now.list.items self.new ≡ begun L.next L.gives L.me (state_of L.meaning index.now.list.items self.old) (told index.now.list.items call) }
         ensures out { O.state index.now.list.items out.new
             ≡ fold O.sent (O.state index.now.list.items out.old) (begun_sends L.next L.gives L.me (state_of L.meaning index.now.list.items self.old) (told index.now.list.items call)) }
-        ensures known { (n w : ℕ) → RelayKnows L.knows index.now.list.items self.old n w → Names (IsNext n w) call → RelayKnows L.knows index.now.list.items self.new (told_after n call) w }
+        ensures known { (n w : ℕ) → RelayKnows L.meaning L.me R.rules L.knows index.now.list.items self.old n w → Names (IsNext n w) call → RelayKnows L.meaning L.me R.rules L.knows index.now.list.items self.new (told_after n call) w }
     {
         match call {
             PlacedCall::Say(place) => self.begin_say(index, place, out),
             PlacedCall::Came(from, place) => self.begin_came(index, from, place, out),
             PlacedCall::Notice(who) => {
                 self.noticed.insert(who);
+                self.due = Places {
+                    from: 0,
+                    to: self.column.len(),
+                };
                 call_lower(
                     &mut self.lower,
                     &mut self.column,
+                    &mut self.due,
                     index,
                     PlacedCall::Notice(who),
                     out,
@@ -231,7 +250,7 @@ impl<L: Layer, R: Rule> Layer for Relay<L, R> {
 
     ghost gives = { relay_gives L.next L.gives L.me R.rules };
 
-    ghost knows = { RelayKnows L.knows };
+    ghost knows = { RelayKnows L.meaning L.me R.rules L.knows };
 
     fn me(&self) -> NodeId {
         self.lower.me()
@@ -251,7 +270,9 @@ impl<L: Layer, R: Rule> Layer for Relay<L, R> {
         }
     }
 
-    ghost grows = { relay_grows L.meaning L.knows L.grows };
+    ghost me_stays = { relay_me_stays L.next L.gives L.me R.rules L.me_stays };
+
+    ghost grows = { relay_grows L.meaning L.me R.rules L.knows L.grows };
 }
 
 impl<L: Single, R: Rule> Bounded for Relay<L, R> {

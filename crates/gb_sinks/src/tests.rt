@@ -20,20 +20,20 @@ use std::alloc::Global;
 use std::process::Abort;
 use std::test::Fail;
 
-const ORIGIN: NodeId = NodeId { number: 0 };
+pub(crate) const ORIGIN: NodeId = NodeId { number: 0 };
 
-const ME: NodeId = NodeId { number: 1 };
+pub(crate) const ME: NodeId = NodeId { number: 1 };
 
-const OTHER: NodeId = NodeId { number: 2 };
+pub(crate) const OTHER: NodeId = NodeId { number: 2 };
 
-const OWN: MsgId = MsgId { origin: ME, seq: 1 };
+pub(crate) const OWN: MsgId = MsgId { origin: ME, seq: 1 };
 
-const FIRST: MsgId = MsgId {
+pub(crate) const FIRST: MsgId = MsgId {
     origin: ORIGIN,
     seq: 1,
 };
 
-const SECOND: MsgId = MsgId {
+pub(crate) const SECOND: MsgId = MsgId {
     origin: ORIGIN,
     seq: 2,
 };
@@ -125,7 +125,7 @@ fn last_effects<L: Bounded>(
 }
 
 /// Returns an index of these messages.
-fn index_of(alloc: Global, messages: &[MsgId]) -> Result<Index, OutOfMemory> {
+pub(crate) fn index_of(alloc: Global, messages: &[MsgId]) -> Result<Index, OutOfMemory> {
     let mut members = NodeSet::new();
     members.insert(ORIGIN);
     members.insert(ME);
@@ -138,7 +138,7 @@ fn index_of(alloc: Global, messages: &[MsgId]) -> Result<Index, OutOfMemory> {
 }
 
 /// Compares the effects of the last of these calls.
-fn compare<L: Bounded>(
+pub(crate) fn compare<L: Bounded>(
     rt: &impl Abort,
     alloc: Global,
     layer: &mut L,

@@ -1,4 +1,4 @@
-use Rattle.std.proofs.Common.{◌≡◌, ◌++◌, map, filter, fold, take, drop, length, vec_len, vec_capacity}
+use Rattle.std.proofs.Common.{◌≡◌, ◌++◌, map, filter, fold, take, drop, vec_len, vec_capacity}
 use Rattle.gb_layer.specs.Relay.{due_to_deliver, handed, up_of}
 use Rattle.gb_sinks.specs.Sinks.{ups_alone}
 use Rattle.gb_sinks.specs.Column.{zipped}
@@ -10,7 +10,6 @@ invariant-loop-i g l =
     let zs = zipped ms l.fn.column.items in
     let due = due_to_deliver g.R.Rule.rules l.me l.members l.noticed in
     record {
-      count : l.count ≡ vec_len l.fn.column;
       len : vec_len l.column ≡ vec_len l.fn.column;
       capacity : vec_capacity l.column ≡ vec_capacity l.fn.column;
       entries : zipped ms l.column.items ≡ map (handed due) (take l.i zs) ++ drop l.i zs;

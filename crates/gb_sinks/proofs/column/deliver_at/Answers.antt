@@ -3,7 +3,6 @@ use Rattle.std.proofs.lemmas.Option.{get_or_from_slice_get}
 use Rattle.std.proofs.lemmas.List.{set-get_or}
 use Rattle.gb_types.specs.declared.message.MsgId.{MsgId}
 use Rattle.gb_layer.specs.declared.effects.Up.{Up}
-use Rattle.gb_layer.specs.declared.entries.Entry.{Entry}
 use Rattle.gb_layer.specs.Relay.{due_to_deliver, given_entry, up_of}
 use Rattle.gb_sinks.specs.declared.column.Held.{Held}
 use Rattle.gb_sinks.specs.Places.{message_at}

@@ -1,8 +1,11 @@
-use Rattle.std.proofs.Common.{◌≡◌, ◌≤◌, ◌+◌, ◌++◌, ◌∷◌, [], length, ap, ◌∙◌, arith}
+use Rattle.std.proofs.Common.{◌≡◌, ◌≤◌, ◌<◌, max, sym, ◌+◌, ◌++◌, ◌∷◌, [], length, ap, ◌∙◌, arith}
 use Rattle.std.proofs.lemmas.List.{length_push}
+use Rattle.gb_types.specs.declared.limits.TheConstants.{NODES}
 use Rattle.gb_layer.specs.Table.{leads}
 use Rattle.gb_sinks.specs.Places.{all_differ}
+use Rattle.gb_sinks.specs.Last.{last_of}
 use Rattle.gb_sinks.proofs.IndexLemmas.{differ_push}
+use Rattle.gb_sinks.proofs.LastLemmas.{last_more}
 use Rattle.gb_sinks.proofs.index.Index.add.Goals as goal
 
 pub invariant_of-self-2 : goal.invariant_of-self-2
@@ -16,8 +19,13 @@ invariant_of-self-2 c =
     let ok = i.list.ok.0 in
     let less = c.if-place-ge-PLACES.false in
     let new = c.note.new.self in
+    let count : length i.last ≡ NODES = omega arith in
+    let bound = c.index-node.ensures.bound in
+    let within : c.index-node.result < length i.last = omega (arith, bound, count) in
+    let last : c.max-last.result ≡ max (last_of m.origin.number ms) m.seq = c.max-last.ensures ∙ ap (λ n. max n m.seq) c.last-known.ensures in
     record {
       few = (let h : length c.push_reserved.new.self.items ≤ 65536 = omega (arith, len, place, ok, less) in h);
       differ = ap all_differ items ∙ differ_push ms m c.requires i.differ;
       leads = ap (leads new.width new.told.items 0) items ∙ c.note.ensures ms (omega (arith, place, ok)) c.requires i.leads;
+      greatest = λ o lt. last_more i.last c.index-node.result c.max-last.result o ms m within c.index-node.ensures.value last (i.greatest o lt) ∙ ap (last_of o) (sym items);
     }

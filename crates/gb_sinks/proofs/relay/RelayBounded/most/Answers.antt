@@ -1,4 +1,4 @@
-use Rattle.std.proofs.Common.{◌≡◌, ◌≤◌, ◌+◌, length, arith}
+use Rattle.std.proofs.Common.{arith}
 use Rattle.gb_sinks.specs.RelayColumn.{state_of}
 use Rattle.gb_sinks.proofs.ColumnLemmas.{length-zipped}
 use Rattle.gb_sinks.proofs.BoundLemmas.{relay_sends_few, relay_ups_few}
