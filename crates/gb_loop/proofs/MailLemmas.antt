@@ -1,9 +1,11 @@
 -- What a node's port carried since its loop began.
-use Rattle.std.proofs.Common.{◌≡◌, ℕ, ◌==◌, Bool, false, List, [], ◌∷◌, ◌++◌, refl, sym, ap, ◌∙◌, Option, Some, None, Result, Ok, Err}
+use Rattle.std.proofs.Common.{◌≡◌, ◌⊎◌, inl, inr, ℕ, ◌==◌, Bool, false, true, List, [], ◌∷◌, ◌++◌, refl, sym, ap, ◌∙◌, Option, Some, None, Result, Ok, Err}
 use Rattle.std.specs.Prelude.{IfNone, IfOk, IfSome, OnErr}
 use Rattle.std.proofs.Math.Logic.{∥∥₁_map}
 use Rattle.std.proofs.lemmas.Bool.Decides.{Decides-eqb}
 use Rattle.std.proofs.lemmas.List.Folds.{list_all-append}
+use Rattle.std.specs.FinSet as set
+use Rattle.std.specs.Ordering.{nat_cmp}
 use Rattle.std.specs.declared.vec.Vec.{Vec}
 use Rattle.std.specs.declared.alloc.Global.{Global}
 use Rattle.gb_types.proofs.BoolLemmas.{and_both}
@@ -14,14 +16,18 @@ use Rattle.gb_node.specs.declared.answer.Sent.TheVariants as sents
 use Rattle.gb_node.specs.declared.event.NodeEvent.{NodeEvent}
 use Rattle.gb_node.specs.declared.event.NodeEvent.TheVariants as events
 use Rattle.gb_port.specs.declared.port.PortFault.{PortFault}
+use Rattle.gb_host.specs.HostValue.{IsRefused}
+use Rattle.gb_host.specs.Nothing.{GaveNothing}
+use Rattle.gb_host.specs.SeatValue.{SeatValue}
 use Rattle.gb_host.specs.declared.entry.SeatEntry.{SeatEntry}
 use Rattle.gb_host.specs.declared.fault.HostFault.{HostFault}
+use Rattle.gb_host.specs.declared.plan.HostPlan.{HostPlan}
 use Rattle.gb_worker.specs.Answered.{destination, gives_packet}
 use Rattle.gb_worker.specs.Carried.{HasCarried, goes_to, traffic_of}
 use Rattle.gb_worker.specs.Gained.{noted}
 use Rattle.gb_worker.proofs.CarryLemmas.{carried_more}
 use Rattle.gb_worker.proofs.GainLemmas.{append_nil, joined}
-use Rattle.gb_loop.specs.Mailed.{HasCalled, HasMailed}
+use Rattle.gb_loop.specs.Mailed.{HasCalled, HasMailed, WasAskedToSend}
 
 abbrev Sends : Type 0 → Type 1
 Sends P = P → NodeId → List ℕ → Result Bool PortFault → P → Type 0
@@ -74,6 +80,21 @@ pub made_packet : (old new : List SeatEntry) (me : NodeId) (e : NodeEvent) (aske
     → IfSome asked (λ b. a ≡ b) → IfNone asked (a ≡ answers.Sent sents.Nothing) → IfSome asked (λ b. new ≡ old ++ noted me e b ∷ []) → a ≡ answers.Sent (sents.Packet text) → new ≡ old ++ noted me e a ∷ []
 made_packet old new me e (Some b) a text is nothing made packet = made ∙ ap (λ (c : NodeAnswer). old ++ noted me e c ∷ []) (sym is)
 made_packet old new me e None a text is nothing made packet = absurd (cc)
+
+-- the host refused the call
+pub refused_to_send : (plan : HostPlan) (here : set.FinSet nat_cmp) (me : NodeId) (e : NodeEvent) (old new : SeatValue) (why : HostFault) → IsRefused plan here old me why → WasAskedToSend plan here me e old new false
+refused_to_send plan here me e old new why refused = inr (refl, inr (why, refused))
+
+-- an event was called and its answer has no packet, or it gave nothing
+pub asked_in_vain : (plan : HostPlan) (here : set.FinSet nat_cmp) (me : NodeId) (e : NodeEvent) (old new : SeatValue) (asked : Option NodeAnswer) (a : NodeAnswer)
+    → IfSome asked (λ b. a ≡ b) → IfSome asked (λ b. new.calls ≡ old.calls ++ noted me e b ∷ []) → IfNone asked (GaveNothing plan me old e) → gives_packet a ≡ false → WasAskedToSend plan here me e old new false
+asked_in_vain plan here me e old new (Some b) a is made none h = inl (b, made, ap gives_packet (sym is) ∙ h)
+asked_in_vain plan here me e old new None a is made none h = inr (refl, inl none)
+
+-- an event was called and its answer has a packet
+pub asked_and_sent : (plan : HostPlan) (here : set.FinSet nat_cmp) (me : NodeId) (e : NodeEvent) (old new : SeatValue) (a : NodeAnswer) (text : List ℕ)
+    → new.calls ≡ old.calls ++ noted me e a ∷ [] → a ≡ answers.Sent (sents.Packet text) → WasAskedToSend plan here me e old new true
+asked_and_sent plan here me e old new a text made is = inl (a, made, ap gives_packet is)
 
 -- a call by which nothing travels, or that was not made
 pub quiet_call : {P : Type 0} (sends : Sends P) (receives : Receives P) (lost : ℕ) (p : P) (old new : List SeatEntry) (me : NodeId) (event : NodeEvent) (outcome : Result NodeAnswer HostFault)

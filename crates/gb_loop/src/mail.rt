@@ -4,12 +4,13 @@ ghost use Rattle.gb_node.specs.declared.answer.NodeAnswer.{NodeAnswer as AnswerV
 ghost use Rattle.gb_node.specs.declared.answer.NodeAnswer.TheVariants.{Sent as WasSent};
 ghost use Rattle.gb_node.specs.declared.answer.Sent.TheVariants.{Nothing as SentNothing, Packet as SentPacket};
 ghost use Rattle.gb_host.specs.HostValue.{IsRefused};
+ghost use Rattle.gb_host.specs.Nothing.{GaveNothing};
 ghost use Rattle.gb_worker.specs.Answered.{destination, gives_packet};
 ghost use Rattle.gb_worker.specs.Asked.{reply_at, reply_of};
 ghost use Rattle.gb_node.specs.declared.event.NodeEvent.TheVariants.{Packet as PacketEvent};
 ghost use Rattle.gb_worker.specs.Carried.{GivesNothing, HasCarried};
 ghost use Rattle.gb_worker.specs.Gained.{noted};
-ghost use Rattle.gb_loop.specs.Mailed.{HasCalled, HasMailed};
+ghost use Rattle.gb_loop.specs.Mailed.{HasCalled, HasMailed, WasAskedToSend};
 
 use crate::counts::{
     asked_figure, count_packet, count_reply, count_tick, places_asked, sent_figure,
@@ -54,7 +55,7 @@ pub struct Parts<L: Tapes, P> {
 /// A node of a host that is asked from one seat, and its port.
 pub struct Mail<'a, L: Tapes, H, P: Port> {
     rt: &'a H,
-    host: &'a Host<L>,
+    pub host: &'a Host<L>,
     pub origin: Origin<L, P>,
     pub seat: Seat<L>,
     pub port: P,
@@ -89,7 +90,8 @@ fn ask<L: Tapes, H: Wait>(
     host.call(rt, seat, node, event)
 }
 
-// One event by which a node sends to another, unless it gives nothing: None then, as no event has happened.
+// One event by which a node sends to another, unless it gives nothing. Returns its answer, or `None` if it gave nothing: then no event
+// has happened.
 fn ask_to_send<L: Tapes, H: Wait>(
     rt: &H,
     host: &Host<L>,
@@ -99,7 +101,9 @@ fn ask_to_send<L: Tapes, H: Wait>(
 ) -> Result<Option<NodeAnswer>, HostFault>
     ensures made { IfOk result (λ o. IfSome o (λ a. seat.new.calls ≡ seat.old.calls ++ noted node event a ∷ [])) }
     ensures nothing { IfOk result (λ o. IfNone o (seat.new.calls ≡ seat.old.calls)) }
+    ensures gave_nothing { IfOk result (λ o. IfNone o (GaveNothing L.plan node seat.old event)) }
     ensures none { OnErr result (seat.new.calls ≡ seat.old.calls) }
+    ensures fault { IfErr result (IsRefused L.plan host.now.here seat.old node) }
     ensures here { HasCalled node seat.old.calls seat.new.calls }
 {
     host.call_to_send(rt, seat, node, event, &mut Open)
@@ -232,6 +236,7 @@ fn send_at<L: Tapes, H: Wait, P: Port>(
     figures: &mut Figures,
 ) -> bool
     requires { destination event ≡ Some to }
+    ensures asked { WasAskedToSend L.plan host.now.here node event seat.old seat.new result }
     ensures carried { HasCarried P.sends P.receives port.old port.new seat.old.calls seat.new.calls }
     ensures here { HasCalled node seat.old.calls seat.new.calls }
 {
@@ -381,6 +386,7 @@ impl<'a, L: Tapes, H: Wait, P: Port> Mail<'a, L, H, P> {
     /// otherwise or the host refused the call. A pack or a frame once more that gives nothing is no event.
     pub fn send(&mut self, event: NodeEvent, to: NodeId) -> bool
         requires { destination event ≡ Some to }
+        ensures asked { WasAskedToSend L.plan self.old.host.now.here self.old.origin.node event self.old.seat self.new.seat result }
         ensures mailed { HasMailed P.sends P.receives self.new.lost self.old.port self.new.port self.old.seat.calls self.new.seat.calls }
         ensures lost { self.new.lost ≡ self.old.lost }
         ensures origin { self.new.origin ≡ self.old.origin }
