@@ -1,13 +1,13 @@
 -- Records, one after another, and the tapes that they make.
-use Rattle.std.proofs.Common.{◌≡◌, ◌≢◌, ℕ, zero, suc, ◌+◌, ◌<◌, ◌≤◌, Bool, true, false, nat_eq, List, [], ◌∷◌, ◌++◌, length, map, take, get_or, All, ◌↔◌, refl, sym, ap, ◌∙◌, subst, arith, inl, inr, append_assoc}
-use Rattle.std.specs.Prelude.{Option, Some, None, IsSome, Vec, vec_len, find, AllPairs, sum, slice_get}
+use Rattle.std.proofs.Common.{◌≡◌, ◌≢◌, ℕ, zero, suc, ◌+◌, ◌<◌, ◌≤◌, List, [], ◌∷◌, ◌++◌, length, map, take, get_or, All, ◌↔◌, refl, sym, ap, ◌∙◌, subst, arith, inl, inr, append_assoc}
+use Rattle.std.specs.Prelude.{Option, Some, None, IsSome, Vec, vec_len, AllPairs, sum, slice_get}
 use Rattle.std.specs.List.{range_with_len, AllZip}
 use Rattle.std.proofs.Math.ListN.{set, get_or-map}
-use Rattle.std.proofs.lemmas.Bool.{cases_eq, cases_lt, eq-eqb, ne_eqb}
+use Rattle.std.proofs.lemmas.Bool.{cases_eq, eq-eqb, ne_eqb}
 use Rattle.std.proofs.lemmas.List.{take_more, take_all, take-map, get_or-take, length-take-le, map-append, get_or-set_same, get_or-set_other, length-set, length-map, same_lists, get_or_default, append-nil}
 use Rattle.std.proofs.lemmas.List.Elements.{All-append, All-get_or, All-head, All-tail}
 use Rattle.std.proofs.lemmas.Slice.Zip.{all_zipped_more}
-use Rattle.std.proofs.lemmas.List.FromFn.{length-map-range_with_len, get_or-map-range_with_len, map-range_with_len_more}
+use Rattle.std.proofs.lemmas.List.FromFn.{length-map-range_with_len, get_or-map-range_with_len}
 use Rattle.std.proofs.lemmas.List.Sums.{sum_by-take-le, sum_by-append, sum_by-cons}
 use Rattle.std.specs.declared.alloc.Global.{Global}
 use Rattle.gb_types.specs.Version.{version_at}
@@ -19,8 +19,7 @@ use Rattle.gb_record_text.specs.declared.reader.Record.{Record}
 use Rattle.gb_audit_run.specs.declared.audit.Source.{Source}
 use Rattle.gb_record_text.specs.Fits.{FitsRecord}
 use Rattle.gb_record_text.specs.Laws.{AreSame, OneTextOneRecord}
-use Rattle.gb_audit_run.specs.Audits.{AreOfOne, HasText, is_of, entries_of, IsAllAnswered, AreTheOnly}
-use Rattle.std.specs.Option.{option_map_or, option_or}
+use Rattle.gb_audit_run.specs.Audits.{AreOfOne, HasText, entries_of, IsAllAnswered, AreTheOnly}
 
 -- a test of each element of a list, from the first on
 

@@ -1,2 +1,3 @@
 pub mod AuditLemmas
 pub mod CountLemmas
+pub mod ReplayLemmas

@@ -17,7 +17,6 @@ use Rattle.gb_audit_run.specs.declared.audit.Audited.{Audited}
 use Rattle.gb_audit_run.specs.declared.audit.Source.{Source}
 use Rattle.gb_audit_run.specs.declared.audit.Verdict.TheVariants.{Whole}
 use Rattle.gb_audit_run.specs.declared.cluster.ClusterKeys.{ClusterKeys}
-use Rattle.gb_cluster.specs.declared.event.Event.{Event}
 
 -- two first lines that may be of two nodes of one cluster
 pub record AreOfOne (first other : RecordHead) : Type 0 where

@@ -152,7 +152,7 @@ fn are_replayed(
     for place in 0..records.len() {
         let record = &records[place];
         let node = record.head.node;
-        if let Some(wrong) = first_wrong(alloc, plan, node, &record.entries) {
+        if let Some(wrong) = first_wrong(alloc, plan, node, &record.entries)? {
             let name = name_at(sources, place);
             put_fault(out, AuditFault::Differs.number(), name, wrong)?;
             return Ok(false);

@@ -1,5 +1,4 @@
-use Rattle.std.proofs.Common.{◌≡◌, ◌++◌, [], List, length, arith, ap, sym, ◌∙◌}
-use Rattle.gb_record_text.specs.declared.reader.Record.{Record}
+use Rattle.std.proofs.Common.{arith}
 use Rattle.gb_audit_run.proofs.AuditLemmas.{made_none, all_made, none_left}
 use Rattle.gb_audit_run.proofs.audit.tapes_of.Goals as goal
 

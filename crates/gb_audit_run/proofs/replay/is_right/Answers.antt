@@ -1,7 +1,25 @@
-use Rattle.std.proofs.Common.{subst}
-use Rattle.gb_record_text.specs.Laws.{Answers}
+use Rattle.std.proofs.Common.{◌≡◌, false, sym, ◌∙◌}
+use Rattle.gb_isolation.specs.Isolation.{wants_memory}
+use Rattle.gb_audit_run.proofs.ReplayLemmas.{given_so, same_so, after_so}
 use Rattle.gb_audit_run.proofs.replay.is_right.Goals as goal
 
-pub returns : goal.returns
-returns c = λ yes.
-    subst (Answers c.args.entry.now.event) (c.is.ensures.0 yes) (c.turns_answer.ensures c.args.node.now c.args.entry.now.event c.take-answer.result c.take-answer.new.self c.take-answer.ensures.turn)
+pub returns-then-is_refused-2-clause-err : goal.returns-then-is_refused-2-clause-err
+returns-then-is_refused-2-clause-err c = record {
+  answer = c.take-answer.result;
+  after = c.take-answer.new.self;
+  turn = c.take-answer.ensures.turn;
+  wants = sym c.is_refused-2.ensures ∙ c.if-is_refused-2.true;
+  fed = sym c.is_refused.ensures ∙ c.if-is_refused.false;
+}
+
+pub returns-clause-given : goal.returns-clause-given
+returns-clause-given c =
+    let fed : wants_memory c.take-answer.result ≡ false = sym c.is_refused-2.ensures ∙ c.if-is_refused-2.false in (
+      λ yes. given_so c.packets_say.ensures.starved c.args.node.now c.take-answer.new.self c.args.entry.now c.take-answer.result c.take-answer.ensures.turn fed (c.is.ensures.0 yes),
+      λ given. c.is.ensures.1 (same_so c.packets_say.ensures.starved c.args.node.now c.take-answer.new.self c.args.entry.now c.take-answer.result c.take-answer.ensures.turn fed given),
+    )
+
+pub returns-clause-after : goal.returns-clause-after
+returns-clause-after c = λ yes.
+    let fed : wants_memory c.take-answer.result ≡ false = sym c.is_refused-2.ensures ∙ c.if-is_refused-2.false in
+    after_so c.packets_say.ensures.starved c.args.node.now c.take-answer.new.self c.args.entry.now c.take-answer.result c.take-answer.ensures.turn fed (c.is.ensures.0 yes)

@@ -1,0 +1,54 @@
+-- Replaying a node's entries one by one.
+use Rattle.std.proofs.Common.{◌≡◌, ℕ, ◌+◌, ◌<◌, Bool, false, List, length, take, get_or, sym, ap, subst, ◌∙◌, arith, inl, inr}
+use Rattle.std.specs.Prelude.{if◌then◌else◌}
+use Rattle.std.proofs.lemmas.Bool.{cases_eq}
+use Rattle.std.proofs.lemmas.List.{get_or_default}
+use Rattle.std.proofs.lemmas.List.Sums.{fold_more}
+use Rattle.gb_types.specs.declared.node.NodeId.{NodeId}
+use Rattle.gb_types.specs.declared.plan.Plan.{Plan}
+use Rattle.gb_node.specs.NodeStep.{IsTurn}
+use Rattle.gb_node.specs.NodeValue.{NodeValue, new_node}
+use Rattle.gb_node.specs.SendLaw.{StarvedSays}
+use Rattle.gb_node.specs.declared.answer.NodeAnswer.{NodeAnswer}
+use Rattle.gb_node.specs.declared.tape.TapeEntry.{TapeEntry}
+use Rattle.gb_cluster.specs.ClusterValue.{node_plan}
+use Rattle.gb_isolation.specs.Isolation.{wants_memory}
+use Rattle.gb_merge.specs.Faults.{node_after, after_entry, replay}
+use Rattle.gb_merge.proofs.ActingLemmas.{turned}
+use Rattle.gb_audit_run.specs.Replayed.{AreReplayedTo, IsGiven, IsUnfed, IsStarvedAt}
+
+-- an answer that refuses nothing and is the entry's is the one that is given
+pub given_so : StarvedSays → (v w : NodeValue) (e : TapeEntry) (answer : NodeAnswer) → IsTurn v e.event answer w → wants_memory answer ≡ false → answer ≡ e.answer → IsGiven v e
+given_so starves v w e answer turn fed same = (ap wants_memory (sym same) ∙ fed, sym same ∙ (turned starves v e.event answer w turn fed).0)
+
+-- what is given is the answer that refuses nothing
+pub same_so : StarvedSays → (v w : NodeValue) (e : TapeEntry) (answer : NodeAnswer) → IsTurn v e.event answer w → wants_memory answer ≡ false → IsGiven v e → answer ≡ e.answer
+same_so starves v w e answer turn fed given = (turned starves v e.event answer w turn fed).0 ∙ sym given.1
+
+-- the node is then as after the entry
+pub after_so : StarvedSays → (v w : NodeValue) (e : TapeEntry) (answer : NodeAnswer) → IsTurn v e.event answer w → wants_memory answer ≡ false → answer ≡ e.answer → w ≡ after_entry v e
+after_so starves v w e answer turn fed same =
+    let kept : wants_memory e.answer ≡ false = ap wants_memory (sym same) ∙ fed in
+    (turned starves v e.event answer w turn fed).1 ∙ sym (ap (λ (b : Bool). if b then v else node_after v e.event) kept)
+
+-- one entry more is replayed
+pub replayed_more : (plan : Plan) (me : NodeId) (entries : List TapeEntry) (i : ℕ) (d : TapeEntry) (v w : NodeValue) → i < length entries → v ≡ replay plan me (take i entries) → w ≡ after_entry v (get_or entries i d) → w ≡ replay plan me (take (i + 1) entries)
+replayed_more plan me entries i d v w lt is goes = goes ∙ (ap (λ (x : NodeValue). after_entry x (get_or entries i d)) is ∙ sym (fold_more after_entry (new_node (node_plan plan me)) entries i d lt))
+
+pub given_more : (plan : Plan) (me : NodeId) (entries : List TapeEntry) (i : ℕ) (d : TapeEntry) (v : NodeValue) → i < length entries → v ≡ replay plan me (take i entries) → AreReplayedTo plan me entries i → IsGiven v (get_or entries i d) → AreReplayedTo plan me entries (i + 1)
+given_more plan me entries i d v lt is before here k e below =
+    elim (cases_eq k i) [
+      | inl same ↦
+          subst (λ n. IsGiven (replay plan me (take n entries)) (get_or entries n e)) (sym same)
+          (subst (IsGiven (replay plan me (take i entries))) (get_or_default entries i d e lt) (subst (λ (x : NodeValue). IsGiven x (get_or entries i d)) is here))
+      | inr other ↦ before k e (omega (arith, below, other))
+    ]
+
+-- a node that is refused memory was refused it at the next entry
+pub starved_so : (plan : Plan) (me : NodeId) (entries : List TapeEntry) (i : ℕ) (d : TapeEntry) (v : NodeValue) → i < length entries → v ≡ replay plan me (take i entries) → AreReplayedTo plan me entries i → IsUnfed v (get_or entries i d) → IsStarvedAt plan me entries
+starved_so plan me entries i d v lt is before unfed = record {
+  place = i;
+  within = lt;
+  before = before;
+  unfed = λ e. subst (IsUnfed (replay plan me (take i entries))) (get_or_default entries i d e lt) (subst (λ (x : NodeValue). IsUnfed x (get_or entries i d)) is unfed);
+}
