@@ -144,9 +144,9 @@ class Cluster:
                 process.kill()
             process.wait()
 
-    def audited(self, run: int, files: Sequence[str]) -> Tuple[int, List[str]]:
-        """Return the status of an audit, and its lines with the names of the files cut."""
-        done = subprocess.run([self.audit, "--run", str(run), *files], input=self.keys, stdout=subprocess.PIPE, timeout=300)
+    def audited(self, run: int, files: Sequence[str], *words: str) -> Tuple[int, List[str]]:
+        """Return the status of an audit with these words, and its lines with the names of the files cut."""
+        done = subprocess.run([self.audit, "--run", str(run), *words, *files], input=self.keys, stdout=subprocess.PIPE, timeout=300)
         return done.returncode, [re.sub(r"\S*/", "", line) for line in done.stdout.decode("ascii").splitlines()]
 
 
@@ -301,7 +301,10 @@ def walk(cluster: Cluster) -> None:
     time.sleep(0.5)
     for node in NODES:
         cluster.end(2, node)
-    expect("the records of the next run", cluster.audited(2, [cluster.path(2, node, "record") for node in NODES]), 0, r"merged \d+ events")
+    names = [cluster.path(2, node, "record") for node in NODES]
+    expect("the records of the next run", cluster.audited(2, names), 0, r"merged \d+ events")
+    group = f"group {TENANT} 1"
+    expect("a group in that run", cluster.audited(2, names, "--group", str(TENANT), "1"), 0, f"{group} same")
     changes = Changes(cluster, 1)
     changes.answer()
     changes.dropped()

@@ -1,11 +1,15 @@
 //! Audits the records of a cluster's nodes: reads the cluster's keys on standard input and a record from each file that its words
-//! name, and prints what it finds, a line each. Where its words ask for it, it writes the run as a schedule for gb_sim.
+//! name, and prints what it finds, a line each. Where its words ask for it, it compares what a group shows in the run with what it is
+//! alone, and writes the run as a schedule for gb_sim.
 #![tactic(auto)]
 
 ghost use Rattle.gb_cluster.specs.ClusterValue.{IsClusterPlan};
+ghost use Rattle.gb_merge.specs.Front.{IsMergedFront};
 
 use clap::error::ErrorKind;
 use clap::{Arg, ArgAction, Command};
+use gb_audit_group::compare::compare;
+use gb_audit_group::lines::put_group;
 use gb_audit_run::audit::audit;
 use gb_audit_run::verdict::status_of;
 use gb_audit_run::{Audited, ClusterKeys, Source};
@@ -13,7 +17,8 @@ use gb_replay::ReplayFault;
 use gb_replay::complaint::put_complaint;
 use gb_replay::replay::replay;
 use gb_server::keys::{read_keys, run_key};
-use gb_types::OutOfMemory;
+use gb_types::request_words::read_address;
+use gb_types::{Addr, OutOfMemory};
 use gb_version::VERSION;
 use std::alloc::{AllocError, AllocFailed, Global};
 use std::fs::{OpenFile, OpenOptions};
@@ -69,6 +74,8 @@ struct Names<'a> {
     records: &'a [&'a str],
     /// The number of the records' run, if it is given.
     run: Option<u64>,
+    /// The group that is compared with what it is alone.
+    group: Option<Addr>,
     /// The file to be made for the run's schedule.
     schedule: Option<&'a str>,
     /// The file to be made for the schedule's answers.
@@ -98,6 +105,14 @@ fn command<'a>(alloc: Global) -> Result<Command<'a>, AllocError> {
         .help(
             "the number of the run, 0 to 2^64 - 1, under whose key the nodes tagged their packets",
         );
+    let group = Arg::new(alloc, "group")
+        .long("group")
+        .action(ArgAction::Set)
+        .num_args(2)
+        .value_names(&["T", "G"])
+        .help(
+            "compare what is seen of group G of tenant T with what the group is alone; G is N, or N.K for generation K of room N",
+        );
     Command::new(alloc, "gb_audit")
         .about(
             "Audits the records of a cluster's nodes: whether what they did is one run of the cluster",
@@ -106,6 +121,7 @@ fn command<'a>(alloc: Global) -> Result<Command<'a>, AllocError> {
         .after_help(AFTER)
         .arg(files)?
         .arg(run)?
+        .arg(group)?
         .arg(file_arg(
             alloc,
             "schedule",
@@ -181,6 +197,18 @@ fn write_replay(
     Ok(status)
 }
 
+// Prints what the audited run shows of a group, beside what the group is alone.
+fn print_group(rt: &HostRuntime, run: &Audited, addr: Addr) -> Result<(), Trouble>
+    requires plan { IsClusterPlan run.now.plan }
+    requires front { IsMergedFront run.now.plan run.now.tapes.items run.now.events.items }
+{
+    let alloc = rt.alloc();
+    let found = compare(alloc, &run.plan, &run.events, addr)?;
+    let mut lines = Vec::new(alloc);
+    put_group(&mut lines, addr, &found)?;
+    print(rt, &lines)
+}
+
 // Audits the records in these files, and writes what the words ask for. Returns the exit status.
 fn audit_files(rt: &HostRuntime, names: &Names<'_>) -> Result<u8, Trouble> {
     let alloc = rt.alloc();
@@ -212,12 +240,22 @@ fn audit_files(rt: &HostRuntime, names: &Names<'_>) -> Result<u8, Trouble> {
     print(rt, &lines)?;
     let found = found?;
     let status = status_of(&found);
-    match &found {
-        Some(run) if names.schedule.is_some() || names.answers.is_some() => {
-            write_replay(rt, names, run, status)
-        }
-        _ => Ok(status),
+    let Some(run) = &found else {
+        return Ok(status);
+    };
+    if let Some(addr) = names.group {
+        print_group(rt, run, addr)?;
     }
+    if names.schedule.is_some() || names.answers.is_some() {
+        return write_replay(rt, names, run, status);
+    }
+    Ok(status)
+}
+
+// Says on standard error why the words are refused. Returns the exit status.
+fn refuse(rt: &HostRuntime, why: &[u8]) -> u8 {
+    let _ = rt.stderr().write_all(why);
+    2
 }
 
 // Reads the words and audits. Returns the exit status.
@@ -243,17 +281,27 @@ fn run(rt: &HostRuntime) -> Result<u8, Trouble> {
         Some(word) => match word.parse::<u64>() {
             Ok(run) => Some(run),
             Err(_) => {
-                let _ = rt.stderr().write_all(
-                    b"gb_audit: the number of the run is 0 to 18446744073709551615\n",
-                );
-                return Ok(2);
+                let why = b"gb_audit: the number of the run is 0 to 18446744073709551615\n";
+                return Ok(refuse(rt, why));
             }
         },
         None => None,
     };
+    let group = match matches.get_strs("group") {
+        Some([tenant, group]) => match read_address(tenant.as_bytes(), group.as_bytes()) {
+            Some(addr) => Some(addr),
+            None => {
+                let why =
+                    b"gb_audit: a group is T G, the number of its tenant, 0 to 65535, and of its room, or the room's, a dot and its generation\n";
+                return Ok(refuse(rt, why));
+            }
+        },
+        _ => None,
+    };
     let names = Names {
         records: matches.get_raw("FILE").unwrap_or(&[]),
         run,
+        group,
         schedule: matches.get_str("schedule"),
         answers: matches.get_str("answers"),
     };

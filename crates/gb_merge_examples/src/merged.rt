@@ -55,6 +55,17 @@ pub fn plan_with(nodes: u8, places: u16) -> Plan
     }
 }
 
+/// Returns the plan of a cluster of two nodes as `plan` returns it, whose nodes tag their packets under another key, as in another run.
+pub fn plan_under(cluster_key: [u8; 32]) -> Plan
+    ensures { IsClusterPlan result }
+{
+    let plan = plan(2);
+    Plan {
+        cluster_key,
+        ..plan
+    }
+}
+
 /// Returns the letter of what happens at a node.
 fn letter(event: &NodeEvent) -> u8 {
     match event {

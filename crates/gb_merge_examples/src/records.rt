@@ -1,5 +1,7 @@
 // Records of two nodes that did things together, and what an audit says of them, and of records that were changed afterwards.
-use crate::merged::plan;
+ghost use Rattle.gb_cluster.specs.ClusterValue.{IsClusterPlan};
+
+use crate::merged::{plan, plan_under};
 use crate::requests::{ADMIN_KEY, Asked};
 use crate::steps::{At, Step, Taped, hand_over, start, take_all};
 use gb_audit_run::audit::audit;
@@ -10,7 +12,7 @@ use gb_record_text::RecordHead;
 use gb_record_text::laws::same_lines_same_entries;
 use gb_record_text::record::write_record;
 use gb_types::memory::put_bytes;
-use gb_types::{NodeId, OutOfMemory};
+use gb_types::{NodeId, OutOfMemory, Plan};
 use std::alloc::Global;
 use std::rt::HostRuntime;
 
@@ -100,12 +102,13 @@ fn changed(alloc: Global, text: &[u8], change: Change) -> Result<Vec<u8>, OutOfM
     Ok(out)
 }
 
-// Returns the records of the nodes after these steps.
-fn records(alloc: Global) -> Result<Vec<Vec<u8>>, OutOfMemory> {
-    let plan = plan(2);
+/// Returns the records of the two nodes of a cluster of `plan` after `steps`, as texts. `Err` if memory is refused.
+pub fn records_of(alloc: Global, plan: &Plan, steps: &[At]) -> Result<Vec<Vec<u8>>, OutOfMemory>
+    requires { IsClusterPlan plan.now }
+{
     let mut nodes: Vec<Taped> = Vec::new(alloc);
-    start(alloc, &plan, &mut nodes)?;
-    take_all(alloc, &mut nodes, &STEPS)?;
+    start(alloc, plan, &mut nodes)?;
+    take_all(alloc, &mut nodes, steps)?;
     let mut tapes: Vec<Tape> = Vec::new(alloc);
     hand_over(alloc, &mut nodes, &mut tapes)?;
     let mut texts = Vec::new(alloc);
@@ -167,7 +170,7 @@ fn is_told(
     Ok(out.as_slice() == case.lines.as_bytes() && status_of(&found) == case.status)
 }
 
-static CASES: [Case; 11] = [
+static CASES: [Case; 13] = [
     Case {
         first: Change::None,
         second: Change::None,
@@ -179,6 +182,13 @@ static CASES: [Case; 11] = [
         first: Change::None,
         second: Change::Replace(7, b"0:1:61", b"0:1:62"),
         lines: "tape a node 0 entries 7 whole\ntape b node 1 entries 8 whole\naudit fault 3 b line 7\n",
+        status: 1,
+    },
+    // An answer says that the node had no memory. A record with such an answer is not replayed further.
+    Case {
+        first: Change::Replace(5, b"> said 1", b"> refused 16 OutOfMemory"),
+        second: Change::None,
+        lines: "tape a node 0 entries 7 whole\ntape b node 1 entries 8 whole\naudit fault 3 a line 5\n",
         status: 1,
     },
     // An entry is dropped: the opening of the group in which node 0 says a message.
@@ -223,6 +233,13 @@ static CASES: [Case; 11] = [
         lines: "bad line 2 of a\n",
         status: 1,
     },
+    // Two files are exchanged: each first line stands before the other node's entries.
+    Case {
+        first: Change::Replace(1, b"tape 1 0 2 3 4 1", b"tape 1 1 2 3 4 2"),
+        second: Change::Replace(1, b"tape 1 1 2 3 4 2", b"tape 1 0 2 3 4 1"),
+        lines: "bad line 2 of a\n",
+        status: 1,
+    },
     // The records are of two clusters.
     Case {
         first: Change::None,
@@ -248,13 +265,39 @@ static CASES: [Case; 11] = [
 
 // Returns true if the audit of each case prints its lines.
 fn are_told(alloc: Global) -> Result<bool, OutOfMemory> {
-    let texts = records(alloc)?;
+    let texts = records_of(alloc, &plan(2), &STEPS)?;
     for case in &CASES {
         if !is_told(alloc, &texts, [3; 32], case)? {
             return Ok(false);
         }
     }
     Ok(true)
+}
+
+// A record of another run stands in for node 1's. Its packets are tagged under that run's key, so the first that it sent is not what the
+// node sends in this run.
+const OTHER_RUN: Case = Case {
+    first: Change::None,
+    second: Change::None,
+    lines: "tape a node 0 entries 7 whole\ntape b node 1 entries 8 whole\naudit fault 3 b line 5\n",
+    status: 1,
+};
+
+// Returns true if the audit of a record of each of two runs prints its lines.
+fn is_other_run_told(alloc: Global) -> Result<bool, OutOfMemory> {
+    let mut texts = records_of(alloc, &plan(2), &STEPS)?;
+    let mut others = records_of(alloc, &plan_under([4; 32]), &STEPS)?;
+    let (Some(_), Some(other)) = (texts.pop(), others.pop()) else {
+        return Ok(false);
+    };
+    texts.push(other)?;
+    is_told(alloc, &texts, [3; 32], &OTHER_RUN)
+}
+
+#[test]
+fn an_audit_finds_a_record_of_another_run(rt: HostRuntime) {
+    let told = is_other_run_told(rt.alloc());
+    assert!(rt; told == Ok(true));
 }
 
 #[test]

@@ -1,4 +1,4 @@
-//! Requests of one tenant in one group, whose members are the first two nodes.
+//! Requests of tenants, each with one group, whose members are the first two nodes.
 use gb_cap::token::token;
 use gb_cap::{Key, Need, Token};
 use gb_types::{
@@ -9,22 +9,31 @@ use std::alloc::Global;
 /// The key of the administrator's token.
 pub const ADMIN_KEY: Key = [1; 32];
 
-const TENANT_KEY: Key = [7; 32];
+/// Returns the key of a tenant.
+fn key_of(tenant: u8) -> Key {
+    [tenant; 32]
+}
 
-const TENANT: TenantRow = TenantRow {
-    tenant: 7,
-    key: TENANT_KEY,
-    groups: 4,
-    msgs: 8,
-    bytes: 64,
-    window: 8,
-};
+/// Returns what a node keeps of a tenant.
+fn row_of(tenant: u8) -> TenantRow {
+    TenantRow {
+        tenant: u16::from(tenant),
+        key: key_of(tenant),
+        groups: 4,
+        msgs: 8,
+        bytes: 64,
+        window: 8,
+    }
+}
 
-const GROUP: Addr = Addr {
-    tenant: 7,
-    group: 1,
-    generation: 0,
-};
+/// Returns the address of the one group of a tenant.
+pub fn group_of(tenant: u8) -> Addr {
+    Addr {
+        tenant: u16::from(tenant),
+        group: 1,
+        generation: 0,
+    }
+}
 
 /// A request at a node, under the token that it needs.
 #[derive(Clone, Copy)]
@@ -44,12 +53,12 @@ pub fn node(number: u8) -> NodeId {
     NodeId::new(number % 16)
 }
 
-fn owner() -> Token {
-    token(&TENANT_KEY, Need::Tenant(7))
+fn owner(tenant: u8) -> Token {
+    token(&key_of(tenant), Need::Tenant(u16::from(tenant)))
 }
 
-fn member(me: NodeId) -> Token {
-    token(&TENANT_KEY, Need::Member(7, 1, me))
+fn member(tenant: u8, me: NodeId) -> Token {
+    token(&key_of(tenant), Need::Member(u16::from(tenant), 1, me))
 }
 
 fn spec() -> Spec {
@@ -65,22 +74,28 @@ fn spec() -> Spec {
     }
 }
 
-/// Returns the request that `asked` names, at the node `me`, with the token that it needs. It is of the tenant 7, and of its one
-/// group. `Err` if memory for a message is refused.
-pub fn request(alloc: Global, me: NodeId, asked: Asked) -> Result<Request, OutOfMemory> {
+/// Returns the request that `asked` names, at the node `me`, with the token that it needs. It is of the tenant with this number, and of
+/// its one group. `Err` if memory for a message is refused.
+pub fn request(
+    alloc: Global,
+    me: NodeId,
+    tenant: u8,
+    asked: Asked,
+) -> Result<Request, OutOfMemory> {
+    let group = group_of(tenant);
     Ok(match asked {
-        Asked::AddTenant => Request::AddTenant(token(&ADMIN_KEY, Need::Admin), TENANT),
-        Asked::MakeGroup => Request::Make(owner(), GROUP, spec()),
-        Asked::OpenGroup => Request::OpenGroup(owner(), GROUP),
+        Asked::AddTenant => Request::AddTenant(token(&ADMIN_KEY, Need::Admin), row_of(tenant)),
+        Asked::MakeGroup => Request::Make(owner(tenant), group, spec()),
+        Asked::OpenGroup => Request::OpenGroup(owner(tenant), group),
         Asked::Say(bytes) => {
             let payload = Payload::from_slice(alloc, bytes)?;
-            Request::Say(member(me), GROUP, NewMessage::new(payload))
+            Request::Say(member(tenant, me), group, NewMessage::new(payload))
         }
         Asked::SayAs(bytes, seq) => {
             let payload = Payload::from_slice(alloc, bytes)?;
             let seq = Some(seq);
-            Request::Say(member(me), GROUP, NewMessage { payload, seq })
+            Request::Say(member(tenant, me), group, NewMessage { payload, seq })
         }
-        Asked::Fetch(from, most) => Request::Fetch(member(me), GROUP, from, most),
+        Asked::Fetch(from, most) => Request::Fetch(member(tenant, me), group, from, most),
     })
 }

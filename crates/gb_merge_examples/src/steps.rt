@@ -11,7 +11,10 @@ use std::mem;
 /// What happens at a node, with other nodes by their numbers.
 #[derive(Clone, Copy)]
 pub enum Step {
+    /// Tenant 7 asks.
     Ask(Asked),
+    /// The tenant with this number asks.
+    AskOf(u8, Asked),
     /// It is noted that the node had no memory for it, and the node does nothing.
     AskRefused(Asked),
     /// The items that wait for another node are packed.
@@ -107,8 +110,9 @@ fn event(
 ) -> Result<NodeEvent, OutOfMemory> {
     Ok(match step {
         Step::Ask(asked) | Step::AskRefused(asked) => {
-            NodeEvent::Request(request(alloc, me, asked)?)
+            NodeEvent::Request(request(alloc, me, 7, asked)?)
         }
+        Step::AskOf(tenant, asked) => NodeEvent::Request(request(alloc, me, tenant, asked)?),
         Step::Pack(to) | Step::PackRefused(to) => NodeEvent::Pack(node(to)),
         Step::Ack(to) => NodeEvent::Ack(node(to)),
         Step::Tick | Step::ForgeTick(_) => NodeEvent::Tick,

@@ -1,0 +1,41 @@
+-- Merged events are at nodes of the cluster.
+use Rattle.std.proofs.Common.{◌≡◌, ◌<◌, List, [], ◌∷◌, ◌++◌, map, ap, sym, subst, ◌∙◌, arith, append_assoc}
+use Rattle.std.specs.Prelude.{ℕ, All}
+use Rattle.std.proofs.lemmas.List.{append-nil, reverse-append}
+use Rattle.std.proofs.lemmas.List.Elements.{All-cons, All-nil}
+use Rattle.gb_types.specs.declared.plan.Plan.{Plan}
+use Rattle.gb_node.specs.declared.tape.TapeEntry.{TapeEntry}
+use Rattle.gb_cluster.specs.ClusterStep.{IsPlaced}
+use Rattle.gb_cluster.specs.ClusterValue.{ClusterValue}
+use Rattle.gb_cluster.specs.Run.{Did, ComesTo}
+use Rattle.gb_cluster.specs.declared.event.Event.{Event}
+use Rattle.gb_cluster.proofs.NodesLemmas.{stays}
+use Rattle.gb_merge.specs.Front.{IsMergedFront}
+use Rattle.gb_merge.specs.Interleaving.{Pick, sent_by, AreEvents}
+use Rattle.gb_merge.specs.Merged.{did, run_of}
+use Rattle.gb_merge.proofs.ActingLemmas.{placed_so}
+
+back : (plan : Plan) (later earlier : List Did) (v : ClusterValue) → ComesTo plan (later ++ earlier) v → (w : ClusterValue) × ComesTo plan earlier w
+unfolding ComesTo
+back plan [] earlier v comes = (v, comes)
+back plan (d ∷ later) earlier v comes = back plan later earlier comes.0 comes.1
+
+placed : (plan : Plan) (d : Did) (run : List Did) (v : ClusterValue) → ComesTo plan (d ∷ run) v → d.node.number < plan.nodes
+unfolding ComesTo
+placed plan d run v comes = let at = comes.3.placed in let count = (stays plan run comes.0 comes.1).count in omega (arith, at, count)
+
+placed_in : (plan : Plan) (sent : List (List ℕ)) (picks : List Pick) (events : List Event) (behind : List Did) (v : ClusterValue) → ComesTo plan (run_of picks ++ behind) v → AreEvents plan sent picks events → All (IsPlaced plan.nodes) events
+unfolding AreEvents
+placed_in plan sent [] [] behind v comes are = All-nil (IsPlaced plan.nodes)
+placed_in plan sent [] (e ∷ events) behind v comes are = absurd are
+placed_in plan sent (p ∷ picks) [] behind v comes are = absurd are
+placed_in plan sent (p ∷ picks) (e ∷ events) behind v comes are =
+    let longer : run_of (p ∷ picks) ++ behind ≡ run_of picks ++ did p ∷ behind = ap (λ (run : List Did). run ++ behind) (reverse-append (did p ∷ []) (map did picks)) ∙ append_assoc (run_of picks) (did p ∷ []) behind in
+    let here : ComesTo plan (run_of picks ++ did p ∷ behind) v = subst (λ (run : List Did). ComesTo plan run v) longer comes in
+    let there = back plan (run_of picks) (did p ∷ behind) v here in
+    All-cons (IsPlaced plan.nodes) e events (placed_so plan plan.nodes p.node sent p.entry.event e (placed plan (did p) behind there.0 there.1) are.0)
+    (placed_in plan (sent ++ sent_by p.entry.answer) picks events (did p ∷ behind) v here are.1)
+
+-- each merged event is at a node of the cluster
+pub placed_front : (plan : Plan) (tapes : List (List TapeEntry)) (events : List Event) → IsMergedFront plan tapes events → All (IsPlaced plan.nodes) events
+placed_front plan tapes events m = placed_in plan [] m.picks events [] m.last (subst (λ (run : List Did). ComesTo plan run m.last) (sym (append-nil (run_of m.picks))) m.comes) m.are_events

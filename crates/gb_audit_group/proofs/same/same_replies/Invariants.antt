@@ -1,0 +1,5 @@
+use Rattle.std.proofs.Common.{◌≡◌, ◌↔◌, drop}
+use Rattle.gb_audit_group.proofs.same.same_replies.Given as goal
+
+abbrev pub invariant-loop-i : goal.invariant-loop-i
+invariant-loop-i l = (l.first ≡ l.second) ↔ (drop l.i l.first ≡ drop l.i l.second)

@@ -1,0 +1,2 @@
+pub mod Compared
+pub mod GroupText

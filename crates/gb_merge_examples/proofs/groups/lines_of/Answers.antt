@@ -1,0 +1,7 @@
+use Rattle.std.proofs.Common.{sym, subst}
+use Rattle.gb_merge.specs.Front.{IsMergedFront}
+use Rattle.gb_merge_examples.proofs.groups.lines_of.Goals as goal
+
+pub compare-requires-clause-merged : goal.compare-requires-clause-merged
+compare-requires-clause-merged c =
+    (c.args.audited.now.tapes.items, subst (λ events. IsMergedFront c.args.audited.now.plan c.args.audited.now.tapes.items events) (sym c.deref.ensures.value) c.requires.front)
