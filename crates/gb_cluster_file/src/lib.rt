@@ -8,8 +8,6 @@ pub mod field;
 pub mod file;
 pub mod place;
 pub mod read;
-#[cfg(test)]
-mod tests;
 pub mod words;
 
 pub use fault::FileFault;

@@ -3,8 +3,6 @@
 
 pub mod fault;
 pub mod read;
-#[cfg(test)]
-mod tests;
 pub mod words;
 
 pub use fault::{DirectoryFault, TextFault};

@@ -1,9 +1,13 @@
-//! Command lines of the client, the server and gb_peer, as tests: what each word asks for, and why others are refused. This crate has tests
-//! only.
+//! What a person writes, as tests: the command lines of the client, the server and gb_peer, the file of a cluster and directory files. They
+//! show what each word asks for, and why others are refused. This crate has tests only.
 #![tactic(auto)]
 
 #[cfg(test)]
 mod client_words;
+#[cfg(test)]
+mod cluster_files;
+#[cfg(test)]
+mod directory_files;
 #[cfg(test)]
 mod peer;
 #[cfg(test)]

@@ -1,6 +1,6 @@
 //! Directory files, and what is told where they do not say what is asked.
-use crate::read::{read_directory, sessions_of};
-use crate::words::{fault_text, text_fault_text};
+use gb_directory_file::read::{read_directory, sessions_of};
+use gb_directory_file::words::{fault_text, text_fault_text};
 use gb_types::NodeId;
 use std::alloc::{AllocError, Global};
 use std::test::Fail;

@@ -1,10 +1,10 @@
 //! Files of clusters, and what is told of wrong ones.
-use crate::fault::{FileFault, NodeFault};
-use crate::field::PlaceField;
-use crate::file::Place;
-use crate::place::place_of;
-use crate::read::read_cluster;
-use crate::words::fault_text;
+use gb_cluster_file::fault::NodeFault;
+use gb_cluster_file::field::PlaceField;
+use gb_cluster_file::place::place_of;
+use gb_cluster_file::read::read_cluster;
+use gb_cluster_file::words::fault_text;
+use gb_cluster_file::{FileFault, Place};
 use gb_types::Version;
 use std::alloc::{AllocError, Global};
 use std::test::Fail;
