@@ -1,0 +1,162 @@
+#!/usr/bin/env python3
+"""Finds functions that no program reaches, by name: from each program's `main` over the names that a function's text has. A method of a
+trait's impl is reached where its name occurs in reached text, as any function is. A name is looked for in the crate itself and in those
+below it, so a function counts as reached too easily rather than too rarely.
+
+    bench/unreached.py [--functions]
+
+Prints the lines of code (contracts and comments left out) by crate, with those of functions that no program reaches, and a sum. Crates of
+tests, functions of tests, and laws (functions with an empty body) do not count. With --functions it lists them."""
+import argparse
+import os
+import re
+
+TOP = os.path.dirname(os.path.dirname(os.path.abspath(__file__)))
+HEAD = re.compile(r"^( *)(?:pub(?:\([a-z]+\))? )?(?:const )?(?:unsafe )?fn (\w+)")
+WORD = re.compile(r"[A-Za-z_]\w*")
+# What the scope names for embedding: threads of a host with no loop, sessions over a stream, and the group by itself.
+EMBEDDING = ("gb_trace", "gb_alone", "gb_worker", "gb_duties")
+
+
+def needs():
+    """Returns, for each crate, those of ours that it stands on, in the order of crates.txt."""
+    found = {}
+    with open(os.path.join(TOP, "crates.txt")) as file:
+        for line in file:
+            name, words = line.split(":", 1)
+            found[name.split()[0]] = [word for word in words.split() if word.startswith("gb_")]
+    return found
+
+
+def below(crate, stands_on):
+    """Returns the crate and all that it stands on."""
+    seen, left = set(), [crate]
+    while left:
+        one = left.pop()
+        if one not in seen:
+            seen.add(one)
+            left += stands_on[one]
+    return seen
+
+
+def sources(crate):
+    for place, _, files in os.walk(os.path.join(TOP, "crates", crate, "src")):
+        yield from sorted(os.path.join(place, file) for file in files if file.endswith(".rt"))
+
+
+def without_ghosts(lines):
+    """Returns the lines of code: without comments, clauses and ghost items, which no build runs."""
+    kept, depth = [], 0
+    for line in lines:
+        text = line.strip()
+        is_ghost = depth or re.match(r"(ensures|requires|(pub )?ghost)\b", text)
+        if is_ghost:
+            depth += text.count("{") - text.count("}")
+            continue
+        if text and not text.startswith("//"):
+            kept.append(line)
+    return kept
+
+
+def end_of(lines, at, indent):
+    """Returns the place of the last line of the function whose head is at this place. A declaration ends with a semicolon."""
+    is_open = False
+    for place in range(at, len(lines)):
+        text = lines[place].rstrip()
+        is_clause = re.match(r" *(ensures|requires)\b", text)
+        if is_open and text == indent + "}" or not is_open and text.endswith("{}") and not is_clause:
+            return place
+        if not is_open and text.endswith(";"):
+            return place
+        is_open = is_open or text == indent + "{" or text.endswith("{") and (place == at or text.startswith((indent + ")", indent + ">")))
+    return len(lines) - 1
+
+
+def functions(path):
+    """Yields the name and the lines of each function of a file; functions of tests are left out."""
+    with open(path) as file:
+        lines = file.read().split("\n")
+    at, is_test = 0, False
+    while at < len(lines):
+        line = lines[at]
+        is_test = is_test or line.strip() in ("#[test]", "#[cfg(test)]")
+        head = HEAD.match(line)
+        if not head:
+            is_test = is_test and (line.strip().startswith(("#", "//")) or not line.strip())
+            at += 1
+            continue
+        end = end_of(lines, at, head.group(1))
+        body = without_ghosts(lines[at : end + 1])
+        if not is_test:
+            yield head.group(2), body
+        is_test = False
+        at = end + 1
+
+
+def read_all(stands_on):
+    """Returns the functions of each crate: name, file, lines of code, the words of its body."""
+    found = {}
+    for crate in stands_on:
+        found[crate] = [
+            (name, os.path.relpath(path, TOP), body, set(WORD.findall("\n".join(body[1:]))))
+            for path in sources(crate)
+            if os.path.basename(path) not in ("tests.rt", "laws.rt")
+            for name, body in functions(path)
+        ]
+    return found
+
+
+def reached(programs, stands_on, found):
+    """Returns the places (crate and number) of the functions that a program reaches."""
+    by_name = {}
+    for crate, ones in found.items():
+        for number, one in enumerate(ones):
+            by_name.setdefault(one[0], []).append((crate, number))
+    reached_by_some = set()
+    for program in programs:
+        here = below(program, stands_on)
+        left = [(program, number) for number, one in enumerate(found[program]) if one[0] == "main"]
+        seen = set(left)
+        while left:
+            crate, number = left.pop()
+            for word in found[crate][number][3]:
+                for place in by_name.get(word, ()):
+                    if place[0] in here and place not in seen:
+                        seen.add(place)
+                        left.append(place)
+        reached_by_some |= seen
+    return reached_by_some
+
+
+# Derived and operator methods, which are called without their name.
+UNNAMED = {"fmt", "drop", "from", "eq", "ne", "cmp", "partial_cmp", "hash", "clone", "default", "next", "deref", "deref_mut", "index", "index_mut", "into_iter", "from_iter", "size_hint", "try_from", "into", "write", "flush", "read"}
+
+
+def main():
+    parser = argparse.ArgumentParser(description=__doc__.split("\n")[0])
+    parser.add_argument("--functions", action="store_true")
+    words = parser.parse_args()
+    stands_on = needs()
+    programs = [crate for crate in stands_on if os.path.exists(os.path.join(TOP, "crates", crate, "src", "main.rt"))]
+    found = read_all(stands_on)
+    seen = reached(programs, stands_on, found)
+    sums = [0, 0, 0]
+    print(f"{'crate':<22}{'lines of code':>15}{'in no program':>15}")
+    for crate, ones in found.items():
+        if crate.endswith("examples") or crate == "gb_worked":
+            continue
+        rows = [one for number, one in enumerate(ones) if len(one[2]) > 1 and not "".join(one[2]).rstrip().endswith("{}")]
+        left = [one for number, one in enumerate(ones) if (crate, number) not in seen and one in rows and one[0] not in UNNAMED]
+        code, dead = sum(len(one[2]) for one in rows), sum(len(one[2]) for one in left)
+        sums[0] += code
+        sums[1 + (crate in EMBEDDING)] += dead
+        if dead:
+            print(f"{crate:<22}{code:>15}{dead:>15}{'   (named for embedding)' if crate in EMBEDDING else ''}")
+        if words.functions:
+            for name, path, body, _ in left:
+                print(f"    {path}: {name} ({len(body)})")
+    print(f"{'all crates':<22}{sums[0]:>15}{sums[1]:>15}   and {sums[2]} named for embedding")
+
+
+if __name__ == "__main__":
+    main()
