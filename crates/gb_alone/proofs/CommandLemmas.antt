@@ -11,7 +11,7 @@ use Rattle.gb_types.specs.declared.spec.Spec.{Spec}
 use Rattle.gb_types.specs.declared.version.Version.{Version}
 use Rattle.gb_types.specs.Version.{version_at}
 use Rattle.gb_rules.specs.Group.{is_other, is_too_long}
-use Rattle.gb_history.specs.declared.call.GroupCall.TheVariants.{Other, Crashed}
+use Rattle.gb_rules.specs.declared.call.GroupCall.TheVariants.{Other, Crashed}
 use Rattle.gb_alone.specs.Alone.{Member, Group, reply_to, held_spec, called, falls, taken_in, cut, took_notice, member_after, after, alone_from}
 use Rattle.gb_alone.specs.Laws.{Accepted, accepted_in, accepted_at, accepted_from}
 use Rattle.gb_alone.specs.declared.event.GroupEvent.{GroupEvent}

@@ -11,11 +11,11 @@ use Rattle.gb_types.specs.declared.reply.Reply.TheVariants.{Done, Said}
 use Rattle.gb_types.specs.declared.spec.Spec.{Spec}
 use Rattle.gb_types.specs.declared.version.Version.{Version}
 use Rattle.gb_types.specs.Version.{version_at}
-use Rattle.gb_history.specs.History.{calls_of, known, puts_of}
+use Rattle.gb_rules.specs.History.{calls_of, known, puts_of}
 use Rattle.gb_layer.specs.Machine.{was_noticed}
 use Rattle.gb_rules.specs.Group.{is_other, is_too_long}
-use Rattle.gb_history.specs.declared.call.GroupCall.{GroupCall}
-use Rattle.gb_history.specs.declared.call.GroupCall.TheVariants.{Own, Other, Crashed}
+use Rattle.gb_rules.specs.declared.call.GroupCall.{GroupCall}
+use Rattle.gb_rules.specs.declared.call.GroupCall.TheVariants.{Own, Other, Crashed}
 use Rattle.gb_alone.specs.Alone.{held_spec, Member, Group, reply_to, put_to, called, did, falls, item_came, taken_in, cut, took_notice, member_after}
 use Rattle.gb_alone.specs.declared.event.GroupEvent.{GroupEvent}
 use Rattle.gb_alone.specs.declared.event.GroupEvent.TheVariants.{Tenant, Make as AskMake, Open as AskOpen, Shut as AskShut, Drop as AskDrop, Say as AskSay, OtherMade, OtherDropped, Took, Came, Done as Acknowledged, Notice, Stop}

@@ -17,7 +17,7 @@ use Rattle.gb_types.specs.Version.{version_at}
 use Rattle.gb_types.proofs.CoverLemmas.{not_all_members}
 use Rattle.gb_types.proofs.ReadLemmas.{some_same}
 use Rattle.gb_rules.specs.Group.{say_answer, is_member, is_other, is_too_long, on_made}
-use Rattle.gb_history.specs.declared.call.GroupCall.TheVariants.{Other, Crashed}
+use Rattle.gb_rules.specs.declared.call.GroupCall.TheVariants.{Other, Crashed}
 use Rattle.gb_alone.specs.Alone.{held_spec, Member, Group, reply_to, called, did, falls, taken_in, cut, took_notice, member_after, after, alone_from}
 use Rattle.gb_alone.specs.Laws.{accepted_in, accepted_at, accepted_from}
 use Rattle.gb_rules.specs.Room.{can_name}

@@ -8,8 +8,8 @@ use Rattle.gb_types.specs.declared.message.MsgId.{MsgId}
 use Rattle.gb_types.specs.declared.node.NodeId.{NodeId}
 use Rattle.gb_types.specs.declared.plan.Bounds.{Bounds}
 use Rattle.gb_types.specs.declared.spec.Spec.{Spec}
-use Rattle.gb_history.specs.History.{known, said_in}
-use Rattle.gb_history.specs.declared.call.GroupCall.{GroupCall}
+use Rattle.gb_rules.specs.History.{known, said_in}
+use Rattle.gb_rules.specs.declared.call.GroupCall.{GroupCall}
 use Rattle.gb_alone.specs.Alone.{held_spec, Member, Group, reply_to, member_after, after, nobody, alone_from, alone, log_at}
 use Rattle.gb_alone.specs.Laws.{Accepted, accepted_in, accepted_at, accepted, IsAccepted, copies, IsIntegral}
 use Rattle.gb_alone.specs.declared.event.GroupEvent.{GroupEvent}

@@ -13,11 +13,11 @@ use Rattle.gb_types.specs.declared.message.MsgId.{MsgId}
 use Rattle.gb_types.specs.declared.spec.Spec.{Spec}
 use Rattle.gb_types.proofs.SameLemmas.{same-true}
 use Rattle.gb_layer.specs.Machine.{mentions}
-use Rattle.gb_history.proofs.MentionLemmas.{has-known}
-use Rattle.gb_history.specs.History.{call_of, calls_of, known, delivered, log_of, puts_of}
-use Rattle.gb_history.specs.Messages.{has, payload_in, entry_in, with_new}
-use Rattle.gb_history.specs.declared.call.GroupCall.{GroupCall}
-use Rattle.gb_history.specs.declared.call.GroupCall.TheVariants.{Own, Other, Crashed}
+use Rattle.gb_rules.proofs.MentionLemmas.{has-known}
+use Rattle.gb_rules.specs.History.{call_of, calls_of, known, delivered, log_of, puts_of}
+use Rattle.gb_rules.specs.Messages.{has, payload_in, entry_in, with_new}
+use Rattle.gb_rules.specs.declared.call.GroupCall.{GroupCall}
+use Rattle.gb_rules.specs.declared.call.GroupCall.TheVariants.{Own, Other, Crashed}
 use Rattle.gb_alone.specs.Laws.{copies}
 use Rattle.gb_stack.specs.Kinds.{kind_broadcasts}
 use Rattle.gb_stack.proofs.DeliveryLemmas.{kind_log_once, kind_log_mentioned, kind_broadcasts_mentioned}

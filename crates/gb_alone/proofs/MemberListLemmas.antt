@@ -17,11 +17,11 @@ use Rattle.gb_types.specs.declared.reply.Reply.TheVariants.{Done, Said, Refused}
 use Rattle.gb_types.specs.declared.spec.Spec.{Spec}
 use Rattle.gb_types.specs.declared.version.Version.{Version}
 use Rattle.gb_types.specs.Version.{version_at}
-use Rattle.gb_history.specs.History.{puts_of, calls_of}
+use Rattle.gb_rules.specs.History.{puts_of, calls_of}
 use Rattle.gb_rules.specs.Group.{Shown, is_other, is_too_long, open_answer, shut_answer, drop_answer, say_answer, fetch_answer, on_made}
-use Rattle.gb_history.specs.declared.call.GroupCall.{GroupCall}
+use Rattle.gb_rules.specs.declared.call.GroupCall.{GroupCall}
 use Rattle.gb_layer.specs.Machine.{was_noticed}
-use Rattle.gb_history.specs.declared.call.GroupCall.TheVariants.{Own, Other, Crashed}
+use Rattle.gb_rules.specs.declared.call.GroupCall.TheVariants.{Own, Other, Crashed}
 use Rattle.gb_rules.specs.declared.phase.Phase.{Phase}
 use Rattle.gb_rules.specs.declared.phase.Phase.TheVariants.{Gone}
 use Rattle.gb_alone.specs.Alone.{Member, Group, held_spec, shown, running_reply, reply_to, cut, item_done, took_notice, put_to, called, did, commanded, falls, item_came, taken_in, member_after, after, nobody, alone, alone_from}

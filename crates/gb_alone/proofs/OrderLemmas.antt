@@ -5,8 +5,8 @@ use Rattle.std.specs.Prelude.{if◌then◌else◌}
 use Rattle.gb_types.specs.declared.spec.Spec.{Spec}
 use Rattle.gb_fifo.specs.Order.{RunsFromOne}
 use Rattle.gb_stack.proofs.DeliveryLemmas.{kind_log_in_order}
-use Rattle.gb_history.specs.History.{calls_of}
-use Rattle.gb_history.specs.declared.call.GroupCall.{GroupCall}
+use Rattle.gb_rules.specs.History.{calls_of}
+use Rattle.gb_rules.specs.declared.call.GroupCall.{GroupCall}
 use Rattle.gb_rules.specs.Group.{is_gone}
 use Rattle.gb_alone.specs.Alone.{alone, log_at}
 use Rattle.gb_alone.specs.Laws.{KeepsOrder, IsInOrder}

@@ -9,8 +9,8 @@ use Rattle.gb_types.specs.declared.limits.TheConstants.{NODES}
 use Rattle.gb_types.specs.declared.spec.Spec.{Spec}
 use Rattle.gb_types.specs.Rising.{rising, rising_from}
 use Rattle.gb_types.proofs.RisingLemmas.{rising_from-step, rising_from-end, rising_from-start}
-use Rattle.gb_history.specs.History.{calls_of, said_in, bytes_in, log_of}
-use Rattle.gb_history.specs.declared.call.GroupCall.{GroupCall}
+use Rattle.gb_rules.specs.History.{calls_of, said_in, bytes_in, log_of}
+use Rattle.gb_rules.specs.declared.call.GroupCall.{GroupCall}
 use Rattle.gb_layer.specs.Machine.{was_noticed}
 use Rattle.gb_rules.specs.Group.{Shown}
 use Rattle.gb_rules.specs.declared.phase.Phase.{Phase}

@@ -13,10 +13,10 @@ use Rattle.gb_types.specs.declared.reply.Reply.TheVariants.{Done, Said, Refused}
 use Rattle.gb_types.specs.declared.spec.Spec.{Spec}
 use Rattle.gb_types.specs.declared.version.Version.{Version}
 use Rattle.gb_layer.specs.Machine.{was_noticed}
-use Rattle.gb_history.specs.History.{calls_of, said_in, bytes_in, log_of, puts_of, falls_after}
+use Rattle.gb_rules.specs.History.{calls_of, said_in, bytes_in, log_of, puts_of, falls_after}
 use Rattle.gb_rules.specs.Group.{Shown, is_gone, is_other, is_too_long, open_answer, shut_answer, drop_answer, say_answer, fetch_answer, on_made}
-use Rattle.gb_history.specs.declared.call.GroupCall.{GroupCall}
-use Rattle.gb_history.specs.declared.call.GroupCall.TheVariants.{Own, Other, Crashed}
+use Rattle.gb_rules.specs.declared.call.GroupCall.{GroupCall}
+use Rattle.gb_rules.specs.declared.call.GroupCall.TheVariants.{Own, Other, Crashed}
 use Rattle.gb_rules.specs.declared.phase.Phase.{Phase}
 use Rattle.gb_rules.specs.declared.phase.Phase.TheVariants.{Made, Opened, Shut, Gone}
 use Rattle.gb_rules.specs.declared.usage.Usage.{Usage}

@@ -11,10 +11,10 @@ use Rattle.gb_types.specs.declared.spec.Spec.{Spec}
 use Rattle.gb_types.specs.declared.version.Version.{Version}
 use Rattle.gb_types.specs.Version.{version_at}
 use Rattle.gb_layer.specs.Machine.{was_noticed}
-use Rattle.gb_history.specs.History.{calls_of, puts_of}
+use Rattle.gb_rules.specs.History.{calls_of, puts_of}
 use Rattle.gb_rules.specs.Group.{is_other, is_too_long}
-use Rattle.gb_history.specs.declared.call.GroupCall.TheVariants.{Own, Other, Crashed}
-use Rattle.gb_history.specs.declared.call.GroupCall.{GroupCall}
+use Rattle.gb_rules.specs.declared.call.GroupCall.TheVariants.{Own, Other, Crashed}
+use Rattle.gb_rules.specs.declared.call.GroupCall.{GroupCall}
 use Rattle.gb_rules.specs.declared.phase.Phase.TheVariants.{Made, Opened, Shut, Gone}
 use Rattle.gb_rules.specs.declared.phase.Phase.{Phase}
 use Rattle.gb_alone.specs.Alone.{Group, Member, held_spec, falls, reply_to}

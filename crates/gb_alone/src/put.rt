@@ -3,13 +3,13 @@ ghost use Rattle.std.specs.Prelude.{◌≡◌, ◌<◌, ◌++◌, List, [], ◌&
 ghost use Rattle.gb_types.specs.declared.limits.TheConstants.{NODES as MOST};
 ghost use Rattle.gb_layer.specs.Machine as machine;
 ghost use Rattle.gb_rules.specs.Group as rules;
-ghost use Rattle.gb_history.specs.History as history;
+ghost use Rattle.gb_rules.specs.History as history;
 ghost use Rattle.gb_alone.specs.MemberLists.{row_with, carried_row};
 ghost use Rattle.gb_alone.specs.Observation.{numbers_below};
 
-use gb_history::GroupCall;
-use gb_history::call::calls_of;
-use gb_history::log::puts_of;
+use gb_rules::GroupCall;
+use gb_rules::call::calls_of;
+use gb_rules::log::puts_of;
 use gb_layer::Call;
 use gb_layer::plain::is_noticed;
 use gb_types::limits::NODES;

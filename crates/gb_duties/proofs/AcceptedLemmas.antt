@@ -19,9 +19,9 @@ use Rattle.gb_layer.specs.Lists.{all_weaker, all_append}
 use Rattle.gb_layer.specs.Machine.{was_said}
 use Rattle.gb_fifo.specs.Order.{numbered}
 use Rattle.gb_rules.specs.Group.{is_other, is_too_long}
-use Rattle.gb_history.specs.History.{calls_of}
-use Rattle.gb_history.specs.declared.call.GroupCall.{GroupCall}
-use Rattle.gb_history.specs.declared.call.GroupCall.TheVariants.{Other, Crashed}
+use Rattle.gb_rules.specs.History.{calls_of}
+use Rattle.gb_rules.specs.declared.call.GroupCall.{GroupCall}
+use Rattle.gb_rules.specs.declared.call.GroupCall.TheVariants.{Other, Crashed}
 use Rattle.gb_alone.specs.Alone.{Member, Group, held_spec, reply_to, called, did, falls, taken_in, cut, took_notice, member_after, after, nobody, alone_from, alone}
 use Rattle.gb_alone.specs.Laws.{Accepted, accepted_in, accepted_at, accepted_from, accepted}
 use Rattle.gb_alone.specs.declared.event.GroupEvent.{GroupEvent}

@@ -23,8 +23,8 @@ use Rattle.gb_fifo.specs.Order.{is_in, numbered, upto, top, numbers_of, in_order
 use Rattle.gb_stack.specs.Kinds.{module_of, kind_log}
 use Rattle.gb_stack.specs.LogLaws.{ModuleLogHasDelivered}
 use Rattle.gb_rules.specs.Group.{is_gone, is_member}
-use Rattle.gb_history.specs.History.{calls_of}
-use Rattle.gb_history.specs.Messages.{has}
+use Rattle.gb_rules.specs.History.{calls_of}
+use Rattle.gb_rules.specs.Messages.{has}
 use Rattle.gb_alone.specs.Alone.{Group, held_spec, log_at, after, nobody, alone_from, alone, is_marked, IsLegal, IsLegalFrom}
 use Rattle.gb_alone.specs.Laws.{Accepted, accepted}
 use Rattle.gb_alone.specs.declared.event.GroupStep.{GroupStep}

@@ -9,11 +9,11 @@ use Rattle.gb_types.specs.declared.entry.Entry.{Entry}
 use Rattle.gb_types.specs.declared.message.MsgId.{MsgId}
 use Rattle.gb_types.proofs.SameLemmas.{same-true, same_itself}
 use Rattle.gb_types.proofs.BoolLemmas.{or_first, or_left, or_right, or_second, refuted}
-use Rattle.gb_history.specs.History.{known}
-use Rattle.gb_history.specs.Messages.{has, with_new, bytes_of}
-use Rattle.gb_history.specs.declared.call.GroupCall.{GroupCall}
-use Rattle.gb_history.specs.declared.call.GroupCall.TheVariants.{Own, Other, Crashed}
-use Rattle.gb_history.proofs.MentionLemmas.{has-append}
+use Rattle.gb_rules.specs.History.{known}
+use Rattle.gb_rules.specs.Messages.{has, with_new, bytes_of}
+use Rattle.gb_rules.specs.declared.call.GroupCall.{GroupCall}
+use Rattle.gb_rules.specs.declared.call.GroupCall.TheVariants.{Own, Other, Crashed}
+use Rattle.gb_rules.proofs.MentionLemmas.{has-append}
 use Rattle.gb_alone.specs.Laws.{Accepted, IsAccepted}
 use Rattle.gb_alone.proofs.KnownLemmas.{all_at}
 use Rattle.gb_duties.proofs.WordLemmas.{Found, found, find}

@@ -10,8 +10,8 @@ use Rattle.gb_types.specs.declared.reply.Reply.{Reply}
 use Rattle.gb_types.specs.declared.version.Version.TheVariants as texts
 use Rattle.gb_types.specs.Version.{version_at}
 use Rattle.gb_layer.specs.Machine.{was_noticed}
-use Rattle.gb_history.specs.History.{calls_of, known, said_in}
-use Rattle.gb_history.specs.declared.call.GroupCall.TheVariants.{Other}
+use Rattle.gb_rules.specs.History.{calls_of, known, said_in}
+use Rattle.gb_rules.specs.declared.call.GroupCall.TheVariants.{Other}
 use Rattle.gb_alone.specs.Alone.{Member, Group, reply_to, called, after, nobody, alone, is_marked, count_unfinished, IsLegal}
 use Rattle.gb_rules.specs.Group.{is_gone, is_member}
 use Rattle.gb_alone.specs.Laws.{accepted_in, accepted_from, accepted, log_of_member}

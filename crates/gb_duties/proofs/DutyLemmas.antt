@@ -21,10 +21,10 @@ use Rattle.gb_fifo.specs.OrderLaws.{AllIn}
 use Rattle.gb_stack.specs.Kinds.{module_of}
 use Rattle.gb_stack.specs.LogLaws.{ModuleLogHasDelivered}
 use Rattle.gb_rules.specs.Group.{is_gone, is_member, is_other}
-use Rattle.gb_history.specs.History.{calls_of}
+use Rattle.gb_rules.specs.History.{calls_of}
 use Rattle.gb_alone.specs.Alone.{Member, Group, alone, held_spec, log_at}
 use Rattle.gb_alone.specs.declared.event.GroupStep.{GroupStep}
-use Rattle.gb_history.specs.Messages.{has}
+use Rattle.gb_rules.specs.Messages.{has}
 use Rattle.gb_duties.specs.Duties.{IsPutOut, HasHad, IsHadByMajority, Duty, KeepsDuties, noticed_at, delivered_at, logged_at, IsDutiful}
 use Rattle.gb_duties.proofs.ReplyLemmas.{held_made}
 use Rattle.gb_duties.proofs.InvariantLemmas.{FitsAt}

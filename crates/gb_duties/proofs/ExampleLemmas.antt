@@ -24,8 +24,8 @@ use Rattle.gb_rules.specs.Group.{is_other}
 use Rattle.gb_rules.specs.Room.{can_name}
 use Rattle.gb_rules.specs.declared.phase.Phase.TheVariants.{Opened}
 use Rattle.gb_rules.specs.declared.reserve.Reserve.{Reserve}
-use Rattle.gb_history.specs.History.{calls_of, known, said_in, puts_of, falls_after}
-use Rattle.gb_history.specs.declared.call.GroupCall.TheVariants.{Own, Other, Crashed}
+use Rattle.gb_rules.specs.History.{calls_of, known, said_in, puts_of, falls_after}
+use Rattle.gb_rules.specs.declared.call.GroupCall.TheVariants.{Own, Other, Crashed}
 use Rattle.gb_alone.specs.Alone.{Member, Group, called, cut, falls, taken_in, took_notice, node_noticed, member_after, after, nobody, alone_from, alone, is_marked, held_spec, did, count_unfinished, MayHappen, IsLegalFrom}
 use Rattle.gb_alone.specs.Laws.{log_of_member}
 use Rattle.gb_alone.specs.declared.event.GroupEvent.TheVariants.{Tenant, Make, Open, Drop, Say, Took, Came, Notice}

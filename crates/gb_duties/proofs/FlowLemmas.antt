@@ -18,15 +18,15 @@ use Rattle.gb_types.proofs.BoolLemmas.{and_both, or_cases, or_first}
 use Rattle.gb_layer.specs.Histories.{said_mentioned}
 use Rattle.gb_layer.specs.Machine.{mentions, was_said, came_from}
 use Rattle.gb_rules.specs.Group.{is_gone, is_member, is_other, is_too_long}
-use Rattle.gb_history.specs.History.{calls_of, known, bytes_in, falls_after}
-use Rattle.gb_history.specs.Messages.{bytes_of}
-use Rattle.gb_history.proofs.MentionLemmas.{has-known}
+use Rattle.gb_rules.specs.History.{calls_of, known, bytes_in, falls_after}
+use Rattle.gb_rules.specs.Messages.{bytes_of}
+use Rattle.gb_rules.proofs.MentionLemmas.{has-known}
 use Rattle.gb_alone.specs.Laws.{Accepted, IsAccepted}
 use Rattle.gb_alone.proofs.AcceptedLemmas.{own_said}
 use Rattle.gb_alone.proofs.IntegrityLemmas.{Fits}
 use Rattle.gb_alone.proofs.KnownLemmas.{all_at}
 use Rattle.gb_duties.proofs.BytesLemmas.{In, in_has, of_in, bytes_most, once_known, stands}
-use Rattle.gb_history.specs.declared.call.GroupCall.TheVariants.{Other, Crashed}
+use Rattle.gb_rules.specs.declared.call.GroupCall.TheVariants.{Other, Crashed}
 use Rattle.gb_alone.specs.Alone.{Member, Group, held_spec, reply_to, called, did, falls, item_came, taken_in, cut, took_notice, member_after, after, nobody, alone_from, is_marked, MayHappen, IsLegalFrom}
 use Rattle.gb_alone.specs.declared.event.GroupEvent.{GroupEvent}
 use Rattle.gb_alone.specs.declared.event.GroupEvent.TheVariants.{Tenant, Make as AskMake, Open as AskOpen, Shut as AskShut, Drop as AskDrop, Say as AskSay, OtherMade, OtherDropped, Took, Came, Done as Acknowledged, Notice, Stop}

@@ -15,11 +15,11 @@ use Rattle.gb_layer.specs.Modules.{now_broadcast}
 use Rattle.gb_layer.specs.declared.call.Call.{Call}
 use Rattle.gb_stack.specs.Kinds.{module_of}
 use Rattle.gb_rules.specs.Group.{is_gone, is_member, is_other}
-use Rattle.gb_history.specs.History.{call_of, calls_of, known, bytes_in, said_in, puts_of}
-use Rattle.gb_history.specs.Messages.{has, bytes_of}
-use Rattle.gb_history.specs.declared.call.GroupCall.{GroupCall}
-use Rattle.gb_history.specs.declared.call.GroupCall.TheVariants.{Own, Other, Crashed}
-use Rattle.gb_history.proofs.MentionLemmas.{bytes_of-append, has-known}
+use Rattle.gb_rules.specs.History.{call_of, calls_of, known, bytes_in, said_in, puts_of}
+use Rattle.gb_rules.specs.Messages.{has, bytes_of}
+use Rattle.gb_rules.specs.declared.call.GroupCall.{GroupCall}
+use Rattle.gb_rules.specs.declared.call.GroupCall.TheVariants.{Own, Other, Crashed}
+use Rattle.gb_rules.proofs.MentionLemmas.{bytes_of-append, has-known}
 use Rattle.gb_alone.specs.Alone.{Member, put_to}
 use Rattle.gb_duties.proofs.WordLemmas.{has-append, has-entries, in_newly}
 use Rattle.gb_duties.proofs.ReplyLemmas.{IsFair}

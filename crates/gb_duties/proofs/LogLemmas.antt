@@ -14,9 +14,9 @@ use Rattle.gb_fifo.specs.OrderLaws.{AllIn}
 use Rattle.gb_stack.specs.Kinds.{module_of, is_fifo, kind_log}
 use Rattle.gb_stack.specs.LogLaws.{ModuleLogHasDelivered}
 use Rattle.gb_stack.proofs.DeliveryLemmas.{holds_of}
-use Rattle.gb_history.specs.History.{calls_of, known, delivered}
-use Rattle.gb_history.specs.Messages.{has}
-use Rattle.gb_history.specs.declared.call.GroupCall.{GroupCall}
+use Rattle.gb_rules.specs.History.{calls_of, known, delivered}
+use Rattle.gb_rules.specs.Messages.{has}
+use Rattle.gb_rules.specs.declared.call.GroupCall.{GroupCall}
 use Rattle.gb_alone.specs.Alone.{log_at}
 use Rattle.gb_duties.proofs.WordLemmas.{has-entries}
 

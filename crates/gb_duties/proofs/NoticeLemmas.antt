@@ -13,8 +13,8 @@ use Rattle.gb_types.specs.Version.{version_at}
 use Rattle.gb_types.proofs.BoolLemmas.{or_cases, or_first, or_second}
 use Rattle.gb_layer.specs.Machine.{was_noticed}
 use Rattle.gb_rules.specs.Group.{is_gone, is_other, is_too_long}
-use Rattle.gb_history.specs.History.{calls_of}
-use Rattle.gb_history.specs.declared.call.GroupCall.TheVariants.{Other, Crashed}
+use Rattle.gb_rules.specs.History.{calls_of}
+use Rattle.gb_rules.specs.declared.call.GroupCall.TheVariants.{Other, Crashed}
 use Rattle.gb_alone.specs.Alone.{Member, Group, held_spec, reply_to, called, did, falls, taken_in, cut, took_notice, node_noticed, member_after, after, nobody, alone_from, is_marked}
 use Rattle.gb_alone.specs.declared.event.GroupEvent.{GroupEvent}
 use Rattle.gb_alone.specs.declared.event.GroupEvent.TheVariants.{Tenant, Make as AskMake, Open as AskOpen, Shut as AskShut, Drop as AskDrop, Say as AskSay, OtherMade, OtherDropped, Took, Came, Done as Acknowledged, Notice, Stop}

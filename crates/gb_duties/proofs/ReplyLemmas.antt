@@ -14,7 +14,7 @@ use Rattle.gb_types.specs.declared.spec.Spec.{Spec}
 use Rattle.gb_types.specs.declared.version.Version.{Version}
 use Rattle.gb_types.specs.Version.{version_at}
 use Rattle.gb_types.proofs.BoolLemmas.{not_false, or_left, or_right}
-use Rattle.gb_history.specs.History.{said_in, bytes_in}
+use Rattle.gb_rules.specs.History.{said_in, bytes_in}
 use Rattle.gb_rules.specs.Group.{Shown, is_gone, open_answer, shut_answer, is_too_long, say_answer, is_member, on_made}
 use Rattle.gb_rules.specs.LetFall.{is_let_fall}
 use Rattle.gb_rules.specs.Room.{can_name}

@@ -11,7 +11,7 @@ use Rattle.gb_layer.specs.declared.broadcast_module.BroadcastModule.TheVariants.
 use Rattle.gb_fifo.specs.Order.{numbered}
 use Rattle.gb_stack.specs.Kinds.{module_of}
 use Rattle.gb_rules.specs.Group.{is_gone, is_member, is_other}
-use Rattle.gb_history.specs.Messages.{has}
+use Rattle.gb_rules.specs.Messages.{has}
 use Rattle.gb_alone.specs.Alone.{Member, is_marked}
 use Rattle.gb_alone.specs.Laws.{Accepted}
 use Rattle.gb_duties.specs.Agreement.{KeepsAgreement}

@@ -7,7 +7,7 @@ use Rattle.gb_types.specs.Version.{version_at}
 use Rattle.gb_types.specs.declared.entry.Entry.{Entry}
 use Rattle.gb_types.specs.declared.plan.Bounds.{Bounds}
 use Rattle.gb_rules.specs.Group.{is_too_long}
-use Rattle.gb_history.specs.History.{known}
+use Rattle.gb_rules.specs.History.{known}
 use Rattle.gb_alone.specs.Alone.{Group, reply_to, member_after, after, nobody, alone_from}
 use Rattle.gb_alone.specs.declared.event.GroupStep.{GroupStep}
 use Rattle.gb_alone.proofs.EntryLemmas.{HoldsAt, holds_after}

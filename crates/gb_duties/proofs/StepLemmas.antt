@@ -24,10 +24,10 @@ use Rattle.gb_rules.specs.Group.{is_gone, is_member, is_other, is_too_long}
 use Rattle.gb_rules.specs.declared.phase.Phase.{Phase}
 use Rattle.gb_rules.specs.declared.phase.Phase.TheVariants.{Opened, Shut, Gone}
 use Rattle.gb_rules.proofs.LetFallLemmas.{not_fallen}
-use Rattle.gb_history.specs.History.{call_of, calls_of, known, bytes_in, said_in}
-use Rattle.gb_history.specs.Messages.{has}
-use Rattle.gb_history.specs.declared.call.GroupCall.{GroupCall}
-use Rattle.gb_history.specs.declared.call.GroupCall.TheVariants.{Own, Other, Crashed}
+use Rattle.gb_rules.specs.History.{call_of, calls_of, known, bytes_in, said_in}
+use Rattle.gb_rules.specs.Messages.{has}
+use Rattle.gb_rules.specs.declared.call.GroupCall.{GroupCall}
+use Rattle.gb_rules.specs.declared.call.GroupCall.TheVariants.{Own, Other, Crashed}
 use Rattle.gb_alone.specs.Alone.{Member, Group, held_spec, reply_to, put_to, called, did, falls, item_came, taken_in, cut, took_notice, node_noticed, commanded, member_after, after, nobody, alone_from, alone}
 use Rattle.gb_alone.specs.declared.event.GroupEvent.{GroupEvent}
 use Rattle.gb_alone.specs.declared.event.GroupEvent.TheVariants.{Tenant, Make as AskMake, Open as AskOpen, Shut as AskShut, Drop as AskDrop, Say as AskSay, OtherMade, OtherDropped, Took, Came, Done as Acknowledged, Notice, Stop}

@@ -15,7 +15,7 @@ use Rattle.gb_layer.specs.Modules.{first_mentions, newly}
 use Rattle.gb_layer.specs.declared.call.Call.{Call}
 use Rattle.gb_layer.specs.declared.call.Call.TheVariants.{Say, Came, Notice}
 use Rattle.gb_fifo.specs.Order.{is_in}
-use Rattle.gb_history.specs.Messages.{has, entry_in}
+use Rattle.gb_rules.specs.Messages.{has, entry_in}
 
 -- Lists.
 

@@ -16,8 +16,8 @@ use Rattle.gb_layer.specs.declared.broadcast_module.BroadcastModule.TheVariants.
 use Rattle.gb_fifo.specs.Order.{numbered}
 use Rattle.gb_stack.specs.Kinds.{module_of}
 use Rattle.gb_rules.specs.Group.{is_gone, is_member}
-use Rattle.gb_history.specs.History.{calls_of}
-use Rattle.gb_history.specs.Messages.{has}
+use Rattle.gb_rules.specs.History.{calls_of}
+use Rattle.gb_rules.specs.Messages.{has}
 use Rattle.gb_alone.specs.Alone.{Group, alone, is_marked, IsLegal}
 use Rattle.gb_alone.specs.Laws.{Accepted, accepted, log_of_member}
 use Rattle.gb_alone.specs.declared.event.GroupStep.{GroupStep}

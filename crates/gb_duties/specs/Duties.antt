@@ -15,8 +15,8 @@ use Rattle.gb_layer.specs.declared.broadcast_module.BroadcastModule.TheVariants.
 use Rattle.gb_fifo.specs.Order.{is_in}
 use Rattle.gb_stack.specs.Kinds.{module_of}
 use Rattle.gb_rules.specs.Group.{is_gone, is_member, is_other}
-use Rattle.gb_history.specs.History.{calls_of}
-use Rattle.gb_history.specs.Messages.{has}
+use Rattle.gb_rules.specs.History.{calls_of}
+use Rattle.gb_rules.specs.Messages.{has}
 use Rattle.gb_alone.specs.Alone.{Member, Group, alone, held_spec, IsLegal}
 use Rattle.gb_alone.specs.Laws.{log_of_member}
 use Rattle.gb_alone.specs.declared.event.GroupStep.{GroupStep}

@@ -14,8 +14,8 @@ use Rattle.gb_types.specs.declared.version.Version.{Version}
 use Rattle.gb_types.specs.Version.{version_at}
 use Rattle.gb_frame.specs.declared.item.Item.{Item}
 use Rattle.gb_rules.specs.Group.{is_gone, is_too_long}
-use Rattle.gb_history.specs.declared.call.GroupCall.TheVariants.{Other}
-use Rattle.gb_history.specs.History.{said_in, falls_after}
+use Rattle.gb_rules.specs.declared.call.GroupCall.TheVariants.{Other}
+use Rattle.gb_rules.specs.History.{said_in, falls_after}
 use Rattle.gb_alone.specs.declared.event.GroupEvent.TheVariants.{Came}
 use Rattle.gb_alone.specs.declared.event.GroupStep.{GroupStep}
 use Rattle.gb_alone.specs.Alone.{Member, Group, after, alone_from, is_acknowledged, is_marked, item_came, taken_in, IsLegalFrom}

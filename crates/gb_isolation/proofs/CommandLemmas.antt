@@ -29,9 +29,9 @@ use Rattle.gb_rules.specs.Tenant.{by_tenant, reserve_of, row_of}
 use Rattle.gb_rules.specs.declared.phase.Phase.{Phase}
 use Rattle.gb_rules.specs.declared.phase.Phase.TheVariants.{Opened, Shut, Gone}
 use Rattle.gb_rules.specs.declared.reserve.Reserve.{Reserve}
-use Rattle.gb_history.specs.History.{said_in}
-use Rattle.gb_history.specs.declared.call.GroupCall.{GroupCall}
-use Rattle.gb_history.specs.declared.call.GroupCall.TheVariants.{Own}
+use Rattle.gb_rules.specs.History.{said_in}
+use Rattle.gb_rules.specs.declared.call.GroupCall.{GroupCall}
+use Rattle.gb_rules.specs.declared.call.GroupCall.TheVariants.{Own}
 use Rattle.gb_alone.specs.declared.event.GroupEvent.{GroupEvent}
 use Rattle.gb_alone.specs.declared.event.GroupEvent.TheVariants.{Open as AskOpen, Shut as AskShut, Drop as AskDrop, Say as AskSay, Fetch as AskFetch}
 use Rattle.gb_alone.specs.Alone.{Member, Group, called, commanded, did, is_acknowledged, member_after, on_group, reply_to, running_reply, MayHappen}

@@ -19,7 +19,7 @@ use Rattle.gb_types.specs.declared.node.NodeId.{NodeId}
 use Rattle.gb_types.specs.declared.spec.Spec.{Spec}
 use Rattle.gb_types.specs.declared.plan.Bounds.{Bounds}
 use Rattle.gb_frame.specs.declared.item.Item.{Item}
-use Rattle.gb_history.specs.History.{said_in}
+use Rattle.gb_rules.specs.History.{said_in}
 use Rattle.gb_rules.specs.Group.{is_gone, is_member}
 use Rattle.gb_alone.specs.declared.event.GroupEvent.TheVariants.{Done as Acknowledged}
 use Rattle.gb_alone.specs.declared.event.GroupStep.{GroupStep}

@@ -9,7 +9,7 @@ use Rattle.gb_types.specs.declared.limits.TheConstants.{NODES}
 use Rattle.gb_types.proofs.AllMemberLemmas.{all_rising}
 use Rattle.gb_types.proofs.BoolLemmas.{or_sides}
 use Rattle.gb_frame.specs.declared.item.Item.{Item}
-use Rattle.gb_history.specs.History.{said_in, has_noticed}
+use Rattle.gb_rules.specs.History.{said_in, has_noticed}
 use Rattle.gb_alone.specs.Alone.{Member, is_marked, is_message, is_acknowledged, is_finished_alone, count_unfinished}
 use Rattle.gb_alone.proofs.UsageLemmas.{all_alike}
 use Rattle.gb_node.specs.PastGroups.{waiting_of}

@@ -10,11 +10,11 @@ use Rattle.gb_types.specs.declared.spec.Spec.{Spec}
 use Rattle.std.specs.FinSet as set
 use Rattle.std.specs.Ordering.{nat_cmp}
 use Rattle.std.proofs.lemmas.Bool.{and_parts}
-use Rattle.gb_history.specs.History.{puts_of, has_noticed}
+use Rattle.gb_rules.specs.History.{puts_of, has_noticed}
 use Rattle.gb_rules.specs.Group.{is_other, is_gone}
 use Rattle.gb_rules.specs.declared.phase.Phase.TheVariants.{Made}
-use Rattle.gb_history.specs.declared.call.GroupCall.TheVariants.{Crashed}
-use Rattle.gb_history.proofs.PutLemmas.{none_put}
+use Rattle.gb_rules.specs.declared.call.GroupCall.TheVariants.{Crashed}
+use Rattle.gb_rules.proofs.PutLemmas.{none_put}
 use Rattle.gb_alone.specs.Alone.{Member, called, cut, took_notice, node_noticed, put_to, is_marked, held_spec}
 use Rattle.gb_node.specs.NodeStep.{node_numbered}
 use Rattle.gb_node.specs.PastGroups.{noticed_members, crashed_onto, told_first}

@@ -11,9 +11,9 @@ use Rattle.gb_types.specs.declared.reply.Reply.{Reply}
 use Rattle.gb_types.specs.declared.reply.Reply.TheVariants.{Refused}
 use Rattle.gb_types.specs.declared.spec.Spec.{Spec}
 use Rattle.gb_types.specs.declared.version.Version.{Version}
-use Rattle.gb_history.specs.History.{said_in, bytes_in, log_of, puts_of, falls_after, has_noticed}
-use Rattle.gb_history.specs.declared.call.GroupCall.{GroupCall}
-use Rattle.gb_history.specs.declared.call.GroupCall.TheVariants.{Other, Crashed}
+use Rattle.gb_rules.specs.History.{said_in, bytes_in, log_of, puts_of, falls_after, has_noticed}
+use Rattle.gb_rules.specs.declared.call.GroupCall.{GroupCall}
+use Rattle.gb_rules.specs.declared.call.GroupCall.TheVariants.{Other, Crashed}
 use Rattle.gb_rules.specs.declared.phase.Phase.{Phase}
 use Rattle.gb_rules.specs.Group.{Shown, absent_answer, is_gone, is_other, is_too_long, on_made}
 use Rattle.gb_alone.specs.Alone.{Member, held_spec, is_finished_alone, count_unfinished, called, item_came, put_to, cut, took_notice, node_noticed}

@@ -10,7 +10,7 @@ use Rattle.gb_types.specs.declared.spec.Spec.{Spec}
 use Rattle.gb_types.proofs.BoolLemmas.{or_second, or_turned}
 use Rattle.gb_types.specs.declared.plan.Bounds.{Bounds}
 use Rattle.gb_rules.specs.Group.{is_other}
-use Rattle.gb_history.specs.declared.call.GroupCall.TheVariants.{Crashed}
+use Rattle.gb_rules.specs.declared.call.GroupCall.TheVariants.{Crashed}
 use Rattle.gb_alone.specs.Alone.{Member, Group, after, alone_from, called, cut, took_notice, node_noticed, is_marked, IsLegalFrom, held_spec}
 use Rattle.gb_node.specs.NodeStep.{node_numbered}
 use Rattle.gb_alone.specs.declared.event.GroupEvent.TheVariants.{Notice}

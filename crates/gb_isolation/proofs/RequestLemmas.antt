@@ -22,7 +22,7 @@ use Rattle.gb_types.specs.declared.spec.TenantRow.{TenantRow}
 use Rattle.gb_types.specs.declared.version.Version.{Version}
 use Rattle.gb_types.specs.Version.{version_at}
 use Rattle.gb_frame.specs.declared.item.Item.{Item}
-use Rattle.gb_history.specs.History.{said_in}
+use Rattle.gb_rules.specs.History.{said_in}
 use Rattle.gb_rules.specs.Tenant.{is_over_limits, reserve_of, reserved, row_of, tenant_answer}
 use Rattle.gb_rules.specs.Address.{is_addr}
 use Rattle.gb_rules.specs.Room.{is_reached_by, is_other_generation}

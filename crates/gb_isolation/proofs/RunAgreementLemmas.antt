@@ -11,7 +11,7 @@ use Rattle.gb_types.specs.declared.limits.TheConstants.{NODES, SILENCE_MIN}
 use Rattle.gb_types.specs.declared.spec.Spec.{Spec}
 use Rattle.gb_frame.specs.declared.item.Item.{Item}
 use Rattle.gb_rules.specs.Group.{is_gone, is_member, is_other}
-use Rattle.gb_history.specs.History.{has_noticed}
+use Rattle.gb_rules.specs.History.{has_noticed}
 use Rattle.gb_alone.specs.Alone.{Group, after, nobody, alone, is_marked, IsLegal, IsLegalFrom}
 use Rattle.gb_alone.specs.Laws.{accepted}
 use Rattle.gb_alone.specs.declared.event.GroupStep.{GroupStep}

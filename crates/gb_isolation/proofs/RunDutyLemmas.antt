@@ -10,7 +10,7 @@ use Rattle.gb_types.specs.declared.message.MsgId.{MsgId}
 use Rattle.gb_types.specs.declared.node.NodeId.{NodeId}
 use Rattle.gb_types.specs.declared.spec.Spec.{Spec}
 use Rattle.gb_rules.specs.Group.{is_gone, is_member, is_other}
-use Rattle.gb_history.specs.Messages.{has}
+use Rattle.gb_rules.specs.Messages.{has}
 use Rattle.gb_alone.specs.Alone.{Group, nobody, alone, is_marked}
 use Rattle.gb_alone.proofs.InsideLemmas.{run_inside}
 use Rattle.gb_duties.specs.Duties.{HasHad, KeepsDuties, IsDutiful, DeliveredAreOfMembers, LoggedAreDelivered, noticed_at, delivered_at}

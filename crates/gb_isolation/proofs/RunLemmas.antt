@@ -12,7 +12,7 @@ use Rattle.gb_types.specs.declared.node.NodeId.{NodeId}
 use Rattle.gb_types.proofs.SameLemmas.{same_number}
 use Rattle.gb_frame.specs.declared.item.Item.{Item}
 use Rattle.gb_frame.specs.Packet.{Content}
-use Rattle.gb_history.specs.History.{said_in}
+use Rattle.gb_rules.specs.History.{said_in}
 use Rattle.gb_alone.specs.Alone.{Group, Member, nobody, after, alone, alone_from, is_message}
 use Rattle.gb_alone.specs.Laws.{accepted}
 use Rattle.gb_alone.proofs.AcceptedLemmas.{alone_said, length-own_said}

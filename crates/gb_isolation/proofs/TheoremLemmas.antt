@@ -9,7 +9,7 @@ use Rattle.gb_types.specs.declared.spec.Spec.{Spec}
 use Rattle.gb_frame.specs.Items.{entry_of, item_for, items_for}
 use Rattle.gb_frame.specs.Packet.{Content}
 use Rattle.gb_frame.specs.declared.item.Item.{Item}
-use Rattle.gb_history.specs.History.{log_of}
+use Rattle.gb_rules.specs.History.{log_of}
 use Rattle.gb_alone.specs.Alone.{Member, log_at}
 use Rattle.gb_alone.specs.Laws.{log_of_member}
 use Rattle.gb_node.specs.NodeGroups.{shown_at, waiting_at}

@@ -17,8 +17,8 @@ use Rattle.gb_types.specs.declared.version.Version.{Version}
 use Rattle.gb_frame.specs.declared.item.Item.{Item}
 use Rattle.gb_rules.specs.Group.{is_gone, is_other}
 use Rattle.gb_rules.specs.Tenant.{reserve_of, row_of}
-use Rattle.gb_history.specs.declared.call.GroupCall.TheVariants.{Crashed}
-use Rattle.gb_history.specs.History.{said_in}
+use Rattle.gb_rules.specs.declared.call.GroupCall.TheVariants.{Crashed}
+use Rattle.gb_rules.specs.History.{said_in}
 use Rattle.gb_alone.specs.Alone.{Member, Group, node_noticed, is_marked, is_acknowledged}
 use Rattle.gb_rules.specs.Lifetime.{stepped}
 use Rattle.gb_node.specs.NodeStep.{node_numbered}

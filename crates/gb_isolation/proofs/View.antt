@@ -9,7 +9,7 @@ use Rattle.gb_types.specs.declared.request.Request.{Request}
 use Rattle.gb_types.specs.declared.spec.Spec.{Spec}
 use Rattle.gb_frame.specs.declared.item.Item.{Item}
 use Rattle.gb_detect.specs.Silence.{is_noticed}
-use Rattle.gb_history.specs.History.{said_in}
+use Rattle.gb_rules.specs.History.{said_in}
 use Rattle.gb_rules.specs.Group.{is_gone, is_other, is_member}
 use Rattle.gb_rules.specs.Tenant.{reserve_of, row_of}
 use Rattle.gb_rules.specs.declared.phase.Phase.TheVariants.{Made}

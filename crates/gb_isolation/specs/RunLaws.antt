@@ -17,7 +17,7 @@ use Rattle.gb_types.specs.declared.version.Version.{Version}
 use Rattle.gb_frame.specs.declared.item.Item.{Item}
 use Rattle.gb_rules.specs.Address.{is_addr}
 use Rattle.gb_rules.specs.Group.{is_member}
-use Rattle.gb_history.specs.Messages.{has}
+use Rattle.gb_rules.specs.Messages.{has}
 use Rattle.gb_alone.specs.Alone.{running_reply}
 use Rattle.gb_alone.specs.declared.event.GroupEvent.TheVariants.{Fetch as AskFetch}
 use Rattle.gb_alone.specs.Laws.{Accepted, IsAccepted, KeepsIntegrity, KeepsOrder}

@@ -5,7 +5,7 @@ ghost use Rattle.gb_table.specs.Admission.{is_token};
 ghost use Rattle.gb_loop.specs.Operated.{MayTell};
 
 use gb_cap::{HmacKey, Key, Need, Token};
-use gb_groups::GroupRow;
+use gb_table::GroupRow;
 use gb_host::{Host, Tapes};
 use gb_rules::Phase;
 use gb_session::answers::put_refusal;

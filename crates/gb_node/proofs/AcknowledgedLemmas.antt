@@ -11,7 +11,7 @@ use Rattle.std.proofs.Math.Bool.{and-false, or-false}
 use Rattle.gb_types.specs.declared.message.MsgId.{MsgId}
 use Rattle.gb_types.specs.declared.node.NodeId.{NodeId}
 use Rattle.gb_types.proofs.InsertedLemmas.{contains-inserted}
-use Rattle.gb_history.specs.History.{said_in}
+use Rattle.gb_rules.specs.History.{said_in}
 use Rattle.gb_slot.specs.Slot.{slot_done, with_acknowledgement}
 use Rattle.gb_slot.specs.SlotState.{SlotState}
 use Rattle.gb_node.specs.PastGroups.{Told, is_own_message, acknowledged_with}

@@ -10,8 +10,8 @@ use Rattle.gb_types.specs.declared.spec.TenantRow.{TenantRow}
 use Rattle.gb_rules.specs.Group.{drop_answer}
 use Rattle.gb_rules.specs.Tenant.{is_over_limits, row_of, reserve_of, reserved, tenant_answer, make_answer, by_tenant}
 use Rattle.gb_slot.specs.SlotState.{SlotState}
-use Rattle.gb_groups.specs.OneGroup.{group_in, answer_in, CanBeMade}
-use Rattle.gb_groups.specs.Rooms.{others_living}
+use Rattle.gb_table.specs.OneGroup.{group_in, answer_in, CanBeMade}
+use Rattle.gb_table.specs.Rooms.{others_living}
 use Rattle.gb_table.specs.TableValue.{TableValue}
 use Rattle.gb_table.specs.Requests.{is_admitted, table_reply}
 use Rattle.gb_table.proofs.RequestLemmas.{not_some}

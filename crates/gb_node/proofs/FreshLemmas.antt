@@ -11,12 +11,12 @@ use Rattle.gb_types.specs.declared.limits.TheConstants.{NODES}
 use Rattle.gb_types.specs.declared.node.NodeId.{NodeId}
 use Rattle.gb_types.specs.declared.spec.Spec.{Spec}
 use Rattle.gb_types.proofs.BoolLemmas.{or_turned}
-use Rattle.gb_history.specs.declared.call.GroupCall.TheVariants.{Crashed}
+use Rattle.gb_rules.specs.declared.call.GroupCall.TheVariants.{Crashed}
 use Rattle.gb_rules.specs.Group.{is_other}
 use Rattle.gb_slot.specs.Slot.{new_slot}
 use Rattle.gb_slot.specs.StandsFor.{StandsFor}
 use Rattle.gb_slot.specs.HistoryLaws.{FreshStands}
-use Rattle.gb_groups.proofs.UnchangedLemmas.{waiting-new}
+use Rattle.gb_table.proofs.UnchangedLemmas.{waiting-new}
 use Rattle.gb_node.specs.NodeStep.{node_numbered}
 use Rattle.gb_node.specs.PastGroups.{noticed_members, crashed_onto, told_first}
 use Rattle.gb_node.proofs.SlotGroups.{SlotTold}

@@ -31,15 +31,15 @@ use Rattle.gb_link.specs.declared.receiver.Admission.{Admission}
 use Rattle.gb_link.specs.declared.receiver.Admission.TheVariants.{First, Seen, Outside}
 use Rattle.gb_slot.specs.SlotState.{SlotState}
 use Rattle.gb_slot.specs.Slot.{new_slot, slot_moved, slot_said, slot_noticed, slot_came, slot_done, slot_took}
-use Rattle.gb_groups.specs.SlotsValue.{AreApart}
+use Rattle.gb_table.specs.SlotsValue.{AreApart}
 use Rattle.gb_frame.specs.Items.{address_of, entry_of, names, items_for, item_for}
-use Rattle.gb_groups.specs.AtAddress.{item_came}
-use Rattle.gb_groups.specs.GroupsValue.{GroupsValue}
+use Rattle.gb_table.specs.AtAddress.{item_came}
+use Rattle.gb_table.specs.GroupsValue.{GroupsValue}
 use Rattle.gb_rules.specs.Address.{is_addr}
 use Rattle.gb_rules.specs.Lifetime.{stepped, or_added, passed, where_so}
 use Rattle.gb_rules.specs.Room.{is_reached_by}
 use Rattle.gb_rules.proofs.AddressLemmas.{addr_is}
-use Rattle.gb_groups.specs.OneGroup.{group_in, waiting_in, came_for, with_rows, AreInOrder, EachGroup}
+use Rattle.gb_table.specs.OneGroup.{group_in, waiting_in, came_for, with_rows, AreInOrder, EachGroup}
 use Rattle.gb_table.specs.TableValue.{TableValue, table_noticed, table_packed}
 use Rattle.gb_table.specs.Requests.{table_did, table_reply}
 use Rattle.gb_node.specs.NodeValue.{NodeValue}

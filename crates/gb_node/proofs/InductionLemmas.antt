@@ -29,9 +29,9 @@ use Rattle.gb_link.specs.SendWindow.{SendWindow, new_window, pushed}
 use Rattle.gb_detect.specs.Watch.{due}
 use Rattle.gb_slot.specs.Slot.{shown}
 use Rattle.gb_frame.specs.Items.{items_for}
-use Rattle.gb_groups.specs.GroupsValue.{no_groups}
-use Rattle.gb_groups.specs.OneGroup.{group_in, waiting_in, AreInOrder, EachGroup, EachCount, StayInOrder}
-use Rattle.gb_groups.specs.Rooms.{others_living}
+use Rattle.gb_table.specs.GroupsValue.{no_groups}
+use Rattle.gb_table.specs.OneGroup.{group_in, waiting_in, AreInOrder, EachGroup, EachCount, StayInOrder}
+use Rattle.gb_table.specs.Rooms.{others_living}
 use Rattle.gb_table.specs.Requests.{table_reply}
 use Rattle.gb_detect.specs.Silence.{is_noticed}
 use Rattle.gb_detect.specs.Laws.{NoticedByCalls}

@@ -20,9 +20,9 @@ use Rattle.gb_link.specs.Received.{Received, admission}
 use Rattle.gb_link.specs.declared.receiver.Admission.{Admission}
 use Rattle.gb_link.specs.declared.receiver.Admission.TheVariants.{First, Seen, Outside}
 use Rattle.gb_slot.specs.Slot.{new_slot, slot_moved, slot_said, slot_noticed, slot_came, slot_done}
-use Rattle.gb_groups.specs.AtAddress.{item_came}
-use Rattle.gb_groups.specs.OneGroup.{AreInOrder, StayInOrder, EachCount}
-use Rattle.gb_groups.specs.Rooms.{others_living}
+use Rattle.gb_table.specs.AtAddress.{item_came}
+use Rattle.gb_table.specs.OneGroup.{AreInOrder, StayInOrder, EachCount}
+use Rattle.gb_table.specs.Rooms.{others_living}
 use Rattle.gb_table.specs.TableValue.{TableValue, table_noticed}
 use Rattle.gb_table.specs.Requests.{table_did, table_reply}
 use Rattle.gb_node.specs.NodeStep.{node_numbered, item_done, frame_done, item_comes, items_come, frame_comes, notice_each}

@@ -16,7 +16,7 @@ use Rattle.gb_types.specs.declared.version.Version.{Version}
 use Rattle.gb_types.proofs.VersionLemmas.{header_least}
 use Rattle.gb_frame.specs.Batch.{batch_in, IsBatch, TextsTellItems}
 use Rattle.gb_frame.specs.Spelling.{items_text, IsItem, AreTexts}
-use Rattle.gb_groups.specs.Packing.{Visit, size}
+use Rattle.gb_table.specs.Packing.{Visit, size}
 
 -- some items have some bytes
 pub some_bytes : (version : Version) (vs : List Visit) → 0 < length vs → 0 < sum_by (size version) vs

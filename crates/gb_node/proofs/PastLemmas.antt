@@ -12,8 +12,8 @@ use Rattle.gb_detect.specs.Silence.{Call, Heard}
 use Rattle.gb_detect.specs.Watch.{Watch, start, replay, after}
 use Rattle.gb_frame.specs.declared.item.Item.{Item}
 use Rattle.gb_frame.specs.Packet.{Content}
-use Rattle.gb_groups.specs.OneGroup.{group_in}
-use Rattle.gb_groups.specs.Rooms.{others_living}
+use Rattle.gb_table.specs.OneGroup.{group_in}
+use Rattle.gb_table.specs.Rooms.{others_living}
 use Rattle.gb_node.specs.NodeValue.{NodeValue}
 use Rattle.gb_node.specs.NodeStep.{window_to, receiver_from}
 use Rattle.gb_node.specs.Past.{Happened, came, packed_for, frames_to, numbered, is_ack, is_acked, is_taken_by, is_taken, ticks, watched, added, tenants_in, stops, is_stopped}

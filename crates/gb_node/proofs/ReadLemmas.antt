@@ -31,8 +31,8 @@ use Rattle.gb_rules.specs.declared.phase.Phase.TheVariants.{Made, Opened, Shut, 
 use Rattle.gb_rules.specs.declared.reserve.Reserve.{Reserve}
 use Rattle.gb_rules.specs.declared.usage.Usage.{Usage}
 use Rattle.gb_slot.specs.SlotState.{SlotState}
-use Rattle.gb_groups.specs.OneGroup.{group_in, answer_in}
-use Rattle.gb_groups.specs.Rooms.{others_living}
+use Rattle.gb_table.specs.OneGroup.{group_in, answer_in}
+use Rattle.gb_table.specs.Rooms.{others_living}
 use Rattle.gb_table.specs.TableValue.{TableValue, reserve_for}
 use Rattle.gb_table.specs.Requests.{is_admitted, admitted_reply, table_reply, table_did}
 use Rattle.gb_node.specs.NodeValue.{NodeValue}

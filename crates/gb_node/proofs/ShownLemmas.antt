@@ -9,14 +9,14 @@ use Rattle.std.proofs.Math.Bool.{or-true}
 use Rattle.std.proofs.lemmas.Bool.{eq-eqb, or_right}
 use Rattle.gb_types.specs.declared.node.NodeId.{NodeId}
 use Rattle.gb_types.specs.declared.spec.Spec.{Spec}
-use Rattle.gb_history.specs.History.{bytes_in, log_of, has_noticed}
-use Rattle.gb_history.specs.Messages.{bytes_of}
+use Rattle.gb_rules.specs.History.{bytes_in, log_of, has_noticed}
+use Rattle.gb_rules.specs.Messages.{bytes_of}
 use Rattle.gb_rules.specs.Group.{is_member, is_other}
 use Rattle.gb_slot.specs.HistoryLaws.{LogIs}
 use Rattle.gb_slot.specs.Slot.{shown, unfinished_of}
 use Rattle.gb_slot.specs.Slot as slot
 use Rattle.gb_slot.specs.SlotState.{SlotState}
-use Rattle.gb_groups.specs.OneGroup.{waiting_in}
+use Rattle.gb_table.specs.OneGroup.{waiting_in}
 use Rattle.gb_node.specs.PastGroups.{Told, is_finished_told, unfinished_in, shown_of, shown_in, waiting_of}
 use Rattle.gb_node.proofs.SlotGroups.{SlotTold, IsTold}
 

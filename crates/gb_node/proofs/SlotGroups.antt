@@ -22,8 +22,8 @@ use Rattle.gb_slot.specs.StandsFor.{StandsFor}
 use Rattle.gb_frame.specs.Items.{entry_of, items_for}
 use Rattle.gb_rules.specs.Lifetime.{stepped, dropped, or_added, passed, where_so}
 use Rattle.gb_rules.specs.Room.{is_reached_by}
-use Rattle.gb_groups.specs.OneGroup.{group_in, came_for}
-use Rattle.gb_groups.specs.Rooms.{others_living}
+use Rattle.gb_table.specs.OneGroup.{group_in, came_for}
+use Rattle.gb_table.specs.Rooms.{others_living}
 use Rattle.gb_node.specs.NodeValue.{NodeValue}
 use Rattle.gb_node.specs.NodeStep.{node_numbered}
 use Rattle.gb_node.specs.declared.plan.NodePlan.{NodePlan}

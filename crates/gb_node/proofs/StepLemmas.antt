@@ -29,9 +29,9 @@ use Rattle.gb_rules.specs.Group.{Shown, open_answer, shut_answer, drop_answer, s
 use Rattle.gb_rules.specs.Tenant.{reserve_of, row_of, make_answer, by_tenant}
 use Rattle.gb_slot.specs.Slot.{shown}
 use Rattle.gb_slot.specs.SlotState.{SlotState}
-use Rattle.gb_groups.specs.SlotsValue.{AreApart}
+use Rattle.gb_table.specs.SlotsValue.{AreApart}
 use Rattle.gb_frame.specs.Items.{items_for, item_for}
-use Rattle.gb_groups.specs.OneGroup.{group_in, group_reply, EachGroup, EachCount, StayInOrder}
+use Rattle.gb_table.specs.OneGroup.{group_in, group_reply, EachGroup, EachCount, StayInOrder}
 use Rattle.gb_table.specs.TableValue.{TableValue, new_table}
 use Rattle.gb_table.specs.Requests.{is_admitted, admitted_reply, table_reply}
 use Rattle.gb_node.specs.NodeValue.{NodeValue, IsNodePlan}

@@ -26,8 +26,8 @@ use Rattle.gb_rules.specs.declared.phase.Phase.TheVariants.{Opened, Shut}
 use Rattle.gb_rules.specs.Group.{Shown}
 use Rattle.gb_frame.specs.declared.item.Item.{Item}
 use Rattle.gb_frame.specs.Packet.{Content}
-use Rattle.gb_history.specs.declared.call.GroupCall.TheVariants.{Own, Other, Crashed}
-use Rattle.gb_history.specs.History.{falls_after, puts_of}
+use Rattle.gb_rules.specs.declared.call.GroupCall.TheVariants.{Own, Other, Crashed}
+use Rattle.gb_rules.specs.History.{falls_after, puts_of}
 use Rattle.gb_slot.specs.SlotState.{SlotState}
 use Rattle.gb_slot.specs.Slot.{new_slot, slot_moved, slot_said, slot_came, slot_noticed, slot_done, slot_took, shown, falls, waiting, own_entry}
 use Rattle.gb_slot.specs.StandsFor.{StandsFor, reaches}
@@ -35,7 +35,7 @@ use Rattle.gb_slot.specs.HistoryLaws.{FreshStands, MovedStands, SaidStands, Came
 use Rattle.gb_frame.specs.Items.{entry_of, items_for}
 use Rattle.gb_rules.specs.Lifetime.{stepped, dropped, or_added, passed, where_so}
 use Rattle.gb_rules.specs.Room.{is_reached_by}
-use Rattle.gb_groups.specs.OneGroup.{group_in, answer_in, group_reply, came_for}
+use Rattle.gb_table.specs.OneGroup.{group_in, answer_in, group_reply, came_for}
 use Rattle.gb_table.specs.TableValue.{TableValue}
 use Rattle.gb_table.specs.Requests.{is_admitted, table_reply}
 use Rattle.gb_node.specs.NodeStep.{node_numbered}

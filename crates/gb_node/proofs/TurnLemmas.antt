@@ -6,8 +6,8 @@ use Rattle.gb_types.specs.declared.node.NodeId.{NodeId}
 use Rattle.gb_frame.specs.declared.item.Item.{Item}
 use Rattle.gb_frame.specs.Spelling.{packet_text}
 use Rattle.gb_link.specs.SendWindow.{has_room}
-use Rattle.gb_groups.specs.GroupsValue.{batch}
-use Rattle.gb_groups.specs.Packing.{item_at}
+use Rattle.gb_table.specs.GroupsValue.{batch}
+use Rattle.gb_table.specs.Packing.{item_at}
 use Rattle.gb_node.specs.NodeValue.{NodeValue}
 use Rattle.gb_node.specs.NodeStep.{Turn, turn, running_turn, stopped_answer, window_to, is_reached, content_to, batch_to, room_to, unless_empty, next_batch, sent_batch, sent, IsTurn}
 use Rattle.gb_node.specs.declared.answer.NodeAnswer.TheVariants.{Sent}

@@ -7,9 +7,9 @@ use Rattle.std.proofs.lemmas.Bool.{and_right}
 use Rattle.std.proofs.lemmas.List.{append-nil}
 use Rattle.gb_types.specs.declared.entry.Entry.{Entry}
 use Rattle.gb_types.specs.declared.node.NodeId.{NodeId}
-use Rattle.gb_history.specs.declared.call.GroupCall.{GroupCall}
-use Rattle.gb_history.specs.declared.call.GroupCall.TheVariants.{Own, Other, Crashed}
-use Rattle.gb_history.specs.History.{calls_of, puts_of, has_noticed}
+use Rattle.gb_rules.specs.declared.call.GroupCall.{GroupCall}
+use Rattle.gb_rules.specs.declared.call.GroupCall.TheVariants.{Own, Other, Crashed}
+use Rattle.gb_rules.specs.History.{calls_of, puts_of, has_noticed}
 use Rattle.gb_rules.specs.Group.{is_other}
 use Rattle.gb_slot.specs.Slot.{waiting}
 use Rattle.gb_slot.specs.SlotState.{SlotState}

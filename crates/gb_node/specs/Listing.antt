@@ -2,7 +2,7 @@
 use Rattle.std.specs.Prelude.{◌≡◌, ℕ, ◌⊎◌, true, false, List, length, is_ok, Result, Ok, Err}
 use Rattle.gb_types.specs.declared.refusal.Refusal.{Refusal}
 use Rattle.gb_types.specs.declared.refusal.Refusal.TheVariants.{Stopped, OutOfMemory}
-use Rattle.gb_groups.specs.Listing.{used}
+use Rattle.gb_table.specs.GroupRows.{used}
 use Rattle.gb_table.specs.Listing.{list_answer}
 use Rattle.gb_table.specs.declared.listing.Listing.{Listing}
 use Rattle.gb_node.specs.NodeValue.{NodeValue}

@@ -4,7 +4,7 @@ use Rattle.gb_types.specs.declared.address.Addr.{Addr}
 use Rattle.gb_types.specs.declared.entry.Entry.{Entry}
 use Rattle.gb_rules.specs.Group.{Shown}
 use Rattle.gb_slot.specs.Slot.{shown}
-use Rattle.gb_groups.specs.OneGroup.{group_in, waiting_in}
+use Rattle.gb_table.specs.OneGroup.{group_in, waiting_in}
 use Rattle.gb_node.specs.NodeValue.{NodeValue}
 
 -- what the rules read of a group: None if it may still be made, Some None if it was dropped or can be made no more

@@ -26,9 +26,9 @@ use Rattle.gb_link.specs.declared.receiver.Admission.TheVariants.{First, Seen, O
 use Rattle.gb_detect.specs.Watch.{due, after_heard, after_tick}
 use Rattle.gb_rules.specs.Replied.{takes_memory}
 use Rattle.gb_frame.specs.Items.{address_of, entry_of, rest_is_node}
-use Rattle.gb_groups.specs.GroupsValue.{batch}
-use Rattle.gb_groups.specs.OneGroup.{longest_item, NothingWaits}
-use Rattle.gb_groups.specs.Packing.{Visit, items}
+use Rattle.gb_table.specs.GroupsValue.{batch}
+use Rattle.gb_table.specs.OneGroup.{longest_item, NothingWaits}
+use Rattle.gb_table.specs.Packing.{Visit, items}
 use Rattle.gb_table.specs.TableValue.{TableValue, table_came, table_done, table_noticed, table_packed}
 use Rattle.gb_table.specs.Requests.{table_reply, table_did}
 use Rattle.gb_node.specs.NodeValue.{NodeValue}

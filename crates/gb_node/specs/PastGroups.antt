@@ -25,9 +25,9 @@ use Rattle.gb_rules.specs.Group.{Shown, is_other, is_too_long}
 use Rattle.gb_rules.specs.declared.phase.Phase.{Phase}
 use Rattle.gb_rules.specs.declared.phase.Phase.TheVariants.{Made, Opened, Shut}
 use Rattle.gb_rules.specs.declared.usage.Usage.{Usage}
-use Rattle.gb_history.specs.declared.call.GroupCall.{GroupCall}
-use Rattle.gb_history.specs.declared.call.GroupCall.TheVariants.{Own, Other, Crashed}
-use Rattle.gb_history.specs.History.{said_in, bytes_in, log_of, puts_of, falls_after, has_noticed}
+use Rattle.gb_rules.specs.declared.call.GroupCall.{GroupCall}
+use Rattle.gb_rules.specs.declared.call.GroupCall.TheVariants.{Own, Other, Crashed}
+use Rattle.gb_rules.specs.History.{said_in, bytes_in, log_of, puts_of, falls_after, has_noticed}
 use Rattle.gb_frame.specs.Items.{entry_of, items_for}
 use Rattle.gb_rules.specs.Lifetime.{stepped, dropped, or_added, passed, where_so}
 use Rattle.gb_rules.specs.Room.{is_reached_by, one_more, one_less}

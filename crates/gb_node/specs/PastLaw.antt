@@ -9,7 +9,7 @@ use Rattle.gb_node.specs.NodeStep.{window_to, receiver_from}
 use Rattle.gb_node.specs.declared.plan.NodePlan.{NodePlan}
 use Rattle.gb_node.specs.Past.{Happened, ComesTo, frames_to, numbered, is_acked, is_taken, watched, tenants_in, is_stopped}
 use Rattle.gb_node.specs.NodeGroups.{shown_at, waiting_at}
-use Rattle.gb_groups.specs.Rooms.{others_living}
+use Rattle.gb_table.specs.Rooms.{others_living}
 use Rattle.gb_node.specs.PastGroups.{shown_in, waiting_of, told_of, living_of}
 
 -- The state of a node beside its groups is determined by its past.

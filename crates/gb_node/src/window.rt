@@ -5,8 +5,8 @@ ghost use Rattle.gb_frame.specs.Batch.{batch_in, IsBatch, FitPacket};
 ghost use Rattle.gb_frame.specs.Spelling.{items_text};
 ghost use Rattle.gb_node.specs.Frames.{new_frames};
 ghost use Rattle.gb_link.specs.SendWindow.{IsWindow, has_room, pushed, frame_again, freed, acknowledged};
-ghost use Rattle.gb_groups.specs.GroupsValue.{batch};
-ghost use Rattle.gb_groups.specs.Packing.{size};
+ghost use Rattle.gb_table.specs.GroupsValue.{batch};
+ghost use Rattle.gb_table.specs.Packing.{size};
 ghost use Rattle.gb_table.specs.TableValue.{table_packed};
 ghost use Rattle.gb_node.specs.NodeStep.{batch_to};
 

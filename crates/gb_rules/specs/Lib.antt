@@ -5,3 +5,5 @@ pub mod Replied
 pub mod Room
 pub mod Tenant
 pub mod Lifetime
+pub mod Messages
+pub mod History

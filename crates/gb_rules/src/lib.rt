@@ -1,19 +1,29 @@
-//! The rules of tenants and of groups at a node: the answers, the order of the refusals, and which items are let fall. Each rule
-//! stands once as a definition, over the few values that it reads, and once as the function that computes it. A slot, a node and a
-//! group by itself all call it.
+//! What a group is, by definition: its rules and its history.
 //!
-//! There is no state here. Read specs/Group.antt, specs/Tenant.antt and specs/Room.antt first.
+//! The rules of tenants and of groups at a node are the answers, the order of the refusals, and which items are let fall. Each rule
+//! stands once as a definition, over the few values that it reads, and once as the function that computes it. A slot, a node and a
+//! group by itself all call it. Read specs/Group.antt, specs/Tenant.antt and specs/Room.antt first.
+//!
+//! The history of a group's calls at a node, newest first, has what its broadcast makes of it: the messages that are known,
+//! delivered and broadcast, and the items that are let fall. Read `call::GroupCall` first, then specs/History.antt. Each function
+//! computes its definition slowly, from the whole history.
+//!
+//! There is no state here.
 #![tactic(auto)]
 
 pub mod address;
+pub mod call;
 pub mod group;
 pub mod let_fall;
+pub mod log;
+pub mod messages;
 pub mod phase;
 pub mod reserve;
 pub mod room;
 pub mod tenant;
 pub mod usage;
 
+pub use call::GroupCall;
 pub use phase::Phase;
 pub use reserve::Reserve;
 pub use usage::Usage;

@@ -14,15 +14,15 @@ use Rattle.gb_stack.specs.Kinds.{kind_delivers, kind_broadcasts}
 use Rattle.gb_stack.specs.StackState.{stack_gives}
 use Rattle.gb_stack.proofs.DeliveryLemmas.{kind_broadcasts_mentioned}
 use Rattle.gb_stack.proofs.StandsLemmas as stack
-use Rattle.gb_history.specs.declared.call.GroupCall.{GroupCall}
-use Rattle.gb_history.specs.History.{call_of, calls_of, with_told, known, said_in, puts_of}
-use Rattle.gb_history.proofs.MentionLemmas.{has-known}
-use Rattle.gb_history.specs.Messages.{has, entry_in}
+use Rattle.gb_rules.specs.declared.call.GroupCall.{GroupCall}
+use Rattle.gb_rules.specs.History.{call_of, calls_of, with_told, known, said_in, puts_of}
+use Rattle.gb_rules.proofs.MentionLemmas.{has-known}
+use Rattle.gb_rules.specs.Messages.{has, entry_in}
 use Rattle.gb_rules.specs.Group.{is_other}
 use Rattle.gb_slot.specs.Slot.{waiting, taken_for, came_before, slot_called}
 use Rattle.gb_slot.specs.SlotState.{SlotState}
 use Rattle.gb_slot.specs.StandsFor.{StandsFor, reaches}
-use Rattle.gb_history.proofs.KnownLemmas.{still_told, entries-stay_told}
+use Rattle.gb_rules.proofs.KnownLemmas.{still_told, entries-stay_told}
 
 -- what holds of each element holds of each that is left
 all_drop : {X : Type 0} (P : X → Type 0) (n : ℕ) (xs : List X) → AllByRecursion P xs → AllByRecursion P (drop n xs)

@@ -6,8 +6,8 @@ use Rattle.std.proofs.lemmas.List.{get_or-set_other}
 use Rattle.std.proofs.lemmas.Grind.{get_or-set_at}
 use Rattle.gb_types.specs.declared.entry.Entry.{Entry}
 use Rattle.gb_types.specs.declared.limits.TheConstants.{NODES, BYTES}
-use Rattle.gb_history.specs.Messages.{bytes_of}
-use Rattle.gb_history.proofs.MentionLemmas.{bytes_of-append}
+use Rattle.gb_rules.specs.Messages.{bytes_of}
+use Rattle.gb_rules.proofs.MentionLemmas.{bytes_of-append}
 use Rattle.gb_slot.specs.Kept.{AreCounted}
 
 -- the bytes of a message more are counted as its origin's

@@ -21,7 +21,7 @@ use Rattle.gb_layer.specs.FirstMentionLemmas.{same_swap}
 use Rattle.gb_layer.specs.Limit.{Limit, is_counted, message_count}
 use Rattle.gb_layer.specs.PigeonholeLemmas.{no_more_messages}
 use Rattle.gb_layer.specs.WholeLemmas.{counted_grown, once_grown}
-use Rattle.gb_history.specs.Messages.{has, with_new, bytes_of}
+use Rattle.gb_rules.specs.Messages.{has, with_new, bytes_of}
 use Rattle.gb_slot.specs.Kept.{AreCounted}
 use Rattle.gb_slot.specs.Reached.{limit_of, most_bytes}
 use Rattle.gb_slot.specs.StoreValue.{total_bytes}

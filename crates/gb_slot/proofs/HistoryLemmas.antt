@@ -22,17 +22,17 @@ use Rattle.gb_layer.specs.declared.call.Call.{Call}
 use Rattle.gb_stack.specs.StackState.{new_stack}
 use Rattle.gb_stack.specs.Stands.{IsStackAfter}
 use Rattle.gb_stack.proofs.StandsLemmas as stack
-use Rattle.gb_history.specs.declared.call.GroupCall.{GroupCall}
-use Rattle.gb_history.specs.declared.call.GroupCall.TheVariants.{Own, Other, Crashed}
-use Rattle.gb_history.specs.History.{call_of, calls_of, known, said_in, puts_of, bytes_in}
+use Rattle.gb_rules.specs.declared.call.GroupCall.{GroupCall}
+use Rattle.gb_rules.specs.declared.call.GroupCall.TheVariants.{Own, Other, Crashed}
+use Rattle.gb_rules.specs.History.{call_of, calls_of, known, said_in, puts_of, bytes_in}
 use Rattle.gb_slot.specs.HistoryLaws.{FreshStands, MovedStands, SaidStands, CameStands, NoticedStands, DoneStands, TookStands, LogIs, FallsIs, WaitingSaid, WaitingCame, WaitingNoticed, WaitingTook, WaitingElsewhere}
-use Rattle.gb_history.specs.Messages.{has, entry_in, with_new, bytes_of}
+use Rattle.gb_rules.specs.Messages.{has, entry_in, with_new, bytes_of}
 use Rattle.gb_rules.specs.Group.{is_other}
 use Rattle.gb_rules.specs.LetFall.{is_let_fall}
 use Rattle.gb_slot.specs.Slot.{waiting, taken_for, came_before, own_entry, slot_called, falls, with_acknowledgement, acknowledged_by, slot_took}
 use Rattle.gb_slot.specs.SlotState.{SlotState}
 use Rattle.gb_slot.specs.StandsFor.{StandsFor, reaches}
-use Rattle.gb_history.proofs.MentionLemmas.{has-known}
+use Rattle.gb_rules.proofs.MentionLemmas.{has-known}
 use Rattle.gb_slot.proofs.ArrivalLemmas.{nodes_with_message, nodes_after_came}
 use Rattle.gb_types.proofs.InsertedLemmas.{contains-inserted}
 use Rattle.gb_slot.proofs.NoticeLemmas.{other_differs, notices_lawful, none_mentioned, none_came, none_known, none_said, none_sent, none_logged, notice_calls, others_differ, notices_tell, noticed_are}

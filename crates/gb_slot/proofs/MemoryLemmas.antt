@@ -20,7 +20,7 @@ use Rattle.gb_layer.specs.declared.effects.Up.{Up}
 use Rattle.gb_stack.specs.StackRoom.{HasRoom}
 use Rattle.gb_stack.specs.WholeLemmas.{stack_whole_room}
 use Rattle.gb_stack.specs.contracts.stack.StackLayer.TheImpl.{meaning-value}
-use Rattle.gb_history.specs.Messages.{has, with_new, bytes_of}
+use Rattle.gb_rules.specs.Messages.{has, with_new, bytes_of}
 use Rattle.gb_rules.specs.LetFall.{is_let_fall}
 use Rattle.gb_rules.specs.declared.usage.Usage.{Usage}
 use Rattle.gb_slot.specs.Arrivals.{nodes_of}

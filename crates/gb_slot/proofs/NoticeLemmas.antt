@@ -25,8 +25,8 @@ use Rattle.gb_stack.specs.StackLemmas.{stack_sends_handed_in}
 use Rattle.gb_stack.specs.StackState.{unordered, fifo, unordered_noticing, IsUntold, IsUntoldStack, stack_next, stack_gives, untold_stack}
 use Rattle.gb_stack.specs.Stands.{is_other_noticed}
 use Rattle.gb_stack.proofs.StandsLemmas as stack
-use Rattle.gb_history.specs.declared.call.GroupCall.TheVariants.{Crashed}
-use Rattle.gb_history.specs.History.{calls_of, known, said_in}
+use Rattle.gb_rules.specs.declared.call.GroupCall.TheVariants.{Crashed}
+use Rattle.gb_rules.specs.History.{calls_of, known, said_in}
 use Rattle.gb_rules.specs.Group.{is_other}
 
 -- another member is not this node

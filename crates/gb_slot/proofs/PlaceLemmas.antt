@@ -16,7 +16,7 @@ use Rattle.gb_types.proofs.SameLemmas.{same-true, same_itself}
 use Rattle.gb_types.proofs.BoolLemmas.{or_left, or_right}
 use Rattle.gb_layer.proofs.PlacesLemmas.{get_within}
 use Rattle.gb_layer.specs.WholeLemmas.{once_grown}
-use Rattle.gb_history.specs.Messages.{has, payload_in, bytes_of}
+use Rattle.gb_rules.specs.Messages.{has, payload_in, bytes_of}
 use Rattle.gb_slot.specs.Arrivals.{Arrival, has_arrival, nodes_of, with_node}
 use Rattle.gb_slot.specs.declared.store.Kept.{Kept}
 use Rattle.gb_slot.specs.Kept.{start_of, entries_of, is_of, messages_of, arrivals_of, IsPlaceOf, AreInside, AreCounted}

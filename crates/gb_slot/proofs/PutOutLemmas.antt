@@ -14,9 +14,9 @@ use Rattle.gb_layer.specs.declared.call.Call.{Call}
 use Rattle.gb_layer.specs.declared.call.Call.TheVariants.{Say}
 use Rattle.gb_stack.specs.Kinds.{module_of}
 use Rattle.gb_stack.specs.StackState.{stack_gives}
-use Rattle.gb_history.specs.declared.call.GroupCall.{GroupCall}
-use Rattle.gb_history.specs.declared.call.GroupCall.TheVariants.{Own}
-use Rattle.gb_history.specs.History.{calls_of}
+use Rattle.gb_rules.specs.declared.call.GroupCall.{GroupCall}
+use Rattle.gb_rules.specs.declared.call.GroupCall.TheVariants.{Own}
+use Rattle.gb_rules.specs.History.{calls_of}
 use Rattle.gb_slot.specs.Slot.{own_entry}
 use Rattle.gb_slot.specs.SlotState.{SlotState}
 use Rattle.gb_slot.specs.StandsFor.{StandsFor}

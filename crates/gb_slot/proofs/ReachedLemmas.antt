@@ -28,11 +28,11 @@ use Rattle.gb_stack.proofs.StartLemmas.{untold_me}
 use Rattle.gb_stack.specs.StackLemmas.{stack_sent_once}
 use Rattle.gb_stack.specs.StackState.{StackState, stack_next, stack_gives, stack_me, untold_stack}
 use Rattle.gb_stack.specs.Stands.{HasStarted}
-use Rattle.gb_history.proofs.MentionLemmas.{bytes_of-append, has-known}
-use Rattle.gb_history.specs.declared.call.GroupCall.{GroupCall}
-use Rattle.gb_history.specs.declared.call.GroupCall.TheVariants.{Own, Other, Crashed}
-use Rattle.gb_history.specs.History.{calls_of, delivered}
-use Rattle.gb_history.specs.Messages.{has, with_new, bytes_of}
+use Rattle.gb_rules.proofs.MentionLemmas.{bytes_of-append, has-known}
+use Rattle.gb_rules.specs.declared.call.GroupCall.{GroupCall}
+use Rattle.gb_rules.specs.declared.call.GroupCall.TheVariants.{Own, Other, Crashed}
+use Rattle.gb_rules.specs.History.{calls_of, delivered}
+use Rattle.gb_rules.specs.Messages.{has, with_new, bytes_of}
 use Rattle.gb_rules.specs.Group.{is_member, is_other}
 use Rattle.gb_rules.specs.LetFall.{is_let_fall}
 use Rattle.gb_slot.specs.Reached.{IsReached, limit_of, most_messages}

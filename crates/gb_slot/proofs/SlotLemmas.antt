@@ -10,7 +10,7 @@ use Rattle.gb_types.specs.declared.limits.TheConstants.{FETCH}
 use Rattle.gb_types.specs.declared.message.MsgId.{MsgId}
 use Rattle.gb_types.specs.declared.refusal.Refusal.TheVariants.{BadPlace}
 use Rattle.gb_types.specs.declared.reply.Reply.TheVariants.{Log, Refused}
-use Rattle.gb_history.specs.Messages.{entry_in, payload_in}
+use Rattle.gb_rules.specs.Messages.{entry_in, payload_in}
 use Rattle.gb_rules.specs.Replied.{takes_memory}
 use Rattle.gb_rules.specs.Group.{Shown, is_other, fetch_answer}
 use Rattle.gb_slot.specs.Outgoing.{put_messages}

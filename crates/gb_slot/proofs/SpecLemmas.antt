@@ -10,7 +10,7 @@ use Rattle.gb_types.specs.declared.reply.Reply.TheVariants.{Done, Said, Log, Ref
 use Rattle.gb_types.specs.declared.spec.Spec.{Spec}
 use Rattle.gb_layer.specs.declared.call.Call.TheVariants.{Came, Notice}
 use Rattle.gb_layer.specs.declared.effects.Effects.{Effects}
-use Rattle.gb_history.specs.Messages.{with_new}
+use Rattle.gb_rules.specs.Messages.{with_new}
 use Rattle.gb_rules.specs.Group.{is_other}
 use Rattle.gb_rules.specs.declared.phase.Phase.{Phase}
 use Rattle.gb_slot.specs.Effects.{AreEmptied, AreReady}

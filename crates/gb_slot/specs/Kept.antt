@@ -6,7 +6,7 @@ use Rattle.gb_types.specs.declared.limits.TheConstants.{NODES, BYTES}
 use Rattle.gb_types.specs.declared.message.MsgId.{MsgId}
 use Rattle.gb_types.specs.Message.{same}
 use Rattle.gb_slot.specs.Arrivals.{Arrival}
-use Rattle.gb_history.specs.Messages.{bytes_of}
+use Rattle.gb_rules.specs.Messages.{bytes_of}
 use Rattle.gb_slot.specs.declared.store.Kept.{Kept}
 
 -- the index at which the first of these payloads begins; the end of the bytes if there is none

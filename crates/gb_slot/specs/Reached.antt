@@ -6,8 +6,8 @@ use Rattle.gb_types.specs.Message.{same}
 use Rattle.gb_types.specs.Places.{common}
 use Rattle.gb_types.specs.declared.spec.Spec.{Spec}
 use Rattle.gb_layer.specs.Limit.{Limit, is_counted, message_count}
-use Rattle.gb_history.specs.declared.call.GroupCall.{GroupCall}
-use Rattle.gb_history.specs.Messages.{bytes_of}
+use Rattle.gb_rules.specs.declared.call.GroupCall.{GroupCall}
+use Rattle.gb_rules.specs.Messages.{bytes_of}
 use Rattle.gb_rules.specs.Group.{is_member}
 use Rattle.gb_slot.specs.SlotState.{SlotState}
 use Rattle.gb_slot.specs.StandsFor.{StandsFor}

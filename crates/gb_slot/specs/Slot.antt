@@ -18,7 +18,7 @@ use Rattle.gb_stack.specs.StackState.{new_stack, stack_next, stack_gives}
 use Rattle.gb_rules.specs.declared.phase.Phase.{Phase}
 use Rattle.gb_rules.specs.declared.phase.Phase.TheVariants.{Made}
 use Rattle.gb_rules.specs.declared.usage.Usage.{Usage}
-use Rattle.gb_history.specs.Messages.{has, entry_in, with_new, bytes_of}
+use Rattle.gb_rules.specs.Messages.{has, entry_in, with_new, bytes_of}
 use Rattle.gb_rules.specs.Group.{Shown, is_other}
 use Rattle.gb_rules.specs.LetFall.{is_let_fall}
 use Rattle.gb_slot.specs.Arrivals.{Arrival, with_message, nodes_of, with_arrived}

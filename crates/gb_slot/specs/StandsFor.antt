@@ -8,9 +8,9 @@ use Rattle.gb_layer.specs.Machine.{mentions, was_noticed, came_from, all_sends}
 use Rattle.gb_layer.specs.Modules.{IsLawful}
 use Rattle.gb_stack.specs.StackState.{stack_next, stack_gives, untold_stack}
 use Rattle.gb_stack.specs.Stands.{IsStackAfter}
-use Rattle.gb_history.specs.declared.call.GroupCall.{GroupCall}
-use Rattle.gb_history.specs.History.{calls_of, known, said_in, delivered}
-use Rattle.gb_history.specs.Messages.{has}
+use Rattle.gb_rules.specs.declared.call.GroupCall.{GroupCall}
+use Rattle.gb_rules.specs.History.{calls_of, known, said_in, delivered}
+use Rattle.gb_rules.specs.Messages.{has}
 use Rattle.gb_rules.specs.Group.{is_other}
 use Rattle.gb_slot.specs.Slot.{taken_for, came_before}
 use Rattle.gb_slot.specs.SlotState.{SlotState}

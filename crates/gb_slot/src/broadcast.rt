@@ -3,7 +3,7 @@ ghost use Rattle.std.specs.Prelude.{◌≡◌, ◌≤◌, ◌+◌, ◌++◌, ◌
 ghost use Rattle.gb_layer.specs.Limit.{Limit, is_within};
 ghost use Rattle.gb_layer.specs.Machine.{messages};
 ghost use Rattle.gb_types.specs.Entry.{message_of};
-ghost use Rattle.gb_history.specs.Messages.{has};
+ghost use Rattle.gb_rules.specs.Messages.{has};
 ghost use Rattle.gb_slot.specs.Effects.{AreEmptied, IsEmpty, free_sends, free_ups};
 ghost use Rattle.gb_slot.specs.Outgoing.{put_messages};
 ghost use Rattle.gb_stack.specs.StackRoom.{HasRoom, IsWhole};

@@ -5,7 +5,7 @@ ghost use Rattle.gb_types.specs.declared.entry.Entry.{Entry as EntryValue};
 ghost use Rattle.gb_stack.specs.StackRoom.{IsWhole};
 ghost use Rattle.gb_stack.specs.StackState.{new_stack};
 ghost use Rattle.gb_stack.specs.Stands.{HasStarted};
-ghost use Rattle.gb_history.specs.Messages.{entry_in};
+ghost use Rattle.gb_rules.specs.Messages.{entry_in};
 ghost use Rattle.gb_rules.specs.Replied.{done_reply, said_reply, log_reply, IsReply};
 ghost use Rattle.gb_rules.specs.Group.{is_gone, is_member, is_other, open_answer, shut_answer, is_too_long, say_answer, fetch_answer};
 ghost use Rattle.gb_slot.specs.Effects.{AreEmptied, AreReady, IsEmpty};

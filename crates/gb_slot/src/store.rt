@@ -1,7 +1,7 @@
 //! The messages that a slot knows, with their payloads. Each payload is stored once.
 ghost use Rattle.std.specs.Prelude.{◌≡◌, ℕ, true, false, ◌+◌, ◌^◌, ◌≤◌, ◌<◌, ◌∷◌, ◌++◌, [], List, length, map, drop, Some, slice_get, slice_index, vec_len, vec_capacity, IsOk, IfOk, OnOk, OnErr, MatchOption, IfSome, is_some};
 ghost use Rattle.std.specs.List.{list_any, IsDistinct};
-ghost use Rattle.gb_history.specs.Messages.{has, payload_in, entry_in, with_new, bytes_of};
+ghost use Rattle.gb_rules.specs.Messages.{has, payload_in, entry_in, with_new, bytes_of};
 ghost use Rattle.std.specs.FinSet as set;
 ghost use Rattle.gb_layer.specs.Table.{leads};
 ghost use Rattle.gb_slot.specs.Arrivals.{has_arrival, with_message, nodes_of, with_node, with_arrived};

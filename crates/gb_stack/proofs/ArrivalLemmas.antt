@@ -17,7 +17,7 @@ use Rattle.gb_layer.specs.declared.entries.Entry.{Entry}
 use Rattle.gb_layer.specs.Rule.{Nodes, Rules}
 use Rattle.gb_layer.specs.Relay.{State, is_for, is_sent, noted, new_entry, held_entry, sent_entry, held, marked_sent, due_to_relay, due_to_deliver}
 use Rattle.gb_layer.specs.Relay as relay
-use Rattle.gb_records.proofs.PlaceLemmas.{at_all}
+use Rattle.gb_stack.proofs.PlaceLemmas.{at_all}
 use Rattle.gb_stack.specs.Settled.{passed_on, settled, AreQuiescent}
 use Rattle.gb_stack.specs.StackState.{relayed_next, relayed_gives}
 use Rattle.gb_stack.specs.Taken.{relay_state, up_of}

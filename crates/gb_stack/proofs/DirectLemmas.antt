@@ -13,9 +13,9 @@ use Rattle.gb_layer.specs.Machine.{is_own}
 use Rattle.gb_fifo.specs.Entries.{brought}
 use Rattle.gb_fifo.specs.Entries as order
 use Rattle.gb_fifo.specs.declared.entry.Entry as fifo
-use Rattle.gb_records.specs.declared.record.Record.{Record}
-use Rattle.gb_records.specs.Records.{keys, noted, is_unsent, is_ungiven, relay_entries, order_entries}
-use Rattle.gb_records.proofs.PlaceLemmas.{key_within}
+use Rattle.gb_stack.specs.declared.record.Record.{Record}
+use Rattle.gb_stack.specs.Records.{keys, noted, is_unsent, is_ungiven, relay_entries, order_entries}
+use Rattle.gb_stack.proofs.PlaceLemmas.{key_within}
 use Rattle.gb_stack.specs.Taken.{left, up_of, HandsUp, Spends}
 use Rattle.gb_stack.proofs.SettledLemmas.{at_changed}
 use Rattle.gb_stack.proofs.RecordLemmas.{count_kept, keys_kept, order_brought, order_kept, unsent_same, low_same}

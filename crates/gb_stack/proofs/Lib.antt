@@ -10,3 +10,5 @@ pub mod TakenLemmas
 pub mod NoticeLemmas
 pub mod DirectLemmas
 pub mod TakeLemmas
+pub mod PlaceLemmas
+pub mod ColumnLemmas

@@ -10,8 +10,8 @@ use Rattle.gb_layer.specs.Counts.{count_by-append, count_by-cons, count_by-grown
 use Rattle.gb_layer.specs.Lists.{any_map}
 use Rattle.gb_layer.specs.Relay as relay
 use Rattle.gb_fifo.specs.Entries as order
-use Rattle.gb_records.specs.declared.record.Record.{Record}
-use Rattle.gb_records.specs.Records.{keys, is_for, blank, noted, relay_entry, relay_entries, order_entry, order_entries}
+use Rattle.gb_stack.specs.declared.record.Record.{Record}
+use Rattle.gb_stack.specs.Records.{keys, is_for, blank, noted, relay_entry, relay_entries, order_entry, order_entries}
 
 column : {E : Type 0} (f : Record → E) (b : Bool) (rs : List Record) (r : Record) → map f (cond b rs (rs ++ r ∷ [])) ≡ cond b (map f rs) (map f rs ++ f r ∷ [])
 column f true rs r = refl

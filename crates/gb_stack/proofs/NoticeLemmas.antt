@@ -20,8 +20,8 @@ use Rattle.gb_layer.specs.Relay.{State, sent_entry, due_to_relay, due_to_deliver
 use Rattle.gb_layer.proofs.MappedLemmas.{mapped_more, mapped_at, picked_more}
 use Rattle.gb_fifo.specs.declared.entry.Entry as order
 use Rattle.gb_fifo.specs.Entries.{taken, taken_ups, taken_one, taken_one_ups}
-use Rattle.gb_records.specs.declared.record.Record.{Record}
-use Rattle.gb_records.specs.Records.{keys, relay_entry, relay_entries, order_entries}
+use Rattle.gb_stack.specs.declared.record.Record.{Record}
+use Rattle.gb_stack.specs.Records.{keys, relay_entry, relay_entries, order_entries}
 use Rattle.gb_stack.specs.Settled.{passed_on, settled, AreQuiescent}
 use Rattle.gb_stack.specs.StackState.{relayed_next, relayed_gives}
 use Rattle.gb_stack.specs.Taken.{relay_state, up_of, HandsUp, Moves, HasTaken}

@@ -17,8 +17,8 @@ use Rattle.gb_layer.specs.Relay.{sent_entry, given_entry, due_to_relay, due_to_d
 use Rattle.gb_layer.specs.Rule.{Nodes, Rules}
 use Rattle.gb_fifo.specs.declared.entry.Entry as order
 use Rattle.gb_fifo.specs.Entries.{brought, brought_entry, is_given_of, given_of, released, released_ups, taken, taken_ups}
-use Rattle.gb_records.specs.declared.record.Record.{Record}
-use Rattle.gb_records.specs.Records.{keys, is_unsent, is_ungiven, relay_entry, relay_entries, order_entry, order_entries}
+use Rattle.gb_stack.specs.declared.record.Record.{Record}
+use Rattle.gb_stack.specs.Records.{keys, is_unsent, is_ungiven, relay_entry, relay_entries, order_entry, order_entries}
 use Rattle.gb_stack.specs.Settled.{passed_on, settled}
 use Rattle.gb_stack.specs.Taken.{is_low, up_of, rise_order, rise_ups, HandsUp, Moves}
 use Rattle.gb_stack.proofs.SettledLemmas.{set_one, at_changed, at_unchanged, apart_at}

@@ -14,7 +14,7 @@ use Rattle.gb_layer.specs.declared.entries.Entry.{Entry}
 use Rattle.gb_layer.specs.Rule.{Nodes, Rules}
 use Rattle.gb_layer.specs.Relay.{State, noted, sent_entry, given_entry, held, up_of, due_to_relay, due_to_deliver, handed, relayed, relayed_sends, given, given_ups}
 use Rattle.gb_layer.proofs.RelayPassLemmas.{Distinct, relayed_all, relayed_all_sends}
-use Rattle.gb_records.proofs.PlaceLemmas.{one_place}
+use Rattle.gb_stack.proofs.PlaceLemmas.{one_place}
 use Rattle.gb_stack.specs.Settled.{passed_on, settled, AreQuiescent}
 use Rattle.gb_stack.specs.StackState.{relayed_next, relayed_gives}
 use Rattle.gb_stack.specs.Taken.{relay_state}

@@ -12,8 +12,8 @@ use Rattle.gb_layer.specs.Room.{free}
 use Rattle.gb_layer.specs.WholeLemmas.{counted_grown}
 use Rattle.gb_fifo.specs.declared.entry.Entry as order
 use Rattle.gb_fifo.specs.Entries.{noted_by}
-use Rattle.gb_records.specs.declared.record.Record.{Record}
-use Rattle.gb_records.specs.Records.{keys, blank, order_entries}
+use Rattle.gb_stack.specs.declared.record.Record.{Record}
+use Rattle.gb_stack.specs.Records.{keys, blank, order_entries}
 use Rattle.gb_stack.specs.declared.stack.Stack.{Stack}
 use Rattle.gb_stack.specs.Settled.{relays}
 use Rattle.gb_stack.specs.StackRoom.{remembers, HasRoom, IsWhole}

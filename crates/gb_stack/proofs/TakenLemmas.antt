@@ -13,8 +13,8 @@ use Rattle.gb_layer.specs.Relay as relay
 use Rattle.gb_layer.specs.Relay.{due_to_relay, due_to_deliver}
 use Rattle.gb_fifo.specs.declared.entry.Entry as fifo
 use Rattle.gb_fifo.specs.Entries as order
-use Rattle.gb_records.specs.declared.record.Record.{Record}
-use Rattle.gb_records.specs.Records.{keys, noted, is_unsent, is_ungiven, relay_entries, order_entries}
+use Rattle.gb_stack.specs.declared.record.Record.{Record}
+use Rattle.gb_stack.specs.Records.{keys, noted, is_unsent, is_ungiven, relay_entries, order_entries}
 use Rattle.gb_stack.specs.Settled.{passed_on, settled, AreQuiescent}
 use Rattle.gb_stack.specs.Taken.{relay_state, up_of, is_low, left, noted_in, HandsUp, HasTaken, Moves}
 use Rattle.gb_stack.proofs.RecordLemmas.{keys_of, settled_is}

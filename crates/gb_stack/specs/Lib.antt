@@ -10,3 +10,4 @@ pub mod WholeLemmas
 pub mod StackLemmas
 pub mod UnorderedLemmas
 pub mod InsideLemmas
+pub mod Records

@@ -4,7 +4,7 @@ use Rattle.std.specs.List.{list_all}
 use Rattle.gb_layer.specs.declared.effects.Room.{Room}
 use Rattle.gb_layer.specs.Limit.{Limit, is_counted, message_count}
 use Rattle.gb_stack.specs.declared.stack.Stack.{Stack}
-use Rattle.gb_records.specs.Records.{keys, is_unsent}
+use Rattle.gb_stack.specs.Records.{keys, is_unsent}
 use Rattle.gb_stack.specs.Settled.{relays}
 use Rattle.gb_stack.specs.Taken.{left}
 

@@ -5,7 +5,7 @@ use Rattle.gb_layer.specs.declared.broadcast_module.BroadcastModule.{BroadcastMo
 use Rattle.gb_layer.specs.declared.broadcast_module.BroadcastModule.TheVariants.{BestEffort, Lazy, Eager, AllAck, MajorityAck}
 use Rattle.gb_layer.specs.Relay.{State}
 use Rattle.gb_stack.specs.declared.stack.Stack.{Stack}
-use Rattle.gb_records.specs.Records.{relay_entries, order_entries}
+use Rattle.gb_stack.specs.Records.{relay_entries, order_entries}
 use Rattle.gb_stack.specs.StackState.{UnorderedState, best_effort, lazy, eager, all_ack, majority_ack, StackState, unordered, fifo}
 use Rattle.gb_stack.specs.Taken.{relay_state}
 

@@ -11,8 +11,8 @@ use Rattle.gb_layer.specs.Relay.{State, due_to_relay, due_to_deliver}
 use Rattle.gb_layer.specs.Rule.{Nodes, Rules}
 use Rattle.gb_fifo.specs.declared.entry.Entry as order
 use Rattle.gb_fifo.specs.Entries.{noted_by, released, released_ups, taken, taken_ups}
-use Rattle.gb_records.specs.declared.record.Record.{Record}
-use Rattle.gb_records.specs.Records.{keys, noted, is_unsent, is_ungiven, relay_entries, order_entries}
+use Rattle.gb_stack.specs.declared.record.Record.{Record}
+use Rattle.gb_stack.specs.Records.{keys, noted, is_unsent, is_ungiven, relay_entries, order_entries}
 use Rattle.gb_stack.specs.Settled.{passed_on, settled, AreQuiescent}
 use Rattle.gb_stack.specs.StackState.{relayed_next, relayed_gives}
 

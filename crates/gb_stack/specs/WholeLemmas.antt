@@ -4,8 +4,8 @@ use Rattle.std.proofs.lemmas.List.{length-map}
 use Rattle.std.proofs.lemmas.List.Sums.{count_by-le-length}
 use Rattle.gb_layer.specs.Limit.{Limit}
 use Rattle.gb_layer.specs.PigeonholeLemmas.{no_more_messages}
-use Rattle.gb_records.specs.declared.record.Record.{Record}
-use Rattle.gb_records.specs.Records.{keys, is_unsent, is_ungiven}
+use Rattle.gb_stack.specs.declared.record.Record.{Record}
+use Rattle.gb_stack.specs.Records.{keys, is_unsent, is_ungiven}
 use Rattle.gb_stack.specs.declared.stack.Stack.{Stack}
 use Rattle.gb_stack.specs.StackRoom.{HasRoom, IsWhole, stack_need}
 use Rattle.gb_stack.specs.Taken.{left, is_low}

@@ -5,14 +5,14 @@ ghost use Rattle.gb_layer.specs.Machine.{own_gives};
 ghost use Rattle.gb_layer.specs.Room.{free};
 ghost use Rattle.gb_fifo.specs.Entries as order;
 ghost use Rattle.gb_fifo.specs.Entries.{brought, noted_by};
-ghost use Rattle.gb_records.specs.Records.{keys, noted, is_unsent, is_ungiven, order_entries};
+ghost use Rattle.gb_stack.specs.Records.{keys, noted, is_unsent, is_ungiven, order_entries};
 ghost use Rattle.gb_stack.specs.Taken.{HandsUp, Spends, left, noted_in, up_of};
 
+use crate::Records;
 use crate::here::Here;
 use crate::relaying::Moved;
 use crate::taking::give;
 use gb_layer::{Call, Up};
-use gb_records::Records;
 use gb_types::MsgId;
 
 /// Adds a record of `m` if there is none, and marks in it whether `m` was sent and came up.

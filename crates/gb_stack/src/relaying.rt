@@ -1,12 +1,12 @@
 //! The step of a broadcast that relays, on the record of one message.
 ghost use Rattle.std.specs.Prelude.{◌≡◌};
 ghost use Rattle.gb_layer.specs.Relay.{due_to_relay, due_to_deliver};
-ghost use Rattle.gb_records.specs.Records.{relay_entry};
+ghost use Rattle.gb_stack.specs.Records.{relay_entry};
 ghost use Rattle.gb_stack.specs.Settled.{passed_on, settled};
 
+use crate::Record;
 use crate::here::Here;
 use gb_layer::Rule;
-use gb_records::Record;
 
 /// The effects of a step on a message: `sends` if it is sent from here, `rises` if it comes up.
 #[derive(Clone, Copy)]

@@ -3,19 +3,19 @@ ghost use Rattle.std.specs.Prelude.{◌≡◌, ℕ, ◌+◌, ◌≤◌, ◌||◌
 ghost use Rattle.gb_types.specs.declared.limits.TheConstants.{NODES};
 ghost use Rattle.gb_layer.specs.declared.call.Call.TheVariants.{Notice};
 ghost use Rattle.gb_layer.specs.Room.{free};
-ghost use Rattle.gb_records.specs.Records.{is_unsent, relay_entries};
+ghost use Rattle.gb_stack.specs.Records.{is_unsent, relay_entries};
 ghost use Rattle.gb_stack.specs.Stands.{is_other_noticed, HasHeard, HasStarted};
 ghost use Rattle.gb_stack.specs.StackState.{StackState, stack_next, stack_gives, stack_me, IsUntoldStack, IsEmptyStack, untold_stack, new_stack};
 ghost use Rattle.gb_stack.specs.Settled.{AreQuiescent, IsQuiescent, IsQuiescent-prop, relays};
 ghost use Rattle.gb_stack.specs.Taken.{HasTaken, Spends, left, relay_state};
 
+use crate::Records;
 use crate::direct::take_direct;
 use crate::here::Here;
 use crate::kinds::{broadcast_module, is_fifo};
 use crate::taking::{take_arrival, take_notice, take_saying};
 use gb_layer::whole::message_and_call_count;
 use gb_layer::{Broadcast, BroadcastModule, Call, Layer, Room, Rule, Up};
-use gb_records::Records;
 use gb_reliable::{Eagerly, Lazily};
 use gb_types::limits::NODES;
 use gb_types::{Kind, MsgId, NodeId, NodeSet, OutOfMemory, Spec};

@@ -5,15 +5,15 @@ ghost use Rattle.gb_layer.specs.declared.call.Call.TheVariants.{Say, Came, Notic
 ghost use Rattle.gb_layer.specs.declared.entries.Entry.{Entry};
 ghost use Rattle.gb_layer.specs.Relay.{held_entry, sent_entry};
 ghost use Rattle.gb_layer.specs.Room.{free};
-ghost use Rattle.gb_records.specs.Records.{keys, is_unsent, is_ungiven, relay_entries, order_entries};
+ghost use Rattle.gb_stack.specs.Records.{keys, is_unsent, is_ungiven, relay_entries, order_entries};
 ghost use Rattle.gb_stack.specs.Settled.{AreQuiescent};
 ghost use Rattle.gb_stack.specs.Taken.{Moves, HasTaken, Spends, left, relay_state, rise_order, rise_ups};
 
+use crate::Records;
 use crate::here::Here;
+use crate::records::release;
 use crate::relaying::{Moved, settle};
 use gb_layer::{Rule, Up};
-use gb_records::Records;
-use gb_records::records::release;
 use gb_types::{MsgId, NodeId};
 
 /// Hands up a message that the broadcast brought up: at once, or in the order of its origin with the messages that waited for it.

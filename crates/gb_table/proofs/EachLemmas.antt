@@ -13,11 +13,11 @@ use Rattle.gb_frame.specs.Items.{address_of, entry_of}
 use Rattle.gb_rules.specs.Group.{is_too_long}
 use Rattle.gb_slot.specs.Slot.{slot_came, slot_took}
 use Rattle.gb_slot.specs.SlotState.{SlotState}
-use Rattle.gb_groups.specs.AtAddress.{place_of, step_at, on_address, gone_at, drop_at, item_came}
-use Rattle.gb_groups.specs.GroupsValue.{GroupsValue, made}
-use Rattle.gb_groups.specs.Packing.{Visit, gave, share}
-use Rattle.gb_groups.specs.Rooms.{rank_of, free_place}
-use Rattle.gb_groups.specs.SlotsValue.{Row, row_at, on_slot, gone, vacant, with_vacant, with_room}
+use Rattle.gb_table.specs.AtAddress.{place_of, step_at, on_address, gone_at, drop_at, item_came}
+use Rattle.gb_table.specs.GroupsValue.{GroupsValue, made}
+use Rattle.gb_table.specs.Packing.{Visit, gave, share}
+use Rattle.gb_table.specs.Rooms.{rank_of, free_place}
+use Rattle.gb_table.specs.SlotsValue.{Row, row_at, on_slot, gone, vacant, with_vacant, with_room}
 
 abbrev pub Each : (Row → Type 0) → List Row → Type 0
 Each P rows = (p : ℕ) → P (row_at rows p)

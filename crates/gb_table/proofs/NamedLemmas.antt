@@ -9,10 +9,10 @@ use Rattle.gb_frame.specs.Items.{entry_of}
 use Rattle.gb_rules.specs.Room.{can_name}
 use Rattle.gb_slot.specs.Slot.{slot_came, slot_took}
 use Rattle.gb_slot.specs.SlotState.{SlotState}
-use Rattle.gb_groups.specs.AtAddress.{on_address, drop_at, item_came}
-use Rattle.gb_groups.specs.GroupsValue.{GroupsValue, made}
-use Rattle.gb_groups.specs.Packing.{Visit, gave}
-use Rattle.gb_groups.specs.SlotsValue.{Row, on_slot, IsNamed, AreNamed}
+use Rattle.gb_table.specs.AtAddress.{on_address, drop_at, item_came}
+use Rattle.gb_table.specs.GroupsValue.{GroupsValue, made}
+use Rattle.gb_table.specs.Packing.{Visit, gave}
+use Rattle.gb_table.specs.SlotsValue.{Row, on_slot, IsNamed, AreNamed}
 use Rattle.gb_table.proofs.EachLemmas.{KeptBy, each_address, each_dropped, each_came, each_stepped, each_gave, each_made}
 
 abbrev IsNamedRow : Version → Row → Type 0

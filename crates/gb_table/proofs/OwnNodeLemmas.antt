@@ -17,19 +17,19 @@ use Rattle.gb_types.specs.declared.reply.Reply.{Reply}
 use Rattle.gb_types.specs.declared.reply.Reply.TheVariants.{Done, Said, Log, Refused}
 use Rattle.gb_frame.specs.declared.item.Item.{Item}
 use Rattle.gb_layer.specs.declared.call.Call.TheVariants.{Came, Notice}
-use Rattle.gb_history.specs.Messages.{with_new}
+use Rattle.gb_rules.specs.Messages.{with_new}
 use Rattle.gb_rules.specs.Group.{is_other, is_too_long, say_answer}
 use Rattle.gb_rules.proofs.LengthLemmas.{within_limit}
 use Rattle.gb_rules.specs.declared.phase.Phase.{Phase}
 use Rattle.gb_slot.specs.Slot.{falls, shown, slot_called, slot_moved, slot_said, slot_came, slot_noticed, slot_took, slot_done, new_slot, with_acknowledgement}
 use Rattle.gb_slot.specs.SlotState.{SlotState}
-use Rattle.gb_groups.specs.SlotsValue.{Row, row_at, on_slot, no_row, IsShort, AreShort}
-use Rattle.gb_groups.proofs.StepLemmas.{short-moved, short-came, short-noticed, short-done, short-took, short-own, said_fits}
-use Rattle.gb_groups.specs.GroupsValue.{GroupsValue, made}
-use Rattle.gb_groups.specs.Packing.{Visit, gave}
+use Rattle.gb_table.specs.SlotsValue.{Row, row_at, on_slot, no_row, IsShort, AreShort}
+use Rattle.gb_table.proofs.StepLemmas.{short-moved, short-came, short-noticed, short-done, short-took, short-own, said_fits}
+use Rattle.gb_table.specs.GroupsValue.{GroupsValue, made}
+use Rattle.gb_table.specs.Packing.{Visit, gave}
 use Rattle.gb_frame.specs.Items.{entry_of}
-use Rattle.gb_groups.specs.AtAddress.{place_of, step_at, on_address, drop_at, item_came}
-use Rattle.gb_groups.specs.OneGroup.{group_in, answer_in, group_reply}
+use Rattle.gb_table.specs.AtAddress.{place_of, step_at, on_address, drop_at, item_came}
+use Rattle.gb_table.specs.OneGroup.{group_in, answer_in, group_reply}
 use Rattle.gb_table.specs.TableValue.{TableValue, with_rows, table_done}
 use Rattle.gb_table.specs.OwnNode.{IsOwn, AreOwn}
 use Rattle.gb_table.proofs.EachLemmas.{KeptBy, each_address, each_dropped, each_came, each_stepped, each_gave, each_made}

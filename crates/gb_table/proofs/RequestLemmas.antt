@@ -13,8 +13,8 @@ use Rattle.gb_types.specs.declared.spec.Spec.{Spec}
 use Rattle.gb_types.specs.declared.spec.TenantRow.{TenantRow}
 use Rattle.gb_rules.specs.Tenant.{row_of, reserve_of, make_answer, by_tenant}
 use Rattle.gb_rules.specs.declared.reserve.Reserve.{Reserve}
-use Rattle.gb_groups.specs.OneGroup.{group_in}
-use Rattle.gb_groups.specs.Rooms.{others_living}
+use Rattle.gb_table.specs.OneGroup.{group_in}
+use Rattle.gb_table.specs.Rooms.{others_living}
 use Rattle.gb_table.specs.TableValue.{TableValue, reserve_for}
 use Rattle.gb_table.specs.Requests.{is_admitted, admitted_reply, table_reply, IsReplyTo, table_did}
 use Rattle.gb_table.specs.Within.{names_of, IsWithin}

@@ -3,8 +3,8 @@ use Rattle.std.specs.Prelude.{ℕ, ◌||◌, List, length, nat_lt, Result, Ok, E
 use Rattle.gb_types.specs.declared.refusal.Refusal.{Refusal}
 use Rattle.gb_types.specs.declared.refusal.Refusal.TheVariants.{Denied, BadPlace}
 use Rattle.gb_cap.specs.declared.token.Need.TheVariants.{Admin}
-use Rattle.gb_groups.specs.Listing.{listed_from, used}
-use Rattle.gb_groups.specs.declared.listing.GroupRow.{GroupRow}
+use Rattle.gb_table.specs.GroupRows.{listed_from, used}
+use Rattle.gb_table.specs.declared.group_row.GroupRow.{GroupRow}
 use Rattle.gb_table.specs.Admission.{is_token}
 use Rattle.gb_table.specs.TableValue.{TableValue}
 use Rattle.gb_table.specs.declared.listing.TheConstants.{LISTED}

@@ -4,7 +4,7 @@ use Rattle.gb_types.specs.Version.{limits_of}
 use Rattle.gb_types.specs.declared.node.NodeId.{NodeId}
 use Rattle.gb_types.specs.declared.version.Version.{Version}
 use Rattle.gb_slot.specs.SlotState.{SlotState}
-use Rattle.gb_groups.specs.SlotsValue.{Row, row_at, IsShort}
+use Rattle.gb_table.specs.SlotsValue.{Row, row_at, IsShort}
 
 -- the slot is at the node, which sends this version of the packet text, and its messages are within the version's limit; a dropped group has no slot
 abbrev pub IsOwn : NodeId → Version → Option SlotState → Type 0

@@ -13,10 +13,10 @@ use Rattle.gb_rules.specs.Replied.{IsReply}
 use Rattle.gb_rules.specs.Tenant.{row_of, reserved, tenant_answer, make_answer, by_tenant}
 use Rattle.gb_rules.specs.declared.phase.Phase.TheVariants.{Opened, Shut}
 use Rattle.gb_slot.specs.Slot.{new_slot, slot_moved, slot_said}
-use Rattle.gb_groups.specs.AtAddress.{living_place, on_address, drop_at}
-use Rattle.gb_groups.specs.GroupsValue.{made}
-use Rattle.gb_groups.specs.OneGroup.{group_in, group_reply}
-use Rattle.gb_groups.specs.Rooms.{others_living}
+use Rattle.gb_table.specs.AtAddress.{living_place, on_address, drop_at}
+use Rattle.gb_table.specs.GroupsValue.{made}
+use Rattle.gb_table.specs.OneGroup.{group_in, group_reply}
+use Rattle.gb_table.specs.Rooms.{others_living}
 use Rattle.gb_table.specs.Admission.{is_by_row, has_token}
 use Rattle.gb_table.specs.TableValue.{TableValue, with_rows, reserve_for}
 

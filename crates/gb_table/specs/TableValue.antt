@@ -9,9 +9,9 @@ use Rattle.gb_frame.specs.declared.item.Item.{Item}
 use Rattle.gb_rules.specs.Tenant.{reserve_of, row_of}
 use Rattle.gb_rules.specs.declared.reserve.Reserve.{Reserve}
 use Rattle.gb_slot.specs.Slot.{slot_done, slot_noticed}
-use Rattle.gb_groups.specs.SlotsValue.{Row, on_slot}
-use Rattle.gb_groups.specs.AtAddress.{on_address, item_came}
-use Rattle.gb_groups.specs.GroupsValue.{GroupsValue, no_groups, packed}
+use Rattle.gb_table.specs.SlotsValue.{Row, on_slot}
+use Rattle.gb_table.specs.AtAddress.{on_address, item_came}
+use Rattle.gb_table.specs.GroupsValue.{GroupsValue, no_groups, packed}
 
 -- The table of a node in a cluster of `nodes` nodes: the administrator's key, the tenants in the order in which they were added, which may reserve `places`
 -- rooms in all, and the groups.

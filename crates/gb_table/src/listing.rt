@@ -1,5 +1,5 @@
 //! What a node tells its administrator about its groups.
-use gb_groups::GroupRow;
+use crate::GroupRow;
 
 /// The maximum number of groups in one list.
 pub const LISTED: u32 = 64;

@@ -11,13 +11,13 @@ ghost use Rattle.gb_rules.specs.Group.{open_answer, shut_answer, drop_answer, sa
 ghost use Rattle.gb_rules.specs.Replied.{IsReply};
 ghost use Rattle.gb_rules.specs.Tenant.{row_of, reserved, tenant_answer, make_answer, by_tenant};
 ghost use Rattle.gb_frame.specs.Items.{address_of};
-ghost use Rattle.gb_groups.specs.AtAddress.{living_place, OthersKept};
-ghost use Rattle.gb_groups.specs.Fair.{IsFront, IsLongest};
-ghost use Rattle.gb_groups.specs.OneGroup.{group_in, group_reply, longest_item, NothingWaits};
-ghost use Rattle.gb_groups.specs.Rooms.{others_living};
-ghost use Rattle.gb_groups.specs.Listing.{used};
-ghost use Rattle.gb_groups.specs.GroupsValue.{walk_to, batch};
-ghost use Rattle.gb_groups.specs.Packing.{items, size};
+ghost use Rattle.gb_table.specs.AtAddress.{living_place, OthersKept};
+ghost use Rattle.gb_table.specs.Fair.{IsFront, IsLongest};
+ghost use Rattle.gb_table.specs.OneGroup.{group_in, group_reply, longest_item, NothingWaits};
+ghost use Rattle.gb_table.specs.Rooms.{others_living};
+ghost use Rattle.gb_table.specs.GroupRows.{used};
+ghost use Rattle.gb_table.specs.GroupsValue.{walk_to, batch};
+ghost use Rattle.gb_table.specs.Packing.{items, size};
 ghost use Rattle.gb_table.specs.TableValue.{new_table, reserve_for, table_came, table_done, table_noticed, table_packed};
 ghost use Rattle.gb_cap.specs.declared.token.Need.TheVariants.{Admin};
 ghost use Rattle.gb_table.specs.Admission.{is_token};
@@ -25,12 +25,12 @@ ghost use Rattle.gb_table.specs.Kept.{IsMemberToken};
 ghost use Rattle.gb_table.specs.Listing.{list_answer};
 ghost use Rattle.gb_table.specs.Requests.{is_admitted, is_by_tenant, place_for, table_reply, IsReplyTo, table_did};
 
+use crate::Groups;
 use crate::listing::{LISTED, Listing};
 use crate::tenants::Tenants;
 use gb_cap::compare::count_differences;
 use gb_cap::{HmacKey, Key, Need, Token};
 use gb_frame::ItemView;
-use gb_groups::Groups;
 use gb_rules::Reserve;
 use gb_rules::room::{GENERATIONS, name_of};
 use gb_rules::tenant::{answer_make, answer_tenant};
@@ -82,7 +82,7 @@ impl Model for Table {
     ghost use Rattle.std.specs.Prelude.{◌≡◌};
     ghost use Rattle.gb_table.specs.Kept.{AreMemberTokens};
     ghost use Rattle.gb_table.specs.Within.{IsWithin, names_of};
-    ghost use Rattle.gb_groups.specs.SlotsValue.{AreNamed};
+    ghost use Rattle.gb_table.specs.SlotsValue.{AreNamed};
     ghost use Rattle.gb_table.specs.OwnNode.{AreOwn};
 
     ghost Value = { TableValue };

@@ -1,5 +1,5 @@
 use Rattle.std.proofs.Common.{ap, sym, ◌∙◌, ◌≡◌, ◌+◌, ◌≤◌, ℕ, true, cond, count_by, arith}
-use Rattle.gb_records.specs.Records.{keys, noted, is_unsent}
+use Rattle.gb_stack.specs.Records.{keys, noted, is_unsent}
 use Rattle.gb_stack.specs.Taken.{left}
 use Rattle.gb_stack.proofs.NotedLemmas.{one_more}
 use Rattle.gb_stack.proofs.DirectLemmas.{spent}

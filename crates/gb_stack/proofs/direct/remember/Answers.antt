@@ -1,7 +1,7 @@
 use Rattle.std.proofs.Common.{slice_get, ap, sym, refl, ◌∙◌, ◌||◌}
 use Rattle.gb_layer.specs.Table.{leads}
-use Rattle.gb_records.specs.declared.record.Record.{Record}
-use Rattle.gb_records.proofs.PlaceLemmas.{key_within}
+use Rattle.gb_stack.specs.declared.record.Record.{Record}
+use Rattle.gb_stack.proofs.PlaceLemmas.{key_within}
 use Rattle.gb_stack.proofs.DirectLemmas.{keys_remembered, order_remembered, unsent_remembered}
 use Rattle.gb_stack.proofs.RecordLemmas.{keys_kept, given_kept}
 use Rattle.gb_stack.proofs.direct.remember.Goals as goal

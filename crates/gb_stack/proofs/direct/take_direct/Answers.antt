@@ -1,6 +1,6 @@
 use Rattle.gb_stack.proofs.DirectLemmas.{handed_own}
 use Rattle.gb_fifo.specs.Entries as order
-use Rattle.gb_records.specs.Records.{order_entries}
+use Rattle.gb_stack.specs.Records.{order_entries}
 use Rattle.gb_stack.proofs.direct.take_direct.Goals as goal
 
 pub returns-in-Say-clause-ups : goal.returns-in-Say-clause-ups

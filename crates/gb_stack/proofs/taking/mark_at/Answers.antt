@@ -3,7 +3,7 @@ use Rattle.std.proofs.lemmas.List.{map-set}
 use Rattle.gb_layer.specs.declared.entries.Entry.{Entry}
 use Rattle.gb_layer.specs.Relay.{sent_entry}
 use Rattle.gb_layer.specs.Table.{leads}
-use Rattle.gb_records.specs.Records.{is_unsent, is_ungiven, relay_entry, relay_entries}
+use Rattle.gb_stack.specs.Records.{is_unsent, is_ungiven, relay_entry, relay_entries}
 use Rattle.gb_stack.specs.Taken.{is_low}
 use Rattle.gb_stack.proofs.RecordLemmas.{count_kept, count_fewer, keys_kept, given_kept, order_kept, entry_at}
 use Rattle.gb_stack.proofs.taking.mark_at.Goals as goal

@@ -1,7 +1,7 @@
 use Rattle.std.proofs.Common.{slice_get, ap, sym, refl, ◌∙◌, ◌≡◌, ◌+◌, ◌<◌, ◌≤◌, ℕ, Bool, true, false, List, length, count_by, set, cond, arith}
 use Rattle.gb_layer.specs.Table.{leads}
-use Rattle.gb_records.specs.declared.record.Record.{Record}
-use Rattle.gb_records.specs.Records.{is_ungiven, relay_entries}
+use Rattle.gb_stack.specs.declared.record.Record.{Record}
+use Rattle.gb_stack.specs.Records.{is_ungiven, relay_entries}
 use Rattle.gb_stack.specs.Taken.{is_low, left}
 use Rattle.gb_stack.proofs.RecordLemmas.{keys_kept, given_kept, m_kept, moved, unsent_same, low_same, unsent_after, low_after, ungiven_after}
 use Rattle.gb_stack.proofs.taking.settle_at.Goals as goal

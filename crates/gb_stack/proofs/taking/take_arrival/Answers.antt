@@ -5,7 +5,7 @@ use Rattle.gb_layer.specs.declared.entries.Entry.{Entry}
 use Rattle.gb_layer.specs.Relay as relay
 use Rattle.gb_layer.specs.Relay.{held_entry}
 use Rattle.gb_layer.specs.declared.call.Call.TheVariants.{Came}
-use Rattle.gb_records.specs.Records.{relay_entry, relay_entries}
+use Rattle.gb_stack.specs.Records.{relay_entry, relay_entries}
 use Rattle.gb_stack.proofs.SettledLemmas.{at_changed, at_unchanged}
 use Rattle.gb_stack.proofs.ArrivalLemmas.{came_stepped}
 use Rattle.gb_stack.proofs.NotedLemmas.{relay_noted}

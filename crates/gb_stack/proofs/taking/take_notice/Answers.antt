@@ -2,7 +2,7 @@ use Rattle.std.proofs.Common.{◌<◌, ◌∙◌, sym, subst, length, arith}
 use Rattle.std.specs.FinSet as nodes
 use Rattle.gb_layer.specs.declared.call.Call.TheVariants.{Notice}
 use Rattle.gb_layer.specs.Rule.{Nodes}
-use Rattle.gb_records.specs.Records.{relay_entries}
+use Rattle.gb_stack.specs.Records.{relay_entries}
 use Rattle.gb_stack.specs.Taken.{Moves, HasTaken, relay_state}
 use Rattle.gb_stack.proofs.NoticeLemmas.{relay_more, sends_more, ups_more, notice_taken}
 use Rattle.gb_stack.proofs.taking.take_notice.Goals as goal

@@ -2,7 +2,7 @@ use Rattle.std.proofs.Common.{◌≡◌, ◌+◌, ◌≤◌, ◌++◌, count_by,
 use Rattle.std.specs.FinSet as nodes
 use Rattle.gb_layer.specs.Relay.{due_to_relay, due_to_deliver, up_of}
 use Rattle.gb_layer.specs.Room.{free}
-use Rattle.gb_records.specs.Records.{is_unsent, relay_entries, order_entries}
+use Rattle.gb_stack.specs.Records.{is_unsent, relay_entries, order_entries}
 use Rattle.gb_stack.specs.Settled.{passed_on, settled}
 use Rattle.gb_stack.specs.Taken.{HandsUp, left}
 use Rattle.gb_stack.proofs.taking.take_notice.Given as goal

@@ -8,13 +8,13 @@ use Rattle.gb_layer.specs.declared.entries.Entry.{Entry}
 use Rattle.gb_layer.specs.Relay as relay
 use Rattle.gb_layer.specs.Relay.{held_entry, sent_entry}
 use Rattle.gb_layer.specs.declared.call.Call.TheVariants.{Say}
-use Rattle.gb_records.specs.declared.record.Record.{Record}
-use Rattle.gb_records.specs.Records.{keys, relay_entry, relay_entries, order_entries}
+use Rattle.gb_stack.specs.declared.record.Record.{Record}
+use Rattle.gb_stack.specs.Records.{keys, relay_entry, relay_entries, order_entries}
 use Rattle.gb_stack.specs.Settled.{AreQuiescent}
 use Rattle.gb_stack.specs.Taken.{relay_state}
 use Rattle.gb_stack.proofs.SettledLemmas.{at_changed, at_unchanged}
 use Rattle.gb_stack.proofs.ArrivalLemmas.{said_stepped, said_again, said_list, set_there}
-use Rattle.gb_records.proofs.PlaceLemmas.{key_within}
+use Rattle.gb_stack.proofs.PlaceLemmas.{key_within}
 use Rattle.gb_stack.proofs.NotedLemmas.{relay_noted, order_noted}
 use Rattle.gb_stack.proofs.RecordLemmas.{keys_of}
 use Rattle.gb_stack.proofs.TakenLemmas.{composed, handed_as, none_up, unsent_noted, left_noted}

@@ -1,6 +1,6 @@
 use Rattle.std.proofs.Common.{List, ◌∙◌, ap, sym}
-use Rattle.gb_history.specs.History.{log_of}
-use Rattle.gb_history.specs.declared.call.GroupCall.{GroupCall}
+use Rattle.gb_rules.specs.History.{log_of}
+use Rattle.gb_rules.specs.declared.call.GroupCall.{GroupCall}
 use Rattle.gb_rules.specs.Group.{Shown, fetch_answer}
 use Rattle.gb_alone.specs.Alone.{shown_in}
 use Rattle.gb_alone.specs.MemberLists.{MemberValue, member_of}

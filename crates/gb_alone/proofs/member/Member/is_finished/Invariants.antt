@@ -2,7 +2,7 @@ use Rattle.std.proofs.Common.{◌≡◌, ◌||◌, nat_eq, [], ℕ, Bool}
 use Rattle.std.specs.Prelude.{slice_index_or}
 use Rattle.std.specs.List.{list_all}
 use Rattle.gb_types.specs.Rising.{rising}
-use Rattle.gb_history.specs.History.{calls_of}
+use Rattle.gb_rules.specs.History.{calls_of}
 use Rattle.gb_layer.specs.Machine.{was_noticed}
 use Rattle.gb_alone.specs.Alone.{is_acknowledged}
 use Rattle.gb_alone.proofs.member.Member.is_finished.Given as goal

@@ -3,8 +3,8 @@ use Rattle.std.proofs.lemmas.List.{length-append}
 use Rattle.gb_frame.specs.Batch.{batch_in, IsBatch}
 use Rattle.gb_frame.specs.Spelling.{items_text}
 use Rattle.gb_frame.proofs.VersionLemmas.{room_within}
-use Rattle.gb_groups.specs.GroupsValue.{batch}
-use Rattle.gb_groups.specs.Packing.{items}
+use Rattle.gb_table.specs.GroupsValue.{batch}
+use Rattle.gb_table.specs.Packing.{items}
 use Rattle.gb_node.specs.Frames.{FrameWindow, window_of, AreBatches}
 use Rattle.gb_node.proofs.FrameLemmas.{more_batches}
 use Rattle.std.specs.declared.vec.Vec.{Vec}

@@ -1,6 +1,6 @@
 use Rattle.std.proofs.Common.{sym, ◌∙◌, ap, Some, None}
 use Rattle.std.specs.Prelude.{slice_get, slice_index_or}
-use Rattle.gb_history.specs.Messages.{payload_in}
+use Rattle.gb_rules.specs.Messages.{payload_in}
 use Rattle.gb_slot.specs.SlotState.{SlotState}
 use Rattle.gb_slot.specs.Slot.{taken_for}
 use Rattle.gb_slot.proofs.SlotLemmas.{put-at, waiting-at, waiting-none}

@@ -2,7 +2,7 @@ use Rattle.std.proofs.Common.{◌+◌, ◌<◌, List, length, refl, sym, ◌∙�
 use Rattle.std.specs.Prelude.{slice_get, slice_index_or}
 use Rattle.std.proofs.lemmas.Option.{slice_get_read}
 use Rattle.gb_slot.specs.declared.put_out.PutOut.{PutOut}
-use Rattle.gb_history.specs.Messages.{payload_in}
+use Rattle.gb_rules.specs.Messages.{payload_in}
 use Rattle.gb_slot.specs.Slot.{taken_for}
 use Rattle.gb_slot.specs.SlotState.{SlotState}
 use Rattle.gb_slot.proofs.MemoryLemmas.{few_wait}

@@ -6,7 +6,7 @@ use Rattle.gb_slot.specs.Reached.{IsReached, limit_of}
 use Rattle.gb_slot.specs.Slot.{own_entry, slot_said, taken_for}
 use Rattle.gb_types.specs.declared.reply.Reply.TheVariants.{Said}
 use Rattle.gb_slot.proofs.MemoryLemmas.{held, room_for_call, places_in_log, places_put_out, place_in_store, bytes_in_store, said_leads, still_enough, as_much}
-use Rattle.gb_history.specs.Messages.{entry_in}
+use Rattle.gb_rules.specs.Messages.{entry_in}
 use Rattle.gb_slot.proofs.PageLemmas.{some_rest}
 use Rattle.gb_slot.proofs.PutOutLemmas.{said_sends}
 use Rattle.gb_slot.proofs.ReachedLemmas.{own_unknown, own_counted}

@@ -3,7 +3,7 @@ use Rattle.std.proofs.lemmas.List.{length-map}
 use Rattle.std.specs.List.{IsDistinct}
 use Rattle.gb_types.specs.Message.{same}
 use Rattle.gb_layer.specs.Table.{leads}
-use Rattle.gb_history.specs.Messages.{has}
+use Rattle.gb_rules.specs.Messages.{has}
 use Rattle.gb_slot.specs.Kept.{entries_of, messages_of, AreCounted}
 use Rattle.gb_slot.specs.StoreValue.{StoreValue, total_bytes}
 use Rattle.gb_slot.proofs.FewLemmas.{few_counted, total_pushed}

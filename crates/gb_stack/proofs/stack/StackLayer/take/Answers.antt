@@ -3,7 +3,7 @@ use Rattle.std.specs.List.{list_all}
 use Rattle.gb_layer.specs.Limit.{is_counted}
 use Rattle.gb_layer.specs.Room.{free}
 use Rattle.gb_fifo.specs.Entries.{noted_by}
-use Rattle.gb_records.specs.Records.{keys, relay_entries, order_entries}
+use Rattle.gb_stack.specs.Records.{keys, relay_entries, order_entries}
 use Rattle.gb_stack.specs.Settled.{relays}
 use Rattle.gb_stack.specs.StackState.{unordered_gives}
 use Rattle.gb_stack.specs.StackValue.{as_module}

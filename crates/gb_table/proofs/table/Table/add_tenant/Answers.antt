@@ -1,6 +1,6 @@
 use Rattle.std.proofs.Common.{List, sym, subst, arith}
 use Rattle.gb_types.specs.declared.spec.TenantRow.{TenantRow}
-use Rattle.gb_groups.specs.SlotsValue.{AreNamed}
+use Rattle.gb_table.specs.SlotsValue.{AreNamed}
 use Rattle.gb_table.specs.Kept.{AreMemberTokens}
 use Rattle.gb_table.specs.OwnNode.{AreOwn}
 use Rattle.gb_table.specs.Within.{names_of, IsWithin}

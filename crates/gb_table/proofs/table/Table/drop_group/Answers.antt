@@ -1,6 +1,6 @@
 use Rattle.std.proofs.lemmas.Grind.{common_steps}
 use Rattle.std.proofs.Common.{sym, subst, arith}
-use Rattle.gb_groups.specs.SlotsValue.{AreNamed}
+use Rattle.gb_table.specs.SlotsValue.{AreNamed}
 use Rattle.gb_table.specs.OwnNode.{AreOwn}
 use Rattle.gb_table.proofs.NamedLemmas.{named_dropped}
 use Rattle.gb_table.proofs.OwnNodeLemmas.{at_dropped}

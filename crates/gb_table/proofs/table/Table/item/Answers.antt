@@ -1,6 +1,6 @@
 use Rattle.std.proofs.Common.{sym, subst}
 use Rattle.gb_frame.specs.Packet.{item_of as view_item}
-use Rattle.gb_groups.specs.SlotsValue.{AreNamed}
+use Rattle.gb_table.specs.SlotsValue.{AreNamed}
 use Rattle.gb_table.specs.OwnNode.{AreOwn}
 use Rattle.gb_table.proofs.NamedLemmas.{named_came}
 use Rattle.gb_table.proofs.OwnNodeLemmas.{at_came}

@@ -6,13 +6,13 @@ use Rattle.gb_rules.specs.Replied.{takes_memory}
 use Rattle.gb_rules.specs.Tenant.{is_over_limits, is_over}
 use Rattle.gb_rules.specs.declared.reserve.Reserve.{Reserve}
 use Rattle.gb_slot.specs.Slot.{new_slot}
-use Rattle.gb_groups.specs.GroupsValue.{GroupsValue}
-use Rattle.gb_groups.specs.OneGroup.{group_in}
-use Rattle.gb_groups.specs.SlotsValue.{AreNamed}
+use Rattle.gb_table.specs.GroupsValue.{GroupsValue}
+use Rattle.gb_table.specs.OneGroup.{group_in}
+use Rattle.gb_table.specs.SlotsValue.{AreNamed}
 use Rattle.gb_table.specs.TableValue.{TableValue}
 use Rattle.gb_table.specs.OwnNode.{AreOwn}
 use Rattle.gb_table.specs.Within.{names_of, IsWithin}
-use Rattle.gb_table.proofs.MadeLemmas.{within_made, few_made}
+use Rattle.gb_table.proofs.TableMadeLemmas.{within_made, few_made}
 use Rattle.gb_table.proofs.NamedLemmas.{named_made}
 use Rattle.gb_table.proofs.OwnNodeLemmas.{at_made}
 use Rattle.gb_table.proofs.RequestLemmas.{make_reply, make_should, not_made, not_some}

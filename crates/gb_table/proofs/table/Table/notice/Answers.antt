@@ -1,6 +1,6 @@
 use Rattle.std.proofs.Common.{sym, subst}
 use Rattle.gb_slot.specs.Slot.{slot_noticed}
-use Rattle.gb_groups.specs.SlotsValue.{AreNamed}
+use Rattle.gb_table.specs.SlotsValue.{AreNamed}
 use Rattle.gb_table.specs.OwnNode.{AreOwn}
 use Rattle.gb_table.proofs.NamedLemmas.{named_stepped}
 use Rattle.gb_table.proofs.OwnNodeLemmas.{at_noticed}

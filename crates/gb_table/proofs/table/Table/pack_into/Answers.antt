@@ -2,10 +2,10 @@ use Rattle.std.proofs.Common.{ap, sym, subst, ◌≤◌, length}
 use Rattle.std.specs.List.{All}
 use Rattle.gb_types.specs.Version.{limits_of}
 use Rattle.gb_frame.specs.declared.item.Item.{Item}
-use Rattle.gb_groups.specs.GroupsValue.{GroupsValue, batch}
-use Rattle.gb_groups.specs.Packing.{items}
-use Rattle.gb_groups.specs.SlotsValue.{AreNamed}
-use Rattle.gb_groups.proofs.ShortLemmas.{batch_short}
+use Rattle.gb_table.specs.GroupsValue.{GroupsValue, batch}
+use Rattle.gb_table.specs.Packing.{items}
+use Rattle.gb_table.specs.SlotsValue.{AreNamed}
+use Rattle.gb_table.proofs.ShortLemmas.{batch_short}
 use Rattle.gb_table.specs.TableValue.{TableValue}
 use Rattle.gb_table.specs.OwnNode.{AreOwn}
 use Rattle.gb_table.proofs.NamedLemmas.{named_gave}

@@ -1,7 +1,0 @@
-use Rattle.std.proofs.Common.{◌∙◌, ℕ, List, [], ap, arith}
-use Rattle.gb_groups.specs.PlaceSet.{has}
-use Rattle.gb_groups.proofs.PlaceSetLemmas.{has-past}
-use Rattle.gb_groups.proofs.place_set.PlaceSet.new.Goals as goal
-
-pub returns : goal.returns
-returns c = λ p. ap (λ (ws : List ℕ). has ws p) c.new.ensures.items ∙ has-past [] p (omega arith)

@@ -1,6 +1,0 @@
-use Rattle.std.proofs.Common.{ℕ, List, length, ap, arith}
-use Rattle.gb_groups.proofs.PlaceSetLemmas.{has-past}
-use Rattle.gb_groups.proofs.place_set.PlaceSet.remove.Goals as goal
-
-pub returns-else-place-len-clause-here : goal.returns-else-place-len-clause-here
-returns-else-place-len-clause-here c = let size = ap (λ (v : List ℕ). length v) c.self.view_is in has-past c.args.self.now c.args.place (omega arith)

@@ -1,4 +1,0 @@
-pub mod MentionLemmas
-pub mod KnownLemmas
-pub mod LogLemmas
-pub mod PutLemmas

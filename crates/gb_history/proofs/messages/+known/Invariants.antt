@@ -1,5 +1,0 @@
-use Rattle.std.proofs.Common.{length}
-use Rattle.gb_history.proofs.messages.+known.Given as goal
-
-abbrev pub decreases-known : goal.decreases-known
-decreases-known l = length l.told.now

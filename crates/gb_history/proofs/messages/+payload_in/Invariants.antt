@@ -1,5 +1,0 @@
-use Rattle.std.proofs.Common.{length}
-use Rattle.gb_history.proofs.messages.+payload_in.Given as goal
-
-abbrev pub decreases-payload_in : goal.decreases-payload_in
-decreases-payload_in l = length l.entries.now

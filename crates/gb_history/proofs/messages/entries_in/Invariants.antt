@@ -1,7 +1,0 @@
-use Rattle.std.proofs.Common.{◌≡◌, take}
-use Rattle.std.specs.Prelude.{map}
-use Rattle.gb_history.specs.Messages.{entry_in}
-use Rattle.gb_history.proofs.messages.entries_in.Given as goal
-
-abbrev pub invariant-loop-m : goal.invariant-loop-m
-invariant-loop-m l = l.entries ≡ map (entry_in l.known) (take l.m-index l.found)
