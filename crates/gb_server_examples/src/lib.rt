@@ -1,5 +1,5 @@
-//! Worked uses of the server, as tests: its keys, sessions of workers, and whole servers with clients on
-//! sockets of this machine. This crate has tests only.
+//! Worked uses of the servers, as tests: their keys, sessions of workers, whole servers and the nodes of clusters of several machines, with
+//! clients on sockets of this machine, and their records. There is nothing here but tests.
 #![tactic(auto)]
 
 #[cfg(test)]
@@ -7,13 +7,27 @@ mod chat;
 #[cfg(test)]
 mod client_streams;
 #[cfg(test)]
+mod desk;
+#[cfg(test)]
 mod figures;
+#[cfg(test)]
+mod folders;
 #[cfg(test)]
 mod keys;
 #[cfg(test)]
 mod many_nodes;
 #[cfg(test)]
+mod marks;
+#[cfg(test)]
 mod messages;
+#[cfg(test)]
+mod nodes;
+#[cfg(test)]
+mod recorded;
+#[cfg(test)]
+mod recorded_servers;
+#[cfg(test)]
+mod refusals;
 #[cfg(test)]
 mod served;
 #[cfg(test)]
@@ -25,4 +39,8 @@ mod stops;
 #[cfg(test)]
 mod talks;
 #[cfg(test)]
+mod ticks;
+#[cfg(test)]
 mod versions;
+#[cfg(test)]
+mod written;

@@ -1,7 +1,17 @@
-//! Whole schedules and their answers, as tests. There is nothing here but tests.
+//! Worked schedules, as tests: lines, words, tokens and commands, and whole schedules with their answers. There is nothing here but tests.
 #![tactic(auto)]
 
 #[cfg(test)]
+mod capabilities;
+#[cfg(test)]
 mod cases;
 #[cfg(test)]
+mod commands;
+#[cfg(test)]
+mod lines;
+#[cfg(test)]
 mod schedules;
+#[cfg(test)]
+mod tokens;
+#[cfg(test)]
+mod words;

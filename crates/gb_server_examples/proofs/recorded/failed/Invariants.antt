@@ -1,4 +1,4 @@
-use Rattle.gb_record_examples.proofs.recorded.failed.Given as goal
+use Rattle.gb_server_examples.proofs.recorded.failed.Given as goal
 
 abbrev pub ghosts-failing : goal.ghosts-failing
 ghosts-failing g a = record { book = a.written.book }

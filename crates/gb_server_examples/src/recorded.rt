@@ -4,7 +4,7 @@ ghost use Rattle.gb_host.specs.Pasts.{AreBlank, books_of};
 ghost use Rattle.gb_host.specs.Plans.{IsPlan};
 
 use crate::desk::{Desk, Pen};
-use crate::served::folder;
+use crate::recorded_servers::folder;
 use gb_host::here::all_nodes;
 use gb_host::pasts::new_pasts;
 use gb_host::{Host, HostPlan, NodePast, Recorder, Seat, Tapes};

@@ -1,6 +1,6 @@
 use Rattle.std.proofs.Common.{sym, subst}
 use Rattle.gb_merge.specs.Front.{IsMergedFront}
-use Rattle.gb_merge_examples.proofs.groups.lines_of.Goals as goal
+use Rattle.gb_audit_examples.proofs.groups.lines_of.Goals as goal
 
 pub compare-requires-clause-merged : goal.compare-requires-clause-merged
 compare-requires-clause-merged c =

@@ -1,4 +1,4 @@
-use Rattle.gb_record_examples.proofs.recorded.handed.Given as goal
+use Rattle.gb_server_examples.proofs.recorded.handed.Given as goal
 
 abbrev pub ghosts-hand : goal.ghosts-hand
 ghosts-hand g a = record { book = a.written.book }
