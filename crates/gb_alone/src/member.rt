@@ -13,14 +13,13 @@ ghost use Rattle.gb_types.specs.declared.reply.Reply.{Reply as Answer};
 use crate::event::GroupEvent;
 use crate::marks::Marks;
 use crate::put::{carried_row, carried_rows, row_of, rows_told};
-use gb_rules::GroupCall;
-use gb_rules::call::{calls_of, said_in};
-use gb_rules::log::{bytes_in, falls_after, log_of};
 use gb_layer::Call;
 use gb_layer::plain::is_noticed;
+use gb_rules::call::{calls_of, said_in};
 use gb_rules::group::{check_open, check_say, check_shut, is_bad_place, is_too_long};
+use gb_rules::log::{bytes_in, falls_after, log_of};
 use gb_rules::tenant::answer_make;
-use gb_rules::{Phase, Reserve, Usage};
+use gb_rules::{GroupCall, Phase, Reserve, Usage};
 use gb_types::limits::NODES;
 use gb_types::{
     Addr, Bounds, Entries, Entry, NewMessage, NodeId, OutOfMemory, Payload, Refusal, Reply, Spec,

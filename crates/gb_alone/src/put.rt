@@ -7,11 +7,11 @@ ghost use Rattle.gb_rules.specs.History as history;
 ghost use Rattle.gb_alone.specs.MemberLists.{row_with, carried_row};
 ghost use Rattle.gb_alone.specs.Observation.{numbers_below};
 
+use gb_layer::Call;
+use gb_layer::plain::is_noticed;
 use gb_rules::GroupCall;
 use gb_rules::call::calls_of;
 use gb_rules::log::puts_of;
-use gb_layer::Call;
-use gb_layer::plain::is_noticed;
 use gb_types::limits::NODES;
 use gb_types::{Entries, Entry, NodeId, OutOfMemory, Spec};
 use std::alloc::Global;

@@ -5,14 +5,13 @@ ghost use Rattle.gb_table.specs.Admission.{is_token};
 ghost use Rattle.gb_loop.specs.Operated.{MayTell};
 
 use gb_cap::{HmacKey, Key, Need, Token};
-use gb_table::GroupRow;
 use gb_host::{Host, Tapes};
 use gb_rules::Phase;
 use gb_session::answers::put_refusal;
 use gb_session::{Operating, Operation};
 use gb_status::Figures;
 use gb_status::text::status_text;
-use gb_table::Listing;
+use gb_table::{GroupRow, Listing};
 use gb_types::kind_word::word_of;
 use gb_types::limits::NODES;
 use gb_types::memory::put_bytes;

@@ -5,8 +5,8 @@ ghost use Rattle.gb_node.specs.SendLaw.{BatchesAreForOthers, OthersAreInside, Pa
 
 use gb_detect::laws::noticed_by_calls;
 use gb_frame::laws::what_is_written_is_read;
-use gb_table::each::each_group;
 use gb_slot::history::stands;
+use gb_table::each::each_group;
 
 /// A law of every node, whatever happens at it: its links, its crash detector, its tenants, whether it stopped and each of its
 /// groups are what the events and answers of its past say. Each group's slot stands for what the past told that group. The function
