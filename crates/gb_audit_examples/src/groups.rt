@@ -86,13 +86,13 @@ static CASES: [Case; 4] = [
     },
 ];
 
-// Returns what is told of a group in an audited run. `None` if the group was refused memory, or is not what it is alone.
+// Returns what is told of a group in an audited run. `None` if the group is not what it is alone.
 fn lines_of(alloc: Global, audited: &Audited, addr: Addr) -> Result<Option<Vec<u8>>, OutOfMemory>
     requires plan { IsClusterPlan audited.now.plan }
     requires front { IsMergedFront audited.now.plan audited.now.tapes.items audited.now.events.items }
 {
     let found = compare(alloc, &audited.plan, &audited.events, addr)?;
-    if !found.is_same || found.was_refused {
+    if !found.is_same {
         return Ok(None);
     }
     let mut lines = Vec::new(alloc);
@@ -206,10 +206,9 @@ group 7 1 node 1 replies 2 carried 1,0
 group 7 1 alone node 0 replies 2 carried 0,0
 group 7 1 alone node 1 replies 2 carried 1,0
 group 7 1 different
-group 7 1 was refused memory
 ";
 
-// Returns true if a group that is different from what it is alone, and was refused memory, is told so.
+// Returns true if a group that is different from what it is alone is told so.
 fn is_difference_told(alloc: Global) -> Result<bool, OutOfMemory> {
     let other = Shape {
         payload: b"b",
@@ -219,7 +218,6 @@ fn is_difference_told(alloc: Global) -> Result<bool, OutOfMemory> {
         seen: seen_of(alloc, SHAPE)?,
         alone: seen_of(alloc, other)?,
         is_same: false,
-        was_refused: true,
     };
     let mut lines = Vec::new(alloc);
     put_group(&mut lines, group_of(7), &found)?;

@@ -1,5 +1,5 @@
 -- Merged events are at nodes of the cluster.
-use Rattle.std.proofs.Common.{◌≡◌, ◌<◌, List, [], ◌∷◌, ◌++◌, map, ap, sym, subst, ◌∙◌, arith, append_assoc}
+use Rattle.std.proofs.Common.{◌≡◌, List, [], ◌∷◌, ◌++◌, map, ap, sym, subst, ◌∙◌, append_assoc}
 use Rattle.std.specs.Prelude.{ℕ, All}
 use Rattle.std.proofs.lemmas.List.{append-nil, reverse-append}
 use Rattle.std.proofs.lemmas.List.Elements.{All-cons, All-nil}
@@ -9,20 +9,11 @@ use Rattle.gb_cluster.specs.ClusterStep.{IsPlaced}
 use Rattle.gb_cluster.specs.ClusterValue.{ClusterValue}
 use Rattle.gb_cluster.specs.Run.{Did, ComesTo}
 use Rattle.gb_cluster.specs.declared.event.Event.{Event}
-use Rattle.gb_cluster.proofs.NodesLemmas.{stays}
 use Rattle.gb_merge.specs.Front.{IsMergedFront}
 use Rattle.gb_merge.specs.Interleaving.{Pick, sent_by, AreEvents}
 use Rattle.gb_merge.specs.Merged.{did, run_of}
 use Rattle.gb_merge.proofs.ActingLemmas.{placed_so}
-
-back : (plan : Plan) (later earlier : List Did) (v : ClusterValue) → ComesTo plan (later ++ earlier) v → (w : ClusterValue) × ComesTo plan earlier w
-unfolding ComesTo
-back plan [] earlier v comes = (v, comes)
-back plan (d ∷ later) earlier v comes = back plan later earlier comes.0 comes.1
-
-placed : (plan : Plan) (d : Did) (run : List Did) (v : ClusterValue) → ComesTo plan (d ∷ run) v → d.node.number < plan.nodes
-unfolding ComesTo
-placed plan d run v comes = let at = comes.3.placed in let count = (stays plan run comes.0 comes.1).count in omega (arith, at, count)
+use Rattle.gb_merge.proofs.RerunLemmas.{back, placed}
 
 placed_in : (plan : Plan) (sent : List (List ℕ)) (picks : List Pick) (events : List Event) (behind : List Did) (v : ClusterValue) → ComesTo plan (run_of picks ++ behind) v → AreEvents plan sent picks events → All (IsPlaced plan.nodes) events
 unfolding AreEvents

@@ -1,5 +1,5 @@
 -- The lines that tell what an audited run shows of a group.
-use Rattle.std.specs.Prelude.{ℕ, ◌+◌, Bool, List, [], ◌∷◌, ◌++◌, codes, decimal, length, map, if◌then◌else◌}
+use Rattle.std.specs.Prelude.{ℕ, ◌+◌, List, [], ◌∷◌, ◌++◌, codes, decimal, length, map, if◌then◌else◌}
 use Rattle.gb_types.specs.RequestWords.{group_word}
 use Rattle.gb_types.specs.declared.address.Addr.{Addr}
 use Rattle.gb_types.specs.declared.entry.Entry.{Entry}
@@ -41,10 +41,6 @@ node_lines g word seen = lines_from g word 0 seen
 abbrev pub verdict_text : Addr → GroupSeen → List ℕ
 verdict_text g found = if found.is_same then fact_text g (codes " same\n") else node_lines g (codes " alone") found.alone ++ fact_text g (codes " different\n")
 
--- that the group was refused memory, if it was
-abbrev pub refused_text : Addr → Bool → List ℕ
-refused_text g refused = if refused then fact_text g (codes " was refused memory\n") else []
-
 -- all lines of what was found of a group
 abbrev pub group_text : Addr → GroupSeen → List ℕ
-group_text g found = node_lines g [] found.seen ++ verdict_text g found ++ refused_text g found.was_refused
+group_text g found = node_lines g [] found.seen ++ verdict_text g found

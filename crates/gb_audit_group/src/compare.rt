@@ -8,9 +8,11 @@ ghost use Rattle.gb_audit_group.specs.Compared.{IsCompared};
 use crate::same::is_same;
 use gb_alone::Observation;
 use gb_cluster::Event;
-use gb_trace::laws::fed_groups_are_seen_alone;
+use gb_cluster::laws::packets_are_honest;
+use gb_node::past::{packets_say, pasts_say};
+use gb_trace::laws::isolated_groups_are_seen_alone;
 use gb_trace::run::run;
-use gb_trace::{alone, observe, project, refused_for};
+use gb_trace::{alone, observe, project};
 use gb_types::{Addr, OutOfMemory, Plan};
 use std::alloc::Global;
 
@@ -23,14 +25,13 @@ pub struct GroupSeen {
     pub alone: Observation,
     /// True if the two are equal.
     pub is_same: bool,
-    /// True if a request of the group, or one that adds its tenant, was refused for lack of memory when the events were run again.
-    pub was_refused: bool,
 }
 
-/// Runs the events of a cluster of `plan` again that were merged from tapes, as an audit returns them, and compares what is seen of the
-/// group `addr` in this run with what is seen of the group by itself under the projection of the run. A group that no event names is seen
-/// with no replies and no items. Takes memory for the run's answers and packets. `Err` if memory runs out, or if a number would not fit, as
-/// `gb_trace::project` and `gb_trace::alone` say.
+/// Compares what is seen of the group `addr` in a run of a cluster of `plan` with what is seen of the group by itself under the projection
+/// of the run. `events` were merged from tapes, as an audit returns them; the run is that of the tapes' entries. A group that no event names
+/// is seen with no replies and no items. The events are run again, which takes memory for the run's answers and packets. `Err` if memory runs
+/// out, also where a node of the cluster that runs them is refused memory, or if a number would not fit, as `gb_trace::project` and
+/// `gb_trace::alone` say.
 pub fn compare(
     alloc: Global,
     plan: &Plan,
@@ -41,17 +42,21 @@ pub fn compare(
     requires merged { (tapes : List (List TapeEntry)) × IsMergedFront plan.now tapes events.now }
     ensures { IfOk result (IsCompared plan.now events.now addr) }
 {
-    fed_groups_are_seen_alone();
+    pasts_say();
+    packets_say();
+    packets_are_honest();
+    isolated_groups_are_seen_alone();
     let trace = run(alloc, *plan, events)?;
+    if trace.refused {
+        return Err(OutOfMemory);
+    }
     let steps = project(alloc, plan, events, &trace, addr)?;
     let by_itself = alone(alloc, plan, addr, &steps)?;
     let seen = observe(alloc, plan, events, &trace, addr)?;
     let is_same = is_same(&seen, &by_itself);
-    let was_refused = refused_for(&trace, events, addr);
     Ok(GroupSeen {
         seen,
         alone: by_itself,
         is_same,
-        was_refused,
     })
 }

@@ -2,7 +2,7 @@
 ghost use Rattle.std.specs.Prelude.{◌≡◌, ◌++◌, codes, decimal, length, map, OnOk};
 ghost use Rattle.gb_types.specs.RequestWords.{group_word};
 ghost use Rattle.gb_record_text.specs.RecordText.{after_space, each_after_comma};
-ghost use Rattle.gb_audit_group.specs.GroupText.{counts_text, fact_text, group_head, group_text, node_line, node_lines, seen_text, verdict_text, refused_text};
+ghost use Rattle.gb_audit_group.specs.GroupText.{counts_text, fact_text, group_head, group_text, node_line, node_lines, seen_text, verdict_text};
 
 use crate::compare::GroupSeen;
 use gb_alone::{NodeSeen, Observation};
@@ -132,24 +132,13 @@ fn put_verdict(out: &mut Vec<u8>, addr: Addr, found: &GroupSeen) -> Result<(), O
     put_fact(out, addr, b" different\n")
 }
 
-// Appends the line of a group that was refused memory, if it was.
-fn put_refused(out: &mut Vec<u8>, addr: Addr, was_refused: bool) -> Result<(), OutOfMemory>
-    ensures { OnOk result (out.new.items ≡ out.old.items ++ refused_text addr was_refused) }
-{
-    if was_refused {
-        return put_fact(out, addr, b" was refused memory\n");
-    }
-    Ok(())
-}
-
 /// Appends the lines of what was found of the group `addr` to `out`: for each node `group T G node A replies R carried C0,C1,..`, the
 /// number of replies there and the number of items that were carried to each node, node 0 first; then `group T G same`, or
-/// `group T G different` behind the lines of what is seen of the group alone, which begin `group T G alone`; and last
-/// `group T G was refused memory` if it was. `Err` if there is no memory; then `out` may have a part of the lines.
+/// `group T G different` behind the lines of what is seen of the group alone, which begin `group T G alone`. `Err` if there is no memory;
+/// then `out` may have a part of the lines.
 pub fn put_group(out: &mut Vec<u8>, addr: Addr, found: &GroupSeen) -> Result<(), OutOfMemory>
     ensures { OnOk result (out.new.items ≡ out.old.items ++ group_text addr found.now) }
 {
     put_nodes(out, addr, b"", &found.seen)?;
-    put_verdict(out, addr, found)?;
-    put_refused(out, addr, found.was_refused)
+    put_verdict(out, addr, found)
 }

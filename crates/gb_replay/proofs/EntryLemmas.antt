@@ -1,174 +1,24 @@
 -- The steps of a replay of merged events are the entries that were merged.
-use Rattle.std.proofs.Common.{◌≡◌, ℕ, zero, suc, ◌+◌, ◌⊎◌, ◌<◌, List, [], ◌∷◌, ◌++◌, length, map, reverse, Bool, true, false, Option, Some, None, inl, inr, refl, sym, ◌∙◌, ap, ap₂, subst, arith, append_assoc}
-use Rattle.std.specs.Prelude.{slice_get, slice_set, nat_eq, nat_lt, ◌&&◌, if◌then◌else◌, is_ok, option_map, Result, Ok, Err, All}
-use Rattle.std.proofs.lemmas.Bool.{eqb-true}
-use Rattle.std.proofs.lemmas.List.{append-nil, map-append, reverse-append, reverse-reverse, length-append, length-map}
+use Rattle.std.proofs.Common.{◌≡◌, ℕ, ◌+◌, List, [], ◌∷◌, ◌++◌, length, map, reverse, false, refl, sym, ◌∙◌, ap, subst}
+use Rattle.std.specs.Prelude.{All}
+use Rattle.std.proofs.lemmas.List.{map-append, reverse-append, reverse-reverse}
 use Rattle.std.proofs.lemmas.List.Elements.{All-head, All-tail}
-use Rattle.gb_types.specs.declared.node.NodeId.{NodeId}
 use Rattle.gb_types.specs.declared.plan.Plan.{Plan}
-use Rattle.gb_types.proofs.SameLemmas.{same_number}
-use Rattle.gb_frame.specs.declared.fault.PacketFault.{PacketFault}
-use Rattle.gb_frame.specs.declared.fault.PacketFault.TheVariants.{Node}
-use Rattle.gb_frame.specs.Packet.{Content}
-use Rattle.gb_frame.specs.Reading.{reading}
-use Rattle.gb_node.specs.NodeStep.{if_here}
-use Rattle.gb_node.specs.NodeValue.{NodeValue, new_node}
-use Rattle.gb_node.specs.Past.{read}
-use Rattle.gb_node.proofs.PacketLemmas.{packet_in, read_in}
-use Rattle.gb_node.specs.PastLaw.{PastsSay}
-use Rattle.gb_node.specs.SendLaw.{SendersRun, StarvedSays}
-use Rattle.gb_node.specs.declared.answer.NodeAnswer.{NodeAnswer}
-use Rattle.gb_node.specs.declared.answer.NodeAnswer.TheVariants.{Sent}
-use Rattle.gb_node.specs.declared.answer.Sent.TheVariants.{Packet as SentPacket}
-use Rattle.gb_node.specs.declared.event.NodeEvent.{NodeEvent}
-use Rattle.gb_node.specs.declared.event.NodeEvent.TheVariants.{Request as Asked, Packet as Came, Pack, Again, Ack, Tick, Stop}
 use Rattle.gb_cluster.specs.Links.{PacketsAreHonest}
-use Rattle.gb_cluster.specs.ClusterStep.{NodeActs, posted, answer_of, packet_numbered, IsStep}
-use Rattle.gb_cluster.specs.ClusterValue.{ClusterValue, cluster, new_cluster, node_plan, node_at}
-use Rattle.gb_cluster.specs.Run.{Did, ComesTo, IsOf, IsSent}
+use Rattle.gb_cluster.specs.ClusterStep.{answer_of, IsStep}
+use Rattle.gb_cluster.specs.ClusterValue.{ClusterValue, new_cluster}
+use Rattle.gb_cluster.specs.Run.{Did}
 use Rattle.gb_cluster.specs.declared.answer.Answer.{Answer}
-use Rattle.gb_cluster.specs.declared.answer.Answer.TheVariants.{Reply as AnswerReply, Taken as AnswerTaken, Sent as AnswerSent, Ticked as AnswerTicked, Halted as AnswerHalted, NoPacket, NotNoise}
-use Rattle.gb_cluster.specs.declared.answer.Sending.TheVariants.{Packet as SendingPacket, Nothing as SendingNothing, Refused as SendingRefused}
 use Rattle.gb_cluster.specs.declared.event.Event.{Event}
-use Rattle.gb_cluster.specs.declared.event.Event.TheVariants.{At, Arrive}
 use Rattle.gb_cluster.specs.declared.posted.Posted.{Posted}
-use Rattle.gb_cluster.proofs.NodesLemmas.{stays}
-use Rattle.gb_isolation.specs.Isolation.{wants_memory}
 use Rattle.gb_merge.specs.Front.{FrontIsOneRun}
-use Rattle.gb_merge.specs.Interleaving.{Pick, is_good, sent_by, text_numbered, IsEventOf, AreEvents}
-use Rattle.gb_merge.specs.Merged.{told, did, run_of, Replays, AreFed}
-use Rattle.gb_merge.specs.Woven.{is_refused, ArePlaced}
-use Rattle.gb_merge.proofs.ActingLemmas.{text_of, texts, Acted, acts, turned, fed_is, posted_is, told_own}
+use Rattle.gb_merge.specs.Interleaving.{Pick, sent_by}
+use Rattle.gb_merge.specs.Rerun.{Leads, AreTold, answers_to}
+use Rattle.gb_merge.specs.Woven.{is_refused}
+use Rattle.gb_merge.proofs.RerunLemmas.{NodeLaws, rerun}
 use Rattle.gb_simulate.specs.RunTexts.{RunStep, AreRunSteps}
 use Rattle.gb_replay.specs.Entries.{AreEntries, steps_of, ReplaysAreOfEntries}
 use Rattle.gb_replay.specs.ScheduleText.{schedule_text, answers_text}
-
--- Packets that stay where they are.
-
-got_more : (packets more : List Posted) (k : ℕ) (p : Posted) → slice_get packets k ≡ Some p → slice_get (packets ++ more) k ≡ Some p
-got_more [] more k p at = absurd (cc)
-got_more (q ∷ packets) more zero p at = at
-got_more (q ∷ packets) more (suc k) p at = got_more packets more k p at
-
-numbered_more : (packets more : List Posted) (k : ℕ) (p : Posted) → packet_numbered packets k ≡ Some p → packet_numbered (packets ++ more) k ≡ Some p
-numbered_more packets more zero p at = absurd (cc)
-numbered_more packets more (suc k) p at = got_more packets more k p at
-
-of_more : (packets more : List Posted) (e : Event) (d : Did) → IsOf packets e d → IsOf (packets ++ more) e d
-of_more packets more (At a event) d is = is
-of_more packets more (Arrive k) d is = (is.0, numbered_more packets more k is.0 is.1, is.2, is.3)
-
-told_more : (packets more : List Posted) (x : Answer) (g : NodeAnswer) → told packets x ≡ Some g → told (packets ++ more) x ≡ Some g
-told_more packets more (AnswerReply reply) g is = is
-told_more packets more (AnswerTaken taken) g is = is
-told_more packets more (AnswerSent (SendingPacket k)) g is = by (packet_numbered packets k) refl is
-  where
-    by : (o : Option Posted) → packet_numbered packets k ≡ o → option_map (λ (p : Posted). Sent (SentPacket p.text)) o ≡ Some g → option_map (λ (p : Posted). Sent (SentPacket p.text)) (packet_numbered (packets ++ more) k) ≡ Some g
-    by None at is = absurd (cc)
-    by (Some p) at is = ap (option_map (λ (q : Posted). Sent (SentPacket q.text))) (numbered_more packets more k p at) ∙ is
-told_more packets more (AnswerSent SendingNothing) g is = is
-told_more packets more (AnswerSent (SendingRefused why)) g is = is
-told_more packets more (AnswerTicked ticked) g is = is
-told_more packets more (AnswerHalted halted) g is = is
-told_more packets more NoPacket g is = absurd (cc)
-told_more packets more NotNoise g is = absurd (cc)
-
--- A packet that arrives.
-
-text_got : (packets : List Posted) (k : ℕ) (bytes : List ℕ) → slice_get (texts packets) k ≡ Some bytes → (p : Posted) × (slice_get packets k ≡ Some p) × (p.text ≡ bytes)
-text_got [] k bytes at = absurd (cc)
-text_got (q ∷ packets) zero bytes at = (q, refl, let e : q.text ≡ bytes = cc in e)
-text_got (q ∷ packets) (suc k) bytes at = text_got packets k bytes at
-
--- a packet that a node takes for its own says so
-says_goal : (plan : Plan) (a : NodeId) (bytes : List ℕ) (c : Content) → read plan.cluster_key bytes ≡ c ∷ [] → is_good plan a bytes ≡ true → c.to ≡ a.number
-unfolding is_good
-says_goal plan a bytes c says good = by (reading plan.cluster_key bytes) (sym (read_in plan.cluster_key bytes) ∙ says) good
-  where
-    right : (d : Content) (t u : Bool) → nat_eq d.to a.number ≡ t → is_ok (if t && u then Ok d else Err Node) ≡ true → d.to ≡ a.number
-    right d true u is so = eqb-true d.to a.number is
-    right d false u is so = absurd (cc)
-
-    by : (r : Result Content PacketFault) → packet_in r ≡ c ∷ [] → is_ok (if_here (new_node (node_plan plan a)) r) ≡ true → c.to ≡ a.number
-    by (Err fault) is so = absurd (cc)
-    by (Ok d) is so =
-        let same : d ≡ c = cc in
-        ap (λ (x : Content). x.to) (sym same) ∙ right d (nat_eq d.to a.number) (nat_lt d.from plan.nodes) refl so
-
-arrives : PacketsAreHonest → (plan : Plan) (run : List Did) (w : ClusterValue) (a : NodeId) (k : ℕ) (bytes : List ℕ) → ComesTo plan run w → text_numbered (texts w.packets) k ≡ Some bytes → is_good plan a bytes ≡ true → (p : Posted) × (packet_numbered w.packets k ≡ Some p) × (a ≡ p.to) × (Came bytes ≡ Came p.text)
-arrives honest plan run w a zero bytes comes at good = absurd (cc)
-arrives honest plan run w a (suc k) bytes comes at good =
-    let got = text_got w.packets k bytes at in
-    let h = honest plan run w comes k got.0 got.1 in
-    let reads : read plan.cluster_key bytes ≡ h.content ∷ [] = ap (read plan.cluster_key) (sym got.2) ∙ h.text in
-    (got.0, got.1, sym (same_number got.0.to a (sym h.goal ∙ says_goal plan a bytes h.content reads good)), ap (λ (b : List ℕ). Came b) (sym got.2))
-
--- an entry's event as the cluster's
-abbrev OfEvent : ClusterValue → NodeId → NodeEvent → NodeAnswer → Event → Type 0
-OfEvent w a n g e = IsOf w.packets e (record { node = a; event = n; answer = g })
-
-of_event : PacketsAreHonest → (plan : Plan) (run : List Did) (w : ClusterValue) (a : NodeId) (n : NodeEvent) (g : NodeAnswer) (e : Event) → ComesTo plan run w → IsEventOf plan a (texts w.packets) n e → OfEvent w a n g e
-of_event honest plan run w a (Asked request) g e comes is = subst (λ (x : Event). OfEvent w a (Asked request) g x) (sym is) (refl, refl)
-of_event honest plan run w a (Pack b) g e comes is = subst (λ (x : Event). OfEvent w a (Pack b) g x) (sym is) (refl, refl)
-of_event honest plan run w a (Again b n) g e comes is = subst (λ (x : Event). OfEvent w a (Again b n) g x) (sym is) (refl, refl)
-of_event honest plan run w a (Ack b) g e comes is = subst (λ (x : Event). OfEvent w a (Ack b) g x) (sym is) (refl, refl)
-of_event honest plan run w a Tick g e comes is = subst (λ (x : Event). OfEvent w a Tick g x) (sym is) (refl, refl)
-of_event honest plan run w a Stop g e comes is = subst (λ (x : Event). OfEvent w a Stop g x) (sym is) (refl, refl)
-of_event honest plan run w a (Came bytes) g e comes (inr noise) = subst (λ (x : Event). OfEvent w a (Came bytes) g x) (sym noise.0) (refl, refl)
-of_event honest plan run w a (Came bytes) g e comes (inl came) = subst (λ (x : Event). OfEvent w a (Came bytes) g x) (sym came.1) (arrives honest plan run w a came.0 bytes comes came.2 came.3)
-
--- One step of both runs.
-
--- what holds of every node
-pub record NodeLaws : Type 0 where
-  pub pasts : PastsSay
-  pub senders : SendersRun
-  pub starved : StarvedSays
-
--- a step is a merged entry, which was answered so in the merging too
-record IsEntry (w : ClusterValue) (p : Pick) (e : Event) (y : Answer) (next theirs : ClusterValue) : Type 0 where
-  acts : NodeActs w p.node p.entry.event p.entry.answer next
-  sent : IsSent w p.node p.entry.event
-  answered : y ≡ answer_of (length w.packets) p.entry.answer
-  told_is : told next.packets y ≡ Some p.entry.answer
-  happens : IsOf next.packets e (did p)
-  grown : next.packets ≡ w.packets ++ posted p.entry.event p.entry.answer
-  texts_are : texts next.packets ≡ texts w.packets ++ sent_by p.entry.answer
-  same : next ≡ theirs
-
-some_in : {x y : NodeAnswer} → Some x ≡ Some y → x ≡ y
-some_in e = cc
-
--- nodes that do the same are the same
-after_same : (w next theirs : ClusterValue) (a : NodeId) (n : NodeEvent) (g h : NodeAnswer) (mine : NodeActs w a n g next) (other : NodeActs w a n h theirs) → g ≡ h → mine.node ≡ other.node → next ≡ theirs
-after_same w next theirs a n g h mine other answers nodes =
-    mine.after ∙ (ap₂ (λ (v : NodeValue) (y : NodeAnswer). cluster w.plan (slice_set w.nodes a.number v) (w.packets ++ posted n y)) nodes answers ∙ sym other.after)
-
-one : NodeLaws → PacketsAreHonest → (plan : Plan) (run : List Did) (w : ClusterValue) (p : Pick) (e : Event) (x y : Answer) (theirs next : ClusterValue) → ComesTo plan run w → p.node.number < plan.nodes → IsEventOf plan p.node (texts w.packets) p.entry.event e → wants_memory p.entry.answer ≡ false
-    → IsStep w e x theirs → told theirs.packets x ≡ Some p.entry.answer → IsStep w e y next → is_refused y ≡ false → IsEntry w p e y next theirs
-one laws honest plan run w p e x y theirs next comes within is fed their_step their_answer step unrefused =
-    let n = p.entry.event in
-    let other = acts laws.pasts honest plan run w p.node (texts w.packets) n e x theirs comes within is refl their_step in
-    let mine = acts laws.pasts honest plan run w p.node (texts w.packets) n e y next comes within is refl step in
-    let given : other.own ≡ p.entry.answer = some_in (sym (told_own laws.senders w p.node n x theirs other) ∙ their_answer) in
-    let told_mine = told_own laws.senders w p.node n y next mine in
-    let there = turned laws.starved (node_at w p.node) n other.own other.acts.node other.acts.turn (ap wants_memory given ∙ fed) in
-    let here = turned laws.starved (node_at w p.node) n mine.own mine.acts.node mine.acts.turn (fed_is next.packets y mine.own told_mine unrefused) in
-    let alike : mine.own ≡ other.own = here.0 ∙ sym there.0 in
-    let own : mine.own ≡ p.entry.answer = alike ∙ given in
-    let grown : next.packets ≡ w.packets ++ posted n p.entry.answer = ap (λ (v : ClusterValue). v.packets) mine.acts.after ∙ ap (λ (g : NodeAnswer). w.packets ++ posted n g) own in
-    record {
-      acts = subst (λ (g : NodeAnswer). NodeActs w p.node n g next) own mine.acts;
-      sent = mine.sent;
-      answered = mine.answered ∙ ap (λ (g : NodeAnswer). answer_of (length w.packets) g) own;
-      told_is = told_mine ∙ ap (λ (g : NodeAnswer). Some g) own;
-      happens = subst (λ (ps : List Posted). IsOf ps e (did p)) (sym grown) (of_more w.packets (posted n p.entry.answer) e (did p) (of_event honest plan run w p.node n p.entry.answer e comes is));
-      grown = grown;
-      texts_are = ap texts grown ∙ (map-append text_of w.packets (posted n p.entry.answer) ∙ ap (λ (ts : List (List ℕ)). texts w.packets ++ ts) (ap (λ (g : NodeAnswer). texts (posted n g)) (sym own) ∙ (posted_is laws.senders (node_at w p.node) n mine.own mine.acts.node mine.acts.turn ∙ ap sent_by own)));
-      same = after_same w next theirs p.node n mine.own other.own mine.acts other.acts alike (here.1 ∙ sym there.1);
-    }
-
--- All steps.
 
 -- Steps take a cluster from one value to another. No answer refuses for lack of memory.
 unfoldable Lead : ClusterValue → List RunStep → ClusterValue → Type 0
@@ -191,6 +41,31 @@ in_order plan (s ∷ steps) run v made fed =
 abbrev event_in : RunStep → Event
 event_in s = s.event
 
+abbrev answer_in : RunStep → Answer
+answer_in s = s.answer
+
+leads_of : (w v : ClusterValue) (steps : List RunStep) → Lead w steps v → Leads w (map event_in steps) (map answer_in steps) v
+unfolding Lead Leads
+leads_of w v [] lead = lead
+leads_of w v (s ∷ steps) lead = (lead.0, lead.1, lead.2, leads_of lead.0 v steps lead.3)
+
+entries_of : (packets : List Posted) (steps : List RunStep) (picks : List Pick) → AreTold packets (map event_in steps) (map answer_in steps) picks → AreEntries packets steps picks
+unfolding AreTold AreEntries
+entries_of packets [] [] told = tt
+entries_of packets [] (p ∷ picks) told = absurd told
+entries_of packets (s ∷ steps) [] told = absurd told
+entries_of packets (s ∷ steps) (p ∷ picks) told = (told.0, told.1, entries_of packets steps picks told.2)
+
+steps_are : (count : ℕ) (steps : List RunStep) (picks : List Pick) → map answer_in steps ≡ answers_to count picks → steps ≡ steps_of count (map event_in steps) picks
+unfolding answers_to steps_of
+steps_are count [] picks is = refl
+steps_are count (s ∷ steps) [] is = absurd (cc)
+steps_are count (s ∷ steps) (p ∷ picks) is =
+    let first : s.answer ≡ answer_of count p.entry.answer = cc in
+    let rest : map answer_in steps ≡ answers_to (count + length (sent_by p.entry.answer)) picks = cc in
+    ap (λ (y : Answer). record { event = s.event; answer = y } ∷ steps) first
+    ∙ ap (λ (ss : List RunStep). record { event = s.event; answer = answer_of count p.entry.answer } ∷ ss) (steps_are (count + length (sent_by p.entry.answer)) steps picks rest)
+
 map-reverse : (steps : List RunStep) → map event_in (reverse steps) ≡ reverse (map event_in steps)
 map-reverse [] = refl
 map-reverse (s ∷ steps) =
@@ -198,90 +73,19 @@ map-reverse (s ∷ steps) =
     ∙ (map-append event_in (reverse steps) (s ∷ [])
     ∙ (ap (λ (es : List Event). es ++ s.event ∷ []) (map-reverse steps) ∙ sym (reverse-append (s.event ∷ []) (map event_in steps))))
 
--- the steps that lead from a value on are the entries that were merged from there on
-record AreThese (w : ClusterValue) (steps : List RunStep) (picks : List Pick) (v last : ClusterValue) : Type 0 where
-  ends : v ≡ last
-  more : List Posted
-  grown : v.packets ≡ w.packets ++ more
-  entries : AreEntries v.packets steps picks
-  are : steps ≡ steps_of (length w.packets) (map event_in steps) picks
-
-these : NodeLaws → PacketsAreHonest → (plan : Plan) (run : List Did) (w v last : ClusterValue) (steps : List RunStep) (picks : List Pick) → ComesTo plan run w → AreEvents plan (texts w.packets) picks (map event_in steps) → ArePlaced plan.nodes picks → AreFed picks
-    → Replays w (map event_in steps) picks last → Lead w steps v → AreThese w steps picks v last
-unfolding AreEvents ArePlaced AreFed Replays Lead AreEntries steps_of ComesTo
-these laws honest plan run w v last [] [] comes are placed fed replays lead = record {
-  ends = lead ∙ sym replays;
-  more = [];
-  grown = ap (λ (x : ClusterValue). x.packets) lead ∙ sym (append-nil w.packets);
-  entries = tt;
-  are = refl;
-}
-these laws honest plan run w v last (s ∷ steps) [] comes are placed fed replays lead = absurd are
-these laws honest plan run w v last [] (p ∷ picks) comes are placed fed replays lead = absurd are
-these laws honest plan run w v last (s ∷ steps) (p ∷ picks) comes are placed fed replays lead =
-    let e = s.event in
-    let next = lead.0 in
-    let g = one laws honest plan run w p e replays.1 s.answer replays.0 next comes placed.0 are.0 fed.0 replays.2 replays.3 lead.1 lead.2 in
-    let rest = these laws honest plan (did p ∷ run) next v last steps picks (w, comes, g.sent, g.acts) (subst (λ (ts : List (List ℕ)). AreEvents plan ts picks (map event_in steps)) (sym g.texts_are) are.1) placed.1 fed.1
-    (subst (λ (x : ClusterValue). Replays x (map event_in steps) picks last) (sym g.same) replays.4) lead.3 in
-    let sent = posted p.entry.event p.entry.answer in
-    let count : length next.packets ≡ length w.packets + length (sent_by p.entry.answer) =
-    sym (length-map next.packets text_of) ∙ (ap (λ (ts : List (List ℕ)). length ts) g.texts_are ∙ (length-append (texts w.packets) (sent_by p.entry.answer) ∙ ap (λ n. n + length (sent_by p.entry.answer)) (length-map w.packets text_of))) in
-    record {
-      ends = rest.ends;
-      more = sent ++ rest.more;
-      grown = rest.grown ∙ (ap (λ (ps : List Posted). ps ++ rest.more) g.grown ∙ append_assoc w.packets sent rest.more);
-      entries = (
-        subst (λ (ps : List Posted). IsOf ps e (did p)) (sym rest.grown) (of_more next.packets rest.more e (did p) g.happens),
-        ap (λ (ps : List Posted). told ps s.answer) rest.grown ∙ told_more next.packets rest.more s.answer p.entry.answer g.told_is,
-        rest.entries,
-      );
-      are =
-          ap (λ (y : Answer). record { event = e; answer = y } ∷ steps) g.answered
-          ∙ ap (λ (ss : List RunStep). record { event = e; answer = answer_of (length w.packets) p.entry.answer } ∷ ss) (rest.are ∙ ap (λ n. steps_of n (map event_in steps) picks) count);
-    }
-
--- Each entry was merged at one of the nodes.
-
-back : (plan : Plan) (later earlier : List Did) (v : ClusterValue) → ComesTo plan (later ++ earlier) v → (w : ClusterValue) × ComesTo plan earlier w
-unfolding ComesTo
-back plan [] earlier v comes = (v, comes)
-back plan (d ∷ later) earlier v comes = back plan later earlier comes.0 comes.1
-
-placed : (plan : Plan) (d : Did) (run : List Did) (v : ClusterValue) → ComesTo plan (d ∷ run) v → d.node.number < plan.nodes
-unfolding ComesTo
-placed plan d run v comes = let at = comes.3.placed in let count = (stays plan run comes.0 comes.1).count in omega (arith, at, count)
-
-placed_in : (plan : Plan) (picks : List Pick) (behind : List Did) (v : ClusterValue) → ComesTo plan (run_of picks ++ behind) v → ArePlaced plan.nodes picks
-unfolding ArePlaced
-placed_in plan [] behind v comes = tt
-placed_in plan (p ∷ picks) behind v comes =
-    let longer : run_of (p ∷ picks) ++ behind ≡ run_of picks ++ did p ∷ behind = ap (λ (run : List Did). run ++ behind) (reverse-append (did p ∷ []) (map did picks)) ∙ append_assoc (run_of picks) (did p ∷ []) behind in
-    let here : ComesTo plan (run_of picks ++ did p ∷ behind) v = subst (λ (run : List Did). ComesTo plan run v) longer comes in
-    let there = back plan (run_of picks) (did p ∷ behind) v here in
-    (placed plan (did p) behind there.0 there.1, placed_in plan picks (did p ∷ behind) v here)
-
--- The whole replay.
-
-begins : (plan : Plan) (run : List Did) (v : ClusterValue) → ComesTo plan run v → ComesTo plan [] (new_cluster plan)
-unfolding ComesTo
-begins plan run v comes = ((stays plan run v comes).right, refl)
-
 -- each replay of merged events is of the entries
 pub of_entries : NodeLaws → PacketsAreHonest → FrontIsOneRun → ReplaysAreOfEntries
 of_entries laws honest front plan tapes events m schedule answers r =
-    let events_are : map event_in (reverse r.steps) ≡ events = map-reverse r.steps ∙ (ap reverse r.events_are ∙ reverse-reverse events) in
-    let all =
-    these laws honest plan [] (new_cluster plan) r.last m.last (reverse r.steps) m.picks (begins plan (run_of m.picks) m.last m.comes)
-    (subst (AreEvents plan [] m.picks) (sym events_are) m.are_events)
-    (placed_in plan m.picks [] m.last (subst (λ (run : List Did). ComesTo plan run m.last) (sym (append-nil (run_of m.picks))) m.comes))
-    m.fed
-    (subst (λ (es : List Event). Replays (new_cluster plan) es m.picks m.last) (sym events_are) m.replays)
-    (in_order plan r.steps r.run r.last r.made r.fed) in
-    let steps_are : r.steps ≡ reverse (steps_of 0 events m.picks) = sym (reverse-reverse r.steps) ∙ ap reverse (all.are ∙ ap (λ (es : List Event). steps_of 0 es m.picks) events_are) in
+    let steps = reverse r.steps in
+    let events_are : map event_in steps ≡ events = map-reverse r.steps ∙ (ap reverse r.events_are ∙ reverse-reverse events) in
+    let leads = leads_of (new_cluster plan) r.last steps (in_order plan r.steps r.run r.last r.made r.fed) in
+    let again = rerun laws honest plan tapes events m (map answer_in steps) r.last (subst (λ (es : List Event). Leads (new_cluster plan) es (map answer_in steps) r.last) events_are leads) in
+    let told = subst (λ (es : List Event). AreTold r.last.packets es (map answer_in steps) m.picks) (sym events_are) again.told in
+    let are = steps_are 0 steps m.picks again.are ∙ ap (λ (es : List Event). steps_of 0 es m.picks) events_are in
+    let newest_first : r.steps ≡ reverse (steps_of 0 events m.picks) = sym (reverse-reverse r.steps) ∙ ap reverse are in
     record {
-      last = all.ends;
-      entries = all.entries;
+      last = again.ends;
+      entries = entries_of r.last.packets steps m.picks told;
       pasts = (front plan tapes events m).pasts;
-      texts = record { schedule_is = r.schedule_is ∙ ap (schedule_text plan) steps_are; answers_are = r.answers_are ∙ ap answers_text steps_are };
+      texts = record { schedule_is = r.schedule_is ∙ ap (schedule_text plan) newest_first; answers_are = r.answers_are ∙ ap answers_text newest_first };
     }

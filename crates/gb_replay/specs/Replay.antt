@@ -1,5 +1,5 @@
 -- A schedule and its answers, as the texts of a run of a cluster.
-use Rattle.std.specs.Prelude.{ℕ, ◌≡◌, ◌≢◌, ◌≤◌, Bool, false, List, ◌++◌, length, map, reverse, All}
+use Rattle.std.specs.Prelude.{ℕ, ◌≡◌, ◌≢◌, ◌≤◌, false, List, ◌++◌, length, map, reverse, All}
 use Rattle.gb_types.specs.declared.plan.Plan.{Plan}
 use Rattle.gb_cluster.specs.ClusterStep.{IsStep, IsPlaced}
 use Rattle.gb_cluster.specs.ClusterValue.{ClusterValue}

@@ -1,5 +1,4 @@
-use Rattle.std.proofs.Common.{◌∙◌, ap, refl, subst, sym, length, Err, rules}
-use Rattle.std.proofs.lemmas.List.{take_all}
+use Rattle.std.proofs.Common.{◌∙◌, ap, refl, subst, sym, length, Err}
 use Rattle.std.proofs.lemmas.List.Elements.{All-get_or}
 use Rattle.gb_cluster.specs.ClusterStep.{IsPlaced}
 use Rattle.gb_replay.proofs.ReplayLemmas.{begun, goes_on, why_is}
