@@ -7,8 +7,6 @@
 mod entry;
 pub mod past;
 pub mod story;
-#[cfg(test)]
-mod tests;
 
 pub use past::{Past, Seen};
 pub use story::{Story, Told};

@@ -19,6 +19,8 @@ mod long;
 #[cfg(test)]
 mod one_node;
 #[cfg(test)]
+mod pasts;
+#[cfg(test)]
 mod plans;
 #[cfg(test)]
 mod recorded;

@@ -2,8 +2,7 @@ ghost use Rattle.std.specs.Prelude.{◌≡◌, [], ◌∷◌, length};
 ghost use mathlib.Core.List.{IsPrefix};
 ghost use Rattle.gb_past.specs.Story.{IsStory};
 
-use crate::past::{Past, Seen};
-use crate::story::{Story, Told};
+use gb_past::{Past, Seen, Story, Told};
 use std::marker::Brand;
 use std::sync::ledger::{Blank, Ledger, Share};
 use std::test::*;
