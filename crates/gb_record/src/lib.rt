@@ -10,6 +10,7 @@ pub mod recording;
 pub mod shared;
 pub mod written_first;
 
+pub use gb_record_text::RecordHead;
 pub use name::RecordName;
 pub use recording::Recording;
 pub use shared::SharedRecording;

@@ -3,8 +3,8 @@ ghost use Rattle.std.specs.Prelude.{◌≡◌, IfOk};
 ghost use Rattle.gb_types.specs.Version.{version_at};
 
 use gb_host::HostPlan;
+use gb_record::RecordHead;
 use gb_record::recording::write_head;
-use gb_record_text::RecordHead;
 use gb_types::memory::put_bytes;
 use gb_types::number::put_number;
 use gb_types::{NodeId, OutOfMemory};
