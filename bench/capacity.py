@@ -106,7 +106,7 @@ def message_cost(kind, members, payload, fetches, together=1):
 def group_memory(kind, members, messages, size):
     """Bytes of a group at a node, all taken when it is made (docs/COSTS.md): about a kilobyte more than what its limits say."""
     remembers = kind != "beb"
-    return 1024 + members * size + members * messages * (22 + 12 * remembers + 2 * (1 + remembers)) + 4 * messages
+    return 1024 + members * size + members * messages * (18 + 12 * remembers + 2 * (1 + remembers)) + 4 * messages
 
 
 def idle_cost(nodes):

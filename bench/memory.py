@@ -11,9 +11,9 @@ import sys
 
 from schedule import start
 
-# The bytes for each of the n * m messages: a place in the store, a number in the log, and one with its place in what is
-# put out.
-MESSAGE = 12 + 4 + 6
+# The bytes for each of the n * m messages: an entry of the store, a number in the log, and its place in the store in what
+# is put out.
+MESSAGE = 12 + 4 + 2
 # What a relay or an order adds: a record.
 RECORD = 12
 # A table has a place of 2 bytes for each of m numbers of each node up to the last member.

@@ -6,6 +6,7 @@ pub mod HistoryLemmas
 pub mod KeptLemmas
 pub mod MemoryLemmas
 pub mod NoticeLemmas
+pub mod OutgoingLemmas
 pub mod PageLemmas
 pub mod PlaceLemmas
 pub mod PutOutLemmas

@@ -25,13 +25,14 @@ use Rattle.gb_rules.specs.LetFall.{is_let_fall}
 use Rattle.gb_rules.specs.declared.usage.Usage.{Usage}
 use Rattle.gb_slot.specs.Arrivals.{nodes_of}
 use Rattle.gb_slot.specs.Reached.{IsReached, limit_of, most_messages, most_bytes}
-use Rattle.gb_slot.specs.Outgoing.{put_messages}
+use Rattle.gb_slot.specs.Outgoing.{messages_at, AreInStore}
 use Rattle.gb_slot.specs.Representation.{state_of, HasMemory}
 use Rattle.gb_slot.specs.Slot.{usage_of, waiting, taken_for, slot_said, falls}
 use Rattle.gb_slot.specs.SlotState.{SlotState}
 use Rattle.gb_slot.specs.StoreValue.{total_bytes}
 use Rattle.gb_slot.specs.declared.slot.Slot.TheInside.{Inside}
 use Rattle.gb_slot.proofs.FewLemmas.{few_bytes, few_known, total_pushed}
+use Rattle.gb_slot.proofs.OutgoingLemmas.{messages_count}
 use Rattle.gb_slot.proofs.ReachedLemmas.{few_outgoing, few_logged, reached_said}
 use Rattle.gb_slot.proofs.TakenLemmas.{waiting_few}
 
@@ -63,11 +64,12 @@ places_in_log s next ups m r same is =
     omega (arith, few, count, all, len, there, same)
 
 -- and what is sent among those that are put out
-pub places_put_out : (s : Inside) (next : SlotState) (sends : List MsgId) → HasMemory s → IsReached next → most_messages next.spec ≡ most_messages s.spec → next.outgoing ≡ put_messages s.outgoing.items ++ sends → vec_len s.outgoing + length sends ≤ vec_capacity s.outgoing
-places_put_out s next sends m r same is =
+pub places_put_out : (s : Inside) (next : SlotState) (sends : List MsgId) → HasMemory s → IsReached next → AreInStore s.store.entries s.outgoing.items → most_messages next.spec ≡ most_messages s.spec → next.outgoing ≡ messages_at s.store.entries s.outgoing.items ++ sends → vec_len s.outgoing + length sends ≤ vec_capacity s.outgoing
+places_put_out s next sends m r inside same is =
     let few = few_outgoing next r in
-    let count : length next.outgoing ≡ length (put_messages s.outgoing.items) + length sends = ap length is ∙ length-append (put_messages s.outgoing.items) sends in
-    let all : length (put_messages s.outgoing.items) ≡ length s.outgoing.items = length-map s.outgoing.items (λ o. o.m) in
+    let put : List MsgId = messages_at s.store.entries s.outgoing.items in
+    let count : length next.outgoing ≡ length put + length sends = ap length is ∙ length-append put sends in
+    let all = messages_count s.store.entries s.outgoing.items inside in
     let len = s.outgoing.ok.0 in
     let there = m.outgoing in
     omega (arith, few, count, all, len, there, same)
@@ -113,16 +115,22 @@ pub all_fit : (members : Nodes) (count each most : ℕ) → count ≡ common mem
 all_fit members count each most is few = let all = few_members members members in mul-le count each NODES most (omega (arith, is, all)) few
 
 -- no more were put out than all nodes may say
-pub few_put : (s : Inside) → IsReached (held s) → s.spec.msgs ≤ MESSAGES → length s.outgoing.items ≤ NODES * MESSAGES
-few_put s r few =
+pub few_put : (s : Inside) → IsReached (held s) → AreInStore s.store.entries s.outgoing.items → s.spec.msgs ≤ MESSAGES → length s.outgoing.items ≤ NODES * MESSAGES
+few_put s r inside few =
     let most = all_fit s.spec.members (common s.spec.members s.spec.members) s.spec.msgs MESSAGES refl few in
-    omega (arith, few_outgoing (held s) r, most, length-map s.outgoing.items (λ o. o.m))
+    omega (arith, few_outgoing (held s) r, most, messages_count s.store.entries s.outgoing.items inside)
+
+-- nor are more known
+pub few_stored : (s : SlotState) → IsReached s → s.spec.msgs ≤ MESSAGES → length s.store ≤ NODES * MESSAGES
+few_stored s r few =
+    let most = all_fit s.spec.members (common s.spec.members s.spec.members) s.spec.msgs MESSAGES refl few in
+    omega (arith, few_known (limit_of s.spec) s.store r.counted r.once, most)
 
 -- so many that wait were put out, and not taken
-pub few_wait : (s : Inside) (now : SlotState) (b at : ℕ) → held s ≡ now → at ≡ b → IsReached (held s) → slice_index_or s.taken at 0 + length (waiting now b) ≤ length s.outgoing.items
-few_wait s now b at view is r =
+pub few_wait : (s : Inside) (now : SlotState) (b at : ℕ) → held s ≡ now → at ≡ b → IsReached (held s) → AreInStore s.store.entries s.outgoing.items → slice_index_or s.taken at 0 + length (waiting now b) ≤ length s.outgoing.items
+few_wait s now b at view is r inside =
     let few = waiting_few (held s) b (r.stands.taken b) in
     let same : length (waiting now b) ≡ length (waiting (held s) b) = ap (λ (v : SlotState). length (waiting v b)) (sym view) in
     let place : slice_index_or s.taken at 0 ≡ taken_for (held s) b = ap (λ k. slice_index_or s.taken k 0) is in
-    let all : length (put_messages s.outgoing.items) ≡ length s.outgoing.items = length-map s.outgoing.items (λ o. o.m) in
+    let all = messages_count s.store.entries s.outgoing.items inside in
     omega (arith, few, same, place, all)

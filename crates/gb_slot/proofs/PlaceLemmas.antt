@@ -6,7 +6,7 @@ use Rattle.std.specs.FinSet as nodes
 use Rattle.std.specs.List.{list_any, IsDistinct, AllByRecursion}
 use Rattle.std.proofs.Math.Bool.{or-true}
 use Rattle.std.proofs.lemmas.List.{map-append, get_or-replicate}
-use Rattle.std.proofs.lemmas.Option.{get_or_from_slice_get}
+use Rattle.std.proofs.lemmas.Option.{get_or_from_slice_get, slice_get_read}
 use Rattle.gb_types.specs.declared.limits.TheConstants.{NODES, BYTES}
 use Rattle.gb_types.specs.declared.message.MsgId.{MsgId}
 use Rattle.gb_types.specs.declared.node.NodeId.{NodeId}
@@ -194,6 +194,10 @@ module _ (m : MsgId) where
   pub place_told : (bytes : List ℕ) (kept : List Kept) (found : Option ℕ) → IsPlaceOf m kept found → MatchOption found (has (entries_of bytes kept) m ≡ false) (λ i. slice_get (map message_of (entries_of bytes kept)) i ≡ Some m)
   place_told bytes kept None at = any_entries m bytes kept ∙ at
   place_told bytes kept (Some i) at = placed_message bytes kept i at
+
+-- what is kept at a place is where its message stands
+pub placed_at : (kept : List Kept) (i : ℕ) (x : Kept) → IsDistinct same (messages_of kept) → i < length kept → x ≡ get_or kept i x → IsPlaceOf x.m kept (Some i)
+placed_at kept i x once within is = placed_once x.m kept i x once within (slice_get_read kept (length kept) i x refl within is) (same_itself x.m)
 
 -- a message more, that was not there
 pub once_pushed : (kept : List Kept) (m : MsgId) → IsDistinct same (messages_of kept) → list_any (is_of m) kept ≡ false → IsDistinct same (messages_of kept ++ m ∷ [])

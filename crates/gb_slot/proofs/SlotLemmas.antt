@@ -1,10 +1,11 @@
 -- The answers of a slot, and the part of it that the rules read.
 use Rattle.std.proofs.Common.{◌≡◌, ℕ, zero, suc, ◌+◌, ◌≤◌, ◌<◌, ◌||◌, ◌&&◌, not, true, false, List, [], ◌∷◌, length, take, drop, Some, None, refl, sym, ◌∙◌, ap, arith}
-use Rattle.std.specs.Prelude.{Option, map, slice_get, option_map, nat_lt, if◌then◌else◌}
+use Rattle.std.specs.Prelude.{map, slice_get, option_map, nat_lt, if◌then◌else◌}
 use Rattle.std.proofs.lemmas.Option.{slice_get-map}
 use Rattle.std.specs.FinSet as set
 use Rattle.std.proofs.lemmas.Bool.Decides.{nat_tests}
 use Rattle.std.proofs.lemmas.List.{length-map}
+use Rattle.gb_types.specs.Entry.{message_of}
 use Rattle.gb_types.specs.declared.entry.Entry.{Entry}
 use Rattle.gb_types.specs.declared.limits.TheConstants.{FETCH}
 use Rattle.gb_types.specs.declared.message.MsgId.{MsgId}
@@ -13,10 +14,10 @@ use Rattle.gb_types.specs.declared.reply.Reply.TheVariants.{Log, Refused}
 use Rattle.gb_rules.specs.Messages.{entry_in, payload_in}
 use Rattle.gb_rules.specs.Replied.{takes_memory}
 use Rattle.gb_rules.specs.Group.{Shown, is_other, fetch_answer}
-use Rattle.gb_slot.specs.Outgoing.{put_messages}
+use Rattle.gb_slot.specs.Outgoing.{messages_at, AreInStore}
 use Rattle.gb_slot.specs.Slot.{shown, waiting, taken_for}
 use Rattle.gb_slot.specs.SlotState.{SlotState}
-use Rattle.gb_slot.specs.declared.put_out.PutOut.{PutOut}
+use Rattle.gb_slot.proofs.OutgoingLemmas.{message_read, message_none}
 use Rattle.gb_slot.proofs.PageLemmas.{page-map, drop-at, drop-none}
 
 -- the entries from a place on are what a fetch gives
@@ -44,9 +45,12 @@ fetched_some s log from most is within few some =
     let found : List MsgId = take most (drop from log) in
     ap takes_memory (sym (fetched s log from most (map (entry_in s.store) found) is within few refl)) ∙ log_some s found some
 
--- the message that was put out at a place, from what is read there
-pub put-at : (outgoing read : List PutOut) (i : ℕ) (found : Option PutOut) → read ≡ outgoing → slice_get read i ≡ found → slice_get (put_messages outgoing) i ≡ option_map (λ o. o.m) found
-put-at outgoing read i found same is = slice_get-map (λ o. o.m) outgoing i ∙ ap (option_map (λ o. o.m)) (ap (λ os. slice_get os i) (sym same) ∙ is)
+-- the message that was put out, from what is read there
+pub put-at : (s : SlotState) (store : List Entry) (outgoing read : List ℕ) (i place : ℕ) (m : MsgId) → AreInStore store outgoing → messages_at store outgoing ≡ s.outgoing → read ≡ outgoing → slice_get read i ≡ Some place → slice_get (map message_of store) place ≡ Some m → slice_get s.outgoing i ≡ Some m
+put-at s store outgoing read i place m inside is same at there = ap (λ ms. slice_get ms i) (sym is) ∙ message_read store outgoing i place m inside (ap (λ ps. slice_get ps i) (sym same) ∙ at) there
+
+pub put-none : (s : SlotState) (store : List Entry) (outgoing read : List ℕ) (i : ℕ) → AreInStore store outgoing → messages_at store outgoing ≡ s.outgoing → read ≡ outgoing → slice_get read i ≡ None → slice_get s.outgoing i ≡ None
+put-none s store outgoing read i inside is same none = ap (λ ms. slice_get ms i) (sym is) ∙ message_none store outgoing i inside (ap (λ ps. slice_get ps i) (sym same) ∙ none)
 
 -- the item that waits first
 pub waiting-at : (s : SlotState) (b i : ℕ) (m : MsgId) (payload : List ℕ) → (is_other s.spec s.me.number b && not (set.contains s.noticed b)) ≡ true → taken_for s b ≡ i → slice_get s.outgoing i ≡ Some m → payload ≡ payload_in s.store m

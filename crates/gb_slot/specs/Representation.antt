@@ -2,7 +2,7 @@
 use Rattle.std.specs.Prelude.{◌≤◌, vec_capacity}
 use Rattle.gb_stack.specs.StackRoom.{IsWhole}
 use Rattle.gb_stack.specs.StackState.{StackState}
-use Rattle.gb_slot.specs.Outgoing.{put_messages}
+use Rattle.gb_slot.specs.Outgoing.{messages_at}
 use Rattle.gb_slot.specs.Reached.{limit_of, most_messages, most_bytes}
 use Rattle.gb_slot.specs.SlotState.{SlotState}
 use Rattle.gb_slot.specs.declared.slot.Slot.TheInside.{Inside}
@@ -19,7 +19,7 @@ state_of stack s = record {
   said = s.said;
   store = s.store.entries;
   log = s.log.items;
-  outgoing = put_messages s.outgoing.items;
+  outgoing = messages_at s.store.entries s.outgoing.items;
   taken = s.taken;
   acknowledged = s.acknowledged.items;
 }

@@ -7,7 +7,6 @@
 
 mod broadcast;
 pub mod history;
-pub mod put_out;
 pub mod slot;
 pub mod store;
 mod window;

@@ -14,7 +14,6 @@ ghost use Rattle.gb_slot.specs.Slot.{IsWithinLimits};
 ghost use Rattle.gb_slot.specs.Waiting.{WaitsForEach};
 
 use crate::broadcast::take_call;
-use crate::put_out::PutOut;
 use crate::store::Store;
 use crate::window::{acknowledge, add_said, count_unfinished};
 use gb_layer::{Call, Effects, Layer};
@@ -43,8 +42,8 @@ pub struct Slot {
     stack: Stack,
     /// The delivered messages, in order.
     log: Vec<MsgId>,
-    /// The broadcast messages, in order.
-    outgoing: Vec<PutOut>,
+    /// The broadcast messages, in order. Of each its place in the store, from 0.
+    outgoing: Vec<u16>,
     store: Store,
     taken: [u16; NODES],
 }
@@ -86,10 +85,11 @@ impl Model for Slot {
     ghost coded = { Prim.hlevel (codes, set.code {R = nat_cmp} coded_ℕ) };
 
     ghost use Rattle.gb_slot.specs.Representation.{state_of, HasMemory};
+    ghost use Rattle.gb_slot.specs.Outgoing.{AreInStore};
 
     ghost view = { λ s. state_of (⟦<Stack as Layer>⟧.meaning s.stack) s };
 
-    ghost invariant = { λ s. ((is_gone s.phase ≡ false) × (s.said ≤ s.spec.msgs)) × (s.spec.msgs ≤ MESSAGES) × (s.spec.bytes ≤ BYTES) × (vec_len s.acknowledged ≡ s.said) × (s.unfinished ≡ unfinished_of s.spec s.noticed s.acknowledged.items) × IsReached (state_of (⟦<Stack as Layer>⟧.meaning s.stack) s) × HasMemory s };
+    ghost invariant = { λ s. ((is_gone s.phase ≡ false) × (s.said ≤ s.spec.msgs)) × (s.spec.msgs ≤ MESSAGES) × (s.spec.bytes ≤ BYTES) × (vec_len s.acknowledged ≡ s.said) × (s.unfinished ≡ unfinished_of s.spec s.noticed s.acknowledged.items) × IsReached (state_of (⟦<Stack as Layer>⟧.meaning s.stack) s) × HasMemory s × AreInStore s.store.entries s.outgoing.items };
 }
 
 impl Slot {
@@ -100,8 +100,8 @@ impl Slot {
     /// and with no other refusal.
     ///
     /// All memory that the group by itself ever needs is taken here. Let n be the number of members; each says at most `msgs` messages
-    /// with at most `bytes` payload bytes in all. The group takes n * `bytes` payload bytes. It takes 22 bytes for each of the n *
-    /// `msgs` messages: 12 in the store, 4 in the log, 6 in the queue to the other members; and 12 more if the broadcast relays or
+    /// with at most `bytes` payload bytes in all. The group takes n * `bytes` payload bytes. It takes 18 bytes for each of the n *
+    /// `msgs` messages: 12 in the store, 4 in the log, 2 in the queue to the other members; and 12 more if the broadcast relays or
     /// keeps the order of each origin. It takes 4 bytes for each of `msgs` own messages, for the nodes that have it for good. It takes
     /// one table, by which messages are found, of 2 * `msgs` bytes for each node up to the last member; and a second one if the
     /// broadcast relays or keeps an order. The lists of `effects` get capacity for a call of the group, 4 and 6 bytes for each message.
@@ -409,11 +409,8 @@ impl Slot {
         if !self.is_reached(dest) {
             return None;
         }
-        match item_at(&self.outgoing, self.taken[dest.index()] as usize) {
-            Some(next) => Some((
-                next.m,
-                self.store.payload_at(next.m, usize::from(next.place)),
-            )),
+        match place_at(&self.outgoing, self.taken[dest.index()] as usize) {
+            Some(place) => Some(self.store.at(usize::from(place))),
             None => None,
         }
     }
@@ -426,11 +423,8 @@ impl Slot {
         ensures { slice_get (waiting self.now dest.number) place ≡ Some (record { origin = result.0.origin; seq = result.0.seq; payload = result.1.now }) }
     {
         let outgoing = self.outgoing.as_slice();
-        let item = outgoing[self.taken[dest.index()] as usize + place];
-        (
-            item.m,
-            self.store.payload_at(item.m, usize::from(item.place)),
-        )
+        let stored = outgoing[self.taken[dest.index()] as usize + place];
+        self.store.at(usize::from(stored))
     }
 
     /// Returns the number of messages that wait to be sent to node `dest`. It is 0 if `dest` is this node, no member, or held for
@@ -489,7 +483,7 @@ fn broadcast(
 fn memory(
     alloc: Global,
     spec: &Spec,
-) -> Result<(Store, Vec<MsgId>, Vec<PutOut>, Vec<NodeSet>), OutOfMemory>
+) -> Result<(Store, Vec<MsgId>, Vec<u16>, Vec<NodeSet>), OutOfMemory>
     requires { IsWithinLimits spec.now }
     ensures store { IfOk result (λ r. (r.0.entries ≡ []) × (r.0.arrivals ≡ [])) }
     ensures log { IfOk result (λ r. r.1.items ≡ []) }
@@ -514,7 +508,7 @@ fn lists(
     alloc: Global,
     messages: usize,
     own: usize,
-) -> Result<(Vec<MsgId>, Vec<PutOut>, Vec<NodeSet>), OutOfMemory>
+) -> Result<(Vec<MsgId>, Vec<u16>, Vec<NodeSet>), OutOfMemory>
     ensures log { IfOk result (λ l. l.0.items ≡ []) }
     ensures outgoing { IfOk result (λ l. l.1.items ≡ []) }
     ensures acknowledged { IfOk result (λ l. l.2.items ≡ []) }
@@ -528,11 +522,11 @@ fn lists(
     Ok((log, outgoing, acknowledged))
 }
 
-/// Returns the item at an index, if there is one.
-fn item_at(items: &[PutOut], at: usize) -> Option<PutOut>
-    ensures { result ≡ slice_get items.now at }
+/// Returns the place at an index, if there is one.
+fn place_at(places: &[u16], at: usize) -> Option<u16>
+    ensures { result ≡ slice_get places.now at }
 {
-    items.get(at).copied()
+    places.get(at).copied()
 }
 
 /// Returns up to `most` messages, from index `from` on.

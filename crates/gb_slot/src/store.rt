@@ -319,8 +319,19 @@ impl Store {
         find_recent(&self.kept, &self.table, m)
     }
 
+    /// Returns the message at a place of the store, with its payload. Places count from 0, and `place` is below the number of messages.
+    /// Inlined: packing calls it twice an item.
+    #[inline(always)]
+    pub fn at(&self, place: usize) -> (MsgId, &[u8])
+        requires { place < length self.now.entries }
+        ensures message { slice_get (map message_of self.now.entries) place ≡ Some result.0 }
+        ensures payload { result.1.now ≡ payload_in self.now.entries result.0 }
+    {
+        (self.kept[place].m, part(&self.kept, &self.bytes, place))
+    }
+
     /// Returns the payload of message `m`. It is empty if the message is not in the store. `place` is where the message is looked for
-    /// first, which only saves a search. Inlined: packing calls it twice an item.
+    /// first, which only saves a search.
     #[inline(always)]
     pub fn payload_at(&self, m: MsgId, place: usize) -> &[u8]
         ensures { result.now ≡ payload_in self.now.entries m }

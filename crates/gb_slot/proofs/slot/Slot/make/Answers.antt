@@ -3,7 +3,7 @@ use Rattle.std.specs.Prelude.{replicate}
 use Rattle.gb_types.specs.declared.limits.TheConstants.{NODES}
 use Rattle.gb_rules.specs.declared.phase.Phase.TheVariants.{Made}
 use Rattle.gb_stack.specs.contracts.stack.StackLayer.TheImpl.{meaning-value}
-use Rattle.gb_slot.specs.Outgoing.{put_messages}
+use Rattle.gb_slot.specs.Outgoing.{messages_at, AreInStore}
 use Rattle.gb_slot.specs.Reached.{IsReached}
 use Rattle.gb_slot.specs.Slot.{new_slot}
 use Rattle.gb_slot.specs.SlotState.{SlotState}
@@ -25,7 +25,7 @@ invariant_of-result c =
       said = 0;
       store = c.in_ok-store.store.entries;
       log = c.in_ok-store.log.items;
-      outgoing = put_messages c.in_ok-store.outgoing.items;
+      outgoing = messages_at c.in_ok-store.store.entries c.in_ok-store.outgoing.items;
       taken = replicate NODES 0;
       acknowledged = c.in_ok-store.acknowledged.items;
     } in
@@ -35,7 +35,7 @@ invariant_of-result c =
       arrivals = kept.store.1 i;
       store = kept.store.0 i;
       log = kept.log i;
-      outgoing = put_messages (kept.outgoing i);
+      outgoing = messages_at (kept.store.0 i) (kept.outgoing i);
       acknowledged = kept.acknowledged i;
     } in
     let reached = reached_new spec c.args.me c.args.noticed.now (meaning-value.it c.in_ok-stack.stack) c.requires.member c.nodes.ensures.whole made.started in (
@@ -53,4 +53,5 @@ invariant_of-result c =
         bytes = kept.bytes;
         acknowledged = kept.acknowledged_memory;
       },
+      subst (AreInStore c.in_ok-store.store.entries) (sym kept.outgoing) tt,
     )
