@@ -2,5 +2,4 @@ pub mod Requests
 pub mod Answers
 pub mod Secrets
 pub mod Asking
-pub mod Exports
 pub mod Errands

@@ -8,7 +8,6 @@ pub mod answer;
 pub mod awaiting;
 pub mod blame;
 pub mod exchange;
-pub mod exported;
 pub mod fault;
 pub mod need;
 pub mod operating;

@@ -13,7 +13,7 @@ use Rattle.gb_types.specs.ReplyText.{entry_text, reply_spelling}
 use Rattle.gb_session.proofs.RunLemmas.{Appends-none, Appends-join}
 use Rattle.gb_client.specs.declared.secrets.Secrets.{Secrets}
 use Rattle.gb_client.specs.Answers.{lines_of}
-use Rattle.gb_client.specs.Exports.{end_line}
+use Rattle.gb_client_run.specs.ExportText.{end_line}
 use Rattle.gb_client_run.specs.Exporting.{HasFetched, HasRead, HasExported, entries_of}
 
 -- logs were fetched from the beginning on, and their entries counted and printed

@@ -11,7 +11,7 @@ use Rattle.gb_session.specs.declared.head.Head.TheVariants.{Fetch}
 use Rattle.gb_client.specs.declared.secrets.Secrets.{Secrets}
 use Rattle.gb_client.specs.Answers.{lines_of}
 use Rattle.gb_client.specs.Asking.{Asks}
-use Rattle.gb_client.specs.Exports.{end_line}
+use Rattle.gb_client_run.specs.ExportText.{end_line}
 use Rattle.gb_client_run.specs.Asked.{Exchange}
 use Rattle.gb_client_run.specs.Following.{end_status}
 

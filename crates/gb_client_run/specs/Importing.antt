@@ -15,7 +15,7 @@ use Rattle.gb_client.specs.Asking.{Asks}
 use Rattle.gb_client_run.specs.Asked.{Exchange}
 use Rattle.gb_client.specs.declared.task.Choice.{Choice}
 use Rattle.gb_client.specs.Answers.{status_of_fault}
-use Rattle.gb_client.specs.Exports.{export_text}
+use Rattle.gb_client_run.specs.ExportText.{export_text}
 use Rattle.gb_client_run.specs.declared.importing.End.{End}
 use Rattle.gb_client_run.specs.declared.importing.End.TheVariants.{Whole, Failed}
 use Rattle.gb_client_run.specs.declared.importing.End.TheVariants as ends

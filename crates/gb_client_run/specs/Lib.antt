@@ -1,4 +1,5 @@
 pub mod Asked
+pub mod ExportText
 pub mod Exporting
 pub mod Following
 pub mod Groups

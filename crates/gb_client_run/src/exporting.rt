@@ -2,14 +2,14 @@
 ghost use Rattle.std.specs.Prelude.{◌≡◌, ◌+◌, length, map, IfOk, OnOk};
 ghost use Rattle.std.specs.Io.KnownBytes.{Appends};
 ghost use Rattle.gb_client.specs.Answers.{lines_of};
-ghost use Rattle.gb_client.specs.Exports.{end_line};
+ghost use Rattle.gb_client_run.specs.ExportText.{end_line};
 ghost use Rattle.gb_client_run.specs.Exporting.{HasFetched, HasExported};
 
+use crate::exported::end_line;
 use crate::nodes::Nodes;
 use crate::printing::{print, print_refusal};
 use crate::target::Target;
 use gb_client::answer::read_reply;
-use gb_client::exported::end_line;
 use gb_client::show::entry_lines;
 use gb_client::task::fetch_of;
 use gb_client::{Asked, ClientFault};

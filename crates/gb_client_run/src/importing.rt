@@ -3,11 +3,11 @@ ghost use Rattle.std.specs.Prelude.{◌≡◌, ◌≤◌, drop, filter, length, 
 ghost use Rattle.gb_session.specs.declared.grammar.TheConstants.{BODY};
 ghost use Rattle.gb_client_run.specs.Importing.{SaysSo, HasTold, HasSaid, HasSaidOn, HasImported, reply_of, may_pass, said_line, count_line, is_chosen};
 
+use crate::exported::read_export;
 use crate::nodes::Nodes;
 use crate::printing::{print, print_refusal};
 use crate::target::Target;
 use gb_client::answer::read_reply;
-use gb_client::exported::read_export;
 use gb_client::task::ask;
 use gb_client::{Asked, Choice, ClientFault, Secrets};
 use gb_session::Head;

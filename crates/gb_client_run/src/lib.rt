@@ -3,6 +3,7 @@
 #![tactic(auto)]
 
 pub mod checking;
+pub mod exported;
 pub mod exporting;
 pub mod following;
 pub mod groups;

@@ -1,9 +1,9 @@
 //! An exported log: a text that can be read again, with a line for each entry and a last line with their count.
 ghost use Rattle.std.specs.Prelude.{◌≡◌, true, false, IfOk, IfSome};
-ghost use Rattle.gb_client.specs.Exports.{end_line, export_text};
+ghost use Rattle.gb_client_run.specs.ExportText.{end_line, export_text};
 
-use crate::answer::read_reply;
-use crate::show::entry_lines;
+use gb_client::answer::read_reply;
+use gb_client::show::entry_lines;
 use gb_types::number::put_number;
 use gb_types::{Entries, Entry, OutOfMemory, Reply};
 use std::alloc::Global;
