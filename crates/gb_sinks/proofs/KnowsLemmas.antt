@@ -1,25 +1,18 @@
 -- What a relay knows after each step.
-use Rattle.std.proofs.Common.{◌≡◌, ℕ, ◌+◌, ◌≤◌, ◌<◌, true, false, cond, nat_eq, nat_lt, List, length, vec_capacity, get_or, refl, ap, sym, ◌∙◌, subst, arith}
+use Rattle.std.proofs.Common.{◌≡◌, ℕ, ◌+◌, ◌≤◌, ◌<◌, true, false, cond, nat_eq, nat_lt, List, length, vec_capacity, get_or, refl, sym, ◌∙◌, subst, arith}
 use Rattle.std.proofs.lemmas.Bool.{eqb-true}
 use Rattle.std.proofs.lemmas.Bool.Decides.{nat_tests}
 use Rattle.std.proofs.lemmas.Option.{slice_get-get_or, get_or_from_slice_get}
 use Rattle.gb_types.specs.declared.message.MsgId.{MsgId}
-use Rattle.gb_types.specs.declared.node.NodeId.{NodeId}
-use Rattle.gb_layer.specs.declared.call.Call.{Call}
-use Rattle.gb_layer.specs.declared.entries.Entry.{Entry}
-use Rattle.gb_layer.specs.declared.places.Places.{Places}
-use Rattle.gb_layer.specs.Laws.{StaysAtItsNode}
-use Rattle.gb_layer.specs.Rule.{Nodes, Rules}
-use Rattle.gb_layer.specs.Relay.{State, is_for, is_repeat, is_sent}
+use Rattle.gb_layer.specs.Relay.{is_for, is_sent}
 use Rattle.gb_layer.specs.EntryLemmas.{sent_has}
 use Rattle.gb_sinks.specs.declared.call.PlacedCall.{PlacedCall}
 use Rattle.gb_sinks.specs.declared.call.PlacedCall.TheVariants.{Say, Came, Notice}
 use Rattle.gb_sinks.specs.declared.column.Held.{Held}
 use Rattle.gb_sinks.specs.declared.relay.Relay.{Relay}
-use Rattle.gb_sinks.specs.Places.{message_at, all_differ, told, Names, IsNext, reached, told_after}
+use Rattle.gb_sinks.specs.Places.{message_at, all_differ, Names, reached}
 use Rattle.gb_sinks.specs.Column.{zipped}
-use Rattle.gb_sinks.specs.Due.{AreDue}
-use Rattle.gb_sinks.specs.RelayColumn.{Knows, RelayKnows}
+use Rattle.gb_sinks.specs.RelayColumn.{Knows}
 use Rattle.gb_sinks.proofs.ColumnLemmas.{found_beyond}
 
 pub reached_most : (n p w : ℕ) → p < w → n ≤ w → reached n p ≤ w
@@ -68,17 +61,10 @@ names_more P Q f (Say p) h = f p h
 names_more P Q f (Came q p) h = f p h
 names_more P Q f (Notice q) h = tt
 
--- a repeated notice tells no place
-pub repeat_after : {S : Type 0} (s : State S) (ms : List MsgId) (call : PlacedCall) (n : ℕ) → is_repeat s (told ms call) ≡ true → told_after n call ≡ n
-repeat_after s ms (Say p) n h = absurd (cc)
-repeat_after s ms (Came q p) n h = absurd (cc)
-repeat_after s ms (Notice q) n h = refl
-
-module _ {S L R : Type 0} (meaning : List MsgId → L → S) (me : S → NodeId) (rules : Rules) (below : List MsgId → L → ℕ → ℕ → Type 0) (ms : List MsgId) (r r' : Relay L R) where
+module _ {L R : Type 0} (below : List MsgId → L → ℕ → ℕ → Type 0) (ms : List MsgId) (r r' : Relay L R) where
   -- a step that tells no new place
-  pub knows_kept : (w : ℕ) → Knows meaning me rules below ms r w → length r'.column.items ≡ length r.column.items → vec_capacity r'.column ≡ vec_capacity r.column → below ms r'.lower (length r.column.items) w
-      → AreDue rules (me (meaning ms r'.lower)) r'.members r'.noticed r'.due (zipped ms r'.column.items) → Knows meaning me rules below ms r' w
-  knows_kept w k len cap low due =
+  pub knows_kept : (w : ℕ) → Knows below ms r w → length r'.column.items ≡ length r.column.items → vec_capacity r'.column ≡ vec_capacity r.column → below ms r'.lower (length r.column.items) w → Knows below ms r' w
+  knows_kept w k len cap low =
       let within = k.within in
       let few = k.few in
       let memory = k.memory in
@@ -87,30 +73,20 @@ module _ {S L R : Type 0} (meaning : List MsgId → L → S) (me : S → NodeId)
         few = omega (arith, few, len);
         memory = omega (arith, memory, cap);
         lower = subst (λ (n : ℕ). below ms r'.lower n w) (sym len) low;
-        due = due;
       }
 
   -- a step that tells a place
-  pub knows_told : (n w p : ℕ) → RelayKnows meaning me rules below ms r n w → p < length ms → IsNext n w p → length r'.column.items ≡ reached (length r.column.items) p → vec_capacity r'.column ≡ vec_capacity r.column
-      → below ms r'.lower (reached (length r.column.items) p) w → AreDue rules (me (meaning ms r'.lower)) r'.members r'.noticed r'.due (zipped ms r'.column.items) → RelayKnows meaning me rules below ms r' (reached n p) w
-  knows_told n w p k lt next len cap low due =
-      let within = k.knows.within in
-      let few = k.knows.few in
-      let memory = k.knows.memory in
+  pub knows_told : (w p : ℕ) → Knows below ms r w → p < length ms → p < w → length r'.column.items ≡ reached (length r.column.items) p → vec_capacity r'.column ≡ vec_capacity r.column
+      → below ms r'.lower (reached (length r.column.items) p) w → Knows below ms r' w
+  knows_told w p k lt next len cap low =
+      let within = k.within in
+      let few = k.few in
+      let memory = k.memory in
       let a = reached_most (length r.column.items) p (length ms) lt within in
-      let b = reached_most (length r.column.items) p w next.1 few in
+      let b = reached_most (length r.column.items) p w next few in
       record {
-        count = len ∙ ap (λ m. reached m p) k.count;
-        knows = record {
-          within = omega (arith, a, len);
-          few = omega (arith, b, len);
-          memory = omega (arith, memory, cap);
-          lower = subst (λ (m : ℕ). below ms r'.lower m w) (sym len) low;
-          due = due;
-        };
+        within = omega (arith, a, len);
+        few = omega (arith, b, len);
+        memory = omega (arith, memory, cap);
+        lower = subst (λ (m : ℕ). below ms r'.lower m w) (sym len) low;
       }
-
--- what is due after a call of the layer below, which stays at its node
-pub due_after : {S : Type 0} (next : S → Call → S) (me : S → NodeId) (rules : Rules) (members noticed : Nodes) (d : Places) (es : List Entry) (s t : S) (c : Call) → StaysAtItsNode next me → t ≡ next s c
-    → AreDue rules (me s) members noticed d es → AreDue rules (me t) members noticed d es
-due_after next me rules members noticed d es s t c stays is h = subst (λ (n : NodeId). AreDue rules n members noticed d es) (sym (ap me is ∙ stays s c)) h

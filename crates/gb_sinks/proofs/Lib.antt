@@ -1,6 +1,6 @@
 pub mod IndexLemmas
 pub mod ColumnLemmas
-pub mod DueLemmas
+pub mod SettleLemmas
 pub mod RoomLemmas
 pub mod KnowsLemmas
 pub mod BoundLemmas

@@ -4,65 +4,57 @@ use Rattle.gb_types.specs.declared.message.MsgId.{MsgId}
 use Rattle.gb_types.specs.declared.node.NodeId.{NodeId}
 use Rattle.gb_layer.specs.declared.effects.Up.{Up}
 use Rattle.gb_layer.specs.declared.entries.Entry.{Entry}
-use Rattle.gb_layer.specs.declared.places.Places.{Places}
 use Rattle.gb_layer.specs.Machine.{Gives}
 use Rattle.gb_layer.specs.Relay.{held, taken_in}
-use Rattle.gb_sinks.specs.Due.{widened, place_of, reach}
 use Rattle.gb_sinks.specs.Sinks.{folded, sends_alone, SplitsRoom}
 
--- which column, range and sink are borrowed, the messages of the index, the node, the column's length, memory and entries, the places where something may be due, and the sink's state
+-- which column and sink are borrowed, the node, the column's length, memory and entries, and the sink's state
 pub record BelowState (S : Type 0) : Type 0 where
   pub column_name : ℕ
-  pub due_name : ℕ
   pub out_name : ℕ
-  pub messages : List MsgId
   pub me : NodeId
   pub len : ℕ
   pub capacity : ℕ
   pub entries : List Entry
-  pub due : Places
   pub inner : S
 
 module _ {S : Type 0} where
-  -- a sink with other entries, another range, and another state of the borrowed sink
-  abbrev pub below_with : BelowState S → List Entry → Places → S → BelowState S
-  below_with s es d t = record { column_name = s.column_name; due_name = s.due_name; out_name = s.out_name; messages = s.messages; me = s.me; len = s.len; capacity = s.capacity; entries = es; due = d; inner = t }
+  -- a sink with other entries, and another state of the borrowed sink
+  abbrev pub below_with : BelowState S → List Entry → S → BelowState S
+  below_with s es t = record { column_name = s.column_name; out_name = s.out_name; me = s.me; len = s.len; capacity = s.capacity; entries = es; inner = t }
 
   -- what is sent goes on
   abbrev pub below_sent : (S → MsgId → S) → BelowState S → MsgId → BelowState S
-  below_sent sent s m = below_with s s.entries s.due (sent s.inner m)
+  below_sent sent s m = below_with s s.entries (sent s.inner m)
 
-  -- of what comes up it is noted who holds it, and where it is
+  -- of what comes up it is noted who holds it
   abbrev pub below_risen : BelowState S → Up → BelowState S
-  below_risen s u = below_with s (map (held s.me u.via u.m) s.entries) (widened s.due (place_of s.messages u.m)) s.inner
+  below_risen s u = below_with s (map (held s.me u.via u.m) s.entries) s.inner
 
   -- there is room for what goes on
   abbrev pub below_takes : (S → Gives → Type 0) → BelowState S → Gives → Type 0
   below_takes takes s g = takes s.inner (sends_alone g.sends)
 
-  pub below_ups : (s : BelowState S) (us : List Up) → fold below_risen s us ≡ below_with s (taken_in s.me us s.entries) (reach s.messages us s.due) s.inner
+  pub below_ups : (s : BelowState S) (us : List Up) → fold below_risen s us ≡ below_with s (taken_in s.me us s.entries) s.inner
   below_ups s [] = refl
   below_ups s (u ∷ us) = below_ups (below_risen s u) us
 
 module _ {S : Type 0} (sent : S → MsgId → S) where
-  pub below_sends : (s : BelowState S) (ms : List MsgId) → fold (below_sent sent) s ms ≡ below_with s s.entries s.due (fold sent s.inner ms)
+  pub below_sends : (s : BelowState S) (ms : List MsgId) → fold (below_sent sent) s ms ≡ below_with s s.entries (fold sent s.inner ms)
   below_sends s [] = refl
   below_sends s (m ∷ ms) = below_sends (below_sent sent s m) ms
 
   -- what it makes of the effects of a call
-  pub below_folded : (s : BelowState S) (g : Gives) → folded (below_sent sent) below_risen s g ≡ below_with s (taken_in s.me g.ups s.entries) (reach s.messages g.ups s.due) (fold sent s.inner g.sends)
-  below_folded s g = ap (λ t. fold below_risen t g.ups) (below_sends s g.sends) ∙ below_ups (below_with s s.entries s.due (fold sent s.inner g.sends)) g.ups
+  pub below_folded : (s : BelowState S) (g : Gives) → folded (below_sent sent) below_risen s g ≡ below_with s (taken_in s.me g.ups s.entries) (fold sent s.inner g.sends)
+  below_folded s g = ap (λ t. fold below_risen t g.ups) (below_sends s g.sends) ∙ below_ups (below_with s s.entries (fold sent s.inner g.sends)) g.ups
 
   module _ (s t : BelowState S) (g : Gives) (h : t ≡ folded (below_sent sent) below_risen s g) where
-    same_as : t ≡ below_with s (taken_in s.me g.ups s.entries) (reach s.messages g.ups s.due) (fold sent s.inner g.sends)
+    same_as : t ≡ below_with s (taken_in s.me g.ups s.entries) (fold sent s.inner g.sends)
     same_as = h ∙ below_folded s g
 
     -- what is borrowed is the same after the call
     pub below_column_name : t.column_name ≡ s.column_name
     below_column_name = ap (λ x. x.column_name) same_as
-
-    pub below_due_name : t.due_name ≡ s.due_name
-    below_due_name = ap (λ x. x.due_name) same_as
 
     pub below_out_name : t.out_name ≡ s.out_name
     below_out_name = ap (λ x. x.out_name) same_as
@@ -76,9 +68,6 @@ module _ {S : Type 0} (sent : S → MsgId → S) where
 
     pub below_entries : t.entries ≡ taken_in s.me g.ups s.entries
     below_entries = ap (λ x. x.entries) same_as
-
-    pub below_due : t.due ≡ reach s.messages g.ups s.due
-    below_due = ap (λ x. x.due) same_as
 
     pub below_inner : t.inner ≡ fold sent s.inner g.sends
     below_inner = ap (λ x. x.inner) same_as

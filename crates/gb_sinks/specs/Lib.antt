@@ -1,6 +1,7 @@
 pub mod Places
 pub mod Sinks
 pub mod Single
+pub mod Focused
 pub mod Last
 pub mod Paired
 pub mod PairedLemmas

@@ -5,10 +5,11 @@ ghost use Rattle.gb_types.specs.declared.message.MsgId.{MsgId};
 ghost use Rattle.gb_types.specs.declared.node.NodeId.{NodeId};
 ghost use Rattle.gb_layer.specs.BebMachine.{beb_gives};
 ghost use Rattle.gb_sinks.specs.Single.{beb_sends_one};
+ghost use Rattle.gb_sinks.specs.Focused.{beb_brings_own};
 
 use crate::call::PlacedCall;
 use crate::index::Index;
-use crate::layer::{Bounded, Layer, Single};
+use crate::layer::{Bounded, Focused, Layer, Single};
 use crate::sink::Sink;
 use gb_layer::Room;
 use gb_types::{NodeId, OutOfMemory};
@@ -75,4 +76,8 @@ impl Bounded for Beb {
 
 impl Single for Beb {
     ghost sends_one = { beb_sends_one };
+}
+
+impl Focused for Beb {
+    ghost brings_own = { beb_brings_own };
 }

@@ -1,7 +1,5 @@
 //! The sink that a relay makes for the layer below.
-ghost use Rattle.std.specs.Prelude.{◌≡◌, ℕ, ◌<◌, Bool, length, fold, vec_len, vec_capacity};
-ghost use Rattle.gb_layer.specs.declared.entries.Entry.{Entry};
-ghost use Rattle.gb_layer.specs.Places.{StandsAmong};
+ghost use Rattle.std.specs.Prelude.{◌≡◌, ℕ, ◌<◌, length, fold, vec_len, vec_capacity};
 ghost use Rattle.gb_layer.specs.Relay.{taken_in};
 ghost use Rattle.gb_sinks.specs.Places.{told, Names, IsNext, MayTake, told_after};
 ghost use Rattle.gb_sinks.specs.Sinks.{sends_alone};
@@ -10,26 +8,23 @@ ghost use Rattle.gb_sinks.specs.Below.{BelowState, below_sent, below_risen, belo
 
 use crate::call::PlacedCall;
 use crate::column::{Held, hold_at};
-use crate::due::widen;
 use crate::index::Index;
 use crate::layer::Layer;
 use crate::sink::Sink;
-use gb_layer::Places;
 use gb_types::NodeId;
 
-/// Passes on each send. Records who holds what comes up, and that something may be due there.
+/// Passes on each send. Records who holds what comes up.
 #[derive(Drop)]
 struct Below<'a, O> {
     me: NodeId,
     column: &'a mut Vec<Held>,
-    due: &'a mut Places,
     out: &'a mut O,
 }
 
 impl<'a, O: Sink> Sink for Below<'a, O> {
     ghost State = { BelowState O.State };
 
-    ghost state = { λ ms b. record { column_name = b.column.ghost_name; due_name = b.due.ghost_name; out_name = b.out.ghost_name; messages = ms; me = b.me; len = vec_len b.column.now; capacity = vec_capacity b.column.now; entries = zipped ms b.column.now.items; due = b.due.now; inner = O.state ms b.out.now } };
+    ghost state = { λ ms b. record { column_name = b.column.ghost_name; out_name = b.out.ghost_name; me = b.me; len = vec_len b.column.now; capacity = vec_capacity b.column.now; entries = zipped ms b.column.now.items; inner = O.state ms b.out.now } };
 
     ghost sent = { below_sent O.sent };
 
@@ -46,19 +41,16 @@ impl<'a, O: Sink> Sink for Below<'a, O> {
     fn up(&mut self, index: &Index, via: NodeId, place: u16) {
         let me = self.me;
         hold_at(self.column, index, me, via, place);
-        widen(self.due, usize::from(place));
     }
 
     ghost splits = { below_splits O.sent O.risen O.takes O.splits };
 }
 
-/// Makes a call of the layer below, and records in the column who holds what comes up. The places of what comes up are added to
-/// those where something may be due.
+/// Makes a call of the layer below, and records in the column who holds what comes up.
 #[inline(always)]
 pub(crate) fn call_lower<L: Layer, O: Sink>(
     lower: &mut L,
     column: &mut Vec<Held>,
-    due: &mut Places,
     index: &Index,
     call: PlacedCall,
     out: &mut O,
@@ -69,19 +61,12 @@ pub(crate) fn call_lower<L: Layer, O: Sink>(
     ensures meaning { L.meaning index.now.list.items lower.new ≡ L.next (L.meaning index.now.list.items lower.old) (told index.now.list.items call) }
     ensures entries { zipped index.now.list.items column.new.items
         ≡ taken_in (L.me (L.meaning index.now.list.items lower.old)) (L.gives (L.meaning index.now.list.items lower.old) (told index.now.list.items call)).ups (zipped index.now.list.items column.old.items) }
-    ensures due { (p : Entry → Bool) → StandsAmong p due.old.from due.old.to (zipped index.now.list.items column.old.items)
-        → StandsAmong p due.new.from due.new.to (zipped index.now.list.items column.new.items) }
     ensures len { vec_len column.new ≡ vec_len column.old }
     ensures capacity { vec_capacity column.new ≡ vec_capacity column.old }
     ensures out { O.state index.now.list.items out.new ≡ fold O.sent (O.state index.now.list.items out.old) (L.gives (L.meaning index.now.list.items lower.old) (told index.now.list.items call)).sends }
     ensures known { (n w : ℕ) → L.knows index.now.list.items lower.old n w → Names (IsNext n w) call → L.knows index.now.list.items lower.new (told_after n call) w }
 {
     let me = lower.me();
-    let mut below = Below {
-        me,
-        column,
-        due,
-        out,
-    };
+    let mut below = Below { me, column, out };
     lower.take(index, call, &mut below);
 }

@@ -1,18 +1,14 @@
 //! The column of a relay: what it remembers of the message at each place.
-ghost use Rattle.std.specs.Prelude.{◌≡◌, ℕ, ◌≤◌, ◌<◌, ◌∷◌, [], true, length, map, filter, fold, set, get_or, slice_get, vec_len, vec_capacity};
-ghost use Rattle.std.specs.declared.option.Option.TheVariants.{Some};
+ghost use Rattle.std.specs.Prelude.{◌≡◌, ◌≤◌, ◌<◌, ◌∷◌, [], length, map, filter, fold, set, get_or, vec_len, vec_capacity};
 ghost use Rattle.gb_types.specs.declared.message.MsgId.{MsgId};
-ghost use Rattle.gb_layer.specs.declared.entries.Entry.{Entry};
-ghost use Rattle.gb_layer.specs.Places.{IsAmong, StandsAmong};
 ghost use Rattle.gb_layer.specs.Relay.{noted, held, is_sent, marked_sent, handed, up_of, due_to_relay, due_to_deliver};
 ghost use Rattle.gb_sinks.specs.Places.{message_at, reached};
 ghost use Rattle.gb_sinks.specs.Column.{nothing_held, also_held, now_sent, now_given, entry_of, zipped, no_entry};
 ghost use Rattle.gb_sinks.specs.Sinks.{ups_alone};
 
-use crate::due::widen;
 use crate::index::Index;
 use crate::sink::Sink;
-use gb_layer::{Places, Rule};
+use gb_layer::Rule;
 use gb_types::{MsgId, NodeId, NodeSet};
 
 /// The nodes that hold a message as far as this node knows, and whether it was sent and handed up from here.
@@ -24,6 +20,7 @@ pub struct Held {
 }
 
 /// Returns what is remembered of a message that was not mentioned before.
+#[inline(always)]
 fn nothing_held() -> Held
     ensures { result ≡ nothing_held }
 {
@@ -57,6 +54,7 @@ fn give_one(one: &mut Held)
 }
 
 /// Returns true if `m`, of which this is remembered, is here and is to be relayed.
+#[inline(always)]
 pub(crate) fn is_due<R: Rule>(one: &Held, m: MsgId, rule: &R, me: NodeId, noticed: &NodeSet) -> bool
     ensures { result ≡ due_to_relay R.rules me noticed.now (entry_of m one.now) }
 {
@@ -64,6 +62,7 @@ pub(crate) fn is_due<R: Rule>(one: &Held, m: MsgId, rule: &R, me: NodeId, notice
 }
 
 /// Returns true if the message `m`, of which this is remembered, is here and is to be handed up.
+#[inline(always)]
 pub(crate) fn is_ready<R: Rule>(
     one: &Held,
     rule: &R,
@@ -77,6 +76,7 @@ pub(crate) fn is_ready<R: Rule>(
 }
 
 /// Adds the message at `place` to the column, unless it is there.
+#[inline(always)]
 pub(crate) fn note(column: &mut Vec<Held>, index: &Index, place: u16)
     requires there { place < length index.now.list.items }
     requires next { place ≤ length column.old.items }
@@ -91,6 +91,7 @@ pub(crate) fn note(column: &mut Vec<Held>, index: &Index, place: u16)
 }
 
 /// Records that this node and `via` hold the message at `place`. A message that is not in the column is not recorded.
+#[inline(always)]
 pub(crate) fn hold_at(column: &mut Vec<Held>, index: &Index, me: NodeId, via: NodeId, place: u16)
     requires { place < length index.now.list.items }
     ensures entries { zipped index.now.list.items column.new.items ≡ map (held me via (message_at index.now.list.items place)) (zipped index.now.list.items column.old.items) }
@@ -125,7 +126,7 @@ pub(crate) fn was_sent(column: &[Held], index: &Index, place: u16) -> bool
 
 /// Hands up the message at `i` if it is due.
 #[inline(always)]
-fn deliver_at<R: Rule, O: Sink>(
+pub(crate) fn deliver_at<R: Rule, O: Sink>(
     column: &mut Vec<Held>,
     index: &Index,
     i: usize,
@@ -154,12 +155,11 @@ fn deliver_at<R: Rule, O: Sink>(
     }
 }
 
-/// Hands up each message that is due, in the order of the places. These are at `places`.
+/// Hands up each message that is due, in the order of the places.
 #[inline(always)]
 pub(crate) fn deliver_all<R: Rule, O: Sink>(
     column: &mut Vec<Held>,
     index: &Index,
-    places: Places,
     rule: &R,
     me: NodeId,
     members: &NodeSet,
@@ -167,7 +167,6 @@ pub(crate) fn deliver_all<R: Rule, O: Sink>(
     out: &mut O,
 )
     requires within { length column.old.items ≤ length index.now.list.items }
-    requires places { StandsAmong (due_to_deliver R.rules me members.now noticed.now) places.from places.to (zipped index.now.list.items column.old.items) }
     requires room { O.takes (O.state index.now.list.items out.old)
         (ups_alone (map up_of (filter (due_to_deliver R.rules me members.now noticed.now) (zipped index.now.list.items column.old.items)))) }
     ensures entries { zipped index.now.list.items column.new.items ≡ map (handed (due_to_deliver R.rules me members.now noticed.now)) (zipped index.now.list.items column.old.items) }
@@ -176,50 +175,8 @@ pub(crate) fn deliver_all<R: Rule, O: Sink>(
     ensures len { vec_len column.new ≡ vec_len column.old }
     ensures capacity { vec_capacity column.new ≡ vec_capacity column.old }
 {
-    for i in places.from..places.to.min(column.len()) {
+    let count = column.len();
+    for i in 0..count {
         deliver_at(column, index, i, rule, me, members, noticed, out);
     }
-}
-
-/// Adds the place `k` to `due` if the message there is to be relayed.
-#[inline(always)]
-fn add_due<R: Rule>(
-    column: &[Held],
-    index: &Index,
-    k: usize,
-    rule: &R,
-    me: NodeId,
-    noticed: &NodeSet,
-    due: &mut Places,
-)
-    requires known { k < length column.now }
-    requires within { length column.now ≤ length index.now.list.items }
-    ensures stay { (i : ℕ) → IsAmong due.old.from due.old.to i → IsAmong due.new.from due.new.to i }
-    ensures added { due_to_relay R.rules me noticed.now (get_or (zipped index.now.list.items column.now) k no_entry) ≡ true → IsAmong due.new.from due.new.to k }
-{
-    let m = index.message(k as u16);
-    if is_due(&column[k], m, rule, me, noticed) {
-        widen(due, k);
-    }
-}
-
-/// Returns a range with those of these places where a message is to be relayed.
-#[inline(always)]
-pub(crate) fn still_due<R: Rule>(
-    column: &[Held],
-    index: &Index,
-    places: Places,
-    rule: &R,
-    me: NodeId,
-    noticed: &NodeSet,
-) -> Places
-    requires within { length column.now ≤ length index.now.list.items }
-    ensures { (k : ℕ) (e : Entry) → slice_get (zipped index.now.list.items column.now) k ≡ Some e → due_to_relay R.rules me noticed.now e ≡ true
-        → IsAmong places.from places.to k → IsAmong result.from result.to k }
-{
-    let mut due = Places { from: 0, to: 0 };
-    for k in places.from..places.to.min(column.len()) {
-        add_due(column, index, k, rule, me, noticed, &mut due);
-    }
-    due
 }

@@ -8,6 +8,7 @@ ghost use Rattle.gb_layer.specs.Machine.{Gives};
 ghost use Rattle.gb_sinks.specs.Places.{told, Names, IsNext, MayTake, told_after};
 ghost use Rattle.gb_sinks.specs.Sinks.{folded};
 ghost use Rattle.gb_sinks.specs.Single.{SendsAtMostOne};
+ghost use Rattle.gb_sinks.specs.Focused.{BringsUpItsOwn};
 
 use crate::call::PlacedCall;
 use crate::index::Index;
@@ -78,4 +79,9 @@ pub trait Bounded: Layer {
 /// A layer of which each call sends at most one message.
 pub trait Single: Layer {
     ghost sends_one: { SendsAtMostOne Self.gives };
+}
+
+/// A layer of which a call about a message brings up that message alone. A relay over such a layer has to look at one place only.
+pub trait Focused: Layer {
+    ghost brings_own: { BringsUpItsOwn Self.gives };
 }

@@ -7,8 +7,9 @@
 //! the order (`order`) hold of them. Only tests run them.
 //!
 //! Read `layer::Layer` first, then `sink::Sink`. `index::Index` has the messages by place. `beb::Beb` is the lowest layer,
-//! `direct::Direct` over it is best-effort broadcast, `relay::Relay` relays by a rule of gb_layer, and `fifo::Fifo` over any layer hands
-//! up each origin's messages in order. `lists::Lists` is the uppermost sink, and `calls::make_call` makes one call of a layer over it.
+//! `direct::Direct` over it is best-effort broadcast. `relay::Relay`, over a layer of which a call about a message brings up that
+//! message alone (`layer::Focused`), relays by a rule of gb_layer. `fifo::Fifo` over any layer hands up each origin's messages in order.
+//! `lists::Lists` is the uppermost sink, and `calls::make_call` makes one call of a layer over it.
 #![tactic(auto)]
 
 pub mod beb;
@@ -17,7 +18,6 @@ pub mod call;
 pub mod calls;
 pub mod column;
 pub mod direct;
-mod due;
 pub mod fifo;
 #[cfg(test)]
 mod fifo_tests;
@@ -38,7 +38,7 @@ pub use call::PlacedCall;
 pub use direct::Direct;
 pub use fifo::Fifo;
 pub use index::Index;
-pub use layer::{Bounded, Layer};
+pub use layer::{Bounded, Focused, Layer};
 pub use lists::{Lists, PlacedUp};
 pub use relay::Relay;
 pub use sink::Sink;

@@ -3,20 +3,22 @@ ghost use Rattle.std.specs.Prelude.{◌≡◌, ℕ, ◌≤◌, ◌<◌, cond, Li
 ghost use Rattle.std.specs.declared.option.Option.TheVariants.{None, Some};
 ghost use Rattle.gb_types.specs.declared.message.MsgId.{MsgId};
 ghost use Rattle.gb_types.specs.declared.node.NodeId.{NodeId};
-ghost use Rattle.gb_layer.specs.Relay.{State, at_start, due_message, relay_if, relay_if_sends, relayed, relayed_sends, begun, begun_sends, given, given_ups, is_repeat, relay_next, relay_gives};
+ghost use Rattle.gb_layer.specs.Relay.{State, at_start, due_message, relay_if, relay_if_sends, relayed, relayed_sends, begun, begun_sends, given, given_ups, relay_next, relay_gives};
 ghost use Rattle.gb_layer.specs.RelayLemmas.{relay_me_stays};
-ghost use Rattle.gb_sinks.specs.declared.call.PlacedCall.TheVariants.{Say, Came};
-ghost use Rattle.gb_sinks.specs.Places.{message_at, told, Names, IsNext, MayTake, told_after, reached};
+ghost use Rattle.gb_layer.specs.declared.call.Call.TheVariants as call;
+ghost use Rattle.gb_sinks.specs.declared.call.PlacedCall.TheVariants.{Say, Came, Notice};
+ghost use Rattle.gb_sinks.specs.Places.{message_at, told, IsNext, MayTake, reached};
 ghost use Rattle.gb_sinks.specs.Sinks.{sends_alone, folded};
 ghost use Rattle.gb_sinks.specs.Column.{zipped};
+ghost use Rattle.gb_sinks.specs.Due.{OnlyDueAt};
 
 use crate::below::call_lower;
 use crate::call::PlacedCall;
-use crate::column::{Held, deliver_all, is_due, mark_sent, note, still_due, was_sent};
+use crate::column::{Held, deliver_all, deliver_at, is_due, mark_sent, note, was_sent};
 use crate::index::Index;
-use crate::layer::{Bounded, Layer, Single};
+use crate::layer::{Bounded, Focused, Layer, Single};
 use crate::sink::Sink;
-use gb_layer::{Places, Room, Rule};
+use gb_layer::{Room, Rule};
 use gb_types::{NodeId, NodeSet, OutOfMemory};
 use std::alloc::Global;
 
@@ -24,9 +26,10 @@ use std::alloc::Global;
 /// its origin. A message is here once the layer below has brought it up; then this node holds it too. What one call releases is in
 /// the order of the places.
 ///
-/// It keeps a column: who holds the message at each place, and whether it was sent and handed up. A call first relays all that is due
-/// and then hands up all that is due. It also keeps where something may be due, and looks at these places alone: those of the messages
-/// that the layer below has just brought up, and after a new notice all.
+/// It keeps a column: who holds the message at each place, and whether it was sent and handed up. Between calls nothing is due at any
+/// place. So a call about a message looks at the place of that message alone: it relays the message and then hands it up, if that is
+/// due. A new notice first relays all that is due, and then hands up all that is due. The layer below owes that a call about a message
+/// brings up that message alone.
 #[derive(Drop)]
 pub struct Relay<L, R> {
     lower: L,
@@ -34,11 +37,9 @@ pub struct Relay<L, R> {
     members: NodeSet,
     noticed: NodeSet,
     column: Vec<Held>,
-    /// The places where something may be due.
-    due: Places,
 }
 
-impl<L: Layer, R: Rule> Relay<L, R> {
+impl<L: Focused, R: Rule> Relay<L, R> {
     ghost use Rattle.gb_sinks.specs.RelayColumn.{state_of, Knows, RelayKnows};
 
     /// Returns a relay over the layer `lower`, by a rule, in a group with these members. It was told no place and has noticed nobody.
@@ -52,7 +53,6 @@ impl<L: Layer, R: Rule> Relay<L, R> {
             members,
             noticed: NodeSet::new(),
             column: Vec::new(alloc),
-            due: Places { from: 0, to: 0 },
         }
     }
 
@@ -72,7 +72,7 @@ impl<L: Layer, R: Rule> Relay<L, R> {
     #[inline(always)]
     fn relay_at<O: Sink>(&mut self, index: &Index, i: usize, out: &mut O)
         requires within { i < length self.old.column.items }
-        requires known { (w : ℕ) × Knows L.meaning L.me R.rules L.knows index.now.list.items self.old w }
+        requires known { (w : ℕ) × Knows L.knows index.now.list.items self.old w }
         requires room { O.takes (O.state index.now.list.items out.old)
             (sends_alone (relay_if_sends L.next L.gives L.me R.rules (state_of L.meaning index.now.list.items self.old) (slice_get (zipped index.now.list.items self.old.column.items) i))) }
         ensures state { state_of L.meaning index.now.list.items self.new
@@ -80,7 +80,7 @@ impl<L: Layer, R: Rule> Relay<L, R> {
         ensures out { O.state index.now.list.items out.new
             ≡ fold O.sent (O.state index.now.list.items out.old) (relay_if_sends L.next L.gives L.me R.rules (state_of L.meaning index.now.list.items self.old) (slice_get (zipped index.now.list.items self.old.column.items) i)) }
         ensures len { length self.new.column.items ≡ length self.old.column.items }
-        ensures known { (w : ℕ) → Knows L.meaning L.me R.rules L.knows index.now.list.items self.old w → Knows L.meaning L.me R.rules L.knows index.now.list.items self.new w }
+        ensures known { (w : ℕ) → Knows L.knows index.now.list.items self.old w → Knows L.knows index.now.list.items self.new w }
     {
         if self.is_due_at(index, i) {
             let place = i as u16;
@@ -88,7 +88,6 @@ impl<L: Layer, R: Rule> Relay<L, R> {
             call_lower(
                 &mut self.lower,
                 &mut self.column,
-                &mut self.due,
                 index,
                 PlacedCall::Say(place),
                 out,
@@ -99,27 +98,26 @@ impl<L: Layer, R: Rule> Relay<L, R> {
     /// Relays each message that is due, in the order of the places.
     #[inline(always)]
     fn relay_all<O: Sink>(&mut self, index: &Index, out: &mut O)
-        requires known { (w : ℕ) × Knows L.meaning L.me R.rules L.knows index.now.list.items self.old w }
+        requires known { (w : ℕ) × Knows L.knows index.now.list.items self.old w }
         requires room { O.takes (O.state index.now.list.items out.old) (sends_alone (relayed_sends L.next L.gives L.me R.rules (state_of L.meaning index.now.list.items self.old))) }
         ensures state { state_of L.meaning index.now.list.items self.new ≡ relayed L.next L.gives L.me R.rules (state_of L.meaning index.now.list.items self.old) }
         ensures out { O.state index.now.list.items out.new
             ≡ fold O.sent (O.state index.now.list.items out.old) (relayed_sends L.next L.gives L.me R.rules (state_of L.meaning index.now.list.items self.old)) }
         ensures len { length self.new.column.items ≡ length self.old.column.items }
-        ensures known { (w : ℕ) → Knows L.meaning L.me R.rules L.knows index.now.list.items self.old w → Knows L.meaning L.me R.rules L.knows index.now.list.items self.new w }
+        ensures known { (w : ℕ) → Knows L.knows index.now.list.items self.old w → Knows L.knows index.now.list.items self.new w }
     {
         let count = self.column.len();
-        for i in self.due.from..count {
-            if i >= self.due.to {
-                return;
-            }
+        for i in 0..count {
             self.relay_at(index, i, out);
         }
     }
 
-    /// Relays each message that is due, and then hands up each message that is due.
+    /// Relays the message at `i` if it is due, and then hands it up if it is due. Nothing is due at another place.
     #[inline(always)]
-    fn finish<O: Sink>(&mut self, index: &Index, out: &mut O)
-        requires known { (w : ℕ) × Knows L.meaning L.me R.rules L.knows index.now.list.items self.old w }
+    fn settle<O: Sink>(&mut self, index: &Index, i: usize, out: &mut O)
+        requires within { i < length self.old.column.items }
+        requires known { (w : ℕ) × Knows L.knows index.now.list.items self.old w }
+        requires alone { OnlyDueAt L.me R.rules i (state_of L.meaning index.now.list.items self.old) }
         requires room { O.takes (O.state index.now.list.items out.old) (record {
           sends = relayed_sends L.next L.gives L.me R.rules (state_of L.meaning index.now.list.items self.old);
           ups = given_ups L.me R.rules (relayed L.next L.gives L.me R.rules (state_of L.meaning index.now.list.items self.old));
@@ -129,22 +127,49 @@ impl<L: Layer, R: Rule> Relay<L, R> {
           sends = relayed_sends L.next L.gives L.me R.rules (state_of L.meaning index.now.list.items self.old);
           ups = given_ups L.me R.rules (relayed L.next L.gives L.me R.rules (state_of L.meaning index.now.list.items self.old));
         }) }
-        ensures known { (n w : ℕ) → RelayKnows L.meaning L.me R.rules L.knows index.now.list.items self.old n w → RelayKnows L.meaning L.me R.rules L.knows index.now.list.items self.new n w }
+        ensures len { length self.new.column.items ≡ length self.old.column.items }
+        ensures known { (w : ℕ) → Knows L.knows index.now.list.items self.old w → Knows L.knows index.now.list.items self.new w }
     {
-        self.relay_all(index, out);
+        self.relay_at(index, i, out);
         let me = self.lower.me();
-        let places = self.due;
-        deliver_all(
+        deliver_at(
             &mut self.column,
             index,
-            places,
+            i,
             &self.rule,
             me,
             &self.members,
             &self.noticed,
             out,
         );
-        self.due = still_due(&self.column, index, places, &self.rule, me, &self.noticed);
+    }
+
+    /// Relays each message that is due, and then hands up each message that is due.
+    fn settle_all<O: Sink>(&mut self, index: &Index, out: &mut O)
+        requires known { (w : ℕ) × Knows L.knows index.now.list.items self.old w }
+        requires room { O.takes (O.state index.now.list.items out.old) (record {
+          sends = relayed_sends L.next L.gives L.me R.rules (state_of L.meaning index.now.list.items self.old);
+          ups = given_ups L.me R.rules (relayed L.next L.gives L.me R.rules (state_of L.meaning index.now.list.items self.old));
+        }) }
+        ensures state { state_of L.meaning index.now.list.items self.new ≡ given L.me R.rules (relayed L.next L.gives L.me R.rules (state_of L.meaning index.now.list.items self.old)) }
+        ensures out { O.state index.now.list.items out.new ≡ folded O.sent O.risen (O.state index.now.list.items out.old) (record {
+          sends = relayed_sends L.next L.gives L.me R.rules (state_of L.meaning index.now.list.items self.old);
+          ups = given_ups L.me R.rules (relayed L.next L.gives L.me R.rules (state_of L.meaning index.now.list.items self.old));
+        }) }
+        ensures len { length self.new.column.items ≡ length self.old.column.items }
+        ensures known { (w : ℕ) → Knows L.knows index.now.list.items self.old w → Knows L.knows index.now.list.items self.new w }
+    {
+        self.relay_all(index, out);
+        let me = self.lower.me();
+        deliver_all(
+            &mut self.column,
+            index,
+            &self.rule,
+            me,
+            &self.members,
+            &self.noticed,
+            out,
+        );
     }
 
     /// Says the message at `place` below, unless it was sent from here.
@@ -156,7 +181,9 @@ impl<L: Layer, R: Rule> Relay<L, R> {
         ensures state { state_of L.meaning index.now.list.items self.new ≡ begun L.next L.gives L.me (state_of L.meaning index.now.list.items self.old) (told index.now.list.items (Say place)) }
         ensures out { O.state index.now.list.items out.new
             ≡ fold O.sent (O.state index.now.list.items out.old) (begun_sends L.next L.gives L.me (state_of L.meaning index.now.list.items self.old) (told index.now.list.items (Say place))) }
-        ensures known { (n w : ℕ) → RelayKnows L.meaning L.me R.rules L.knows index.now.list.items self.old n w → IsNext n w place → RelayKnows L.meaning L.me R.rules L.knows index.now.list.items self.new (reached n place) w }
+        ensures len { length self.new.column.items ≡ reached (length self.old.column.items) place }
+        ensures known { (n w : ℕ) → RelayKnows L.meaning L.me R.rules L.knows index.now.list.items self.old n w → IsNext n w place → Knows L.knows index.now.list.items self.new w }
+        ensures due { (n w : ℕ) → RelayKnows L.meaning L.me R.rules L.knows index.now.list.items self.old n w → OnlyDueAt L.me R.rules place (state_of L.meaning index.now.list.items self.new) }
     {
         note(&mut self.column, index, place);
         if !was_sent(&self.column, index, place) {
@@ -164,7 +191,6 @@ impl<L: Layer, R: Rule> Relay<L, R> {
             call_lower(
                 &mut self.lower,
                 &mut self.column,
-                &mut self.due,
                 index,
                 PlacedCall::Say(place),
                 out,
@@ -181,63 +207,82 @@ impl<L: Layer, R: Rule> Relay<L, R> {
         ensures state { state_of L.meaning index.now.list.items self.new ≡ begun L.next L.gives L.me (state_of L.meaning index.now.list.items self.old) (told index.now.list.items (Came from place)) }
         ensures out { O.state index.now.list.items out.new
             ≡ fold O.sent (O.state index.now.list.items out.old) (begun_sends L.next L.gives L.me (state_of L.meaning index.now.list.items self.old) (told index.now.list.items (Came from place))) }
-        ensures known { (n w : ℕ) → RelayKnows L.meaning L.me R.rules L.knows index.now.list.items self.old n w → IsNext n w place → RelayKnows L.meaning L.me R.rules L.knows index.now.list.items self.new (reached n place) w }
+        ensures len { length self.new.column.items ≡ reached (length self.old.column.items) place }
+        ensures known { (n w : ℕ) → RelayKnows L.meaning L.me R.rules L.knows index.now.list.items self.old n w → IsNext n w place → Knows L.knows index.now.list.items self.new w }
+        ensures due { (n w : ℕ) → RelayKnows L.meaning L.me R.rules L.knows index.now.list.items self.old n w → OnlyDueAt L.me R.rules place (state_of L.meaning index.now.list.items self.new) }
     {
         note(&mut self.column, index, place);
         call_lower(
             &mut self.lower,
             &mut self.column,
-            &mut self.due,
             index,
             PlacedCall::Came(from, place),
             out,
         );
     }
 
-    /// Makes the call itself, before anything is relayed.
-    #[inline(always)]
-    fn begin<O: Sink>(&mut self, index: &Index, call: PlacedCall, out: &mut O)
-        requires there { Names (λ p. p < length index.now.list.items) call }
-        requires known { MayTake (RelayKnows L.meaning L.me R.rules L.knows index.now.list.items self.old) call }
-        requires room { O.takes (O.state index.now.list.items out.old) (sends_alone (begun_sends L.next L.gives L.me (state_of L.meaning index.now.list.items self.old) (told index.now.list.items call))) }
-        ensures state { state_of L.meaning index.now.list.items self.new ≡ begun L.next L.gives L.me (state_of L.meaning index.now.list.items self.old) (told index.now.list.items call) }
-        ensures out { O.state index.now.list.items out.new
-            ≡ fold O.sent (O.state index.now.list.items out.old) (begun_sends L.next L.gives L.me (state_of L.meaning index.now.list.items self.old) (told index.now.list.items call)) }
-        ensures known { (n w : ℕ) → RelayKnows L.meaning L.me R.rules L.knows index.now.list.items self.old n w → Names (IsNext n w) call → RelayKnows L.meaning L.me R.rules L.knows index.now.list.items self.new (told_after n call) w }
+    /// Takes the message at `place`, which is said here.
+    fn take_say<O: Sink>(&mut self, index: &Index, place: u16, out: &mut O)
+        requires there { place < length index.now.list.items }
+        requires known { MayTake (RelayKnows L.meaning L.me R.rules L.knows index.now.list.items self.old) (Say place) }
+        requires room { O.takes (O.state index.now.list.items out.old) (relay_gives L.next L.gives L.me R.rules (state_of L.meaning index.now.list.items self.old) (told index.now.list.items (Say place))) }
+        ensures meaning { state_of L.meaning index.now.list.items self.new ≡ relay_next L.next L.gives L.me R.rules (state_of L.meaning index.now.list.items self.old) (told index.now.list.items (Say place)) }
+        ensures out { O.state index.now.list.items out.new ≡ folded O.sent O.risen (O.state index.now.list.items out.old) (relay_gives L.next L.gives L.me R.rules (state_of L.meaning index.now.list.items self.old) (told index.now.list.items (Say place))) }
+        ensures known { (n w : ℕ) → RelayKnows L.meaning L.me R.rules L.knows index.now.list.items self.old n w → IsNext n w place → RelayKnows L.meaning L.me R.rules L.knows index.now.list.items self.new (reached n place) w }
     {
-        match call {
-            PlacedCall::Say(place) => self.begin_say(index, place, out),
-            PlacedCall::Came(from, place) => self.begin_came(index, from, place, out),
-            PlacedCall::Notice(who) => {
-                self.noticed.insert(who);
-                self.due = Places {
-                    from: 0,
-                    to: self.column.len(),
-                };
-                call_lower(
-                    &mut self.lower,
-                    &mut self.column,
-                    &mut self.due,
-                    index,
-                    PlacedCall::Notice(who),
-                    out,
-                );
-            }
-        }
+        self.begin_say(index, place, out);
+        self.settle(index, usize::from(place), out);
     }
 
-    /// Returns true if the call is the notice of a node that was noticed before.
-    fn repeats(&self, call: PlacedCall) -> bool
-        ensures { (ms : List MsgId) → result ≡ is_repeat (state_of L.meaning ms self.now) (told ms call) }
+    /// Takes the message at `place`, which came from the node `from`.
+    fn take_came<O: Sink>(&mut self, index: &Index, from: NodeId, place: u16, out: &mut O)
+        requires there { place < length index.now.list.items }
+        requires known { MayTake (RelayKnows L.meaning L.me R.rules L.knows index.now.list.items self.old) (Came from place) }
+        requires room { O.takes (O.state index.now.list.items out.old) (relay_gives L.next L.gives L.me R.rules (state_of L.meaning index.now.list.items self.old) (told index.now.list.items (Came from place))) }
+        ensures meaning { state_of L.meaning index.now.list.items self.new ≡ relay_next L.next L.gives L.me R.rules (state_of L.meaning index.now.list.items self.old) (told index.now.list.items (Came from place)) }
+        ensures out { O.state index.now.list.items out.new ≡ folded O.sent O.risen (O.state index.now.list.items out.old) (relay_gives L.next L.gives L.me R.rules (state_of L.meaning index.now.list.items self.old) (told index.now.list.items (Came from place))) }
+        ensures known { (n w : ℕ) → RelayKnows L.meaning L.me R.rules L.knows index.now.list.items self.old n w → IsNext n w place → RelayKnows L.meaning L.me R.rules L.knows index.now.list.items self.new (reached n place) w }
     {
-        match call {
-            PlacedCall::Say(_) | PlacedCall::Came(_, _) => false,
-            PlacedCall::Notice(who) => self.noticed.contains(who),
+        self.begin_came(index, from, place, out);
+        self.settle(index, usize::from(place), out);
+    }
+
+    /// Records that `who` is noticed, and hands the notice to the layer below.
+    fn begin_notice<O: Sink>(&mut self, index: &Index, who: NodeId, out: &mut O)
+        requires known { MayTake (RelayKnows L.meaning L.me R.rules L.knows index.now.list.items self.old) (Notice who) }
+        requires room { O.takes (O.state index.now.list.items out.old) (sends_alone (begun_sends L.next L.gives L.me (state_of L.meaning index.now.list.items self.old) (call.Notice who))) }
+        ensures state { state_of L.meaning index.now.list.items self.new ≡ begun L.next L.gives L.me (state_of L.meaning index.now.list.items self.old) (call.Notice who) }
+        ensures out { O.state index.now.list.items out.new
+            ≡ fold O.sent (O.state index.now.list.items out.old) (begun_sends L.next L.gives L.me (state_of L.meaning index.now.list.items self.old) (call.Notice who)) }
+        ensures len { length self.new.column.items ≡ length self.old.column.items }
+        ensures known { (n w : ℕ) → RelayKnows L.meaning L.me R.rules L.knows index.now.list.items self.old n w → Knows L.knows index.now.list.items self.new w }
+    {
+        self.noticed.insert(who);
+        call_lower(
+            &mut self.lower,
+            &mut self.column,
+            index,
+            PlacedCall::Notice(who),
+            out,
+        );
+    }
+
+    /// Takes a notice. The notice of a node that was noticed before does nothing.
+    fn take_notice<O: Sink>(&mut self, index: &Index, who: NodeId, out: &mut O)
+        requires known { MayTake (RelayKnows L.meaning L.me R.rules L.knows index.now.list.items self.old) (Notice who) }
+        requires room { O.takes (O.state index.now.list.items out.old) (relay_gives L.next L.gives L.me R.rules (state_of L.meaning index.now.list.items self.old) (told index.now.list.items (Notice who))) }
+        ensures meaning { state_of L.meaning index.now.list.items self.new ≡ relay_next L.next L.gives L.me R.rules (state_of L.meaning index.now.list.items self.old) (told index.now.list.items (Notice who)) }
+        ensures out { O.state index.now.list.items out.new ≡ folded O.sent O.risen (O.state index.now.list.items out.old) (relay_gives L.next L.gives L.me R.rules (state_of L.meaning index.now.list.items self.old) (told index.now.list.items (Notice who))) }
+        ensures known { (n w : ℕ) → RelayKnows L.meaning L.me R.rules L.knows index.now.list.items self.old n w → RelayKnows L.meaning L.me R.rules L.knows index.now.list.items self.new n w }
+    {
+        if !self.noticed.contains(who) {
+            self.begin_notice(index, who, out);
+            self.settle_all(index, out);
         }
     }
 }
 
-impl<L: Layer, R: Rule> Layer for Relay<L, R> {
+impl<L: Focused, R: Rule> Layer for Relay<L, R> {
     ghost use Rattle.gb_sinks.specs.RelayColumn.{state_of, RelayKnows, relay_grows};
 
     ghost State = { State L.State };
@@ -263,10 +308,12 @@ impl<L: Layer, R: Rule> Layer for Relay<L, R> {
         Ok(())
     }
 
+    #[inline(always)]
     fn take<O: Sink>(&mut self, index: &Index, call: PlacedCall, out: &mut O) {
-        if !self.repeats(call) {
-            self.begin(index, call, out);
-            self.finish(index, out);
+        match call {
+            PlacedCall::Say(place) => self.take_say(index, place, out),
+            PlacedCall::Came(from, place) => self.take_came(index, from, place, out),
+            PlacedCall::Notice(who) => self.take_notice(index, who, out),
         }
     }
 
@@ -275,7 +322,7 @@ impl<L: Layer, R: Rule> Layer for Relay<L, R> {
     ghost grows = { relay_grows L.meaning L.me R.rules L.knows L.grows };
 }
 
-impl<L: Single, R: Rule> Bounded for Relay<L, R> {
+impl<L: Focused + Single, R: Rule> Bounded for Relay<L, R> {
     fn most(&self) -> Room {
         let places = self.column.len();
         Room {

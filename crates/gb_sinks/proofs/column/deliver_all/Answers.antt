@@ -1,14 +1,12 @@
-use Rattle.std.proofs.Common.{◌≡◌, ℕ, false, slice_get, ◌<◌, ◌+◌, ◌∷◌, ◌++◌, ◌∙◌, [], List, map, filter, fold, take, drop, get_or, length, refl, ap, sym, subst, arith, add-one, drop-cons}
-use Rattle.std.specs.declared.option.Option.TheVariants.{Some}
+use Rattle.std.proofs.Common.{◌≡◌, ℕ, ◌<◌, ◌+◌, ◌∷◌, ◌++◌, ◌∙◌, [], List, map, filter, fold, take, drop, get_or, length, refl, ap, sym, subst, arith, add-one, drop-cons}
+use Rattle.std.proofs.lemmas.List.{drop_all}
 use Rattle.gb_layer.specs.declared.entries.Entry.{Entry}
 use Rattle.gb_layer.specs.Relay.{due_to_deliver, handed, up_of}
-use Rattle.gb_layer.proofs.MappedLemmas.{mapped_more, mapped_at, mapped_below, mapped_from, picked_below}
-use Rattle.gb_layer.proofs.PendingLemmas.{handed_stays}
-use Rattle.gb_layer.proofs.PlacesLemmas.{fails_elsewhere, get_within}
+use Rattle.gb_layer.proofs.MappedLemmas.{mapped_more, mapped_at, mapped_below, mapped_from}
+use Rattle.gb_layer.proofs.PlacesLemmas.{get_within}
 use Rattle.gb_sinks.specs.Sinks.{ups_alone}
 use Rattle.gb_sinks.specs.Column.{zipped, no_entry}
 use Rattle.gb_sinks.proofs.ColumnLemmas.{length-zipped}
-use Rattle.gb_sinks.proofs.DueLemmas.{rest_picked, none_after}
 use Rattle.gb_sinks.proofs.KnowsLemmas.{at_itself}
 use Rattle.gb_sinks.proofs.RoomLemmas.{one_step, first_room, then_room}
 use Rattle.gb_sinks.proofs.column.deliver_all.Goals as goal
@@ -16,19 +14,14 @@ use Rattle.gb_sinks.proofs.column.deliver_all.Goals as goal
 pub loop-i-init : goal.loop-i-init
 loop-i-init g c =
     let ms = c.args.index.now.list.items in
-    let rules = g.R.Rule.rules in
-    let due = due_to_deliver rules c.args.me c.args.members.now c.args.noticed.now in
+    let due = due_to_deliver g.R.Rule.rules c.args.me c.args.members.now c.args.noticed.now in
     let zs = zipped ms c.args.column.now.items in
-    let at = c.args.places in
-    let s = g.O.Sink.state ms c.args.out.now in
-    let none : (k : ℕ) (x : Entry) → k < at.from → slice_get zs k ≡ Some x → due x ≡ false = λ k x lt here. fails_elsewhere due at.from at.to zs c.requires.places k x (λ a. let from = a.0 in omega (arith, from, lt)) here in
-    let rest : filter due (drop at.from zs) ≡ filter due zs = rest_picked due zs at.from (picked_below due zs at.from none) in
     record {
       len = refl;
       capacity = refl;
-      entries = mapped_below (handed due) zs at.from (λ k x lt here. handed_stays rules c.args.me c.args.members.now c.args.noticed.now x (none k x lt here));
-      out = ap (λ (ds : List Entry). fold g.O.Sink.risen s (map up_of ds)) rest;
-      room = subst (λ (ds : List Entry). g.O.Sink.takes s (ups_alone (map up_of ds))) (sym rest) c.requires.room;
+      entries = mapped_below (handed due) zs 0 (λ k x lt here. absurd (omega (arith, lt)));
+      out = refl;
+      room = c.requires.room;
     }
 
 -- the entries from a place on are the one there and those after it
@@ -50,12 +43,11 @@ deliver_at-requires-clause-room g c =
     let test = c.loop-i-test.true in
     let ok = c.args.column.now.ok.0 in
     let ok' = c.loop-i.column.ok.0 in
-    let end = c.min-i-end.ensures in
-    let count = c.len.ensures in
+    let count = c.len-count.ensures in
     let len = was.len in
     let a = length-zipped ms c.args.column.now.items within in
     let b = length-zipped ms c.loop-i.column.items (omega (arith, within, ok, ok', len)) in
-    let parts = split zs es (handed due) i was.entries (omega (arith, test, ok, end, count, a)) (omega (arith, test, ok, ok', end, count, len, b)) in
+    let parts = split zs es (handed due) i was.entries (omega (arith, test, ok, count, a)) (omega (arith, test, ok, ok', count, len, b)) in
     let x = get_or es i no_entry in
     let rest = filter due (drop (i + 1) zs) in
     let room = subst (λ (ds : List Entry). g.O.Sink.takes s (ups_alone (map up_of (filter due ds)))) parts was.room in
@@ -75,13 +67,12 @@ loop-i-preserved g c =
     let test = c.loop-i-test.true in
     let ok = c.args.column.now.ok.0 in
     let ok' = c.loop-i.column.ok.0 in
-    let end = c.min-i-end.ensures in
-    let count = c.len.ensures in
+    let count = c.len-count.ensures in
     let len = was.len in
     let a = length-zipped ms c.args.column.now.items within in
     let b = length-zipped ms c.loop-i.column.items (omega (arith, within, ok, ok', len)) in
-    let lt : i < length zs = omega (arith, test, ok, end, count, a) in
-    let lt' : i < length es = omega (arith, test, ok, ok', end, count, len, b) in
+    let lt : i < length zs = omega (arith, test, ok, count, a) in
+    let lt' : i < length es = omega (arith, test, ok, ok', count, len, b) in
     let parts = split zs es (handed due) i was.entries lt lt' in
     let x = get_or es i no_entry in
     let rest = filter due (drop (i + 1) zs) in
@@ -99,37 +90,24 @@ loop-i-preserved g c =
 pub returns-clause-entries : goal.returns-clause-entries
 returns-clause-entries g c =
     let ms = c.args.index.now.list.items in
-    let rules = g.R.Rule.rules in
-    let due = due_to_deliver rules c.args.me c.args.members.now c.args.noticed.now in
+    let due = due_to_deliver g.R.Rule.rules c.args.me c.args.members.now c.args.noticed.now in
     let zs = zipped ms c.args.column.now.items in
-    let at = c.args.places in
-    let i = c.loop-i.i in
     let test = c.loop-i-test.false in
-    let end = c.min-i-end.ensures in
     let ok = c.args.column.now.ok.0 in
-    let count = c.len.ensures in
+    let count = c.len-count.ensures in
     let a = length-zipped ms c.args.column.now.items c.requires.within in
     c.loop-i.invariant.entries
-    ∙ mapped_from (handed due) zs i
-    (λ k x le here. handed_stays rules c.args.me c.args.members.now c.args.noticed.now x (fails_elsewhere due at.from at.to zs c.requires.places k x
-    (λ b. let to = b.1 in let within = get_within zs k x here in omega (arith, to, le, within, end, count, ok, a, test)) here))
+    ∙ mapped_from (handed due) zs c.loop-i.i (λ k x le here. absurd (let within = get_within zs k x here in omega (arith, le, within, count, ok, a, test)))
 
 pub returns-clause-out : goal.returns-clause-out
 returns-clause-out g c =
     let ms = c.args.index.now.list.items in
     let due = due_to_deliver g.R.Rule.rules c.args.me c.args.members.now c.args.noticed.now in
     let zs = zipped ms c.args.column.now.items in
-    let at = c.args.places in
-    let i = c.loop-i.i in
-    let was = c.loop-i.invariant in
     let s = g.O.Sink.state ms c.loop-i.out in
     let test = c.loop-i-test.false in
-    let end = c.min-i-end.ensures in
     let ok = c.args.column.now.ok.0 in
-    let count = c.len.ensures in
+    let count = c.len-count.ensures in
     let a = length-zipped ms c.args.column.now.items c.requires.within in
-    let none : filter due (drop i zs) ≡ [] =
-    none_after due zs i
-    (λ k x le here. fails_elsewhere due at.from at.to zs c.requires.places k x
-    (λ b. let to = b.1 in let within = get_within zs k x here in omega (arith, to, le, within, end, count, ok, a, test)) here) in
-    sym (ap (λ (ds : List Entry). fold g.O.Sink.risen s (map up_of ds)) none) ∙ was.out
+    let none : filter due (drop c.loop-i.i zs) ≡ [] = ap (filter due) (drop_all c.loop-i.i zs (omega (arith, count, ok, a, test))) in
+    sym (ap (λ (ds : List Entry). fold g.O.Sink.risen s (map up_of ds)) none) ∙ c.loop-i.invariant.out

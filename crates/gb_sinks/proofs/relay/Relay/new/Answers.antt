@@ -1,7 +1,7 @@
 use Rattle.std.proofs.Common.{rules, ◌≡◌, ◌∙◌, ℕ, length, ap, sym, subst, arith}
 use Rattle.gb_layer.specs.Pending.{is_pending}
 use Rattle.gb_sinks.specs.Column.{zipped, zipped_nothing}
-use Rattle.gb_sinks.proofs.DueLemmas.{all_among}
+use Rattle.gb_sinks.proofs.SettleLemmas.{none_there}
 use Rattle.gb_sinks.proofs.relay.Relay.new.Goals as goal
 
 pub returns-clause-meaning : goal.returns-clause-meaning
@@ -13,7 +13,7 @@ returns-clause-known g c = λ ms low.
     let none = c.new-2.ensures.items in
     let len : length c.new-2.result.items ≡ 0 = ap length none in
     let entries : length (zipped ms c.new-2.result.items) ≡ 0 = ap length (ap (zipped ms) none ∙ zipped_nothing ms) in
-    let p = is_pending g.R.Rule.rules (L.me (L.meaning ms c.args.lower)) c.args.members c.new.result in
+    let due = is_pending g.R.Rule.rules (L.me (L.meaning ms c.args.lower)) c.args.members c.new.result in
     record {
       count = len;
       knows = record {
@@ -21,6 +21,6 @@ returns-clause-known g c = λ ms low.
         few = omega (arith, len);
         memory = omega arith;
         lower = subst (λ (n : ℕ). L.knows ms c.args.lower n 0) (sym len) low;
-        due = all_among p 0 (zipped ms c.new-2.result.items) (omega (arith, entries));
       };
+      quiet = none_there due (zipped ms c.new-2.result.items) entries;
     }

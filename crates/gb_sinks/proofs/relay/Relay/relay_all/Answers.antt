@@ -1,10 +1,8 @@
-use Rattle.std.proofs.Common.{◌≡◌, ℕ, ◌+◌, ◌-◌, ◌∙◌, List, fold, slice_get, length, refl, ap, sym, subst, arith, suc}
+use Rattle.std.proofs.Common.{◌≡◌, ℕ, ◌+◌, ◌-◌, ◌∙◌, fold, slice_get, length, refl, ap, sym, subst, arith, suc}
 use Rattle.std.proofs.lemmas.List.Sums.{fold-append}
-use Rattle.gb_types.specs.declared.message.MsgId.{MsgId}
 use Rattle.gb_layer.specs.Relay.{State, relay_if, relay_if_sends, relay_from, relay_from_sends}
 use Rattle.gb_sinks.specs.Sinks.{sends_alone}
 use Rattle.gb_sinks.specs.RelayColumn.{state_of}
-use Rattle.gb_layer.proofs.PendingLemmas.{begins_at, ends_at, none_elsewhere}
 use Rattle.gb_sinks.proofs.ColumnLemmas.{length-zipped}
 use Rattle.gb_sinks.proofs.relay.Relay.relay_all.Goals as goal
 
@@ -17,21 +15,18 @@ loop-i-init g c =
     let r = state_of L.meaning ms self in
     let s = g.O.Sink.state ms c.args.out.now in
     let n = c.len-count.result in
-    let i = self.due.from in
     let k = c.requires.known.1 in
     let ok = self.column.ok.0 in
     let len = c.len-count.ensures in
     let count : n ≡ length self.column.items = omega (arith, ok, len) in
     let all : length r.entries ≡ n = (let a = length-zipped ms self.column.items k.within in omega (arith, a, count)) in
-    let first = begins_at L.next L.gives L.me R n i r
-    (λ k' e lt at. none_elsewhere R (L.me r.lower) r.members r.noticed i self.due.to r.entries k.due k' e (λ a. let from = a.0 in omega (arith, from, lt)) at) in
-    let whole = subst (λ (v : ℕ). g.O.Sink.takes s (sends_alone (relay_from_sends L.next L.gives L.me R v 0 r))) all c.requires.room in
+    let z : n - 0 ≡ n = omega arith in
     record {
       count = count;
       len = refl;
-      state = first.0;
-      out = ap (fold g.O.Sink.sent s) first.1;
-      room = subst (λ (xs : List MsgId). g.O.Sink.takes s (sends_alone xs)) (sym first.1) whole;
+      state = ap (λ (v : ℕ). relay_from L.next L.gives L.me R v 0 r) z;
+      out = ap (λ (v : ℕ). fold g.O.Sink.sent s (relay_from_sends L.next L.gives L.me R v 0 r)) z;
+      room = subst (λ (v : ℕ). g.O.Sink.takes s (sends_alone (relay_from_sends L.next L.gives L.me R v 0 r))) (all ∙ sym z) c.requires.room;
       known = λ w h. h;
     }
 
@@ -90,46 +85,6 @@ loop-i-preserved g c =
           (subst (λ (q : State L.State). g.O.Sink.takes (fold g.O.Sink.sent s here) (sends_alone (sends k (i + 1) q))) (sym kept.state) room);
       known = λ w h. kept.known w (was.known w h);
     }
-
-pub returns-then-i-self-clause-state : goal.returns-then-i-self-clause-state
-returns-then-i-self-clause-state g c =
-    let L = g.L.Layer in
-    let R = g.R.Rule.rules in
-    let from = relay_from L.next L.gives L.me R in
-    let ms = c.args.index.now.list.items in
-    let self = c.args.self.now in
-    let now = c.loop-i.self in
-    let r = state_of L.meaning ms now in
-    let r0 = state_of L.meaning ms self in
-    let i = c.loop-i.i in
-    let past = c.if-i-self.true in
-    let count = c.loop-i.invariant.count in
-    let all : c.len-count.result ≡ length r0.entries = (let a = length-zipped ms self.column.items c.requires.known.1.within in omega (arith, a, count)) in
-    let known = c.loop-i.invariant.known c.requires.known.0 c.requires.known.1 in
-    let last = ends_at L.next L.gives L.me R (c.len-count.result - i) i r
-    (λ k e le at. none_elsewhere R (L.me r.lower) r.members r.noticed now.due.from now.due.to r.entries known.due k e (λ a. let to = a.1 in omega (arith, to, le, past)) at) in
-    sym last.0 ∙ (c.loop-i.invariant.state ∙ ap (λ (n : ℕ). from n 0 r0) all)
-
-pub returns-then-i-self-clause-out : goal.returns-then-i-self-clause-out
-returns-then-i-self-clause-out g c =
-    let L = g.L.Layer in
-    let R = g.R.Rule.rules in
-    let sends = relay_from_sends L.next L.gives L.me R in
-    let ms = c.args.index.now.list.items in
-    let self = c.args.self.now in
-    let now = c.loop-i.self in
-    let r = state_of L.meaning ms now in
-    let r0 = state_of L.meaning ms self in
-    let s = g.O.Sink.state ms c.loop-i.out in
-    let s0 = g.O.Sink.state ms c.args.out.now in
-    let i = c.loop-i.i in
-    let past = c.if-i-self.true in
-    let count = c.loop-i.invariant.count in
-    let all : c.len-count.result ≡ length r0.entries = (let a = length-zipped ms self.column.items c.requires.known.1.within in omega (arith, a, count)) in
-    let known = c.loop-i.invariant.known c.requires.known.0 c.requires.known.1 in
-    let last = ends_at L.next L.gives L.me R (c.len-count.result - i) i r
-    (λ k e le at. none_elsewhere R (L.me r.lower) r.members r.noticed now.due.from now.due.to r.entries known.due k e (λ a. let to = a.1 in omega (arith, to, le, past)) at) in
-    sym (ap (fold g.O.Sink.sent s) last.1) ∙ (c.loop-i.invariant.out ∙ ap (λ (n : ℕ). fold g.O.Sink.sent s0 (sends n 0 r0)) all)
 
 pub returns-clause-state : goal.returns-clause-state
 returns-clause-state g c =

@@ -16,5 +16,5 @@ invariant-loop-i g l =
       state : from (l.count - l.i) l.i (state_of L.meaning ms l.self) ≡ from l.count 0 (state_of L.meaning ms l.fn.self);
       out : fold g.O.Sink.sent (g.O.Sink.state ms l.out) (sends (l.count - l.i) l.i (state_of L.meaning ms l.self)) ≡ fold g.O.Sink.sent (g.O.Sink.state ms l.fn.out) (sends l.count 0 (state_of L.meaning ms l.fn.self));
       room : g.O.Sink.takes (g.O.Sink.state ms l.out) (sends_alone (sends (l.count - l.i) l.i (state_of L.meaning ms l.self)));
-      known : (w : ℕ) → Knows L.meaning L.me g.R.Rule.rules L.knows ms l.fn.self w → Knows L.meaning L.me g.R.Rule.rules L.knows ms l.self w;
+      known : (w : ℕ) → Knows L.knows ms l.fn.self w → Knows L.knows ms l.self w;
     }

@@ -7,12 +7,8 @@ use Rattle.gb_layer.specs.declared.call.Call.TheVariants.{Say}
 use Rattle.gb_layer.specs.Relay.{due_message, relay_any, relay_any_sends, taken_in}
 use Rattle.gb_sinks.specs.Places.{message_at}
 use Rattle.gb_sinks.specs.Sinks.{sends_alone}
-use Rattle.gb_sinks.specs.Column.{zipped}
 use Rattle.gb_sinks.specs.RelayColumn.{state_of}
-use Rattle.gb_sinks.specs.Due.{AreDue}
-use Rattle.gb_layer.specs.Pending.{is_pending}
-use Rattle.gb_layer.proofs.PendingLemmas.{pending_marked}
-use Rattle.gb_sinks.proofs.KnowsLemmas.{knows_kept, reached_known, due_after}
+use Rattle.gb_sinks.proofs.KnowsLemmas.{knows_kept, reached_known}
 use Rattle.gb_sinks.proofs.relay.Relay.relay_at.Goals as goal
 
 pub mark_sent-requires-clause-there : goal.mark_sent-requires-clause-there
@@ -87,15 +83,8 @@ returns-then-is_due_at-clause-known g c = λ w k.
     let ok' = c.call_lower.new.column.ok.0 in
     let a = c.mark_sent.ensures.len in
     let b = c.call_lower.ensures.len in
-    let R = g.R.Rule.rules in
-    let r = state_of L.meaning ms self in
-    let m = message_at ms c.args.i in
-    let marked = pending_marked R (L.me r.lower) self.members self.noticed m self.due.from self.due.to r.entries k.due in
-    let before = subst (λ (es : List Entry). AreDue R (L.me r.lower) self.members self.noticed self.due es) (sym c.mark_sent.ensures.entries) marked in
-    let after = c.call_lower.ensures.due (is_pending R (L.me r.lower) self.members self.noticed) before in
-    knows_kept L.meaning L.me R L.knows ms self _ w k (omega (arith, ok, ok', a, b)) (c.call_lower.ensures.capacity ∙ c.mark_sent.ensures.capacity)
+    knows_kept L.knows ms self _ w k (omega (arith, ok, ok', a, b)) (c.call_lower.ensures.capacity ∙ c.mark_sent.ensures.capacity)
     (subst (λ (v : ℕ). L.knows ms c.call_lower.new.lower v w) (reached_known n c.args.i i) low)
-    (due_after L.next L.me R self.members self.noticed c.call_lower.new.due (zipped ms c.call_lower.new.column.items) r.lower _ (Say m) g.met.L.Layer.me_stays c.call_lower.ensures.meaning after)
 
 pub returns-else-is_due_at-clause-state : goal.returns-else-is_due_at-clause-state
 returns-else-is_due_at-clause-state g c =

@@ -1,4 +1,4 @@
-use Rattle.std.proofs.Common.{◌≡◌, ◌∙◌, List, slice_get, map, filter, fold, length, ap, sym, subst, arith}
+use Rattle.std.proofs.Common.{◌∙◌, List, map, filter, fold, ap, sym, subst, arith}
 use Rattle.std.proofs.lemmas.List.{append-nil}
 use Rattle.gb_types.specs.declared.message.MsgId.{MsgId}
 use Rattle.gb_types.specs.declared.node.NodeId.{NodeId}
@@ -6,14 +6,8 @@ use Rattle.gb_layer.specs.Relay.{State, due_to_deliver, handed, up_of, given, gi
 use Rattle.gb_sinks.specs.Sinks.{ups_alone}
 use Rattle.gb_sinks.specs.Column.{zipped}
 use Rattle.gb_sinks.specs.RelayColumn.{state_of}
-use Rattle.gb_layer.specs.declared.entries.Entry.{Entry}
-use Rattle.gb_layer.specs.Pending.{is_pending}
-use Rattle.gb_layer.proofs.PendingLemmas.{delivers_among, pending_handed}
-use Rattle.gb_sinks.specs.declared.column.Held.{Held}
-use Rattle.gb_sinks.specs.Due.{AreDue}
-use Rattle.gb_sinks.proofs.DueLemmas.{only_relays}
 use Rattle.gb_sinks.proofs.KnowsLemmas.{knows_kept}
-use Rattle.gb_sinks.proofs.relay.Relay.finish.Goals as goal
+use Rattle.gb_sinks.proofs.relay.Relay.settle_all.Goals as goal
 
 pub relay_all-requires-clause-room : goal.relay_all-requires-clause-room
 relay_all-requires-clause-room g c =
@@ -28,26 +22,6 @@ relay_all-requires-clause-room g c =
 
 pub deliver_all-requires-clause-within : goal.deliver_all-requires-clause-within
 deliver_all-requires-clause-within g c = (c.relay_all.ensures.known c.requires.known.0 c.requires.known.1).within
-
-pub deliver_all-requires-clause-places : goal.deliver_all-requires-clause-places
-deliver_all-requires-clause-places g c =
-    let L = g.L.Layer in
-    let R = g.R.Rule.rules in
-    let ms = c.args.index.now.list.items in
-    let next = c.relay_all.new.self in
-    let zs = zipped ms next.column.items in
-    let due = (c.relay_all.ensures.known c.requires.known.0 c.requires.known.1).due in
-    delivers_among R c.me-me.result next.members next.noticed next.due.from next.due.to zs (subst (λ (n : NodeId). AreDue R n next.members next.noticed next.due zs) (sym (c.me-me.ensures ms)) due)
-
-pub still_due-self-requires : goal.still_due-self-requires
-still_due-self-requires g c =
-    let next = c.relay_all.new.self in
-    let within = (c.relay_all.ensures.known c.requires.known.0 c.requires.known.1).within in
-    let ok = next.column.ok.0 in
-    let ok' = c.deliver_all.new.column.ok.0 in
-    let len = c.deliver_all.ensures.len in
-    let items = ap length c.deref.ensures.value in
-    omega (arith, within, ok, ok', len, items)
 
 pub deliver_all-requires-clause-room : goal.deliver_all-requires-clause-room
 deliver_all-requires-clause-room g c =
@@ -86,24 +60,21 @@ returns-clause-out g c =
     ∙ ((λ j. fold g.O.Sink.risen (c.relay_all.ensures.out j) (map up_of (filter (due_to_deliver R (c.me-me.ensures ms j) next.members next.noticed) (zipped ms next.column.items))))
     ∙ ap (λ (q : State L.State). fold g.O.Sink.risen (fold g.O.Sink.sent s xs) (given_ups L.me R q)) c.relay_all.ensures.state)
 
+pub returns-clause-len : goal.returns-clause-len
+returns-clause-len g c =
+    let ok = c.relay_all.new.self.column.ok.0 in
+    let ok' = c.deliver_all.new.column.ok.0 in
+    let len = c.deliver_all.ensures.len in
+    let first = c.relay_all.ensures.len in
+    omega (arith, ok, ok', len, first)
+
 pub returns-clause-known : goal.returns-clause-known
-returns-clause-known g c = λ n w k.
+returns-clause-known g c = λ w k.
     let L = g.L.Layer in
     let ms = c.args.index.now.list.items in
     let next = c.relay_all.new.self in
     let ok = next.column.ok.0 in
     let ok' = c.deliver_all.new.column.ok.0 in
     let len = c.deliver_all.ensures.len in
-    let same : length c.deliver_all.new.column.items ≡ length next.column.items = omega (arith, ok, ok', len) in
-    let known = c.relay_all.ensures.known w k.knows in
-    let R = g.R.Rule.rules in
-    let zs = zipped ms next.column.items in
-    let due = subst (λ (n : NodeId). AreDue R n next.members next.noticed next.due zs) (sym (c.me-me.ensures ms)) known.due in
-    record {
-      count = same ∙ (c.relay_all.ensures.len ∙ k.count);
-      knows = knows_kept L.meaning L.me R L.knows ms next _ w known same c.deliver_all.ensures.capacity known.lower (λ i e at h.
-          let there = ap (λ (es : List Entry). slice_get es i) (sym c.deliver_all.ensures.entries) ∙ at in
-          let now = ap (λ (q : NodeId). is_pending R q next.members next.noticed e) (c.me-me.ensures ms) ∙ h in
-          let among = pending_handed R c.me-me.result next.members next.noticed next.due.from next.due.to zs due i e there now in
-          c.still_due-self.ensures i e (ap (λ (hs : List Held). slice_get (zipped ms hs) i) c.deref.ensures.value ∙ at) (only_relays R c.me-me.result next.members next.noticed zs i e there now) among);
-    }
+    let known = c.relay_all.ensures.known w k in
+    knows_kept L.knows ms next _ w known (omega (arith, ok, ok', len)) c.deliver_all.ensures.capacity known.lower
