@@ -18,7 +18,7 @@ use gb_types::{NodeId, OutOfMemory};
 /// Rodrigues 2011, Algorithm 3.1, Basic Broadcast). It keeps nothing of a message.
 #[derive(Drop)]
 pub struct Beb {
-    me: NodeId,
+    pub me: NodeId,
 }
 
 impl Beb {

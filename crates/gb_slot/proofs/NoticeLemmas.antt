@@ -39,22 +39,6 @@ unfolding calls_of
 notices_lawful me [] others = tt
 notices_lawful me (q ∷ qs) others = (others.0, notices_lawful me qs others.1)
 
--- a stack that was told nothing is so
-pub was_untold : (kind : Kind) (me : NodeId) (members : Nodes) → IsUntoldStack (untold_stack kind me members)
-was_untold kind me members =
-    let base = module_of kind in
-    elim (is_fifo kind) as (λ b. IsUntoldStack (if b then fifo (record { lower = unordered_noticing base me members set.empty; entries = [] }) else unordered (unordered_noticing base me members set.empty))) [
-      | true ↦ record { lower = lower base; entries = refl }
-      | false ↦ lower base
-    ]
-  where
-    lower : (base : BroadcastModule) → IsUntold (unordered_noticing base me members set.empty)
-    lower BestEffort = tt
-    lower Lazy = record { lower = tt; noticed = refl; entries = refl }
-    lower Eager = record { lower = tt; noticed = refl; entries = refl }
-    lower AllAck = record { lower = tt; noticed = refl; entries = refl }
-    lower MajorityAck = record { lower = tt; noticed = refl; entries = refl }
-
 -- Notices alone mention nothing.
 pub none_mentioned : (qs : List NodeId) (m : MsgId) → mentions (calls_of (map Crashed qs)) m ≡ false
 unfolding calls_of

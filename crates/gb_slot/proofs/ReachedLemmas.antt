@@ -41,7 +41,7 @@ use Rattle.gb_slot.specs.SlotState.{SlotState}
 use Rattle.gb_slot.specs.StandsFor.{StandsFor}
 use Rattle.gb_slot.proofs.FewLemmas.{ids, counted_new, once_new, few_among}
 use Rattle.gb_slot.proofs.HistoryLemmas.{fresh_stands, said_stands, came_stands, noticed_stands, took_stands, own_store}
-use Rattle.gb_slot.proofs.NoticeLemmas.{was_untold}
+use Rattle.gb_stack.proofs.StartLemmas.{was_untold}
 
 -- a lawful history keeps what the laws of a layer ask for
 lawful_fair : (me : ℕ) (past : List Call) → IsLawful me past → IsFair me past

@@ -2,13 +2,3 @@ pub mod StartLemmas
 pub mod StartedLemmas
 pub mod StandsLemmas
 pub mod DeliveryLemmas
-pub mod SettledLemmas
-pub mod RecordLemmas
-pub mod NotedLemmas
-pub mod ArrivalLemmas
-pub mod TakenLemmas
-pub mod NoticeLemmas
-pub mod DirectLemmas
-pub mod TakeLemmas
-pub mod PlaceLemmas
-pub mod ColumnLemmas

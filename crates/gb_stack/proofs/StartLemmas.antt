@@ -25,7 +25,7 @@ use Rattle.gb_reliable.specs.Rules.{lazy_rules, eager_rules}
 use Rattle.gb_uniform.specs.Rules.{all_ack_rules, majority_ack_rules}
 use Rattle.gb_fifo.specs.Entries.{taken}
 use Rattle.gb_stack.specs.Kinds.{module_of, is_fifo}
-use Rattle.gb_stack.specs.StackState.{StackState, unordered, fifo, lazy, eager, all_ack, majority_ack, relayed_next, relayed_gives, unordered_next, unordered_gives, unordered_me, unordered_noticing, IsEmpty, IsEmptyStack, stack_next, stack_me, stack_noticing, untold_stack, others_in, new_stack}
+use Rattle.gb_stack.specs.StackState.{StackState, unordered, fifo, lazy, eager, all_ack, majority_ack, relayed_next, relayed_gives, unordered_next, unordered_gives, unordered_me, unordered_noticing, IsUntold, IsUntoldStack, stack_next, stack_me, stack_noticing, untold_stack, others_in, new_stack}
 use Rattle.gb_stack.specs.Stands.{is_other_noticed, HasHeard}
 
 -- a relay that was told notices alone
@@ -179,18 +179,18 @@ untold_me kind me members =
     at AllAck = refl
     at MajorityAck = refl
 
--- a new stack was told of no message
-pub new_empty : (kind : Kind) (me : NodeId) (members noticed : Nodes) → IsEmptyStack (new_stack kind me members noticed)
-new_empty kind me members noticed =
-    let nodes = others_in me members noticed in
-    elim (is_fifo kind) as (λ b. IsEmptyStack (cond b (fifo (record { lower = unordered_noticing (module_of kind) me members nodes; entries = [] })) (unordered (unordered_noticing (module_of kind) me members nodes)))) [
-      | true ↦ record { lower = none (module_of kind); entries = refl }
-      | false ↦ none (module_of kind)
+-- a stack that was told nothing is so
+pub was_untold : (kind : Kind) (me : NodeId) (members : Nodes) → IsUntoldStack (untold_stack kind me members)
+was_untold kind me members =
+    let base = module_of kind in
+    elim (is_fifo kind) as (λ b. IsUntoldStack (if b then fifo (record { lower = unordered_noticing base me members set.empty; entries = [] }) else unordered (unordered_noticing base me members set.empty))) [
+      | true ↦ record { lower = lower base; entries = refl }
+      | false ↦ lower base
     ]
   where
-    none : (base : BroadcastModule) → IsEmpty (unordered_noticing base me members (others_in me members noticed))
-    none BestEffort = tt
-    none Lazy = record { lower = tt; entries = refl }
-    none Eager = record { lower = tt; entries = refl }
-    none AllAck = record { lower = tt; entries = refl }
-    none MajorityAck = record { lower = tt; entries = refl }
+    lower : (base : BroadcastModule) → IsUntold (unordered_noticing base me members set.empty)
+    lower BestEffort = tt
+    lower Lazy = record { lower = tt; noticed = refl; entries = refl }
+    lower Eager = record { lower = tt; noticed = refl; entries = refl }
+    lower AllAck = record { lower = tt; noticed = refl; entries = refl }
+    lower MajorityAck = record { lower = tt; noticed = refl; entries = refl }

@@ -2,12 +2,8 @@ pub mod Kinds
 pub mod StackState
 pub mod Stands
 pub mod LogLaws
-pub mod Settled
-pub mod Taken
-pub mod StackValue
-pub mod StackRoom
-pub mod WholeLemmas
+pub mod Layers
+pub mod Nothing
 pub mod StackLemmas
 pub mod UnorderedLemmas
 pub mod InsideLemmas
-pub mod Records

@@ -1,0 +1,31 @@
+use Rattle.gb_stack.proofs.unordered.UnorderedBounded.most.Goals as goal
+
+pub returns-in-BestEffort-clause-sends : goal.returns-in-BestEffort-clause-sends
+returns-in-BestEffort-clause-sends c = rw c.in-BestEffort.is (λ ms n w call k. c.most.ensures.sends ms n w call k)
+
+pub returns-in-BestEffort-clause-ups : goal.returns-in-BestEffort-clause-ups
+returns-in-BestEffort-clause-ups c = rw c.in-BestEffort.is (λ ms n w call k. c.most.ensures.ups ms n w call k)
+
+pub returns-in-Lazy-clause-sends : goal.returns-in-Lazy-clause-sends
+returns-in-Lazy-clause-sends c = rw c.in-Lazy.is (λ ms n w call k. c.most-in-Lazy.ensures.sends ms n w call k)
+
+pub returns-in-Lazy-clause-ups : goal.returns-in-Lazy-clause-ups
+returns-in-Lazy-clause-ups c = rw c.in-Lazy.is (λ ms n w call k. c.most-in-Lazy.ensures.ups ms n w call k)
+
+pub returns-in-Eager-clause-sends : goal.returns-in-Eager-clause-sends
+returns-in-Eager-clause-sends c = rw c.in-Eager.is (λ ms n w call k. c.most-in-Eager.ensures.sends ms n w call k)
+
+pub returns-in-Eager-clause-ups : goal.returns-in-Eager-clause-ups
+returns-in-Eager-clause-ups c = rw c.in-Eager.is (λ ms n w call k. c.most-in-Eager.ensures.ups ms n w call k)
+
+pub returns-in-AllAck-clause-sends : goal.returns-in-AllAck-clause-sends
+returns-in-AllAck-clause-sends c = rw c.in-AllAck.is (λ ms n w call k. c.most-in-AllAck.ensures.sends ms n w call k)
+
+pub returns-in-AllAck-clause-ups : goal.returns-in-AllAck-clause-ups
+returns-in-AllAck-clause-ups c = rw c.in-AllAck.is (λ ms n w call k. c.most-in-AllAck.ensures.ups ms n w call k)
+
+pub returns-in-MajorityAck-clause-sends : goal.returns-in-MajorityAck-clause-sends
+returns-in-MajorityAck-clause-sends c = rw c.in-MajorityAck.is (λ ms n w call k. c.most-in-MajorityAck.ensures.sends ms n w call k)
+
+pub returns-in-MajorityAck-clause-ups : goal.returns-in-MajorityAck-clause-ups
+returns-in-MajorityAck-clause-ups c = rw c.in-MajorityAck.is (λ ms n w call k. c.most-in-MajorityAck.ensures.ups ms n w call k)

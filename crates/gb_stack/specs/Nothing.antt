@@ -1,0 +1,13 @@
+-- A sink that discards what it takes has room for all.
+use Rattle.gb_types.specs.declared.message.MsgId.{MsgId}
+use Rattle.gb_layer.specs.declared.effects.Up.{Up}
+use Rattle.gb_layer.specs.Machine.{Gives}
+use Rattle.gb_sinks.specs.Sinks.{SplitsRoom}
+
+pub nothing_splits : SplitsRoom {S = Unit {0}} (λ _ _. tt) (λ _ _. tt) (λ _ _. Unit {0})
+nothing_splits = record {
+  first_sends = λ s ms g h. tt;
+  then = λ s ms g h. tt;
+  first_up = λ s u us h. tt;
+  then_ups = λ s u us h. tt;
+}

@@ -1,0 +1,108 @@
+//! The broadcasts without an order, each made of layers.
+ghost use Rattle.std.specs.Prelude.{◌≡◌, ℕ, List};
+ghost use Rattle.gb_types.specs.declared.message.MsgId.{MsgId};
+ghost use Rattle.gb_stack.specs.StackState.{unordered_noticing};
+ghost use Rattle.std.specs.FinSet as set;
+
+use gb_layer::{BroadcastModule, Room};
+use gb_reliable::{Eagerly, Lazily};
+use gb_sinks::{Beb, Bounded, Direct, Index, Layer, PlacedCall, Relay, Sink};
+use gb_types::{NodeId, NodeSet, OutOfMemory};
+use gb_uniform::{AllAcked, MajorityAcked};
+use std::alloc::Global;
+
+/// A broadcast of one of five modules, without an order (Cachin, Guerraoui, Rodrigues 2011, chapter 3).
+#[derive(Drop)]
+pub enum Unordered {
+    BestEffort(Direct<Beb>),
+    Lazy(Relay<Beb, Lazily>),
+    Eager(Relay<Beb, Eagerly>),
+    AllAck(Relay<Beb, AllAcked>),
+    MajorityAck(Relay<Beb, MajorityAcked>),
+}
+
+impl Unordered {
+    /// Returns the broadcast of a module at the node `me`, in a group with these members. It was told no place and has noticed nobody.
+    pub fn new(alloc: Global, base: BroadcastModule, me: NodeId, members: NodeSet) -> Unordered
+        ensures meaning { (ms : List MsgId) → ⟦<Unordered as Layer>⟧.meaning ms result ≡ unordered_noticing base me members set.empty }
+        ensures known { (ms : List MsgId) → ⟦<Unordered as Layer>⟧.knows ms result 0 0 }
+    {
+        let lower = Beb::new(me);
+        match base {
+            BroadcastModule::BestEffort => Unordered::BestEffort(Direct::new(lower)),
+            BroadcastModule::Lazy => Unordered::Lazy(Relay::new(alloc, lower, Lazily, members)),
+            BroadcastModule::Eager => Unordered::Eager(Relay::new(alloc, lower, Eagerly, members)),
+            BroadcastModule::AllAck => {
+                Unordered::AllAck(Relay::new(alloc, lower, AllAcked, members))
+            }
+            BroadcastModule::MajorityAck => {
+                Unordered::MajorityAck(Relay::new(alloc, lower, MajorityAcked, members))
+            }
+        }
+    }
+}
+
+impl Layer for Unordered {
+    ghost use Rattle.gb_stack.specs.StackState.{UnorderedState, unordered_next, unordered_gives, unordered_me};
+    ghost use Rattle.gb_stack.specs.Layers.{unordered_of, UnorderedKnows, unordered_grows};
+    ghost use Rattle.gb_stack.specs.UnorderedLemmas.{unordered_me_stays};
+
+    ghost State = { UnorderedState };
+
+    ghost meaning = { unordered_of };
+
+    ghost me = { unordered_me };
+
+    ghost next = { unordered_next };
+
+    ghost gives = { unordered_gives };
+
+    ghost knows = { UnorderedKnows };
+
+    fn me(&self) -> NodeId {
+        match self {
+            Unordered::BestEffort(layer) => layer.me(),
+            Unordered::Lazy(layer) => layer.me(),
+            Unordered::Eager(layer) => layer.me(),
+            Unordered::AllAck(layer) => layer.me(),
+            Unordered::MajorityAck(layer) => layer.me(),
+        }
+    }
+
+    fn whole(&mut self, places: usize) -> Result<(), OutOfMemory> {
+        match self {
+            Unordered::BestEffort(layer) => layer.whole(places),
+            Unordered::Lazy(layer) => layer.whole(places),
+            Unordered::Eager(layer) => layer.whole(places),
+            Unordered::AllAck(layer) => layer.whole(places),
+            Unordered::MajorityAck(layer) => layer.whole(places),
+        }
+    }
+
+    #[inline(always)]
+    fn take<O: Sink>(&mut self, index: &Index, call: PlacedCall, out: &mut O) {
+        match self {
+            Unordered::BestEffort(layer) => layer.take(index, call, out),
+            Unordered::Lazy(layer) => layer.take(index, call, out),
+            Unordered::Eager(layer) => layer.take(index, call, out),
+            Unordered::AllAck(layer) => layer.take(index, call, out),
+            Unordered::MajorityAck(layer) => layer.take(index, call, out),
+        }
+    }
+
+    ghost me_stays = { unordered_me_stays };
+
+    ghost grows = { unordered_grows };
+}
+
+impl Bounded for Unordered {
+    fn most(&self) -> Room {
+        match self {
+            Unordered::BestEffort(layer) => layer.most(),
+            Unordered::Lazy(layer) => layer.most(),
+            Unordered::Eager(layer) => layer.most(),
+            Unordered::AllAck(layer) => layer.most(),
+            Unordered::MajorityAck(layer) => layer.most(),
+        }
+    }
+}
