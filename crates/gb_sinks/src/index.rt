@@ -83,15 +83,11 @@ impl Index {
         self.list[i] == m
     }
 
-    /// Returns the place of `m`. `None` if `m` is not in the index. If its number is greater than those of all its origin's messages in the
-    /// index, nothing is looked up.
-    pub fn find(&self, m: MsgId) -> Option<u16>
+    /// Returns the place of `m`, which is looked up in the table. `None` if `m` is not in the index.
+    fn look_up(&self, m: MsgId) -> Option<u16>
         ensures { MatchOption result (list_any (λ x. same x m) self.now.list.items ≡ false)
             (λ p. (p < length self.now.list.items) × (message_at self.now.list.items p ≡ m)) }
     {
-        if m.seq > self.last(m.origin) {
-            return None;
-        }
         let places = self.table.places(m, self.list.len());
         for i in places.from..places.to {
             if self.is_at(i, m) {
@@ -99,6 +95,18 @@ impl Index {
             }
         }
         None
+    }
+
+    /// Returns the place of `m`. `None` if `m` is not in the index. If its origin has no message of a number as great, nothing is looked
+    /// up.
+    pub fn find(&self, m: MsgId) -> Option<u16>
+        ensures { MatchOption result (list_any (λ x. same x m) self.now.list.items ≡ false)
+            (λ p. (p < length self.now.list.items) × (message_at self.now.list.items p ≡ m)) }
+    {
+        if m.seq > self.last(m.origin) {
+            return None;
+        }
+        self.look_up(m)
     }
 
     /// Returns the greatest number of the origin's messages in the index, 0 if it has none there.
@@ -118,7 +126,7 @@ impl Index {
             return None;
         }
         let seq = count + 1;
-        self.find(MsgId { origin, seq })
+        self.look_up(MsgId { origin, seq })
     }
 
     /// Adds `m`, which is not in the index, at its end. There is memory for it, and a place. Returns its place.
