@@ -1,10 +1,12 @@
 -- The greatest number of each origin's messages, as messages are added.
 use Rattle.std.proofs.Common.{◌≡◌, ◌≢◌, ℕ, max, ◌+◌, ◌≤◌, ◌<◌, Bool, true, false, cond, ◌&&◌, ◌||◌, nat_eq, List, [], ◌∷◌, ◌++◌, length, set, slice_index, refl, ap, sym, ◌∙◌, arith}
+use Rattle.std.specs.List.{list_any}
 use Rattle.std.proofs.lemmas.Bool.{eqb-true, eq-eqb}
 use Rattle.std.proofs.lemmas.List.{get_or-set_other}
 use Rattle.std.proofs.lemmas.Grind.{get_or-set_at}
 use Rattle.gb_types.specs.declared.node.NodeId.{NodeId}
 use Rattle.gb_types.specs.declared.message.MsgId.{MsgId}
+use Rattle.gb_types.specs.Message.{same}
 use Rattle.gb_fifo.specs.Order.{is_in, numbered}
 use Rattle.gb_sinks.specs.Last.{last_of}
 
@@ -42,13 +44,17 @@ last_more last at v o ms m within e is h =
 below : (a b : ℕ) → a < b → nat_eq a b ≡ false
 below a b lt = elim (nat_eq a b) as (λ v. nat_eq a b ≡ v → v ≡ false) [ true ↦ λ e. absurd (let z = eqb-true a b e in omega (arith, z, lt)) | false ↦ λ _. refl ] refl
 
+-- a message of a greater number than all of its origin is nowhere
+pub none_above : (m : MsgId) (ms : List MsgId) → last_of m.origin.number ms < m.seq → list_any (λ x. same x m) ms ≡ false
+none_above m [] lt = refl
+none_above m (x ∷ ms) lt =
+    let l = last_of m.origin.number ms in
+    let rest = list_any (λ x. same x m) ms in
+    elim (nat_eq x.origin.number m.origin.number) as (λ b. cond b (max x.seq l) l < m.seq → ((b && nat_eq x.seq m.seq) || rest) ≡ false) [
+      | true ↦ λ h. ap (λ b. b || rest) (below x.seq m.seq (omega (arith, h))) ∙ none_above m ms (omega (arith, h))
+      | false ↦ λ h. none_above m ms h
+    ] lt
+
 -- no message of an origin has a greater number
 pub none_beyond : (origin : NodeId) (k : ℕ) (ms : List MsgId) → last_of origin.number ms ≤ k → is_in ms (numbered origin (k + 1)) ≡ false
-none_beyond origin k [] le = refl
-none_beyond origin k (x ∷ ms) le =
-    let l = last_of origin.number ms in
-    let rest = is_in ms (numbered origin (k + 1)) in
-    elim (nat_eq x.origin.number origin.number) as (λ b. cond b (max x.seq l) l ≤ k → ((b && nat_eq x.seq (k + 1)) || rest) ≡ false) [
-      | true ↦ λ h. ap (λ b. b || rest) (below x.seq (k + 1) (omega (arith, h))) ∙ none_beyond origin k ms (omega (arith, h))
-      | false ↦ λ h. none_beyond origin k ms h
-    ] le
+none_beyond origin k ms le = none_above (numbered origin (k + 1)) ms (omega (arith, le))

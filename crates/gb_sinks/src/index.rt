@@ -1,5 +1,5 @@
 //! The index of a group's messages.
-ghost use Rattle.std.specs.Prelude.{◌≡◌, ℕ, ◌+◌, ◌<◌, ◌≤◌, ◌++◌, ◌∷◌, [], true, false, cond, length, slice_index, OnOk, IfOk, OnErr, MatchOption};
+ghost use Rattle.std.specs.Prelude.{◌≡◌, ℕ, ◌+◌, ◌<◌, ◌≤◌, ◌++◌, ◌∷◌, [], true, false, cond, length, slice_index, vec_len, vec_capacity, IsOk, OnOk, IfOk, OnErr, MatchOption};
 ghost use Rattle.std.specs.List.{list_any};
 ghost use Rattle.gb_types.specs.Message.{same};
 ghost use Rattle.gb_types.specs.declared.limits.TheConstants.{NODES};
@@ -51,6 +51,22 @@ impl Index {
         self.table.cover(members, width)
     }
 
+    /// Takes the memory for `places` messages in all. `Err` if memory is refused, or if `places` is above `PLACES`. The messages stay
+    /// as they were.
+    pub fn whole(&mut self, places: usize) -> Result<(), OutOfMemory>
+        ensures items { self.new.list.items ≡ self.old.list.items }
+        ensures memory { OnOk result (places ≤ vec_capacity self.new.list) }
+        ensures few { OnOk result (places ≤ 65536) }
+        ensures succeeds { places ≤ 65536 → places ≤ vec_capacity self.old.list → IsOk result }
+    {
+        if places > PLACES {
+            return Err(OutOfMemory);
+        }
+        let more = places.saturating_sub(self.list.len());
+        self.list.reserve_exact(more)?;
+        Ok(())
+    }
+
     /// Returns the message at a place.
     pub fn message(&self, place: u16) -> MsgId
         requires { place < length self.now.list.items }
@@ -67,8 +83,8 @@ impl Index {
         self.list[i] == m
     }
 
-    /// Returns the place of `m`. `None` if `m` is not in the index.
-    pub fn find(&self, m: MsgId) -> Option<u16>
+    /// Returns the place of `m`, which is looked up in the table. `None` if `m` is not in the index.
+    fn look_up(&self, m: MsgId) -> Option<u16>
         ensures { MatchOption result (list_any (λ x. same x m) self.now.list.items ≡ false)
             (λ p. (p < length self.now.list.items) × (message_at self.now.list.items p ≡ m)) }
     {
@@ -79,6 +95,18 @@ impl Index {
             }
         }
         None
+    }
+
+    /// Returns the place of `m`. `None` if `m` is not in the index. If its origin has no message of a number as great, nothing is looked
+    /// up.
+    pub fn find(&self, m: MsgId) -> Option<u16>
+        ensures { MatchOption result (list_any (λ x. same x m) self.now.list.items ≡ false)
+            (λ p. (p < length self.now.list.items) × (message_at self.now.list.items p ≡ m)) }
+    {
+        if m.seq > self.last(m.origin) {
+            return None;
+        }
+        self.look_up(m)
     }
 
     /// Returns the greatest number of the origin's messages in the index, 0 if it has none there.
@@ -98,7 +126,26 @@ impl Index {
             return None;
         }
         let seq = count + 1;
-        self.find(MsgId { origin, seq })
+        self.look_up(MsgId { origin, seq })
+    }
+
+    /// Adds `m`, which is not in the index, at its end. There is memory for it, and a place. Returns its place.
+    pub fn push(&mut self, m: MsgId) -> u16
+        requires new { list_any (λ x. same x m) self.old.list.items ≡ false }
+        requires memory { vec_len self.old.list < vec_capacity self.old.list }
+        requires few { vec_len self.old.list < 65536 }
+        ensures place { result ≡ length self.old.list.items }
+        ensures items { self.new.list.items ≡ self.old.list.items ++ m ∷ [] }
+        ensures memory { vec_capacity self.new.list ≡ vec_capacity self.old.list }
+    {
+        let place = self.list.len();
+        let known = self.last(m.origin);
+        let last = known.max(m.seq);
+        self.table.note(m, place);
+        self.list.push_reserved(m);
+        let node = m.origin.index();
+        self.last[node] = last;
+        place as u16
     }
 
     /// Adds `m`, which is not in the index, at its end. Returns its place. OutOfMemory also if the index holds `PLACES` messages.
@@ -108,18 +155,11 @@ impl Index {
         ensures added { OnOk result (self.new.list.items ≡ self.old.list.items ++ m ∷ []) }
         ensures kept { OnErr result (self.new.list.items ≡ self.old.list.items) }
     {
-        let place = self.list.len();
-        if place >= PLACES {
+        if self.list.len() >= PLACES {
             return Err(OutOfMemory);
         }
-        let known = self.last(m.origin);
-        let last = known.max(m.seq);
         self.list.reserve(1)?;
-        self.table.note(m, place);
-        self.list.push_reserved(m);
-        let node = m.origin.index();
-        self.last[node] = last;
-        Ok(place as u16)
+        Ok(self.push(m))
     }
 
     /// Returns the place of `m`, which is added at the end if it is not in the index. OutOfMemory also if it is to be added and the

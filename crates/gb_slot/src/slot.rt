@@ -227,7 +227,7 @@ impl Slot {
             origin: self.me,
             seq: number,
         };
-        self.store.push(m, payload);
+        let _ = self.store.push(m, payload);
         take_call(
             &mut self.stack,
             Call::Say(m),
@@ -281,7 +281,7 @@ impl Slot {
             return false;
         }
         let count = self.outgoing.len();
-        self.store.take_in(m, payload, from, known);
+        let _ = self.store.take_in(m, payload, from, known);
         take_call(
             &mut self.stack,
             Call::Came(from, m),

@@ -1,97 +1,59 @@
 //! The messages that a slot knows, with their payloads. Each payload is stored once.
 ghost use Rattle.std.specs.Prelude.{◌≡◌, ℕ, true, false, ◌+◌, ◌^◌, ◌≤◌, ◌<◌, ◌∷◌, ◌++◌, [], List, length, map, drop, Some, slice_get, slice_index, vec_len, vec_capacity, IsOk, IfOk, OnOk, OnErr, MatchOption, IfSome, is_some};
-ghost use Rattle.std.specs.List.{list_any, IsDistinct};
-ghost use Rattle.gb_rules.specs.Messages.{has, payload_in, entry_in, with_new, bytes_of};
 ghost use Rattle.std.specs.FinSet as set;
-ghost use Rattle.gb_layer.specs.Table.{leads};
-ghost use Rattle.gb_slot.specs.Arrivals.{has_arrival, with_message, nodes_of, with_node, with_arrived};
-ghost use Rattle.gb_slot.specs.StoreValue.{total_bytes};
-ghost use Rattle.gb_slot.specs.Kept.{start_of, entries_of, arrivals_of, messages_of, is_of, IsPlaceOf, AreInside, AreCounted};
 ghost use Rattle.gb_types.specs.Entry.{message_of};
-ghost use Rattle.gb_types.specs.Message.{same};
 ghost use Rattle.gb_types.specs.declared.entry.Entry.{Entry as EntryValue};
 ghost use Rattle.gb_types.specs.declared.limits.TheConstants.{BYTES};
+ghost use Rattle.gb_types.specs.declared.message.MsgId.{MsgId as Message};
 ghost use Rattle.gb_types.specs.declared.payload.TheConstants.{INLINE};
+ghost use Rattle.gb_sinks.specs.Places.{message_at, all_differ, reached};
+ghost use Rattle.gb_rules.specs.Messages.{has, payload_in, entry_in, with_new, bytes_of};
+ghost use Rattle.gb_slot.specs.Arrivals.{has_arrival, with_message, nodes_of, with_node, with_arrived};
+ghost use Rattle.gb_slot.specs.StoreValue.{total_bytes};
+ghost use Rattle.gb_slot.specs.Kept.{start_of, entries_of, arrivals_of, AreInside, AreCounted};
 
-use gb_layer::Table;
+use gb_sinks::Index;
 use gb_types::limits::NODES;
 use gb_types::payload::INLINE;
 use gb_types::{Entry, MsgId, NodeId, NodeSet, OutOfMemory, Payload};
 use std::alloc::Global;
 use std::marker::Model;
 
-/// A message, the index at which its payload begins among the bytes, and the nodes from which it was taken in. The payload ends
-/// where the next one begins.
+/// What is kept of a message: the index at which its payload begins among the bytes, and the nodes from which it was taken in. The
+/// payload ends where the next one begins.
 #[derive(Drop)]
 pub struct Kept {
     start: u32,
-    m: MsgId,
     from: NodeSet,
 }
 
 /// Messages in the order in which they were added, with their payloads. All memory is taken when the store is made.
 #[derive(Drop)]
 pub struct Store {
+    /// The messages, by place.
+    index: Index,
+    /// What is kept of each, by the same places.
     kept: Vec<Kept>,
     bytes: Vec<u8>,
-    /// The place of each message.
-    table: Table,
     /// For each origin, the number of payload bytes of its messages.
     seen: [u32; NODES],
 }
 
 impl Model for Store {
-    ghost use Rattle.std.specs.Prelude.{◌≡◌, true, vec_len, vec_capacity};
+    ghost use Rattle.std.specs.Prelude.{◌≡◌, ◌≤◌, vec_len, vec_capacity};
     ghost use Rattle.std.specs.Coded.{codes, coded_ℕ};
     ghost use Rattle.std.specs.Ordering.{nat_cmp};
     ghost use Rattle.std.specs.FinSet as set;
-    ghost use Rattle.std.specs.List.{IsDistinct};
-    ghost use Rattle.gb_types.specs.Message.{same};
-    ghost use Rattle.gb_layer.specs.Table.{leads};
-    ghost use Rattle.gb_slot.specs.Kept.{entries_of, arrivals_of, messages_of, AreInside, AreCounted};
+    ghost use Rattle.gb_slot.specs.Kept.{entries_of, arrivals_of, AreInside, AreCounted};
     ghost use Rattle.gb_slot.specs.StoreValue.{StoreValue, total_bytes};
 
     ghost Value = { StoreValue };
 
     ghost coded = { Prim.hlevel (codes, set.code {R = nat_cmp} coded_ℕ) };
 
-    ghost view = { λ s. record { entries = entries_of s.bytes.items s.kept.items; arrivals = arrivals_of s.kept.items; places = vec_capacity s.kept; bytes = vec_capacity s.bytes } };
+    ghost view = { λ s. record { entries = entries_of s.bytes.items s.index.list.items s.kept.items; arrivals = arrivals_of s.index.list.items s.kept.items; places = vec_capacity s.kept; bytes = vec_capacity s.bytes } };
 
-    ghost invariant = { λ s. AreInside s.bytes.items s.kept.items × AreCounted s.seen (entries_of s.bytes.items s.kept.items) × (leads s.table.width s.table.told.items 0 (messages_of s.kept.items) ≡ true) × (vec_len s.bytes ≡ total_bytes (entries_of s.bytes.items s.kept.items)) × IsDistinct same (messages_of s.kept.items) };
-}
-
-/// Returns true if `kept` is of the message.
-fn is_of(kept: &Kept, m: MsgId) -> bool
-    ensures { result ≡ is_of m kept.now }
-{
-    kept.m == m
-}
-
-/// Returns the place of the message, found by the table. `None` if it is not kept.
-fn find(kept: &[Kept], table: &Table, m: MsgId) -> Option<usize>
-    requires { leads table.now.width table.now.told.items 0 (messages_of kept.now) ≡ true }
-    ensures { IsPlaceOf m kept.now result }
-{
-    let places = table.places(m, kept.len());
-    for i in places.from..places.to {
-        if is_of(&kept[i], m) {
-            return Some(i);
-        }
-    }
-    None
-}
-
-/// Returns the place of the message. The last place is compared first: most often the message was just added.
-fn find_recent(kept: &[Kept], table: &Table, m: MsgId) -> Option<usize>
-    requires leads { leads table.now.width table.now.told.items 0 (messages_of kept.now) ≡ true }
-    requires once { IsDistinct same (messages_of kept.now) }
-    ensures { IsPlaceOf m kept.now result }
-{
-    let count = kept.len();
-    if count != 0 && is_of(&kept[count - 1], m) {
-        return Some(count - 1);
-    }
-    find(kept, table, m)
+    ghost invariant = { λ s. (vec_len s.kept ≡ vec_len s.index.list) × AreInside s.bytes.items s.kept.items × AreCounted s.seen (entries_of s.bytes.items s.index.list.items s.kept.items) × (vec_len s.bytes ≡ total_bytes (entries_of s.bytes.items s.index.list.items s.kept.items)) × (vec_capacity s.kept ≤ vec_capacity s.index.list) × (vec_capacity s.kept ≤ 65536) };
 }
 
 /// Returns the index at which the payload at a place ends.
@@ -109,77 +71,37 @@ fn end_of(kept: &[Kept], bytes: &[u8], place: usize) -> usize
 fn part<'a>(kept: &[Kept], bytes: &'a [u8], place: usize) -> &'a [u8]
     requires inside { AreInside bytes.now kept.now }
     requires within { place < length kept.now }
-    ensures { (m : MsgId) → IsPlaceOf m kept.now (Some place) → result.now ≡ payload_in (entries_of bytes.entry.now kept.now) m }
+    ensures { (ms : List Message) → length ms ≡ length kept.now → all_differ ms ≡ true → result.now ≡ payload_in (entries_of bytes.entry.now ms kept.now) (message_at ms place) }
 {
     &bytes[kept[place].start as usize..end_of(kept, bytes, place)]
-}
-
-/// Returns the payload of a message. It is empty if the message is not kept.
-fn payload_of<'a>(kept: &[Kept], table: &Table, bytes: &'a [u8], m: MsgId) -> &'a [u8]
-    requires inside { AreInside bytes.now kept.now }
-    requires leads { leads table.now.width table.now.told.items 0 (messages_of kept.now) ≡ true }
-    ensures { result.now ≡ payload_in (entries_of bytes.entry.now kept.now) m }
-{
-    match find(kept, table, m) {
-        Some(i) => part(kept, bytes, i),
-        None => &[],
-    }
-}
-
-/// Returns the payload of a message. It is empty if the message is not kept. `place` is compared first.
-#[inline(always)]
-fn payload_at<'a>(kept: &[Kept], table: &Table, bytes: &'a [u8], m: MsgId, place: usize) -> &'a [u8]
-    requires inside { AreInside bytes.now kept.now }
-    requires leads { leads table.now.width table.now.told.items 0 (messages_of kept.now) ≡ true }
-    requires once { IsDistinct same (messages_of kept.now) }
-    ensures { result.now ≡ payload_in (entries_of bytes.entry.now kept.now) m }
-{
-    if place < kept.len() && is_of(&kept[place], m) {
-        return part(kept, bytes, place);
-    }
-    payload_of(kept, table, bytes, m)
-}
-
-/// Returns the place of a message, and true if it was taken in from `from`.
-fn known_from(kept: &[Kept], table: &Table, m: MsgId, from: NodeId) -> (Option<usize>, bool)
-    requires { leads table.now.width table.now.told.items 0 (messages_of kept.now) ≡ true }
-    ensures place { IsPlaceOf m kept.now result.0 }
-    ensures taken { result.1 ≡ set.contains (nodes_of (arrivals_of kept.now) m) from.number }
-{
-    match find(kept, table, m) {
-        Some(i) => (Some(i), kept[i].from.contains(from)),
-        None => (None, false),
-    }
 }
 
 /// Records that the message at this place was taken in from a node.
 fn mark(kept: &mut Vec<Kept>, place: usize, from: NodeId)
     requires { place < vec_len kept.old }
-    ensures arrivals { (m : MsgId) → IsPlaceOf m kept.old.items (Some place) → arrivals_of kept.new.items ≡ with_node from m (arrivals_of kept.old.items) }
-    ensures messages { messages_of kept.new.items ≡ messages_of kept.old.items }
-    ensures entries { (bytes : List ℕ) → entries_of bytes kept.new.items ≡ entries_of bytes kept.old.items }
+    ensures arrivals { (ms : List Message) → length ms ≡ length kept.old.items → all_differ ms ≡ true → arrivals_of ms kept.new.items ≡ with_node from (message_at ms place) (arrivals_of ms kept.old.items) }
+    ensures entries { (bytes : List ℕ) (ms : List Message) → entries_of bytes ms kept.new.items ≡ entries_of bytes ms kept.old.items }
     ensures inside { (bytes : List ℕ) → AreInside bytes kept.old.items → AreInside bytes kept.new.items }
     ensures kept { (vec_len kept.new ≡ vec_len kept.old) × (vec_capacity kept.new ≡ vec_capacity kept.old) }
 {
     kept[place].from.insert(from);
 }
 
-/// Appends a message that was taken in from these nodes, and its payload. There is memory for both.
-fn append(kept: &mut Vec<Kept>, bytes: &mut Vec<u8>, m: MsgId, payload: &[u8], from: NodeSet)
+/// Keeps one more message, which was taken in from these nodes, and appends its payload. There is memory for both.
+fn append(kept: &mut Vec<Kept>, bytes: &mut Vec<u8>, payload: &[u8], from: NodeSet)
     requires place { vec_len kept.old < vec_capacity kept.old }
     requires room { vec_len bytes.old + length payload.now ≤ vec_capacity bytes.old }
     requires start { vec_len bytes.old < 2 ^ 32 }
     requires inside { AreInside bytes.old.items kept.old.items }
-    ensures entries { entries_of bytes.new.items kept.new.items ≡ entries_of bytes.old.items kept.old.items ++ record { origin = m.origin; seq = m.seq; payload = payload.now } ∷ [] }
-    ensures arrivals { arrivals_of kept.new.items ≡ arrivals_of kept.old.items ++ record { m = m; from = from } ∷ [] }
-    ensures messages { messages_of kept.new.items ≡ messages_of kept.old.items ++ m ∷ [] }
+    ensures entries { (ms : List Message) (m : Message) → length ms ≡ length kept.old.items → entries_of bytes.new.items (ms ++ m ∷ []) kept.new.items ≡ entries_of bytes.old.items ms kept.old.items ++ record { origin = m.origin; seq = m.seq; payload = payload.now } ∷ [] }
+    ensures arrivals { (ms : List Message) (m : Message) → length ms ≡ length kept.old.items → arrivals_of (ms ++ m ∷ []) kept.new.items ≡ arrivals_of ms kept.old.items ++ record { m = m; from = from } ∷ [] }
     ensures inside { AreInside bytes.new.items kept.new.items }
     ensures kept { (vec_len kept.new ≡ vec_len kept.old + 1) × (vec_capacity kept.new ≡ vec_capacity kept.old) }
     ensures bytes { (vec_len bytes.new ≡ vec_len bytes.old + length payload.now) × (vec_capacity bytes.old ≤ vec_capacity bytes.new) }
 {
     let start = bytes.len() as u32;
     bytes.extend_from_slice(payload).unwrap();
-    kept.push_reserved(Kept { start, m, from });
+    kept.push_reserved(Kept { start, from });
 }
 
 /// Counts a payload's bytes for its origin.
@@ -210,7 +132,7 @@ fn put_few(m: MsgId, payload: &[u8], entries: &mut Vec<Entry>)
 impl Store {
     /// Returns an empty store of the messages that a group's slot knows. It takes memory for `messages` messages and for `bytes`
     /// payload bytes in all. Messages of these members, numbered from 1 to `width`, are found by a table, others by a search. `Err` if
-    /// there is no memory.
+    /// there is no memory, or if `messages` is above 65,536.
     pub fn new(
         alloc: Global,
         members: &NodeSet,
@@ -221,44 +143,58 @@ impl Store {
         ensures empty { IfOk result (λ s. (s.entries ≡ []) × (s.arrivals ≡ [])) }
         ensures memory { IfOk result (λ s. (messages ≤ s.places) × (bytes ≤ s.bytes)) }
     {
-        let mut table = Table::new(alloc);
-        table.cover(members, width)?;
+        let mut index = Index::new(alloc);
+        index.cover(members, width)?;
+        index.whole(messages)?;
         Ok(Store {
+            index,
             kept: Vec::with_capacity(alloc, messages)?,
             bytes: Vec::with_capacity(alloc, bytes)?,
-            table,
             seen: [0; NODES],
         })
     }
 
-    /// Appends a message that was taken in from these nodes, and a copy of its payload. Takes no memory.
+    /// Returns the messages of this store, each at its place.
+    pub fn index(&self) -> &Index
+        ensures { result.now.list.items ≡ map message_of self.now.entries }
+    {
+        &self.index
+    }
+
+    /// Appends a message that was taken in from these nodes, and a copy of its payload. Takes no memory. Returns its place.
     #[inline(always)]
-    fn add(&mut self, m: MsgId, payload: &[u8], from: NodeSet)
+    fn add(&mut self, m: MsgId, payload: &[u8], from: NodeSet) -> u16
         requires new { has self.old.entries m ≡ false }
         requires place { length self.old.entries < self.old.places }
         requires bytes { total_bytes self.old.entries + length payload.now ≤ self.old.bytes }
         requires limit { bytes_of m.origin.number self.old.entries + length payload.now ≤ BYTES }
+        ensures place { result ≡ length self.old.entries }
         ensures entries { self.new.entries ≡ self.old.entries ++ record { origin = m.origin; seq = m.seq; payload = payload.now } ∷ [] }
         ensures arrivals { self.new.arrivals ≡ self.old.arrivals ++ record { m = m; from = from } ∷ [] }
         ensures memory { (self.old.places ≤ self.new.places) × (self.old.bytes ≤ self.new.bytes) }
     {
-        self.table.note(m, self.kept.len());
-        append(&mut self.kept, &mut self.bytes, m, payload, from);
+        let place = self.index.push(m);
+        append(&mut self.kept, &mut self.bytes, payload, from);
         count_bytes(&mut self.seen, m, payload);
+        place
     }
 
     /// Appends a message that was said here to this store, with a copy of its payload. The message is not in the store yet, and the
-    /// store has capacity for it, so no memory is taken.
-    pub fn push(&mut self, m: MsgId, payload: &[u8])
+    /// store has capacity for it, so no memory is taken. Returns its place, from 0.
+    pub fn push(&mut self, m: MsgId, payload: &[u8]) -> u16
         requires new { has self.old.entries m ≡ false }
         requires place { length self.old.entries < self.old.places }
         requires bytes { total_bytes self.old.entries + length payload.now ≤ self.old.bytes }
         requires limit { bytes_of m.origin.number self.old.entries + length payload.now ≤ BYTES }
+        ensures place { result ≡ length self.old.entries }
+        ensures within { result < length self.new.entries }
+        ensures message { message_at (map message_of self.new.entries) result ≡ m }
+        ensures reached { reached (length self.old.entries) result ≡ length self.new.entries }
         ensures entries { self.new.entries ≡ self.old.entries ++ record { origin = m.origin; seq = m.seq; payload = payload.now } ∷ [] }
         ensures arrivals { self.new.arrivals ≡ with_message self.old.arrivals m }
         ensures memory { (self.old.places ≤ self.new.places) × (self.old.bytes ≤ self.new.bytes) }
     {
-        self.add(m, payload, NodeSet::new());
+        self.add(m, payload, NodeSet::new())
     }
 
     /// Returns the number of payload bytes of all messages of an origin in the store.
@@ -270,44 +206,59 @@ impl Store {
 
     /// Returns two things: the place of message `m` in the store, from 0, or `None` if it is not there; and true if it was taken in
     /// from node `from`.
-    pub fn known_from(&self, m: MsgId, from: NodeId) -> (Option<usize>, bool)
+    pub fn known_from(&self, m: MsgId, from: NodeId) -> (Option<u16>, bool)
         ensures place { IfSome result.0 (λ i. slice_get (map message_of self.now.entries) i ≡ Some m) }
         ensures entries { is_some result.0 ≡ has self.now.entries m }
         ensures arrivals { is_some result.0 ≡ has_arrival self.now.arrivals m }
         ensures taken { result.1 ≡ set.contains (nodes_of self.now.arrivals m) from.number }
     {
-        known_from(&self.kept, &self.table, m, from)
+        match self.index.find(m) {
+            Some(place) => (
+                Some(place),
+                self.kept[usize::from(place)].from.contains(from),
+            ),
+            None => (None, false),
+        }
     }
 
     /// Records that the message at this place was taken in from the node.
-    fn mark(&mut self, place: usize, from: NodeId)
+    fn mark(&mut self, place: u16, from: NodeId)
         requires { place < length self.old.entries }
-        ensures arrivals { (m : MsgId) → slice_get (map message_of self.old.entries) place ≡ Some m → self.new.arrivals ≡ with_node from m self.old.arrivals }
+        ensures arrivals { self.new.arrivals ≡ with_node from (message_at (map message_of self.old.entries) place) self.old.arrivals }
         ensures entries { self.new.entries ≡ self.old.entries }
         ensures memory { (self.new.places ≡ self.old.places) × (self.new.bytes ≡ self.old.bytes) }
     {
-        mark(&mut self.kept, place, from);
+        mark(&mut self.kept, usize::from(place), from);
     }
 
     /// Records in this store that message `m` was taken in from node `from`. `known` is the message's place, or `None` if it is not in
-    /// the store. If it is not, it is appended with a copy of its payload; the store has capacity for it, so no memory is taken.
-    pub fn take_in(&mut self, m: MsgId, payload: &[u8], from: NodeId, known: Option<usize>)
+    /// the store. If it is not, it is appended with a copy of its payload; the store has capacity for it, so no memory is taken. Returns
+    /// the message's place, from 0.
+    pub fn take_in(&mut self, m: MsgId, payload: &[u8], from: NodeId, known: Option<u16>) -> u16
         requires stands { IfSome known (λ i. slice_get (map message_of self.old.entries) i ≡ Some m) }
         requires known { is_some known ≡ has self.old.entries m }
         requires arrived { is_some known ≡ has_arrival self.old.arrivals m }
         requires place { has self.old.entries m ≡ false → length self.old.entries < self.old.places }
         requires bytes { has self.old.entries m ≡ false → total_bytes self.old.entries + length payload.now ≤ self.old.bytes }
         requires limit { has self.old.entries m ≡ false → bytes_of m.origin.number self.old.entries + length payload.now ≤ BYTES }
+        ensures place { result ≤ length self.old.entries }
+        ensures new { has self.old.entries m ≡ false → result ≡ length self.old.entries }
+        ensures within { result < length self.new.entries }
+        ensures message { message_at (map message_of self.new.entries) result ≡ m }
+        ensures reached { reached (length self.old.entries) result ≡ length self.new.entries }
         ensures entries { self.new.entries ≡ with_new self.old.entries (record { origin = m.origin; seq = m.seq; payload = payload.now }) }
         ensures arrivals { self.new.arrivals ≡ with_arrived from m self.old.arrivals }
         ensures memory { (self.old.places ≤ self.new.places) × (self.old.bytes ≤ self.new.bytes) }
     {
         match known {
-            Some(place) => self.mark(place, from),
+            Some(place) => {
+                self.mark(place, from);
+                place
+            }
             None => {
                 let mut nodes = NodeSet::new();
                 nodes.insert(from);
-                self.add(m, payload, nodes);
+                self.add(m, payload, nodes)
             }
         }
     }
@@ -316,7 +267,10 @@ impl Store {
     pub fn place(&self, m: MsgId) -> Option<usize>
         ensures { MatchOption result (has self.now.entries m ≡ false) (λ i. slice_get (map message_of self.now.entries) i ≡ Some m) }
     {
-        find_recent(&self.kept, &self.table, m)
+        match self.index.find(m) {
+            Some(place) => Some(usize::from(place)),
+            None => None,
+        }
     }
 
     /// Returns the message at a place of the store, with its payload. Places count from 0, and `place` is below the number of messages.
@@ -327,7 +281,10 @@ impl Store {
         ensures message { slice_get (map message_of self.now.entries) place ≡ Some result.0 }
         ensures payload { result.1.now ≡ payload_in self.now.entries result.0 }
     {
-        (self.kept[place].m, part(&self.kept, &self.bytes, place))
+        (
+            self.index.message(place as u16),
+            part(&self.kept, &self.bytes, place),
+        )
     }
 
     /// Returns the payload of message `m`. It is empty if the message is not in the store. `place` is where the message is looked for
@@ -336,7 +293,13 @@ impl Store {
     pub fn payload_at(&self, m: MsgId, place: usize) -> &[u8]
         ensures { result.now ≡ payload_in self.now.entries m }
     {
-        payload_at(&self.kept, &self.table, &self.bytes, m, place)
+        if place < self.kept.len() && self.index.message(place as u16) == m {
+            return part(&self.kept, &self.bytes, place);
+        }
+        match self.index.find(m) {
+            Some(found) => part(&self.kept, &self.bytes, usize::from(found)),
+            None => &[],
+        }
     }
 
     /// Appends message `m`, with a copy of its payload, to `entries`, which has capacity for one more. `place` is where the message is

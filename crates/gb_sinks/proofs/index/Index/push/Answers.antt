@@ -6,18 +6,18 @@ use Rattle.gb_sinks.specs.Places.{all_differ}
 use Rattle.gb_sinks.specs.Last.{last_of}
 use Rattle.gb_sinks.proofs.IndexLemmas.{differ_push}
 use Rattle.gb_sinks.proofs.LastLemmas.{last_more}
-use Rattle.gb_sinks.proofs.index.Index.add.Goals as goal
+use Rattle.gb_sinks.proofs.index.Index.push.Goals as goal
 
-pub invariant_of-self-2 : goal.invariant_of-self-2
-invariant_of-self-2 c =
+pub invariant_of-self : goal.invariant_of-self
+invariant_of-self c =
     let i = c.args.self.now in
     let ms = i.list.items in
     let m = c.args.m in
-    let items : c.push_reserved.new.self.items ≡ ms ++ m ∷ [] = c.push_reserved.ensures.items ∙ ap (λ xs. xs ++ m ∷ []) c.reserve.ensures.items in
+    let items : c.push_reserved.new.self.items ≡ ms ++ m ∷ [] = c.push_reserved.ensures.items in
     let len : length c.push_reserved.new.self.items ≡ length ms + 1 = ap length items ∙ length_push ms m in
     let place = c.len-place.ensures in
     let ok = i.list.ok.0 in
-    let less = c.if-place-ge-PLACES.false in
+    let less = c.requires.few in
     let new = c.note.new.self in
     let count : length i.last ≡ NODES = omega arith in
     let bound = c.index-node.ensures.bound in
@@ -25,7 +25,7 @@ invariant_of-self-2 c =
     let last : c.max-last.result ≡ max (last_of m.origin.number ms) m.seq = c.max-last.ensures ∙ ap (λ n. max n m.seq) c.last-known.ensures in
     record {
       few = (let h : length c.push_reserved.new.self.items ≤ 65536 = omega (arith, len, place, ok, less) in h);
-      differ = ap all_differ items ∙ differ_push ms m c.requires i.differ;
-      leads = ap (leads new.width new.told.items 0) items ∙ c.note.ensures ms (omega (arith, place, ok)) c.requires i.leads;
+      differ = ap all_differ items ∙ differ_push ms m c.requires.new i.differ;
+      leads = ap (leads new.width new.told.items 0) items ∙ c.note.ensures ms (omega (arith, place, ok)) c.requires.new i.leads;
       greatest = λ o lt. last_more i.last c.index-node.result c.max-last.result o ms m within c.index-node.ensures.value last (i.greatest o lt) ∙ ap (last_of o) (sym items);
     }
