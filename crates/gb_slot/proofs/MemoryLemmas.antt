@@ -1,8 +1,8 @@
 -- The memory that a slot took when it was made is enough for each call.
 use Rattle.std.proofs.Common.{◌≡◌, ℕ, Bool, false, ◌&&◌, ◌*◌, ◌+◌, ◌≤◌, ◌<◌, List, [], ◌∷◌, ◌++◌, length, refl, sym, ◌∙◌, ap, subst, arith, length-append, vec_len, vec_capacity}
-use Rattle.std.specs.Prelude.{slice_index_or, if◌then◌else◌}
+use Rattle.std.specs.Prelude.{map, slice_index_or, if◌then◌else◌}
 use Rattle.std.specs.FinSet as set
-use Rattle.std.proofs.lemmas.List.{length-map}
+use Rattle.std.proofs.lemmas.List.{length-map, map-append}
 use Rattle.std.proofs.lemmas.List.Sums.{count_by-le-length}
 use Rattle.std.proofs.lemmas.Nat.{mul-le}
 use Rattle.gb_types.specs.Entry.{message_of}
@@ -14,18 +14,16 @@ use Rattle.gb_types.specs.declared.message.MsgId.{MsgId}
 use Rattle.gb_types.specs.declared.node.NodeId.{NodeId}
 use Rattle.gb_types.specs.declared.reply.Reply.TheVariants.{Said}
 use Rattle.gb_layer.specs.Machine.{messages}
-use Rattle.gb_slot.specs.Effects.{AreReady, free_sends, free_ups}
-use Rattle.gb_layer.specs.declared.effects.Effects.{Effects}
 use Rattle.gb_layer.specs.declared.effects.Up.{Up}
-use Rattle.gb_stack.specs.StackRoom.{HasRoom}
-use Rattle.gb_stack.specs.WholeLemmas.{stack_whole_room}
-use Rattle.gb_stack.specs.contracts.stack.StackLayer.TheImpl.{meaning-value}
+use Rattle.gb_sinks.specs.Places.{IsNext}
+use Rattle.gb_stack.specs.declared.stack.Stack.{Stack}
+use Rattle.gb_stack.specs.Layers.{stack_of, StackKnows, stack_grows}
 use Rattle.gb_rules.specs.Messages.{has, with_new, bytes_of}
 use Rattle.gb_rules.specs.LetFall.{is_let_fall}
 use Rattle.gb_rules.specs.declared.usage.Usage.{Usage}
 use Rattle.gb_slot.specs.Arrivals.{nodes_of}
 use Rattle.gb_slot.specs.Reached.{IsReached, limit_of, most_messages, most_bytes}
-use Rattle.gb_slot.specs.Outgoing.{messages_at, AreInStore}
+use Rattle.gb_slot.specs.Outgoing.{messages_at}
 use Rattle.gb_slot.specs.Representation.{state_of, HasMemory}
 use Rattle.gb_slot.specs.Slot.{usage_of, waiting, taken_for, slot_said, falls}
 use Rattle.gb_slot.specs.SlotState.{SlotState}
@@ -38,7 +36,11 @@ use Rattle.gb_slot.proofs.TakenLemmas.{waiting_few}
 
 -- the state of a slot
 abbrev pub held : Inside → SlotState
-held s = state_of (meaning-value.it s.stack) s
+held s = state_of (stack_of (map message_of s.store.entries) s.stack) s
+
+-- a slot has its memory
+abbrev pub Remembers : Inside → Type 0
+Remembers s = HasMemory (StackKnows (map message_of s.store.entries) s.stack) s
 
 -- memory that was enough still is
 pub still_enough : {need had has : ℕ} → need ≤ had → had ≤ has → need ≤ has
@@ -47,35 +49,41 @@ still_enough was more = omega arith
 pub as_much : {need had has : ℕ} → need ≤ had → has ≡ had → need ≤ has
 as_much was same = omega arith
 
--- the broadcast has room for a call, where the lists that are lent are ready
-pub room_for_call : (s : Inside) (now : SlotState) (out : Effects) → held s ≡ now → HasMemory s → AreReady now.spec out → HasRoom s.stack (free_sends out) (free_ups out) 1
-room_for_call s now out view m r =
-    let ready : AreReady s.spec out = subst (λ (v : SlotState). AreReady v.spec out) (sym view) r in
-    stack_whole_room s.stack (limit_of s.spec) (free_sends out) (free_ups out) m.stack ready.sends ready.ups
+-- more messages in the store change neither the state of the broadcast nor what it knows
+pub stack_stays : (stack : Stack) (store more later : List Entry) (n w : ℕ) → later ≡ store ++ more → StackKnows (map message_of store) stack n w
+    → (stack_of (map message_of later) stack ≡ stack_of (map message_of store) stack) × StackKnows (map message_of later) stack n w
+stack_stays stack store more later n w grown knows =
+    let is : map message_of later ≡ map message_of store ++ map message_of more = ap (map message_of) grown ∙ map-append message_of store more in
+    let both = stack_grows (map message_of store) (map message_of more) stack n w knows in
+    subst (λ (ms : List MsgId). (stack_of ms stack ≡ stack_of (map message_of store) stack) × StackKnows ms stack n w) (sym is) both
+
+-- the place of a message that is told was told before, or is the next one
+pub place_is_next : (s : Inside) (next : SlotState) (place : ℕ) → IsReached next → most_messages next.spec ≡ most_messages s.spec → place < length next.store → place ≤ length s.store.entries → IsNext (length s.store.entries) (most_messages s.spec) place
+place_is_next s next place r same within known =
+    let few = few_known (limit_of next.spec) next.store r.counted r.once in
+    (known, omega (arith, few, within, same))
 
 -- what comes up has its places in the log
-pub places_in_log : (s : Inside) (next : SlotState) (ups : List Up) → HasMemory s → IsReached next → most_messages next.spec ≡ most_messages s.spec → next.log ≡ s.log.items ++ messages ups → vec_len s.log + length ups ≤ vec_capacity s.log
+pub places_in_log : (s : Inside) (next : SlotState) (ups : List Up) → Remembers s → IsReached next → most_messages next.spec ≡ most_messages s.spec → next.log ≡ s.log.items ++ messages ups → length s.log.items + length ups ≤ vec_capacity s.log
 places_in_log s next ups m r same is =
     let few = few_logged next r in
     let count : length next.log ≡ length s.log.items + length (messages ups) = ap length is ∙ length-append s.log.items (messages ups) in
     let all : length (messages ups) ≡ length ups = length-map ups (λ u. u.m) in
-    let len = s.log.ok.0 in
     let there = m.log in
-    omega (arith, few, count, all, len, there, same)
+    omega (arith, few, count, all, there, same)
 
 -- and what is sent among those that are put out
-pub places_put_out : (s : Inside) (next : SlotState) (sends : List MsgId) → HasMemory s → IsReached next → AreInStore s.store.entries s.outgoing.items → most_messages next.spec ≡ most_messages s.spec → next.outgoing ≡ messages_at s.store.entries s.outgoing.items ++ sends → vec_len s.outgoing + length sends ≤ vec_capacity s.outgoing
-places_put_out s next sends m r inside same is =
+pub places_put_out : (s : Inside) (next : SlotState) (sends : List MsgId) → Remembers s → IsReached next → most_messages next.spec ≡ most_messages s.spec → next.outgoing ≡ messages_at s.store.entries s.outgoing.items ++ sends → length s.outgoing.items + length sends ≤ vec_capacity s.outgoing
+places_put_out s next sends m r same is =
     let few = few_outgoing next r in
     let put : List MsgId = messages_at s.store.entries s.outgoing.items in
     let count : length next.outgoing ≡ length put + length sends = ap length is ∙ length-append put sends in
-    let all = messages_count s.store.entries s.outgoing.items inside in
-    let len = s.outgoing.ok.0 in
+    let all = messages_count s.store.entries s.outgoing.items in
     let there = m.outgoing in
-    omega (arith, few, count, all, len, there, same)
+    omega (arith, few, count, all, there, same)
 
 -- a message that becomes known has its place in the store
-pub place_in_store : (s : Inside) (next : SlotState) (x : Entry) → HasMemory s → IsReached next → most_messages next.spec ≡ most_messages s.spec → next.store ≡ s.store.entries ++ x ∷ [] → length s.store.entries < s.store.places
+pub place_in_store : (s : Inside) (next : SlotState) (x : Entry) → Remembers s → IsReached next → most_messages next.spec ≡ most_messages s.spec → next.store ≡ s.store.entries ++ x ∷ [] → length s.store.entries < s.store.places
 place_in_store s next x m r same is =
     let few = few_known (limit_of next.spec) next.store r.counted r.once in
     let grown : length next.store ≡ length s.store.entries + 1 = ap length is ∙ length-append s.store.entries (x ∷ []) in
@@ -83,7 +91,7 @@ place_in_store s next x m r same is =
     omega (arith, few, grown, there, same)
 
 -- and so have its bytes
-pub bytes_in_store : (s : Inside) (next : SlotState) (x : Entry) → HasMemory s → IsReached next → most_bytes next.spec ≡ most_bytes s.spec → next.store ≡ s.store.entries ++ x ∷ [] → total_bytes s.store.entries + length x.payload ≤ s.store.bytes
+pub bytes_in_store : (s : Inside) (next : SlotState) (x : Entry) → Remembers s → IsReached next → most_bytes next.spec ≡ most_bytes s.spec → next.store ≡ s.store.entries ++ x ∷ [] → total_bytes s.store.entries + length x.payload ≤ s.store.bytes
 bytes_in_store s next x m r same is =
     let few = few_bytes next.spec next.store r.counted r.bytes in
     let grown : total_bytes next.store ≡ total_bytes s.store.entries + length x.payload = ap total_bytes is ∙ total_pushed s.store.entries x in
@@ -115,22 +123,16 @@ pub all_fit : (members : Nodes) (count each most : ℕ) → count ≡ common mem
 all_fit members count each most is few = let all = few_members members members in mul-le count each NODES most (omega (arith, is, all)) few
 
 -- no more were put out than all nodes may say
-pub few_put : (s : Inside) → IsReached (held s) → AreInStore s.store.entries s.outgoing.items → s.spec.msgs ≤ MESSAGES → length s.outgoing.items ≤ NODES * MESSAGES
-few_put s r inside few =
+pub few_put : (s : Inside) → IsReached (held s) → s.spec.msgs ≤ MESSAGES → length s.outgoing.items ≤ NODES * MESSAGES
+few_put s r few =
     let most = all_fit s.spec.members (common s.spec.members s.spec.members) s.spec.msgs MESSAGES refl few in
-    omega (arith, few_outgoing (held s) r, most, messages_count s.store.entries s.outgoing.items inside)
-
--- nor are more known
-pub few_stored : (s : SlotState) → IsReached s → s.spec.msgs ≤ MESSAGES → length s.store ≤ NODES * MESSAGES
-few_stored s r few =
-    let most = all_fit s.spec.members (common s.spec.members s.spec.members) s.spec.msgs MESSAGES refl few in
-    omega (arith, few_known (limit_of s.spec) s.store r.counted r.once, most)
+    omega (arith, few_outgoing (held s) r, most, messages_count s.store.entries s.outgoing.items)
 
 -- so many that wait were put out, and not taken
-pub few_wait : (s : Inside) (now : SlotState) (b at : ℕ) → held s ≡ now → at ≡ b → IsReached (held s) → AreInStore s.store.entries s.outgoing.items → slice_index_or s.taken at 0 + length (waiting now b) ≤ length s.outgoing.items
-few_wait s now b at view is r inside =
+pub few_wait : (s : Inside) (now : SlotState) (b at : ℕ) → held s ≡ now → at ≡ b → IsReached (held s) → slice_index_or s.taken at 0 + length (waiting now b) ≤ length s.outgoing.items
+few_wait s now b at view is r =
     let few = waiting_few (held s) b (r.stands.taken b) in
     let same : length (waiting now b) ≡ length (waiting (held s) b) = ap (λ (v : SlotState). length (waiting v b)) (sym view) in
     let place : slice_index_or s.taken at 0 ≡ taken_for (held s) b = ap (λ k. slice_index_or s.taken k 0) is in
-    let all = messages_count s.store.entries s.outgoing.items inside in
+    let all = messages_count s.store.entries s.outgoing.items in
     omega (arith, few, same, place, all)

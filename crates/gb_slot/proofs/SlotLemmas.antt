@@ -14,7 +14,7 @@ use Rattle.gb_types.specs.declared.reply.Reply.TheVariants.{Log, Refused}
 use Rattle.gb_rules.specs.Messages.{entry_in, payload_in}
 use Rattle.gb_rules.specs.Replied.{takes_memory}
 use Rattle.gb_rules.specs.Group.{Shown, is_other, fetch_answer}
-use Rattle.gb_slot.specs.Outgoing.{messages_at, AreInStore}
+use Rattle.gb_slot.specs.Outgoing.{messages_at}
 use Rattle.gb_slot.specs.Slot.{shown, waiting, taken_for}
 use Rattle.gb_slot.specs.SlotState.{SlotState}
 use Rattle.gb_slot.proofs.OutgoingLemmas.{message_read, message_none}
@@ -46,11 +46,11 @@ fetched_some s log from most is within few some =
     ap takes_memory (sym (fetched s log from most (map (entry_in s.store) found) is within few refl)) ∙ log_some s found some
 
 -- the message that was put out, from what is read there
-pub put-at : (s : SlotState) (store : List Entry) (outgoing read : List ℕ) (i place : ℕ) (m : MsgId) → AreInStore store outgoing → messages_at store outgoing ≡ s.outgoing → read ≡ outgoing → slice_get read i ≡ Some place → slice_get (map message_of store) place ≡ Some m → slice_get s.outgoing i ≡ Some m
-put-at s store outgoing read i place m inside is same at there = ap (λ ms. slice_get ms i) (sym is) ∙ message_read store outgoing i place m inside (ap (λ ps. slice_get ps i) (sym same) ∙ at) there
+pub put-at : (s : SlotState) (store : List Entry) (outgoing read : List ℕ) (i place : ℕ) (m : MsgId) → messages_at store outgoing ≡ s.outgoing → read ≡ outgoing → slice_get read i ≡ Some place → slice_get (map message_of store) place ≡ Some m → slice_get s.outgoing i ≡ Some m
+put-at s store outgoing read i place m is same at there = ap (λ ms. slice_get ms i) (sym is) ∙ message_read store outgoing i place m (ap (λ ps. slice_get ps i) (sym same) ∙ at) there
 
-pub put-none : (s : SlotState) (store : List Entry) (outgoing read : List ℕ) (i : ℕ) → AreInStore store outgoing → messages_at store outgoing ≡ s.outgoing → read ≡ outgoing → slice_get read i ≡ None → slice_get s.outgoing i ≡ None
-put-none s store outgoing read i inside is same none = ap (λ ms. slice_get ms i) (sym is) ∙ message_none store outgoing i inside (ap (λ ps. slice_get ps i) (sym same) ∙ none)
+pub put-none : (s : SlotState) (store : List Entry) (outgoing read : List ℕ) (i : ℕ) → messages_at store outgoing ≡ s.outgoing → read ≡ outgoing → slice_get read i ≡ None → slice_get s.outgoing i ≡ None
+put-none s store outgoing read i is same none = ap (λ ms. slice_get ms i) (sym is) ∙ message_none store outgoing i (ap (λ ps. slice_get ps i) (sym same) ∙ none)
 
 -- the item that waits first
 pub waiting-at : (s : SlotState) (b i : ℕ) (m : MsgId) (payload : List ℕ) → (is_other s.spec s.me.number b && not (set.contains s.noticed b)) ≡ true → taken_for s b ≡ i → slice_get s.outgoing i ≡ Some m → payload ≡ payload_in s.store m

@@ -7,6 +7,6 @@ pub mod StandsFor
 pub mod Waiting
 pub mod HistoryLaws
 pub mod Reached
-pub mod Effects
+pub mod Outward
 pub mod Outgoing
 pub mod Representation

@@ -1,15 +1,19 @@
 -- The messages that were put out, by their places in the store.
-use Rattle.std.specs.Prelude.{ℕ, ◌<◌, List, [], ◌∷◌, ◌++◌, length, map, take, drop}
-use Rattle.std.specs.List.{AllByRecursion}
+use Rattle.std.specs.Prelude.{ℕ, ◌≡◌, Bool, true, List, length, map, nat_lt}
+use Rattle.std.specs.List.{list_all}
 use Rattle.gb_types.specs.Entry.{message_of}
 use Rattle.gb_types.specs.declared.entry.Entry.{Entry}
 use Rattle.gb_types.specs.declared.message.MsgId.{MsgId}
+use Rattle.gb_sinks.specs.Places.{message_at}
 
 -- the messages at these places of the store, in order
 abbrev pub messages_at : List Entry → List ℕ → List MsgId
-messages_at store [] = []
-messages_at store (place ∷ places) = take 1 (drop place (map message_of store)) ++ messages_at store places
+messages_at store = map (message_at (map message_of store))
+
+-- each place is below the count
+abbrev pub are_below : ℕ → List ℕ → Bool
+are_below count = list_all (λ place. nat_lt place count)
 
 -- each of them is a place of the store
 abbrev pub AreInStore : List Entry → List ℕ → Type 0
-AreInStore store places = AllByRecursion (λ place. place < length store) places
+AreInStore store places = are_below (length store) places ≡ true

@@ -1,9 +1,8 @@
 -- How a slot keeps its state, in memory that was taken when it was made.
-use Rattle.std.specs.Prelude.{◌≤◌, vec_capacity}
-use Rattle.gb_stack.specs.StackRoom.{IsWhole}
+use Rattle.std.specs.Prelude.{ℕ, ◌≤◌, length, vec_capacity}
 use Rattle.gb_stack.specs.StackState.{StackState}
 use Rattle.gb_slot.specs.Outgoing.{messages_at}
-use Rattle.gb_slot.specs.Reached.{limit_of, most_messages, most_bytes}
+use Rattle.gb_slot.specs.Reached.{most_messages, most_bytes}
 use Rattle.gb_slot.specs.SlotState.{SlotState}
 use Rattle.gb_slot.specs.declared.slot.Slot.TheInside.{Inside}
 
@@ -24,9 +23,9 @@ state_of stack s = record {
   acknowledged = s.acknowledged.items;
 }
 
--- the group's own memory is enough for all later calls
-pub record HasMemory (s : Inside) : Type 0 where
-  pub stack : IsWhole s.stack (limit_of s.spec)
+-- The group's own memory is enough for all later calls. The broadcast was told the messages that are known, and has memory for the most that are said.
+pub record HasMemory (knows : ℕ → ℕ → Type 0) (s : Inside) : Type 0 where
+  pub stack : knows (length s.store.entries) (most_messages s.spec)
   pub log : most_messages s.spec ≤ vec_capacity s.log
   pub outgoing : most_messages s.spec ≤ vec_capacity s.outgoing
   pub places : most_messages s.spec ≤ s.store.places

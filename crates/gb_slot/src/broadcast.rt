@@ -1,89 +1,95 @@
 //! A call of a group's broadcast, and where its effects go.
-ghost use Rattle.std.specs.Prelude.{◌≡◌, ◌≤◌, ◌+◌, ◌++◌, ◌^◌, true, [], length, map, Some, slice_get, vec_len, vec_capacity};
-ghost use Rattle.std.specs.List.{AllByRecursion};
-ghost use Rattle.gb_layer.specs.Limit.{Limit, is_within};
+ghost use Rattle.std.specs.Prelude.{◌≡◌, ℕ, ◌≤◌, ◌<◌, ◌+◌, ◌++◌, length, map, vec_len, vec_capacity};
 ghost use Rattle.gb_layer.specs.Machine.{messages};
 ghost use Rattle.gb_types.specs.Entry.{message_of};
-ghost use Rattle.gb_rules.specs.Messages.{has};
-ghost use Rattle.gb_slot.specs.Effects.{AreEmptied, IsEmpty, free_sends, free_ups};
-ghost use Rattle.gb_slot.specs.Outgoing.{messages_at, AreInStore};
-ghost use Rattle.gb_stack.specs.StackRoom.{HasRoom, IsWhole};
+ghost use Rattle.gb_sinks.specs.Places.{told, Names, IsNext, MayTake, told_after, message_at};
+ghost use Rattle.gb_slot.specs.Outgoing.{messages_at, are_below, AreInStore};
+ghost use Rattle.gb_slot.specs.Outward.{OutwardState, outward_sent, outward_risen, outward_takes, outward_splits};
 ghost use Rattle.gb_stack.specs.StackState.{stack_next, stack_gives};
 
 use crate::store::Store;
-use gb_layer::{Call, Effects, Layer, Up};
+use gb_sinks::{Index, Layer, PlacedCall, Sink};
 use gb_stack::Stack;
-use gb_types::MsgId;
+use gb_types::{MsgId, NodeId};
 
-/// Returns the place of a message of the store, from 0. The store has at most 65,536 messages.
-fn placed(store: &Store, m: MsgId) -> u16
-    requires known { has store.now.entries m ≡ true }
-    requires few { length store.now.entries ≤ 2 ^ 16 }
-    ensures { slice_get (map message_of store.now.entries) result ≡ Some m }
-{
-    store.place(m).unwrap() as u16
+/// The sink of a slot. A message that is sent is put out by its place. A message that comes up is appended to the log.
+#[derive(Drop)]
+struct Outward<'a> {
+    log: &'a mut Vec<MsgId>,
+    outgoing: &'a mut Vec<u16>,
 }
 
-/// Puts the messages that were sent, all of which are in the store, behind the outgoing messages, which have the capacity. Of each its
-/// place in the store is kept.
-#[inline(always)]
-fn put_out(outgoing: &mut Vec<u16>, sends: &mut Vec<MsgId>, store: &Store)
-    requires room { vec_len outgoing.old + vec_len sends.old ≤ vec_capacity outgoing.old }
-    requires known { AllByRecursion (λ m. has store.now.entries m ≡ true) sends.old.items }
-    requires few { length store.now.entries ≤ 2 ^ 16 }
-    ensures outgoing { messages_at store.now.entries outgoing.new.items ≡ messages_at store.now.entries outgoing.old.items ++ sends.old.items }
-    ensures places { AreInStore store.now.entries outgoing.old.items → AreInStore store.now.entries outgoing.new.items }
-    ensures sends { sends.new.items ≡ [] }
-    ensures memory { vec_capacity outgoing.new ≡ vec_capacity outgoing.old }
-    ensures sends_memory { vec_capacity sends.new ≡ vec_capacity sends.old }
-{
-    for m in &*sends {
-        outgoing.push_reserved(placed(store, *m));
+impl<'a> Sink for Outward<'a> {
+    ghost State = { OutwardState };
+
+    ghost state = { λ ms o. record { log_name = o.log.ghost_name; log = o.log.now.items; log_capacity = vec_capacity o.log.now; outgoing_name = o.outgoing.ghost_name; outgoing = map (message_at ms) o.outgoing.now.items; outgoing_capacity = vec_capacity o.outgoing.now; inside = are_below (length ms) o.outgoing.now.items } };
+
+    ghost sent = { outward_sent };
+
+    ghost risen = { outward_risen };
+
+    ghost takes = { outward_takes };
+
+    #[inline(always)]
+    fn send(&mut self, _index: &Index, place: u16) {
+        self.outgoing.push_reserved(place);
     }
-    sends.clear();
-}
 
-/// Moves the messages that came up to the end of the log, which has the capacity.
-fn write_log(log: &mut Vec<MsgId>, ups: &mut Vec<Up>)
-    requires { vec_len log.old + vec_len ups.old ≤ vec_capacity log.old }
-    ensures log { log.new.items ≡ log.old.items ++ messages ups.old.items }
-    ensures ups { ups.new.items ≡ [] }
-    ensures memory { vec_capacity log.new ≡ vec_capacity log.old }
-    ensures ups_memory { vec_capacity ups.new ≡ vec_capacity ups.old }
-{
-    for up in &*ups {
-        log.push_reserved(up.m);
+    #[inline(always)]
+    fn up(&mut self, index: &Index, _via: NodeId, place: u16) {
+        self.log.push_reserved(index.message(place));
     }
-    ups.clear();
+
+    ghost splits = { outward_splits };
 }
 
-/// Makes a call of the broadcast. Each message that it sends is in the store and is put out, by its place there. Each message that
-/// comes up is appended to the log. Takes no memory.
+/// Makes a call of a layer over an index of messages. Each message that it sends is put out, by its place. Each message that comes up is
+/// appended to the log. Takes no memory.
 #[inline(always)]
-pub(crate) fn take_call(
-    stack: &mut Stack,
-    call: Call,
-    effects: &mut Effects,
+fn take_placed<L: Layer>(
+    layer: &mut L,
+    index: &Index,
+    call: PlacedCall,
     log: &mut Vec<MsgId>,
     outgoing: &mut Vec<u16>,
-    store: &Store,
 )
-    requires empty { IsEmpty effects.old }
-    requires room { HasRoom stack.old (free_sends effects.old) (free_ups effects.old) 1 }
-    requires log { vec_len log.old + length (stack_gives (⟦<Stack as Layer>⟧.meaning stack.old) call).ups ≤ vec_capacity log.old }
-    requires outgoing { vec_len outgoing.old + length (stack_gives (⟦<Stack as Layer>⟧.meaning stack.old) call).sends ≤ vec_capacity outgoing.old }
-    requires known { AllByRecursion (λ m. has store.now.entries m ≡ true) (stack_gives (⟦<Stack as Layer>⟧.meaning stack.old) call).sends }
-    requires few { length store.now.entries ≤ 2 ^ 16 }
-    ensures meaning { ⟦<Stack as Layer>⟧.meaning stack.new ≡ stack_next (⟦<Stack as Layer>⟧.meaning stack.old) call }
-    ensures log { log.new.items ≡ log.old.items ++ messages (stack_gives (⟦<Stack as Layer>⟧.meaning stack.old) call).ups }
-    ensures outgoing { messages_at store.now.entries outgoing.new.items ≡ messages_at store.now.entries outgoing.old.items ++ (stack_gives (⟦<Stack as Layer>⟧.meaning stack.old) call).sends }
-    ensures places { AreInStore store.now.entries outgoing.old.items → AreInStore store.now.entries outgoing.new.items }
-    ensures whole { (l : Limit) → IsWhole stack.old l → is_within l call ≡ true → IsWhole stack.new l }
-    ensures effects { AreEmptied effects.old effects.new }
+    requires there { Names (λ p. p < length index.now.list.items) call }
+    requires known { MayTake (L.knows index.now.list.items layer.old) call }
+    requires log { length log.old.items + length (L.gives (L.meaning index.now.list.items layer.old) (told index.now.list.items call)).ups ≤ vec_capacity log.old }
+    requires outgoing { length outgoing.old.items + length (L.gives (L.meaning index.now.list.items layer.old) (told index.now.list.items call)).sends ≤ vec_capacity outgoing.old }
+    ensures meaning { L.meaning index.now.list.items layer.new ≡ L.next (L.meaning index.now.list.items layer.old) (told index.now.list.items call) }
+    ensures known { (n w : ℕ) → L.knows index.now.list.items layer.old n w → Names (IsNext n w) call → L.knows index.now.list.items layer.new (told_after n call) w }
+    ensures log { log.new.items ≡ log.old.items ++ messages (L.gives (L.meaning index.now.list.items layer.old) (told index.now.list.items call)).ups }
+    ensures outgoing { map (message_at index.now.list.items) outgoing.new.items ≡ map (message_at index.now.list.items) outgoing.old.items ++ (L.gives (L.meaning index.now.list.items layer.old) (told index.now.list.items call)).sends }
+    ensures places { are_below (length index.now.list.items) outgoing.new.items ≡ are_below (length index.now.list.items) outgoing.old.items }
     ensures log_memory { vec_capacity log.new ≡ vec_capacity log.old }
     ensures outgoing_memory { vec_capacity outgoing.new ≡ vec_capacity outgoing.old }
 {
-    stack.take(call, &mut effects.sends, &mut effects.ups);
-    put_out(outgoing, &mut effects.sends, store);
-    write_log(log, &mut effects.ups);
+    let mut out = Outward { log, outgoing };
+    layer.take(index, call, &mut out);
+}
+
+/// Makes a call of the broadcast over the messages of a store. Each message that it sends is put out, by its place in the store. Each
+/// message that comes up is appended to the log. Takes no memory.
+#[inline(always)]
+pub(crate) fn take_call(
+    stack: &mut Stack,
+    store: &Store,
+    call: PlacedCall,
+    log: &mut Vec<MsgId>,
+    outgoing: &mut Vec<u16>,
+)
+    requires there { Names (λ p. p < length (map message_of store.now.entries)) call }
+    requires known { MayTake (⟦<Stack as Layer>⟧.knows (map message_of store.now.entries) stack.old) call }
+    requires log { length log.old.items + length (stack_gives (⟦<Stack as Layer>⟧.meaning (map message_of store.now.entries) stack.old) (told (map message_of store.now.entries) call)).ups ≤ vec_capacity log.old }
+    requires outgoing { length outgoing.old.items + length (stack_gives (⟦<Stack as Layer>⟧.meaning (map message_of store.now.entries) stack.old) (told (map message_of store.now.entries) call)).sends ≤ vec_capacity outgoing.old }
+    ensures meaning { ⟦<Stack as Layer>⟧.meaning (map message_of store.now.entries) stack.new ≡ stack_next (⟦<Stack as Layer>⟧.meaning (map message_of store.now.entries) stack.old) (told (map message_of store.now.entries) call) }
+    ensures known { (n w : ℕ) → ⟦<Stack as Layer>⟧.knows (map message_of store.now.entries) stack.old n w → Names (IsNext n w) call → ⟦<Stack as Layer>⟧.knows (map message_of store.now.entries) stack.new (told_after n call) w }
+    ensures log { log.new.items ≡ log.old.items ++ messages (stack_gives (⟦<Stack as Layer>⟧.meaning (map message_of store.now.entries) stack.old) (told (map message_of store.now.entries) call)).ups }
+    ensures outgoing { messages_at store.now.entries outgoing.new.items ≡ messages_at store.now.entries outgoing.old.items ++ (stack_gives (⟦<Stack as Layer>⟧.meaning (map message_of store.now.entries) stack.old) (told (map message_of store.now.entries) call)).sends }
+    ensures places { AreInStore store.now.entries outgoing.old.items → AreInStore store.now.entries outgoing.new.items }
+    ensures log_memory { vec_capacity log.new ≡ vec_capacity log.old }
+    ensures outgoing_memory { vec_capacity outgoing.new ≡ vec_capacity outgoing.old }
+{
+    take_placed(stack, store.index(), call, log, outgoing);
 }

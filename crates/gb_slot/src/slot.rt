@@ -2,24 +2,22 @@
 ghost use Rattle.std.specs.Prelude.{◌≡◌, ℕ, false, ◌≢◌, OnErr, OnOk, ◌≤◌, ◌<◌, ◌&&◌, not, List, [], ◌∷◌, Some, take, drop, map, slice_get, length, IfOk, MatchOption, true, IsOkUnless, vec_capacity};
 ghost use Rattle.std.specs.FinSet as set;
 ghost use Rattle.gb_types.specs.declared.entry.Entry.{Entry as EntryValue};
-ghost use Rattle.gb_stack.specs.StackRoom.{IsWhole};
 ghost use Rattle.gb_stack.specs.StackState.{new_stack};
 ghost use Rattle.gb_stack.specs.Stands.{HasStarted};
 ghost use Rattle.gb_rules.specs.Messages.{entry_in};
 ghost use Rattle.gb_rules.specs.Replied.{done_reply, said_reply, log_reply, IsReply};
 ghost use Rattle.gb_rules.specs.Group.{is_gone, is_member, is_other, open_answer, shut_answer, is_too_long, say_answer, fetch_answer};
-ghost use Rattle.gb_slot.specs.Effects.{AreEmptied, AreReady, IsEmpty};
-ghost use Rattle.gb_slot.specs.Reached.{limit_of, most_bytes, most_messages};
+ghost use Rattle.gb_slot.specs.Reached.{most_bytes, most_messages};
 ghost use Rattle.gb_slot.specs.Slot.{IsWithinLimits};
 ghost use Rattle.gb_slot.specs.Waiting.{WaitsForEach};
 
 use crate::broadcast::take_call;
 use crate::store::Store;
 use crate::window::{acknowledge, add_said, count_unfinished};
-use gb_layer::{Call, Effects, Layer};
 use gb_rules::group::{check_open, check_say, check_shut, is_bad_place};
 use gb_rules::let_fall::is_let_fall;
 use gb_rules::{Phase, Usage};
+use gb_sinks::{Layer, PlacedCall};
 use gb_stack::Stack;
 use gb_types::limits::NODES;
 use gb_types::{Entry, MsgId, NodeId, NodeSet, OutOfMemory, Refusal, Spec, Version};
@@ -27,7 +25,7 @@ use std::alloc::Global;
 use std::marker::Model;
 
 /// One group at one node. Contracts see its state. All its memory is taken when it is made: only `new`, and `fetch`, which builds
-/// its answer, take memory. The caller lends the lists for the effects of a call of the broadcast; each call empties them.
+/// its answer, take memory.
 pub struct Slot {
     alloc: Global,
     spec: Spec,
@@ -70,7 +68,8 @@ impl Drop for Slot {
 }
 
 impl Model for Slot {
-    ghost use Rattle.std.specs.Prelude.{◌≡◌, false, ◌≤◌, vec_len};
+    ghost use Rattle.std.specs.Prelude.{◌≡◌, false, ◌≤◌, map, vec_len};
+    ghost use Rattle.gb_types.specs.Entry.{message_of};
     ghost use Rattle.gb_types.specs.declared.limits.TheConstants.{MESSAGES, BYTES};
     ghost use Rattle.gb_slot.specs.Slot.{unfinished_of};
     ghost use Rattle.gb_slot.specs.SlotState.{SlotState};
@@ -87,9 +86,9 @@ impl Model for Slot {
     ghost use Rattle.gb_slot.specs.Representation.{state_of, HasMemory};
     ghost use Rattle.gb_slot.specs.Outgoing.{AreInStore};
 
-    ghost view = { λ s. state_of (⟦<Stack as Layer>⟧.meaning s.stack) s };
+    ghost view = { λ s. state_of (⟦<Stack as Layer>⟧.meaning (map message_of s.store.entries) s.stack) s };
 
-    ghost invariant = { λ s. ((is_gone s.phase ≡ false) × (s.said ≤ s.spec.msgs)) × (s.spec.msgs ≤ MESSAGES) × (s.spec.bytes ≤ BYTES) × (vec_len s.acknowledged ≡ s.said) × (s.unfinished ≡ unfinished_of s.spec s.noticed s.acknowledged.items) × IsReached (state_of (⟦<Stack as Layer>⟧.meaning s.stack) s) × HasMemory s × AreInStore s.store.entries s.outgoing.items };
+    ghost invariant = { λ s. ((is_gone s.phase ≡ false) × (s.said ≤ s.spec.msgs)) × (s.spec.msgs ≤ MESSAGES) × (s.spec.bytes ≤ BYTES) × (vec_len s.acknowledged ≡ s.said) × (s.unfinished ≡ unfinished_of s.spec s.noticed s.acknowledged.items) × IsReached (state_of (⟦<Stack as Layer>⟧.meaning (map message_of s.store.entries) s.stack) s) × HasMemory (⟦<Stack as Layer>⟧.knows (map message_of s.store.entries) s.stack) s × AreInStore s.store.entries s.outgoing.items };
 }
 
 impl Slot {
@@ -101,27 +100,21 @@ impl Slot {
     ///
     /// All memory that the group by itself ever needs is taken here. Let n be the number of members; each says at most `msgs` messages
     /// with at most `bytes` payload bytes in all. The group takes n * `bytes` payload bytes. It takes 18 bytes for each of the n *
-    /// `msgs` messages: 12 in the store, 4 in the log, 2 in the queue to the other members; and 12 more if the broadcast relays or
-    /// keeps the order of each origin. It takes 4 bytes for each of `msgs` own messages, for the nodes that have it for good. It takes
-    /// one table, by which messages are found, of 2 * `msgs` bytes for each node up to the last member; and a second one if the
-    /// broadcast relays or keeps an order. The lists of `effects` get capacity for a call of the group, 4 and 6 bytes for each message.
-    /// All groups to which these lists are lent share it.
+    /// `msgs` messages: 12 in the store, 4 in the log, 2 in the queue to the other members; 8 more if the broadcast relays, and 1 more
+    /// if it keeps the order of each origin. It takes 4 bytes for each of `msgs` own messages, for the nodes that have it for good. It
+    /// takes one table, by which messages are found, of 2 * `msgs` bytes for each node up to the last member.
     pub fn new(
         alloc: Global,
         spec: Spec,
         me: NodeId,
         noticed: &NodeSet,
-        effects: &mut Effects,
     ) -> Result<Slot, Refusal>
         requires limits { IsWithinLimits spec }
         requires member { is_member spec me.number ≡ true }
-        requires empty { IsEmpty effects.old }
         ensures ok { IfOk result (λ s. s ≡ new_slot spec me noticed.now) }
         ensures err { IsOkUnless result Refusal.OutOfMemory }
-        ensures ready { OnOk result (AreReady spec effects.new) }
-        ensures effects { AreEmptied effects.old effects.new }
     {
-        match Slot::make(alloc, spec, me, noticed, effects) {
+        match Slot::make(alloc, spec, me, noticed) {
             Ok(slot) => Ok(slot),
             Err(_) => Err(Refusal::OutOfMemory),
         }
@@ -133,18 +126,14 @@ impl Slot {
         spec: Spec,
         me: NodeId,
         noticed: &NodeSet,
-        effects: &mut Effects,
     ) -> Result<Slot, OutOfMemory>
         requires limits { IsWithinLimits spec }
         requires member { is_member spec me.number ≡ true }
-        requires empty { IsEmpty effects.old }
         ensures ok { IfOk result (λ s. s ≡ new_slot spec me noticed.now) }
-        ensures ready { OnOk result (AreReady spec effects.new) }
-        ensures effects { AreEmptied effects.old effects.new }
     {
         // The proof reads that only nodes were noticed.
         let _ = noticed.nodes();
-        let stack = broadcast(alloc, &spec, me, noticed, effects)?;
+        let stack = broadcast(alloc, &spec, me, noticed)?;
         let (store, log, outgoing, acknowledged) = memory(alloc, &spec)?;
         Ok(Slot {
             alloc,
@@ -202,22 +191,18 @@ impl Slot {
     /// message is queued at once to be sent to each other member that is not held for crashed (noticed as crashed). `Err`, in this
     /// order: `WrongPhase` if the group is not open, `BadPlace` if `seq` is not the next number, `TooLong` if the payload is longer
     /// than the version allows, `Budget` if all messages are said, `Bytes` if the payload bytes would exceed their limit, `Window` if
-    /// too many own messages are unfinished. After an `Err` nothing has changed. Takes no memory: the lists of `effects` are used and
-    /// emptied.
+    /// too many own messages are unfinished. After an `Err` nothing has changed. Takes no memory.
     pub fn say(
         &mut self,
         version: Version,
         seq: Option<u32>,
         payload: &[u8],
-        effects: &mut Effects,
     ) -> Result<u16, Refusal>
-        requires ready { AreReady self.old.spec effects.old }
         ensures answer { said_reply result ≡ say_answer version (shown self.old) (record { payload = payload.now; seq = seq }) }
         ensures short { OnOk result (is_too_long version payload.now ≡ false) }
         ensures present { is_gone self.old.phase ≡ false }
         ensures state { self.new ≡ slot_said payload.now (said_reply result) self.old }
         ensures put_out { OnOk result (WaitsForEach self.new) }
-        ensures effects { AreEmptied effects.old effects.new }
     {
         if let Err(why) = check_say(version, &self.spec, self.phase, self.usage(), seq, payload) {
             return Err(why);
@@ -227,14 +212,13 @@ impl Slot {
             origin: self.me,
             seq: number,
         };
-        let _ = self.store.push(m, payload);
+        let place = self.store.push(m, payload);
         take_call(
             &mut self.stack,
-            Call::Say(m),
-            effects,
+            &self.store,
+            PlacedCall::Say(place),
             &mut self.log,
             &mut self.outgoing,
-            &self.store,
         );
         let mut by = NodeSet::new();
         by.insert(self.me);
@@ -252,20 +236,17 @@ impl Slot {
     /// Takes a message into this group that node `from` sent. It is dropped if the group's rules say so, and else handed to the
     /// broadcast, which may append messages to the log. Returns true if the broadcast queued something to be sent; then something waits
     /// for each other member that is not held for crashed (noticed as crashed). If false, as many messages wait for each node as
-    /// before. Takes no memory: the lists of `effects` are used and emptied.
+    /// before. Takes no memory.
     pub fn came(
         &mut self,
         from: NodeId,
         origin: NodeId,
         seq: u16,
         payload: &[u8],
-        effects: &mut Effects,
     ) -> bool
-        requires ready { AreReady self.old.spec effects.old }
         ensures state { self.new ≡ slot_came from (record { origin = origin; seq = seq; payload = payload.now }) self.old }
         ensures put_out { result ≡ true → WaitsForEach self.new }
         ensures unchanged { result ≡ false → (dest : ℕ) → length (waiting self.new dest) ≡ length (waiting self.old dest) }
-        ensures effects { AreEmptied effects.old effects.new }
     {
         // (the tables cover only the members' messages)
         if !self.spec.members.contains(origin) {
@@ -281,25 +262,22 @@ impl Slot {
             return false;
         }
         let count = self.outgoing.len();
-        let _ = self.store.take_in(m, payload, from, known);
+        let place = self.store.take_in(m, payload, from, known);
         take_call(
             &mut self.stack,
-            Call::Came(from, m),
-            effects,
+            &self.store,
+            PlacedCall::Came(from, place),
             &mut self.log,
             &mut self.outgoing,
-            &self.store,
         );
         self.outgoing.len() != count
     }
 
     /// Records in this group that node `who` is held for crashed (noticed as crashed). From then on nothing waits to be sent to it. The
     /// broadcast may append messages to the log and queue messages for others. If `who` is not another member, nothing changes. Takes
-    /// no memory: the lists of `effects` are used and emptied.
-    pub fn notice(&mut self, who: NodeId, effects: &mut Effects)
-        requires ready { AreReady self.old.spec effects.old }
+    /// no memory.
+    pub fn notice(&mut self, who: NodeId)
         ensures state { self.new ≡ slot_noticed who self.old }
-        ensures effects { AreEmptied effects.old effects.new }
     {
         if !self.spec.members.contains(who) || who == self.me {
             return;
@@ -308,11 +286,10 @@ impl Slot {
         self.unfinished = count_unfinished(&self.spec, &self.noticed, &self.acknowledged);
         take_call(
             &mut self.stack,
-            Call::Notice(who),
-            effects,
+            &self.store,
+            PlacedCall::Notice(who),
             &mut self.log,
             &mut self.outgoing,
-            &self.store,
         );
     }
 
@@ -450,32 +427,29 @@ impl Slot {
     }
 }
 
-/// Returns the broadcast of a group at the node `me`, which has noticed these nodes. It has all its memory, and the lists have the
-/// memory for the effects of a call.
+/// Returns the broadcast of a group at the node `me`, which has noticed these nodes. It has all its memory.
 fn broadcast(
     alloc: Global,
     spec: &Spec,
     me: NodeId,
     noticed: &NodeSet,
-    effects: &mut Effects,
 ) -> Result<Stack, OutOfMemory>
-    requires limits { IsWithinLimits spec.now }
-    requires empty { IsEmpty effects.old }
-    ensures meaning { IfOk result (λ s. ⟦<Stack as Layer>⟧.meaning s ≡ new_stack spec.now.kind me spec.now.members noticed.now) }
-    ensures started { IfOk result (λ s. HasStarted me spec.now.members noticed.now (⟦<Stack as Layer>⟧.meaning s)) }
-    ensures whole { IfOk result (λ s. IsWhole s (limit_of spec.now)) }
-    ensures ready { OnOk result (AreReady spec.now effects.new) }
-    ensures effects { AreEmptied effects.old effects.new }
+    requires { IsWithinLimits spec.now }
+    ensures meaning { IfOk result (λ s. ⟦<Stack as Layer>⟧.meaning [] s ≡ new_stack spec.now.kind me spec.now.members noticed.now) }
+    ensures started { IfOk result (λ s. HasStarted me spec.now.members noticed.now (⟦<Stack as Layer>⟧.meaning [] s)) }
+    ensures known { IfOk result (λ s. ⟦<Stack as Layer>⟧.knows [] s 0 (most_messages spec.now)) }
 {
-    let mut stack = Stack::new(alloc, spec, me, noticed)?;
-    stack.whole(
-        &spec.members,
-        spec.msgs as u16,
-        1,
-        &mut effects.sends,
-        &mut effects.ups,
-    )?;
+    let mut stack = Stack::new(alloc, spec, me, noticed);
+    stack.whole(message_count(spec))?;
     Ok(stack)
+}
+
+/// Returns the greatest number of messages that are said in the group.
+fn message_count(spec: &Spec) -> usize
+    requires { IsWithinLimits spec.now }
+    ensures { result ≡ most_messages spec.now }
+{
+    spec.members.count_in(&spec.members) * spec.msgs as usize
 }
 
 /// Returns the store and the lists of a group, empty, with all their memory: the log, the messages that are put out, and for each
@@ -495,9 +469,8 @@ fn memory(
     ensures outgoing_memory { IfOk result (λ r. most_messages spec.now ≤ vec_capacity r.2) }
     ensures acknowledged_memory { IfOk result (λ r. spec.now.msgs ≤ vec_capacity r.3) }
 {
-    let members = spec.members.count_in(&spec.members);
-    let messages = members * spec.msgs as usize;
-    let bytes = members * spec.bytes as usize;
+    let messages = message_count(spec);
+    let bytes = spec.members.count_in(&spec.members) * spec.bytes as usize;
     let (log, outgoing, acknowledged) = lists(alloc, messages, spec.msgs as usize)?;
     let store = Store::new(alloc, &spec.members, spec.msgs as u16, messages, bytes)?;
     Ok((store, log, outgoing, acknowledged))

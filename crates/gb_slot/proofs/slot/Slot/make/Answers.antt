@@ -1,10 +1,12 @@
-use Rattle.std.proofs.Common.{◌≡◌, rules, sym, subst}
+use Rattle.std.proofs.Common.{◌≡◌, ◌∙◌, List, [], length, map, ap, refl, rules, sym, subst}
 use Rattle.std.specs.Prelude.{replicate}
 use Rattle.gb_types.specs.declared.limits.TheConstants.{NODES}
 use Rattle.gb_rules.specs.declared.phase.Phase.TheVariants.{Made}
-use Rattle.gb_stack.specs.contracts.stack.StackLayer.TheImpl.{meaning-value}
+use Rattle.gb_stack.specs.Layers.{stack_of, StackKnows}
 use Rattle.gb_slot.specs.Outgoing.{messages_at, AreInStore}
-use Rattle.gb_slot.specs.Reached.{IsReached}
+use Rattle.gb_slot.specs.Reached.{IsReached, most_messages}
+use Rattle.gb_types.specs.Entry.{message_of}
+use Rattle.gb_types.specs.declared.entry.Entry.{Entry}
 use Rattle.gb_slot.specs.Slot.{new_slot}
 use Rattle.gb_slot.specs.SlotState.{SlotState}
 use Rattle.gb_slot.proofs.ReachedLemmas.{reached_new}
@@ -20,7 +22,7 @@ invariant_of-result c =
       me = c.args.me;
       phase = Made;
       noticed = c.duplicate.result;
-      stack = meaning-value.it c.in_ok-stack.stack;
+      stack = stack_of (map message_of c.in_ok-store.store.entries) c.in_ok-stack.stack;
       arrivals = c.in_ok-store.store.arrivals;
       said = 0;
       store = c.in_ok-store.store.entries;
@@ -29,16 +31,17 @@ invariant_of-result c =
       taken = replicate NODES 0;
       acknowledged = c.in_ok-store.acknowledged.items;
     } in
+    let stack = ap (λ (es : List Entry). stack_of (map message_of es) c.in_ok-stack.stack) kept.store.0 ∙ made.meaning in
     let is : state ≡ new_slot spec c.args.me c.args.noticed.now = λ i. record state {
       noticed = c.duplicate.ensures i;
-      stack = made.meaning i;
+      stack = stack i;
       arrivals = kept.store.1 i;
       store = kept.store.0 i;
       log = kept.log i;
       outgoing = messages_at (kept.store.0 i) (kept.outgoing i);
       acknowledged = kept.acknowledged i;
     } in
-    let reached = reached_new spec c.args.me c.args.noticed.now (meaning-value.it c.in_ok-stack.stack) c.requires.member c.nodes.ensures.whole made.started in (
+    let reached = reached_new spec c.args.me c.args.noticed.now (stack_of [] c.in_ok-stack.stack) c.requires.member c.nodes.ensures.whole made.started in (
       search rules,
       search rules,
       search rules,
@@ -46,12 +49,12 @@ invariant_of-result c =
       search rules,
       subst IsReached (sym is) reached,
       record {
-        stack = made.whole;
+        stack = subst (λ (es : List Entry). StackKnows (map message_of es) c.in_ok-stack.stack (length es) (most_messages spec)) (sym kept.store.0) made.known;
         log = kept.log_memory;
         outgoing = kept.outgoing_memory;
         places = kept.places;
         bytes = kept.bytes;
         acknowledged = kept.acknowledged_memory;
       },
-      subst (AreInStore c.in_ok-store.store.entries) (sym kept.outgoing) tt,
+      subst (AreInStore c.in_ok-store.store.entries) (sym kept.outgoing) refl,
     )

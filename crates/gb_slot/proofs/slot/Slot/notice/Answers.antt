@@ -1,14 +1,20 @@
-use Rattle.std.proofs.Common.{◌≡◌, true, arith, rules, refl, sym, subst}
-use Rattle.gb_stack.specs.contracts.stack.StackLayer.TheImpl.{meaning-value}
+use Rattle.std.proofs.Common.{◌≡◌, true, length, map, rules, refl, sym, subst}
+use Rattle.gb_types.specs.Entry.{message_of}
 use Rattle.gb_rules.specs.Group.{is_other}
+use Rattle.gb_stack.specs.Layers.{stack_of}
 use Rattle.gb_slot.specs.Outgoing.{messages_at}
-use Rattle.gb_slot.specs.Reached.{IsReached, limit_of}
-use Rattle.gb_slot.proofs.MemoryLemmas.{held, room_for_call, places_in_log, places_put_out, few_stored, as_much}
-use Rattle.gb_slot.proofs.ReachedLemmas.{noticed_by, reached_noticed, sends_known}
+use Rattle.gb_slot.specs.Reached.{IsReached, most_messages}
+use Rattle.gb_slot.proofs.MemoryLemmas.{held, places_in_log, places_put_out, as_much}
+use Rattle.gb_slot.proofs.ReachedLemmas.{noticed_by, reached_noticed}
 use Rattle.gb_slot.proofs.slot.Slot.notice.Goals as goal
 
-pub take_call-requires-clause-room : goal.take_call-requires-clause-room
-take_call-requires-clause-room c = room_for_call c.self.inside c.args.self.now c.args.effects.now c.self.view_is c.self.invariant.6 c.requires.ready
+pub take_call-requires-clause-known : goal.take_call-requires-clause-known
+take_call-requires-clause-known c = record {
+  count = length c.self.inside.store.entries;
+  memory = most_messages c.self.inside.spec;
+  knows = c.self.invariant.6.stack;
+  next = tt;
+}
 
 pub take_call-requires-clause-log : goal.take_call-requires-clause-log
 take_call-requires-clause-log c =
@@ -22,17 +28,7 @@ take_call-requires-clause-outgoing c =
     let s = c.self.inside in
     let other : is_other s.spec s.me.number c.args.who.number ≡ true = search rules in
     let next = reached_noticed (held s) c.args.who other c.self.invariant.5 in
-    places_put_out s (noticed_by c.args.who (held s)) _ c.self.invariant.6 next c.self.invariant.7 refl refl
-
-pub take_call-requires-clause-known : goal.take_call-requires-clause-known
-take_call-requires-clause-known c =
-    let s = c.self.inside in
-    let other : is_other s.spec s.me.number c.args.who.number ≡ true = search rules in
-    let next = reached_noticed (held s) c.args.who other c.self.invariant.5 in
-    sends_known (noticed_by c.args.who (held s)) (messages_at s.store.entries s.outgoing.items) _ next refl
-
-pub take_call-requires-clause-few : goal.take_call-requires-clause-few
-take_call-requires-clause-few c = omega (arith, few_stored (held c.self.inside) c.self.invariant.5 c.self.invariant.1)
+    places_put_out s (noticed_by c.args.who (held s)) _ c.self.invariant.6 next refl refl
 
 pub invariant_of-self : goal.invariant_of-self
 invariant_of-self c =
@@ -41,7 +37,7 @@ invariant_of-self c =
     let next = reached_noticed (held s) c.args.who other c.self.invariant.5 in
     let m = c.self.invariant.6 in
     let called = c.take_call.ensures in
-    let is : noticed_by c.args.who (held s) ≡ record (held s) { noticed = c.insert.new.self; stack = meaning-value.it c.take_call.new.stack; log = c.take_call.new.log.items; outgoing = messages_at s.store.entries c.take_call.new.outgoing.items } =
+    let is : noticed_by c.args.who (held s) ≡ record (held s) { noticed = c.insert.new.self; stack = stack_of (map message_of s.store.entries) c.take_call.new.stack; log = c.take_call.new.log.items; outgoing = messages_at s.store.entries c.take_call.new.outgoing.items } =
     sym (λ i. record (held s) { noticed = c.insert.ensures i; stack = called.meaning i; log = called.log i; outgoing = called.outgoing i }) in (
       c.self.invariant.0,
       c.self.invariant.1,
@@ -50,7 +46,7 @@ invariant_of-self c =
       search rules,
       subst IsReached is next,
       record {
-        stack = called.whole (limit_of s.spec) m.stack refl;
+        stack = called.known (length s.store.entries) (most_messages s.spec) m.stack tt;
         log = as_much m.log called.log_memory;
         outgoing = as_much m.outgoing called.outgoing_memory;
         places = m.places;

@@ -22,7 +22,7 @@ returns-in-Some c =
     let i = slice_index_or kept.taken c.index.result 0 in
     let store = ap (λ (v : SlotState). payload_in v.store m) c.self.view_is in
     let place = ap (λ (v : SlotState). taken_for v c.args.dest.number) (sym c.self.view_is) ∙ ap (λ k. slice_index_or kept.taken k 0) (sym c.index.ensures.value) in
-    let there = put-at s kept.store.entries kept.outgoing.items c.deref.result.now i c.in-Some.place m c.self.invariant.7 (ap (λ (v : SlotState). v.outgoing) c.self.view_is) c.deref.ensures.value (sym c.place_at.ensures ∙ c.in-Some.is) (ap (slice_get (map message_of kept.store.entries)) (sym c.from.ensures) ∙ c.at.ensures.message) in
+    let there = put-at s kept.store.entries kept.outgoing.items c.deref.result.now i c.in-Some.place m (ap (λ (v : SlotState). v.outgoing) c.self.view_is) c.deref.ensures.value (sym c.place_at.ensures ∙ c.in-Some.is) (ap (slice_get (map message_of kept.store.entries)) (sym c.from.ensures) ∙ c.at.ensures.message) in
     (_, waiting-at s c.args.dest.number i m c.at.result.1.now (sym c.is_reached.ensures ∙ c.if-not-is_reached.false) place there (c.at.ensures.payload ∙ store))
 
 pub returns-in-None : goal.returns-in-None
@@ -31,5 +31,5 @@ returns-in-None c =
     let kept = c.self.inside in
     let i = slice_index_or kept.taken c.index.result 0 in
     let place = ap (λ (v : SlotState). taken_for v c.args.dest.number) (sym c.self.view_is) ∙ ap (λ k. slice_index_or kept.taken k 0) (sym c.index.ensures.value) in
-    let there = put-none s kept.store.entries kept.outgoing.items c.deref.result.now i c.self.invariant.7 (ap (λ (v : SlotState). v.outgoing) c.self.view_is) c.deref.ensures.value (sym c.place_at.ensures ∙ c.in-None.is) in
+    let there = put-none s kept.store.entries kept.outgoing.items c.deref.result.now i (ap (λ (v : SlotState). v.outgoing) c.self.view_is) c.deref.ensures.value (sym c.place_at.ensures ∙ c.in-None.is) in
     waiting-none s c.args.dest.number i (sym c.is_reached.ensures ∙ c.if-not-is_reached.false) place there

@@ -12,7 +12,7 @@ use Rattle.gb_slot.proofs.slot.Slot.peek_at.Goals as goal
 
 pub bounds-outgoing-self-inside : goal.bounds-outgoing-self-inside
 bounds-outgoing-self-inside c =
-    let few = few_wait c.self.inside c.args.self.now c.args.dest.number c.index.result c.self.view_is c.index.ensures.value c.self.invariant.5 c.self.invariant.7 in
+    let few = few_wait c.self.inside c.args.self.now c.args.dest.number c.index.result c.self.view_is c.index.ensures.value c.self.invariant.5 in
     let all = ap (λ (os : List ℕ). length os) c.as_slice-outgoing.ensures.value in
     omega (arith, few, all, c.requires)
 
@@ -20,7 +20,7 @@ pub at-requires : goal.at-requires
 at-requires c =
     let s = c.self.inside in
     let i = slice_index_or s.taken c.index.result 0 + c.args.place in
-    let few = few_wait s c.args.self.now c.args.dest.number c.index.result c.self.view_is c.index.ensures.value c.self.invariant.5 c.self.invariant.7 in
+    let few = few_wait s c.args.self.now c.args.dest.number c.index.result c.self.view_is c.index.ensures.value c.self.invariant.5 in
     let all = ap (λ (os : List ℕ). length os) c.as_slice-outgoing.ensures.value in
     let within : i < length c.as_slice-outgoing.result.now = omega (arith, few, all, c.requires) in
     let there = slice_get-get_or c.as_slice-outgoing.result.now i 0 within in
@@ -33,22 +33,22 @@ returns c =
     let b = c.args.dest.number in
     let m = c.at.result.0 in
     let i = slice_index_or s.taken c.index.result 0 + c.args.place in
-    let few = few_wait s now b c.index.result c.self.view_is c.index.ensures.value c.self.invariant.5 c.self.invariant.7 in
+    let few = few_wait s now b c.index.result c.self.view_is c.index.ensures.value c.self.invariant.5 in
     let all = ap (λ (os : List ℕ). length os) c.as_slice-outgoing.ensures.value in
     let within : i < length c.as_slice-outgoing.result.now = omega (arith, few, all, c.requires) in
     let place = ap (λ k. slice_index_or s.taken k 0 + c.args.place) c.index.ensures.value ∙ ap (λ (v : SlotState). taken_for v b + c.args.place) c.self.view_is in
     let there = slice_get-get_or c.as_slice-outgoing.result.now i 0 within in
-    let outgoing = put-at now s.store.entries s.outgoing.items c.as_slice-outgoing.result.now i (slice_index_or c.as_slice-outgoing.result.now i 0) m c.self.invariant.7 (ap (λ (v : SlotState). v.outgoing) c.self.view_is) c.as_slice-outgoing.ensures.value there (ap (slice_get (map message_of s.store.entries)) (sym c.from.ensures) ∙ c.at.ensures.message) in
+    let outgoing = put-at now s.store.entries s.outgoing.items c.as_slice-outgoing.result.now i (slice_index_or c.as_slice-outgoing.result.now i 0) m (ap (λ (v : SlotState). v.outgoing) c.self.view_is) c.as_slice-outgoing.ensures.value there (ap (slice_get (map message_of s.store.entries)) (sym c.from.ensures) ∙ c.at.ensures.message) in
     waiting-placed now b i c.args.place m c.at.result.1.now c.requires place outgoing (c.at.ensures.payload ∙ ap (λ (v : SlotState). payload_in v.store m) c.self.view_is)
 
 pub overflow_add-stored : goal.overflow_add-stored
 overflow_add-stored c =
-    let few = few_wait c.self.inside c.args.self.now c.args.dest.number c.index.result c.self.view_is c.index.ensures.value c.self.invariant.5 c.self.invariant.7 in
+    let few = few_wait c.self.inside c.args.self.now c.args.dest.number c.index.result c.self.view_is c.index.ensures.value c.self.invariant.5 in
     let all = ap (λ (os : List ℕ). length os) c.as_slice-outgoing.ensures.value in
     omega (arith, few, all, c.requires)
 
 pub offset_bounds-outgoing-self-inside : goal.offset_bounds-outgoing-self-inside
 offset_bounds-outgoing-self-inside c =
-    let few = few_wait c.self.inside c.args.self.now c.args.dest.number c.index.result c.self.view_is c.index.ensures.value c.self.invariant.5 c.self.invariant.7 in
+    let few = few_wait c.self.inside c.args.self.now c.args.dest.number c.index.result c.self.view_is c.index.ensures.value c.self.invariant.5 in
     let all = ap (λ (os : List ℕ). length os) c.as_slice-outgoing.ensures.value in
     omega (arith, few, all, c.requires)

@@ -10,15 +10,15 @@ use Rattle.gb_slot.proofs.slot.Slot.took.Goals as goal
 pub overflow_add-taken : goal.overflow_add-taken
 overflow_add-taken c =
     let s = c.self.inside in
-    let few = few_wait s c.args.self.now c.args.dest.number c.index.result c.self.view_is c.index.ensures.value c.self.invariant.5 c.self.invariant.7 in
-    let put = few_put s c.self.invariant.5 c.self.invariant.7 c.self.invariant.1 in
+    let few = few_wait s c.args.self.now c.args.dest.number c.index.result c.self.view_is c.index.ensures.value c.self.invariant.5 in
+    let put = few_put s c.self.invariant.5 c.self.invariant.1 in
     omega (arith, few, put, c.requires)
 
 pub overflow_cast-taken : goal.overflow_cast-taken
 overflow_cast-taken c =
     let s = c.self.inside in
-    let few = few_wait s c.args.self.now c.args.dest.number c.index.result c.self.view_is c.index.ensures.value c.self.invariant.5 c.self.invariant.7 in
-    let put = few_put s c.self.invariant.5 c.self.invariant.7 c.self.invariant.1 in
+    let few = few_wait s c.args.self.now c.args.dest.number c.index.result c.self.view_is c.index.ensures.value c.self.invariant.5 in
+    let put = few_put s c.self.invariant.5 c.self.invariant.1 in
     omega (arith, few, put, c.requires)
 
 pub invariant_of-self : goal.invariant_of-self
