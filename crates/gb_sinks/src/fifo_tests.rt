@@ -181,3 +181,17 @@ fn an_index_finds_the_next_message(rt: HostRuntime) -> Result<(), Fail> {
     assert!(&rt; last_and_next(&full, ME, 0) == (65_535, None));
     Ok(())
 }
+
+/// An index takes the memory for as many messages as it has places for, and no more. Messages are pushed into it.
+#[test]
+fn an_index_pushes_into_its_memory(rt: HostRuntime) -> Result<(), Fail> {
+    let mut index = Index::new(rt.alloc());
+    assert!(&rt; index.whole(65_537).is_err());
+    index.whole(65_536)?;
+    let first = index.push(FIRST);
+    let second = index.push(SECOND);
+    assert!(&rt; (first, second) == (0, 1));
+    assert!(&rt; (index.find(FIRST), index.find(SECOND)) == (Some(0), Some(1)));
+    assert!(&rt; (index.find(OWN), index.place(SECOND)?) == (None, 1));
+    Ok(())
+}

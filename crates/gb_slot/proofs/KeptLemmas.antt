@@ -7,17 +7,12 @@ use Rattle.std.proofs.lemmas.List.{take_all, take-append-le, drop-append-le}
 use Rattle.std.proofs.lemmas.List.Prefix.{front_rest}
 use Rattle.gb_types.specs.declared.message.MsgId.{MsgId}
 use Rattle.gb_slot.specs.declared.store.Kept.{Kept}
-use Rattle.gb_slot.specs.Kept.{start_of, entries_of, AreInside}
+use Rattle.gb_slot.specs.Kept.{start_of, entries_of, arrival_of, arrivals_of, AreInside}
 
 -- no payload begins behind the bytes
 pub start_within : (bytes : List ℕ) (kept : List Kept) → AreInside bytes kept → start_of bytes kept ≤ length bytes
 start_within bytes [] inside = omega arith
 start_within bytes (k ∷ kept) inside = omega (arith, inside.0, start_within bytes kept inside.1)
-
--- there is an entry for each message
-pub entries_count : (bytes : List ℕ) (kept : List Kept) → length (entries_of bytes kept) ≡ length kept
-entries_count bytes [] = refl
-entries_count bytes (k ∷ kept) = omega (arith, entries_count bytes kept)
 
 -- a part of the bytes stays as bytes are added
 slice_range-append : (bytes more : List ℕ) (i j : ℕ) → i ≤ j → j ≤ length bytes → slice_range (bytes ++ more) i j ≡ slice_range bytes i j
@@ -38,24 +33,33 @@ start_added bytes more [] k start = start
 start_added bytes more (x ∷ kept) k start = refl
 
 -- the entries with one more
-entries_of-added : (bytes payload : List ℕ) (kept : List Kept) (k : Kept) → k.start ≡ length bytes → AreInside bytes kept
-    → entries_of (bytes ++ payload) (kept ++ k ∷ []) ≡ entries_of bytes kept ++ record { origin = k.m.origin; seq = k.m.seq; payload = payload } ∷ []
-entries_of-added bytes payload [] k start inside =
+entries_of-added : (bytes payload : List ℕ) (ms : List MsgId) (m : MsgId) (kept : List Kept) (k : Kept) → k.start ≡ length bytes → AreInside bytes kept → length ms ≡ length kept
+    → entries_of (bytes ++ payload) (ms ++ m ∷ []) (kept ++ k ∷ []) ≡ entries_of bytes ms kept ++ record { origin = m.origin; seq = m.seq; payload = payload } ∷ []
+entries_of-added bytes payload [] m [] k start inside len =
     let last = ap (λ n. slice_range (bytes ++ payload) n (length (bytes ++ payload))) start ∙ slice_range-added bytes payload in
-    λ i. record { origin = k.m.origin; seq = k.m.seq; payload = last i } ∷ []
-entries_of-added bytes payload (x ∷ kept) k start inside =
+    λ i. record { origin = m.origin; seq = m.seq; payload = last i } ∷ []
+entries_of-added bytes payload [] m (x ∷ kept) k start inside len = absurd (omega (arith, len))
+entries_of-added bytes payload (y ∷ ms) m [] k start inside len = absurd (omega (arith, len))
+entries_of-added bytes payload (y ∷ ms) m (x ∷ kept) k start inside len =
     let part = ap (slice_range (bytes ++ payload) x.start) (start_added bytes payload kept k start) ∙ slice_range-append bytes payload x.start (start_of bytes kept) inside.0 (start_within bytes kept inside.1) in
-    λ i. record { origin = x.m.origin; seq = x.m.seq; payload = part i } ∷ entries_of-added bytes payload kept k start inside.1 i
+    let rest : length ms ≡ length kept = omega (arith, len) in
+    λ i. record { origin = y.origin; seq = y.seq; payload = part i } ∷ entries_of-added bytes payload ms m kept k start inside.1 rest i
 
 AreInside-added : (bytes payload : List ℕ) (kept : List Kept) (k : Kept) → k.start ≡ length bytes → AreInside bytes kept → AreInside (bytes ++ payload) (kept ++ k ∷ [])
 AreInside-added bytes payload [] k start inside = (omega (arith, start, length-append bytes payload), tt)
 AreInside-added bytes payload (x ∷ kept) k start inside = (subst (λ n. x.start ≤ n) (sym (start_added bytes payload kept k start)) inside.0, AreInside-added bytes payload kept k start inside.1)
 
--- what adding a message leaves
-pub added : (bytes later payload : List ℕ) (kept more : List Kept) (m : MsgId) (nodes : FinSet nat_cmp) (i : ℕ) → later ≡ bytes ++ payload → i ≡ length bytes → more ≡ kept ++ record { m = m; start = i; from = nodes } ∷ [] → AreInside bytes kept
-    → (entries_of later more ≡ entries_of bytes kept ++ record { origin = m.origin; seq = m.seq; payload = payload } ∷ []) × AreInside later more
-added bytes later payload kept more m nodes i longer start grown inside =
-    let k : Kept = record { m = m; start = i; from = nodes } in (
-      (λ j. entries_of (longer j) (grown j)) ∙ entries_of-added bytes payload kept k start inside,
-      subst (λ bs. AreInside bs more) (sym longer) (subst (AreInside (bytes ++ payload)) (sym grown) (AreInside-added bytes payload kept k start inside)),
-    )
+-- the arrivals with one more
+pub arrivals_added : (ms : List MsgId) (m : MsgId) (kept : List Kept) (k : Kept) → length ms ≡ length kept → arrivals_of (ms ++ m ∷ []) (kept ++ k ∷ []) ≡ arrivals_of ms kept ++ arrival_of m k ∷ []
+arrivals_added [] m [] k len = refl
+arrivals_added [] m (x ∷ kept) k len = absurd (omega (arith, len))
+arrivals_added (y ∷ ms) m [] k len = absurd (omega (arith, len))
+arrivals_added (y ∷ ms) m (x ∷ kept) k len = let rest : length ms ≡ length kept = omega (arith, len) in ap (λ arrivals. arrival_of y x ∷ arrivals) (arrivals_added ms m kept k rest)
+
+module _ (bytes later payload : List ℕ) (kept more : List Kept) (nodes : FinSet nat_cmp) (i : ℕ) (longer : later ≡ bytes ++ payload) (start : i ≡ length bytes) (grown : more ≡ kept ++ record { start = i; from = nodes } ∷ []) (inside : AreInside bytes kept) where
+  -- what adding a message leaves
+  pub added : (ms : List MsgId) (m : MsgId) → length ms ≡ length kept → entries_of later (ms ++ m ∷ []) more ≡ entries_of bytes ms kept ++ record { origin = m.origin; seq = m.seq; payload = payload } ∷ []
+  added ms m len = (λ j. entries_of (longer j) (ms ++ m ∷ []) (grown j)) ∙ entries_of-added bytes payload ms m kept (record { start = i; from = nodes }) start inside len
+
+  pub added_inside : AreInside later more
+  added_inside = subst (λ bs. AreInside bs more) (sym longer) (subst (AreInside (bytes ++ payload)) (sym grown) (AreInside-added bytes payload kept (record { start = i; from = nodes }) start inside))

@@ -1,6 +1,6 @@
 use Rattle.std.proofs.Common.{ap, sym, ◌∙◌, arith}
 use Rattle.std.specs.Prelude.{slice_index_or, slice_range}
-use Rattle.gb_slot.proofs.PlaceLemmas.{inside_at, payload_placed}
+use Rattle.gb_slot.proofs.PlaceLemmas.{inside_at, payload_there}
 use Rattle.gb_slot.proofs.store.part.Goals as goal
 
 pub slice_bounds-result-count : goal.slice_bounds-result-count
@@ -19,8 +19,8 @@ slice_bounds-result-end c =
     omega (arith, there.0, there.1, c.end_of.ensures)
 
 pub returns : goal.returns
-returns c = λ m at.
+returns c = λ ms len differ.
     let kept = c.args.kept.now in
     let bytes = c.args.bytes.now in
     ap (slice_range bytes (slice_index_or kept c.args.place c.index-kept-place.result).start) c.end_of.ensures
-    ∙ sym (payload_placed m bytes kept c.args.place c.index-kept-place.result at)
+    ∙ sym (payload_there bytes ms kept c.args.place c.index-kept-place.result differ len c.requires.within)

@@ -1,47 +1,72 @@
-use Rattle.std.proofs.Common.{◌≡◌, ◌+◌, ◌∙◌, ap, sym, subst, length, arith}
-use Rattle.std.proofs.lemmas.List.{length-map}
-use Rattle.std.specs.List.{IsDistinct}
-use Rattle.gb_types.specs.Message.{same}
-use Rattle.gb_layer.specs.Table.{leads}
+use Rattle.std.proofs.Common.{◌≡◌, ◌+◌, ◌∷◌, ◌++◌, [], ◌∙◌, ap, sym, subst, length, arith}
+use Rattle.std.proofs.lemmas.List.{length_push}
 use Rattle.gb_rules.specs.Messages.{has}
-use Rattle.gb_slot.specs.Kept.{entries_of, messages_of, AreCounted}
+use Rattle.gb_slot.specs.Kept.{entries_of, AreCounted}
 use Rattle.gb_slot.specs.StoreValue.{StoreValue, total_bytes}
 use Rattle.gb_slot.proofs.FewLemmas.{few_counted, total_pushed}
-use Rattle.gb_slot.proofs.KeptLemmas.{entries_count}
-use Rattle.gb_slot.proofs.PlaceLemmas.{any_entries, any_messages, once_pushed}
+use Rattle.gb_slot.proofs.PlaceLemmas.{any_entries, entries_count}
 use Rattle.gb_slot.proofs.store.Store.add.Goals as goal
+
+pub push-place-requires-clause-new : goal.push-place-requires-clause-new
+push-place-requires-clause-new c =
+    let s = c.self.inside in
+    let len : length s.kept.items ≡ length s.index.list.items = omega (arith, c.self.invariant.0, s.kept.ok.0, s.index.list.ok.0) in
+    let unknown = ap (λ (v : StoreValue). has v.entries c.args.m) c.self.view_is ∙ c.requires.new in
+    sym (any_entries s.bytes.items s.index.list.items s.kept.items c.args.m len) ∙ unknown
+
+pub push-place-requires-clause-memory : goal.push-place-requires-clause-memory
+push-place-requires-clause-memory c =
+    let s = c.self.inside in
+    let len : length s.kept.items ≡ length s.index.list.items = omega (arith, c.self.invariant.0, s.kept.ok.0, s.index.list.ok.0) in
+    let count = ap (λ (v : StoreValue). length v.entries) c.self.view_is in
+    let places = ap (λ (v : StoreValue). v.places) c.self.view_is in
+    let all = entries_count s.bytes.items s.index.list.items s.kept.items len in
+    omega (arith, count, places, all, s.index.list.ok.0, c.requires.place, c.self.invariant.4)
+
+pub push-place-requires-clause-few : goal.push-place-requires-clause-few
+push-place-requires-clause-few c =
+    let s = c.self.inside in
+    let len : length s.kept.items ≡ length s.index.list.items = omega (arith, c.self.invariant.0, s.kept.ok.0, s.index.list.ok.0) in
+    let count = ap (λ (v : StoreValue). length v.entries) c.self.view_is in
+    let places = ap (λ (v : StoreValue). v.places) c.self.view_is in
+    let all = entries_count s.bytes.items s.index.list.items s.kept.items len in
+    omega (arith, count, places, all, s.index.list.ok.0, c.requires.place, c.self.invariant.5)
+
+pub append-requires-clause-place : goal.append-requires-clause-place
+append-requires-clause-place c =
+    let s = c.self.inside in
+    let len : length s.kept.items ≡ length s.index.list.items = omega (arith, c.self.invariant.0, s.kept.ok.0, s.index.list.ok.0) in
+    let count = ap (λ (v : StoreValue). length v.entries) c.self.view_is in
+    let places = ap (λ (v : StoreValue). v.places) c.self.view_is in
+    let all = entries_count s.bytes.items s.index.list.items s.kept.items len in
+    omega (arith, count, places, all, len, s.kept.ok.0, c.requires.place)
+
+pub append-requires-clause-start : goal.append-requires-clause-start
+append-requires-clause-start c =
+    let s = c.self.inside in
+    let few = few_counted s.seen (entries_of s.bytes.items s.index.list.items s.kept.items) c.self.invariant.2 in
+    omega (arith, few, c.self.invariant.3)
 
 pub invariant_of-self : goal.invariant_of-self
 invariant_of-self c =
     let s = c.self.inside in
     let m = c.args.m in
-    let kept = s.kept.items in
-    let bytes = s.bytes.items in
-    let ok = s.kept.ok.0 in
-    let len = c.len.ensures in
-    let count : length (messages_of kept) ≡ c.len.result = omega (arith, ok, len, length-map kept (λ k. k.m)) in
-    let unknown = ap (λ (v : StoreValue). has v.entries m) c.self.view_is ∙ c.requires.new in
-    let new = any_messages m kept ∙ (sym (any_entries m bytes kept) ∙ unknown) in
-    let noted = c.note.ensures (messages_of kept) count new c.self.invariant.2 in
-    let table = c.note.new.self in (
+    let ms = s.index.list.items in
+    let len : length s.kept.items ≡ length ms = omega (arith, c.self.invariant.0, s.kept.ok.0, s.index.list.ok.0) in
+    let entries = ap (λ xs. entries_of c.append.new.bytes.items xs c.append.new.kept.items) c.push-place.ensures.items ∙ c.append.ensures.entries ms m (sym len) in
+    let more : length c.push-place.new.self.list.items ≡ length (ms ++ m ∷ []) = ap length c.push-place.ensures.items in
+    let one = length_push ms m in (
+      omega (arith, c.append.ensures.kept.0, c.self.invariant.0, more, one, c.push-place.new.self.list.ok.0, s.index.list.ok.0),
       c.append.ensures.inside,
-      subst (AreCounted c.count_bytes.new.seen) (sym c.append.ensures.entries) (c.count_bytes.ensures (entries_of bytes kept) c.self.invariant.1),
-      ap (leads table.width table.told.items 0) c.append.ensures.messages ∙ noted,
-      c.append.ensures.bytes.0 ∙ (ap (λ n. n + length c.args.payload.now) c.self.invariant.3 ∙ sym (ap total_bytes c.append.ensures.entries ∙ total_pushed (entries_of bytes kept) _)),
-      subst (IsDistinct same) (sym c.append.ensures.messages) (once_pushed kept m c.self.invariant.4 (sym (any_entries m bytes kept) ∙ unknown)),
+      subst (AreCounted c.count_bytes.new.seen) (sym entries) (c.count_bytes.ensures (entries_of s.bytes.items ms s.kept.items) c.self.invariant.2),
+      c.append.ensures.bytes.0 ∙ (ap (λ n. n + length c.args.payload.now) c.self.invariant.3 ∙ sym (ap total_bytes entries ∙ total_pushed (entries_of s.bytes.items ms s.kept.items) _)),
+      omega (arith, c.append.ensures.kept.1, c.push-place.ensures.memory, c.self.invariant.4),
+      omega (arith, c.append.ensures.kept.1, c.self.invariant.5),
     )
 
-pub append-requires-clause-start : goal.append-requires-clause-start
-append-requires-clause-start c =
+pub returns-clause-place : goal.returns-clause-place
+returns-clause-place c =
     let s = c.self.inside in
-    let few = few_counted s.seen (entries_of s.bytes.items s.kept.items) c.self.invariant.1 in
-    omega (arith, few, c.self.invariant.3)
-
-pub append-requires-clause-place : goal.append-requires-clause-place
-append-requires-clause-place c =
-    let s = c.self.inside in
+    let len : length s.kept.items ≡ length s.index.list.items = omega (arith, c.self.invariant.0, s.kept.ok.0, s.index.list.ok.0) in
     let count = ap (λ (v : StoreValue). length v.entries) c.self.view_is in
-    let places = ap (λ (v : StoreValue). v.places) c.self.view_is in
-    let all = entries_count s.bytes.items s.kept.items in
-    let len = s.kept.ok.0 in
-    omega (arith, count, places, all, len, c.requires.place)
+    omega (arith, count, entries_count s.bytes.items s.index.list.items s.kept.items len, c.push-place.ensures.place)

@@ -1,33 +1,38 @@
-use Rattle.std.proofs.Common.{◌≡◌, ◌∙◌, ap, sym, subst, Some, map, slice_get, length, arith}
-use Rattle.std.specs.List.{IsDistinct}
-use Rattle.gb_types.specs.Entry.{message_of}
-use Rattle.gb_types.specs.Message.{same}
-use Rattle.gb_layer.specs.Table.{leads}
-use Rattle.gb_slot.specs.Kept.{AreCounted, entries_of}
+use Rattle.std.proofs.Common.{◌≡◌, ◌∙◌, ap, sym, subst, length, arith}
+use Rattle.gb_sinks.specs.Places.{message_at}
+use Rattle.gb_slot.specs.Arrivals.{with_node}
+use Rattle.gb_slot.specs.Kept.{AreCounted, arrivals_of}
 use Rattle.gb_slot.specs.StoreValue.{StoreValue, total_bytes}
-use Rattle.gb_slot.proofs.KeptLemmas.{entries_count}
-use Rattle.gb_slot.proofs.PlaceLemmas.{place_of_standing}
+use Rattle.gb_slot.proofs.PlaceLemmas.{entries_count, entries_ids}
 use Rattle.gb_slot.proofs.store.Store.mark.Goals as goal
 
 pub mark-requires : goal.mark-requires
 mark-requires c =
     let s = c.self.inside in
+    let len : length s.kept.items ≡ length s.index.list.items = omega (arith, c.self.invariant.0, s.kept.ok.0, s.index.list.ok.0) in
     let count = ap (λ (v : StoreValue). length v.entries) c.self.view_is in
-    let all = entries_count s.bytes.items s.kept.items in
-    omega (arith, c.requires, count, all, s.kept.ok.0)
+    let all = entries_count s.bytes.items s.index.list.items s.kept.items len in
+    omega (arith, c.requires, count, all, len, s.kept.ok.0, c.from.ensures)
 
 pub returns-clause-arrivals : goal.returns-clause-arrivals
-returns-clause-arrivals c = λ m stands.
+returns-clause-arrivals c =
     let s = c.self.inside in
-    let at : slice_get (map message_of (entries_of s.bytes.items s.kept.items)) c.args.place ≡ Some m = subst (λ (v : StoreValue). slice_get (map message_of v.entries) c.args.place ≡ Some m) (sym c.self.view_is) stands in
-    rw (← c.self.view_is) (c.mark.ensures.arrivals m (place_of_standing m s.bytes.items s.kept.items c.args.place c.self.invariant.4 at))
+    let ms = s.index.list.items in
+    let len : length s.kept.items ≡ length ms = omega (arith, c.self.invariant.0, s.kept.ok.0, s.index.list.ok.0) in
+    let before = arrivals_of ms s.kept.items in
+    rw (← c.self.view_is)
+    (c.mark.ensures.arrivals ms (sym len) s.index.differ
+    ∙ ap (λ i. with_node c.args.from (message_at ms i) before) c.from.ensures
+    ∙ ap (λ xs. with_node c.args.from (message_at xs c.args.place) before) (sym (entries_ids s.bytes.items ms s.kept.items len)))
 
 pub invariant_of-self : goal.invariant_of-self
 invariant_of-self c =
-    let s = c.self.inside in (
-      c.mark.ensures.inside s.bytes.items c.self.invariant.0,
-      subst (AreCounted s.seen) (sym (c.mark.ensures.entries s.bytes.items)) c.self.invariant.1,
-      ap (leads s.table.width s.table.told.items 0) c.mark.ensures.messages ∙ c.self.invariant.2,
-      c.self.invariant.3 ∙ sym (ap total_bytes (c.mark.ensures.entries s.bytes.items)),
-      subst (IsDistinct same) (sym c.mark.ensures.messages) c.self.invariant.4,
+    let s = c.self.inside in
+    let same = c.mark.ensures.entries s.bytes.items s.index.list.items in (
+      c.mark.ensures.kept.0 ∙ c.self.invariant.0,
+      c.mark.ensures.inside s.bytes.items c.self.invariant.1,
+      subst (AreCounted s.seen) (sym same) c.self.invariant.2,
+      c.self.invariant.3 ∙ sym (ap total_bytes same),
+      omega (arith, c.mark.ensures.kept.1, c.self.invariant.4),
+      omega (arith, c.mark.ensures.kept.1, c.self.invariant.5),
     )

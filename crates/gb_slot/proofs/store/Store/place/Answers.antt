@@ -1,12 +1,19 @@
-use Rattle.std.proofs.Common.{subst}
-use Rattle.gb_slot.specs.Kept.{IsPlaceOf}
-use Rattle.gb_slot.proofs.PlaceLemmas.{place_told}
+use Rattle.std.proofs.Common.{◌≡◌, ◌<◌, length, sym, ap, ◌∙◌, arith}
+use Rattle.gb_sinks.specs.Places.{message_at}
+use Rattle.gb_slot.proofs.PlaceLemmas.{any_entries, read_there}
 use Rattle.gb_slot.proofs.store.Store.place.Goals as goal
 
-pub returns : goal.returns
-returns c =
-    let m = c.args.m in
+pub returns-in-Some : goal.returns-in-Some
+returns-in-Some c =
     let s = c.self.inside in
-    let found = c.find_recent.result in
-    let at = subst (λ ks. IsPlaceOf m ks found) c.deref.ensures.value c.find_recent.ensures in
-    rw (← c.self.view_is) (place_told m s.bytes.items s.kept.items found at)
+    let len : length s.kept.items ≡ length s.index.list.items = omega (arith, c.self.invariant.0, s.kept.ok.0, s.index.list.ok.0) in
+    let found = c.in-Some.ensures in
+    let at : c.from.result ≡ c.in-Some.place = c.from.ensures in
+    let within : c.from.result < length s.index.list.items = omega (arith, found.0, at) in
+    rw (← c.self.view_is) (read_there s.bytes.items s.index.list.items s.kept.items c.args.m c.from.result len within (sym (ap (message_at s.index.list.items) at ∙ found.1)))
+
+pub returns-in-None : goal.returns-in-None
+returns-in-None c =
+    let s = c.self.inside in
+    let len : length s.kept.items ≡ length s.index.list.items = omega (arith, c.self.invariant.0, s.kept.ok.0, s.index.list.ok.0) in
+    rw (← c.self.view_is) (any_entries s.bytes.items s.index.list.items s.kept.items c.args.m len ∙ c.in-None.ensures)
