@@ -1,6 +1,6 @@
 -- Histories of notices alone, and the nodes that are noticed.
 use Rattle.std.proofs.Common.{◌≡◌, ◌≢◌, ℕ, Bool, true, false, cond, ◌&&◌, ◌||◌, not, List, [], ◌∷◌, ◌++◌, refl, sym, ◌∙◌, ap, arith}
-use Rattle.std.specs.Prelude.{map, filter, nat_eq, if◌then◌else◌}
+use Rattle.std.specs.Prelude.{map, filter, nat_eq}
 use Rattle.std.specs.Ordering.{nat_cmp}
 use Rattle.std.specs.FinSet as set
 use Rattle.std.specs.List.{AllByRecursion, list_any}
@@ -17,14 +17,14 @@ use Rattle.gb_layer.specs.Machine.{mentions, was_noticed, came_from, all_sends, 
 use Rattle.gb_layer.specs.Modules.{IsLawful, first_mentions, log, now_delivered}
 use Rattle.gb_layer.specs.Rule.{Nodes}
 use Rattle.gb_layer.specs.declared.broadcast_module.BroadcastModule.{BroadcastModule}
-use Rattle.gb_layer.specs.declared.broadcast_module.BroadcastModule.TheVariants.{BestEffort, Lazy, Eager, AllAck, MajorityAck}
 use Rattle.gb_layer.specs.declared.call.Call.{Call}
 use Rattle.gb_layer.specs.declared.call.Call.TheVariants.{Notice}
-use Rattle.gb_stack.specs.Kinds.{module_of, is_fifo, kind_log}
+use Rattle.gb_stack.specs.Kinds.{module_of, kind_log}
 use Rattle.gb_stack.specs.StackLemmas.{stack_sends_handed_in}
-use Rattle.gb_stack.specs.StackState.{unordered, fifo, unordered_noticing, IsUntold, IsUntoldStack, stack_next, stack_gives, untold_stack}
+use Rattle.gb_stack.specs.StackState.{stack_next, stack_gives, untold_stack}
 use Rattle.gb_stack.specs.Stands.{is_other_noticed}
 use Rattle.gb_stack.proofs.StandsLemmas as stack
+use Rattle.gb_stack.proofs.StartLemmas.{was_untold}
 use Rattle.gb_rules.specs.declared.call.GroupCall.TheVariants.{Crashed}
 use Rattle.gb_rules.specs.History.{calls_of, known, said_in}
 use Rattle.gb_rules.specs.Group.{is_other}

@@ -80,15 +80,6 @@ few_outgoing s r = few_among (limit_of s.spec) s.store s.outgoing r.counted r.st
 pub few_logged : (s : SlotState) → IsReached s → length s.log ≤ most_messages s.spec
 few_logged s r = few_among (limit_of s.spec) s.store s.log r.counted (logged_known s r.told r.stands) (logged_once s r.told r.stands)
 
--- what holds of each element of a list holds of each of a part
-all_behind : {X : Type 0} (P : X → Type 0) (xs ys : List X) → AllByRecursion P (xs ++ ys) → AllByRecursion P ys
-all_behind P [] ys a = a
-all_behind P (x ∷ xs) ys a = all_behind P xs ys a.1
-
--- what was put out last is known
-pub sends_known : (s : SlotState) (before sends : List MsgId) → IsReached s → s.outgoing ≡ before ++ sends → AllByRecursion (λ m. has s.store m ≡ true) sends
-sends_known s before sends r is = all_behind (λ m. has s.store m ≡ true) before sends (subst (AllByRecursion (λ m. has s.store m ≡ true)) is r.stands.outgoing)
-
 -- the bytes of each origin after one more message
 bytes_new : (most : ℕ) (es : List Entry) (x : Entry) → (has es (message_of x) ≡ false → bytes_of x.origin.number es + length x.payload ≤ most) → ((p : ℕ) → bytes_of p es ≤ most) → (p : ℕ) → bytes_of p (with_new es x) ≤ most
 bytes_new most es x enough few p =

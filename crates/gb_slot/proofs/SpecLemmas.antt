@@ -1,5 +1,5 @@
--- Steps keep the spec of a slot; those that say and take in a message keep to whom items are put out. Lists that were emptied are ready for the next call.
-use Rattle.std.proofs.Common.{◌≡◌, true, false, List, ℕ, refl, arith}
+-- Steps keep the spec of a slot; those that say and take in a message keep to whom items are put out.
+use Rattle.std.proofs.Common.{◌≡◌, true, false, List, ℕ, refl}
 use Rattle.std.specs.FinSet as set
 use Rattle.std.specs.Prelude.{if◌then◌else◌}
 use Rattle.gb_types.specs.Entry.{message_of}
@@ -7,13 +7,10 @@ use Rattle.gb_types.specs.declared.entry.Entry.{Entry}
 use Rattle.gb_types.specs.declared.node.NodeId.{NodeId}
 use Rattle.gb_types.specs.declared.reply.Reply.{Reply}
 use Rattle.gb_types.specs.declared.reply.Reply.TheVariants.{Done, Said, Log, Refused}
-use Rattle.gb_types.specs.declared.spec.Spec.{Spec}
 use Rattle.gb_layer.specs.declared.call.Call.TheVariants.{Came, Notice}
-use Rattle.gb_layer.specs.declared.effects.Effects.{Effects}
 use Rattle.gb_rules.specs.Messages.{with_new}
 use Rattle.gb_rules.specs.Group.{is_other}
 use Rattle.gb_rules.specs.declared.phase.Phase.{Phase}
-use Rattle.gb_slot.specs.Effects.{AreEmptied, AreReady}
 use Rattle.gb_slot.specs.Slot.{falls, slot_called, slot_moved, slot_said, slot_came, slot_noticed}
 use Rattle.gb_slot.specs.SlotState.{SlotState}
 use Rattle.gb_slot.specs.StandsFor.{reaches}
@@ -46,12 +43,3 @@ reaches-said payload (Refused why) b s = refl
 
 pub reaches-came : (from : NodeId) (x : Entry) (b : ℕ) (s : SlotState) → reaches (slot_came from x s) b ≡ reaches s b
 reaches-came from x b s = elim (falls from x s) as (λ t. reaches (if t then s else slot_called (Came from (message_of x)) (with_new s.store x) s) b ≡ reaches s b) [ true ↦ refl | false ↦ refl ]
-
--- emptied lists are still ready
-pub still_ready : (spec : Spec) (before after : Effects) → AreReady spec before → AreEmptied before after → AreReady spec after
-still_ready spec before after ready emptied =
-    let s = ready.sends in
-    let u = ready.ups in
-    let more = emptied.sends in
-    let higher = emptied.ups in
-    record { empty = emptied.empty; sends = omega (arith, s, more); ups = omega (arith, u, higher) }

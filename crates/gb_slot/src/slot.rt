@@ -103,12 +103,7 @@ impl Slot {
     /// `msgs` messages: 12 in the store, 4 in the log, 2 in the queue to the other members; 8 more if the broadcast relays, and 1 more
     /// if it keeps the order of each origin. It takes 4 bytes for each of `msgs` own messages, for the nodes that have it for good. It
     /// takes one table, by which messages are found, of 2 * `msgs` bytes for each node up to the last member.
-    pub fn new(
-        alloc: Global,
-        spec: Spec,
-        me: NodeId,
-        noticed: &NodeSet,
-    ) -> Result<Slot, Refusal>
+    pub fn new(alloc: Global, spec: Spec, me: NodeId, noticed: &NodeSet) -> Result<Slot, Refusal>
         requires limits { IsWithinLimits spec }
         requires member { is_member spec me.number ≡ true }
         ensures ok { IfOk result (λ s. s ≡ new_slot spec me noticed.now) }
@@ -121,12 +116,7 @@ impl Slot {
     }
 
     /// Returns the group, with all its memory.
-    fn make(
-        alloc: Global,
-        spec: Spec,
-        me: NodeId,
-        noticed: &NodeSet,
-    ) -> Result<Slot, OutOfMemory>
+    fn make(alloc: Global, spec: Spec, me: NodeId, noticed: &NodeSet) -> Result<Slot, OutOfMemory>
         requires limits { IsWithinLimits spec }
         requires member { is_member spec me.number ≡ true }
         ensures ok { IfOk result (λ s. s ≡ new_slot spec me noticed.now) }
@@ -237,13 +227,7 @@ impl Slot {
     /// broadcast, which may append messages to the log. Returns true if the broadcast queued something to be sent; then something waits
     /// for each other member that is not held for crashed (noticed as crashed). If false, as many messages wait for each node as
     /// before. Takes no memory.
-    pub fn came(
-        &mut self,
-        from: NodeId,
-        origin: NodeId,
-        seq: u16,
-        payload: &[u8],
-    ) -> bool
+    pub fn came(&mut self, from: NodeId, origin: NodeId, seq: u16, payload: &[u8]) -> bool
         ensures state { self.new ≡ slot_came from (record { origin = origin; seq = seq; payload = payload.now }) self.old }
         ensures put_out { result ≡ true → WaitsForEach self.new }
         ensures unchanged { result ≡ false → (dest : ℕ) → length (waiting self.new dest) ≡ length (waiting self.old dest) }

@@ -1,14 +1,9 @@
 use Rattle.std.proofs.Common.{arith}
-use Rattle.gb_types.specs.declared.limits.TheConstants.{MESSAGES, BYTES}
+use Rattle.gb_types.specs.declared.limits.TheConstants.{BYTES}
 use Rattle.gb_slot.proofs.MemoryLemmas.{all_fit}
 use Rattle.gb_slot.proofs.slot.memory.Goals as goal
 
-pub overflow_mul-messages : goal.overflow_mul-messages
-overflow_mul-messages c =
-    let fit = all_fit c.args.spec.now.members c.count_in-members.result c.args.spec.now.msgs MESSAGES c.count_in-members.ensures c.requires.msgs in
-    omega (arith, fit)
-
 pub overflow_mul-bytes : goal.overflow_mul-bytes
 overflow_mul-bytes c =
-    let fit = all_fit c.args.spec.now.members c.count_in-members.result c.args.spec.now.bytes BYTES c.count_in-members.ensures c.requires.bytes in
+    let fit = all_fit c.args.spec.now.members c.count_in.result c.args.spec.now.bytes BYTES c.count_in.ensures c.requires.bytes in
     omega (arith, fit)
