@@ -25,7 +25,6 @@ pub mod NotedLemmas
 pub mod CoveredLemmas
 pub mod DropLemmas
 pub mod FindLemmas
-pub mod LentLemmas
 pub mod OneGroupLemmas
 pub mod RoomLemmas
 pub mod InRoomsLemmas

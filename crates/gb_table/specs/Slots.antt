@@ -3,8 +3,6 @@ use Rattle.std.specs.Prelude.{ℕ, ◌≡◌, ◌<◌, false, List, [], ◌∷�
 use Rattle.slab.specs.Slab.{Slab, get}
 use Rattle.gb_types.specs.declared.address.Addr.{Addr}
 use Rattle.gb_types.specs.declared.limits.TheConstants.{PAYLOAD}
-use Rattle.gb_layer.specs.declared.effects.Effects.{Effects}
-use Rattle.gb_slot.specs.Effects.{AreReady, IsEmpty}
 use Rattle.gb_slot.specs.SlotState.{SlotState}
 use Rattle.gb_table.specs.declared.slots.Place.{Place}
 use Rattle.gb_table.specs.declared.slots.Place.TheVariants.{Key, Gone}
@@ -59,8 +57,3 @@ pub record AreKept (entries : List (Addr × Place)) (slots : Slab SlotState) : T
   pub short : AreShort PAYLOAD (map (row_of slots) entries)
   pub apart : AreApart (map (row_of slots) entries)
   pub vacant : AreVacant (map (row_of slots) entries)
-
--- the lists that are lent are empty, and have the memory that each slot needs
-pub record AreLent (slots : Slab SlotState) (out : Effects) : Type 0 where
-  pub empty : IsEmpty out
-  pub ready : (k : ℕ) (s : SlotState) → get slots k ≡ Some s → AreReady s.spec out

@@ -23,7 +23,6 @@ ghost use Rattle.gb_table.specs.GroupRows.{listed, listed_from, used};
 use crate::group_row::GroupRow;
 use gb_frame::ItemView;
 use gb_frame::item::put_item;
-use gb_layer::Effects;
 use gb_rules::Phase;
 use gb_rules::address::is_same;
 use gb_rules::room::GENERATIONS;
@@ -51,8 +50,6 @@ pub struct Slots {
     /// The place of the last group that was said something in, or that received an item or an acknowledgement. It only saves a
     /// search: the address at the place is compared.
     recent: usize,
-    /// The effects of one call of a group's broadcast. They are lent to the group, and emptied by the call.
-    effects: Effects,
 }
 
 impl Model for Slots {
@@ -65,11 +62,11 @@ impl Model for Slots {
 
     ghost coded = { Prim.hlevel (codes, set.code {R = nat_cmp} coded_ℕ) };
 
-    ghost use Rattle.gb_table.specs.Slots.{slots_of, AreKept, AreLent};
+    ghost use Rattle.gb_table.specs.Slots.{slots_of, AreKept};
 
     ghost view = { λ g. slots_of g.places.entries g.slots };
 
-    ghost invariant = { λ g. AreKept g.places.entries g.slots × AreLent g.slots g.effects };
+    ghost invariant = { λ g. AreKept g.places.entries g.slots };
 }
 
 /// Returns the key of the slot of the group at a place. `None` if the group was dropped.
@@ -101,7 +98,6 @@ impl Slots {
             places: IndexMap::new(alloc),
             slots: Slab::new(alloc),
             recent: 0,
-            effects: Effects::new(alloc),
         }
     }
 
@@ -277,7 +273,7 @@ impl Slots {
         self.recent = place;
         if let Some(key) = key_at(&self.places, place) {
             if let Some(slot) = self.slots.get_mut(key) {
-                return slot.came(from, origin, seq, payload, &mut self.effects);
+                return slot.came(from, origin, seq, payload);
             }
         }
         false
@@ -302,7 +298,7 @@ impl Slots {
     {
         if let Some(key) = key_at(&self.places, place) {
             if let Some(slot) = self.slots.get_mut(key) {
-                slot.notice(who, &mut self.effects);
+                slot.notice(who);
             }
         }
     }
@@ -347,7 +343,7 @@ impl Slots {
         self.recent = place;
         if let Some(key) = key_at(&self.places, place) {
             if let Some(slot) = self.slots.get_mut(key) {
-                return said(slot.say(version, seq, payload, &mut self.effects));
+                return said(slot.say(version, seq, payload));
             }
         }
         Reply::Refused(Refusal::Spent)
@@ -487,7 +483,7 @@ impl Slots {
     {
         self.places.reserve(GENERATIONS + 1)?;
         self.slots.reserve(1)?;
-        let Ok(slot) = Slot::new(alloc, spec.duplicate(), me, noticed, &mut self.effects) else {
+        let Ok(slot) = Slot::new(alloc, spec.duplicate(), me, noticed) else {
             return Err(OutOfMemory);
         };
         let key = self.slots.insert_reserved(slot);

@@ -11,20 +11,17 @@ use Rattle.gb_table.specs.Slots.{row_of}
 use Rattle.gb_table.proofs.SlotsLemmas.{changed, slot_is, slot_written}
 use Rattle.gb_slot.specs.SlotState.{SlotState}
 use Rattle.gb_slot.proofs.SpecLemmas.{spec-came}
-use Rattle.gb_table.proofs.LentLemmas.{lent_called}
 use Rattle.gb_table.proofs.slots.Slots.came.Goals as goal
 
 pub invariant_of-self : goal.invariant_of-self
 invariant_of-self c =
-    let v = c.in-Some-get_mut.slot.now in (
-      (changed (slot_came c.args.from (record { origin = c.args.origin; seq = c.args.seq; payload = c.args.payload.now })) c.self.inside.places.entries c.self.inside.slots c.args.place c.in-Some.key v c.came.new.self c.self.invariant.0 c.in-Some.ensures c.in-Some-get_mut.ensures.value c.came.ensures.state (ap length (taken-came c.args.from (record { origin = c.args.origin; seq = c.args.seq; payload = c.args.payload.now }) v)) (short-came PAYLOAD c.args.from (record { origin = c.args.origin; seq = c.args.seq; payload = c.args.payload.now }) v c.requires)).kept,
-      lent_called c.self.inside.slots c.in-Some.key v c.came.new.self c.self.inside.effects c.came.new.effects c.self.invariant.1 c.came.ensures.effects c.in-Some-get_mut.ensures.value (ap (λ (s : SlotState). s.spec) c.came.ensures.state ∙ spec-came c.args.from (record { origin = c.args.origin; seq = c.args.seq; payload = c.args.payload.now }) v),
-    )
+    let v = c.in-Some-get_mut.slot.now in
+    (changed (slot_came c.args.from (record { origin = c.args.origin; seq = c.args.seq; payload = c.args.payload.now })) c.self.inside.places.entries c.self.inside.slots c.args.place c.in-Some.key v c.came.new.self c.self.invariant c.in-Some.ensures c.in-Some-get_mut.ensures.value c.came.ensures.state (ap length (taken-came c.args.from (record { origin = c.args.origin; seq = c.args.seq; payload = c.args.payload.now }) v)) (short-came PAYLOAD c.args.from (record { origin = c.args.origin; seq = c.args.seq; payload = c.args.payload.now }) v c.requires)).kept
 
 pub returns-in-Some-get_mut-clause-rows : goal.returns-in-Some-get_mut-clause-rows
 returns-in-Some-get_mut-clause-rows c =
     let v = c.in-Some-get_mut.slot.now in
-    (changed (slot_came c.args.from (record { origin = c.args.origin; seq = c.args.seq; payload = c.args.payload.now })) c.self.inside.places.entries c.self.inside.slots c.args.place c.in-Some.key v c.came.new.self c.self.invariant.0 c.in-Some.ensures c.in-Some-get_mut.ensures.value c.came.ensures.state (ap length (taken-came c.args.from (record { origin = c.args.origin; seq = c.args.seq; payload = c.args.payload.now }) v)) (short-came PAYLOAD c.args.from (record { origin = c.args.origin; seq = c.args.seq; payload = c.args.payload.now }) v c.requires)).rows
+    (changed (slot_came c.args.from (record { origin = c.args.origin; seq = c.args.seq; payload = c.args.payload.now })) c.self.inside.places.entries c.self.inside.slots c.args.place c.in-Some.key v c.came.new.self c.self.invariant c.in-Some.ensures c.in-Some-get_mut.ensures.value c.came.ensures.state (ap length (taken-came c.args.from (record { origin = c.args.origin; seq = c.args.seq; payload = c.args.payload.now }) v)) (short-came PAYLOAD c.args.from (record { origin = c.args.origin; seq = c.args.seq; payload = c.args.payload.now }) v c.requires)).rows
     ∙ ap (λ (w : SlotsValue). set w.rows c.args.place (on_slot (slot_came c.args.from (record { origin = c.args.origin; seq = c.args.seq; payload = c.args.payload.now })) (row_at w.rows c.args.place))) c.self.view_is
 
 pub returns-in-Some-get_mut-clause-put_out : goal.returns-in-Some-get_mut-clause-put_out
@@ -42,6 +39,3 @@ returns-in_default-get_mut-clause-rows c = grind (arith, common_steps)
 
 pub returns-in_default-clause-rows : goal.returns-in_default-clause-rows
 returns-in_default-clause-rows c = grind (arith, common_steps)
-
-pub came-requires : goal.came-requires
-came-requires c = record { ready = c.self.invariant.1.ready c.in-Some.key c.in-Some-get_mut.slot.now (sym c.in-Some-get_mut.ensures.value) }

@@ -8,12 +8,12 @@ use Rattle.gb_table.proofs.slots.Slots.find.Goals as goal
 
 pub returns-then-is_at-clause-place : goal.returns-then-is_at-clause-place
 returns-then-is_at-clause-place c =
-    found_at c.args.addr c.self.inside.slots c.self.inside.places.entries c.self.inside.recent c.is_at.result c.self.invariant.0 c.is_at.ensures c.if-is_at.true
+    found_at c.args.addr c.self.inside.slots c.self.inside.places.entries c.self.inside.recent c.is_at.result c.self.invariant c.is_at.ensures c.if-is_at.true
     ∙ ap (λ (v : SlotsValue). position (λ (row : Row). is_addr c.args.addr row.addr) v.rows) c.self.view_is
 
 pub returns-then-is_at-2-clause-place : goal.returns-then-is_at-2-clause-place
 returns-then-is_at-2-clause-place c =
-    found_at c.args.addr c.self.inside.slots c.self.inside.places.entries c.if-next-len.next c.is_at-2.result c.self.invariant.0 c.is_at-2.ensures c.if-is_at-2.true
+    found_at c.args.addr c.self.inside.slots c.self.inside.places.entries c.if-next-len.next c.is_at-2.result c.self.invariant c.is_at-2.ensures c.if-is_at-2.true
     ∙ ap (λ (v : SlotsValue). position (λ (row : Row). is_addr c.args.addr row.addr) v.rows) c.self.view_is
 
 pub returns-clause-place : goal.returns-clause-place

@@ -8,20 +8,17 @@ use Rattle.gb_types.specs.declared.limits.TheConstants.{PAYLOAD}
 use Rattle.gb_table.proofs.StepLemmas.{short-took}
 use Rattle.gb_table.proofs.SlotsLemmas.{changed}
 use Rattle.gb_slot.specs.SlotState.{SlotState}
-use Rattle.gb_table.proofs.LentLemmas.{lent_written}
 use Rattle.gb_table.proofs.slots.Slots.give.Goals as goal
 
 pub invariant_of-self : goal.invariant_of-self
 invariant_of-self c =
-    let v = c.in-Some-get_mut.slot.now in (
-      (changed (slot_took c.args.dest.number 1) c.self.inside.places.entries c.self.inside.slots c.args.place c.in-Some.key v c.took.new.self c.self.invariant.0 c.in-Some.ensures c.in-Some-get_mut.ensures.value c.took.ensures.state (length-set v.taken c.args.dest.number _) (short-took PAYLOAD c.args.dest.number 1 v)).kept,
-      lent_written c.self.inside.slots c.in-Some.key v c.took.new.self c.self.inside.effects c.self.invariant.1 c.in-Some-get_mut.ensures.value (ap (λ (s : SlotState). s.spec) c.took.ensures.state),
-    )
+    let v = c.in-Some-get_mut.slot.now in
+    (changed (slot_took c.args.dest.number 1) c.self.inside.places.entries c.self.inside.slots c.args.place c.in-Some.key v c.took.new.self c.self.invariant c.in-Some.ensures c.in-Some-get_mut.ensures.value c.took.ensures.state (length-set v.taken c.args.dest.number _) (short-took PAYLOAD c.args.dest.number 1 v)).kept
 
 pub returns-clause-rows : goal.returns-clause-rows
 returns-clause-rows c =
     let v = c.in-Some-get_mut.slot.now in
-    (changed (slot_took c.args.dest.number 1) c.self.inside.places.entries c.self.inside.slots c.args.place c.in-Some.key v c.took.new.self c.self.invariant.0 c.in-Some.ensures c.in-Some-get_mut.ensures.value c.took.ensures.state (length-set v.taken c.args.dest.number _) (short-took PAYLOAD c.args.dest.number 1 v)).rows
+    (changed (slot_took c.args.dest.number 1) c.self.inside.places.entries c.self.inside.slots c.args.place c.in-Some.key v c.took.new.self c.self.invariant c.in-Some.ensures c.in-Some-get_mut.ensures.value c.took.ensures.state (length-set v.taken c.args.dest.number _) (short-took PAYLOAD c.args.dest.number 1 v)).rows
     ∙ ap (λ (w : SlotsValue). set w.rows c.args.place (on_slot (slot_took c.args.dest.number 1) (row_at w.rows c.args.place))) c.self.view_is
 
 pub unreachable-requires : goal.unreachable-requires

@@ -11,20 +11,17 @@ use Rattle.gb_table.specs.SlotsValue.{SlotsValue, row_at, on_slot}
 use Rattle.gb_table.proofs.SlotsLemmas.{changed}
 use Rattle.gb_slot.specs.SlotState.{SlotState}
 use Rattle.gb_slot.proofs.SpecLemmas.{spec-moved}
-use Rattle.gb_table.proofs.LentLemmas.{lent_written}
 use Rattle.gb_table.proofs.slots.Slots.open_group.Goals as goal
 
 pub invariant_of-self : goal.invariant_of-self
 invariant_of-self c =
-    let v = c.in-Some-get_mut.slot.now in (
-      (changed (slot_moved Opened (done_reply c.open_group.result)) c.self.inside.places.entries c.self.inside.slots c.args.place c.in-Some.key v c.open_group.new.self c.self.invariant.0 c.in-Some.ensures c.in-Some-get_mut.ensures.value c.open_group.ensures.state (ap length (taken-moved Opened (done_reply c.open_group.result) v)) (short-moved PAYLOAD Opened (done_reply c.open_group.result) v)).kept,
-      lent_written c.self.inside.slots c.in-Some.key v c.open_group.new.self c.self.inside.effects c.self.invariant.1 c.in-Some-get_mut.ensures.value (ap (λ (s : SlotState). s.spec) c.open_group.ensures.state ∙ spec-moved Opened (done_reply c.open_group.result) v),
-    )
+    let v = c.in-Some-get_mut.slot.now in
+    (changed (slot_moved Opened (done_reply c.open_group.result)) c.self.inside.places.entries c.self.inside.slots c.args.place c.in-Some.key v c.open_group.new.self c.self.invariant c.in-Some.ensures c.in-Some-get_mut.ensures.value c.open_group.ensures.state (ap length (taken-moved Opened (done_reply c.open_group.result) v)) (short-moved PAYLOAD Opened (done_reply c.open_group.result) v)).kept
 
 pub returns-in-Some-get_mut-clause-rows : goal.returns-in-Some-get_mut-clause-rows
 returns-in-Some-get_mut-clause-rows c =
     let v = c.in-Some-get_mut.slot.now in
-    (changed (slot_moved Opened (done_reply c.open_group.result)) c.self.inside.places.entries c.self.inside.slots c.args.place c.in-Some.key v c.open_group.new.self c.self.invariant.0 c.in-Some.ensures c.in-Some-get_mut.ensures.value c.open_group.ensures.state (ap length (taken-moved Opened (done_reply c.open_group.result) v)) (short-moved PAYLOAD Opened (done_reply c.open_group.result) v)).rows
+    (changed (slot_moved Opened (done_reply c.open_group.result)) c.self.inside.places.entries c.self.inside.slots c.args.place c.in-Some.key v c.open_group.new.self c.self.invariant c.in-Some.ensures c.in-Some-get_mut.ensures.value c.open_group.ensures.state (ap length (taken-moved Opened (done_reply c.open_group.result) v)) (short-moved PAYLOAD Opened (done_reply c.open_group.result) v)).rows
     ∙ ap (λ (w : SlotsValue). set w.rows c.args.place (on_slot (slot_moved Opened (done_reply c.open_group.result)) (row_at w.rows c.args.place))) c.self.view_is
     ∙ ap (λ (r : Reply). set c.args.self.now.rows c.args.place (on_slot (slot_moved Opened r) (row_at c.args.self.now.rows c.args.place))) (sym c.replied.ensures)
 

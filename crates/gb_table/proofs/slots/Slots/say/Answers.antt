@@ -13,20 +13,17 @@ use Rattle.gb_table.specs.SlotsValue.{SlotsValue, row_at, on_slot, unless_gone}
 use Rattle.gb_table.proofs.SlotsLemmas.{changed, slot_is, slot_written}
 use Rattle.gb_slot.specs.SlotState.{SlotState}
 use Rattle.gb_slot.proofs.SpecLemmas.{spec-said}
-use Rattle.gb_table.proofs.LentLemmas.{lent_called}
 use Rattle.gb_table.proofs.slots.Slots.say.Goals as goal
 
 pub invariant_of-self : goal.invariant_of-self
 invariant_of-self c =
-    let v = c.in-Some-get_mut.slot.now in (
-      (changed (slot_said c.args.payload.now (said_reply c.say.result)) c.self.inside.places.entries c.self.inside.slots c.args.place c.in-Some.key v c.say.new.self c.self.invariant.0 c.in-Some.ensures c.in-Some-get_mut.ensures.value c.say.ensures.state (ap length (taken-said c.args.payload.now (said_reply c.say.result) v)) (short-said PAYLOAD c.args.version (record { payload = c.args.payload.now; seq = c.args.seq }) (said_reply c.say.result) v (limits_are_within c.args.version).payload c.say.ensures.answer)).kept,
-      lent_called c.self.inside.slots c.in-Some.key v c.say.new.self c.self.inside.effects c.say.new.effects c.self.invariant.1 c.say.ensures.effects c.in-Some-get_mut.ensures.value (ap (λ (s : SlotState). s.spec) c.say.ensures.state ∙ spec-said c.args.payload.now (said_reply c.say.result) v),
-    )
+    let v = c.in-Some-get_mut.slot.now in
+    (changed (slot_said c.args.payload.now (said_reply c.say.result)) c.self.inside.places.entries c.self.inside.slots c.args.place c.in-Some.key v c.say.new.self c.self.invariant c.in-Some.ensures c.in-Some-get_mut.ensures.value c.say.ensures.state (ap length (taken-said c.args.payload.now (said_reply c.say.result) v)) (short-said PAYLOAD c.args.version (record { payload = c.args.payload.now; seq = c.args.seq }) (said_reply c.say.result) v (limits_are_within c.args.version).payload c.say.ensures.answer)).kept
 
 pub returns-in-Some-get_mut-clause-rows : goal.returns-in-Some-get_mut-clause-rows
 returns-in-Some-get_mut-clause-rows c =
     let v = c.in-Some-get_mut.slot.now in
-    (changed (slot_said c.args.payload.now (said_reply c.say.result)) c.self.inside.places.entries c.self.inside.slots c.args.place c.in-Some.key v c.say.new.self c.self.invariant.0 c.in-Some.ensures c.in-Some-get_mut.ensures.value c.say.ensures.state (ap length (taken-said c.args.payload.now (said_reply c.say.result) v)) (short-said PAYLOAD c.args.version (record { payload = c.args.payload.now; seq = c.args.seq }) (said_reply c.say.result) v (limits_are_within c.args.version).payload c.say.ensures.answer)).rows
+    (changed (slot_said c.args.payload.now (said_reply c.say.result)) c.self.inside.places.entries c.self.inside.slots c.args.place c.in-Some.key v c.say.new.self c.self.invariant c.in-Some.ensures c.in-Some-get_mut.ensures.value c.say.ensures.state (ap length (taken-said c.args.payload.now (said_reply c.say.result) v)) (short-said PAYLOAD c.args.version (record { payload = c.args.payload.now; seq = c.args.seq }) (said_reply c.say.result) v (limits_are_within c.args.version).payload c.say.ensures.answer)).rows
     ∙ ap (λ (w : SlotsValue). set w.rows c.args.place (on_slot (slot_said c.args.payload.now (said_reply c.say.result)) (row_at w.rows c.args.place))) c.self.view_is
     ∙ ap (λ (r : Reply). set c.args.self.now.rows c.args.place (on_slot (slot_said c.args.payload.now r) (row_at c.args.self.now.rows c.args.place))) (sym c.said.ensures)
 
@@ -47,6 +44,3 @@ returns-clause-reply c = grind (arith, common_steps)
 
 pub returns-clause-rows : goal.returns-clause-rows
 returns-clause-rows c = grind (arith, common_steps)
-
-pub say-requires : goal.say-requires
-say-requires c = record { ready = c.self.invariant.1.ready c.in-Some.key c.in-Some-get_mut.slot.now (sym c.in-Some-get_mut.ensures.value) }
