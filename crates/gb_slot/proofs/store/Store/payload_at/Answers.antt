@@ -1,4 +1,4 @@
-use Rattle.std.proofs.Common.{◌≡◌, ◌<◌, length, sym, ap, ◌∙◌, arith}
+use Rattle.std.proofs.Common.{◌≡◌, length, sym, ◌∙◌, arith}
 use Rattle.gb_types.proofs.SameLemmas.{same-true}
 use Rattle.gb_sinks.specs.Places.{message_at}
 use Rattle.gb_rules.specs.Messages.{payload_in}
