@@ -2,9 +2,8 @@
 //! layer hands what it sends and what it brings up to a sink, which the layer above makes over its own column and its own sink. So no
 //! layer looks a message up that it is told of, and no layer keeps a list for the layer above.
 //!
-//! **The product does not run these layers yet.** It runs gb_stack. This crate proves that layers of this form do what
-//! gb_layer's and gb_fifo's layers do: their states, steps and effects are those, so that the laws of the modules (`modules`) and of
-//! the order (`order`) hold of them. Only tests run them.
+//! gb_stack makes the ten broadcasts of a group of these layers. Their states, steps and effects are those that gb_layer and gb_fifo
+//! define, so that the laws of the modules (`modules`) and of the order (`order`) hold of them.
 //!
 //! Read `layer::Layer` first, then `sink::Sink`. `index::Index` has the messages by place. `beb::Beb` is the lowest layer,
 //! `direct::Direct` over it is best-effort broadcast. `relay::Relay`, over a layer of which a call about a message brings up that
