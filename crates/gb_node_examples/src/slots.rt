@@ -4,8 +4,8 @@ ghost use Rattle.gb_slot.specs.Effects.{AreReady, IsEmpty};
 
 use crate::slot_steps::{FRIEND, ME, OTHER, STRANGER, Step, compare, node};
 use gb_layer::Effects;
-use gb_slot::Slot;
-use gb_types::{Kind, NodeSet, Refusal, Spec, Version};
+use gb_slot::{Slot, Store};
+use gb_types::{Kind, MsgId, NodeSet, Refusal, Spec, Version};
 use std::alloc::Global;
 use std::process::Abort;
 use std::rt::HostRuntime;
@@ -581,4 +581,23 @@ fn all_that_may_be_said_is_taken(rt: HostRuntime) -> Result<(), Fail> {
         SMALL,
         ALL_THAT_MAY_BE_SAID_IS_TAKEN,
     )
+}
+
+/// A store takes memory for at most 65,536 messages. A message that is said gets the next place.
+#[test]
+fn a_store_has_a_place_for_each_message(rt: HostRuntime) -> Result<(), Fail> {
+    let alloc = rt.alloc();
+    let mut members = NodeSet::new();
+    members.insert(node(ME));
+    assert!(&rt; Store::new(alloc, &members, 4, 65_537, 8).is_err());
+    let mut store = Store::new(alloc, &members, 4, 65_536, 8)?;
+    let m = MsgId {
+        origin: node(ME),
+        seq: 1,
+    };
+    assert!(&rt; store.place(m).is_none());
+    let place = store.push(m, b"said");
+    assert!(&rt; place == 0 && store.index().find(m) == Some(0));
+    assert!(&rt; store.payload_at(m, 0) == b"said".as_slice());
+    Ok(())
 }
