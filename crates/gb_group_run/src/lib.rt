@@ -5,7 +5,7 @@
 //! specs/SlotMember.antt.
 #![tactic(auto)]
 
-mod lent_slot;
+mod answers;
 mod member;
 pub mod run;
 

@@ -7,11 +7,13 @@ ghost use Rattle.gb_slot.specs.Slot.{IsWithinLimits, slot_noticed};
 ghost use Rattle.gb_group_run.specs.SlotMember as model;
 ghost use Rattle.gb_group_run.specs.SlotMember.{carried_to, waits, on_slot};
 
-use crate::lent_slot::{LentSlot, mark_all};
+use crate::answers;
+use crate::answers::mark_all;
 use gb_alone::{GroupEvent, NodeSeen};
 use gb_rules::Reserve;
 use gb_rules::group::is_too_long;
 use gb_rules::tenant::answer_make;
+use gb_slot::Slot;
 use gb_types::limits::{BYTES, MESSAGES, NODES, WINDOW};
 use gb_types::{
     Addr, Bounds, Entries, Entry, NewMessage, NodeId, OutOfMemory, Refusal, Reply, Spec, Version,
@@ -74,7 +76,7 @@ pub(crate) struct Member {
     made: bool,
     passed: bool,
     others: usize,
-    slot: Option<LentSlot>,
+    slot: Option<Slot>,
     replies: Vec<Reply>,
     /// For each node, the items that are carried to it.
     carried: Vec<Entries>,
@@ -168,7 +170,7 @@ impl Member {
                 if !is_within_limits(spec) {
                     return Err(OutOfMemory);
                 }
-                self.slot = Some(LentSlot::make(alloc, spec, me)?);
+                self.slot = Some(answers::make(alloc, spec, me)?);
                 self.made = true;
                 Ok(Reply::Done)
             }
@@ -206,7 +208,7 @@ impl Member {
         let spent = self.made || self.passed;
         match &mut self.slot {
             None => absent(spent),
-            Some(slot) => slot.open_group(),
+            Some(slot) => answers::open_group(slot),
         }
     }
 
@@ -221,7 +223,7 @@ impl Member {
         let spent = self.made || self.passed;
         match &mut self.slot {
             None => absent(spent),
-            Some(slot) => slot.shut_group(),
+            Some(slot) => answers::shut_group(slot),
         }
     }
 
@@ -251,7 +253,7 @@ impl Member {
         let spent = self.made || self.passed;
         match &mut self.slot {
             None => absent(spent),
-            Some(slot) => slot.say(version, message),
+            Some(slot) => answers::say(slot, version, message),
         }
     }
 
@@ -264,7 +266,7 @@ impl Member {
         }
         match &self.slot {
             None => Ok(absent(self.made || self.passed)),
-            Some(slot) => slot.fetch(from, most),
+            Some(slot) => answers::fetch(slot, from, most),
         }
     }
 
@@ -329,7 +331,7 @@ impl Member {
         if count > slot.waiting_for(b) as u64 {
             return Err(OutOfMemory);
         }
-        slot.take(alloc, b, count as usize, &mut self.carried[b.index()])
+        answers::carry(slot, alloc, b, count as usize, &mut self.carried[b.index()])
     }
 
     /// Takes in an item from the node `from`. It falls if it is too long for `version`, the version of the packet text that this
@@ -341,7 +343,7 @@ impl Member {
             return;
         }
         if let Some(slot) = &mut self.slot {
-            slot.came(from, x);
+            let _ = slot.came(from, x.origin, x.seq, x.payload.as_slice());
         }
     }
 
