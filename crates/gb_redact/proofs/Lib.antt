@@ -1,0 +1,2 @@
+mod TokenLemmas
+mod TextLemmas

@@ -1,0 +1,3 @@
+pub mod Redacted
+pub mod RedactedText
+pub mod Laws

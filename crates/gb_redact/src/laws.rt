@@ -1,0 +1,18 @@
+//! Laws of redaction. Each function is a law: its contract is the theorem.
+ghost use Rattle.gb_redact.specs.Laws.{RightStayRight, DeniedLeaveNothing};
+ghost use Rattle.gb_redact.specs.RedactedText.{MarkedAreRead};
+
+/// A request that comes with the token that it needs does so too after redaction, at a node whose keys are those that stand for its own.
+pub fn right_stay_right()
+    ensures { RightStayRight }
+{}
+
+/// What is made of entries depends on no token that does not admit: of entries that differ in such tokens alone, the same is made.
+pub fn denied_leave_nothing()
+    ensures { DeniedLeaveNothing }
+{}
+
+/// The text of a redacted record is read as the text of a record with the same first line and entries.
+pub fn marked_are_read()
+    ensures { MarkedAreRead }
+{}
