@@ -7,7 +7,9 @@ use gb_audit_run::audit::audit;
 use gb_audit_run::verdict::status_of;
 use gb_audit_run::{ClusterKeys, Source};
 use gb_cap::Key;
-use gb_redact::laws::{denied_leave_nothing, marked_are_read, right_stay_right};
+use gb_redact::laws::{
+    denied_leave_nothing, marked_are_read, redacted_are_a_tape, right_stay_right,
+};
 use gb_redact::text::{keys_text, redact_text, unmarked_text};
 use gb_types::OutOfMemory;
 use gb_types::token_word::read_token;
@@ -149,6 +151,7 @@ fn outcome(alloc: Global) -> Result<bool, OutOfMemory> {
 #[test]
 fn redacted_records_are_audited_with_the_keys_beside_them(rt: HostRuntime) {
     right_stay_right();
+    redacted_are_a_tape();
     denied_leave_nothing();
     marked_are_read();
     let right = outcome(rt.alloc());

@@ -36,7 +36,7 @@ found_redacted : (b : Bool) (row : TenantRow) (made found : Option TenantRow) �
 found_redacted true row made found is = refl
 found_redacted false row made found is = is
 
-row_redacted : (tenant : ℕ) (rows : List TenantRow) → row_of tenant (map redacted_row rows) ≡ option_map redacted_row (row_of tenant rows)
+pub row_redacted : (tenant : ℕ) (rows : List TenantRow) → row_of tenant (map redacted_row rows) ≡ option_map redacted_row (row_of tenant rows)
 row_redacted tenant [] = refl
 row_redacted tenant (row ∷ rows) = found_redacted (nat_eq row.tenant tenant) row (row_of tenant (map redacted_row rows)) (row_of tenant rows) (row_redacted tenant rows)
 
@@ -122,7 +122,7 @@ abbrev pub added_by : TapeEntry → List TenantRow
 added_by e = added e.event e.answer
 
 -- the tenants after one entry more
-rows_more : (entries : List TapeEntry) (i : ℕ) (d : TapeEntry) → i < length entries → rows_in (take (i + 1) entries) ≡ rows_in (take i entries) ++ added_by (get_or entries i d)
+pub rows_more : (entries : List TapeEntry) (i : ℕ) (d : TapeEntry) → i < length entries → rows_in (take (i + 1) entries) ≡ rows_in (take i entries) ++ added_by (get_or entries i d)
 rows_more entries i d lt =
     let x = get_or entries i d in
     ap rows_in (take_more entries i d lt) ∙ (flat_map-append added_by (take i entries) (x ∷ []) ∙ ap (λ l. rows_in (take i entries) ++ l) (append-nil (added_by x)))
