@@ -1,6 +1,0 @@
-use Rattle.std.proofs.Common.{◌≡◌, ◌++◌, take}
-use Rattle.gb_slot.specs.Slot.{waiting}
-use Rattle.gb_group_run.proofs.lent_slot.LentSlot.copy_waiting.Given as goal
-
-abbrev pub invariant-loop-place : goal.invariant-loop-place
-invariant-loop-place l = l.row ≡ l.initial.row ++ take l.place (waiting l.self l.b.number)

@@ -1,6 +1,0 @@
-use Rattle.std.proofs.Common.{◌≡◌, take}
-use Rattle.gb_group_run.specs.SlotMember.{slot_marked}
-use Rattle.gb_group_run.proofs.lent_slot.mark_all.Given as goal
-
-abbrev pub invariant-loop-x : goal.invariant-loop-x
-invariant-loop-x l = l.slot ≡ slot_marked l.b (take l.x-index l.items) l.initial.slot
