@@ -3,6 +3,8 @@
 
     bench/measure.py NAME
 
+    group      what it takes to compute what one group is by itself (gb_group_run), with 4, 8, 16 and 32 members, each of which says
+               1,024 messages that are carried to all others: up to 3 million steps
     groups     what a packing and a crash notice cost a node where one group has something to pack and the noticed member, with that
                group alone and among 4,095 idle ones
     host       how many calls a second a host makes of its nodes, from 1, 2 and 4 threads on 1 and 4 nodes, without tapes, with them, and
@@ -29,6 +31,7 @@ import sys
 
 HERE = os.path.dirname(os.path.abspath(__file__))
 NEEDS = {
+    "group": "gb_types gb_rules gb_alone gb_group_run anyhow",
     "groups": "gb_types gb_cap gb_table anyhow",
     "host": "gb_types gb_cap gb_node gb_port gb_host gb_worker anyhow",
     "layers": "gb_types gb_layer gb_stack anyhow",

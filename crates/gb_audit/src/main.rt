@@ -12,11 +12,14 @@ use gb_audit_group::compare::compare;
 use gb_audit_group::lines::put_group;
 use gb_audit_run::audit::audit;
 use gb_audit_run::verdict::status_of;
-use gb_audit_run::{Audited, ClusterKeys, Source};
+use gb_audit_run::{Audited, ClusterKeys, Source, Verdict};
+use gb_record_text::ReadFault;
+use gb_redact::text::{keys_text, redact_text, unmarked_text};
 use gb_replay::ReplayFault;
 use gb_replay::complaint::put_complaint;
 use gb_replay::replay::replay;
 use gb_server::keys::{read_keys, run_key};
+use gb_types::memory::put_bytes;
 use gb_types::request_words::read_address;
 use gb_types::{Addr, OutOfMemory};
 use gb_version::VERSION;
@@ -24,12 +27,14 @@ use std::alloc::{AllocError, AllocFailed, Global};
 use std::fs::{OpenFile, OpenOptions};
 use std::io::{ErrorKind as IoKind, Write};
 use std::os::unix::fs::OpenOptionsExt;
+use std::path::Path;
 use std::process::ExitCode;
 use std::{fs, io};
 
 static AFTER: &str =
     "Standard input gives the keys of the cluster, as for gb_serve. The records that gb_serve and gb_peer write are of a run: R of their \
-names, run-R-node-I.record, is the number of --run. Without it the cluster's key is taken for that of the packets.\n\n\
+names, run-R-node-I.record, is the number of --run. Without it the cluster's key is taken for that of the packets. Redacted records are audited \
+with the keys beside them, without --run.\n\n\
 Exit status: 0 when all records are one run of the cluster, 3 when that holds of their first entries alone, 1 when they are not what nodes of \
 one cluster did, or the run has no schedule that gb_sim answers so, 2 for words that are refused or a file to be made that is there, 4 when a file \
 could not be read or written, a line not be written, or memory was refused.";
@@ -46,6 +51,15 @@ enum Trouble {
 impl From<io::Error> for Trouble {
     fn from(_error: io::Error) -> Trouble {
         Trouble::Io
+    }
+}
+
+impl From<ReadFault> for Trouble {
+    fn from(fault: ReadFault) -> Trouble {
+        match fault {
+            ReadFault::BadLine(_) => Trouble::Io,
+            ReadFault::OutOfMemory => Trouble::OutOfMemory,
+        }
     }
 }
 
@@ -80,6 +94,8 @@ struct Names<'a> {
     schedule: Option<&'a str>,
     /// The file to be made for the schedule's answers.
     answers: Option<&'a str>,
+    /// The folder for the redacted records.
+    redact: Option<&'a str>,
 }
 
 // Returns an option that names a file to be made.
@@ -113,6 +129,13 @@ fn command<'a>(alloc: Global) -> Result<Command<'a>, AllocError> {
         .help(
             "compare what is seen of group G of tenant T with what the group is alone; G is N, or N.K for generation K of room N",
         );
+    let redact = Arg::new(alloc, "redact")
+        .long("redact")
+        .action(ArgAction::Set)
+        .value_name("DIR")
+        .help(
+            "write the records without tokens and tenants' keys to new files in this folder, with the keys that an audit of them needs",
+        );
     Command::new(alloc, "gb_audit")
         .about(
             "Audits the records of a cluster's nodes: whether what they did is one run of the cluster",
@@ -122,6 +145,7 @@ fn command<'a>(alloc: Global) -> Result<Command<'a>, AllocError> {
         .arg(files)?
         .arg(run)?
         .arg(group)?
+        .arg(redact)?
         .arg(file_arg(
             alloc,
             "schedule",
@@ -209,6 +233,68 @@ fn print_group(rt: &HostRuntime, run: &Audited, addr: Addr) -> Result<(), Troubl
     print(rt, &lines)
 }
 
+// Writes a file in a folder, as `write_new` does. Returns its name, or `None` if it was there, after saying so.
+fn write_in(
+    rt: &HostRuntime,
+    dir: &str,
+    base: &str,
+    text: &[u8],
+) -> Result<Option<String>, Trouble> {
+    let name = Path::new(dir).join(rt.alloc(), base)?.into_string();
+    let is_new = write_new(rt, name.as_str(), text)?;
+    Ok(is_new.then_some(name))
+}
+
+// Writes what is left of audited records without their secrets to a folder, each under its file's own name, and the keys that an audit of
+// these needs. The folder is made if it is not there. `texts` are the records, in the order of their names. Returns false if a file was
+// there, after saying so.
+fn write_redacted(
+    rt: &HostRuntime,
+    names: &Names<'_>,
+    dir: &str,
+    keys: &ClusterKeys,
+    texts: &[Vec<u8>],
+) -> Result<bool, Trouble> {
+    let alloc = rt.alloc();
+    let _ = fs::create_dir_all(rt, dir);
+    let text = keys_text(alloc, &keys.cluster, &keys.admin)?;
+    if write_in(rt, dir, "keys", &text)?.is_none() {
+        return Ok(false);
+    }
+    for (name, text) in names.records.iter().zip(texts) {
+        let Some(base) = Path::new(name).file_name() else {
+            return Err(Trouble::Io);
+        };
+        let made = redact_text(alloc, &keys.admin, text)?;
+        let Some(place) = write_in(rt, dir, base, &made)? else {
+            return Ok(false);
+        };
+        print(rt, format!(in alloc; "redacted {place}\n")?.as_bytes())?;
+    }
+    Ok(true)
+}
+
+// Reads the records in these files. One that is redacted is read as what it was before, and a line in `lines` says so.
+fn read_texts(
+    rt: &HostRuntime,
+    names: &Names<'_>,
+    lines: &mut Vec<u8>,
+) -> Result<Vec<Vec<u8>>, Trouble> {
+    let alloc = rt.alloc();
+    let mut texts = Vec::new(alloc);
+    for name in names.records {
+        let text = fs::read(rt, *name)?;
+        match unmarked_text(alloc, &text)? {
+            Some(plain) => {
+                put_bytes(lines, format!(in alloc; "redacted {name}\n")?.as_bytes())?;
+                texts.push(plain)?;
+            }
+            None => texts.push(text)?,
+        }
+    }
+    Ok(texts)
+}
+
 // Audits the records in these files, and writes what the words ask for. Returns the exit status.
 fn audit_files(rt: &HostRuntime, names: &Names<'_>) -> Result<u8, Trouble> {
     let alloc = rt.alloc();
@@ -224,10 +310,8 @@ fn audit_files(rt: &HostRuntime, names: &Names<'_>) -> Result<u8, Trouble> {
         cluster,
         admin: keys.admin,
     };
-    let mut texts: Vec<Vec<u8>> = Vec::new(alloc);
-    for name in names.records {
-        texts.push(fs::read(rt, *name)?)?;
-    }
+    let mut lines = Vec::new(alloc);
+    let texts = read_texts(rt, names, &mut lines)?;
     let mut sources: Vec<Source<'_>> = Vec::new(alloc);
     for place in 0..names.records.len().min(texts.len()) {
         sources.push(Source {
@@ -235,7 +319,6 @@ fn audit_files(rt: &HostRuntime, names: &Names<'_>) -> Result<u8, Trouble> {
             text: texts[place].as_slice(),
         })?;
     }
-    let mut lines = Vec::new(alloc);
     let found = audit(alloc, &sources, keys, &mut lines);
     print(rt, &lines)?;
     let found = found?;
@@ -245,6 +328,12 @@ fn audit_files(rt: &HostRuntime, names: &Names<'_>) -> Result<u8, Trouble> {
     };
     if let Some(addr) = names.group {
         print_group(rt, run, addr)?;
+    }
+    if let Some(dir) = names.redact
+        && run.verdict != Verdict::Refused
+        && !write_redacted(rt, names, dir, &keys, &texts)?
+    {
+        return Ok(2);
     }
     if names.schedule.is_some() || names.answers.is_some() {
         return write_replay(rt, names, run, status);
@@ -304,6 +393,7 @@ fn run(rt: &HostRuntime) -> Result<u8, Trouble> {
         group,
         schedule: matches.get_str("schedule"),
         answers: matches.get_str("answers"),
+        redact: matches.get_str("redact"),
     };
     audit_files(rt, &names)
 }

@@ -29,6 +29,8 @@ mod projected;
 #[cfg(test)]
 mod records;
 #[cfg(test)]
+mod redacted;
+#[cfg(test)]
 mod refused;
 #[cfg(test)]
 mod replayed;

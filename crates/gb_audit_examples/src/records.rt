@@ -38,7 +38,7 @@ static STEPS: [At; 15] = [
 
 // A change of a record. Lines count from 1.
 #[derive(Clone, Copy)]
-enum Change {
+pub enum Change {
     None,
     // These bytes of a line become others.
     Replace(usize, &'static [u8], &'static [u8]),
@@ -65,7 +65,7 @@ fn put_replaced(out: &mut Vec<u8>, line: &[u8], old: &[u8], new: &[u8]) -> Resul
 }
 
 // Returns a text with a change.
-fn changed(alloc: Global, text: &[u8], change: Change) -> Result<Vec<u8>, OutOfMemory> {
+pub fn changed(alloc: Global, text: &[u8], change: Change) -> Result<Vec<u8>, OutOfMemory> {
     let mut lines: Vec<&[u8]> = Vec::new(alloc);
     for line in text.split(|byte| *byte == b'\n') {
         lines.push(line)?;

@@ -9,10 +9,11 @@ use crate::same::is_same;
 use gb_alone::Observation;
 use gb_cluster::Event;
 use gb_cluster::laws::packets_are_honest;
+use gb_group_run::alone_by_slots;
 use gb_node::past::{packets_say, pasts_say};
 use gb_trace::laws::isolated_groups_are_seen_alone;
 use gb_trace::run::run;
-use gb_trace::{alone, observe, project};
+use gb_trace::{observe, project};
 use gb_types::{Addr, OutOfMemory, Plan};
 use std::alloc::Global;
 
@@ -31,7 +32,7 @@ pub struct GroupSeen {
 /// of the run. `events` were merged from tapes, as an audit returns them; the run is that of the tapes' entries. A group that no event names
 /// is seen with no replies and no items. The events are run again, which takes memory for the run's answers and packets. `Err` if memory runs
 /// out, also where a node of the cluster that runs them is refused memory, or if a number would not fit, as `gb_trace::project` and
-/// `gb_trace::alone` say.
+/// `gb_group_run::alone_by_slots` say.
 pub fn compare(
     alloc: Global,
     plan: &Plan,
@@ -51,7 +52,7 @@ pub fn compare(
         return Err(OutOfMemory);
     }
     let steps = project(alloc, plan, events, &trace, addr)?;
-    let by_itself = alone(alloc, plan, addr, &steps)?;
+    let by_itself = alone_by_slots(alloc, plan, addr, &steps)?;
     let seen = observe(alloc, plan, events, &trace, addr)?;
     let is_same = is_same(&seen, &by_itself);
     Ok(GroupSeen {

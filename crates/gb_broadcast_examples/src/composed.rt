@@ -1,6 +1,6 @@
-//! Each stack beside the layers that it stands for.
-use crate::names::{FIRST, ME, MEMBERS, ORIGIN, OTHER, OWN, SECOND};
-use crate::stacks::{set, stack};
+//! Each stack beside the layers of gb_layer and gb_fifo that it stands for.
+use crate::names::{FIRST, ME, MEMBERS, ORIGIN, OTHER, OWN, SECOND, set};
+use crate::placed::run;
 use gb_fifo::Fifo;
 use gb_layer::{Beb, Broadcast, Call, Direct, Effects, Layer, Relay, Rule};
 use gb_reliable::{Eagerly, Lazily};
@@ -31,18 +31,17 @@ fn take<L: Layer>(layer: &mut L, call: Call, out: &mut Effects) -> Result<(), Ou
     Ok(())
 }
 
-/// Returns true if a call sends and hands up the same at two layers.
-fn gives_same<L: Layer, M: Layer>(
+/// Returns true if a call of a layer sends and hands up these effects.
+fn gives<L: Layer>(
     alloc: Global,
-    one: &mut L,
-    other: &mut M,
+    layer: &mut L,
     call: Call,
+    want: &Effects,
 ) -> Result<bool, OutOfMemory> {
-    let (mut ours, mut theirs) = (Effects::new(alloc), Effects::new(alloc));
-    take(one, call, &mut ours)?;
-    take(other, call, &mut theirs)?;
-    let sends = ours.sends.as_slice() == theirs.sends.as_slice();
-    let ups = ours.ups.as_slice() == theirs.ups.as_slice();
+    let mut out = Effects::new(alloc);
+    take(layer, call, &mut out)?;
+    let sends = out.sends.as_slice() == want.sends.as_slice();
+    let ups = out.ups.as_slice() == want.ups.as_slice();
     Ok(sends && ups)
 }
 
@@ -53,9 +52,10 @@ fn compare<L: Layer>(
     layer: &mut L,
     kind: Kind,
 ) -> Result<(), OutOfMemory> {
-    let mut stack = stack(alloc, kind, &NodeSet::new())?;
-    for call in &CALLS {
-        let same = gives_same(alloc, &mut stack, layer, *call)?;
+    let each = run(alloc, kind, &NodeSet::new(), &CALLS)?;
+    assert!(rt; each.len() == CALLS.len());
+    for (call, want) in CALLS.iter().zip(&each) {
+        let same = gives(alloc, layer, *call, want)?;
         assert!(rt; same);
     }
     Ok(())

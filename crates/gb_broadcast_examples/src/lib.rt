@@ -11,8 +11,12 @@ mod names;
 #[cfg(test)]
 mod order;
 #[cfg(test)]
+mod placed;
+#[cfg(test)]
 mod room;
 #[cfg(test)]
 mod stacks;
 #[cfg(test)]
 mod tables;
+#[cfg(test)]
+mod whole;

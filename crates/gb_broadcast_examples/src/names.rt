@@ -1,5 +1,5 @@
-// Nodes and messages that the tests speak of.
-use gb_types::{MsgId, NodeId};
+//! Nodes and messages that the tests speak of.
+use gb_types::{MsgId, NodeId, NodeSet};
 
 /// The node with the greatest number that is allowed.
 pub const ORIGIN: NodeId = NodeId { number: 31 };
@@ -21,3 +21,12 @@ pub const SECOND: MsgId = MsgId {
     origin: ORIGIN,
     seq: 2,
 };
+
+/// Returns the set of these nodes. Takes no memory.
+pub fn set(nodes: &[NodeId]) -> NodeSet {
+    let mut found = NodeSet::new();
+    for node in nodes {
+        found.insert(*node);
+    }
+    found
+}

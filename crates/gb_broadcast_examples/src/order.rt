@@ -1,5 +1,4 @@
 //! A fifo over other layers than those of a stack, and the plain order on lists worked out by hand.
-use crate::stacks::take_all;
 use gb_fifo::{Fifo, order, plain};
 use gb_layer::{Beb, Broadcast, Call, Direct, Effects, Layer};
 use gb_types::{MsgId, NodeId, OutOfMemory};
@@ -159,6 +158,16 @@ const TURNS_UPS: &[(u8, u16)] = &[
 fn two_origins_do_not_wait_for_each_other(rt: HostRuntime) -> Result<(), Fail> {
     let out = told(&rt, rt.alloc(), TURNS)?;
     compare(&rt, rt.alloc(), &out, &[(ME, 2), (ME, 1)], TURNS_UPS)?;
+    Ok(())
+}
+
+/// Makes the calls at `layer`, one after the other, with room for each. Changes `layer`, and appends to `out` the messages that it sends
+/// and those that it hands up. `Err` if memory runs out; then the calls before that were made.
+fn take_all<L: Layer>(layer: &mut L, calls: &[Call], out: &mut Effects) -> Result<(), OutOfMemory> {
+    for call in calls {
+        layer.ready(1, &mut out.sends, &mut out.ups)?;
+        layer.take(*call, &mut out.sends, &mut out.ups);
+    }
     Ok(())
 }
 

@@ -1,7 +1,4 @@
 //! Calls of one group at a node with their expected answers, as tests.
-ghost use Rattle.gb_slot.specs.Effects.{AreReady};
-
-use gb_layer::Effects;
 use gb_slot::Slot;
 use gb_types::{MsgId, NodeId, Refusal, Version};
 use std::process::Abort;
@@ -102,23 +99,18 @@ fn is_acknowledged(slot: &Slot, place: usize, want: [bool; 4]) -> bool {
 }
 
 /// Makes the call at a node of this version. Returns true if its answer is the expected one.
-fn holds(version: Version, slot: &mut Slot, effects: &mut Effects, step: Step) -> bool
-    requires { AreReady slot.old.spec effects.old }
-    ensures { AreReady slot.new.spec effects.new }
-{
+fn holds(version: Version, slot: &mut Slot, step: Step) -> bool {
     match step {
         Step::Open(want) => slot.open_group().err() == want,
         Step::Shut(want) => slot.shut_group().err() == want,
-        Step::Say(payload, want) => slot.say(version, None, payload, effects) == want,
-        Step::SayUnder(seq, payload, want) => {
-            slot.say(version, Some(seq), payload, effects) == want
-        }
+        Step::Say(payload, want) => slot.say(version, None, payload) == want,
+        Step::SayUnder(seq, payload, want) => { slot.say(version, Some(seq), payload) == want }
         Step::Came(from, (origin, seq, payload)) => {
-            slot.came(node(from), node(origin), seq, payload, effects);
+            slot.came(node(from), node(origin), seq, payload);
             true
         }
         Step::Notice(who) => {
-            slot.notice(node(who), effects);
+            slot.notice(node(who));
             true
         }
         Step::Done(dest, origin, seq) => {
@@ -151,18 +143,9 @@ fn holds(version: Version, slot: &mut Slot, effects: &mut Effects, step: Step) -
 
 /// Makes these calls of a group's slot in turn, at a node of this version. The test aborts with a message at the first whose answer
 /// is not the step's.
-pub fn compare(
-    rt: &impl Abort,
-    version: Version,
-    slot: &mut Slot,
-    effects: &mut Effects,
-    steps: &[Step],
-)
-    requires { AreReady slot.old.spec effects.old }
-    ensures { AreReady slot.new.spec effects.new }
-{
+pub fn compare(rt: &impl Abort, version: Version, slot: &mut Slot, steps: &[Step]) {
     for step in steps {
-        let held = holds(version, slot, effects, *step);
+        let held = holds(version, slot, *step);
         assert!(rt; held);
     }
 }

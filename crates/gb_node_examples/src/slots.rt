@@ -1,9 +1,5 @@
 //! One group at one node.
-ghost use Rattle.std.specs.Prelude.{IfOk};
-ghost use Rattle.gb_slot.specs.Effects.{AreReady, IsEmpty};
-
 use crate::slot_steps::{FRIEND, ME, OTHER, STRANGER, Step, compare, node};
-use gb_layer::Effects;
 use gb_slot::{Slot, Store};
 use gb_types::{Kind, MsgId, NodeSet, Refusal, Spec, Version};
 use std::alloc::Global;
@@ -46,16 +42,7 @@ const SMALL: Limits = Limits {
 };
 
 /// Returns a group of three members at one of them. The other may be noticed before it is made.
-fn group(
-    alloc: Global,
-    kind: Kind,
-    limits: Limits,
-    noticed: bool,
-    effects: &mut Effects,
-) -> Result<Slot, Refusal>
-    requires { IsEmpty effects.old }
-    ensures { IfOk result (λ s. AreReady s.spec effects.new) }
-{
+fn group(alloc: Global, kind: Kind, limits: Limits, noticed: bool) -> Result<Slot, Refusal> {
     let me = node(ME);
     let mut members = NodeSet::new();
     members.insert(node(FRIEND));
@@ -80,7 +67,7 @@ fn group(
         bytes,
         window,
     };
-    Slot::new(alloc, spec, me, &seen, effects)
+    Slot::new(alloc, spec, me, &seen)
 }
 
 /// Compares the answer of each call of a group of this kind.
@@ -91,9 +78,8 @@ fn run(
     limits: Limits,
     steps: &[Step],
 ) -> Result<(), Fail> {
-    let mut effects = Effects::new(alloc);
-    let mut slot = group(alloc, kind, limits, false, &mut effects)?;
-    compare(rt, Version::One, &mut slot, &mut effects, steps);
+    let mut slot = group(alloc, kind, limits, false)?;
+    compare(rt, Version::One, &mut slot, steps);
     Ok(())
 }
 
@@ -193,13 +179,11 @@ const NOTHING_WAITS_FOR_A_NODE_THAT_WAS_NOTICED: &[Step] = &[
 
 #[test]
 fn nothing_waits_for_a_node_that_was_noticed(rt: HostRuntime) -> Result<(), Fail> {
-    let mut effects = Effects::new(rt.alloc());
-    let mut slot = group(rt.alloc(), Kind::Beb, WIDE, true, &mut effects)?;
+    let mut slot = group(rt.alloc(), Kind::Beb, WIDE, true)?;
     compare(
         &rt,
         Version::One,
         &mut slot,
-        &mut effects,
         NOTHING_WAITS_FOR_A_NODE_THAT_WAS_NOTICED,
     );
     Ok(())
@@ -261,15 +245,8 @@ const PAYLOADS_OF_VERSION_TWO: &[Step] = &[
 
 #[test]
 fn longer_payloads_are_said_at_a_node_of_version_two(rt: HostRuntime) -> Result<(), Fail> {
-    let mut effects = Effects::new(rt.alloc());
-    let mut slot = group(rt.alloc(), Kind::Beb, WIDE, false, &mut effects)?;
-    compare(
-        &rt,
-        Version::Two,
-        &mut slot,
-        &mut effects,
-        PAYLOADS_OF_VERSION_TWO,
-    );
+    let mut slot = group(rt.alloc(), Kind::Beb, WIDE, false)?;
+    compare(&rt, Version::Two, &mut slot, PAYLOADS_OF_VERSION_TWO);
     Ok(())
 }
 
@@ -368,20 +345,17 @@ const BEST_EFFORT_TAKES_RELAYED_COPIES_IN_2: &[Step] = &[
 
 #[test]
 fn best_effort_takes_relayed_copies_in(rt: HostRuntime) -> Result<(), Fail> {
-    let mut effects = Effects::new(rt.alloc());
-    let mut slot = group(rt.alloc(), Kind::Beb, WIDE, false, &mut effects)?;
+    let mut slot = group(rt.alloc(), Kind::Beb, WIDE, false)?;
     compare(
         &rt,
         Version::One,
         &mut slot,
-        &mut effects,
         BEST_EFFORT_TAKES_RELAYED_COPIES_IN,
     );
     compare(
         &rt,
         Version::One,
         &mut slot,
-        &mut effects,
         BEST_EFFORT_TAKES_RELAYED_COPIES_IN_2,
     );
     Ok(())
@@ -434,27 +408,23 @@ const ALL_ACK_GROUPS_WAIT_FOR_EACH_MEMBER_3: &[Step] = &[
 
 #[test]
 fn all_ack_groups_wait_for_each_member(rt: HostRuntime) -> Result<(), Fail> {
-    let mut effects = Effects::new(rt.alloc());
-    let mut slot = group(rt.alloc(), Kind::AllAck, WIDE, false, &mut effects)?;
+    let mut slot = group(rt.alloc(), Kind::AllAck, WIDE, false)?;
     compare(
         &rt,
         Version::One,
         &mut slot,
-        &mut effects,
         ALL_ACK_GROUPS_WAIT_FOR_EACH_MEMBER,
     );
     compare(
         &rt,
         Version::One,
         &mut slot,
-        &mut effects,
         ALL_ACK_GROUPS_WAIT_FOR_EACH_MEMBER_2,
     );
     compare(
         &rt,
         Version::One,
         &mut slot,
-        &mut effects,
         ALL_ACK_GROUPS_WAIT_FOR_EACH_MEMBER_3,
     );
     Ok(())

@@ -2,4 +2,4 @@ use Rattle.std.proofs.Common.{◌≤◌}
 use Rattle.gb_broadcast_examples.proofs.stacks.compare_kind.Given as goal
 
 abbrev pub invariant-loop-n : goal.invariant-loop-n
-invariant-loop-n g l = l.whole ≤ l.n
+invariant-loop-n g l = l.lawful ≤ l.n

@@ -1,0 +1,169 @@
+//! The calls of a layer that is told places, by the messages that they name. An index has the messages.
+ghost use Rattle.std.specs.Prelude.{◌≡◌, List, true, length, OnOk};
+ghost use Rattle.gb_types.specs.declared.message.MsgId.{MsgId};
+ghost use Rattle.gb_sinks.specs.Places.{Names, IsNext, reached, told_after};
+
+use crate::names::{ME, MEMBERS, set};
+use gb_layer::{Call, Effects, Up};
+use gb_sinks::calls::make_call;
+use gb_sinks::{Bounded, Index, Layer, Lists, PlacedCall};
+use gb_stack::Stack;
+use gb_types::{Kind, NodeSet, OutOfMemory, Spec};
+use std::alloc::Global;
+
+/// Returns a new stack for a group of `kind` with the members 1, 2 and 31, at node 1, which already holds the nodes `noticed` for
+/// crashed.
+pub fn stack(alloc: Global, kind: Kind, noticed: &NodeSet) -> Stack
+    ensures { (ms : List MsgId) → ⟦<Stack as Layer>⟧.knows ms result 0 0 }
+{
+    let spec = Spec {
+        kind,
+        members: set(&MEMBERS),
+        msgs: 8,
+        bytes: 4_096,
+        window: 4,
+    };
+    Stack::new(alloc, &spec, ME, noticed)
+}
+
+/// Returns an index of the messages that these calls name, in the order in which they are named first.
+fn index_of(alloc: Global, calls: &[Call]) -> Result<Index, OutOfMemory> {
+    let mut index = Index::new(alloc);
+    index.cover(&set(&MEMBERS), 2)?;
+    for call in calls {
+        match *call {
+            Call::Say(m) | Call::Came(_, m) => {
+                let _place = index.place(m)?;
+            }
+            Call::Notice(_) => {}
+        }
+    }
+    Ok(index)
+}
+
+/// Returns the call by the place of its message. `None` if the message is not in the index.
+fn placed(index: &Index, call: Call) -> Option<PlacedCall> {
+    match call {
+        Call::Say(m) => index.find(m).map(|place| PlacedCall::Say(place)),
+        Call::Came(from, m) => index.find(m).map(|place| PlacedCall::Came(from, place)),
+        Call::Notice(who) => Some(PlacedCall::Notice(who)),
+    }
+}
+
+/// Returns true if the place is one of the first `told`, or the next one, and is below `places`.
+fn is_next_place(place: u16, told: usize, places: usize) -> bool
+    ensures { result ≡ true → IsNext told places place }
+{
+    if usize::from(place) <= told {
+        if usize::from(place) < places {
+            return true;
+        }
+    }
+    false
+}
+
+/// Returns true if a layer that was told of the first `told` places, and has memory for `places` places, may be told the call.
+fn is_next(call: PlacedCall, told: usize, places: usize) -> bool
+    ensures { result ≡ true → Names (IsNext told places) call }
+{
+    match call {
+        PlacedCall::Say(place) => is_next_place(place, told, places),
+        PlacedCall::Came(_, place) => is_next_place(place, told, places),
+        PlacedCall::Notice(_) => true,
+    }
+}
+
+/// Returns how many places were told once `place` was told too.
+fn reached(told: usize, place: u16) -> usize
+    ensures { result ≡ reached told place }
+{
+    if told == usize::from(place) {
+        told + 1
+    } else {
+        told
+    }
+}
+
+/// Returns how many places were told after the call.
+fn told_after(told: usize, call: PlacedCall) -> usize
+    ensures { result ≡ told_after told call }
+{
+    match call {
+        PlacedCall::Say(place) => reached(told, place),
+        PlacedCall::Came(_, place) => reached(told, place),
+        PlacedCall::Notice(_) => told,
+    }
+}
+
+/// Makes one call, and appends its effects to `out`. `told` is the number of places that were told. Returns false, with no call made,
+/// if the call names a place too early.
+fn make_next<L: Bounded>(
+    layer: &mut L,
+    index: &Index,
+    call: PlacedCall,
+    told: &mut usize,
+    out: &mut Lists,
+) -> Result<bool, OutOfMemory>
+    requires { L.knows index.now.list.items layer.old told.old (length index.now.list.items) }
+    ensures { OnOk result (L.knows index.now.list.items layer.new told.new (length index.now.list.items)) }
+{
+    if !is_next(call, *told, index.list.len()) {
+        return Ok(false);
+    }
+    make_call(layer, index, call, out)?;
+    *told = told_after(*told, call);
+    Ok(true)
+}
+
+/// Returns the effects in messages. A place that is not in the index is left out.
+fn in_messages(alloc: Global, index: &Index, lists: &Lists) -> Result<Effects, OutOfMemory> {
+    let mut out = Effects::new(alloc);
+    for place in &lists.sends {
+        if let Some(m) = index.list.get(usize::from(*place)) {
+            out.sends.push(*m)?;
+        }
+    }
+    for up in &lists.ups {
+        if let Some(m) = index.list.get(usize::from(up.place)) {
+            out.ups.push(Up { via: up.via, m: *m })?;
+        }
+    }
+    Ok(out)
+}
+
+/// Makes these calls, each where the one before left the layer, which takes the memory for all of them at once. Returns what each of
+/// them sends and hands up. The list ends before the first call that is not made, since it names a place too early.
+pub fn effects<L: Bounded>(
+    alloc: Global,
+    layer: &mut L,
+    calls: &[Call],
+) -> Result<Vec<Effects>, OutOfMemory>
+    requires { (ms : List MsgId) → L.knows ms layer.old 0 0 }
+{
+    let index = index_of(alloc, calls)?;
+    layer.whole(index.list.len())?;
+    let mut told = 0;
+    let mut each = Vec::new(alloc);
+    for call in calls {
+        let Some(placed) = placed(&index, *call) else {
+            return Ok(each);
+        };
+        let mut lists = Lists::new(alloc);
+        if !make_next(layer, &index, placed, &mut told, &mut lists)? {
+            return Ok(each);
+        }
+        each.push(in_messages(alloc, &index, &lists)?)?;
+    }
+    Ok(each)
+}
+
+/// Returns what these calls of a new stack send and hand up, each.
+pub fn run(
+    alloc: Global,
+    kind: Kind,
+    noticed: &NodeSet,
+    calls: &[Call],
+) -> Result<Vec<Effects>, OutOfMemory> {
+    let mut layer = stack(alloc, kind, noticed);
+    effects(alloc, &mut layer, calls)
+}

@@ -1,0 +1,9 @@
+pub mod Stands
+pub mod MarkLemmas
+pub mod AckLemmas
+pub mod ReplyLemmas
+pub mod CallLemmas
+pub mod CommandLemmas
+pub mod EventLemmas
+pub mod StepLemmas
+pub mod SeenLemmas

@@ -1,0 +1,158 @@
+-- Which items of a list are acknowledged, by their places.
+use Rattle.std.proofs.Common.{◌≡◌, ℕ, zero, suc, ◌+◌, ◌-◌, ◌≤◌, ◌<◌, ◌⊎◌, inl, inr, nat_eq, List, [], ◌∷◌, ◌++◌, length, take, drop, Bool, true, false, ◌&&◌, ◌||◌, refl, sym, ◌∙◌, ap, arith}
+use Rattle.std.specs.List.{list_any, range_with_len}
+use Rattle.std.proofs.Math.Bool.{or_assoc}
+use Rattle.std.proofs.lemmas.List.{length-take-le, length-drop, take-append-drop}
+use Rattle.std.proofs.lemmas.List.Folds.{list_any-append}
+use Rattle.std.proofs.lemmas.Bool.{cases_eq, or_parts}
+use Rattle.std.proofs.lemmas.Bool.Decides.{nat_tests}
+use Rattle.gb_types.specs.declared.entry.Entry.{Entry}
+use Rattle.gb_alone.specs.Alone.{is_marked, is_message, is_acknowledged}
+
+and_false : (a b : Bool) → b ≡ false → (a && b) ≡ false
+and_false true b e = e
+and_false false b e = refl
+
+-- where no place from here on is marked, none of these is acknowledged
+pub none_acknowledged : (me k : ℕ) (done : List ℕ) (place : ℕ) (xs : List Entry) → ((p : ℕ) → place ≤ p → is_marked p done ≡ false) → is_acknowledged me k done place xs ≡ false
+none_acknowledged me k done place [] none = refl
+none_acknowledged me k done place (x ∷ xs) none = λ i. (and_false (is_message me k x) (is_marked place done) (none place (omega arith)) i) || none_acknowledged me k done (place + 1) xs (λ p above. none p (omega (arith, above))) i
+
+pub acknowledged-append : (me k : ℕ) (done : List ℕ) (place : ℕ) (xs ys : List Entry) → is_acknowledged me k done place (xs ++ ys) ≡ (is_acknowledged me k done place xs || is_acknowledged me k done (place + length xs) ys)
+acknowledged-append me k done place [] ys = ap (λ p. is_acknowledged me k done p ys) (omega arith)
+acknowledged-append me k done place (x ∷ xs) ys =
+    ap (λ b. (is_message me k x && is_marked place done) || b) (acknowledged-append me k done (place + 1) xs ys)
+    ∙ (sym (or_assoc (is_message me k x && is_marked place done) (is_acknowledged me k done (place + 1) xs) (is_acknowledged me k done (place + 1 + length xs) ys))
+    ∙ ap (λ p. ((is_message me k x && is_marked place done) || is_acknowledged me k done (place + 1) xs) || is_acknowledged me k done p ys) (plus place (length xs)))
+  where
+    plus : (a b : ℕ) → a + 1 + b ≡ a + suc b
+    plus a b = omega arith
+
+-- items behind those that may be acknowledged change nothing
+pub acknowledged_front : (me k : ℕ) (done : List ℕ) (xs ys : List Entry) → ((p : ℕ) → length xs < p → is_marked p done ≡ false) → is_acknowledged me k done 1 (xs ++ ys) ≡ is_acknowledged me k done 1 xs
+acknowledged_front me k done xs ys beyond =
+    acknowledged-append me k done 1 xs ys
+    ∙ (ap (λ b. is_acknowledged me k done 1 xs || b) (none_acknowledged me k done (1 + length xs) ys (λ p above. beyond p (omega (arith, above)))) ∙ off (is_acknowledged me k done 1 xs))
+  where
+    off : (b : Bool) → (b || false) ≡ b
+    off true = refl
+    off false = refl
+
+-- a message that is none of these is not acknowledged
+pub unknown_acknowledged : (me k : ℕ) (done : List ℕ) (place : ℕ) (xs : List Entry) → list_any (is_message me k) xs ≡ false → is_acknowledged me k done place xs ≡ false
+unknown_acknowledged me k done place [] none = refl
+unknown_acknowledged me k done place (x ∷ xs) none =
+    let parts = or_parts (is_message me k x) (list_any (is_message me k) xs) none in
+    ap (λ b. (b && is_marked place done) || is_acknowledged me k done (place + 1) xs) parts.0 ∙ unknown_acknowledged me k done (place + 1) xs parts.1
+
+-- More places are acknowledged.
+
+-- of these items, with the places from this one on, the message stands at a place that passes the test
+abbrev is_own_at : ℕ → ℕ → (ℕ → Bool) → ℕ → List Entry → Bool
+is_own_at me k test place [] = false
+is_own_at me k test place (x ∷ xs) = (is_message me k x && test place) || is_own_at me k test (place + 1) xs
+
+acknowledged_more : (me k : ℕ) (marks next : List ℕ) (added : ℕ → Bool) (place : ℕ) (xs : List Entry) → ((p : ℕ) → is_marked p next ≡ (added p || is_marked p marks))
+    → is_acknowledged me k next place xs ≡ (is_acknowledged me k marks place xs || is_own_at me k added place xs)
+acknowledged_more me k marks next added place [] more = refl
+acknowledged_more me k marks next added place (x ∷ xs) more =
+    (λ i. (is_message me k x && more place i) || acknowledged_more me k marks next added (place + 1) xs more i)
+    ∙ by (is_message me k x) (added place) (is_marked place marks) (is_acknowledged me k marks (place + 1) xs) (is_own_at me k added (place + 1) xs)
+  where
+    by : (o a m x y : Bool) → ((o && (a || m)) || (x || y)) ≡ (((o && m) || x) || ((o && a) || y))
+    by true true true x y = refl
+    by true true false true y = refl
+    by true true false false y = refl
+    by true false true x y = refl
+    by true false false x y = refl
+    by false a m x y = refl
+
+own_at-append : (me k : ℕ) (test : ℕ → Bool) (place : ℕ) (xs ys : List Entry) → is_own_at me k test place (xs ++ ys) ≡ (is_own_at me k test place xs || is_own_at me k test (place + length xs) ys)
+own_at-append me k test place [] ys = ap (λ p. is_own_at me k test p ys) (omega arith)
+own_at-append me k test place (x ∷ xs) ys =
+    ap (λ b. (is_message me k x && test place) || b) (own_at-append me k test (place + 1) xs ys)
+    ∙ (sym (or_assoc (is_message me k x && test place) (is_own_at me k test (place + 1) xs) (is_own_at me k test (place + 1 + length xs) ys))
+    ∙ ap (λ p. ((is_message me k x && test place) || is_own_at me k test (place + 1) xs) || is_own_at me k test p ys) (plus place (length xs)))
+  where
+    plus : (a b : ℕ) → a + 1 + b ≡ a + suc b
+    plus a b = omega arith
+
+-- items whose places all pass, or none of them
+own_at-same : (me k : ℕ) (test : ℕ → Bool) (t : Bool) (place : ℕ) (xs : List Entry) → ((p : ℕ) → place ≤ p → p < place + length xs → test p ≡ t) → is_own_at me k test place xs ≡ (t && list_any (is_message me k) xs)
+own_at-same me k test true place [] marked = refl
+own_at-same me k test false place [] marked = refl
+own_at-same me k test t place (x ∷ xs) marked =
+    (λ i. (is_message me k x && marked place (omega arith) (omega arith) i) || own_at-same me k test t (place + 1) xs (λ p low high. marked p (omega (arith, low)) (omega (arith, high))) i)
+    ∙ by t (is_message me k x) (list_any (is_message me k) xs)
+  where
+    by : (t a b : Bool) → ((a && t) || (t && b)) ≡ (t && (a || b))
+    by true true b = refl
+    by true false b = refl
+    by false true b = refl
+    by false false b = refl
+
+-- the places of a stretch
+
+within_range : (p place count : ℕ) → place ≤ p → p < place + count → is_marked p (range_with_len place count) ≡ true
+within_range p place zero low high = absurd (omega (arith, low, high))
+within_range p place (suc count) low high = elim (cases_eq place p) [
+  | inl same ↦ let on : nat_eq place p ≡ true = grind (arith, nat_tests, same) in ap (λ b. b || is_marked p (range_with_len (place + 1) count)) on
+  | inr other ↦
+      let off : nat_eq place p ≡ false = grind (arith, nat_tests, other) in
+      ap (λ b. b || is_marked p (range_with_len (place + 1) count)) off ∙ within_range p (place + 1) count (omega (arith, low, other)) (omega (arith, high))
+]
+
+outside_range : (p place count : ℕ) → ((p < place) ⊎ (place + count ≤ p)) → is_marked p (range_with_len place count) ≡ false
+outside_range p place zero out = refl
+outside_range p place (suc count) out =
+    let off : nat_eq place p ≡ false = elim out [ inl low ↦ grind (arith, nat_tests, low) | inr high ↦ grind (arith, nat_tests, high) ] in
+    ap (λ b. b || is_marked p (range_with_len (place + 1) count)) off
+    ∙ outside_range p (place + 1) count (elim out [ inl low ↦ inl (omega (arith, low)) | inr high ↦ inr (omega (arith, high)) ])
+
+marked-append : (p : ℕ) (more done : List ℕ) → is_marked p (more ++ done) ≡ (is_marked p more || is_marked p done)
+marked-append p more done = list_any-append (λ q. nat_eq q p) more done
+
+-- no place behind these is marked by them
+pub range_behind : (p place count : ℕ) (done : List ℕ) → place + count ≤ p → is_marked p done ≡ false → is_marked p (range_with_len place count ++ done) ≡ false
+range_behind p place count done high none = marked-append p (range_with_len place count) done ∙ (λ i. outside_range p place count (inr high) i || none i)
+
+-- the items with these places are acknowledged, too
+pub acknowledged_with : (me k place count : ℕ) (done : List ℕ) (xs : List Entry) → 0 < place → place + count ≤ length xs + 1
+    → is_acknowledged me k (range_with_len place count ++ done) 1 xs ≡ (is_acknowledged me k done 1 xs || list_any (is_message me k) (take count (drop (place - 1) xs)))
+acknowledged_with me k place count done xs some fits =
+    acknowledged_more me k done (range_with_len place count ++ done) added 1 xs (λ p. marked-append p (range_with_len place count) done)
+    ∙ ap (λ b. is_acknowledged me k done 1 xs || b) inside
+  where
+    added : ℕ → Bool
+    added p = is_marked p (range_with_len place count)
+
+    first : List Entry
+    first = take (place - 1) xs
+
+    middle : List Entry
+    middle = take count (drop (place - 1) xs)
+
+    last : List Entry
+    last = drop count (drop (place - 1) xs)
+
+    split : first ++ (middle ++ last) ≡ xs
+    split = ap (λ ys. first ++ ys) (take-append-drop count (drop (place - 1) xs)) ∙ take-append-drop (place - 1) xs
+
+    before : length first ≡ place - 1
+    before = length-take-le (place - 1) xs (omega (arith, fits, some))
+
+    within : length middle ≡ count
+    within = length-take-le count (drop (place - 1) xs) (omega (arith, fits, some, length-drop (place - 1) xs))
+
+    off : (b : Bool) → (b || false) ≡ b
+    off true = refl
+    off false = refl
+
+    inside : is_own_at me k added 1 xs ≡ list_any (is_message me k) middle
+    inside =
+        ap (λ ys. is_own_at me k added 1 ys) (sym split)
+        ∙ (own_at-append me k added 1 first (middle ++ last)
+        ∙ ((λ i. own_at-same me k added false 1 first (λ p low high. outside_range p place count (inl (omega (arith, high, before, some)))) i || own_at-append me k added (1 + length first) middle last i)
+        ∙ ((λ i. own_at-same me k added true (1 + length first) middle (λ p low high. within_range p place count (omega (arith, low, before, some)) (omega (arith, high, before, within, some))) i
+        || own_at-same me k added false (1 + length first + length middle) last (λ p low high. outside_range p place count (inr (omega (arith, low, before, within, some)))) i)
+        ∙ off (list_any (is_message me k) middle))))

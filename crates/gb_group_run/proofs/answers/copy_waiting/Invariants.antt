@@ -1,0 +1,6 @@
+use Rattle.std.proofs.Common.{◌≡◌, ◌++◌, take}
+use Rattle.gb_slot.specs.Slot.{waiting}
+use Rattle.gb_group_run.proofs.answers.copy_waiting.Given as goal
+
+abbrev pub invariant-loop-place : goal.invariant-loop-place
+invariant-loop-place l = l.row ≡ l.initial.row ++ take l.place (waiting l.slot l.b.number)

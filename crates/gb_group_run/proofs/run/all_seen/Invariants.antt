@@ -1,0 +1,7 @@
+use Rattle.std.proofs.Common.{◌≡◌}
+use Rattle.std.specs.Prelude.{map}
+use Rattle.gb_group_run.specs.SlotMember.{seen_of}
+use Rattle.gb_group_run.proofs.run.all_seen.Given as goal
+
+abbrev pub invariant-loop-member : goal.invariant-loop-member
+invariant-loop-member l = l.seen.items ≡ map (seen_of l.nodes) l.yielded

@@ -1,0 +1,4 @@
+mod TokenLemmas
+mod TextLemmas
+mod TableLemmas
+mod PastLemmas

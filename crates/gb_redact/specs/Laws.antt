@@ -1,0 +1,74 @@
+-- What redaction keeps of entries, and what it leaves out.
+use Rattle.std.specs.Prelude.{◌≡◌, ◌⊎◌, ℕ, ◌<◌, true, false, List, length, take, get_or, map}
+use Rattle.gb_types.specs.declared.node.NodeId.{NodeId}
+use Rattle.gb_types.specs.declared.request.Request.{Request}
+use Rattle.gb_types.specs.declared.request.Request.TheVariants.{AddTenant, Make, OpenGroup, ShutGroup, DropGroup, Say, Fetch}
+use Rattle.gb_types.specs.declared.spec.TenantRow.{TenantRow}
+use Rattle.gb_table.specs.Admission.{has_token}
+use Rattle.gb_node.specs.declared.event.NodeEvent.{NodeEvent}
+use Rattle.gb_node.specs.declared.event.NodeEvent.TheVariants.{Request as Asked}
+use Rattle.gb_node.specs.declared.tape.TapeEntry.{TapeEntry}
+use Rattle.gb_redact.specs.Redacted.{redacted_key, redacted_row, no_token, rows_in, redacted_request, AreRedacted}
+
+-- the request with this token
+abbrev pub with_token : List ℕ → Request → Request
+with_token token (AddTenant old row) = AddTenant token row
+with_token token (Make old addr spec) = Make token addr spec
+with_token token (OpenGroup old addr) = OpenGroup token addr
+with_token token (ShutGroup old addr) = ShutGroup token addr
+with_token token (DropGroup old addr) = DropGroup token addr
+with_token token (Say old addr message) = Say token addr message
+with_token token (Fetch old addr from most) = Fetch token addr from most
+
+-- the request without a tenant's key
+abbrev pub without_key : Request → Request
+without_key (AddTenant token row) = AddTenant token (record row { key = no_token })
+without_key request = request
+
+-- the event with nothing in the place of a token and of a key
+abbrev pub bare : NodeEvent → NodeEvent
+bare (Asked request) = Asked (without_key (with_token no_token request))
+bare event = event
+
+-- the entry is the other one, but for a token and a key
+pub record IsKept (e made : TapeEntry) : Type 0 where
+  pub seat : made.seat ≡ e.seat
+  pub count : made.count ≡ e.count
+  pub event : bare made.event ≡ bare e.event
+  pub answer : made.answer ≡ e.answer
+
+-- each entry is
+abbrev pub AreKept : List TapeEntry → List TapeEntry → Type 0
+AreKept entries made = (i : ℕ) (d : TapeEntry) → i < length entries → IsKept (get_or entries i d) (get_or made i d)
+
+-- A token that admits is replaced by one that admits under the keys that stand for the others.
+abbrev pub RightStayRight : Type 0
+RightStayRight = (admin : List ℕ) (me : NodeId) (rows : List TenantRow) (request : Request) → has_token admin me rows request ≡ true
+    → has_token (redacted_key admin) me (map redacted_row rows) (redacted_request admin me rows request) ≡ true
+
+-- a request without the token that it needs
+abbrev pub IsDenied : List ℕ → NodeId → List TenantRow → NodeEvent → Type 0
+IsDenied admin me rows (Asked request) = has_token admin me rows request ≡ false
+IsDenied admin me rows event = ⊥
+
+-- the event with this token, if it is a request
+abbrev pub event_with : List ℕ → NodeEvent → NodeEvent
+event_with token (Asked request) = Asked (with_token token request)
+event_with token event = event
+
+-- two entries that are one entry but for their tokens, which do not admit
+pub record AreBothDenied (admin : List ℕ) (me : NodeId) (rows : List TenantRow) (x y : TapeEntry) : Type 0 where
+  pub first : IsDenied admin me rows x.event
+  pub second : IsDenied admin me rows y.event
+  pub token : List ℕ
+  pub same : x ≡ record y { event = event_with token y.event }
+
+-- the entries are the same but for tokens that do not admit
+pub record AreAlike (admin : List ℕ) (me : NodeId) (xs ys : List TapeEntry) : Type 0 where
+  pub count : length xs ≡ length ys
+  pub each : (i : ℕ) (d : TapeEntry) → i < length xs → (get_or xs i d ≡ get_or ys i d) ⊎ AreBothDenied admin me (rows_in (take i ys)) (get_or xs i d) (get_or ys i d)
+
+-- What is made of entries depends on no token that does not admit.
+abbrev pub DeniedLeaveNothing : Type 0
+DeniedLeaveNothing = (admin : List ℕ) (me : NodeId) (xs ys made others : List TapeEntry) → AreAlike admin me xs ys
+    → AreRedacted admin me xs made → AreRedacted admin me ys others → made ≡ others

@@ -1,0 +1,4 @@
+pub mod Redacted
+pub mod RedactedText
+pub mod Laws
+pub mod Pasts

@@ -1,0 +1,79 @@
+-- The entries of a node's record without what lets a reader act for others: the tenants' keys and the tokens.
+use Rattle.std.specs.Prelude.{◌≡◌, ℕ, ◌<◌, List, length, take, get_or, codes, replicate, Option, Some, None, option_map, if◌then◌else◌}
+use Rattle.std.specs.List.{flat_map}
+use Rattle.gb_types.specs.declared.address.Addr.{Addr}
+use Rattle.gb_types.specs.declared.node.NodeId.{NodeId}
+use Rattle.gb_types.specs.declared.request.Request.{Request}
+use Rattle.gb_types.specs.declared.request.Request.TheVariants.{AddTenant, Make, OpenGroup, ShutGroup, DropGroup, Say, Fetch}
+use Rattle.gb_types.specs.declared.spec.TenantRow.{TenantRow}
+use Rattle.gb_cap.specs.Hmac.{hmac_of}
+use Rattle.gb_cap.specs.Token.{token_of}
+use Rattle.gb_cap.specs.declared.token.Need.{Need}
+use Rattle.gb_cap.specs.declared.token.Need.TheVariants.{Admin, Tenant, Member}
+use Rattle.gb_rules.specs.Tenant.{row_of}
+use Rattle.gb_table.specs.Admission.{is_token}
+use Rattle.gb_node.specs.Past.{added}
+use Rattle.gb_node.specs.declared.event.NodeEvent.{NodeEvent}
+use Rattle.gb_node.specs.declared.event.NodeEvent.TheVariants.{Request as Asked}
+use Rattle.gb_node.specs.declared.tape.TapeEntry.{TapeEntry}
+
+-- the key that stands for a key: HMAC-SHA-256 (RFC 2104) of the word `redacted` under it
+abbrev pub redacted_key : List ℕ → List ℕ
+redacted_key key = hmac_of key (codes "redacted")
+
+-- a tenant's row with the key that stands for its key
+abbrev pub redacted_row : TenantRow → TenantRow
+redacted_row row = record row { key = redacted_key row.key }
+
+-- what stands for a token that does not admit: 32 zero bytes
+abbrev pub no_token : List ℕ
+no_token = replicate 32 0
+
+-- What stands for a token that came for this need: the token for the need under the key that stands for `key`, if it is the one under `key`, and else no token.
+-- Where there is no key, no token admits.
+abbrev pub redacted_token : Need → Option (List ℕ) → List ℕ → List ℕ
+redacted_token need None token = no_token
+redacted_token need (Some key) token = if is_token key need token then token_of (redacted_key key) need else no_token
+
+-- the rows of the tenants that entries added, in order
+abbrev pub rows_in : List TapeEntry → List TenantRow
+rows_in entries = flat_map (λ (e : TapeEntry). added e.event e.answer) entries
+
+-- the key of a tenant, if it is there
+abbrev pub key_in : List TenantRow → ℕ → Option (List ℕ)
+key_in rows tenant = option_map (λ (row : TenantRow). row.key) (row_of tenant rows)
+
+-- what stands for the token of a group's tenant, and for that of its member at this node
+abbrev pub tenant_token : List TenantRow → Addr → List ℕ → List ℕ
+tenant_token rows addr token = redacted_token (Tenant addr.tenant) (key_in rows addr.tenant) token
+
+abbrev pub member_token : NodeId → List TenantRow → Addr → List ℕ → List ℕ
+member_token me rows addr token = redacted_token (Member addr.tenant addr.group me) (key_in rows addr.tenant) token
+
+-- a request at a node with these tenants, with what stands for its token and for a tenant's key
+abbrev pub redacted_request : List ℕ → NodeId → List TenantRow → Request → Request
+redacted_request admin me rows (AddTenant token row) = AddTenant (redacted_token Admin (Some admin) token) (redacted_row row)
+redacted_request admin me rows (Make token addr spec) = Make (tenant_token rows addr token) addr spec
+redacted_request admin me rows (OpenGroup token addr) = OpenGroup (tenant_token rows addr token) addr
+redacted_request admin me rows (ShutGroup token addr) = ShutGroup (tenant_token rows addr token) addr
+redacted_request admin me rows (DropGroup token addr) = DropGroup (tenant_token rows addr token) addr
+redacted_request admin me rows (Say token addr message) = Say (member_token me rows addr token) addr message
+redacted_request admin me rows (Fetch token addr from most) = Fetch (member_token me rows addr token) addr from most
+
+-- other events have neither
+abbrev pub redacted_event : List ℕ → NodeId → List TenantRow → NodeEvent → NodeEvent
+redacted_event admin me rows (Asked request) = Asked (redacted_request admin me rows request)
+redacted_event admin me rows event = event
+
+abbrev pub redacted_entry : List ℕ → NodeId → List TenantRow → TapeEntry → TapeEntry
+redacted_entry admin me rows e = record e { event = redacted_event admin me rows e.event }
+
+-- Each of the first n entries at the node `me`, whose administrator has the key `admin`, became what stands for it where the tenants are those that the
+-- entries before it added.
+abbrev pub AreRedactedTo : List ℕ → NodeId → List TapeEntry → List TapeEntry → ℕ → Type 0
+AreRedactedTo admin me entries made n = (i : ℕ) (d : TapeEntry) → i < n → get_or made i d ≡ redacted_entry admin me (rows_in (take i entries)) (get_or entries i d)
+
+-- each entry did, and there are no others
+pub record AreRedacted (admin : List ℕ) (me : NodeId) (entries made : List TapeEntry) : Type 0 where
+  pub count : length made ≡ length entries
+  pub each : AreRedactedTo admin me entries made (length entries)
