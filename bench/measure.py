@@ -10,7 +10,7 @@
     host       how many calls a second a host makes of its nodes, from 1, 2 and 4 threads on 1 and 4 nodes, without tapes, with them, and
                with rings to a thread that records, beside a node alone; and how many messages a second come from a say at one node to a
                fetch at another, over rings and over UDP on this machine
-    layers     what a message costs a group's broadcast, for each kind, among 16 members with 64, 256 and 1,024 messages each
+    layers     what a message costs a group's broadcast, for each kind, among 32 members with 64, 256 and 1,024 messages each
     long_life  100,000 generations of one room at two nodes of version 3: rounds, seconds, and the memory of the process after the first
                thousand rounds and at the end; status 1 if it grew by more than a hundredth, or an answer is not that of a group at new nodes
     merge      how many entries of tapes a second are merged, at 10,000 and at 100,000 entries, and with packets of 8 KB
@@ -34,7 +34,7 @@ NEEDS = {
     "group": "gb_types gb_rules gb_alone gb_group_run anyhow",
     "groups": "gb_types gb_cap gb_table anyhow",
     "host": "gb_types gb_cap gb_node gb_port gb_host gb_worker anyhow",
-    "layers": "gb_types gb_layer gb_stack anyhow",
+    "layers": "gb_types gb_sinks gb_stack anyhow",
     "long_life": "gb_types gb_cap gb_node anyhow",
     "merge": "gb_types gb_cap gb_node gb_cluster gb_merge anyhow",
     "nodes": "gb_types gb_cap gb_node anyhow",

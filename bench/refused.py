@@ -116,7 +116,7 @@ MAKERS = [
     ('command of gb_ctl', 1), ('read_words', 3), ('refusal_text', None), ('Payload::from_slice', 1_000), ('Entries::from_slice', 3),
     ('Entry::duplicate', 1_000), ('Reply::duplicate', 3), ('reply_text', 6_020), ('NodeEvent::duplicate', 1_000),
     ('NodeAnswer::duplicate', 3), ('LineBuffer::new', 1), ('Feed::new', 1), ('RingPort::mesh', 3), ('new_pasts', 3), ('Store::new', 1),
-    *[('Stack::new', 1), ('Slot::new', 1)] * 10]
+    *[('Stack::whole', 1), ('Slot::new', 1)] * 10]
 
 WORD = re.compile(
     r'ok|said \d+|log \d+( \d+:\d+:(-|[0-9a-f]+))*|packet \d+|nothing|good (none|first|seen|outside) \d+ \d+'
