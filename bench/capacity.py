@@ -105,8 +105,9 @@ def message_cost(kind, members, payload, fetches, together=1):
 
 def group_memory(kind, members, messages, size):
     """Bytes of a group at a node, all taken when it is made (docs/COSTS.md): about a kilobyte more than what its limits say."""
-    remembers = kind != "beb"
-    return 1024 + members * size + members * messages * (18 + 12 * remembers + 2 * (1 + remembers)) + 4 * messages
+    ordered = kind in ("fbeb", "flazy", "feager", "fallack", "fmajority")
+    relays = kind not in ("beb", "fbeb")
+    return 1024 + members * size + members * messages * (18 + 8 * relays + ordered + 2) + 4 * messages
 
 
 def idle_cost(nodes):

@@ -14,8 +14,10 @@ from schedule import start
 # The bytes for each of the n * m messages: an entry of the store, a number in the log, and its place in the store in what
 # is put out.
 MESSAGE = 12 + 4 + 2
-# What a relay or an order adds: a record.
-RECORD = 12
+# What a relay adds: what it keeps of a message at the message's place.
+RELAYED = 8
+# What an order adds: a mark at the message's place.
+MARK = 1
 # A table has a place of 2 bytes for each of m numbers of each node up to the last member.
 TABLE = 2
 # The set of the nodes that have an own message for good.
@@ -28,10 +30,9 @@ GROUPS = 8
 
 def reserved(kind, members, msgs, size):
     """The bytes that the spec reserves, and those of the fixed tables."""
-    remembers = kind != 'beb'
-    message = MESSAGE + RECORD * remembers
-    tables = 1 + remembers
-    return members * msgs * message + members * size + msgs * ACKNOWLEDGED, tables * TABLE * members * msgs
+    module = kind[1:] if kind in ('fbeb', 'flazy', 'feager', 'fallack', 'fmajority') else kind
+    message = MESSAGE + RELAYED * (module != 'beb') + MARK * (module != kind)
+    return members * msgs * message + members * size + msgs * ACKNOWLEDGED, TABLE * members * msgs
 
 
 def status_bytes(process, name):
