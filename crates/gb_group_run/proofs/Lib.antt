@@ -7,3 +7,4 @@ pub mod CommandLemmas
 pub mod EventLemmas
 pub mod StepLemmas
 pub mod SeenLemmas
+pub mod LegalLemmas

@@ -1,1 +1,2 @@
 pub mod SlotMember
+pub mod Legal

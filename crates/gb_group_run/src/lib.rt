@@ -6,6 +6,7 @@
 #![tactic(auto)]
 
 mod answers;
+pub mod laws;
 mod member;
 pub mod run;
 
