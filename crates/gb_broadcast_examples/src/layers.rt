@@ -1,44 +1,44 @@
 //! The lowest layer, and the plain program on a history worked out by hand.
 use crate::names::{FIRST, ME, MEMBERS, ORIGIN, OTHER, OWN, SECOND};
-use gb_layer::{Beb, BroadcastModule, Call, Effects, Layer, Up, plain};
+use crate::placed::{Outcome, effects};
+use gb_layer::{BroadcastModule, Call, Up, plain};
+use gb_sinks::{Beb, Layer};
 use gb_types::{MsgId, OutOfMemory};
 use std::alloc::Global;
 use std::process::Abort;
 use std::test::Fail;
 
-/// Tells a layer of an own message, of another node's and of a crash.
-fn tell(rt: &impl Abort, layer: &mut Beb, out: &mut Effects) -> Result<(), OutOfMemory> {
-    assert!(rt; layer.me() == ME);
-    layer.ready(3, &mut out.sends, &mut out.ups)?;
-    assert!(rt; out.sends.capacity() >= 3 && out.ups.capacity() >= 3);
-    layer.say(OWN, &mut out.sends, &mut out.ups);
-    layer.ready(1, &mut out.sends, &mut out.ups)?;
-    layer.came(OTHER, FIRST, &mut out.sends, &mut out.ups);
-    layer.ready(1, &mut out.sends, &mut out.ups)?;
-    layer.notice(ORIGIN, &mut out.sends, &mut out.ups);
-    Ok(())
-}
-
-const UPS: [Up; 2] = [
-    Up { via: ME, m: OWN },
-    Up {
-        via: OTHER,
-        m: FIRST,
-    },
+/// An own message, another node's and a crash.
+const CALLS: [Call; 3] = [
+    Call::Say(OWN),
+    Call::Came(OTHER, FIRST),
+    Call::Notice(ORIGIN),
 ];
 
-/// Compares what a layer sends and hands up after `tell`.
-fn compare_told(rt: &impl Abort, out: &Effects) {
-    assert!(rt; out.sends.as_slice() == [OWN].as_slice());
-    assert!(rt; out.ups.as_slice() == UPS.as_slice());
+/// Compares what a call sent and what came up.
+fn compare_call(rt: &impl Abort, out: &Outcome, sends: &[MsgId], ups: &[Up]) {
+    assert!(rt; out.sends.as_slice() == sends);
+    assert!(rt; out.ups.as_slice() == ups);
+}
+
+/// Compares the effects of the three calls of the lowest layer.
+fn compare_told(rt: &impl Abort, each: &[Outcome]) {
+    assert!(rt; each.len() == 3);
+    compare_call(rt, &each[0], &[OWN], &[Up { via: ME, m: OWN }]);
+    let relayed = Up {
+        via: OTHER,
+        m: FIRST,
+    };
+    compare_call(rt, &each[1], &[], &[relayed]);
+    compare_call(rt, &each[2], &[], &[]);
 }
 
 #[test]
 fn beb_hands_up_whatever_comes(rt: HostRuntime) -> Result<(), Fail> {
     let mut layer = Beb::new(ME);
-    let mut out = Effects::new(rt.alloc());
-    tell(&rt, &mut layer, &mut out)?;
-    compare_told(&rt, &out);
+    assert!(rt; layer.me() == ME);
+    let each = effects(rt.alloc(), &mut layer, &CALLS)?;
+    compare_told(&rt, &each);
     Ok(())
 }
 

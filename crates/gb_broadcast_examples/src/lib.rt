@@ -3,7 +3,7 @@
 #![tactic(auto)]
 
 #[cfg(test)]
-mod composed;
+mod laws;
 #[cfg(test)]
 mod layers;
 #[cfg(test)]
@@ -18,5 +18,3 @@ mod room;
 mod stacks;
 #[cfg(test)]
 mod tables;
-#[cfg(test)]
-mod whole;

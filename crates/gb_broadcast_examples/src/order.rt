@@ -1,6 +1,11 @@
 //! A fifo over other layers than those of a stack, and the plain order on lists worked out by hand.
-use gb_fifo::{Fifo, order, plain};
-use gb_layer::{Beb, Broadcast, Call, Direct, Effects, Layer};
+ghost use Rattle.std.specs.Prelude.{List};
+ghost use Rattle.gb_types.specs.declared.message.MsgId.{MsgId};
+
+use crate::placed::{Outcome, effects};
+use gb_fifo::plain;
+use gb_layer::Call;
+use gb_sinks::{Beb, Bounded, Direct, Fifo, Layer};
 use gb_types::{MsgId, NodeId, OutOfMemory};
 use std::alloc::Global;
 use std::process::Abort;
@@ -35,13 +40,13 @@ fn listed(alloc: Global, told: &[(u8, u16)]) -> Result<Vec<MsgId>, OutOfMemory> 
 }
 
 /// Returns true if these messages were sent.
-fn has_sent(alloc: Global, out: &Effects, sends: &[(u8, u16)]) -> Result<bool, OutOfMemory> {
+fn has_sent(alloc: Global, out: &Outcome, sends: &[(u8, u16)]) -> Result<bool, OutOfMemory> {
     let sends = listed(alloc, sends)?;
     Ok(out.sends.as_slice() == sends.as_slice())
 }
 
 /// Returns the messages that came up.
-fn messages(alloc: Global, out: &Effects) -> Result<Vec<MsgId>, OutOfMemory> {
+fn messages(alloc: Global, out: &Outcome) -> Result<Vec<MsgId>, OutOfMemory> {
     let mut found = Vec::new(alloc);
     for up in &out.ups {
         found.push(up.m)?;
@@ -50,7 +55,7 @@ fn messages(alloc: Global, out: &Effects) -> Result<Vec<MsgId>, OutOfMemory> {
 }
 
 /// Returns true if these messages came up.
-fn has_given(alloc: Global, out: &Effects, ups: &[(u8, u16)]) -> Result<bool, OutOfMemory> {
+fn has_given(alloc: Global, out: &Outcome, ups: &[(u8, u16)]) -> Result<bool, OutOfMemory> {
     let found = messages(alloc, out)?;
     let ups = listed(alloc, ups)?;
     Ok(found.as_slice() == ups.as_slice())
@@ -60,7 +65,7 @@ fn has_given(alloc: Global, out: &Effects, ups: &[(u8, u16)]) -> Result<bool, Ou
 fn compare(
     rt: &impl Abort,
     alloc: Global,
-    out: &Effects,
+    out: &Outcome,
     sends: &[(u8, u16)],
     ups: &[(u8, u16)],
 ) -> Result<(), OutOfMemory> {
@@ -81,35 +86,53 @@ fn call_of(origin: u8, seq: u16) -> Call {
     }
 }
 
-/// Makes the call for a message at a fifo. Then the number of messages that have come up is the last number of the step.
-fn take<L: Layer>(
-    rt: &impl Abort,
-    fifo: &mut L,
-    out: &mut Effects,
-    step: (u8, u16, usize),
-) -> Result<(), OutOfMemory> {
-    let (origin, seq, count) = step;
-    fifo.ready(1, &mut out.sends, &mut out.ups)?;
-    fifo.take(call_of(origin, seq), &mut out.sends, &mut out.ups);
-    assert!(rt; out.ups.len() == count);
-    Ok(())
+/// A message, by origin and number, and how many messages have come up after its call.
+type Step = (u8, u16, usize);
+
+/// Returns the calls of these steps.
+fn calls_of(alloc: Global, steps: &[Step]) -> Result<Vec<Call>, OutOfMemory> {
+    let mut calls = Vec::new(alloc);
+    for (origin, seq, _) in steps {
+        calls.push(call_of(*origin, *seq))?;
+    }
+    Ok(calls)
+}
+
+/// Returns true if after the call of each step as many messages had come up as the step says.
+fn have_counts(each: &[Outcome], steps: &[Step]) -> bool {
+    let mut count: usize = 0;
+    for (out, step) in each.iter().zip(steps) {
+        count = count.saturating_add(out.ups.len());
+        if count != step.2 {
+            return false;
+        }
+    }
+    each.len() == steps.len()
+}
+
+/// Returns the effects of all these calls, one after the other.
+fn gathered(alloc: Global, each: &[Outcome]) -> Result<Outcome, OutOfMemory> {
+    let mut all = Outcome {
+        sends: Vec::new(alloc),
+        ups: Vec::new(alloc),
+    };
+    for out in each {
+        all.sends.extend_from_slice(&out.sends)?;
+        all.ups.extend_from_slice(&out.ups)?;
+    }
+    Ok(all)
 }
 
 /// Takes the steps at a new fifo, one after the other. Returns what was sent and what came up.
-fn told(
-    rt: &impl Abort,
-    alloc: Global,
-    steps: &[(u8, u16, usize)],
-) -> Result<Effects, OutOfMemory> {
+fn told(rt: &impl Abort, alloc: Global, steps: &[Step]) -> Result<Outcome, OutOfMemory> {
     let mut fifo = Fifo::new(alloc, Direct::new(Beb::new(node(ME))));
-    let mut out = Effects::new(alloc);
-    for step in steps {
-        take(rt, &mut fifo, &mut out, *step)?;
-    }
-    Ok(out)
+    let calls = calls_of(alloc, steps)?;
+    let each = effects(alloc, &mut fifo, &calls)?;
+    assert!(rt; have_counts(&each, steps));
+    gathered(alloc, &each)
 }
 
-const LATE: &[(u8, u16, usize)] = &[
+const LATE: &[Step] = &[
     (ORIGIN, 3, 0),
     (ORIGIN, 2, 0),
     (OTHER, 1, 1),
@@ -135,7 +158,7 @@ fn a_gap_is_filled_late(rt: HostRuntime) -> Result<(), Fail> {
     Ok(())
 }
 
-const TURNS: &[(u8, u16, usize)] = &[
+const TURNS: &[Step] = &[
     (ORIGIN, 2, 0),
     (OTHER, 1, 1),
     (ME, 2, 1),
@@ -161,21 +184,11 @@ fn two_origins_do_not_wait_for_each_other(rt: HostRuntime) -> Result<(), Fail> {
     Ok(())
 }
 
-/// Makes the calls at `layer`, one after the other, with room for each. Changes `layer`, and appends to `out` the messages that it sends
-/// and those that it hands up. `Err` if memory runs out; then the calls before that were made.
-fn take_all<L: Layer>(layer: &mut L, calls: &[Call], out: &mut Effects) -> Result<(), OutOfMemory> {
-    for call in calls {
-        layer.ready(1, &mut out.sends, &mut out.ups)?;
-        layer.take(*call, &mut out.sends, &mut out.ups);
-    }
-    Ok(())
-}
-
-/// Tells a layer of the second and the first message of an origin that crashes in between, and of an own one.
-fn tell<L: Layer>(rt: &impl Abort, layer: &mut L, out: &mut Effects) -> Result<(), OutOfMemory> {
-    assert!(rt; layer.me() == node(ME));
-    layer.ready(3, &mut out.sends, &mut out.ups)?;
-    assert!(rt; out.sends.capacity() >= 3 && out.ups.capacity() >= 3);
+/// Tells a layer of the second and the first message of an origin that crashes in between, and of an own one. Returns what it sends and
+/// hands up.
+fn tell<L: Bounded>(alloc: Global, layer: &mut L) -> Result<Outcome, OutOfMemory>
+    requires { (ms : List MsgId) → L.knows ms layer.old 0 0 }
+{
     let origin = node(ORIGIN);
     let calls = [
         Call::Came(origin, message(ORIGIN, 2)),
@@ -183,38 +196,23 @@ fn tell<L: Layer>(rt: &impl Abort, layer: &mut L, out: &mut Effects) -> Result<(
         Call::Came(origin, message(ORIGIN, 1)),
         Call::Say(message(ME, 1)),
     ];
-    take_all(layer, &calls, out)
+    let each = effects(alloc, layer, &calls)?;
+    gathered(alloc, &each)
 }
 
-/// Compares what a layer sends and hands up after `tell`.
-fn compare_told<L: Layer>(
-    rt: &impl Abort,
-    alloc: Global,
-    layer: &mut L,
-) -> Result<(), OutOfMemory> {
-    let mut out = Effects::new(alloc);
-    tell(rt, layer, &mut out)?;
+/// Compares what a fifo over a fifo sends and hands up after `tell`.
+fn compare_two_fifos(rt: &impl Abort, alloc: Global) -> Result<(), OutOfMemory> {
+    let below = Fifo::new(alloc, Direct::new(Beb::new(node(ME))));
+    let mut fifo = Fifo::new(alloc, below);
+    assert!(rt; fifo.me() == node(ME));
+    let out = tell(alloc, &mut fifo)?;
     let ups = [(ORIGIN, 1), (ORIGIN, 2), (ME, 1)];
     compare(rt, alloc, &out, &[(ME, 1)], &ups)
 }
 
-/// Compares the same of a fifo over a fifo.
-fn compare_two_fifos(rt: &impl Abort, alloc: Global) -> Result<(), OutOfMemory> {
-    let below = Fifo::new(alloc, Direct::new(Beb::new(node(ME))));
-    let mut fifo = Fifo::new(alloc, below);
-    compare_told(rt, alloc, &mut fifo)
-}
-
-/// Calls the laws on what a fifo over a layer hands up.
-fn laws<L: Broadcast>() {
-    order::one_two_three::<L>();
-    order::in_origin_order::<L>();
-}
-
-/// A fifo over a fifo hands up the same as a fifo. It may take the place of the layer below, and makes room for each call.
+/// A fifo over a fifo hands up the same as a fifo. It may take the place of the layer below.
 #[test]
 fn a_fifo_stands_over_any_broadcast(rt: HostRuntime) -> Result<(), Fail> {
-    laws::<Fifo<Direct<Beb>>>();
     compare_two_fifos(&rt, rt.alloc())?;
     Ok(())
 }

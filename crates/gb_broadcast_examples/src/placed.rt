@@ -4,12 +4,19 @@ ghost use Rattle.gb_types.specs.declared.message.MsgId.{MsgId};
 ghost use Rattle.gb_sinks.specs.Places.{Names, IsNext, reached, told_after};
 
 use crate::names::{ME, MEMBERS, set};
-use gb_layer::{Call, Effects, Up};
+use gb_layer::{Call, Up};
 use gb_sinks::calls::make_call;
 use gb_sinks::{Bounded, Index, Layer, Lists, PlacedCall};
 use gb_stack::Stack;
-use gb_types::{Kind, NodeSet, OutOfMemory, Spec};
+use gb_types::{Kind, MsgId, NodeSet, OutOfMemory, Spec};
 use std::alloc::Global;
+
+/// The effects of a call: the messages that are sent to each other member, and the pairs that come up.
+#[derive(Drop)]
+pub struct Outcome {
+    pub sends: Vec<MsgId>,
+    pub ups: Vec<Up>,
+}
 
 /// Returns a new stack for a group of `kind` with the members 1, 2 and 31, at node 1, which already holds the nodes `noticed` for
 /// crashed.
@@ -116,8 +123,11 @@ fn make_next<L: Bounded>(
 }
 
 /// Returns the effects in messages. A place that is not in the index is left out.
-fn in_messages(alloc: Global, index: &Index, lists: &Lists) -> Result<Effects, OutOfMemory> {
-    let mut out = Effects::new(alloc);
+fn in_messages(alloc: Global, index: &Index, lists: &Lists) -> Result<Outcome, OutOfMemory> {
+    let mut out = Outcome {
+        sends: Vec::new(alloc),
+        ups: Vec::new(alloc),
+    };
     for place in &lists.sends {
         if let Some(m) = index.list.get(usize::from(*place)) {
             out.sends.push(*m)?;
@@ -137,7 +147,7 @@ pub fn effects<L: Bounded>(
     alloc: Global,
     layer: &mut L,
     calls: &[Call],
-) -> Result<Vec<Effects>, OutOfMemory>
+) -> Result<Vec<Outcome>, OutOfMemory>
     requires { (ms : List MsgId) → L.knows ms layer.old 0 0 }
 {
     let index = index_of(alloc, calls)?;
@@ -163,7 +173,7 @@ pub fn run(
     kind: Kind,
     noticed: &NodeSet,
     calls: &[Call],
-) -> Result<Vec<Effects>, OutOfMemory> {
+) -> Result<Vec<Outcome>, OutOfMemory> {
     let mut layer = stack(alloc, kind, noticed);
     effects(alloc, &mut layer, calls)
 }

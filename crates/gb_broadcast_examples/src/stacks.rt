@@ -1,8 +1,8 @@
 //! The stacks of the ten kinds of broadcast, as tests: what a stack sends and delivers is compared with the plain program of its kind. A
 //! check that fails aborts the test with a message.
 use crate::names::{FIRST, ME, MEMBERS, ORIGIN, OTHER, OWN, SECOND, set};
-use crate::placed::{run, stack};
-use gb_layer::{Call, Effects};
+use crate::placed::{Outcome, run, stack};
+use gb_layer::Call;
 use gb_sinks::Layer;
 use gb_stack::{plain, stands};
 use gb_types::kind::KINDS;
@@ -69,7 +69,7 @@ fn has_log(
 }
 
 /// Adds what came up to the log, each message under its origin.
-fn add_ups(rt: &impl Abort, out: &Effects, log: &mut Vec<MsgId>) -> Result<(), OutOfMemory> {
+fn add_ups(rt: &impl Abort, out: &Outcome, log: &mut Vec<MsgId>) -> Result<(), OutOfMemory> {
     for up in &out.ups {
         assert!(rt; up.via == up.m.origin);
         log.push(up.m)?;
@@ -83,7 +83,7 @@ fn compare_effects(
     alloc: Global,
     kind: Kind,
     history: &[Call],
-    out: &Effects,
+    out: &Outcome,
     log: &mut Vec<MsgId>,
 ) -> Result<(), OutOfMemory> {
     let sent = has_sent(alloc, kind, history, &out.sends)?;
@@ -231,7 +231,7 @@ fn a_relayed_copy_tells_the_kinds_apart(rt: HostRuntime) -> Result<(), Fail> {
 /// Appends what these calls sent, and what came up, which is of the origin.
 fn add_effects(
     rt: &impl Abort,
-    each: &[Effects],
+    each: &[Outcome],
     sends: &mut Vec<MsgId>,
     ups: &mut Vec<MsgId>,
 ) -> Result<(), OutOfMemory> {

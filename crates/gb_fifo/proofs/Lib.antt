@@ -3,4 +3,3 @@ pub mod OrderLemmas
 pub mod NumberLemmas
 pub mod FifoOrderLemmas
 pub mod InOrderLemmas
-pub mod AsideLemmas

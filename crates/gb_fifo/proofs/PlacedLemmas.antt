@@ -1,5 +1,5 @@
 -- The first entry that passes a test is handed up, and the next message of an origin again and again.
-use Rattle.std.proofs.Common.{◌≡◌, ℕ, ◌+◌, ◌-◌, ◌<◌, ◌≤◌, ◌&&◌, ◌||◌, nat_eq, slice_get, slice_index, ◌≢◌, Bool, true, false, cond, not, List, [], ◌∷◌, ◌++◌, take, set, get_or, length, count_by, refl, ap, sym, ◌∙◌, arith, zero, suc, append_assoc}
+use Rattle.std.proofs.Common.{◌≡◌, ℕ, ◌+◌, ◌-◌, ◌<◌, ◌&&◌, nat_eq, slice_index, ◌≢◌, Bool, true, false, cond, not, List, [], ◌∷◌, ◌++◌, take, set, get_or, length, refl, ap, sym, ◌∙◌, arith, zero, suc, append_assoc}
 use Rattle.std.specs.declared.option.Option.TheVariants.{Some}
 use Rattle.std.specs.List.{list_any}
 use Rattle.std.proofs.Math.Bool.{and-true, and-false}
@@ -13,27 +13,9 @@ use Rattle.gb_types.proofs.BoolLemmas.{and_left, and_right, or_left, or_right}
 use Rattle.gb_layer.specs.declared.effects.Up.{Up}
 use Rattle.gb_layer.specs.Counts.{count_by-cons, count_by-set}
 use Rattle.gb_fifo.specs.declared.entry.Entry.{Entry}
-use Rattle.gb_fifo.specs.Entries.{is_given_of, given_of, give, pick, given_entry, up_of, is_ungiven, is_next, IsPlace, released, released_ups, next_of}
+use Rattle.gb_fifo.specs.Entries.{is_given_of, given_of, give, pick, given_entry, up_of, is_next, IsPlace, released, released_ups, next_of}
 use Rattle.gb_fifo.specs.EntryLemmas.{next_new}
 use Rattle.gb_fifo.proofs.NumberLemmas.{next_seq}
-
--- a test that fails at each place before one
-pub none_before : (p : Entry → Bool) (es : List Entry) (i : ℕ) → ((k : ℕ) (e : Entry) → k < i → slice_get es k ≡ Some e → p e ≡ false) → list_any p (take i es) ≡ false
-none_before p [] zero none = refl
-none_before p [] (suc i) none = refl
-none_before p (e ∷ es) zero none = refl
-none_before p (e ∷ es) (suc i) none = ap (λ b. b || list_any p (take i es)) (none zero e (omega arith) refl) ∙ none_before p es i (λ k x lt at. none (suc k) x (omega (arith, lt)) at)
-
--- and from it on
-pub none_after : (p : Entry → Bool) (es : List Entry) (i : ℕ) → list_any p (take i es) ≡ false → ((k : ℕ) (e : Entry) → i ≤ k → slice_get es k ≡ Some e → p e ≡ false) → list_any p es ≡ false
-none_after p [] i h none = refl
-none_after p (e ∷ es) zero h none = ap (λ b. b || list_any p es) (none zero e (omega arith) refl) ∙ none_after p es zero (any_none es) (λ k x le at. none (suc k) x (omega arith) at)
-  where
-    any_none : (xs : List Entry) → list_any p (take 0 xs) ≡ false
-    any_none [] = refl
-    any_none (x ∷ xs) = refl
-none_after p (e ∷ es) (suc i) h none =
-    ap (λ b. b || list_any p es) (or_left (p e) _ h) ∙ none_after p es i (or_right (p e) _ h) (λ k x le at. none (suc k) x (omega (arith, le)) at)
 
 -- the next entry of an origin is of that origin
 pub next_of_origin : (s k : ℕ) (e : Entry) → is_next s k e ≡ true → nat_eq e.m.origin.number s ≡ true
@@ -75,17 +57,6 @@ picked_at p es i x h is = picked_core p es i x h.0 is (passes p es i x h is) h.2
 
 pub any_at : (p : Entry → Bool) (es : List Entry) (i : ℕ) (x : Entry) → IsPlace p es (Some i) → x ≡ get_or es i x → list_any p es ≡ true
 any_at p es i x h is = list_any_at p es i x h.0 (ap p (sym is) ∙ passes p es i x h is)
-
--- and leaves one fewer
-pub fewer : (s k : ℕ) (es : List Entry) (i : ℕ) (x : Entry) → IsPlace (is_next s k) es (Some i) → x ≡ get_or es i x → count_by is_ungiven (set es i (given_entry x)) + 1 ≡ count_by is_ungiven es
-fewer s k es i x h is =
-    let new : x.given ≡ false = next_new s k x (passes (is_next s k) es i x h is) in
-    let lt : i < length es = h.0 in
-    let a = count_by-set is_ungiven es i x (given_entry x) lt is in
-    let b = count_by-cons is_ungiven x [] in
-    let d = count_by-cons is_ungiven (given_entry x) [] in
-    let f : cond {A = ℕ} (is_ungiven x) 1 0 ≡ 1 = ap (λ v. cond {A = ℕ} (not v) 1 0) new in
-    omega (arith, a, b, d, f)
 
 -- the count of its origin is one more, and those of others stay
 pub one_more : (s k o : ℕ) (es : List Entry) (i : ℕ) (x : Entry) → IsPlace (is_next s k) es (Some i) → x ≡ get_or es i x → given_of o (set es i (given_entry x)) ≡ cond (nat_eq s o) 1 0 + given_of o es

@@ -13,8 +13,7 @@ use Rattle.gb_layer.specs.EntryListLemmas.{mark_count}
 use Rattle.gb_layer.specs.Laws.{StaysAtItsNode, ComesFromItsOrigin, SendsWhatWasHandedIn, HandsUpWhatWasHandedIn, HandsUpOnce, SendsOnce, NoticesOnce}
 use Rattle.gb_fifo.specs.Entries.{noted_by, taken, taken_ups}
 use Rattle.gb_fifo.specs.EntryLemmas.{keys, keys_taken, keys_noted_by, given_for, count_noted_by, given_taken, own_taken}
-use Rattle.gb_fifo.specs.FifoMachine.{FifoState, fifo_next, fifo_gives}
-use Rattle.gb_fifo.specs.FifoRoom.{IsNew}
+use Rattle.gb_fifo.specs.FifoMachine.{FifoState, IsNew, fifo_next, fifo_gives}
 
 module _ {S : Type 0} (next : S → Call → S) (gives : S → Call → Gives) where
   abbrev N : FifoState S → Call → FifoState S

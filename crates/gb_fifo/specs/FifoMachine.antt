@@ -1,5 +1,5 @@
 -- The steps of a fifo, over any layer.
-use Rattle.std.specs.Prelude.{List}
+use Rattle.std.specs.Prelude.{◌≡◌, List, []}
 use Rattle.gb_layer.specs.declared.call.Call.{Call}
 use Rattle.gb_layer.specs.Machine.{Gives}
 use Rattle.gb_fifo.specs.declared.entry.Entry.{Entry}
@@ -9,6 +9,11 @@ use Rattle.gb_fifo.specs.Entries.{noted_by, taken, taken_ups}
 pub record FifoState (S : Type 0) : Type 0 where
   pub lower : S
   pub entries : List Entry
+
+-- no call was made to the fifo or to the layer below
+pub record IsNew {S : Type 0} (is_fresh : S → Type 0) (s : FifoState S) : Type 0 where
+  pub lower : is_fresh s.lower
+  pub entries : s.entries ≡ []
 
 module _ {S : Type 0} (next : S → Call → S) (gives : S → Call → Gives) where
   -- the state after a call: the layer below takes the call, and the messages that it brings up are received one by one

@@ -1,9 +1,6 @@
 pub mod Order
 pub mod Entries
 pub mod FifoMachine
-pub mod FifoRoom
 pub mod OrderLaws
-pub mod RoomLemmas
-pub mod WholeLemmas
 pub mod EntryLemmas
 pub mod FifoLemmas

@@ -1,16 +1,14 @@
-//! First in, first out: a layer over any broadcast that hands up each origin's messages in the order of their numbers, 1, 2, 3, ..
-//! It holds a message back until those before it have come.
+//! First in, first out: what it means to hand up each origin's messages in the order of their numbers, 1, 2, 3, .., over any broadcast.
 //!
-//! It sends nothing of its own, and uses a message's own number as its position in the order. It knows no stack of layers and no
-//! group. Read `fifo::Fifo` first. specs/Order.antt defines the order. `order` says that each fifo keeps it, and `plain` computes
-//! it slowly, straight from its definition.
+//! A fifo holds a message back until those before it have come. It sends nothing of its own, and uses a message's own number as its
+//! position in the order. It knows no stack of layers and no group. specs/Order.antt defines the order. `order` has its laws, and `plain`
+//! computes it slowly, straight from its definition. specs/FifoMachine.antt has the states, steps and effects of the layer, which runs in
+//! gb_sinks: `order` there says that each fifo keeps the order.
 #![tactic(auto)]
 
-mod entry;
+pub mod entry;
 pub mod examples;
-pub mod fifo;
-mod ledger;
 pub mod order;
 pub mod plain;
 
-pub use fifo::Fifo;
+pub use entry::Entry;

@@ -64,21 +64,6 @@ module _ (rules : Rules) (me : NodeId) (members noticed : Nodes) where
   pub pending_marked : (m : MsgId) (from to : ℕ) (es : List Entry) → StandsAmong pending from to es → StandsAmong pending from to (map (marked_sent m) es)
   pending_marked m = among_map pending (marked_sent m) (marked_back m)
 
-  handed_back : (e : Entry) → pending (handed delivers e) ≡ true → pending e ≡ true
-  handed_back e =
-      elim (delivers e) as (λ b. pending (cond b (given_entry e) e) ≡ true → pending e ≡ true) [
-        | true ↦ λ h. or_first (relays e) (delivers e) (given_due (relays e) h)
-        | false ↦ λ h. h
-      ]
-    where
-      given_due : (b : Bool) → (b || false) ≡ true → b ≡ true
-      given_due true h = refl
-      given_due false h = h
-
-  -- nor does handing up
-  pub pending_handed : (from to : ℕ) (es : List Entry) → StandsAmong pending from to es → StandsAmong pending from to (map (handed delivers) es)
-  pending_handed = among_map pending (handed delivers) handed_back
-
   -- what is not to be handed up stays
   pub handed_stays : (e : Entry) → delivers e ≡ false → handed delivers e ≡ e
   handed_stays e h = ap (λ b. cond b (given_entry e) e) h

@@ -1,9 +1,6 @@
 -- The places of the elements of a list that pass a test, after each change.
-use Rattle.std.proofs.Common.{◌≡◌, ℕ, ◌<◌, Bool, true, false, List, [], ◌∷◌, ◌++◌, length, map, slice_get, get_or, refl, ap, ◌∙◌, sym, arith, zero, suc}
+use Rattle.std.proofs.Common.{◌≡◌, ℕ, ◌<◌, Bool, true, false, List, [], ◌∷◌, ◌++◌, length, map, slice_get, refl, ap, ◌∙◌, sym, arith, zero, suc}
 use Rattle.std.specs.declared.option.Option.TheVariants.{Some}
-use Rattle.std.proofs.lemmas.Option.{slice_get-get_or}
-use Rattle.gb_types.specs.declared.message.MsgId.{MsgId}
-use Rattle.gb_types.specs.Message.{same}
 use Rattle.gb_layer.specs.Places.{IsAmong, StandsAmong}
 
 -- what stands at a place of a list that was changed throughout
@@ -16,11 +13,6 @@ pub get_within : {X : Type 0} (xs : List X) (k : ℕ) (x : X) → slice_get xs k
 get_within [] k x h = cc
 get_within (y ∷ xs) zero x h = omega arith
 get_within (y ∷ xs) (suc k) x h = let lt : k < length xs = get_within xs k x h in omega (arith, lt)
-
--- what an index reads is what stands there
-pub at_place : {X : Type 0} (xs : List X) (i k : ℕ) (x y : X) → slice_get xs i ≡ Some x → i ≡ k → k < length xs → y ≡ get_or xs k y → x ≡ y
-at_place xs i k x y at same lt is =
-    let e : Some x ≡ Some (get_or xs k y) = sym at ∙ (ap (slice_get xs) same ∙ slice_get-get_or xs k y lt) in cc
 
 -- a stronger test, and a change that makes none pass
 pub among_weaker : {X : Type 0} (p q : X → Bool) → ((x : X) → q x ≡ true → p x ≡ true) → (from to : ℕ) (xs : List X) → StandsAmong p from to xs → StandsAmong q from to xs
@@ -42,12 +34,3 @@ pushed p x n [] zero y at h = let e : x ≡ y = cc in let f : p x ≡ p y = ap p
 pushed p x n [] (suc k) y at h = cc
 pushed p x n (z ∷ xs) zero y at h = at
 pushed p x n (z ∷ xs) (suc k) y at h = pushed p x n xs k y at h
-
-get_mapped : {X Y : Type 0} (f : X → Y) (xs : List X) (k : ℕ) (x : X) → slice_get xs k ≡ Some x → slice_get (map f xs) k ≡ Some (f x)
-get_mapped f [] k x h = cc
-get_mapped f (y ∷ xs) zero x h = let e : y ≡ x = cc in ap (λ z. Some (f z)) e
-get_mapped f (y ∷ xs) (suc k) x h = get_mapped f xs k x h
-
--- an entry of m stands where m does among the messages
-pub among_entries : {E : Type 0} (message : E → MsgId) (m : MsgId) (from to : ℕ) (es : List E) → StandsAmong (λ x. same x m) from to (map message es) → StandsAmong (λ e. same (message e) m) from to es
-among_entries message m from to es s k e at h = s k (message e) (get_mapped message es k e at) h

@@ -1,10 +1,9 @@
 -- A table finds the same place as a search.
-use Rattle.std.proofs.Common.{◌≡◌, ◌≢◌, ◌⊎◌, inl, ℕ, ◌+◌, ◌-◌, ◌*◌, ◌%◌, ◌/◌, ◌≤◌, ◌<◌, Bool, true, false, cond, ◌&&◌, ◌||◌, nat_eq, nat_le, List, [], ◌∷◌, ◌++◌, length, map, set, get_or, slice_get, refl, ap, ◌∙◌, sym, arith, zero, suc}
+use Rattle.std.proofs.Common.{◌≡◌, ◌≢◌, ℕ, ◌+◌, ◌-◌, ◌*◌, ◌%◌, ◌/◌, ◌≤◌, ◌<◌, true, false, cond, ◌&&◌, nat_eq, nat_le, List, [], ◌∷◌, ◌++◌, length, set, slice_get, refl, ap, ◌∙◌, sym, arith, zero, suc}
 use Rattle.std.specs.declared.option.Option.TheVariants.{None, Some}
 use Rattle.std.specs.List.{list_any}
 use Rattle.std.proofs.lemmas.Bool.{eqb-true}
 use Rattle.std.proofs.lemmas.Bool.Decides.{nat_tests}
-use Rattle.std.proofs.Math.Bool.{or-false}
 use Rattle.std.proofs.Math.Nat.{mul-add-mod_self_right, mod-eq_of_lt, mul-div_cancel}
 use Rattle.gb_types.specs.declared.message.MsgId.{MsgId}
 use Rattle.gb_types.specs.Message.{same}
@@ -12,10 +11,8 @@ use Rattle.gb_types.proofs.SameLemmas.{same-true}
 use Rattle.gb_layer.specs.declared.entries.Entry.{Entry}
 use Rattle.gb_types.specs.declared.node.NodeId.{NodeId}
 use Rattle.gb_types.proofs.BoolLemmas.{and_left, and_more, and_right, or_left, or_right}
-use Rattle.gb_layer.specs.Lists.{map_same}
 use Rattle.gb_layer.specs.Relay.{is_for, held, held_entry, marked_sent, sent_entry}
-use Rattle.gb_layer.specs.EntryLemmas.{keys, held_same}
-use Rattle.gb_layer.specs.Table.{covers, spot, told, says, leads, IsNowhere, IsThere}
+use Rattle.gb_layer.specs.Table.{covers, spot, told, says, leads}
 
 module _ (width : ℕ) (table : List ℕ) (m : MsgId) (v : ℕ) (is : told width table m ≡ Some v) where
   -- m at a place is where the table says
@@ -36,88 +33,14 @@ module _ (width : ℕ) (table : List ℕ) (m : MsgId) (v : ℕ) (is : told width
       let e : i + 1 + j + 1 ≡ i + suc j + 1 = omega arith in
       stands_there ms (i + 1) j x at t (and_right _ _ h) ∙ e
 
-  module _ (f : Entry → Entry) (leaves : (e : Entry) → is_for m e ≡ false → f e ≡ e) where
-    -- where the table leads to no place, a change of m changes nothing
-    pub map_nowhere : (es : List Entry) (i : ℕ) → (v ≤ i) ⊎ (i + length es < v) → leads width table i (keys es) ≡ true → map f es ≡ es
-    map_nowhere [] i out h = refl
-    map_nowhere (e ∷ es) i out h =
-        elim (is_for m e) as (λ b. is_for m e ≡ b → map f (e ∷ es) ≡ e ∷ es) [
-          | true ↦ λ k. let n = here e.m i k (and_left _ _ h) in absurd (grind (arith, n, out))
-          | false ↦ λ k.
-              let rest : (v ≤ i + 1) ⊎ (i + 1 + length es < v) = grind (arith, out) in
-              λ j. leaves e k j ∷ map_nowhere es (i + 1) rest (and_right _ _ h) j
-        ] refl
-
-    -- where it leads to a place, a change of m changes that place
-    pub map_there : (es : List Entry) (i k : ℕ) (d : Entry) → v ≡ i + k + 1 → k < length es → leads width table i (keys es) ≡ true → map f es ≡ set es k (f (get_or es k d))
-    map_there [] i k d e lt h = absurd (omega arith)
-    map_there (x ∷ es) i zero d e lt h = let l : v ≤ i + 1 = omega (arith, e) in ap (λ ys. f x ∷ ys) (map_nowhere es (i + 1) (inl l) (and_right _ _ h))
-    map_there (x ∷ es) i (suc k) d e lt h =
-        let e' : v ≡ i + 1 + k + 1 = omega (arith, e) in
-        let lt' : k < length es = omega (arith, lt) in
-        elim (is_for m x) as (λ b. is_for m x ≡ b → f x ∷ map f es ≡ x ∷ set es k (f (get_or es k d))) [
-          | true ↦ λ t. let n = here x.m i t (and_left _ _ h) in absurd (omega (arith, n, e))
-          | false ↦ λ t. λ j. leaves x t j ∷ map_there es (i + 1) k d e' lt' (and_right _ _ h) j
-        ] refl
-
-  module _ (p : Entry → Bool) (only : (e : Entry) → is_for m e ≡ false → p e ≡ false) where
-    -- where the table leads to no place, a search for m finds nothing
-    pub any_nowhere : (es : List Entry) (i : ℕ) → (v ≤ i) ⊎ (i + length es < v) → leads width table i (keys es) ≡ true → list_any p es ≡ false
-    any_nowhere [] i out h = refl
-    any_nowhere (e ∷ es) i out h =
-        elim (is_for m e) as (λ b. is_for m e ≡ b → list_any p (e ∷ es) ≡ false) [
-          | true ↦ λ k. let n = here e.m i k (and_left _ _ h) in absurd (grind (arith, n, out))
-          | false ↦ λ k.
-              let rest : (v ≤ i + 1) ⊎ (i + 1 + length es < v) = grind (arith, out) in
-              ap (λ b. b || list_any p es) (only e k) ∙ any_nowhere es (i + 1) rest (and_right _ _ h)
-        ] refl
-
-    -- where it leads to a place, a search for m finds what is there
-    pub any_there : (es : List Entry) (i k : ℕ) (d : Entry) → v ≡ i + k + 1 → k < length es → leads width table i (keys es) ≡ true → list_any p es ≡ p (get_or es k d)
-    any_there [] i k d e lt h = absurd (omega arith)
-    any_there (x ∷ es) i zero d e lt h =
-        let l : v ≤ i + 1 = omega (arith, e) in ap (λ b. p x || b) (any_nowhere es (i + 1) (inl l) (and_right _ _ h)) ∙ or-false (p x)
-    any_there (x ∷ es) i (suc k) d e lt h =
-        let e' : v ≡ i + 1 + k + 1 = omega (arith, e) in
-        let lt' : k < length es = omega (arith, lt) in
-        elim (is_for m x) as (λ b. is_for m x ≡ b → (p x || list_any p es) ≡ p (get_or es k d)) [
-          | true ↦ λ t. let n = here x.m i t (and_left _ _ h) in absurd (omega (arith, n, e))
-          | false ↦ λ t. ap (λ b. b || list_any p es) (only x t) ∙ any_there es (i + 1) k d e' lt' (and_right _ _ h)
-        ] refl
-
-pub keys_held : (me via : NodeId) (m : MsgId) (es : List Entry) → keys (map (held me via m) es) ≡ keys es
-keys_held me via m es = map_same (λ e. e.m) (held me via m) (λ e. e.m) (held_same (λ e. e.m) me via m (λ e. refl)) es
-
 pub not_held : (me via : NodeId) (m : MsgId) (e : Entry) → is_for m e ≡ false → held me via m e ≡ e
 not_held me via m e h = ap (λ b. cond b (held_entry me via e) e) h
 
 pub not_marked : (m : MsgId) (e : Entry) → is_for m e ≡ false → marked_sent m e ≡ e
 not_marked m e h = ap (λ b. cond b (sent_entry e) e) h
 
--- where no entry is of m, marking m as sent changes nothing
-pub unmarked : (m : MsgId) (es : List Entry) → list_any (is_for m) es ≡ false → map (marked_sent m) es ≡ es
-unmarked m [] none = refl
-unmarked m (e ∷ es) none = λ i. not_marked m e (or_left (is_for m e) _ none) i ∷ unmarked m es (or_right (is_for m e) _ none) i
-
 pub not_sent : (m : MsgId) (e : Entry) → is_for m e ≡ false → (is_for m e && e.sent) ≡ false
 not_sent m e h = ap (λ b. b && e.sent) h
-
--- the entry at the place is changed
-pub set_there : (width : ℕ) (table : List ℕ) (m : MsgId) (v : ℕ) (f : Entry → Entry) → ((e : Entry) → is_for m e ≡ false → f e ≡ e) → (es : List Entry) (k : ℕ) (x y : Entry)
-    → Some v ≡ told width table m → IsThere (length es) v k → leads width table 0 (keys es) ≡ true → x ≡ get_or es k x → y ≡ f x → set es k y ≡ map f es
-set_there width table m v f leaves es k x y is at h old new =
-    ap (set es k) (new ∙ ap f old) ∙ sym (map_there width table m v (sym is) f leaves es 0 k x at.0 at.1 h)
-
--- what each way to look m up finds
-module _ (width : ℕ) (table : List ℕ) (m : MsgId) (v : ℕ) (es : List Entry) (is : Some v ≡ told width table m) (h : leads width table 0 (keys es) ≡ true) where
-  pub any_at : (p : Entry → Bool) → ((e : Entry) → is_for m e ≡ false → p e ≡ false) → (k : ℕ) (x : Entry) → IsThere (length es) v k → x ≡ get_or es k x → p x ≡ list_any p es
-  any_at p only k x at old = ap p old ∙ sym (any_there width table m v (sym is) p only es 0 k x at.0 at.1 h)
-
-  pub any_none : (p : Entry → Bool) → ((e : Entry) → is_for m e ≡ false → p e ≡ false) → IsNowhere (length es) v → false ≡ list_any p es
-  any_none p only out = sym (any_nowhere width table m v (sym is) p only es 0 out h)
-
-  pub map_none : (f : Entry → Entry) → ((e : Entry) → is_for m e ≡ false → f e ≡ e) → IsNowhere (length es) v → es ≡ map f es
-  map_none f leaves out = sym (map_nowhere width table m v (sym is) f leaves es 0 out h)
 
 slice_get_set_other : (xs : List ℕ) (i j y : ℕ) → j ≢ i → slice_get (set xs i y) j ≡ slice_get xs j
 slice_get_set_other [] i j y d = refl

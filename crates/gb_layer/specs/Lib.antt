@@ -13,8 +13,6 @@ pub mod Table
 pub mod Places
 pub mod Relay
 pub mod Pending
-pub mod RelayState
-pub mod RoomLemmas
 pub mod BebLemmas
 pub mod DirectLemmas
 pub mod EntryLemmas
@@ -23,5 +21,3 @@ pub mod TraceLemmas
 pub mod RelayOnceLemmas
 pub mod FirstMentionLemmas
 pub mod EntryListLemmas
-pub mod PigeonholeLemmas
-pub mod WholeLemmas

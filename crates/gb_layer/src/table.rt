@@ -1,4 +1,4 @@
-//! A table that finds the place of a message in a relay's list of entries.
+//! A table that finds the place of a message in a list.
 ghost use Rattle.std.specs.Prelude.{◌≡◌, ◌+◌, ◌≤◌, ◌<◌, ◌++◌, ◌∷◌, [], true, false, List, length, OnOk, MatchOption};
 ghost use Rattle.std.specs.List.{list_any};
 ghost use Rattle.std.specs.declared.option.Option.TheVariants.{None};
@@ -22,9 +22,8 @@ pub struct Table {
     pub width: u16,
 }
 
-/// Returns the place that the number `v` of a table means in a relay's list of `count` entries: `v - 1`. `None` if `v` is 0 or
-/// above `count`.
-pub fn place(count: usize, v: usize) -> Option<usize>
+/// Returns the place that the number `v` of a table means in a list of `count` messages: `v - 1`. `None` if `v` is 0 or above `count`.
+fn place(count: usize, v: usize) -> Option<usize>
     ensures { MatchOption result (IsNowhere count v) (IsThere count v) }
 {
     if v == 0 {
@@ -50,7 +49,7 @@ fn span(nodes: &NodeSet) -> usize
 }
 
 impl Table {
-    /// Returns a table of the places of messages in a relay's list. It covers no message yet. Takes no memory.
+    /// Returns a table of the places of messages in a list. It covers no message yet. Takes no memory.
     pub fn new(alloc: Global) -> Table
         ensures told { result.told.items ≡ [] }
         ensures width { result.width ≡ 0 }
@@ -72,7 +71,7 @@ impl Table {
         Ok(())
     }
 
-    /// Returns what the table says of the place of the message `m` in a relay's list: 0 if `m` has none, else one more than the
+    /// Returns what the table says of the place of the message `m` in a list: 0 if `m` has none, else one more than the
     /// place. `None` if the table does not cover `m`.
     pub fn told(&self, m: MsgId) -> Option<usize>
         ensures { result ≡ told self.now.width self.now.told.items m }
@@ -95,7 +94,7 @@ impl Table {
         if at < self.told.len() { Some(at) } else { None }
     }
 
-    /// Records that the message `m` stands at place `count` of a relay's list, behind the others. If `count` is 65,535 or more, the
+    /// Records that the message `m` stands at place `count` of a list, behind the others. If `count` is 65,535 or more, the
     /// table covers no message from then on. Nothing changes if the table does not cover `m`. Takes no memory.
     pub fn note(&mut self, m: MsgId, count: usize)
         ensures { (ms : List MsgId) → length ms ≡ count → list_any (λ x. same x m) ms ≡ false

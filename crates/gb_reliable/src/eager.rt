@@ -2,10 +2,11 @@
 ghost use Rattle.gb_reliable.specs.Rules.{eager_rules};
 ghost use Rattle.gb_reliable.specs.EagerLemmas.{eager_more, eager_delivers_more, eager_own};
 
-use gb_layer::{Relay, Rule};
+use gb_layer::Rule;
 use gb_types::{MsgId, NodeId, NodeSet};
 
-/// The rule of eager reliable broadcast: a message is broadcast and delivered as soon as it is here.
+/// The rule of eager reliable broadcast (Cachin, Guerraoui, Rodrigues 2011, Algorithm 3.3): a message is broadcast and delivered as
+/// soon as it is here.
 #[derive(Clone, Copy, Drop)]
 pub struct Eagerly;
 
@@ -26,7 +27,3 @@ impl Rule for Eagerly {
 
     ghost broadcasts_its_own = { eager_own };
 }
-
-/// Eager reliable broadcast over a layer (Cachin, Guerraoui, Rodrigues 2011, Algorithm 3.3). It relays each message once, when it
-/// first comes.
-pub type Eager<L> = Relay<L, Eagerly>;

@@ -2,11 +2,11 @@
 ghost use Rattle.gb_reliable.specs.Rules.{lazy_rules};
 ghost use Rattle.gb_reliable.specs.LazyLemmas.{lazy_more, lazy_delivers_more, lazy_own};
 
-use gb_layer::{Relay, Rule};
+use gb_layer::Rule;
 use gb_types::{MsgId, NodeId, NodeSet};
 
-/// The rule of lazy reliable broadcast. A message is broadcast if it is the node's own or its origin was noticed. It is delivered
-/// as soon as it is here.
+/// The rule of lazy reliable broadcast (Cachin, Guerraoui, Rodrigues 2011, Algorithm 3.2). A message is broadcast if it is the node's own
+/// or its origin was noticed. It is delivered as soon as it is here.
 #[derive(Clone, Copy, Drop)]
 pub struct Lazily;
 
@@ -27,7 +27,3 @@ impl Rule for Lazily {
 
     ghost broadcasts_its_own = { lazy_own };
 }
-
-/// Lazy reliable broadcast over a layer (Cachin, Guerraoui, Rodrigues 2011, Algorithm 3.2). It relays the messages of a node from
-/// the notice of that node on.
-pub type Lazy<L> = Relay<L, Lazily>;

@@ -1,6 +1,5 @@
-//! Reliable broadcast, lazy and eager: two rules for the layer that relays. Over `Beb`, each broadcasts and delivers what its
-//! module in gb_layer's specs/Modules.antt defines; `modules` says so. Read `lazy::Lazy` and `eager::Eager` first. The layer itself
-//! is gb_layer's `relay::Relay`.
+//! Reliable broadcast, lazy and eager: two rules for the layer that relays, which is gb_sinks' `relay::Relay`. Each broadcasts and
+//! delivers what its module in gb_layer's specs/Modules.antt defines; `modules` says so. Read `lazy::Lazily` and `eager::Eagerly` first.
 #![tactic(auto)]
 
 pub mod eager;

@@ -3,12 +3,14 @@ ghost use Rattle.std.specs.Prelude.{◌≡◌, List};
 ghost use Rattle.std.proofs.Common.{refl};
 ghost use Rattle.gb_types.specs.declared.message.MsgId.{MsgId};
 ghost use Rattle.gb_types.specs.declared.node.NodeId.{NodeId};
+ghost use Rattle.gb_layer.specs.BebLemmas.{beb_sends_handed_in, beb_ups_handed_in, beb_up_once, beb_sent_once, beb_noticed_once, fair_once};
 ghost use Rattle.gb_layer.specs.BebMachine.{beb_gives};
 ghost use Rattle.gb_sinks.specs.Single.{beb_sends_one};
 ghost use Rattle.gb_sinks.specs.Focused.{beb_brings_own};
 
 use crate::call::PlacedCall;
 use crate::index::Index;
+use crate::laws::Lawful;
 use crate::layer::{Bounded, Focused, Layer, Single};
 use crate::sink::Sink;
 use gb_layer::Room;
@@ -36,6 +38,8 @@ impl Layer for Beb {
     ghost meaning = { λ _ b. b.me };
 
     ghost me = { λ s. s };
+
+    ghost is_fresh = { λ _. Unit {0} };
 
     ghost next = { λ s _. s };
 
@@ -66,6 +70,18 @@ impl Layer for Beb {
     ghost me_stays = { λ s c. refl };
 
     ghost grows = { λ ms more x n w k. (refl, tt) };
+}
+
+impl Lawful for Beb {
+    ghost sends_handed_in = { λ s past m _. beb_sends_handed_in s past m };
+
+    ghost ups_handed_in = { λ s past m _. beb_ups_handed_in s past m };
+
+    ghost up_once = { λ s past via m _ h. beb_up_once s past via m (fair_once s.number past h) };
+
+    ghost sent_once = { λ s past m _ h. beb_sent_once s past m (fair_once s.number past h) };
+
+    ghost noticed_once = { λ s past q _ _. beb_noticed_once s past q };
 }
 
 impl Bounded for Beb {

@@ -1,6 +1,7 @@
 //! A layer that hands up only what came from its origin.
 ghost use Rattle.std.specs.Prelude.{◌≡◌, ℕ, ◌<◌, List, length};
 ghost use Rattle.gb_types.specs.declared.message.MsgId.{MsgId};
+ghost use Rattle.gb_layer.specs.DirectLemmas.{own_pairs, direct_sends_handed_in, direct_ups_handed_in, direct_up_once, direct_sent_once, direct_noticed_once};
 ghost use Rattle.gb_layer.specs.Machine.{own_gives};
 ghost use Rattle.gb_sinks.specs.Places.{told, Names, IsNext, MayTake, told_after};
 ghost use Rattle.gb_sinks.specs.Sinks.{folded};
@@ -8,6 +9,7 @@ ghost use Rattle.gb_sinks.specs.Own.{OwnState, own_sent, own_risen, own_takes, o
 
 use crate::call::PlacedCall;
 use crate::index::Index;
+use crate::laws::{Broadcast, Lawful};
 use crate::layer::{Bounded, Layer, Single};
 use crate::sink::Sink;
 use gb_layer::Room;
@@ -70,6 +72,7 @@ impl<L: Layer> Direct<L> {
     /// Returns a layer over `lower`. It remembers nothing besides what `lower` remembers.
     pub fn new(lower: L) -> Direct<L>
         ensures meaning { (ms : List MsgId) → ⟦<Direct<L> as Layer>⟧.meaning ms result ≡ L.meaning ms lower }
+        ensures fresh { (ms : List MsgId) → L.is_fresh (L.meaning ms lower) → ⟦<Direct<L> as Layer>⟧.is_fresh (⟦<Direct<L> as Layer>⟧.meaning ms result) }
         ensures known { (ms : List MsgId) (n w : ℕ) → L.knows ms lower n w → ⟦<Direct<L> as Layer>⟧.knows ms result n w }
     {
         Direct { lower }
@@ -82,6 +85,8 @@ impl<L: Layer> Layer for Direct<L> {
     ghost meaning = { λ ms d. L.meaning ms d.lower };
 
     ghost me = { L.me };
+
+    ghost is_fresh = { L.is_fresh };
 
     ghost next = { L.next };
 
@@ -105,6 +110,22 @@ impl<L: Layer> Layer for Direct<L> {
     ghost me_stays = { L.me_stays };
 
     ghost grows = { λ ms more d. L.grows ms more d.lower };
+}
+
+impl<L: Lawful> Lawful for Direct<L> {
+    ghost sends_handed_in = { direct_sends_handed_in L.next L.gives L.is_fresh L.sends_handed_in };
+
+    ghost ups_handed_in = { direct_ups_handed_in L.next L.gives L.is_fresh L.ups_handed_in };
+
+    ghost up_once = { direct_up_once L.next L.gives L.is_fresh L.me L.up_once };
+
+    ghost sent_once = { direct_sent_once L.next L.gives L.is_fresh L.me L.sent_once };
+
+    ghost noticed_once = { direct_noticed_once L.next L.gives L.is_fresh L.noticed_once };
+}
+
+impl<L: Lawful> Broadcast for Direct<L> {
+    ghost own_via = { λ s c. own_pairs (L.gives s c).ups };
 }
 
 impl<L: Bounded> Bounded for Direct<L> {

@@ -2,13 +2,14 @@
 ghost use Rattle.std.specs.Prelude.{◌≡◌, ℕ, ◌≤◌, ◌<◌, [], List, length, vec_capacity};
 ghost use Rattle.gb_types.specs.declared.message.MsgId.{MsgId};
 ghost use Rattle.gb_fifo.specs.Entries.{noted_by};
-ghost use Rattle.gb_fifo.specs.FifoLemmas.{fifo_me_stays};
-ghost use Rattle.gb_fifo.specs.FifoMachine.{FifoState, fifo_next, fifo_gives};
+ghost use Rattle.gb_fifo.specs.FifoLemmas.{fifo_me_stays, fifo_sends_handed_in, fifo_ups_handed_in, fifo_up_once, fifo_sent_once, fifo_noticed_once, fifo_own};
+ghost use Rattle.gb_fifo.specs.FifoMachine.{FifoState, IsNew, fifo_next, fifo_gives};
 ghost use Rattle.gb_sinks.specs.Places.{told, Names, IsNext, MayTake, told_after};
 ghost use Rattle.gb_sinks.specs.Marks.{marked};
 
 use crate::call::PlacedCall;
 use crate::index::Index;
+use crate::laws::{Broadcast, Lawful};
 use crate::layer::{Bounded, Layer, Single};
 use crate::marks::{Marks, note};
 use crate::ordered::take_ordered;
@@ -34,6 +35,7 @@ impl<L: Layer> Fifo<L> {
     /// Returns a first-in first-out layer over `lower`. It was told no place.
     pub fn new(alloc: Global, lower: L) -> Fifo<L>
         ensures meaning { (ms : List MsgId) → ⟦<Fifo<L> as Layer>⟧.meaning ms result ≡ record { lower = L.meaning ms lower; entries = [] } }
+        ensures fresh { (ms : List MsgId) → L.is_fresh (L.meaning ms lower) → ⟦<Fifo<L> as Layer>⟧.is_fresh (⟦<Fifo<L> as Layer>⟧.meaning ms result) }
         ensures known { (ms : List MsgId) → L.knows ms lower 0 0 → ⟦<Fifo<L> as Layer>⟧.knows ms result 0 0 }
     {
         Fifo {
@@ -71,6 +73,8 @@ impl<L: Layer> Layer for Fifo<L> {
 
     ghost me = { λ s. L.me s.lower };
 
+    ghost is_fresh = { IsNew L.is_fresh };
+
     ghost next = { fifo_next L.next L.gives };
 
     ghost gives = { fifo_gives L.next L.gives };
@@ -97,6 +101,22 @@ impl<L: Layer> Layer for Fifo<L> {
     ghost me_stays = { fifo_me_stays L.next L.gives L.me L.me_stays };
 
     ghost grows = { fifo_grows L.meaning L.knows L.grows };
+}
+
+impl<L: Lawful> Lawful for Fifo<L> {
+    ghost sends_handed_in = { fifo_sends_handed_in L.next L.gives L.is_fresh L.sends_handed_in };
+
+    ghost ups_handed_in = { fifo_ups_handed_in L.next L.gives L.is_fresh };
+
+    ghost up_once = { fifo_up_once L.next L.gives L.is_fresh L.me };
+
+    ghost sent_once = { fifo_sent_once L.next L.gives L.is_fresh L.me L.sent_once };
+
+    ghost noticed_once = { fifo_noticed_once L.next L.gives L.is_fresh L.noticed_once };
+}
+
+impl<L: Lawful> Broadcast for Fifo<L> {
+    ghost own_via = { fifo_own L.next L.gives };
 }
 
 impl<L: Bounded> Bounded for Fifo<L> {

@@ -19,7 +19,7 @@ use gb_types::{NodeId, OutOfMemory};
 /// A layer of a broadcast at one node, which is told places and hands its effects to a sink.
 ///
 /// The effects of a call, and the state after it, are functions of the state before it and of the call in messages: `gives` and `next`,
-/// as for the layers of gb_layer. A layer keeps nothing of a message but what stands at the message's place in its column.
+/// which gb_layer and gb_fifo define. A layer keeps nothing of a message but what stands at the message's place in its column.
 ///
 /// The caller's conditions: the places of the index are told in their order, each for the first time once those before it were told;
 /// the index grows, and no place changes.
@@ -32,6 +32,9 @@ pub trait Layer {
 
     /// The node where the layer is.
     ghost me: { State → NodeId };
+
+    /// No call was made yet.
+    ghost is_fresh: { State → Type 0 };
 
     /// The state after a call.
     ghost next: { State → Call → State };

@@ -5,10 +5,10 @@
 //! gb_stack makes the ten broadcasts of a group of these layers. Their states, steps and effects are those that gb_layer and gb_fifo
 //! define, so that the laws of the modules (`modules`) and of the order (`order`) hold of them.
 //!
-//! Read `layer::Layer` first, then `sink::Sink`. `index::Index` has the messages by place. `beb::Beb` is the lowest layer,
-//! `direct::Direct` over it is best-effort broadcast. `relay::Relay`, over a layer of which a call about a message brings up that
-//! message alone (`layer::Focused`), relays by a rule of gb_layer. `fifo::Fifo` over any layer hands up each origin's messages in order.
-//! `lists::Lists` is the uppermost sink, and `calls::make_call` makes one call of a layer over it.
+//! Read `layer::Layer` first, then `sink::Sink`; `laws::Lawful` has the laws that each layer obeys. `index::Index` has the messages by
+//! place. `beb::Beb` is the lowest layer, `direct::Direct` over it is best-effort broadcast. `relay::Relay`, over a layer of which a call
+//! about a message brings up that message alone (`layer::Focused`), relays by a rule of gb_layer. `fifo::Fifo` over any layer hands up
+//! each origin's messages in order. `lists::Lists` is the uppermost sink, and `calls::make_call` makes one call of a layer over it.
 #![tactic(auto)]
 
 pub mod beb;
@@ -21,6 +21,7 @@ pub mod fifo;
 #[cfg(test)]
 mod fifo_tests;
 pub mod index;
+pub mod laws;
 pub mod layer;
 pub mod lists;
 pub mod marks;
@@ -37,6 +38,7 @@ pub use call::PlacedCall;
 pub use direct::Direct;
 pub use fifo::Fifo;
 pub use index::Index;
+pub use laws::{Broadcast, Lawful};
 pub use layer::{Bounded, Focused, Layer};
 pub use lists::{Lists, PlacedUp};
 pub use relay::Relay;

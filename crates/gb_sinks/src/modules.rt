@@ -1,5 +1,5 @@
-//! Laws: which layers are which module of broadcast. The layers have the states, steps and effects of gb_layer's layers, so gb_layer's
-//! proofs are cited.
+//! Laws: which layers are which module of broadcast. The layers have the states, steps and effects that gb_layer defines, so its proofs
+//! are cited.
 ghost use Rattle.std.specs.Prelude.{◌≡◌, ℕ, List, ◌∷◌};
 ghost use Rattle.std.specs.FinSet as set;
 ghost use Rattle.gb_types.specs.declared.node.NodeId.{NodeId};

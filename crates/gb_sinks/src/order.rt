@@ -1,11 +1,10 @@
-//! Laws of first-in first-out order over any layer. The fifo has the states, steps and effects of gb_fifo's, so gb_fifo's proofs are
+//! Laws of first-in first-out order over any layer. The fifo has the states, steps and effects that gb_fifo defines, so its proofs are
 //! cited. The functions have nothing to run.
 ghost use Rattle.std.specs.Prelude.{◌≡◌, [], List};
 ghost use Rattle.gb_layer.specs.declared.call.Call.{Call};
 ghost use Rattle.gb_layer.specs.Laws.{ComesFromItsOrigin, HandsUpWhatWasHandedIn, HandsUpOnce};
 ghost use Rattle.gb_layer.specs.Machine.{after, all_ups, messages};
-ghost use Rattle.gb_fifo.specs.FifoMachine.{FifoState};
-ghost use Rattle.gb_fifo.specs.FifoRoom.{IsNew};
+ghost use Rattle.gb_fifo.specs.FifoMachine.{FifoState, IsNew};
 ghost use Rattle.gb_fifo.specs.Order.{RunsFromOne, ordered_after, in_order};
 
 use crate::fifo::Fifo;

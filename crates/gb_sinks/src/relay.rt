@@ -3,8 +3,9 @@ ghost use Rattle.std.specs.Prelude.{◌≡◌, ℕ, ◌≤◌, ◌<◌, cond, Li
 ghost use Rattle.std.specs.declared.option.Option.TheVariants.{None, Some};
 ghost use Rattle.gb_types.specs.declared.message.MsgId.{MsgId};
 ghost use Rattle.gb_types.specs.declared.node.NodeId.{NodeId};
-ghost use Rattle.gb_layer.specs.Relay.{State, at_start, due_message, relay_if, relay_if_sends, relayed, relayed_sends, begun, begun_sends, given, given_ups, relay_next, relay_gives};
-ghost use Rattle.gb_layer.specs.RelayLemmas.{relay_me_stays};
+ghost use Rattle.gb_layer.specs.Relay.{State, IsNew, at_start, due_message, relay_if, relay_if_sends, relayed, relayed_sends, begun, begun_sends, given, given_ups, relay_next, relay_gives};
+ghost use Rattle.gb_layer.specs.RelayLemmas.{relay_me_stays, relay_noticed_once, relay_own};
+ghost use Rattle.gb_layer.specs.RelayOnceLemmas.{relay_sends_handed_in, relay_ups_handed_in, relay_up_once, relay_sent_once};
 ghost use Rattle.gb_layer.specs.declared.call.Call.TheVariants as call;
 ghost use Rattle.gb_sinks.specs.declared.call.PlacedCall.TheVariants.{Say, Came, Notice};
 ghost use Rattle.gb_sinks.specs.Places.{message_at, told, IsNext, MayTake, reached};
@@ -16,6 +17,7 @@ use crate::below::call_lower;
 use crate::call::PlacedCall;
 use crate::column::{Held, deliver_all, deliver_at, is_due, mark_sent, note, was_sent};
 use crate::index::Index;
+use crate::laws::{Broadcast, Lawful};
 use crate::layer::{Bounded, Focused, Layer, Single};
 use crate::sink::Sink;
 use gb_layer::{Room, Rule};
@@ -45,6 +47,7 @@ impl<L: Focused, R: Rule> Relay<L, R> {
     /// Returns a relay over the layer `lower`, by a rule, in a group with these members. It was told no place and has noticed nobody.
     pub fn new(alloc: Global, lower: L, rule: R, members: NodeSet) -> Relay<L, R>
         ensures meaning { (ms : List MsgId) → ⟦<Relay<L, R> as Layer>⟧.meaning ms result ≡ at_start (L.meaning ms lower) members }
+        ensures fresh { (ms : List MsgId) → L.is_fresh (L.meaning ms lower) → ⟦<Relay<L, R> as Layer>⟧.is_fresh (⟦<Relay<L, R> as Layer>⟧.meaning ms result) }
         ensures known { (ms : List MsgId) → L.knows ms lower 0 0 → ⟦<Relay<L, R> as Layer>⟧.knows ms result 0 0 }
     {
         Relay {
@@ -291,6 +294,8 @@ impl<L: Focused, R: Rule> Layer for Relay<L, R> {
 
     ghost me = { λ r. L.me r.lower };
 
+    ghost is_fresh = { IsNew L.is_fresh };
+
     ghost next = { relay_next L.next L.gives L.me R.rules };
 
     ghost gives = { relay_gives L.next L.gives L.me R.rules };
@@ -320,6 +325,22 @@ impl<L: Focused, R: Rule> Layer for Relay<L, R> {
     ghost me_stays = { relay_me_stays L.next L.gives L.me R.rules L.me_stays };
 
     ghost grows = { relay_grows L.meaning L.me R.rules L.knows L.grows };
+}
+
+impl<L: Focused + Lawful, R: Rule> Lawful for Relay<L, R> {
+    ghost sends_handed_in = { relay_sends_handed_in L.next L.gives L.me R.rules L.is_fresh L.sends_handed_in };
+
+    ghost ups_handed_in = { relay_ups_handed_in L.next L.gives L.me R.rules L.is_fresh };
+
+    ghost up_once = { relay_up_once L.next L.gives L.me R.rules L.is_fresh };
+
+    ghost sent_once = { relay_sent_once L.next L.gives L.me R.rules L.is_fresh L.sent_once };
+
+    ghost noticed_once = { relay_noticed_once L.next L.gives L.me R.rules (IsNew L.is_fresh) };
+}
+
+impl<L: Focused + Lawful, R: Rule> Broadcast for Relay<L, R> {
+    ghost own_via = { relay_own L.next L.gives L.me R.rules };
 }
 
 impl<L: Focused + Single, R: Rule> Bounded for Relay<L, R> {

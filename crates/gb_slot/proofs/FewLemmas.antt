@@ -19,8 +19,8 @@ use Rattle.gb_types.proofs.BoolLemmas.{and_left, and_right}
 use Rattle.gb_layer.specs.Counts.{count_by-cons}
 use Rattle.gb_layer.specs.FirstMentionLemmas.{same_swap}
 use Rattle.gb_layer.specs.Limit.{Limit, is_counted, message_count}
-use Rattle.gb_layer.specs.PigeonholeLemmas.{no_more_messages}
-use Rattle.gb_layer.specs.WholeLemmas.{counted_grown, once_grown}
+use Rattle.gb_layer.proofs.PigeonholeLemmas.{no_more_messages}
+use Rattle.gb_layer.proofs.LimitLemmas.{counted_grown, once_grown}
 use Rattle.gb_rules.specs.Messages.{has, with_new, bytes_of}
 use Rattle.gb_slot.specs.Kept.{AreCounted}
 use Rattle.gb_slot.specs.Reached.{limit_of, most_bytes}

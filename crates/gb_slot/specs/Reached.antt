@@ -14,7 +14,7 @@ use Rattle.gb_slot.specs.StandsFor.{StandsFor}
 
 -- the messages of a group, where the effects of each call are taken at once
 abbrev pub limit_of : Spec → Limit
-limit_of spec = record { members = spec.members; msgs = spec.msgs; calls = 1 }
+limit_of spec = record { members = spec.members; msgs = spec.msgs }
 
 -- the greatest number of messages that are said in a group
 abbrev pub most_messages : Spec → ℕ

@@ -18,8 +18,7 @@ use Rattle.gb_reliable.specs.Rules.{lazy_rules, eager_rules}
 use Rattle.gb_uniform.proofs.ModuleLemmas.{all_ack_is_module, majority_ack_is_module}
 use Rattle.gb_uniform.specs.Rules.{all_ack_rules, majority_ack_rules}
 use Rattle.gb_fifo.specs.FifoLemmas.{lower_after}
-use Rattle.gb_fifo.specs.FifoMachine.{FifoState}
-use Rattle.gb_fifo.specs.FifoRoom.{IsNew}
+use Rattle.gb_fifo.specs.FifoMachine.{FifoState, IsNew}
 use Rattle.gb_fifo.specs.Order.{ordered_after, in_order}
 use Rattle.gb_fifo.proofs.FifoOrderLemmas.{call_order, fifo_order}
 use Rattle.gb_fifo.proofs.OrderLemmas.{ordered_append}

@@ -4,8 +4,7 @@ use Rattle.gb_layer.specs.declared.call.Call.{Call}
 use Rattle.gb_layer.specs.Laws.{StaysAtItsNode, ComesFromItsOrigin, SendsWhatWasHandedIn, HandsUpWhatWasHandedIn, HandsUpOnce, SendsOnce, NoticesOnce}
 use Rattle.gb_layer.specs.Machine.{Gives}
 use Rattle.gb_fifo.specs.FifoLemmas.{fifo_own, fifo_sends_handed_in, fifo_ups_handed_in, fifo_up_once, fifo_sent_once, fifo_noticed_once}
-use Rattle.gb_fifo.specs.FifoMachine.{FifoState, fifo_next, fifo_gives}
-use Rattle.gb_fifo.specs.FifoRoom.{IsNew}
+use Rattle.gb_fifo.specs.FifoMachine.{FifoState, IsNew, fifo_next, fifo_gives}
 use Rattle.gb_stack.specs.InsideLemmas.{sends_handed_in_into, ups_handed_in_into, up_once_into, sent_once_into, noticed_once_into}
 use Rattle.gb_stack.specs.StackState.{UnorderedState, unordered, fifo, unordered_next, unordered_gives, unordered_me, IsUntold, stack_next, stack_gives, stack_me, IsUntoldStack}
 use Rattle.gb_stack.specs.UnorderedLemmas.{unordered_me_stays, unordered_own, unordered_sends_handed_in, unordered_ups_handed_in, unordered_up_once, unordered_sent_once, unordered_noticed_once}

@@ -13,8 +13,7 @@ use Rattle.gb_layer.specs.Relay.{State, relay_next, relay_gives}
 use Rattle.gb_layer.specs.Rule.{Nodes, Rules}
 use Rattle.gb_reliable.specs.Rules.{lazy_rules, eager_rules}
 use Rattle.gb_uniform.specs.Rules.{all_ack_rules, majority_ack_rules}
-use Rattle.gb_fifo.specs.FifoMachine.{FifoState, fifo_next, fifo_gives}
-use Rattle.gb_fifo.specs.FifoRoom as fifo_room
+use Rattle.gb_fifo.specs.FifoMachine.{FifoState, IsNew, fifo_next, fifo_gives}
 use Rattle.gb_stack.specs.Kinds.{module_of, is_fifo}
 
 -- the state of a broadcast without an order: for best effort its node alone, for the others that of a relay
@@ -70,14 +69,6 @@ IsUntold (eager s) = relay.IsNew (λ _. Unit {0}) s
 IsUntold (all_ack s) = relay.IsNew (λ _. Unit {0}) s
 IsUntold (majority_ack s) = relay.IsNew (λ _. Unit {0}) s
 
--- no message was handed in yet
-abbrev pub IsEmpty : UnorderedState → Type 0
-IsEmpty (best_effort s) = Unit {0}
-IsEmpty (lazy s) = relay.IsEmpty (λ _. Unit {0}) s
-IsEmpty (eager s) = relay.IsEmpty (λ _. Unit {0}) s
-IsEmpty (all_ack s) = relay.IsEmpty (λ _. Unit {0}) s
-IsEmpty (majority_ack s) = relay.IsEmpty (λ _. Unit {0}) s
-
 -- the state of a stack after a call
 abbrev pub stack_next : StackState → Call → StackState
 stack_next (unordered s) c = unordered (unordered_next s c)
@@ -96,12 +87,7 @@ stack_me (fifo s) = unordered_me s.lower
 -- no call was made to a stack yet
 abbrev pub IsUntoldStack : StackState → Type 0
 IsUntoldStack (unordered s) = IsUntold s
-IsUntoldStack (fifo s) = fifo_room.IsNew IsUntold s
-
--- no message was handed in to a stack yet
-abbrev pub IsEmptyStack : StackState → Type 0
-IsEmptyStack (unordered s) = IsEmpty s
-IsEmptyStack (fifo s) = fifo_room.IsNew IsEmpty s
+IsUntoldStack (fifo s) = IsNew IsUntold s
 
 -- a broadcast at a node, in a group with these members, that took the notices of these nodes, and no other call
 abbrev pub unordered_noticing : BroadcastModule → NodeId → Nodes → Nodes → UnorderedState

@@ -10,7 +10,7 @@ use crate::Unordered;
 use crate::kinds::{broadcast_module, is_fifo};
 use crate::nothing::Nothing;
 use gb_layer::Room;
-use gb_sinks::{Bounded, Fifo, Index, Layer, PlacedCall, Sink};
+use gb_sinks::{Bounded, Broadcast, Fifo, Index, Lawful, Layer, PlacedCall, Sink};
 use gb_types::limits::NODES;
 use gb_types::{Kind, NodeId, NodeSet, OutOfMemory, Spec};
 use std::alloc::Global;
@@ -87,7 +87,7 @@ impl Stack {
 }
 
 impl Layer for Stack {
-    ghost use Rattle.gb_stack.specs.StackState.{StackState, stack_next, stack_gives, stack_me};
+    ghost use Rattle.gb_stack.specs.StackState.{StackState, stack_next, stack_gives, stack_me, IsUntoldStack};
     ghost use Rattle.gb_stack.specs.Layers.{stack_of, StackKnows, stack_grows};
     ghost use Rattle.gb_stack.specs.StackLemmas.{stack_me_stays};
 
@@ -96,6 +96,8 @@ impl Layer for Stack {
     ghost meaning = { stack_of };
 
     ghost me = { stack_me };
+
+    ghost is_fresh = { IsUntoldStack };
 
     ghost next = { stack_next };
 
@@ -128,6 +130,26 @@ impl Layer for Stack {
     ghost me_stays = { stack_me_stays };
 
     ghost grows = { stack_grows };
+}
+
+impl Lawful for Stack {
+    ghost use Rattle.gb_stack.specs.StackLemmas.{stack_sends_handed_in, stack_ups_handed_in, stack_up_once, stack_sent_once, stack_noticed_once};
+
+    ghost sends_handed_in = { stack_sends_handed_in };
+
+    ghost ups_handed_in = { stack_ups_handed_in };
+
+    ghost up_once = { stack_up_once };
+
+    ghost sent_once = { stack_sent_once };
+
+    ghost noticed_once = { stack_noticed_once };
+}
+
+impl Broadcast for Stack {
+    ghost use Rattle.gb_stack.specs.StackLemmas.{stack_own};
+
+    ghost own_via = { stack_own };
 }
 
 impl Bounded for Stack {

@@ -6,7 +6,7 @@ ghost use Rattle.std.specs.FinSet as set;
 
 use gb_layer::{BroadcastModule, Room};
 use gb_reliable::{Eagerly, Lazily};
-use gb_sinks::{Beb, Bounded, Direct, Index, Layer, PlacedCall, Relay, Sink};
+use gb_sinks::{Beb, Bounded, Broadcast, Direct, Index, Lawful, Layer, PlacedCall, Relay, Sink};
 use gb_types::{NodeId, NodeSet, OutOfMemory};
 use gb_uniform::{AllAcked, MajorityAcked};
 use std::alloc::Global;
@@ -43,7 +43,7 @@ impl Unordered {
 }
 
 impl Layer for Unordered {
-    ghost use Rattle.gb_stack.specs.StackState.{UnorderedState, unordered_next, unordered_gives, unordered_me};
+    ghost use Rattle.gb_stack.specs.StackState.{UnorderedState, unordered_next, unordered_gives, unordered_me, IsUntold};
     ghost use Rattle.gb_stack.specs.Layers.{unordered_of, UnorderedKnows, unordered_grows};
     ghost use Rattle.gb_stack.specs.UnorderedLemmas.{unordered_me_stays};
 
@@ -52,6 +52,8 @@ impl Layer for Unordered {
     ghost meaning = { unordered_of };
 
     ghost me = { unordered_me };
+
+    ghost is_fresh = { IsUntold };
 
     ghost next = { unordered_next };
 
@@ -93,6 +95,26 @@ impl Layer for Unordered {
     ghost me_stays = { unordered_me_stays };
 
     ghost grows = { unordered_grows };
+}
+
+impl Lawful for Unordered {
+    ghost use Rattle.gb_stack.specs.UnorderedLemmas.{unordered_sends_handed_in, unordered_ups_handed_in, unordered_up_once, unordered_sent_once, unordered_noticed_once};
+
+    ghost sends_handed_in = { unordered_sends_handed_in };
+
+    ghost ups_handed_in = { unordered_ups_handed_in };
+
+    ghost up_once = { unordered_up_once };
+
+    ghost sent_once = { unordered_sent_once };
+
+    ghost noticed_once = { unordered_noticed_once };
+}
+
+impl Broadcast for Unordered {
+    ghost use Rattle.gb_stack.specs.UnorderedLemmas.{unordered_own};
+
+    ghost own_via = { unordered_own };
 }
 
 impl Bounded for Unordered {

@@ -2,11 +2,11 @@
 ghost use Rattle.gb_uniform.specs.Rules.{all_ack_rules};
 ghost use Rattle.gb_uniform.specs.AllAckLemmas.{all_ack_more, all_ack_delivers_more, all_ack_own};
 
-use gb_layer::{Relay, Rule};
+use gb_layer::Rule;
 use gb_types::{MsgId, NodeId, NodeSet};
 
-/// The rule of all-ack uniform reliable broadcast: a message is broadcast as soon as it is here, and delivered
-/// once each member was noticed or holds it.
+/// The rule of all-ack uniform reliable broadcast (Cachin, Guerraoui, Rodrigues 2011, Algorithm 3.4): a message is broadcast as soon
+/// as it is here, and delivered once each member was noticed or holds it.
 #[derive(Clone, Copy, Drop)]
 pub struct AllAcked;
 
@@ -27,7 +27,3 @@ impl Rule for AllAcked {
 
     ghost broadcasts_its_own = { all_ack_own };
 }
-
-/// All-ack uniform reliable broadcast over a layer (Cachin, Guerraoui, Rodrigues 2011, Algorithm 3.4). It relays each message once.
-/// It hands the message up once each member that was not noticed is known to hold it.
-pub type AllAck<L> = Relay<L, AllAcked>;

@@ -1,6 +1,5 @@
-//! Uniform reliable broadcast: two rules for the layer that relays. Over `Beb`, all-ack and majority-ack broadcast and deliver what
-//! their modules in gb_layer's specs/Modules.antt define; `modules` says so. Read `all_ack::AllAck` first. The layer itself is
-//! gb_layer's `relay::Relay`.
+//! Uniform reliable broadcast: two rules for the layer that relays, which is gb_sinks' `relay::Relay`. All-ack and majority-ack broadcast
+//! and deliver what their modules in gb_layer's specs/Modules.antt define; `modules` says so. Read `all_ack::AllAcked` first.
 #![tactic(auto)]
 
 pub mod all_ack;

@@ -2,11 +2,11 @@
 ghost use Rattle.gb_uniform.specs.Rules.{majority_ack_rules};
 ghost use Rattle.gb_uniform.specs.MajorityAckLemmas.{majority_ack_more, majority_ack_delivers_more, majority_ack_own};
 
-use gb_layer::{Relay, Rule};
+use gb_layer::Rule;
 use gb_types::{MsgId, NodeId, NodeSet};
 
-/// The rule of majority-ack uniform reliable broadcast: a message is broadcast as soon as it is here, and delivered
-/// once more than half of the members hold it, whoever was noticed.
+/// The rule of majority-ack uniform reliable broadcast (Cachin, Guerraoui, Rodrigues 2011, Algorithm 3.5): a message is broadcast as
+/// soon as it is here, and delivered once more than half of the members hold it, whoever was noticed.
 #[derive(Clone, Copy, Drop)]
 pub struct MajorityAcked;
 
@@ -27,7 +27,3 @@ impl Rule for MajorityAcked {
 
     ghost broadcasts_its_own = { majority_ack_own };
 }
-
-/// Majority-ack uniform reliable broadcast over a layer (Cachin, Guerraoui, Rodrigues 2011, Algorithm 3.5). It relays each message
-/// once. It hands the message up once more than half of the members are known to hold it.
-pub type MajorityAck<L> = Relay<L, MajorityAcked>;

@@ -1,11 +1,8 @@
-use Rattle.gb_uniform.proofs.ModuleLemmas.{all_ack_is_module}
+use Rattle.gb_uniform.specs.AllAckLemmas.{all_ack_broadcasts_as, all_ack_delivers_as}
 use Rattle.gb_uniform.proofs.modules.all_ack.Goals as goal
 
-pub returns-clause-up : goal.returns-clause-up
-returns-clause-up c = all_ack_is_module.up
+pub returns-clause-broadcasts : goal.returns-clause-broadcasts
+returns-clause-broadcasts c = all_ack_broadcasts_as
 
-pub returns-clause-out : goal.returns-clause-out
-returns-clause-out c = all_ack_is_module.out
-
-pub returns-clause-log : goal.returns-clause-log
-returns-clause-log c = all_ack_is_module.log
+pub returns-clause-delivers : goal.returns-clause-delivers
+returns-clause-delivers c = all_ack_delivers_as

@@ -8,6 +8,12 @@ returns-clause-meaning g c = λ ms.
     let none = ap (marked ms) c.new.ensures.list ∙ paired_nothing entry_of ms in
     λ i. record { lower = g.L.Layer.meaning ms c.args.lower; entries = none i }
 
+pub returns-clause-fresh : goal.returns-clause-fresh
+returns-clause-fresh g c = λ ms low. record {
+  lower = low;
+  entries = ap (marked ms) c.new.ensures.list ∙ paired_nothing entry_of ms;
+}
+
 pub returns-clause-known : goal.returns-clause-known
 returns-clause-known g c = λ ms k. record {
   count = ap length c.new.ensures.list;

@@ -7,6 +7,13 @@ use Rattle.gb_sinks.proofs.relay.Relay.new.Goals as goal
 pub returns-clause-meaning : goal.returns-clause-meaning
 returns-clause-meaning g c = λ ms. search (rules, zipped_nothing)
 
+pub returns-clause-fresh : goal.returns-clause-fresh
+returns-clause-fresh g c = λ ms low. record {
+  lower = low;
+  noticed = c.new.ensures;
+  entries = ap (zipped ms) c.new-2.ensures.items ∙ zipped_nothing ms;
+}
+
 pub returns-clause-known : goal.returns-clause-known
 returns-clause-known g c = λ ms low.
     let L = g.L.Layer in

@@ -1,5 +1,5 @@
 use Rattle.std.proofs.Common.{ap}
-use Rattle.gb_stack.specs.StackState.{best_effort, lazy, eager, all_ack, majority_ack}
+use Rattle.gb_stack.specs.StackState.{best_effort}
 use Rattle.gb_stack.proofs.unordered.UnorderedLayer.whole.Goals as goal
 
 pub returns-in-BestEffort-clause-meaning : goal.returns-in-BestEffort-clause-meaning

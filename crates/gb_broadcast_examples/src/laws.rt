@@ -1,0 +1,49 @@
+//! The laws of layers, of each layer and of each rule.
+use gb_layer::Rule;
+use gb_reliable::{Eagerly, Lazily};
+use gb_sinks::laws::each_once;
+use gb_sinks::{Beb, Broadcast, Direct, Fifo, Relay, order};
+use gb_stack::{Stack, Unordered};
+use gb_uniform::{AllAcked, MajorityAcked};
+use std::rt::HostRuntime;
+use std::test::Fail;
+
+/// Calls the laws of a broadcast, and of a fifo over it.
+fn hold<L: Broadcast>() {
+    each_once::<L>();
+    each_once::<Fifo<L>>();
+    order::one_two_three::<L>();
+    order::in_origin_order::<L>();
+    order::integrity::<L>();
+}
+
+/// Calls the laws of a relay by a rule.
+fn relay_holds<R: Rule>() {
+    gb_sinks::modules::relays::<R>();
+    hold::<Relay<Beb, R>>();
+}
+
+/// Calls the laws that say which layers and which rules are which module of broadcast.
+fn modules_hold() {
+    gb_layer::rule::noticed_and_holders();
+    gb_sinks::modules::best_effort();
+    gb_reliable::modules::lazy();
+    gb_reliable::modules::eager();
+    gb_uniform::modules::all_ack();
+    gb_uniform::modules::majority_ack();
+}
+
+/// The laws hold of each layer.
+#[test]
+fn each_layer_is_lawful(_rt: HostRuntime) -> Result<(), Fail> {
+    modules_hold();
+    hold::<Direct<Beb>>();
+    hold::<Fifo<Direct<Beb>>>();
+    relay_holds::<Lazily>();
+    relay_holds::<Eagerly>();
+    relay_holds::<AllAcked>();
+    relay_holds::<MajorityAcked>();
+    hold::<Unordered>();
+    each_once::<Stack>();
+    Ok(())
+}
