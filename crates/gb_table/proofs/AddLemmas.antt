@@ -10,10 +10,10 @@ use Rattle.gb_types.specs.declared.address.Addr.{Addr}
 use Rattle.gb_types.specs.declared.limits.TheConstants.{NODES, PAYLOAD}
 use Rattle.gb_rules.specs.Address.{is_addr}
 use Rattle.gb_slot.specs.SlotState.{SlotState}
-use Rattle.gb_table.specs.declared.slots.Place.{Place}
-use Rattle.gb_table.specs.declared.slots.Place.TheVariants.{Key, Gone}
+use Rattle.gb_table.specs.declared.places.Place.{Place}
+use Rattle.gb_table.specs.declared.places.Place.TheVariants.{Key, Gone}
 use Rattle.gb_table.specs.SlotsValue.{Row, row_at, counters, HaveCounters, IsShort, AreShort, AreApart, AreVacant, no_row, vacant, with_vacant, with_room}
-use Rattle.gb_table.specs.Slots.{slot_under, row_of, place_at, addr_at, vacant_entry, with_vacant_entry, entries_with_room, AreVacantEntries, AreOthers, AreKept}
+use Rattle.gb_table.specs.Places.{slot_under, row_of, place_at, addr_at, vacant_entry, with_vacant_entry, entries_with_room, AreVacantEntries, AreOthers, AreKept}
 use Rattle.gb_table.proofs.SlotsLemmas.{no_entry_at, leads_within, row_is, made_of, row_made, counters_changed, short_changed}
 use Rattle.gb_rules.proofs.AddressLemmas.{addr_is, addr_same}
 

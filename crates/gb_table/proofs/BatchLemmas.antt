@@ -1,5 +1,5 @@
 -- A packing as a whole.
-use Rattle.std.proofs.Common.{◌≡◌, ℕ, suc, zero, ◌+◌, ◌-◌, ◌≤◌, ◌<◌, List, [], ◌∷◌, length, take, get_or, refl, ap, sym, ◌∙◌, arith, inl, inr}
+use Rattle.std.proofs.Common.{◌≡◌, ℕ, suc, zero, ◌+◌, ◌-◌, ◌≤◌, ◌<◌, List, [], ◌∷◌, length, take, get_or, refl, ap, ◌∙◌, arith, inl, inr}
 use Rattle.std.specs.Prelude.{sum_by, Bool, true, false, ltb, if◌then◌else◌}
 use Rattle.std.proofs.Math.ListN.{set}
 use Rattle.std.proofs.lemmas.List.{length-set, get_or-set_same, get_or-set_other, set_past}
@@ -7,8 +7,8 @@ use Rattle.std.proofs.lemmas.Bool.{cases_lt, cases_eq, ltb-true, ltb-false}
 use Rattle.std.proofs.lemmas.List.Sums.{sum_by-cons}
 use Rattle.gb_types.specs.declared.version.Version.{Version}
 use Rattle.gb_table.specs.SlotsValue.{Row}
-use Rattle.gb_table.specs.GroupsValue.{GroupsValue, ArePlaces, walk_to, batch, packed}
-use Rattle.gb_table.specs.Packing.{Visit, walk, queues, fit, size, gave, took, share, new_cursor}
+use Rattle.gb_table.specs.GroupsValue.{ArePlaces}
+use Rattle.gb_table.specs.Packing.{Visit, fit, size, gave, took, share}
 use Rattle.gb_table.specs.Fair.{IsLongest}
 
 -- the batch is a front of the walk
@@ -21,44 +21,6 @@ pub fit-front : (version : Version) (room : ℕ) (vs : List Visit) → (length (
 unfolding fit
 fit-front version room [] = (omega arith, refl)
 fit-front version room (v ∷ vs) = let r = fit-front version (room - size version v) vs in fit-step version (ltb room (size version v)) room v vs r.0 r.1
-
-pub packed_is : (version : Version) (dest room k cursor : ℕ) (t : GroupsValue) (new : List Row) → k ≡ length (fit version room (walk_to dest t)) → new ≡ gave dest 0 (take k (walk_to dest t)) t.rows → cursor ≡ new_cursor (length t.rows) (get_or t.cursors dest 0) k (walk_to dest t) →
-    record t { rows = new; cursors = set t.cursors dest cursor } ≡ packed version dest room t
-packed_is version dest room k cursor t new e r c =
-    let vs = walk_to dest t in
-    let front : take k vs ≡ fit version room vs = ap (λ n. take n vs) e ∙ (fit-front version room vs).1 in
-    let P : List Row → ℕ → GroupsValue = λ rs n. record t { rows = rs; cursors = set t.cursors dest n } in
-    ap (λ rs. P rs cursor) (r ∙ ap (λ us. gave dest 0 us t.rows) front)
-    ∙ ap (λ n. P (gave dest 0 (fit version room vs) t.rows) n) (c ∙ ap (λ n. new_cursor (length t.rows) (get_or t.cursors dest 0) n vs) e)
-
--- the same, where the cursor stands under another name of the node's number
-pub packed_at : (version : Version) (dest to room k cursor : ℕ) (t : GroupsValue) (new : List Row) → to ≡ dest → k ≡ length (fit version room (walk (get_or t.cursors to 0) (queues dest t.rows))) → new ≡ gave dest 0 (take k (walk (get_or t.cursors to 0) (queues dest t.rows))) t.rows → cursor ≡ new_cursor (length t.rows) (get_or t.cursors to 0) k (walk (get_or t.cursors to 0) (queues dest t.rows)) →
-    record t { rows = new; cursors = set t.cursors to cursor } ≡ packed version dest room t
-packed_at version dest to room k cursor t new e a b c =
-    ap (λ n. record t { rows = new; cursors = set t.cursors n cursor }) e
-    ∙ packed_is version dest room k cursor t new
-    (a ∙ ap (λ n. length (fit version room (walk (get_or t.cursors n 0) (queues dest t.rows)))) e)
-    (b ∙ ap (λ n. gave dest 0 (take k (walk (get_or t.cursors n 0) (queues dest t.rows))) t.rows) e)
-    (c ∙ ap (λ n. new_cursor (length t.rows) (get_or t.cursors n 0) k (walk (get_or t.cursors n 0) (queues dest t.rows))) e)
-
--- the items that are taken are the batch
-pub taken_is : (version : Version) (dest to room k : ℕ) (t now : GroupsValue) → to ≡ dest → k ≡ length (fit version room (walk (get_or t.cursors to 0) (queues dest t.rows))) → t ≡ now → take k (walk (get_or t.cursors to 0) (queues dest t.rows)) ≡ batch version dest room now
-taken_is version dest to room k t now e a same =
-    let W = walk (get_or t.cursors to 0) (queues dest t.rows) in
-    ap (λ n. take n W) a ∙ (fit-front version room W).1 ∙ ap (λ n. fit version room (walk (get_or t.cursors n 0) (queues dest t.rows))) e ∙ ap (batch version dest room) same
-
-pub count_is : (version : Version) (dest to room k : ℕ) (t now : GroupsValue) → to ≡ dest → k ≡ length (fit version room (walk (get_or t.cursors to 0) (queues dest t.rows))) → t ≡ now → k ≡ length (batch version dest room now)
-count_is version dest to room k t now e a same =
-    a ∙ ap (λ n. length (fit version room (walk (get_or t.cursors n 0) (queues dest t.rows)))) e ∙ ap (λ (v : GroupsValue). length (batch version dest room v)) same
-
--- the same from what the batch is
-pub count_from : (version : Version) (dest to room k : ℕ) (t now : GroupsValue) → to ≡ dest → t ≡ now → k ≡ length (batch version dest room now) → k ≡ length (fit version room (walk (get_or t.cursors to 0) (queues dest t.rows)))
-count_from version dest to room k t now e same a =
-    a ∙ sym (ap (λ n. length (fit version room (walk (get_or t.cursors n 0) (queues dest t.rows)))) e ∙ ap (λ (v : GroupsValue). length (batch version dest room v)) same)
-
-pub bytes_is : (version : Version) (dest to room k : ℕ) (t now : GroupsValue) → to ≡ dest → k ≡ sum_by (size version) (fit version room (walk (get_or t.cursors to 0) (queues dest t.rows))) → t ≡ now → k ≡ sum_by (size version) (batch version dest room now)
-bytes_is version dest to room k t now e a same =
-    a ∙ ap (λ n. sum_by (size version) (fit version room (walk (get_or t.cursors n 0) (queues dest t.rows)))) e ∙ ap (λ (v : GroupsValue). sum_by (size version) (batch version dest room v)) same
 
 -- a group after its share is that group
 pub get_or-gave : (dest b i : ℕ) (vs : List Visit) (rows : List Row) (d : Row) → i < length rows → get_or (gave dest b vs rows) i d ≡ took dest (share (b + i) vs) (get_or rows i d)

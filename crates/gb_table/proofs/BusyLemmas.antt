@@ -61,8 +61,8 @@ pub none_next : (dest from : ℕ) (words : List ℕ) (rows : List Row) → IsBus
 none_next dest from words rows b f = sym (ap first_place (walk_none from (queues dest rows) (λ p. idle_at dest words rows p b (f p (omega arith)))))
 
 -- the index after one item was given
-pub index_cleared : (dest p : ℕ) (words new : List ℕ) (rows : List Row) (row : Row) → dest < counters row → IsBusy dest words rows → p < length rows → has new p ≡ 0 → ((q : ℕ) → q ≢ p → has new q ≡ has words q) → length (queue dest (took dest 1 row)) ≡ 0 → IsBusy dest new (set rows p (took dest 1 row))
-index_cleared dest p words new rows row d b h here others z =
+pub index_taken : (dest p : ℕ) (words new : List ℕ) (rows : List Row) (row : Row) → dest < counters row → IsBusy dest words rows → p < length rows → has new p ≡ min 1 (length (queue dest (took dest 1 row))) → ((q : ℕ) → q ≢ p → has new q ≡ has words q) → IsBusy dest new (set rows p (took dest 1 row))
+index_taken dest p words new rows row d b h here others =
     let m = length-set rows p (took dest 1 row) in
     let n = length-queues dest rows in
     let w = queues-set dest p rows row d in
@@ -76,25 +76,6 @@ index_cleared dest p words new rows row d b h here others z =
         | inr ne ↦
             let g = ap (λ qs. length (get_or qs q [])) w ∙ ap length (get_or-set_other (queues dest rows) p q (drop 1 (queue dest row)) [] ne) in
             let s = others q ne in
-            let u = b.each q in omega arith
-      ];
-    }
-
-pub index_kept : (dest p : ℕ) (words : List ℕ) (rows : List Row) (row : Row) → dest < counters row → IsBusy dest words rows → p < length rows → 0 < length (get_or (queues dest rows) p []) → 0 < length (queue dest (took dest 1 row)) → IsBusy dest words (set rows p (took dest 1 row))
-index_kept dest p words rows row d b h busy z =
-    let m = length-set rows p (took dest 1 row) in
-    let n = length-queues dest rows in
-    let w = queues-set dest p rows row d in
-    let t = ap length (queue-took dest 1 row d) in
-    record {
-      few = let f = b.few in omega arith;
-      each = λ q. elim (cases_eq q p) [
-        | inl e ↦
-            let g = ap (λ qs. length (get_or qs q [])) w ∙ ap (λ k. length (get_or (set (queues dest rows) p (drop 1 (queue dest row))) k [])) e ∙ ap length (get_or-set_same (queues dest rows) p (drop 1 (queue dest row)) [] (omega arith)) in
-            let s = ap (has words) e in
-            let u = b.each p in omega arith
-        | inr ne ↦
-            let g = ap (λ qs. length (get_or qs q [])) w ∙ ap length (get_or-set_other (queues dest rows) p q (drop 1 (queue dest row)) [] ne) in
             let u = b.each q in omega arith
       ];
     }

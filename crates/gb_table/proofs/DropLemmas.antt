@@ -1,6 +1,6 @@
 -- A group is dropped and keeps its place.
 use Rattle.std.proofs.Common.{◌≡◌, ◌≢◌, ℕ, zero, suc, ◌<◌, List, [], ◌∷◌, length, map, get_or, refl, ap, sym, ◌∙◌, subst, arith, inl, inr}
-use Rattle.std.specs.Prelude.{Option, Some, None, IsSome}
+use Rattle.std.specs.Prelude.{Option, Some, None, IsSome, is_some, true, false}
 use Rattle.indexmap.specs.IndexMap.{set_value_at}
 use Rattle.std.proofs.Math.ListN.{set}
 use Rattle.std.proofs.lemmas.Bool.{cases_eq}
@@ -11,10 +11,14 @@ use Rattle.gb_types.specs.declared.reply.Reply.TheVariants.{Done}
 use Rattle.gb_rules.specs.Group.{drop_answer}
 use Rattle.gb_slot.specs.SlotState.{SlotState}
 use Rattle.gb_types.specs.declared.limits.TheConstants.{PAYLOAD}
-use Rattle.gb_table.specs.declared.slots.Place.{Place}
-use Rattle.gb_table.specs.declared.slots.Place.TheVariants.{Key, Gone}
-use Rattle.gb_table.specs.SlotsValue.{Row, row_at, gone, unless_gone, HaveCounters, AreShort, AreApart, AreVacant, no_row}
-use Rattle.gb_table.specs.Slots.{slot_under, row_of, place_at, AreKept}
+use Rattle.gb_table.specs.declared.places.Place.{Place}
+use Rattle.gb_table.specs.declared.places.Place.TheVariants.{Key, Gone}
+use Rattle.gb_table.specs.SlotsValue.{Row, row_at, gone, HaveCounters, AreShort, AreApart, AreVacant, no_row}
+use Rattle.gb_table.specs.AtAddress.{living_place}
+use Rattle.gb_table.specs.GroupsValue.{GroupsValue}
+use Rattle.gb_table.specs.OneGroup.{group_reply}
+use Rattle.gb_table.proofs.LivingLemmas.{lives_at, reply_living}
+use Rattle.gb_table.specs.Places.{slot_under, row_of, place_at, AreKept}
 use Rattle.gb_table.proofs.SlotsLemmas.{no_entry_at, made_of, row_made, row_is, counters_changed, short_changed}
 use Rattle.gb_table.proofs.AddLemmas.{map-same, same_under, key_same, not_free}
 
@@ -107,12 +111,10 @@ dropped es old new p key w kept here =
       rows = rows;
     }
 
-reply_go : (o : Option SlotState) → IsSome o → Done ≡ unless_gone drop_answer o
-reply_go None h = absurd (cc)
-reply_go (Some v) h = refl
-
--- a group that stands under a key is dropped
-pub reply_here : (es : List (Addr × Place)) (slots : Slab SlotState) (p key : ℕ) → AreKept es slots → place_at es p ≡ Key key → Done ≡ unless_gone drop_answer (row_at (map (row_of slots) es) p).slot
-reply_here es slots p key kept here =
-    reply_go (get slots key) (kept.there p key here)
-    ∙ sym (ap (unless_gone drop_answer) (ap (λ (r : Row). r.slot) (row_is slots es p) ∙ ap (slot_under slots) here))
+-- the reply where the group lives
+pub reply_here : (addr : Addr) (t : GroupsValue) (p : ℕ) → Some p ≡ living_place addr t.rows → Done ≡ group_reply drop_answer addr t
+reply_here addr t p lives = by (row_at t.rows p).slot refl
+  where
+    by : (o : Option SlotState) → (row_at t.rows p).slot ≡ o → Done ≡ group_reply drop_answer addr t
+    by None e = let no : false ≡ true = sym (ap is_some e) ∙ (lives_at addr t.rows p lives).1 in absurd (cc)
+    by (Some s) e = reply_living drop_answer addr t p s (lives_at addr t.rows p lives).0 e

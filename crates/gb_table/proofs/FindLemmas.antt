@@ -9,8 +9,8 @@ use Rattle.slab.specs.Slab.{Slab}
 use Rattle.gb_types.specs.declared.address.Addr.{Addr}
 use Rattle.gb_rules.specs.Address.{is_addr}
 use Rattle.gb_slot.specs.SlotState.{SlotState}
-use Rattle.gb_table.specs.declared.slots.Place.{Place}
-use Rattle.gb_table.specs.Slots.{row_of, AreKept}
+use Rattle.gb_table.specs.declared.places.Place.{Place}
+use Rattle.gb_table.specs.Places.{row_of, AreKept}
 use Rattle.gb_table.specs.SlotsValue.{Row, row_at, no_row, AreApart}
 use Rattle.gb_table.proofs.SlotsLemmas.{no_entry_at, row_is}
 use Rattle.gb_rules.proofs.AddressLemmas.{addr_is}

@@ -35,3 +35,4 @@ pub mod LivingLemmas
 pub mod RoomedLemmas
 pub mod ShortLemmas
 pub mod ListingLemmas
+pub mod SteppedLemmas

@@ -1,6 +1,6 @@
 -- Groups that live at a place, and those that do not live here.
 use Rattle.std.proofs.Common.{◌≡◌, ℕ, suc, ◌+◌, List, [], ◌∷◌, length, refl, ap, sym, ◌∙◌, true, false, arith, inl, inr}
-use Rattle.std.specs.Prelude.{Bool, cond, not, nat_lt, nat_le, Option, Some, None, is_some, option_map, position, if◌then◌else◌}
+use Rattle.std.specs.Prelude.{◌&&◌, Bool, cond, not, nat_lt, nat_le, Option, Some, None, is_some, option_map, position, if◌then◌else◌}
 use Rattle.std.specs.List.{position_or_len}
 use Rattle.std.specs.Map.{keys_of, lookup}
 use Rattle.std.proofs.Math.ListN.{set}
@@ -9,11 +9,17 @@ use Rattle.std.proofs.lemmas.List.{set-get_or}
 use Rattle.gb_types.specs.declared.address.Addr.{Addr}
 use Rattle.gb_types.specs.declared.reply.Reply.{Reply}
 use Rattle.gb_rules.specs.Address.{is_addr}
-use Rattle.gb_rules.specs.Group.{Shown, absent_answer}
+use Rattle.gb_rules.specs.Group.{Shown, absent_answer, is_too_long}
 use Rattle.gb_rules.specs.Room.{name_of}
 use Rattle.gb_slot.specs.SlotState.{SlotState}
-use Rattle.gb_table.specs.SlotsValue.{Row, row_at, unless_gone, no_row}
-use Rattle.gb_table.specs.AtAddress.{place_of, if_living, living_place, step_at, on_address, gone_at, drop_at}
+use Rattle.gb_types.specs.declared.limits.TheConstants.{NODES}
+use Rattle.gb_types.specs.declared.node.NodeId.{NodeId}
+use Rattle.gb_types.specs.declared.version.Version.{Version}
+use Rattle.gb_frame.specs.Items.{address_of, entry_of}
+use Rattle.gb_frame.specs.declared.item.Item.{Item}
+use Rattle.gb_slot.specs.Slot.{shown, slot_came}
+use Rattle.gb_table.specs.SlotsValue.{Row, row_at, no_row, on_slot}
+use Rattle.gb_table.specs.AtAddress.{place_of, if_living, living_place, step_at, on_address, gone_at, drop_at, item_came}
 use Rattle.gb_table.specs.GroupsValue.{GroupsValue}
 use Rattle.gb_table.specs.OneGroup.{slot_for, or_passed, answer_in, group_reply}
 use Rattle.gb_table.specs.Rooms.{rank_from, rank_of, is_passed}
@@ -42,13 +48,27 @@ absent_row rows p e =
       | inr k ↦ none_slot (row_at rows p).slot k
     ]
 
--- nothing changes in a group that does not live here
+-- nothing changes in a group that was dropped, nor in one that does not live here
+pub step_gone : (step : SlotState → SlotState) (rows : List Row) (p : ℕ) → (row_at rows p).slot ≡ None → rows ≡ set rows p (on_slot step (row_at rows p))
+step_gone step rows p e = sym (ap (λ (x : Option SlotState). set rows p (record { addr = (row_at rows p).addr; slot = option_map step x })) e ∙ (ap (λ (x : Option SlotState). set rows p (record { addr = (row_at rows p).addr; slot = x })) (sym e) ∙ set-get_or rows p no_row))
+
 pub step_absent : (step : SlotState → SlotState) (addr : Addr) (rows : List Row) → None ≡ living_place addr rows → rows ≡ on_address addr step rows
 step_absent step addr rows e = by (place_of addr rows) e
   where
     by : (o : Option ℕ) → None ≡ if_living rows o → rows ≡ step_at step rows o
     by None h = refl
-    by (Some p) h = sym (ap (λ (x : Option SlotState). set rows p (record { addr = (row_at rows p).addr; slot = option_map step x })) (absent_row rows p h) ∙ (ap (λ (x : Option SlotState). set rows p (record { addr = (row_at rows p).addr; slot = x })) (sym (absent_row rows p h)) ∙ set-get_or rows p no_row))
+    by (Some p) h = step_gone step rows p (absent_row rows p h)
+
+pub item_absent : (version : Version) (from : NodeId) (i : Item) (rows : List Row) → None ≡ living_place (address_of i) rows → rows ≡ item_came version from i rows
+item_absent version from i rows e =
+    elim (nat_lt i.origin NODES && not (is_too_long version i.payload)) as (λ b. rows ≡ (if b then on_address (address_of i) (slot_came from (entry_of i)) rows else rows)) [
+      | true ↦ step_absent (slot_came from (entry_of i)) (address_of i) rows e
+      | false ↦ refl
+    ]
+
+-- a group that was dropped does not live here
+pub gone_absent : (addr : Addr) (rows : List Row) (p : ℕ) → Some p ≡ place_of addr rows → (row_at rows p).slot ≡ None → None ≡ living_place addr rows
+gone_absent addr rows p at e = sym (ap (if_living rows) (sym at) ∙ ap (λ (o : Option SlotState). if is_some o then Some p else None) e)
 
 pub drop_absent : (addr : Addr) (rows : List Row) → None ≡ living_place addr rows → rows ≡ drop_at addr rows
 drop_absent addr rows e = by (place_of addr rows) e
@@ -74,16 +94,11 @@ absent_group addr rows b e = by (place_of addr rows) e
 pub reply_absent : (answer : Shown → Reply) (addr : Addr) (t : GroupsValue) → None ≡ living_place addr t.rows → absent_answer (is_passed addr t.rooms) ≡ group_reply answer addr t
 reply_absent answer addr t e = absent_reply answer (is_passed addr t.rooms) ∙ sym (ap (answer_in answer) (absent_group addr t.rows (is_passed addr t.rooms) e))
 
-some_reply : (answer : Shown → Reply) (b : Bool) (o : Option SlotState) → is_some o ≡ true → unless_gone answer o ≡ answer_in answer (or_passed b (Some o))
-some_reply answer b None e = absurd (cc)
-some_reply answer b (Some s) e = refl
-
 -- and on one that lives
-pub reply_living : (answer : Shown → Reply) (addr : Addr) (t : GroupsValue) (p : ℕ) → Some p ≡ living_place addr t.rows → unless_gone answer (row_at t.rows p).slot ≡ group_reply answer addr t
-reply_living answer addr t p e =
-    let w = lives_at addr t.rows p e in
-    some_reply answer (is_passed addr t.rooms) (row_at t.rows p).slot w.1
-    ∙ ap (λ o. answer_in answer (or_passed (is_passed addr t.rooms) (option_map (λ (row : Row). row.slot) (option_map (row_at t.rows) o)))) w.0
+pub reply_living : (answer : Shown → Reply) (addr : Addr) (t : GroupsValue) (p : ℕ) (s : SlotState) → Some p ≡ place_of addr t.rows → (row_at t.rows p).slot ≡ Some s → answer (shown s) ≡ group_reply answer addr t
+reply_living answer addr t p s at there =
+    let passed = is_passed addr t.rooms in
+    sym (ap (λ o. answer_in answer (or_passed passed (option_map (λ (row : Row). row.slot) (option_map (row_at t.rows) o)))) (sym at) ∙ ap (λ o. answer_in answer (or_passed passed (Some o))) there)
 
 -- What the map of rooms answers.
 

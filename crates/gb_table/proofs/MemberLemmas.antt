@@ -1,5 +1,5 @@
 -- The index of the groups that have a node among their members.
-use Rattle.std.proofs.Common.{◌≡◌, ◌≢◌, ℕ, suc, ◌<◌, ◌≤◌, ◌+◌, List, [], ◌∷◌, length, map, get_or, refl, ap, sym, ◌∙◌, arith, inl, inr, true, false}
+use Rattle.std.proofs.Common.{◌≡◌, ◌≢◌, ℕ, ◌<◌, ◌≤◌, ◌+◌, List, [], length, map, get_or, refl, ap, sym, ◌∙◌, arith, inl, inr, true, false}
 use Rattle.std.specs.Prelude.{Bool, Option, Some, None, option_map, MatchOption, if◌then◌else◌, ◌&&◌, not, nat_eq}
 use Rattle.std.specs.Ordering.{nat_cmp}
 use Rattle.std.specs.FinSet as nodes
@@ -12,10 +12,9 @@ use Rattle.gb_types.specs.declared.node.NodeId.{NodeId}
 use Rattle.gb_types.specs.declared.spec.Spec.{Spec}
 use Rattle.gb_layer.specs.declared.call.Call.TheVariants.{Notice}
 use Rattle.gb_rules.specs.Group.{is_member}
-use Rattle.gb_slot.specs.Slot.{slot_called, slot_noticed, slot_took}
+use Rattle.gb_slot.specs.Slot.{slot_called, slot_noticed}
 use Rattle.gb_slot.specs.SlotState.{SlotState}
 use Rattle.gb_table.specs.SlotsValue.{Row, row_at, on_slot, gone, no_row}
-use Rattle.gb_table.specs.Packing.{Visit, gave, share}
 use Rattle.gb_table.specs.PlaceSet.{has, IsNext}
 use Rattle.gb_table.specs.Members.{has_member, AreMemberships, IsEnrolled, IsNextMember}
 
@@ -36,14 +35,6 @@ memberships_same rows new sets ok same = record {
 
 pub memberships_step : (f : SlotState → SlotState) (rows : List Row) (sets : List (List ℕ)) (p : ℕ) → ((s : SlotState) → (f s).spec ≡ s.spec) → AreMemberships rows sets → AreMemberships (set rows p (on_slot f (row_at rows p))) sets
 memberships_step f rows sets p same ok = memberships_same rows (set rows p (on_slot f (row_at rows p))) sets ok (λ who. map-set_same (member_in who) rows p (on_slot f (row_at rows p)) no_row (member_stepped f who (row_at rows p).slot same))
-
-members-gave : (dest b who : ℕ) (vs : List Visit) (rows : List Row) → map (member_in who) (gave dest b vs rows) ≡ map (member_in who) rows
-unfolding gave
-members-gave dest b who vs [] = refl
-members-gave dest b who vs (row ∷ rows) = rw (member_stepped (slot_took dest (share b vs)) who row.slot (λ s. refl), members-gave dest (suc b) who vs rows) refl
-
-pub memberships_gave : (dest : ℕ) (vs : List Visit) (rows : List Row) (sets : List (List ℕ)) → AreMemberships rows sets → AreMemberships (gave dest 0 vs rows) sets
-memberships_gave dest vs rows sets ok = memberships_same rows (gave dest 0 vs rows) sets ok (λ who. members-gave dest 0 who vs rows)
 
 -- one set more was written
 

@@ -122,10 +122,6 @@ waiting_outside d (Some s) e = unreached_none d (Some s) (reached_outside s d e)
 queue_at : (d : ℕ) (rows : List Row) (p : ℕ) → p < length rows → get_or (queues d rows) p [] ≡ queue d (row_at rows p)
 queue_at d rows p h = queues_at d rows p (row_at rows p) h (get_or_default rows p no_row (row_at rows p) h)
 
--- the index is right at the place of a group that was dropped
-pub index_gone : (rows : List Row) (busy : List (List ℕ)) (p : ℕ) → p < length rows → (row_at rows p).slot ≡ None → IsIndexBut p rows busy → ((d : ℕ) → d < NODES → has (get_or busy d []) p ≡ 0) → IsIndex rows busy
-index_gone rows busy p h none ok out = index_whole rows busy p ok (λ d l. out d l ∙ sym (ap (λ (q : List Entry). min 1 (length q)) (queue_at d rows p h ∙ ap (queue_of d) none)))
-
 -- the index after the place of a group was written
 index_written : (rows : List Row) (old busy : List (List ℕ)) (p : ℕ) (picks : ℕ → Bool) (value : ℕ → ℕ) → p < length rows → IsIndexBut p rows old → IsWritten NODES p picks value old busy
     → ((d : ℕ) → d < NODES → picks d ≡ true → value d ≡ min 1 (length (queue d (row_at rows p)))) → ((d : ℕ) → d < NODES → picks d ≡ false → has (get_or old d []) p ≡ min 1 (length (queue d (row_at rows p)))) → IsIndex rows busy

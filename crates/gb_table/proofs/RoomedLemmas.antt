@@ -1,19 +1,17 @@
 -- The places of a new room change nothing for the groups that are here.
-use Rattle.std.proofs.Common.{◌≡◌, ℕ, ◌+◌, ◌<◌, ◌≤◌, List, [], ◌∷◌, length, refl, ap, sym, ◌∙◌, subst, false, arith, inl, inr, length-append}
+use Rattle.std.proofs.Common.{◌≡◌, ℕ, ◌≤◌, List, [], ◌∷◌, length, refl, ap, sym, ◌∙◌, subst, arith, inl, inr, length-append}
 use Rattle.std.specs.Prelude.{nat_lt, None, map, if◌then◌else◌}
-use Rattle.std.proofs.lemmas.Bool.{cases_Bool, cases_lt, le-ltb}
+use Rattle.std.proofs.lemmas.Bool.{cases_Bool, cases_lt}
 use Rattle.std.proofs.lemmas.List.{get_or_past}
 use Rattle.slab.specs.Slab.{Slab, get}
 use Rattle.gb_types.specs.declared.address.Addr.{Addr}
 use Rattle.gb_types.specs.declared.limits.TheConstants.{PLACES}
-use Rattle.gb_rules.specs.Address.{is_addr}
-use Rattle.gb_rules.proofs.AddressLemmas.{addr_is}
 use Rattle.gb_slot.specs.SlotState.{SlotState}
-use Rattle.gb_table.specs.declared.slots.Place.{Place}
-use Rattle.gb_table.specs.declared.slots.Place.TheVariants.{Key, Gone}
+use Rattle.gb_table.specs.declared.places.Place.{Place}
+use Rattle.gb_table.specs.declared.places.Place.TheVariants.{Key, Gone}
 use Rattle.gb_table.specs.GroupsValue.{ArePlaces, IsIndex}
 use Rattle.gb_table.specs.Members.{AreMemberships}
-use Rattle.gb_table.specs.Slots.{row_of, place_at, slot_under, AreKept}
+use Rattle.gb_table.specs.Places.{row_of, place_at, slot_under, AreKept}
 use Rattle.gb_table.specs.SlotsValue.{Row, row_at, no_row, vacant, with_vacant, with_room}
 use Rattle.gb_table.proofs.AddLemmas.{not_free}
 use Rattle.gb_table.proofs.IndexLemmas.{index_grown}
@@ -69,24 +67,3 @@ leads_nowhere slots es p kept e = by (place_at es p) refl
     by : (o : Place) → place_at es p ≡ o → place_at es p ≡ Gone
     by Gone h = h
     by (Key k) h = absurd (not_free (get slots k) (kept.there p k h) (sym (ap (slot_under slots) h) ∙ (sym (ap (λ (r : Row). r.slot) (row_is slots es p)) ∙ e)))
-
--- a place up to the end is one of those with a new room
-pub within_room : (place : ℕ) (rows : List Row) → place ≤ length rows → place < length (with_room place rows)
-within_room place rows l =
-    let w = with_room_is place rows in
-    elim (cases_lt place (length rows)) [
-      | inl h ↦ let m = w.extends.0 in omega arith
-      | inr h ↦ let n = w.size ∙ ap (λ b. if b then length rows else length rows + 4) (le-ltb place (length rows) h) in omega arith
-    ]
-
--- no place of a new room has the address of a tenant's group
-pub others_in_room : (addr : Addr) (place : ℕ) (rows : List Row) → 0 < addr.tenant → ((p : ℕ) → p < length rows → is_addr addr (row_at rows p).addr ≡ false) → (p : ℕ) → p < length (with_room place rows) → is_addr addr (row_at (with_room place rows) p).addr ≡ false
-others_in_room addr place rows some none p l =
-    let w = with_room_is place rows in
-    elim (cases_lt p (length rows)) [
-      | inl h ↦ ap (λ (r : Row). is_addr addr r.addr) (w.extends.1 p h) ∙ none p h
-      | inr h ↦ elim (cases_Bool (is_addr addr (row_at (with_room place rows) p).addr)) [
-        | inl e ↦ let z : addr.tenant ≡ 0 = ap (λ (a : Addr). a.tenant) (addr_is addr (row_at (with_room place rows) p).addr e ∙ ap (λ (r : Row). r.addr) (w.extends.2 p h l)) in absurd (omega arith)
-        | inr e ↦ e
-      ]
-    ]

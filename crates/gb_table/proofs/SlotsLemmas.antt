@@ -12,10 +12,10 @@ use Rattle.gb_rules.specs.Address.{is_addr}
 use Rattle.gb_types.specs.declared.address.Addr.{Addr}
 use Rattle.gb_types.specs.declared.limits.TheConstants.{NODES, PAYLOAD}
 use Rattle.gb_slot.specs.SlotState.{SlotState}
-use Rattle.gb_table.specs.declared.slots.Place.{Place}
-use Rattle.gb_table.specs.declared.slots.Place.TheVariants.{Key, Gone}
+use Rattle.gb_table.specs.declared.places.Place.{Place}
+use Rattle.gb_table.specs.declared.places.Place.TheVariants.{Key, Gone}
 use Rattle.gb_table.specs.SlotsValue.{Row, row_at, on_slot, counters, counters_of, HaveCounters, IsShort, AreShort, no_row}
-use Rattle.gb_table.specs.Slots.{slot_under, row_of, place_at, AreKept}
+use Rattle.gb_table.specs.Places.{slot_under, row_of, place_at, AreKept}
 
 -- what stands past the end of the entries
 abbrev pub no_entry_at : Addr × Place

@@ -5,14 +5,13 @@ use Rattle.std.proofs.lemmas.Bool.{cases_eq, cases_lt}
 use Rattle.std.proofs.lemmas.List.{get_or_past, get_or-set_same, get_or-set_other, length-set}
 use Rattle.std.proofs.lemmas.Option.{get_or_from_slice_get}
 use Rattle.std.specs.FinSet as nodes
-use Rattle.std.specs.Prelude.{Option, if◌then◌else◌, ◌&&◌, not, Some, None, option_map, slice_get, Result, Ok, Err, OnOk}
+use Rattle.std.specs.Prelude.{Option, if◌then◌else◌, ◌&&◌, not, Some, None, option_map, slice_get}
 use Rattle.gb_types.specs.declared.address.Addr.{Addr}
 use Rattle.gb_types.specs.Entry.{message_of}
 use Rattle.gb_types.specs.declared.entry.Entry.{Entry}
 use Rattle.gb_types.specs.Message.{same}
 use Rattle.gb_types.specs.declared.message.MsgId.{MsgId}
 use Rattle.gb_types.specs.declared.node.NodeId.{NodeId}
-use Rattle.gb_types.specs.declared.refusal.Refusal.{Refusal}
 use Rattle.gb_types.specs.declared.reply.Reply.{Reply}
 use Rattle.gb_types.specs.declared.reply.Reply.TheVariants.{Done, Said, Log, Refused}
 use Rattle.gb_types.specs.declared.version.Version.{Version}
@@ -20,7 +19,6 @@ use Rattle.gb_types.specs.Version.{limits_of}
 use Rattle.gb_layer.specs.declared.call.Call.TheVariants.{Came, Notice}
 use Rattle.gb_rules.specs.Messages.{has, payload_in, entry_in, with_new}
 use Rattle.gb_rules.specs.Group.{Shown, is_other, say_answer}
-use Rattle.gb_rules.specs.Replied.{said_reply}
 use Rattle.gb_rules.specs.declared.phase.Phase.{Phase}
 use Rattle.gb_slot.specs.Slot.{falls, own_entry, shown, waiting, taken_for, slot_called, slot_moved, slot_said, slot_came, slot_noticed, slot_done, slot_took}
 use Rattle.gb_slot.specs.SlotState.{SlotState}
@@ -124,11 +122,6 @@ waiting_bytes d nth row s e none is at =
 pub many-came : (from : NodeId) (x : Entry) (row : Row) (s t : SlotState) (d : ℕ) → row.slot ≡ Some s → t ≡ slot_came from x s → length (waiting t d) ≡ length (waiting s d) → length (queue d (on_slot (slot_came from x) row)) ≡ length (queue d row)
 many-came from x row s t d is new same =
     ap (λ o. length (queue_of d (option_map (slot_came from x) o))) is ∙ sym (ap (λ (v : SlotState). length (waiting v d)) new) ∙ same ∙ sym (ap (λ o. length (queue_of d o)) is)
-
--- what holds where a message is said holds where its reply is a number
-pub where_said : {T : Type 0} (said : Result ℕ Refusal) (seq : ℕ) → said_reply said ≡ Said seq → OnOk said T → T
-where_said (Ok n) seq e t = t
-where_said (Err why) seq e t = absurd (cc)
 
 named_slot : (version : Version) (addr : Addr) (f : SlotState → SlotState) (o : Option SlotState) → IsNamed version addr o → IsNamed version addr (option_map f o)
 named_slot version addr f None h = h

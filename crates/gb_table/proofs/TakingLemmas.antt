@@ -207,9 +207,3 @@ cursor_last n from k at vs e l hk h =
     ap (next_place n from vs) (slice_get_past vs k past)
     ∙ ap (after_last n from) (slice_get-get_or vs (length vs - 1) nowhere inside)
     ∙ ap (room_after n) at_is
-
--- nor does a batch change what waits for other nodes
-pub queues-gave : (dest e b : ℕ) (vs : List Visit) (rows : List Row) → e ≢ dest → queues e (gave dest b vs rows) ≡ queues e rows
-unfolding gave
-queues-gave dest e b vs [] ne = refl
-queues-gave dest e b vs (row ∷ rows) ne = rw (queue-other dest e (share b vs) row ne, queues-gave dest e (suc b) vs rows ne) refl

@@ -13,7 +13,7 @@ pub mod Busy
 pub mod Members
 pub mod Covered
 pub mod Ahead
-pub mod Slots
+pub mod Places
 pub mod Rooms
 pub mod GroupsValue
 pub mod Fair

@@ -1,18 +1,13 @@
--- The slots of a node's groups, as contracts see them.
+-- The places of a node's groups, and the slots there, as contracts see them.
 use Rattle.std.proofs.Common.{arith}
 use Rattle.std.specs.Prelude.{ℕ, ◌≡◌, ◌<◌, ◌≤◌, Bool, true, List, [], ◌∷◌, ◌++◌, length, nat_lt, Option, Some, None, option_map, slice_index_or, if◌then◌else◌}
 use Rattle.gb_types.specs.declared.address.Addr.{Addr}
 use Rattle.gb_types.specs.declared.entry.Entry.{Entry}
 use Rattle.gb_types.specs.declared.limits.TheConstants.{NODES}
 use Rattle.gb_types.specs.declared.message.MsgId.{MsgId}
-use Rattle.gb_types.specs.declared.refusal.Refusal.TheVariants.{Spent}
-use Rattle.gb_types.specs.declared.reply.Reply.{Reply}
-use Rattle.gb_types.specs.declared.reply.Reply.TheVariants.{Refused}
 use Rattle.gb_types.specs.declared.version.Version.{Version}
 use Rattle.gb_rules.specs.Messages.{payload_in}
 use Rattle.gb_rules.specs.Room.{can_name}
-use Rattle.gb_rules.specs.Group.{Shown}
-use Rattle.gb_slot.specs.Slot.{shown}
 use Rattle.gb_slot.specs.SlotState.{SlotState}
 
 -- A place of a room: the address of the group that was last made there, and its slot unless it was dropped. A place where no group was made has no slot, and the
@@ -20,10 +15,6 @@ use Rattle.gb_slot.specs.SlotState.{SlotState}
 pub record Row : Type 0 where
   pub addr : Addr
   pub slot : Option SlotState
-
--- the places of all rooms, four a room, in the order in which the rooms were begun
-pub record SlotsValue : Type 0 where
-  pub rows : List Row
 
 pub zero_is_node : 0 < NODES
 zero_is_node = omega arith
@@ -98,8 +89,3 @@ IsNamed version addr (Some s) = can_name version addr ≡ true
 
 pub record AreNamed (version : Version) (rows : List Row) : Type 0 where
   pub each : (p : ℕ) → IsNamed version (row_at rows p).addr (row_at rows p).slot
-
--- the answer to a command on a group that may have been dropped
-abbrev pub unless_gone : (Shown → Reply) → Option SlotState → Reply
-unless_gone answer None = Refused Spent
-unless_gone answer (Some s) = answer (shown s)

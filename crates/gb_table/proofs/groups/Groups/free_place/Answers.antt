@@ -1,4 +1,4 @@
-use Rattle.std.proofs.Common.{ap, sym, ◌∙◌, arith}
+use Rattle.std.proofs.Common.{length, ap, sym, ◌∙◌, arith}
 use Rattle.gb_types.specs.declared.address.Addr.{Addr}
 use Rattle.gb_rules.specs.Address.{is_addr}
 use Rattle.gb_table.specs.GroupsValue.{GroupsValue}
@@ -11,15 +11,16 @@ pub first_free-requires : goal.first_free-requires
 first_free-requires c =
     let rank = sym (rank_is _ c.args.addr c.self.inside.rooms.entries (λ a. ap (λ (n : Addr). is_addr n a) c.name_of.ensures)) ∙ (sym c.get_index_of.ensures.index ∙ c.in-Some.is) in
     let below = rank_below c.in-Some.rank c.args.addr c.self.inside.rooms.entries rank in
-    let size = c.self.invariant.4.size in
+    let size = c.self.invariant.1.in_rooms.size in
+    let same = ap (λ (v : GroupsValue). length v.rows) c.self.view_is in
     omega arith
 
 pub returns-in-Some : goal.returns-in-Some
 returns-in-Some c =
     let rank = sym (rank_is _ c.args.addr c.self.inside.rooms.entries (λ a. ap (λ (n : Addr). is_addr n a) c.name_of.ensures)) ∙ (sym c.get_index_of.ensures.index ∙ c.in-Some.is) in
-    c.first_free.ensures ∙ (ap (λ o. free_place o c.self.inside.slots.rows) (sym rank) ∙ ap (λ (v : GroupsValue). free_place (rank_of c.args.addr v.rooms) v.rows) c.self.view_is)
+    c.first_free.ensures ∙ ap (λ o. free_place o c.args.self.now.rows) (sym rank ∙ ap (λ (v : GroupsValue). rank_of c.args.addr v.rooms) c.self.view_is)
 
 pub returns-in-None : goal.returns-in-None
 returns-in-None c =
     let rank = sym (rank_is _ c.args.addr c.self.inside.rooms.entries (λ a. ap (λ (n : Addr). is_addr n a) c.name_of.ensures)) ∙ (sym c.get_index_of.ensures.index ∙ c.in-None.is) in
-    c.len.ensures.len ∙ (ap (λ o. free_place o c.self.inside.slots.rows) (sym rank) ∙ ap (λ (v : GroupsValue). free_place (rank_of c.args.addr v.rooms) v.rows) c.self.view_is)
+    c.len.ensures.len ∙ ap (λ o. free_place o c.args.self.now.rows) (sym rank ∙ ap (λ (v : GroupsValue). rank_of c.args.addr v.rooms) c.self.view_is)

@@ -1,5 +1,0 @@
-use Rattle.std.proofs.Common.{[], rules}
-use Rattle.gb_table.proofs.groups.no_places.Goals as goal
-
-pub returns : goal.returns
-returns c = λ d p l. let h = c.from_fn.ensures.items.at d [] l in search rules

@@ -1,6 +1,0 @@
-use Rattle.std.proofs.lemmas.Grind.{common_steps}
-use Rattle.std.proofs.Common.{arith}
-use Rattle.gb_table.proofs.slots.Slots.addr.Goals as goal
-
-pub unwrap-requires : goal.unwrap-requires
-unwrap-requires c = grind (arith, common_steps)

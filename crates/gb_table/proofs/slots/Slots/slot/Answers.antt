@@ -1,5 +1,0 @@
-use Rattle.gb_table.proofs.SlotsLemmas.{short_is, short_seen}
-use Rattle.gb_table.proofs.slots.Slots.slot.Goals as goal
-
-pub returns-clause-short : goal.returns-clause-short
-returns-clause-short c = short_seen c.get.result _ c.get.ensures (short_is c.self.inside.slots c.self.inside.places.entries c.args.place c.in-Some.key c.self.invariant c.in-Some.ensures)
