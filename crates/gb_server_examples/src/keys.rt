@@ -33,6 +33,23 @@ impl Read for Pieces<'_> {
     }
 }
 
+/// A reader whose first reads are interrupted, this many of them.
+#[derive(Drop)]
+struct Late<'a> {
+    bytes: &'a [u8],
+    interruptions: u32,
+}
+
+impl Read for Late<'_> {
+    fn read(&mut self, buf: &mut [u8]) -> io::Result<usize> {
+        if self.interruptions > 0 {
+            self.interruptions -= 1;
+            return Err(ErrorKind::Interrupted.into());
+        }
+        self.bytes.read(buf)
+    }
+}
+
 // Two keys in digits of both cases, and bytes behind them that the reader of the keys leaves.
 static TEXT: &[u8] =
     b"1111111111111111111111111111111111111111111111111111111111111111\nabABcdCD22222222222222222222222222222222222222222222222222222222\nrest";
@@ -83,6 +100,21 @@ fn keys_come_in_pieces(rt: HostRuntime) {
             "{len} bytes by {piece}"
         );
     }
+}
+
+// The first line has 65 bytes, of which each takes a read.
+#[test]
+fn a_line_of_keys_takes_so_many_reads(rt: HostRuntime) {
+    let mut enough = Late {
+        bytes: TEXT,
+        interruptions: 434,
+    };
+    assert!(rt; are_right(read_keys(&mut enough)));
+    let mut too_many = Late {
+        bytes: TEXT,
+        interruptions: 436,
+    };
+    assert!(rt; matches!(read_keys(&mut too_many), Err(KeyFault::Read)));
 }
 
 // An index and the byte that stands there: no digit, a line that is too long, a carriage return in place of the line feed.
