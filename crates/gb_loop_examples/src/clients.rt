@@ -187,8 +187,9 @@ pub fn reply(
     told(alloc, member)
 }
 
-// Returns the reply of a member's node to a message with this body, if the body is not too long.
-fn reply_to(alloc: Global, member: &mut Member, body: &[u8]) -> Result<Vec<u8>, ClientFault> {
+/// Sends a message with this body to a member's node, and returns the text of the reply. `Err` with `Words` if the body is too long, and
+/// else as with `reply`.
+pub fn reply_to(alloc: Global, member: &mut Member, body: &[u8]) -> Result<Vec<u8>, ClientFault> {
     if body.len() > 16_384 {
         return Err(ClientFault::Words);
     }

@@ -17,6 +17,8 @@ mod fullest;
 #[cfg(test)]
 mod limits;
 #[cfg(test)]
+mod lists;
+#[cfg(test)]
 mod loops;
 #[cfg(test)]
 mod ticks;
