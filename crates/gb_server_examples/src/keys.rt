@@ -102,7 +102,7 @@ fn keys_come_in_pieces(rt: HostRuntime) {
     }
 }
 
-// The first line has 65 bytes, of which each takes a read.
+// The first line has 65 bytes, each of which takes a read. With 434 interruptions it is whole after 499 reads, with 435 after 500.
 #[test]
 fn a_line_of_keys_takes_so_many_reads(rt: HostRuntime) {
     let mut enough = Late {
@@ -112,7 +112,7 @@ fn a_line_of_keys_takes_so_many_reads(rt: HostRuntime) {
     assert!(rt; are_right(read_keys(&mut enough)));
     let mut too_many = Late {
         bytes: TEXT,
-        interruptions: 436,
+        interruptions: 435,
     };
     assert!(rt; matches!(read_keys(&mut too_many), Err(KeyFault::Read)));
 }
