@@ -112,7 +112,7 @@ HOST_MAKES = (3, 5, len(HOST_DAY) - 1)  # where each node makes the group, and w
 # What bench/refused/makers.rt.txt makes, and the measure of each value; of the text that explains refused words, which clap writes, only that there is one.
 MAKERS = [
     ('read_payload', 1), ('read_message', 1), ('split_words', 4), ('parse_request', 1), ('read_ask', 1), ('read_ask of an await', 1),
-    ('read_command', 1), ('read_secrets', 1), ('await_text', 83), ('reply_lines', 3_027), ('entry_lines', 3_021), ('token_line', 65),
+    ('read_other_command', 1), ('read_secrets', 1), ('await_text', 83), ('reply_lines', 3_027), ('entry_lines', 3_021), ('token_line', 65),
     ('command of gb_ctl', 1), ('read_words', 3), ('refusal_text', None), ('Payload::from_slice', 1_000), ('Entries::from_slice', 3),
     ('Entry::duplicate', 1_000), ('Reply::duplicate', 3), ('reply_text', 6_020), ('NodeEvent::duplicate', 1_000),
     ('NodeAnswer::duplicate', 3), ('LineBuffer::new', 1), ('Feed::new', 1), ('RingPort::mesh', 3), ('new_pasts', 3), ('Store::new', 1),

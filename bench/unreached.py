@@ -59,16 +59,23 @@ def without_ghosts(lines):
 
 
 def end_of(lines, at, indent):
-    """Returns the place of the last line of the function whose head is at this place. A declaration ends with a semicolon."""
-    is_open = False
+    """Returns the place of the last line of the function whose head is at this place. A declaration ends with a semicolon. A clause may
+    take several lines; its braces are counted."""
+    is_open, depth = False, 0
     for place in range(at, len(lines)):
         text = lines[place].rstrip()
-        is_clause = re.match(r" *(ensures|requires)\b", text)
-        if is_open and text == indent + "}" or not is_open and text.endswith("{}") and not is_clause:
+        if is_open:
+            if text == indent + "}":
+                return place
+            continue
+        if depth or re.match(r" *(ensures|requires)\b", text):
+            depth += text.count("{") - text.count("}")
+            if not depth and text.endswith(";"):
+                return place
+            continue
+        if text.endswith((";", "{}")):
             return place
-        if not is_open and text.endswith(";"):
-            return place
-        is_open = is_open or text == indent + "{" or text.endswith("{") and (place == at or text.startswith((indent + ")", indent + ">")))
+        is_open = text == indent + "{" or text.endswith("{") and (place == at or text.startswith((indent + ")", indent + ">")))
     return len(lines) - 1
 
 

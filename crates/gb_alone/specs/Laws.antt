@@ -1,16 +1,16 @@
 -- What holds of every group alone, and so of each group in a cluster. A law speaks of every legal list of events. Each beginning of a legal list is
 -- legal too, so what a law says of the whole list it says at every moment: a message was accepted before it stands in any log.
-use Rattle.std.specs.Prelude.{ℕ, ◌-◌, ◌≡◌, ◌≤◌, ◌<◌, List, [], ◌∷◌, ◌++◌, All, count_by, map, Option, Some, None, true, slice_get, nat_eq, if◌then◌else◌}
+use Rattle.std.specs.Prelude.{ℕ, ◌-◌, ◌≡◌, ◌≤◌, ◌<◌, List, [], ◌∷◌, ◌++◌, All, count_by, map, Option, Some, None, slice_get, nat_eq, if◌then◌else◌}
 use Rattle.gb_types.specs.Entry.{message_of}
 use Rattle.gb_types.specs.Message.{same}
 use Rattle.gb_types.specs.declared.entry.Entry.{Entry}
+use Rattle.gb_types.specs.declared.kind.Order.TheVariants.{Fifo}
 use Rattle.gb_types.specs.declared.message.MsgId.{MsgId}
 use Rattle.gb_types.specs.declared.plan.Bounds.{Bounds}
 use Rattle.gb_types.specs.declared.reply.Reply.{Reply}
 use Rattle.gb_types.specs.declared.reply.Reply.TheVariants.{Said}
 use Rattle.gb_types.specs.declared.spec.Spec.{Spec}
 use Rattle.gb_fifo.specs.Order.{RunsFromOne}
-use Rattle.gb_stack.specs.Kinds.{is_fifo}
 use Rattle.gb_alone.specs.Alone.{Group, Member, reply_to, after, nobody, alone, log_at, held_spec, IsLegal}
 use Rattle.gb_alone.specs.declared.event.GroupEvent.{GroupEvent}
 use Rattle.gb_alone.specs.declared.event.GroupEvent.TheVariants.{Say as AskSay}
@@ -71,7 +71,7 @@ IsIntegral = (bounds : Bounds) (addr : Addr) (steps : List GroupStep) → IsLega
 -- if the group was made with a first-in first-out kind, the messages of each origin stand in the log as 1, 2, 3, .. (Hadzilacos, Toueg 1994, FIFO Order)
 abbrev pub KeepsOrder : Option Spec → List Entry → Type 0
 KeepsOrder None log = Unit {0}
-KeepsOrder (Some spec) log = is_fifo spec.kind ≡ true → RunsFromOne (map message_of log)
+KeepsOrder (Some spec) log = spec.kind.order ≡ Fifo → RunsFromOne (map message_of log)
 
 -- in each legal list of steps the log of each node keeps the order of the kind with which the group was made there
 abbrev pub IsInOrder : Type 0

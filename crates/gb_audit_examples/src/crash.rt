@@ -4,7 +4,7 @@ use crate::told::Told;
 use gb_cluster::Event;
 use gb_node::NodeEvent;
 use gb_types::limits::NODES;
-use gb_types::{Kind, NodeId, NodeSet, OutOfMemory, Plan, Spec, Version};
+use gb_types::{Module, NodeId, NodeSet, OutOfMemory, Plan, Spec, Version};
 use std::alloc::Global;
 
 const THIRD: NodeId = NodeId { number: 2 };
@@ -148,12 +148,12 @@ fn spec_of(tenant: u16) -> Spec {
     members.insert(FIRST);
     members.insert(SECOND);
     members.insert(THIRD);
-    let kind = match tenant {
-        7 => Kind::Beb,
-        8 => Kind::Eager,
-        _ => Kind::AllAck,
+    let module = match tenant {
+        7 => Module::BestEffort,
+        8 => Module::Eager,
+        _ => Module::AllAck,
     };
-    spec_with(kind, members)
+    spec_with(module, members)
 }
 
 fn add_at(events: &mut Vec<Event>, node: NodeId, event: NodeEvent) -> Result<(), OutOfMemory> {

@@ -2,7 +2,7 @@
 use crate::schedule::{FIRST, furnish, group_of, say, spec_with};
 use gb_cluster::{Answer, Event};
 use gb_trace::{Trace, refused_for};
-use gb_types::{Kind, NodeSet, OutOfMemory, Refusal, Reply};
+use gb_types::{Module, NodeSet, OutOfMemory, Refusal, Reply};
 use std::alloc::Global;
 use std::rt::HostRuntime;
 use std::test::Fail;
@@ -18,7 +18,12 @@ fn add_events(alloc: Global, events: &mut Vec<Event>) -> Result<(), OutOfMemory>
     for tenant in [7, 8] {
         let mut members = NodeSet::new();
         members.insert(FIRST);
-        furnish(events, FIRST, tenant, spec_with(Kind::Beb, members))?;
+        furnish(
+            events,
+            FIRST,
+            tenant,
+            spec_with(Module::BestEffort, members),
+        )?;
     }
     say(alloc, events, FIRST, 7)?;
     say(alloc, events, FIRST, 8)

@@ -2,7 +2,8 @@
 use gb_cap::token::token;
 use gb_cap::{Key, Need, Token};
 use gb_types::{
-    Addr, Kind, NewMessage, NodeId, NodeSet, OutOfMemory, Payload, Request, Spec, TenantRow,
+    Action, Addr, GroupCommand, Kind, Module, NewMessage, NodeId, NodeSet, Order, OutOfMemory,
+    Payload, Request, Spec, TenantRow,
 };
 use std::alloc::Global;
 
@@ -65,13 +66,19 @@ fn spec() -> Spec {
     let mut members = NodeSet::new();
     members.insert(node(0));
     members.insert(node(1));
+    let (module, order) = (Module::BestEffort, Order::Any);
     Spec {
-        kind: Kind::Beb,
+        kind: Kind { module, order },
         members,
         msgs: 8,
         bytes: 64,
         window: 8,
     }
+}
+
+// Returns the request of the member at a node for a command in the tenant's group.
+fn by_member(tenant: u8, me: NodeId, command: GroupCommand) -> Request {
+    Request::of_group(member(tenant, me), group_of(tenant), command)
 }
 
 /// Returns the request that `asked` names, at the node `me`, with the token that it needs. It is of the tenant with this number, and of
@@ -84,18 +91,21 @@ pub fn request(
 ) -> Result<Request, OutOfMemory> {
     let group = group_of(tenant);
     Ok(match asked {
-        Asked::AddTenant => Request::AddTenant(token(&ADMIN_KEY, Need::Admin), row_of(tenant)),
-        Asked::MakeGroup => Request::Make(owner(tenant), group, spec()),
-        Asked::OpenGroup => Request::OpenGroup(owner(tenant), group),
+        Asked::AddTenant => Request {
+            token: token(&ADMIN_KEY, Need::Admin),
+            what: Action::AddTenant(row_of(tenant)),
+        },
+        Asked::MakeGroup => Request::of_group(owner(tenant), group, GroupCommand::Make(spec())),
+        Asked::OpenGroup => Request::of_group(owner(tenant), group, GroupCommand::Open),
         Asked::Say(bytes) => {
             let payload = Payload::from_slice(alloc, bytes)?;
-            Request::Say(member(tenant, me), group, NewMessage::new(payload))
+            by_member(tenant, me, GroupCommand::Say(NewMessage::new(payload)))
         }
         Asked::SayAs(bytes, seq) => {
             let payload = Payload::from_slice(alloc, bytes)?;
             let seq = Some(seq);
-            Request::Say(member(tenant, me), group, NewMessage { payload, seq })
+            by_member(tenant, me, GroupCommand::Say(NewMessage { payload, seq }))
         }
-        Asked::Fetch(from, most) => Request::Fetch(member(tenant, me), group, from, most),
+        Asked::Fetch(from, most) => by_member(tenant, me, GroupCommand::Fetch(from, most)),
     })
 }

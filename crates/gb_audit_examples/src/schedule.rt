@@ -7,8 +7,8 @@ use gb_node::NodeEvent;
 use gb_rules::Reserve;
 use gb_types::limits::NODES;
 use gb_types::{
-    Addr, Kind, NewMessage, NodeId, NodeSet, OutOfMemory, Payload, Plan, Request, Spec, TenantRow,
-    Version,
+    Action, Addr, GroupCommand, Kind, Module, NewMessage, NodeId, NodeSet, Order, OutOfMemory,
+    Payload, Plan, Request, Spec, TenantRow, Version,
 };
 use std::alloc::Global;
 
@@ -50,10 +50,11 @@ fn row(tenant: u16) -> TenantRow {
     }
 }
 
-/// Returns the parameters of a group of this kind with these members, and with small limits: 4 messages, 4,096 bytes, 4 unfinished.
-pub fn spec_with(kind: Kind, members: NodeSet) -> Spec {
+/// Returns the parameters of a group of this module with these members, and with small limits: 4 messages, 4,096 bytes, 4 unfinished.
+pub fn spec_with(module: Module, members: NodeSet) -> Spec {
+    let order = Order::Any;
     Spec {
-        kind,
+        kind: Kind { module, order },
         members,
         msgs: 4,
         bytes: 4_096,
@@ -66,7 +67,7 @@ pub fn spec() -> Spec {
     let mut members = NodeSet::new();
     members.insert(FIRST);
     members.insert(SECOND);
-    spec_with(Kind::Beb, members)
+    spec_with(Module::BestEffort, members)
 }
 
 fn member(addr: Addr, node: NodeId) -> Token {
@@ -83,6 +84,27 @@ fn ask(events: &mut Vec<Event>, node: NodeId, request: Request) -> Result<(), Ou
     Ok(())
 }
 
+/// Adds a request of a group's owner at a node.
+fn ask_as_owner(
+    events: &mut Vec<Event>,
+    node: NodeId,
+    addr: Addr,
+    command: GroupCommand,
+) -> Result<(), OutOfMemory> {
+    ask(events, node, Request::of_group(owner(addr), addr, command))
+}
+
+/// Adds a request of a group's member at a node.
+fn ask_as_member(
+    events: &mut Vec<Event>,
+    node: NodeId,
+    addr: Addr,
+    command: GroupCommand,
+) -> Result<(), OutOfMemory> {
+    let token = member(addr, node);
+    ask(events, node, Request::of_group(token, addr, command))
+}
+
 /// Appends three requests at a node to the events of a run: add a tenant, make its group with these parameters, open it. `Err` if there
 /// is no memory; then some may be there.
 pub fn furnish(
@@ -93,9 +115,10 @@ pub fn furnish(
 ) -> Result<(), OutOfMemory> {
     let addr = group_of(tenant);
     let admin = token(&PLAN.admin_key, Need::Admin);
-    ask(events, node, Request::AddTenant(admin, row(tenant)))?;
-    ask(events, node, Request::Make(owner(addr), addr, spec))?;
-    ask(events, node, Request::OpenGroup(owner(addr), addr))
+    let what = Action::AddTenant(row(tenant));
+    ask(events, node, Request { token: admin, what })?;
+    ask_as_owner(events, node, addr, GroupCommand::Make(spec))?;
+    ask_as_owner(events, node, addr, GroupCommand::Open)
 }
 
 /// Appends a request to the events of a run that a test makes: at `node`, say a message with these bytes in the group of the tenant that
@@ -109,8 +132,8 @@ pub fn say_bytes(
 ) -> Result<(), OutOfMemory> {
     let addr = group_of(tenant);
     let payload = Payload::from_slice(alloc, bytes)?;
-    let said = Request::Say(member(addr, node), addr, NewMessage::new(payload));
-    ask(events, node, said)
+    let message = NewMessage::new(payload);
+    ask_as_member(events, node, addr, GroupCommand::Say(message))
 }
 
 /// Appends a request to the events of a run that a test makes: at `node`, say the tenant's number, in two bytes with the higher one first,
@@ -127,18 +150,14 @@ pub fn say(
 /// Appends to the events of a run the request that drops a tenant's group at a node. `Err` if there is no memory.
 pub fn drop_group(events: &mut Vec<Event>, node: NodeId, tenant: u16) -> Result<(), OutOfMemory> {
     let addr = group_of(tenant);
-    ask(events, node, Request::DropGroup(owner(addr), addr))
+    ask_as_owner(events, node, addr, GroupCommand::Drop)
 }
 
 /// Appends to the events of a run the request that fetches the log of a tenant's group at a node: at most 16 entries from its beginning.
 /// `Err` if there is no memory.
 pub fn fetch(events: &mut Vec<Event>, node: NodeId, tenant: u16) -> Result<(), OutOfMemory> {
     let addr = group_of(tenant);
-    ask(
-        events,
-        node,
-        Request::Fetch(member(addr, node), addr, 0, 16),
-    )
+    ask_as_member(events, node, addr, GroupCommand::Fetch(0, 16))
 }
 
 /// Returns the events of a run of two nodes, in order. Both have the groups of three tenants, and each tenant says a message at the
@@ -165,7 +184,7 @@ fn add_events(alloc: Global, events: &mut Vec<Event>) -> Result<(), OutOfMemory>
     events.push(Event::Arrive(1))?;
     events.push(Event::Arrive(1))?;
     let addr = group_of(7);
-    let forged = Request::Fetch(member(addr, SECOND), addr, 0, 16);
+    let forged = Request::of_group(member(addr, SECOND), addr, GroupCommand::Fetch(0, 16));
     ask(events, FIRST, forged)?;
     drop_group(events, SECOND, 9)?;
     fetch(events, SECOND, 7)?;

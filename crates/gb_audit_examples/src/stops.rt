@@ -13,13 +13,15 @@ use crate::worked::{
 use gb_cluster::{Answer, Event, Posted, Sending};
 use gb_node::{Halted, NodeEvent, PacketAnswer, PacketText, Ticked};
 use gb_rules::room::ROOMS;
-use gb_schedule::grammar::read_command;
+use gb_schedule::grammar::{read_other_command, read_start, read_step};
 use gb_schedule::keys::{ADMIN_KEY, CLUSTER_KEY};
 use gb_schedule::{ClusterStart, Command, Keys, Step};
 use gb_trace::Trace;
 use gb_trace::run::{are_placed, run};
 use gb_types::limits::{NODES, SILENCE_MAX, SILENCE_MIN};
-use gb_types::{Addr, NodeId, NodeSet, OutOfMemory, Plan, Refusal, Reply, Request};
+use gb_types::{
+    Action, Addr, GroupCommand, NodeId, NodeSet, OutOfMemory, Plan, Refusal, Reply, Request,
+};
 use std::alloc::Global;
 use std::process::Abort;
 use std::rt::HostRuntime;
@@ -76,7 +78,7 @@ fn step_of(keys: &mut Keys, step: Step) -> Event {
         Step::Stop(node) => Event::At(node, NodeEvent::Stop),
         Step::Fetch(node, addr, from, most) => {
             let token = keys.member(addr, node);
-            let request = Request::Fetch(token, addr, from, most);
+            let request = Request::of_group(token, addr, GroupCommand::Fetch(from, most));
             Event::At(node, NodeEvent::Request(request))
         }
     }
@@ -100,11 +102,8 @@ fn event_of(
 }
 
 /// Returns the plan that the first line spells, if a cluster may be started with it.
-fn read_plan(alloc: Global, keys: &mut Keys, line: &[u8]) -> Result<Option<Plan>, OutOfMemory> {
-    match read_command(alloc, keys, None, line)? {
-        Some(Command::Cluster(start)) => Ok(Some(plan_of(&start))),
-        _ => Ok(None),
-    }
+fn read_plan(line: &[u8]) -> Option<Plan> {
+    Some(plan_of(&read_start(line)?))
 }
 
 /// Returns the event that a line spells, if it spells a command in its place that starts no cluster.
@@ -116,7 +115,10 @@ fn read_event(
 ) -> Result<Option<Event>, OutOfMemory>
     requires { (1 ≤ nodes) × (nodes ≤ MOST) }
 {
-    match read_command(alloc, keys, Some(nodes), line)? {
+    if let Some(step) = read_step(nodes, line) {
+        return Ok(Some(step_of(keys, step)));
+    }
+    match read_other_command(alloc, keys, nodes, line)? {
         Some(command) => event_of(alloc, keys, command),
         None => Ok(None),
     }
@@ -152,7 +154,7 @@ fn read_all(
     let [first, others @ ..] = lines else {
         return Ok(None);
     };
-    let Some(plan) = read_plan(alloc, keys, first)? else {
+    let Some(plan) = read_plan(first) else {
         return Ok(None);
     };
     if is_plan(&plan) && read_events(alloc, keys, plan.nodes, others, events)? {
@@ -179,13 +181,9 @@ fn named(event: &Event) -> Option<Addr> {
     let Event::At(_, NodeEvent::Request(request)) = event else {
         return None;
     };
-    match request {
-        Request::AddTenant(_, _) => None,
-        Request::Make(_, addr, _) => Some(*addr),
-        Request::OpenGroup(_, addr) | Request::ShutGroup(_, addr) => Some(*addr),
-        Request::DropGroup(_, addr) => Some(*addr),
-        Request::Say(_, addr, _) => Some(*addr),
-        Request::Fetch(_, addr, _, _) => Some(*addr),
+    match &request.what {
+        Action::AddTenant(_) => None,
+        Action::Group(addr, _) => Some(*addr),
     }
 }
 

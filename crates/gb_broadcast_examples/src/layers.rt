@@ -1,9 +1,9 @@
 //! The lowest layer, and the plain program on a history worked out by hand.
 use crate::names::{FIRST, ME, MEMBERS, ORIGIN, OTHER, OWN, SECOND};
 use crate::placed::{Outcome, effects};
-use gb_layer::{BroadcastModule, Call, Up, plain};
+use gb_layer::{Call, Up, plain};
 use gb_sinks::{Beb, Layer};
-use gb_types::{MsgId, OutOfMemory};
+use gb_types::{Module, MsgId, OutOfMemory};
 use std::alloc::Global;
 use std::process::Abort;
 use std::test::Fail;
@@ -49,7 +49,7 @@ const HISTORY: [Call; 3] = [
 ];
 
 /// Returns true if the plain program computes this log for the history.
-fn has_log(alloc: Global, module: BroadcastModule, log: &[MsgId]) -> Result<bool, OutOfMemory> {
+fn has_log(alloc: Global, module: Module, log: &[MsgId]) -> Result<bool, OutOfMemory> {
     let found = plain::log(alloc, module, ME, &MEMBERS, &HISTORY)?;
     Ok(found.as_slice() == log)
 }
@@ -57,7 +57,7 @@ fn has_log(alloc: Global, module: BroadcastModule, log: &[MsgId]) -> Result<bool
 /// Returns true if the plain program computes these broadcasts for the last call of the history.
 fn has_broadcasts(
     alloc: Global,
-    module: BroadcastModule,
+    module: Module,
     broadcasts: &[MsgId],
 ) -> Result<bool, OutOfMemory> {
     let found = plain::broadcasts(alloc, module, ME, &HISTORY)?;
@@ -68,7 +68,7 @@ fn has_broadcasts(
 fn compare(
     rt: &impl Abort,
     alloc: Global,
-    module: BroadcastModule,
+    module: Module,
     log: &[MsgId],
     broadcasts: &[MsgId],
 ) -> Result<(), OutOfMemory> {
@@ -86,10 +86,10 @@ fn plain_answers_are_those_of_the_algorithms(rt: HostRuntime) -> Result<(), Fail
     let alloc = rt.alloc();
     let second = [SECOND];
     let both = [FIRST, SECOND];
-    compare(&rt, alloc, BroadcastModule::BestEffort, &[FIRST], &[])?;
-    compare(&rt, alloc, BroadcastModule::Lazy, &both, &second)?;
-    compare(&rt, alloc, BroadcastModule::Eager, &both, &second)?;
-    compare(&rt, alloc, BroadcastModule::AllAck, &second, &second)?;
-    compare(&rt, alloc, BroadcastModule::MajorityAck, &both, &second)?;
+    compare(&rt, alloc, Module::BestEffort, &[FIRST], &[])?;
+    compare(&rt, alloc, Module::Lazy, &both, &second)?;
+    compare(&rt, alloc, Module::Eager, &both, &second)?;
+    compare(&rt, alloc, Module::AllAck, &second, &second)?;
+    compare(&rt, alloc, Module::Majority, &both, &second)?;
     Ok(())
 }

@@ -3,13 +3,14 @@ use crate::names::OWN;
 use crate::placed::{effects, stack};
 use gb_layer::Call;
 use gb_sinks::Layer;
-use gb_types::{Kind, NodeSet};
+use gb_types::{Kind, Module, NodeSet, Order};
 use std::test::Fail;
 
 /// A stack that was refused the memory for too many messages has not changed, and takes a call that it has memory for.
 #[test]
 fn a_stack_that_was_refused_memory_goes_on(rt: HostRuntime) -> Result<(), Fail> {
-    let mut layer = stack(rt.alloc(), Kind::FifoAllAck, &NodeSet::new());
+    let (module, order) = (Module::AllAck, Order::Fifo);
+    let mut layer = stack(rt.alloc(), Kind { module, order }, &NodeSet::new());
     let refused = layer.whole(usize::MAX);
     assert!(rt; refused.is_err());
     let each = effects(rt.alloc(), &mut layer, &[Call::Say(OWN)])?;

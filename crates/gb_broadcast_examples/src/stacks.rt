@@ -5,13 +5,15 @@ use crate::placed::{Outcome, run, stack};
 use gb_layer::Call;
 use gb_sinks::Layer;
 use gb_stack::{plain, stands};
-use gb_types::kind::KINDS;
-use gb_types::{Kind, MsgId, NodeId, NodeSet, OutOfMemory};
+use gb_types::kind::MODULES;
+use gb_types::{Kind, Module, MsgId, NodeId, NodeSet, Order, OutOfMemory};
 use std::alloc::Global;
 use std::process::Abort;
 use std::test::Fail;
 
 const STRANGER: NodeId = NodeId { number: 7 };
+
+const ORDERS: [Order; 2] = [Order::Any, Order::Fifo];
 
 /// Every call that tells a node of an own message, of two messages of another node, and of the other nodes.
 const CALLS: [Call; 9] = [
@@ -159,8 +161,11 @@ fn compare_kind(
 
 /// Compares each kind's stack with the plain program.
 fn compare_all(rt: &impl Abort, alloc: Global, noticed: &[NodeId]) -> Result<(), OutOfMemory> {
-    for kind in KINDS {
-        compare_kind(rt, alloc, *kind, noticed)?;
+    for module in MODULES {
+        let module = *module;
+        for order in ORDERS {
+            compare_kind(rt, alloc, Kind { module, order }, noticed)?;
+        }
     }
     Ok(())
 }
@@ -182,16 +187,17 @@ fn each_stack_starts_with_the_notices(rt: HostRuntime) -> Result<(), Fail> {
     Ok(())
 }
 
-/// A kind, true if the origin was noticed, and the numbers of messages that are then sent and handed up.
-type Copied = (Kind, bool, usize, usize);
+/// A module, true if the origin was noticed, and the numbers of messages that are then sent and handed up, in either order.
+type Copied = (Module, bool, usize, usize);
 
 /// Returns true if a stack sends and hands up the numbers of messages of the case when a copy of another node's message comes.
-fn is_copied(alloc: Global, case: Copied) -> Result<bool, OutOfMemory> {
-    let (kind, is_noticed, sends, ups) = case;
+fn is_copied(alloc: Global, case: Copied, order: Order) -> Result<bool, OutOfMemory> {
+    let (module, is_noticed, sends, ups) = case;
     let mut noticed = NodeSet::new();
     if is_noticed {
         noticed.insert(ORIGIN);
     }
+    let kind = Kind { module, order };
     let each = run(alloc, kind, &noticed, &[Call::Came(OTHER, FIRST)])?;
     match each.first() {
         Some(out) => Ok(out.sends.len() == sends && out.ups.len() == ups),
@@ -200,20 +206,13 @@ fn is_copied(alloc: Global, case: Copied) -> Result<bool, OutOfMemory> {
 }
 
 const COPIES: &[Copied] = &[
-    (Kind::Beb, false, 0, 0),
-    (Kind::Lazy, false, 0, 1),
-    (Kind::Eager, false, 1, 1),
-    (Kind::AllAck, false, 1, 0),
-    (Kind::AllAck, true, 1, 1),
-    (Kind::Majority, false, 1, 1),
-    (Kind::Majority, true, 1, 1),
-    (Kind::FifoBeb, false, 0, 0),
-    (Kind::FifoLazy, false, 0, 1),
-    (Kind::FifoEager, false, 1, 1),
-    (Kind::FifoAllAck, false, 1, 0),
-    (Kind::FifoAllAck, true, 1, 1),
-    (Kind::FifoMajority, false, 1, 1),
-    (Kind::FifoMajority, true, 1, 1),
+    (Module::BestEffort, false, 0, 0),
+    (Module::Lazy, false, 0, 1),
+    (Module::Eager, false, 1, 1),
+    (Module::AllAck, false, 1, 0),
+    (Module::AllAck, true, 1, 1),
+    (Module::Majority, false, 1, 1),
+    (Module::Majority, true, 1, 1),
 ];
 
 /// A relayed copy is delivered by lazy and by eager broadcast, and relayed by eager; best effort does neither. All-ack
@@ -222,8 +221,10 @@ const COPIES: &[Copied] = &[
 #[test]
 fn a_relayed_copy_tells_the_kinds_apart(rt: HostRuntime) -> Result<(), Fail> {
     for case in COPIES {
-        let held = is_copied(rt.alloc(), *case)?;
-        assert!(rt; held);
+        for order in ORDERS {
+            let held = is_copied(rt.alloc(), *case, order)?;
+            assert!(rt; held);
+        }
     }
     Ok(())
 }
@@ -242,16 +243,17 @@ fn add_effects(
     Ok(())
 }
 
-/// Returns true if a stack sends two messages in the order in which they come, the second one first, and hands up `told`, after
+/// Returns true if a lazy stack sends two messages in the order in which they come, the second one first, and hands up `told`, after
 /// the origin's notice.
 fn is_turned(
     rt: &impl Abort,
     alloc: Global,
-    kind: Kind,
+    order: Order,
     told: &[MsgId],
 ) -> Result<bool, OutOfMemory> {
+    let module = Module::Lazy;
     let calls = [Call::Came(OTHER, SECOND), Call::Came(OTHER, FIRST)];
-    let each = run(alloc, kind, &set(&[ORIGIN]), &calls)?;
+    let each = run(alloc, Kind { module, order }, &set(&[ORIGIN]), &calls)?;
     let (mut sends, mut ups) = (Vec::new(alloc), Vec::new(alloc));
     add_effects(rt, &each, &mut sends, &mut ups)?;
     Ok(sends.as_slice() == [SECOND, FIRST].as_slice() && ups.as_slice() == told)
@@ -261,9 +263,9 @@ fn is_turned(
 /// relays the first.
 #[test]
 fn fifo_lazy_waits_and_relays(rt: HostRuntime) -> Result<(), Fail> {
-    let waits = is_turned(&rt, rt.alloc(), Kind::FifoLazy, &[FIRST, SECOND])?;
+    let waits = is_turned(&rt, rt.alloc(), Order::Fifo, &[FIRST, SECOND])?;
     assert!(rt; waits);
-    let relays = is_turned(&rt, rt.alloc(), Kind::Lazy, &[SECOND, FIRST])?;
+    let relays = is_turned(&rt, rt.alloc(), Order::Any, &[SECOND, FIRST])?;
     assert!(rt; relays);
     Ok(())
 }
@@ -271,9 +273,12 @@ fn fifo_lazy_waits_and_relays(rt: HostRuntime) -> Result<(), Fail> {
 /// Each stack stands at its node.
 #[test]
 fn each_stack_stands_at_its_node(rt: HostRuntime) -> Result<(), Fail> {
-    for kind in KINDS {
-        let layer = stack(rt.alloc(), *kind, &NodeSet::new());
-        assert!(rt; layer.me() == ME);
+    for module in MODULES {
+        let module = *module;
+        for order in ORDERS {
+            let layer = stack(rt.alloc(), Kind { module, order }, &NodeSet::new());
+            assert!(rt; layer.me() == ME);
+        }
     }
     Ok(())
 }

@@ -2,10 +2,13 @@
 use Rattle.std.proofs.Common.{◌≡◌, ℕ, List, ◌∷◌, ◌∙◌, decimal, refl, sym, ap}
 use Rattle.gb_types.proofs.ReadLemmas.{Reads, found, only, reads_one}
 use Rattle.gb_types.specs.RequestWords.{IsShort, group_word}
+use Rattle.gb_types.specs.declared.command_words.CommandHead.{CommandHead}
+use Rattle.gb_types.specs.declared.command_words.CommandHead.TheVariants.{Make, Open, Shut, Drop, Say, Fetch}
 use Rattle.gb_types.specs.declared.node.NodeId.{NodeId}
 use Rattle.gb_cap.specs.declared.token.Need.{Need}
 use Rattle.gb_cap.specs.declared.token.Need.TheVariants.{Tenant, Member}
-use Rattle.gb_client.specs.Requests.{NeedsTenant, NeedsMember}
+use Rattle.gb_session.specs.declared.head.Head.TheVariants.{Group}
+use Rattle.gb_client.specs.Requests.{NeedsTenant, NeedsMember, Needs}
 use Rattle.gb_types.specs.declared.address.Addr.{Addr}
 use Rattle.gb_types.proofs.RequestWordLemmas.{AreAddressWords}
 
@@ -32,3 +35,12 @@ member_reads words t g rest address node are reads =
     let same : t ∷ g ∷ rest ≡ decimal spelt.0.tenant ∷ group_word spelt.0 ∷ spelt.1 = sym are ∙ spelt.5 in
     let address_is : address ≡ spelt.0 = only (AreAddressWords t g) address spelt.0 reads (spelt.3, cc, spelt.4, cc) in
     ap (λ (a : Addr). Member a.tenant a.group node) address_is ∙ sym spelt.2)
+
+-- what is neither said nor fetched needs what the tenant may do
+pub needs_tenant : (head : CommandHead) (node : NodeId) (need : Need) (words : List (List ℕ)) → (head ≡ Say → ⊥) → (head ≡ Fetch → ⊥) → NeedsTenant need words ≡ Needs (Group head) node need words
+needs_tenant Make node need words no_say no_fetch = refl
+needs_tenant Open node need words no_say no_fetch = refl
+needs_tenant Shut node need words no_say no_fetch = refl
+needs_tenant Drop node need words no_say no_fetch = refl
+needs_tenant Say node need words no_say no_fetch = absurd (no_say refl)
+needs_tenant Fetch node need words no_say no_fetch = absurd (no_fetch refl)

@@ -2,6 +2,7 @@
 use Rattle.std.specs.Prelude.{◌≡◌, ℕ, Bool, true, false, List, ◌∷◌, Option, Some, None}
 use Rattle.hex.specs.Hex.{encode_lower}
 use Rattle.gb_types.specs.PayloadWord.{payload_word}
+use Rattle.gb_types.specs.declared.command_words.CommandHead.TheVariants.{Say}
 use Rattle.gb_types.specs.declared.node.NodeId.{NodeId}
 use Rattle.gb_types.specs.declared.request.Request.{Request}
 use Rattle.gb_cap.specs.declared.token.Need.{Need}
@@ -44,9 +45,5 @@ words_said false words = Some words
 -- the words behind the token, for those that were told
 abbrev pub words_told : Secrets → Head → Bool → List (List ℕ) → Option (List (List ℕ))
 words_told secrets heads.Tenant is_text words = with_key secrets.tenant words
-words_told secrets heads.Make is_text words = Some words
-words_told secrets heads.Open is_text words = Some words
-words_told secrets heads.Shut is_text words = Some words
-words_told secrets heads.Drop is_text words = Some words
-words_told secrets heads.Say is_text words = words_said is_text words
-words_told secrets heads.Fetch is_text words = Some words
+words_told secrets (heads.Group Say) is_text words = words_said is_text words
+words_told secrets (heads.Group other) is_text words = Some words

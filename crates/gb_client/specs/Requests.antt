@@ -4,6 +4,7 @@ use Rattle.std.specs.List.{flat_map}
 use Rattle.hex.specs.Hex.{encode_lower}
 use Rattle.gb_types.specs.RequestWords.{IsShort, IsGroup, group_word}
 use Rattle.gb_types.specs.declared.address.Addr.{Addr}
+use Rattle.gb_types.specs.declared.command_words.CommandHead.TheVariants.{Say, Fetch}
 use Rattle.gb_types.specs.declared.node.NodeId.{NodeId}
 use Rattle.gb_cap.specs.declared.token.Need.{Need}
 use Rattle.gb_cap.specs.declared.token.Need.TheVariants.{Admin, Tenant, Member}
@@ -32,9 +33,6 @@ NeedsMember node need words =
 -- what the token of a request with this head and these words at a node is asked for
 abbrev pub Needs : Head → NodeId → Need → List (List ℕ) → Type 0
 Needs heads.Tenant node need words = need ≡ Admin
-Needs heads.Make node need words = NeedsTenant need words
-Needs heads.Open node need words = NeedsTenant need words
-Needs heads.Shut node need words = NeedsTenant need words
-Needs heads.Drop node need words = NeedsTenant need words
-Needs heads.Say node need words = NeedsMember node need words
-Needs heads.Fetch node need words = NeedsMember node need words
+Needs (heads.Group Say) node need words = NeedsMember node need words
+Needs (heads.Group Fetch) node need words = NeedsMember node need words
+Needs (heads.Group other) node need words = NeedsTenant need words

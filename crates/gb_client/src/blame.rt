@@ -1,11 +1,11 @@
 //! Why the words of a request spell no request: which word is wrong, and what it takes.
 use crate::task::Asked;
 use gb_session::Head;
-use gb_types::OutOfMemory;
 use gb_types::kind_word::read_kind;
 use gb_types::members_word::read_members;
 use gb_types::payload_word::read_payload;
 use gb_types::request_words::{read_group, read_u16, read_u32};
+use gb_types::{CommandHead, OutOfMemory};
 use std::alloc::Global;
 
 /// What a word takes.
@@ -158,10 +158,10 @@ static FETCH: &[Slot] = &[
 fn slots_of(head: Head, is_text: bool) -> &'static [Slot] {
     match head {
         Head::Tenant => TENANT,
-        Head::Make => MAKE,
-        Head::Say if is_text => SAY_TEXT,
-        Head::Say => SAY,
-        Head::Fetch => FETCH,
+        Head::Group(CommandHead::Make) => MAKE,
+        Head::Group(CommandHead::Say) if is_text => SAY_TEXT,
+        Head::Group(CommandHead::Say) => SAY,
+        Head::Group(CommandHead::Fetch) => FETCH,
         _ => GROUP,
     }
 }
@@ -230,7 +230,7 @@ fn put_whole(out: &mut Vec<u8>, head: Head) -> Result<(), OutOfMemory> {
     put(
         out,
         match head {
-            Head::Say => {
+            Head::Group(CommandHead::Say) => {
                 "PAYLOAD is too long: a message has at most 4096 bytes, and 1024 with packets of version 1"
             }
             _ => "the words after the subcommand spell no request",

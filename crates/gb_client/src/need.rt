@@ -1,12 +1,13 @@
 //! Which right the token of a request must be for.
 ghost use Rattle.std.specs.Prelude.{◌≡◌, ◌↔◌, Some, map};
 ghost use Rattle.gb_cap.specs.declared.token.Need.{Need as TheNeed};
+ghost use Rattle.gb_session.specs.declared.head.Head.TheVariants.{Group};
 ghost use Rattle.gb_client.specs.Requests.{NeedsTenant, NeedsMember, Needs};
 
 use gb_cap::Need;
 use gb_session::Head;
-use gb_types::NodeId;
 use gb_types::request_words::{read_address, read_u16};
+use gb_types::{CommandHead, NodeId};
 
 // Words that begin with a tenant.
 fn tenant_need(words: &[&[u8]]) -> Option<Need>
@@ -30,6 +31,17 @@ fn member_need(node: NodeId, words: &[&[u8]]) -> Option<Need>
     Some(Need::Member(address.tenant, address.group, node))
 }
 
+// The need of a command in a group.
+fn command_need(head: CommandHead, node: NodeId, words: &[&[u8]]) -> Option<Need>
+    ensures { (need : TheNeed) → (result ≡ Some need) ↔ Needs (Group head) node need (map (λ word. word.now) words.now) }
+{
+    match head {
+        CommandHead::Say => member_need(node, words),
+        CommandHead::Fetch => member_need(node, words),
+        _ => tenant_need(words),
+    }
+}
+
 /// Returns the need that the token of a request with this head at `node` must be for, by the words behind head and token. For a new
 /// tenant it is the administrator's right. For make, open, shut and drop it is the tenant's, or `None` if `words` do not begin with a
 /// tenant. For say and fetch it is the right of the group's member at `node`, or `None` if `words` do not begin with a tenant and a
@@ -39,11 +51,6 @@ pub fn need_of(head: Head, node: NodeId, words: &[&[u8]]) -> Option<Need>
 {
     match head {
         Head::Tenant => Some(Need::Admin),
-        Head::Make => tenant_need(words),
-        Head::Open => tenant_need(words),
-        Head::Shut => tenant_need(words),
-        Head::Drop => tenant_need(words),
-        Head::Say => member_need(node, words),
-        Head::Fetch => member_need(node, words),
+        Head::Group(head) => command_need(head, node, words),
     }
 }

@@ -5,6 +5,7 @@ ghost use Rattle.gb_types.specs.PayloadWord.{payload_word};
 ghost use Rattle.gb_client.specs.Errands.{nodes_named};
 ghost use Rattle.gb_client.specs.Asking.{Asks, IsAsked, with_key, with_payload, words_told};
 ghost use Rattle.gb_session.specs.declared.grammar.TheConstants.{BODY};
+ghost use Rattle.gb_types.specs.declared.command_words.CommandHead.{CommandHead};
 ghost use Rattle.gb_session.specs.declared.head.Head.{Head};
 
 use crate::fault::ClientFault;
@@ -15,7 +16,7 @@ use gb_cap::Need;
 use gb_session::Head;
 use gb_types::number::put_number;
 use gb_types::payload_word::put_payload;
-use gb_types::{Addr, NodeId, OutOfMemory};
+use gb_types::{Addr, CommandHead, NodeId, OutOfMemory};
 use std::alloc::Global;
 
 /// A request as it is told: a head, and the words behind it, without the token and without a new tenant's key.
@@ -180,7 +181,7 @@ fn ask_text(
     node: NodeId,
     words: &[&[u8]],
 ) -> Result<Vec<u8>, ClientFault>
-    ensures asked { IfOk result (λ body. IsAsked secrets.now node Head.Say
+    ensures asked { IfOk result (λ body. IsAsked secrets.now node (Head.Group CommandHead.Say)
         (with_payload (map (λ word. word.now) words.now)) body.items) }
     ensures short { IfOk result (λ body. vec_len body ≤ BODY) }
 {
@@ -194,7 +195,7 @@ fn ask_text(
     told.push(group)?;
     told.push(payload.as_slice())?;
     told.extend_from_slice(seq)?;
-    ask(alloc, secrets, node, Head::Say, &told)
+    ask(alloc, secrets, node, Head::Group(CommandHead::Say), &told)
 }
 
 // Words, as bytes.
@@ -224,7 +225,7 @@ pub fn request_of(
     let words = bytes_of(alloc, asked.words.as_slice())?;
     match asked.head {
         Head::Tenant => ask_tenant(alloc, secrets, node, &words),
-        Head::Say if asked.is_text => ask_text(alloc, secrets, node, &words),
+        Head::Group(CommandHead::Say) if asked.is_text => ask_text(alloc, secrets, node, &words),
         _ => ask(alloc, secrets, node, asked.head, &words),
     }
 }
@@ -241,7 +242,7 @@ pub fn fetch_of(
 ) -> Result<Vec<u8>, ClientFault>
     ensures asked { IfOk result (λ body. (tenant : List ℕ) × (group : List ℕ)
         × (map (λ word. word.now) asked.now.words.items ≡ tenant ∷ group ∷ [])
-        × Asks secrets.now node Head.Fetch (tenant ∷ group ∷ decimal from ∷ codes "16" ∷ []) body.items) }
+        × Asks secrets.now node (Head.Group CommandHead.Fetch) (tenant ∷ group ∷ decimal from ∷ codes "16" ∷ []) body.items) }
     ensures short { IfOk result (λ body. vec_len body ≤ BODY) }
 {
     let [tenant, group] = asked.words.as_slice() else {
@@ -253,7 +254,7 @@ pub fn fetch_of(
         alloc,
         secrets,
         node,
-        Head::Fetch,
+        Head::Group(CommandHead::Fetch),
         &[
             tenant.as_bytes(),
             group.as_bytes(),

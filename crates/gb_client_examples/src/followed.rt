@@ -7,7 +7,7 @@ use gb_client::{Asked, ClientFault, Secrets};
 use gb_client_run::following::follow;
 use gb_session::Head;
 use gb_types::words::split_words;
-use gb_types::{NodeId, OutOfMemory};
+use gb_types::{CommandHead, NodeId, OutOfMemory};
 use std::alloc::Global;
 use std::test::Fail;
 
@@ -96,7 +96,7 @@ fn holds(alloc: Global, case: &Case) -> Result<bool, ClientFault> {
     words.push("7")?;
     words.push("1")?;
     let asked = Asked {
-        head: Head::Fetch,
+        head: Head::Group(CommandHead::Fetch),
         words,
         is_text: false,
     };

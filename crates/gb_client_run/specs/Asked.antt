@@ -1,5 +1,6 @@
 -- What was asked of nodes, and what came back.
 use Rattle.std.specs.Prelude.{◌≡◌, ℕ, ◌+◌, Bool, true, false, List, [], ◌∷◌}
+use Rattle.gb_types.specs.declared.command_words.CommandHead.TheVariants.{Say, Fetch}
 use Rattle.gb_types.specs.declared.node.NodeId.{NodeId}
 use Rattle.gb_types.specs.declared.reply.Reply.{Reply}
 use Rattle.gb_types.specs.declared.reply.Reply.TheVariants.{Done, Said, Log, Refused}
@@ -12,16 +13,16 @@ use Rattle.gb_client.specs.Asking.{IsAsked, words_told}
 
 -- the heads whose requests are answered `ok`, `said SEQ` and `log COUNT ..`
 abbrev pub is_done : Head → Bool
-is_done heads.Say = false
-is_done heads.Fetch = false
+is_done (heads.Group Say) = false
+is_done (heads.Group Fetch) = false
 is_done other = true
 
 abbrev pub is_said : Head → Bool
-is_said heads.Say = true
+is_said (heads.Group Say) = true
 is_said other = false
 
 abbrev pub is_logged : Head → Bool
-is_logged heads.Fetch = true
+is_logged (heads.Group Fetch) = true
 is_logged other = false
 
 -- whether this may be the reply to a request with this head

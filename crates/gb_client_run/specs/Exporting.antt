@@ -1,13 +1,14 @@
 -- What is asked and printed while a log is exported.
 use Rattle.std.specs.Prelude.{◌≡◌, ℕ, ◌+◌, List, [], ◌∷◌, ◌++◌, Option, Some, None, codes, decimal, length}
 use Rattle.std.specs.Io.KnownBytes.{Appends}
+use Rattle.gb_types.specs.declared.command_words.CommandHead.TheVariants.{Fetch}
 use Rattle.gb_types.specs.declared.entry.Entry.{Entry}
 use Rattle.gb_types.specs.declared.node.NodeId.{NodeId}
 use Rattle.gb_types.specs.declared.refusal.Refusal.{Refusal}
 use Rattle.gb_types.specs.declared.reply.Reply.{Reply}
 use Rattle.gb_types.specs.declared.reply.Reply.TheVariants.{Log, Refused}
 use Rattle.gb_types.specs.ReplyText.{reply_spelling}
-use Rattle.gb_session.specs.declared.head.Head.TheVariants.{Fetch}
+use Rattle.gb_session.specs.declared.head.Head.TheVariants.{Group}
 use Rattle.gb_client.specs.declared.secrets.Secrets.{Secrets}
 use Rattle.gb_client.specs.Answers.{lines_of}
 use Rattle.gb_client.specs.Asking.{Asks}
@@ -19,7 +20,7 @@ use Rattle.gb_client_run.specs.Following.{end_status}
 abbrev pub AsksFetch : Secrets → ℕ → NodeId → List (List ℕ) → ℕ → Exchange → Type 0
 AsksFetch secrets base node words place x =
     (x.port ≡ base + 64 + node.number)
-    × ((tenant : List ℕ) × (group : List ℕ) × (words ≡ tenant ∷ group ∷ []) × Asks secrets node Fetch (tenant ∷ group ∷ decimal place ∷ codes "16" ∷ []) x.body)
+    × ((tenant : List ℕ) × (group : List ℕ) × (words ≡ tenant ∷ group ∷ []) × Asks secrets node (Group Fetch) (tenant ∷ group ∷ decimal place ∷ codes "16" ∷ []) x.body)
 
 -- such a fetch was made, and this is the reply to it
 pub record HasFetched {S : Type 0} (asks : S → ℕ → List ℕ → List ℕ → S → Type 0) (secrets : Secrets) (base : ℕ) (node : NodeId) (words : List (List ℕ)) (place : ℕ) (old new : S) (reply : Reply) : Type 0 where

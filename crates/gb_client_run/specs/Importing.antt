@@ -1,6 +1,7 @@
 -- What is said and printed while a log is imported.
 use Rattle.std.specs.Prelude.{◌≡◌, ℕ, ◌+◌, ◌-◌, ◌||◌, ◌==◌, Bool, true, false, List, [], ◌∷◌, ◌++◌, Option, Some, None, codes, decimal, drop, filter, length}
 use Rattle.std.specs.Io.KnownBytes.{Appends}
+use Rattle.gb_types.specs.declared.command_words.CommandHead.TheVariants.{Say}
 use Rattle.gb_types.specs.declared.entry.Entry.{Entry}
 use Rattle.gb_types.specs.declared.node.NodeId.{NodeId}
 use Rattle.gb_types.specs.declared.refusal.Refusal.{Refusal}
@@ -9,7 +10,7 @@ use Rattle.gb_types.specs.declared.reply.Reply.{Reply}
 use Rattle.gb_types.specs.declared.reply.Reply.TheVariants as replies
 use Rattle.gb_types.specs.PayloadWord.{payload_word}
 use Rattle.gb_types.specs.ReplyText.{reply_spelling}
-use Rattle.gb_session.specs.declared.head.Head.TheVariants.{Say}
+use Rattle.gb_session.specs.declared.head.Head.TheVariants.{Group}
 use Rattle.gb_client.specs.declared.secrets.Secrets.{Secrets}
 use Rattle.gb_client.specs.Asking.{Asks}
 use Rattle.gb_client_run.specs.Asked.{Exchange}
@@ -36,7 +37,7 @@ may_pass other = false
 -- a body asks to say a payload in the group that two words name
 abbrev pub SaysSo : Secrets → NodeId → List (List ℕ) → List ℕ → List ℕ → Type 0
 SaysSo secrets node words payload body =
-    (tenant : List ℕ) × (group : List ℕ) × (words ≡ tenant ∷ group ∷ []) × Asks secrets node Say (tenant ∷ group ∷ payload_word payload ∷ []) body
+    (tenant : List ℕ) × (group : List ℕ) × (words ≡ tenant ∷ group ∷ []) × Asks secrets node (Group Say) (tenant ∷ group ∷ payload_word payload ∷ []) body
 
 -- a message asked it of a node's sessions
 abbrev pub AsksSay : Secrets → ℕ → NodeId → List (List ℕ) → List ℕ → Exchange → Type 0

@@ -17,7 +17,7 @@ use gb_client::{Asked, ClientFault, Row};
 use gb_session::Head;
 use gb_types::number::put_number;
 use gb_types::request_words::read_address;
-use gb_types::{Addr, NodeId, Refusal, Reply};
+use gb_types::{Addr, CommandHead, NodeId, Refusal, Reply};
 use std::alloc::Global;
 use std::io::Write;
 
@@ -35,18 +35,18 @@ pub enum Outcome {
 fn may_be_done(head: Head, refusal: Refusal) -> bool {
     matches!(
         (head, refusal),
-        (Head::Make, Refusal::Spent)
-            | (Head::Open, Refusal::WrongPhase)
-            | (Head::Drop, Refusal::Spent)
+        (Head::Group(CommandHead::Make), Refusal::Spent)
+            | (Head::Group(CommandHead::Open), Refusal::WrongPhase)
+            | (Head::Group(CommandHead::Drop), Refusal::Spent)
     )
 }
 
 // Returns true if what a request asks has been done at a node that lists the group so.
 fn is_settled(alloc: Global, asked: &Asked<'_>, row: &Row<'_>) -> Result<bool, ClientFault> {
     match asked.head {
-        Head::Make => is_made_so(alloc, row.text, asked.words.as_slice()),
-        Head::Open => Ok(row.phase == b"open".as_slice()),
-        Head::Drop => Ok(row.phase == b"dropped".as_slice()),
+        Head::Group(CommandHead::Make) => is_made_so(alloc, row.text, asked.words.as_slice()),
+        Head::Group(CommandHead::Open) => Ok(row.phase == b"open".as_slice()),
+        Head::Group(CommandHead::Drop) => Ok(row.phase == b"dropped".as_slice()),
         _ => Ok(false),
     }
 }
@@ -133,8 +133,8 @@ fn ask_at<N: Nodes>(
 // What has been done at a node, in a word.
 fn done_word(head: Head) -> &'static [u8] {
     match head {
-        Head::Make => b"made",
-        Head::Open => b"opened",
+        Head::Group(CommandHead::Make) => b"made",
+        Head::Group(CommandHead::Open) => b"opened",
         _ => b"dropped",
     }
 }

@@ -13,7 +13,7 @@ use gb_client::{Asked, Choice, ClientFault, Secrets};
 use gb_session::Head;
 use gb_types::number::put_number;
 use gb_types::payload_word::put_payload;
-use gb_types::{Entries, Entry, NodeId, OutOfMemory, Refusal, Reply};
+use gb_types::{CommandHead, Entries, Entry, NodeId, OutOfMemory, Refusal, Reply};
 use std::alloc::Global;
 use std::io::Write;
 
@@ -63,7 +63,7 @@ fn say_of(
         alloc,
         secrets,
         node,
-        Head::Say,
+        Head::Group(CommandHead::Say),
         &[tenant.as_bytes(), group.as_bytes(), word.as_slice()],
     )
 }

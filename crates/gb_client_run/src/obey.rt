@@ -8,7 +8,7 @@ use crate::once::ask_once;
 use crate::target::Target;
 use gb_client::{Asked, ClientFault, Errand};
 use gb_session::Head;
-use gb_types::NodeId;
+use gb_types::{CommandHead, NodeId};
 use std::alloc::Global;
 use std::io::Write;
 
@@ -21,7 +21,7 @@ fn open_of<'a>(alloc: Global, make: &Asked<'a>) -> Result<Asked<'a>, ClientFault
     words.push(*tenant)?;
     words.push(*group)?;
     Ok(Asked {
-        head: Head::Open,
+        head: Head::Group(CommandHead::Open),
         words,
         is_text: false,
     })

@@ -14,7 +14,7 @@ use gb_client::show::reply_lines;
 use gb_client::task::request_of;
 use gb_client::{Asked, ClientFault};
 use gb_session::Head;
-use gb_types::{NodeId, Reply};
+use gb_types::{CommandHead, NodeId, Reply};
 use std::alloc::Global;
 use std::io::Write;
 
@@ -24,9 +24,9 @@ pub fn answers(head: Head, reply: &Reply) -> bool
     ensures { result ≡ answers head reply.now }
 {
     match reply {
-        Reply::Done => !matches!(head, Head::Say | Head::Fetch),
-        Reply::Said(_) => matches!(head, Head::Say),
-        Reply::Log(_) => matches!(head, Head::Fetch),
+        Reply::Done => !matches!(head, Head::Group(CommandHead::Say | CommandHead::Fetch)),
+        Reply::Said(_) => matches!(head, Head::Group(CommandHead::Say)),
+        Reply::Log(_) => matches!(head, Head::Group(CommandHead::Fetch)),
         Reply::Refused(_) => true,
     }
 }

@@ -6,10 +6,10 @@ use gb_cap::Need;
 use gb_client::task::LISTED;
 use gb_client::{Asked, Choice, Errand, Server, Task};
 use gb_session::Head;
-use gb_types::NodeId;
 use gb_types::limits::NODES;
 use gb_types::members_word::read_members;
 use gb_types::request_words::{read_address, read_u16, read_u32};
+use gb_types::{CommandHead, NodeId};
 use gb_version::VERSION;
 use std::alloc::{AllocError, Global};
 
@@ -275,19 +275,19 @@ static SUBCOMMANDS: &[SubcommandWords] = &[
     },
     SubcommandWords {
         name: "make",
-        purpose: Purpose::Ask(Head::Make),
+        purpose: Purpose::Ask(Head::Group(CommandHead::Make)),
         about: "Makes a group at the node alone; group does it at each member's node",
         args: &[T, G, KIND, MEMBERS, MSGS, BYTES, WINDOW],
     },
     SubcommandWords {
         name: "open",
-        purpose: Purpose::Ask(Head::Open),
+        purpose: Purpose::Ask(Head::Group(CommandHead::Open)),
         about: "Opens a group that was made at the node, so that messages may be said there",
         args: &[T, G],
     },
     SubcommandWords {
         name: "shut",
-        purpose: Purpose::Ask(Head::Shut),
+        purpose: Purpose::Ask(Head::Group(CommandHead::Shut)),
         about: "Shuts an open group: nothing more is said in it at the node",
         args: &[T, G],
     },
@@ -299,13 +299,13 @@ static SUBCOMMANDS: &[SubcommandWords] = &[
     },
     SubcommandWords {
         name: "say",
-        purpose: Purpose::Ask(Head::Say),
+        purpose: Purpose::Ask(Head::Group(CommandHead::Say)),
         about: "Says a message in a group",
         args: &[T, G, PAYLOAD, SEQ, PAYLOAD_AS_TEXT],
     },
     SubcommandWords {
         name: "fetch",
-        purpose: Purpose::Ask(Head::Fetch),
+        purpose: Purpose::Ask(Head::Group(CommandHead::Fetch)),
         about: "Gives entries of a group's log",
         args: &[T, G, FROM, MAX, ENTRIES_AS_TEXT],
     },
@@ -528,7 +528,7 @@ fn group_task<'a>(
         words.push(*word)?;
     }
     let asked = Asked {
-        head: Head::Make,
+        head: Head::Group(CommandHead::Make),
         words,
         is_text: false,
     };
@@ -542,7 +542,7 @@ fn drop_task<'a>(
     matches: &ArgMatches<'a>,
     args: &[ArgWords],
 ) -> Result<Errand<'a>, PlanFault> {
-    let asked = asked(alloc, Head::Drop, matches, args)?;
+    let asked = asked(alloc, Head::Group(CommandHead::Drop), matches, args)?;
     match nodes(alloc, matches)? {
         Some(nodes) => Ok(Errand::Drop(nodes, asked)),
         None => Ok(Errand::Ask(node.ok_or(PlanFault::NoNode)?, asked)),
@@ -578,16 +578,16 @@ fn errand<'a>(
     Ok(match subcommand.purpose {
         Purpose::Ask(head) => Errand::Ask(node, asked(alloc, head, matches, subcommand.args)?),
         Purpose::Follow => {
-            let asked = asked(alloc, Head::Fetch, matches, subcommand.args)?;
+            let asked = asked(alloc, Head::Group(CommandHead::Fetch), matches, subcommand.args)?;
             let from = number(matches, "from").unwrap_or(0);
             Errand::Follow(node, asked, from, number(matches, "times"))
         }
         Purpose::Export => Errand::Export(
             node,
-            asked(alloc, Head::Fetch, matches, subcommand.args)?,
+            asked(alloc, Head::Group(CommandHead::Fetch), matches, subcommand.args)?,
         ),
         Purpose::Import => {
-            let asked = asked(alloc, Head::Say, matches, subcommand.args)?;
+            let asked = asked(alloc, Head::Group(CommandHead::Say), matches, subcommand.args)?;
             let choice = Choice {
                 is_all: matches.get_flag("all"),
                 from: number(matches, "from").unwrap_or(0),

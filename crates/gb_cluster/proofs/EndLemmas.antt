@@ -3,10 +3,9 @@ use Rattle.std.proofs.Common.{◌≡◌, List, [], ◌∷◌, ◌++◌, sym, ap,
 use Rattle.std.specs.Prelude.{slice_set}
 use Rattle.gb_types.specs.declared.refusal.Refusal.TheVariants.{OutOfMemory}
 use Rattle.gb_types.specs.declared.reply.Reply.TheVariants.{Refused}
-use Rattle.gb_types.specs.declared.request.Request.{Request}
-use Rattle.gb_types.specs.declared.request.Request.TheVariants.{AddTenant, Make, OpenGroup, ShutGroup, DropGroup, Say, Fetch}
 use Rattle.gb_types.specs.declared.plan.Plan.{Plan}
-use Rattle.gb_node.specs.NodeStep.{IsStarved, IsTurn, RequestTakesMemory}
+use Rattle.gb_rules.specs.Replied.{takes_memory}
+use Rattle.gb_node.specs.NodeStep.{IsStarved, IsTurn}
 use Rattle.gb_node.specs.NodeValue.{NodeValue}
 use Rattle.gb_node.specs.declared.answer.NodeAnswer.{NodeAnswer}
 use Rattle.gb_node.specs.declared.answer.NodeAnswer.TheVariants.{Reply as Replied, Sent}
@@ -18,19 +17,8 @@ use Rattle.gb_cluster.specs.ClusterValue.{ClusterValue, cluster, node_at}
 use Rattle.gb_cluster.specs.Run.{Did, ComesTo}
 
 -- where memory lacked, the answer is not the one that should be
-takes_none : (request : Request) → RequestTakesMemory request (Refused OutOfMemory) → ⊥
-takes_none (AddTenant token row) takes = cc
-takes_none (Make token addr spec) takes = cc
-takes_none (Fetch token addr from most) takes = cc
-takes_none (OpenGroup token addr) takes = takes
-takes_none (ShutGroup token addr) takes = takes
-takes_none (DropGroup token addr) takes = takes
-takes_none (Say token addr message) takes = takes
-
 unstarved : (event : NodeEvent) (answer : NodeAnswer) → IsStarved event answer answer → ⊥
-unstarved (Asked request) (Replied reply) (is, takes) =
-    let same : reply ≡ Refused OutOfMemory = cc in
-    takes_none request (subst (RequestTakesMemory request) same takes)
+unstarved (Asked request) (Replied reply) (is, takes) = let same : reply ≡ Refused OutOfMemory = cc in cc (ap takes_memory same, takes.1)
 unstarved (Asked request) (Sent (SentPacket text)) is = cc
 unstarved (Pack b) (Sent (SentPacket text)) is = cc
 unstarved (Again b n) (Sent (SentPacket text)) is = cc

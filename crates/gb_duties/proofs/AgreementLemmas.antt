@@ -17,10 +17,10 @@ use Rattle.gb_layer.specs.Histories.{said_mentioned, came_mentioned}
 use Rattle.gb_layer.specs.Lists.{all_weaker}
 use Rattle.gb_layer.specs.Machine.{mentions, was_said, was_noticed, came_from}
 use Rattle.gb_layer.specs.Modules.{holds, is_delivered, is_broadcast, now_delivered, now_broadcast}
-use Rattle.gb_layer.specs.declared.broadcast_module.BroadcastModule.{BroadcastModule}
-use Rattle.gb_layer.specs.declared.broadcast_module.BroadcastModule.TheVariants.{BestEffort, Lazy, Eager, AllAck, MajorityAck}
+use Rattle.gb_types.specs.declared.kind.Module.{Module}
+use Rattle.gb_types.specs.declared.kind.Module.TheVariants.{BestEffort, Lazy, Eager, AllAck, Majority}
 use Rattle.gb_fifo.specs.Order.{is_in, numbered, upto, top, numbers_of, in_order}
-use Rattle.gb_stack.specs.Kinds.{module_of, kind_log}
+use Rattle.gb_stack.specs.Kinds.{kind_log}
 use Rattle.gb_stack.specs.LogLaws.{ModuleLogHasDelivered}
 use Rattle.gb_rules.specs.Group.{is_gone, is_member}
 use Rattle.gb_rules.specs.History.{calls_of}
@@ -53,11 +53,8 @@ eq_comm : (a b : ℕ) → nat_eq a b ≡ false → nat_eq b a ≡ false
 eq_comm a b e = refuted (nat_eq b a) (λ h. let f = eq-eqb a b (sym (eqb-true b a h)) in absurd (cc))
 
 module _ (runs : ℕ → Bool) (spec : Spec) (group : Group) (calm : Calm runs spec group) (enough : AreEnough runs spec) where
-  base : BroadcastModule
-  base = module_of spec.kind
-
   -- what a running member broadcasts has come from it to each other
-  sends : (a b : ℕ) (m : MsgId) → IsRunning runs spec a → IsRunning runs spec b → nat_eq a b ≡ false → now_broadcast (module_of spec.kind) a (calls_of (group a).told) m ≡ true → came_from b (calls_of (group b).told) a m ≡ true
+  sends : (a b : ℕ) (m : MsgId) → IsRunning runs spec a → IsRunning runs spec b → nat_eq a b ≡ false → now_broadcast spec.kind.module a (calls_of (group a).told) m ≡ true → came_from b (calls_of (group b).told) a m ≡ true
   sends a b m run_a run_b other out = go (find ((group a).put b) m put)
     where
       put : has ((group a).put b) m ≡ true
@@ -71,7 +68,7 @@ module _ (runs : ℕ → Bool) (spec : Spec) (group : Group) (calm : Calm runs s
           subst (λ (k : MsgId). came_from b (calls_of (group b).told) a k ≡ true) is (calm.taking.taken a b run_a.0 run_b.0 other (calm.kept b run_b) (i + 1) y place (ap (slice_get ((group a).put b)) e ∙ at))
 
   -- and so each running member knows that the other holds it
-  reaches : (a b : ℕ) (m : MsgId) → IsRunning runs spec a → IsRunning runs spec b → now_broadcast (module_of spec.kind) a (calls_of (group a).told) m ≡ true → holds b (calls_of (group b).told) a m ≡ true
+  reaches : (a b : ℕ) (m : MsgId) → IsRunning runs spec a → IsRunning runs spec b → now_broadcast spec.kind.module a (calls_of (group a).told) m ≡ true → holds b (calls_of (group b).told) a m ≡ true
   reaches a b m run_a run_b out = go (nat_eq a b) refl
     where
       go : (t : Bool) → nat_eq a b ≡ t → holds b (calls_of (group b).told) a m ≡ true
@@ -90,22 +87,20 @@ module _ (runs : ℕ → Bool) (spec : Spec) (group : Group) (calm : Calm runs s
       go (inr own) = and_right (nat_eq b a) (mentions (calls_of (group b).told) m) own
 
   -- what is known and to be broadcast is broadcast, what is known and to be delivered is delivered
-  out_is : (a : ℕ) (m : MsgId) (k : BroadcastModule) → module_of spec.kind ≡ k → mentions (calls_of (group a).told) m ≡ true → is_broadcast k a (calls_of (group a).told) m ≡ true → now_broadcast (module_of spec.kind) a (calls_of (group a).told) m ≡ true
+  out_is : (a : ℕ) (m : MsgId) (k : Module) → spec.kind.module ≡ k → mentions (calls_of (group a).told) m ≡ true → is_broadcast k a (calls_of (group a).told) m ≡ true → now_broadcast spec.kind.module a (calls_of (group a).told) m ≡ true
   out_is a m k kind known out = and_both known (ap (λ z. is_broadcast z a (calls_of (group a).told) m) kind ∙ out)
 
-  up_is : (a : ℕ) (m : MsgId) (k : BroadcastModule) → module_of spec.kind ≡ k → mentions (calls_of (group a).told) m ≡ true → is_delivered k a (set.items spec.members) (calls_of (group a).told) m ≡ true
-      → now_delivered (module_of spec.kind) a (set.items spec.members) (calls_of (group a).told) m ≡ true
+  up_is : (a : ℕ) (m : MsgId) (k : Module) → spec.kind.module ≡ k → mentions (calls_of (group a).told) m ≡ true → is_delivered k a (set.items spec.members) (calls_of (group a).told) m ≡ true
+      → now_delivered spec.kind.module a (set.items spec.members) (calls_of (group a).told) m ≡ true
   up_is a m k kind known up = and_both known (ap (λ z. is_delivered z a (set.items spec.members) (calls_of (group a).told) m) kind ∙ up)
 
-  own_out : (a : ℕ) (m : MsgId) (k : BroadcastModule) → m.origin.number ≡ a → is_broadcast k a (calls_of (group a).told) m ≡ true
+  own_out : (a : ℕ) (m : MsgId) (k : Module) → m.origin.number ≡ a → is_broadcast k a (calls_of (group a).told) m ≡ true
   own_out a m BestEffort own = eq-eqb m.origin.number a own
   own_out a m Lazy own = or_first (nat_eq m.origin.number a) (was_noticed (calls_of (group a).told) m.origin.number) (eq-eqb m.origin.number a own)
-  own_out a m Eager own = refl
-  own_out a m AllAck own = refl
-  own_out a m MajorityAck own = refl
+  own_out a m _ own = refl
 
   -- all-ack: what each running member knows is delivered at each
-  all_due : (b : ℕ) (m : MsgId) → module_of spec.kind ≡ AllAck → IsRunning runs spec b → ((p : ℕ) → IsRunning runs spec p → mentions (calls_of (group p).told) m ≡ true) → is_delivered AllAck b (set.items spec.members) (calls_of (group b).told) m ≡ true
+  all_due : (b : ℕ) (m : MsgId) → spec.kind.module ≡ AllAck → IsRunning runs spec b → ((p : ℕ) → IsRunning runs spec p → mentions (calls_of (group p).told) m ≡ true) → is_delivered AllAck b (set.items spec.members) (calls_of (group b).told) m ≡ true
   all_due b m kind run_b all = all_members (λ p. was_noticed (calls_of (group b).told) p || holds b (calls_of (group b).told) p m) spec.members (λ p in_p. each p in_p (runs p) refl)
     where
       each : (p : ℕ) → is_member spec p ≡ true → (t : Bool) → runs p ≡ t → (was_noticed (calls_of (group b).told) p || holds b (calls_of (group b).told) p m) ≡ true
@@ -113,17 +108,17 @@ module _ (runs : ℕ → Bool) (spec : Spec) (group : Group) (calm : Calm runs s
       each p in_p false stopped = or_first (was_noticed (calls_of (group b).told) p) (holds b (calls_of (group b).told) p m) (calm.noticed b p run_b in_p stopped)
 
   -- majority-ack: the same
-  most_due : (b : ℕ) (m : MsgId) → module_of spec.kind ≡ MajorityAck → IsRunning runs spec b → ((p : ℕ) → IsRunning runs spec p → mentions (calls_of (group p).told) m ≡ true) → is_delivered MajorityAck b (set.items spec.members) (calls_of (group b).told) m ≡ true
+  most_due : (b : ℕ) (m : MsgId) → spec.kind.module ≡ Majority → IsRunning runs spec b → ((p : ℕ) → IsRunning runs spec p → mentions (calls_of (group p).told) m ≡ true) → is_delivered Majority b (set.items spec.members) (calls_of (group b).told) m ≡ true
   most_due b m kind run_b all =
       (λ i. has_majority (λ p. listed spec.members p i) (λ p. holds b (calls_of (group b).told) p m))
-      ∙ majority_more (is_member spec) runs (λ p. holds b (calls_of (group b).told) p m) (λ p in_p run. reaches p b m (in_p, run) run_b (out_is p m MajorityAck kind (all p (in_p, run)) refl)) (enough kind)
+      ∙ majority_more (is_member spec) runs (λ p. holds b (calls_of (group b).told) p m) (λ p in_p run. reaches p b m (in_p, run) run_b (out_is p m Majority kind (all p (in_p, run)) refl)) (enough kind)
 
   -- what a running member said is delivered at each
-  said_up : (s b : ℕ) (m : MsgId) → m.origin.number ≡ s → IsRunning runs spec s → IsRunning runs spec b → was_said (calls_of (group s).told) m ≡ true → now_delivered (module_of spec.kind) b (set.items spec.members) (calls_of (group b).told) m ≡ true
-  said_up s b m own run_s run_b said = up_is b m (module_of spec.kind) refl (held_known s b m held) (due (module_of spec.kind) refl)
+  said_up : (s b : ℕ) (m : MsgId) → m.origin.number ≡ s → IsRunning runs spec s → IsRunning runs spec b → was_said (calls_of (group s).told) m ≡ true → now_delivered spec.kind.module b (set.items spec.members) (calls_of (group b).told) m ≡ true
+  said_up s b m own run_s run_b said = up_is b m spec.kind.module refl (held_known s b m held) (due spec.kind.module refl)
     where
-      out : now_broadcast (module_of spec.kind) s (calls_of (group s).told) m ≡ true
-      out = out_is s m (module_of spec.kind) refl (said_mentioned (calls_of (group s).told) m said) (own_out s m (module_of spec.kind) own)
+      out : now_broadcast spec.kind.module s (calls_of (group s).told) m ≡ true
+      out = out_is s m spec.kind.module refl (said_mentioned (calls_of (group s).told) m said) (own_out s m spec.kind.module own)
 
       held : holds b (calls_of (group b).told) s m ≡ true
       held = reaches s b m run_s run_b out
@@ -132,12 +127,12 @@ module _ (runs : ℕ → Bool) (spec : Spec) (group : Group) (calm : Calm runs s
       from true is = subst (λ z. came_from z (calls_of (group z).told) s m ≡ true) (eqb-true s b is) (said_came s (calls_of (group s).told) m said)
       from false other = sends s b m run_s run_b other out
 
-      due : (k : BroadcastModule) → module_of spec.kind ≡ k → is_delivered k b (set.items spec.members) (calls_of (group b).told) m ≡ true
+      due : (k : Module) → spec.kind.module ≡ k → is_delivered k b (set.items spec.members) (calls_of (group b).told) m ≡ true
       due BestEffort kind = ap (λ o. came_from b (calls_of (group b).told) o m) own ∙ from (nat_eq s b) refl
       due Lazy kind = refl
       due Eager kind = refl
       due AllAck kind = all_due b m kind run_b (λ p run_p. held_known s p m (reaches s p m run_s run_p out))
-      due MajorityAck kind = most_due b m kind run_b (λ p run_p. held_known s p m (reaches s p m run_s run_p out))
+      due Majority kind = most_due b m kind run_b (λ p run_p. held_known s p m (reaches s p m run_s run_p out))
 
   -- what a node holds by what another was told, that other has had
   held_had : (b p : ℕ) (m : MsgId) → holds b (calls_of (group b).told) p m ≡ true → mentions (calls_of (group p).told) m ≡ true
@@ -148,8 +143,8 @@ module _ (runs : ℕ → Bool) (spec : Spec) (group : Group) (calm : Calm runs s
       go (inr own) = subst (λ z. mentions (calls_of (group z).told) m ≡ true) (eqb-true b p (and_left (nat_eq b p) _ own)) (and_right (nat_eq b p) _ own)
 
   -- all-ack: what any member delivered is delivered at each that runs
-  all_up : (b c : ℕ) (m : MsgId) → module_of spec.kind ≡ AllAck → is_member spec b ≡ true → IsRunning runs spec c → now_delivered (module_of spec.kind) b (set.items spec.members) (calls_of (group b).told) m ≡ true
-      → now_delivered (module_of spec.kind) c (set.items spec.members) (calls_of (group c).told) m ≡ true
+  all_up : (b c : ℕ) (m : MsgId) → spec.kind.module ≡ AllAck → is_member spec b ≡ true → IsRunning runs spec c → now_delivered spec.kind.module b (set.items spec.members) (calls_of (group b).told) m ≡ true
+      → now_delivered spec.kind.module c (set.items spec.members) (calls_of (group c).told) m ≡ true
   all_up b c m kind in_b run_c up = up_is c m AllAck kind (all c run_c) (all_due c m kind run_c all)
     where
       due : is_delivered AllAck b (set.items spec.members) (calls_of (group b).told) m ≡ true
@@ -163,11 +158,11 @@ module _ (runs : ℕ → Bool) (spec : Spec) (group : Group) (calm : Calm runs s
           go (inr held) = held_had b p m held
 
   -- majority-ack: of the members that hold it, one runs, and has sent it to all that run
-  most_up : (b c : ℕ) (m : MsgId) → module_of spec.kind ≡ MajorityAck → IsRunning runs spec c → now_delivered (module_of spec.kind) b (set.items spec.members) (calls_of (group b).told) m ≡ true
-      → now_delivered (module_of spec.kind) c (set.items spec.members) (calls_of (group c).told) m ≡ true
-  most_up b c m kind run_c up = up_is c m MajorityAck kind (all c run_c) (most_due c m kind run_c all)
+  most_up : (b c : ℕ) (m : MsgId) → spec.kind.module ≡ Majority → IsRunning runs spec c → now_delivered spec.kind.module b (set.items spec.members) (calls_of (group b).told) m ≡ true
+      → now_delivered spec.kind.module c (set.items spec.members) (calls_of (group c).told) m ≡ true
+  most_up b c m kind run_c up = up_is c m Majority kind (all c run_c) (most_due c m kind run_c all)
     where
-      due : is_delivered MajorityAck b (set.items spec.members) (calls_of (group b).told) m ≡ true
+      due : is_delivered Majority b (set.items spec.members) (calls_of (group b).told) m ≡ true
       due = ap (λ k. is_delivered k b (set.items spec.members) (calls_of (group b).told) m) (sym kind) ∙ and_right (mentions (calls_of (group b).told) m) _ up
 
       held : has_majority (is_member spec) (λ p. holds b (calls_of (group b).told) p m) ≡ true
@@ -176,24 +171,22 @@ module _ (runs : ℕ → Bool) (spec : Spec) (group : Group) (calm : Calm runs s
       all : (p : ℕ) → IsRunning runs spec p → mentions (calls_of (group p).told) m ≡ true
       all p run_p =
           let one = majorities_meet (is_member spec) (λ q. holds b (calls_of (group b).told) q m) runs held (enough kind) in
-          held_known one.0 p m (reaches one.0 p m (one.1, one.3) run_p (out_is one.0 m MajorityAck kind (held_had b one.0 m one.2) refl))
+          held_known one.0 p m (reaches one.0 p m (one.1, one.3) run_p (out_is one.0 m Majority kind (held_had b one.0 m one.2) refl))
 
   -- uniform broadcast: what any member delivered is delivered at each that runs
-  uniform_up : (b c : ℕ) (m : MsgId) (k : BroadcastModule) → module_of spec.kind ≡ k → is_uniform k ≡ true → is_member spec b ≡ true → IsRunning runs spec c → now_delivered (module_of spec.kind) b (set.items spec.members) (calls_of (group b).told) m ≡ true
-      → now_delivered (module_of spec.kind) c (set.items spec.members) (calls_of (group c).told) m ≡ true
-  uniform_up b c m BestEffort kind uniform in_b run_c up = absurd (cc)
-  uniform_up b c m Lazy kind uniform in_b run_c up = absurd (cc)
-  uniform_up b c m Eager kind uniform in_b run_c up = absurd (cc)
+  uniform_up : (b c : ℕ) (m : MsgId) (k : Module) → spec.kind.module ≡ k → is_uniform k ≡ true → is_member spec b ≡ true → IsRunning runs spec c → now_delivered spec.kind.module b (set.items spec.members) (calls_of (group b).told) m ≡ true
+      → now_delivered spec.kind.module c (set.items spec.members) (calls_of (group c).told) m ≡ true
   uniform_up b c m AllAck kind uniform in_b run_c up = all_up b c m kind in_b run_c up
-  uniform_up b c m MajorityAck kind uniform in_b run_c up = most_up b c m kind run_c up
+  uniform_up b c m Majority kind uniform in_b run_c up = most_up b c m kind run_c up
+  uniform_up b c m _ kind uniform in_b run_c up = absurd (cc)
 
   -- but for best effort, what one running member delivered is delivered at each
-  up_more : (b c : ℕ) (m : MsgId) → IsRunning runs spec b → IsRunning runs spec c → now_delivered (module_of spec.kind) b (set.items spec.members) (calls_of (group b).told) m ≡ true → (k : BroadcastModule) → module_of spec.kind ≡ k → k ≢ BestEffort
-      → now_delivered (module_of spec.kind) c (set.items spec.members) (calls_of (group c).told) m ≡ true
+  up_more : (b c : ℕ) (m : MsgId) → IsRunning runs spec b → IsRunning runs spec c → now_delivered spec.kind.module b (set.items spec.members) (calls_of (group b).told) m ≡ true → (k : Module) → spec.kind.module ≡ k → k ≢ BestEffort
+      → now_delivered spec.kind.module c (set.items spec.members) (calls_of (group c).told) m ≡ true
   up_more b c m run_b run_c up BestEffort kind reliable = absurd (reliable refl)
   up_more b c m run_b run_c up Eager kind reliable = up_is c m Eager kind (held_known b c m (reaches b c m run_b run_c (out_is b m Eager kind (and_left (mentions (calls_of (group b).told) m) _ up) refl))) refl
   up_more b c m run_b run_c up AllAck kind reliable = all_up b c m kind run_b.0 run_c up
-  up_more b c m run_b run_c up MajorityAck kind reliable = most_up b c m kind run_c up
+  up_more b c m run_b run_c up Majority kind reliable = most_up b c m kind run_c up
   up_more b c m run_b run_c up Lazy kind reliable = up_is c m Lazy kind (by (runs m.origin.number) refl) refl
     where
       known : mentions (calls_of (group b).told) m ≡ true
@@ -219,9 +212,9 @@ module _ (has_delivered : ModuleLogHasDelivered) (numbers : (origin : NodeId) (d
     validity = λ s b run_s run_b. All-from_recursion (λ (x : Accepted). has (logs_of group b) (numbered s x.seq) ≡ true) (accepted bounds addr steps s.number)
         (all_weaker (λ (x : Accepted). was_said (calls_of (group s.number).told) (numbered s x.seq) ≡ true) (λ (x : Accepted). has (logs_of group b) (numbered s x.seq) ≡ true) (λ x said. valid s b run_s run_b x.seq said) (accepted bounds addr steps s.number) (accepted_said bounds addr s steps));
     agreement = λ reliable b c run_b run_c m. both_ways (has (logs_of group b) m) (has (logs_of group c) m)
-        (more b c run_b.0 (calm.kept b run_b) run_c (λ k up. up_more runs spec group calm enough b c k run_b run_c up (module_of spec.kind) refl reliable) m)
-        (more c b run_c.0 (calm.kept c run_c) run_b (λ k up. up_more runs spec group calm enough c b k run_c run_b up (module_of spec.kind) refl reliable) m);
-    uniform_agreement = λ kind b c in_b run_c m h. more b c in_b (logged_here b m (is_gone (group b).phase) h) run_c (λ k up. uniform_up runs spec group calm enough b c k (module_of spec.kind) refl kind in_b run_c up) m h;
+        (more b c run_b.0 (calm.kept b run_b) run_c (λ k up. up_more runs spec group calm enough b c k run_b run_c up spec.kind.module refl reliable) m)
+        (more c b run_c.0 (calm.kept c run_c) run_b (λ k up. up_more runs spec group calm enough c b k run_c run_b up spec.kind.module refl reliable) m);
+    uniform_agreement = λ kind b c in_b run_c m h. more b c in_b (logged_here b m (is_gone (group b).phase) h) run_c (λ k up. uniform_up runs spec group calm enough b c k spec.kind.module refl kind in_b run_c up) m h;
   }
     where
       group : Group
@@ -236,7 +229,7 @@ module _ (has_delivered : ModuleLogHasDelivered) (numbers : (origin : NodeId) (d
       logged_here b m false h = refl
 
       more : (b c : ℕ) → is_member spec b ≡ true → is_gone (group b).phase ≡ false → IsRunning runs spec c
-          → ((m : MsgId) → now_delivered (module_of spec.kind) b (set.items spec.members) (calls_of (group b).told) m ≡ true → now_delivered (module_of spec.kind) c (set.items spec.members) (calls_of (group c).told) m ≡ true)
+          → ((m : MsgId) → now_delivered spec.kind.module b (set.items spec.members) (calls_of (group b).told) m ≡ true → now_delivered spec.kind.module c (set.items spec.members) (calls_of (group c).told) m ≡ true)
           → (m : MsgId) → has (logs_of group b) m ≡ true → has (logs_of group c) m ≡ true
       more b c in_b here run_c up m h =
           is_log c run_c.0 (calm.kept c run_c) m ∙ log_more numbers stand ends has_delivered spec b c (calls_of (group b).told) (calls_of (group c).told) up m (sym (is_log b in_b here m) ∙ h)

@@ -5,7 +5,7 @@ use Rattle.std.specs.FinSet as set
 use Rattle.std.proofs.lemmas.Bool.{eqb-true}
 use Rattle.gb_types.specs.Places.{has_majority}
 use Rattle.gb_types.specs.declared.kind.Kind.{Kind}
-use Rattle.gb_types.specs.declared.kind.Kind.TheVariants as kinds
+use Rattle.gb_types.specs.declared.kind.Module.TheVariants.{BestEffort, Lazy, Majority}
 use Rattle.gb_types.specs.declared.reply.Reply.{Reply}
 use Rattle.gb_types.specs.declared.version.Version.TheVariants as texts
 use Rattle.gb_types.specs.Version.{version_at}
@@ -18,7 +18,7 @@ use Rattle.gb_alone.specs.Laws.{accepted_in, accepted_from, accepted, log_of_mem
 use Rattle.gb_alone.specs.declared.event.GroupEvent.TheVariants.{Say, Took, Came, Notice, Stop}
 use Rattle.gb_alone.specs.declared.event.GroupStep.{GroupStep}
 use Rattle.gb_duties.specs.Agreement.{IsRunning, IsSettled, AreEnough}
-use Rattle.gb_duties.specs.Examples.{bounds, first, second, third, message, one_byte, members, spec_of, at, opened, to_one, loss, crash, runs, left_alone, only_first, log_in, address}
+use Rattle.gb_duties.specs.Examples.{bounds, first, second, third, message, one_byte, members, plain, fifo, spec_of, at, opened, to_one, loss, crash, runs, left_alone, only_first, log_in, address}
 use Rattle.gb_duties.proofs.ExampleLemmas.{in_0, in_1, in_2, most_of, majority_of, One, is_0, is_1, is_2, member, with_at, ready, group_open, all_open, zero_said, carries, has_come, one_took, group_one, comes, Leads, stop_here, and_then, join, open_all, length_one, lead_one, notices, noticed_is}
 
 -- Node 0 stops, and the others notice that.
@@ -71,11 +71,11 @@ record BothRelay (kind : Kind) : Type 0 where
   pub two : (two_relayed kind).put 1 ≡ message ∷ []
   pub later : (one_heard kind).put 2 ≡ message ∷ []
 
-lazy_relays : BothRelay kinds.FifoLazy
+lazy_relays : BothRelay (fifo Lazy)
 unfolding calls_of known
 lazy_relays = record { one = simp in_2 refl; two = simp in_1 refl; later = simp in_2 refl }
 
-majority_relays : BothRelay kinds.FifoMajority
+majority_relays : BothRelay (fifo Majority)
 unfolding calls_of known
 majority_relays = record { one = simp in_2 refl; two = simp in_1 refl; later = simp in_2 refl }
 
@@ -89,8 +89,8 @@ lead_crash kind relay =
     (and_then (crash_two_took kind) (at third (Took second 1)) (carries 1 (two_relayed kind)) (at second (Came third 1) ∷ []) (group_crashed kind) (refl, omega arith, length_one ((two_relayed kind).put 1) message relay.two) refl
     (and_then (crash_two_relayed kind) (at second (Came third 1)) (one_heard kind) [] (group_crashed kind) (refl, omega arith, omega arith, refl) (comes kind second third 1 (one_relayed kind) refl (simp (in_0, in_2) refl) ((two_relayed kind).put 1) (ap (λ xs. slice_get xs 0) relay.two)) (stop_here (group_crashed kind))))))
 
-run_loss : Leads nobody (opened kinds.Beb ++ loss) (group_lost kinds.Beb)
-run_loss = join nobody (group_open kinds.Beb) (group_lost kinds.Beb) (opened kinds.Beb) loss (open_all kinds.Beb) (lead_loss kinds.Beb)
+run_loss : Leads nobody (opened (plain BestEffort) ++ loss) (group_lost (plain BestEffort))
+run_loss = join nobody (group_open (plain BestEffort)) (group_lost (plain BestEffort)) (opened (plain BestEffort)) loss (open_all (plain BestEffort)) (lead_loss (plain BestEffort))
 
 run_crash : (kind : Kind) → BothRelay kind → Leads nobody (opened kind ++ crash) (group_crashed kind)
 run_crash kind relay = join nobody (group_open kind) (group_crashed kind) (opened kind) crash (open_all kind) (lead_crash kind relay)
@@ -213,38 +213,38 @@ crash_settles kind relay =
     unseen b (inl e) = (refl, ap (λ z. was_noticed (calls_of (group_crashed kind 1).told) z) e, ap (λ z. was_noticed (calls_of (group_crashed kind 2).told) z) e)
     unseen b (inr e) = (refl, ap (λ z. was_noticed (calls_of (group_crashed kind 1).told) z) e, ap (λ z. was_noticed (calls_of (group_crashed kind 2).told) z) e)
 
-pub crash_legal : IsLegal bounds address (opened kinds.FifoLazy ++ crash)
-crash_legal = (run_crash kinds.FifoLazy lazy_relays).legal
+pub crash_legal : IsLegal bounds address (opened (fifo Lazy) ++ crash)
+crash_legal = (run_crash (fifo Lazy) lazy_relays).legal
 
-pub crash_settled : IsSettled bounds address (opened kinds.FifoLazy ++ crash) runs (spec_of kinds.FifoLazy)
-crash_settled = crash_settles kinds.FifoLazy lazy_relays
+pub crash_settled : IsSettled bounds address (opened (fifo Lazy) ++ crash) runs (spec_of (fifo Lazy))
+crash_settled = crash_settles (fifo Lazy) lazy_relays
 
-pub crash_one : log_in kinds.FifoLazy crash 1 ≡ message ∷ []
+pub crash_one : log_in (fifo Lazy) crash 1 ≡ message ∷ []
 unfolding calls_of known
-crash_one = ap (λ (g : Group). log_of_member 1 (g 1)) (run_crash kinds.FifoLazy lazy_relays).end
+crash_one = ap (λ (g : Group). log_of_member 1 (g 1)) (run_crash (fifo Lazy) lazy_relays).end
 
-pub crash_two : log_in kinds.FifoLazy crash 2 ≡ message ∷ []
+pub crash_two : log_in (fifo Lazy) crash 2 ≡ message ∷ []
 unfolding calls_of known
-crash_two = ap (λ (g : Group). log_of_member 2 (g 2)) (run_crash kinds.FifoLazy lazy_relays).end
+crash_two = ap (λ (g : Group). log_of_member 2 (g 2)) (run_crash (fifo Lazy) lazy_relays).end
 
 -- With majority-ack two of three members run on.
 
-pub majority_crash_legal : IsLegal bounds address (opened kinds.FifoMajority ++ crash)
-majority_crash_legal = (run_crash kinds.FifoMajority majority_relays).legal
+pub majority_crash_legal : IsLegal bounds address (opened (fifo Majority) ++ crash)
+majority_crash_legal = (run_crash (fifo Majority) majority_relays).legal
 
-pub majority_crash_settled : IsSettled bounds address (opened kinds.FifoMajority ++ crash) runs (spec_of kinds.FifoMajority)
-majority_crash_settled = crash_settles kinds.FifoMajority majority_relays
+pub majority_crash_settled : IsSettled bounds address (opened (fifo Majority) ++ crash) runs (spec_of (fifo Majority))
+majority_crash_settled = crash_settles (fifo Majority) majority_relays
 
-pub two_are_enough : AreEnough runs (spec_of kinds.FifoMajority)
+pub two_are_enough : AreEnough runs (spec_of (fifo Majority))
 two_are_enough kind = majority_of runs
 
-pub majority_crash_one : log_in kinds.FifoMajority crash 1 ≡ message ∷ []
+pub majority_crash_one : log_in (fifo Majority) crash 1 ≡ message ∷ []
 unfolding calls_of known
-majority_crash_one = ap (λ (g : Group). log_of_member 1 (g 1)) (run_crash kinds.FifoMajority majority_relays).end ∙ simp most_of refl
+majority_crash_one = ap (λ (g : Group). log_of_member 1 (g 1)) (run_crash (fifo Majority) majority_relays).end ∙ simp most_of refl
 
-pub majority_crash_two : log_in kinds.FifoMajority crash 2 ≡ message ∷ []
+pub majority_crash_two : log_in (fifo Majority) crash 2 ≡ message ∷ []
 unfolding calls_of known
-majority_crash_two = ap (λ (g : Group). log_of_member 2 (g 2)) (run_crash kinds.FifoMajority majority_relays).end ∙ simp most_of refl
+majority_crash_two = ap (λ (g : Group). log_of_member 2 (g 2)) (run_crash (fifo Majority) majority_relays).end ∙ simp most_of refl
 
 -- With majority-ack one of three is not enough.
 
@@ -272,20 +272,20 @@ lead_alone kind =
     (and_then (halted kind) (at first (Notice second)) (zero_missed kind) (at first (Notice third) ∷ []) (group_alone kind) (refl, refl) (noticed_is kind 0 second (zero_said kind) refl in_1 refl)
     (and_then (with_at (halted kind) 0 (zero_missed kind)) (at first (Notice third)) (zero_alone kind) [] (group_alone kind) (refl, refl) (noticed_is kind 0 third (zero_missed kind) refl in_2 refl) (stop_here (group_alone kind))))))
 
-run_alone : Leads nobody (opened kinds.Majority ++ left_alone) (group_alone kinds.Majority)
-run_alone = join nobody (group_open kinds.Majority) (group_alone kinds.Majority) (opened kinds.Majority) left_alone (open_all kinds.Majority) (lead_alone kinds.Majority)
+run_alone : Leads nobody (opened (plain Majority) ++ left_alone) (group_alone (plain Majority))
+run_alone = join nobody (group_open (plain Majority)) (group_alone (plain Majority)) (opened (plain Majority)) left_alone (open_all (plain Majority)) (lead_alone (plain Majority))
 
-pub alone_legal : IsLegal bounds address (opened kinds.Majority ++ left_alone)
+pub alone_legal : IsLegal bounds address (opened (plain Majority) ++ left_alone)
 alone_legal = run_alone.legal
 
-pub alone_settled : IsSettled bounds address (opened kinds.Majority ++ left_alone) only_first (spec_of kinds.Majority)
+pub alone_settled : IsSettled bounds address (opened (plain Majority) ++ left_alone) only_first (spec_of (plain Majority))
 unfolding calls_of known
 alone_settled = record {
-  earlier = opened kinds.Majority;
+  earlier = opened (plain Majority);
   later = left_alone;
   moment = refl;
-  made = made kinds.Majority;
-  silent = silent kinds.Majority;
+  made = made (plain Majority);
+  silent = silent (plain Majority);
   version = texts.One;
   versions = λ a inside. one_version a (member a inside);
   kept = λ a run_a. seen (λ (h : Group). is_gone (h a).phase ≡ false) (ap (λ z. is_gone (g z).phase) (eqb-true a 0 run_a.1));
@@ -296,50 +296,50 @@ alone_settled = record {
 }
   where
     g : Group
-    g = group_alone kinds.Majority
+    g = group_alone (plain Majority)
 
-    seen : (P : Group → Type 0) → P (group_alone kinds.Majority) → P (alone bounds address (opened kinds.Majority ++ left_alone))
+    seen : (P : Group → Type 0) → P (group_alone (plain Majority)) → P (alone bounds address (opened (plain Majority) ++ left_alone))
     seen P = subst P (sym run_alone.end)
 
-    missed : (b : ℕ) → One b → only_first b ≡ false → was_noticed (calls_of (group_alone kinds.Majority 0).told) b ≡ true
+    missed : (b : ℕ) → One b → only_first b ≡ false → was_noticed (calls_of (group_alone (plain Majority) 0).told) b ≡ true
     missed b (is_0 e) stop = let no : only_first 0 ≡ false = ap only_first (sym e) ∙ stop in absurd (cc)
-    missed b (is_1 e) stop = ap (λ z. was_noticed (calls_of (group_alone kinds.Majority 0).told) z) e
-    missed b (is_2 e) stop = ap (λ z. was_noticed (calls_of (group_alone kinds.Majority 0).told) z) e
+    missed b (is_1 e) stop = ap (λ z. was_noticed (calls_of (group_alone (plain Majority) 0).told) z) e
+    missed b (is_2 e) stop = ap (λ z. was_noticed (calls_of (group_alone (plain Majority) 0).told) z) e
 
-    unseen : (a : ℕ) → One a → was_noticed (calls_of (group_alone kinds.Majority a).told) 0 ≡ false
-    unseen a (is_0 e) = ap (λ z. was_noticed (calls_of (group_alone kinds.Majority z).told) 0) e
-    unseen a (is_1 e) = ap (λ z. was_noticed (calls_of (group_alone kinds.Majority z).told) 0) e
-    unseen a (is_2 e) = ap (λ z. was_noticed (calls_of (group_alone kinds.Majority z).told) 0) e
+    unseen : (a : ℕ) → One a → was_noticed (calls_of (group_alone (plain Majority) a).told) 0 ≡ false
+    unseen a (is_0 e) = ap (λ z. was_noticed (calls_of (group_alone (plain Majority) z).told) 0) e
+    unseen a (is_1 e) = ap (λ z. was_noticed (calls_of (group_alone (plain Majority) z).told) 0) e
+    unseen a (is_2 e) = ap (λ z. was_noticed (calls_of (group_alone (plain Majority) z).told) 0) e
 
-pub one_is_not_enough : has_majority (is_member (spec_of kinds.Majority)) only_first ≡ false
+pub one_is_not_enough : has_majority (is_member (spec_of (plain Majority))) only_first ≡ false
 one_is_not_enough = majority_of only_first
 
-pub alone_undelivered : log_in kinds.Majority left_alone 0 ≡ []
+pub alone_undelivered : log_in (plain Majority) left_alone 0 ≡ []
 unfolding calls_of known
 alone_undelivered = ap (λ (g : Group). log_of_member 0 (g 0)) run_alone.end ∙ simp most_of refl
 
-pub loss_legal : IsLegal bounds address (opened kinds.Beb ++ loss)
+pub loss_legal : IsLegal bounds address (opened (plain BestEffort) ++ loss)
 loss_legal = run_loss.legal
 
-pub loss_settled : IsSettled bounds address (opened kinds.Beb ++ loss) runs (spec_of kinds.Beb)
+pub loss_settled : IsSettled bounds address (opened (plain BestEffort) ++ loss) runs (spec_of (plain BestEffort))
 unfolding calls_of known
 loss_settled =
-    settle kinds.Beb loss (group_lost kinds.Beb) run_loss.end refl refl (sym (ap length none_one)) (sym (ap length none_two)) (λ place low high. absurd (omega (arith, low, high))) (λ place low high. absurd (omega (arith, low, high))) refl refl unseen
+    settle (plain BestEffort) loss (group_lost (plain BestEffort)) run_loss.end refl refl (sym (ap length none_one)) (sym (ap length none_two)) (λ place low high. absurd (omega (arith, low, high))) (λ place low high. absurd (omega (arith, low, high))) refl refl unseen
   where
-    none_one : (notices 1 first (one_took kinds.Beb)).put 2 ≡ []
+    none_one : (notices 1 first (one_took (plain BestEffort))).put 2 ≡ []
     none_one = simp in_2 refl
 
-    none_two : (notices 2 first (ready kinds.Beb)).put 1 ≡ []
+    none_two : (notices 2 first (ready (plain BestEffort))).put 1 ≡ []
     none_two = simp in_1 refl
 
-    unseen : (b : ℕ) → (b ≡ 1) ⊎ (b ≡ 2) → (was_noticed (calls_of (group_lost kinds.Beb 0).told) b ≡ false) × (was_noticed (calls_of (group_lost kinds.Beb 1).told) b ≡ false) × (was_noticed (calls_of (group_lost kinds.Beb 2).told) b ≡ false)
-    unseen b (inl e) = (refl, ap (λ z. was_noticed (calls_of (group_lost kinds.Beb 1).told) z) e, ap (λ z. was_noticed (calls_of (group_lost kinds.Beb 2).told) z) e)
-    unseen b (inr e) = (refl, ap (λ z. was_noticed (calls_of (group_lost kinds.Beb 1).told) z) e, ap (λ z. was_noticed (calls_of (group_lost kinds.Beb 2).told) z) e)
+    unseen : (b : ℕ) → (b ≡ 1) ⊎ (b ≡ 2) → (was_noticed (calls_of (group_lost (plain BestEffort) 0).told) b ≡ false) × (was_noticed (calls_of (group_lost (plain BestEffort) 1).told) b ≡ false) × (was_noticed (calls_of (group_lost (plain BestEffort) 2).told) b ≡ false)
+    unseen b (inl e) = (refl, ap (λ z. was_noticed (calls_of (group_lost (plain BestEffort) 1).told) z) e, ap (λ z. was_noticed (calls_of (group_lost (plain BestEffort) 2).told) z) e)
+    unseen b (inr e) = (refl, ap (λ z. was_noticed (calls_of (group_lost (plain BestEffort) 1).told) z) e, ap (λ z. was_noticed (calls_of (group_lost (plain BestEffort) 2).told) z) e)
 
-pub loss_one : log_in kinds.Beb loss 1 ≡ message ∷ []
+pub loss_one : log_in (plain BestEffort) loss 1 ≡ message ∷ []
 unfolding calls_of known
 loss_one = ap (λ (g : Group). log_of_member 1 (g 1)) run_loss.end
 
-pub loss_two : log_in kinds.Beb loss 2 ≡ []
+pub loss_two : log_in (plain BestEffort) loss 2 ≡ []
 unfolding calls_of known
 loss_two = ap (λ (g : Group). log_of_member 2 (g 2)) run_loss.end

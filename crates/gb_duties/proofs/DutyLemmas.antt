@@ -13,12 +13,11 @@ use Rattle.gb_types.proofs.MajorityLemmas.{listed}
 use Rattle.gb_types.proofs.BoolLemmas.{and_both, and_left, and_right, or_cases, or_first, or_second}
 use Rattle.gb_layer.specs.Machine.{mentions, was_noticed, came_from}
 use Rattle.gb_layer.specs.Modules.{holds, now_delivered, now_broadcast}
-use Rattle.gb_layer.specs.declared.broadcast_module.BroadcastModule.{BroadcastModule}
-use Rattle.gb_layer.specs.declared.broadcast_module.BroadcastModule.TheVariants.{BestEffort, Lazy, Eager, AllAck, MajorityAck}
+use Rattle.gb_types.specs.declared.kind.Module.{Module}
+use Rattle.gb_types.specs.declared.kind.Module.TheVariants.{BestEffort, Lazy, Eager, AllAck, Majority}
 use Rattle.gb_layer.specs.declared.call.Call.{Call}
 use Rattle.gb_fifo.specs.Order.{in_order}
 use Rattle.gb_fifo.specs.OrderLaws.{AllIn}
-use Rattle.gb_stack.specs.Kinds.{module_of}
 use Rattle.gb_stack.specs.LogLaws.{ModuleLogHasDelivered}
 use Rattle.gb_rules.specs.Group.{is_gone, is_member, is_other}
 use Rattle.gb_rules.specs.History.{calls_of}
@@ -50,7 +49,7 @@ module _ (calls : ℕ → List Call) (b : ℕ) (member : Member) (fits : FitsAt 
       known (inr own) = ap (λ n. mentions (calls n) m) (sym (eqb-true b c (and_left (nat_eq b c) _ own))) ∙ (ap (λ cs. mentions cs m) is ∙ and_right (nat_eq b c) _ own)
 
   -- majority-ack: more than half of the members have had what is delivered
-  majority_had : (spec : Spec) (had : ℕ → MsgId → Type 0) → ((c : ℕ) → mentions (calls c) m ≡ true → had c m) → now_delivered MajorityAck b (set.items spec.members) (calls_of member.told) m ≡ true → IsHadByMajority spec had m
+  majority_had : (spec : Spec) (had : ℕ → MsgId → Type 0) → ((c : ℕ) → mentions (calls c) m ≡ true → had c m) → now_delivered Majority b (set.items spec.members) (calls_of member.told) m ≡ true → IsHadByMajority spec had m
   majority_had spec had here up = record {
     holders = λ c. holds b (calls_of member.told) c m;
     most = (λ i. has_majority (λ c. sym (listed spec.members c) i) (λ c. holds b (calls_of member.told) c m)) ∙ and_right (mentions (calls_of member.told) m) _ up;
@@ -58,14 +57,14 @@ module _ (calls : ℕ → List Call) (b : ℕ) (member : Member) (fits : FitsAt 
   }
 
 module _ (calls : ℕ → List Call) (b : ℕ) (member : Member) (spec : Spec) (held : held_spec member.phase member.spec ≡ Some spec) (fits : FitsAt calls b member) (c : ℕ) (other : is_other spec b c ≡ true) (m : MsgId) where
-  put_out : (base : BroadcastModule) → module_of spec.kind ≡ base → now_broadcast base b (calls_of member.told) m ≡ true → IsPutOut (noticed_at member) member.put c m
+  put_out : (base : Module) → spec.kind.module ≡ base → now_broadcast base b (calls_of member.told) m ≡ true → IsPutOut (noticed_at member) member.put c m
   put_out base kind out = go (cases_Bool (was_noticed (calls_of member.told) c))
     where
       go : ((was_noticed (calls_of member.told) c ≡ true) ⊎ (was_noticed (calls_of member.told) c ≡ false)) → IsPutOut (noticed_at member) member.put c m
       go (inl noticed) = inl noticed
       go (inr unnoticed) = let made = held_made member.phase member.spec spec held in inr (fits.owes made.0 spec made.1 c other unnoticed m (ap (λ k. now_broadcast k b (calls_of member.told) m) kind ∙ out))
 
-  duty : (had : ℕ → MsgId → Type 0) → (mentions (calls c) m ≡ true → had c m) → (calls b ≡ calls_of member.told) → (base : BroadcastModule) → module_of spec.kind ≡ base
+  duty : (had : ℕ → MsgId → Type 0) → (mentions (calls c) m ≡ true → had c m) → (calls b ≡ calls_of member.told) → (base : Module) → spec.kind.module ≡ base
       → now_delivered base b (set.items spec.members) (calls_of member.told) m ≡ true → Duty base (noticed_at member) member.put had b c m
   duty had here is BestEffort kind up = λ own. put_out BestEffort kind (and_both (and_left (mentions (calls_of member.told) m) _ up) (eq-eqb m.origin.number b own))
   duty had here is Lazy kind up = λ why. put_out Lazy kind (and_both (and_left (mentions (calls_of member.told) m) _ up) (relayed why))
@@ -82,7 +81,7 @@ module _ (calls : ℕ → List Call) (b : ℕ) (member : Member) (spec : Spec) (
       told : ((was_noticed (calls_of member.told) c ≡ true) ⊎ (holds b (calls_of member.told) c m ≡ true)) → (was_noticed (calls_of member.told) c ≡ true) ⊎ had c m
       told (inl noticed) = inl noticed
       told (inr h) = inr (here (held_had calls b member fits is m c h))
-  duty had here is MajorityAck kind up = put_out MajorityAck kind (and_both (and_left (mentions (calls_of member.told) m) _ up) refl)
+  duty had here is Majority kind up = put_out Majority kind (and_both (and_left (mentions (calls_of member.told) m) _ up) refl)
 
 pub is_dutiful : ModuleLogHasDelivered → ((D : List MsgId) → AllIn D (in_order D)) → IsDutiful
 is_dutiful has_delivered within bounds addr steps legal = record {
@@ -95,13 +94,13 @@ is_dutiful has_delivered within bounds addr steps legal = record {
 
     done : (b : ℕ) (spec : Spec) → held_spec (group b).phase (group b).spec ≡ Some spec → KeepsDuties spec b (noticed_at (group b)) (group b).put (HasHad group) (delivered_at spec b (group b))
     done b spec held = record {
-      others = λ c other m up. duty (calls_in group) b (group b) spec held (alone_fits bounds addr steps b) c other m (HasHad group) (λ had. had) refl (module_of spec.kind) refl (due m up);
+      others = λ c other m up. duty (calls_in group) b (group b) spec held (alone_fits bounds addr steps b) c other m (HasHad group) (λ had. had) refl spec.kind.module refl (due m up);
       majority = λ kind m up. majority_had (calls_in group) b (group b) (alone_fits bounds addr steps b) refl m spec (HasHad group) (λ c had. had)
           (ap (λ k. now_delivered k b (set.items spec.members) (calls_of (group b).told) m) (sym kind) ∙ due m up);
     }
       where
-        due : (m : MsgId) → delivered_at spec b (group b) m ≡ true → now_delivered (module_of spec.kind) b (set.items spec.members) (calls_of (group b).told) m ≡ true
-        due m up = sym (in_log has_delivered (module_of spec.kind) b (set.items spec.members) (calls_of (group b).told) m) ∙ up
+        due : (m : MsgId) → delivered_at spec b (group b) m ≡ true → now_delivered spec.kind.module b (set.items spec.members) (calls_of (group b).told) m ≡ true
+        due m up = sym (in_log has_delivered spec.kind.module b (set.items spec.members) (calls_of (group b).told) m) ∙ up
 
     -- what stands in the log was delivered
     fewer : (b : ℕ) (spec : Spec) → held_spec (group b).phase (group b).spec ≡ Some spec → KeepsDuties spec b (noticed_at (group b)) (group b).put (HasHad group) (delivered_at spec b (group b))
@@ -119,7 +118,7 @@ is_dutiful has_delivered within bounds addr steps legal = record {
 module _ (has_delivered : ModuleLogHasDelivered) (bounds : Bounds) (addr : Addr) (steps : List GroupStep) (b : ℕ) (spec : Spec) where
   pub delivered_origin : (alone bounds addr steps b).spec ≡ Some spec → (m : MsgId) → delivered_at spec b (alone bounds addr steps b) m ≡ true → is_member spec m.origin.number ≡ true
   delivered_origin made m h =
-      let up = sym (in_log has_delivered (module_of spec.kind) b (set.items spec.members) (calls_of (alone bounds addr steps b).told) m) ∙ h in
+      let up = sym (in_log has_delivered spec.kind.module b (set.items spec.members) (calls_of (alone bounds addr steps b).told) m) ∙ h in
       ((alone_fits bounds addr steps b).fair spec made m (and_left (mentions (calls_of (alone bounds addr steps b).told) m) _ up)).member
 
   -- what stands in a log is delivered, and the group was not dropped there

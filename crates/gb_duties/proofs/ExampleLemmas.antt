@@ -8,7 +8,8 @@ use Rattle.std.proofs.lemmas.List.Sums.{fold-append}
 use Rattle.gb_types.specs.Entry.{message_of}
 use Rattle.gb_types.specs.declared.entry.Entry.{Entry}
 use Rattle.gb_types.specs.declared.kind.Kind.{Kind}
-use Rattle.gb_types.specs.declared.kind.Kind.TheVariants as kinds
+use Rattle.gb_types.specs.declared.kind.Module.{Module}
+use Rattle.gb_types.specs.declared.kind.Module.TheVariants.{BestEffort, Lazy, Eager, AllAck, Majority}
 use Rattle.gb_types.specs.declared.node.NodeId.{NodeId}
 use Rattle.gb_types.specs.declared.reply.Reply.TheVariants.{Done, Said}
 use Rattle.gb_types.specs.declared.spec.Spec.{Spec}
@@ -31,7 +32,7 @@ use Rattle.gb_alone.specs.Laws.{log_of_member}
 use Rattle.gb_alone.specs.declared.event.GroupEvent.TheVariants.{Tenant, Make, Open, Drop, Say, Took, Came, Notice}
 use Rattle.gb_alone.specs.declared.event.GroupStep.{GroupStep}
 use Rattle.gb_duties.specs.Duties.{HasHad, noticed_at}
-use Rattle.gb_duties.specs.Examples.{bounds, first, second, third, message, one_byte, members, spec_of, at, opened_at, opened, to_one, to_all, third_drops, log_in, put_in, address}
+use Rattle.gb_duties.specs.Examples.{bounds, first, second, third, message, one_byte, members, plain, spec_of, at, opened_at, opened, to_one, to_all, third_drops, log_in, put_in, address}
 
 pub in_0 : set.contains members 0 ≡ true
 in_0 = set.contains-from_list_nat (0 ∷ 1 ∷ 2 ∷ []) 0
@@ -169,22 +170,14 @@ group_one kind = with_at (group_said kind) 1 (one_took kind)
 -- it was put out to each other member
 pub put_out : (kind : Kind) (b : ℕ) → set.contains members b ≡ true → nat_eq b 0 ≡ false → (zero_said kind).put b ≡ message ∷ []
 unfolding calls_of known
-put_out kind b inside other = ap (λ (t : Bool). if t then [] ++ puts_of (spec_of kind) 0 (Own message) [] else []) (reached b inside other) ∙ by kind
+put_out kind b inside other = ap (λ (t : Bool). if t then [] ++ puts_of (spec_of kind) 0 (Own message) [] else []) (reached b inside other) ∙ by kind.module
   where
     reached : (b : ℕ) → set.contains members b ≡ true → nat_eq b 0 ≡ false → (is_other (spec_of kind) 0 b && not (was_noticed (calls_of (Own message ∷ [])) b)) ≡ true
     reached b inside other = and_both (and_both inside (ap not other)) refl
 
-    by : (kind : Kind) → puts_of (spec_of kind) 0 (Own message) [] ≡ message ∷ []
-    by kinds.Beb = refl
-    by kinds.Lazy = refl
-    by kinds.Eager = refl
-    by kinds.AllAck = refl
-    by kinds.Majority = refl
-    by kinds.FifoBeb = refl
-    by kinds.FifoLazy = refl
-    by kinds.FifoEager = refl
-    by kinds.FifoAllAck = refl
-    by kinds.FifoMajority = refl
+    by : (base : Module) → puts_of (spec_of (record { «module» = base; order = kind.order })) 0 (Own message) [] ≡ message ∷ []
+    by BestEffort = refl
+    by _ = refl
 
 -- the item is taken in
 pub comes : (kind : Kind) (me from : NodeId) (place : ℕ) (m : Member) → held_spec m.phase m.spec ≡ Some (spec_of kind) → falls_after (spec_of kind) me.number m.told from.number message ≡ false → (xs : List Entry) → slice_get xs (place - 1) ≡ Some message
@@ -256,59 +249,59 @@ notice_is kind =
 
 -- Best effort.
 
-pub beb_own : put_in kinds.Beb to_one 0 2 ≡ message ∷ []
-beb_own = ap (λ (g : Group). (g 0).put 2) (to_one_is kinds.Beb) ∙ put_out kinds.Beb 2 in_2 refl
+pub beb_own : put_in (plain BestEffort) to_one 0 2 ≡ message ∷ []
+beb_own = ap (λ (g : Group). (g 0).put 2) (to_one_is (plain BestEffort)) ∙ put_out (plain BestEffort) 2 in_2 refl
 
-pub beb_delivered : log_in kinds.Beb to_one 1 ≡ message ∷ []
+pub beb_delivered : log_in (plain BestEffort) to_one 1 ≡ message ∷ []
 unfolding calls_of known
-beb_delivered = ap (λ (g : Group). log_of_member 1 (g 1)) (to_one_is kinds.Beb)
+beb_delivered = ap (λ (g : Group). log_of_member 1 (g 1)) (to_one_is (plain BestEffort))
 
-pub beb_silent : put_in kinds.Beb (to_one ++ at second (Notice first) ∷ []) 1 2 ≡ []
+pub beb_silent : put_in (plain BestEffort) (to_one ++ at second (Notice first) ∷ []) 1 2 ≡ []
 unfolding calls_of known
-beb_silent = ap (λ (g : Group). (g 1).put 2) (notice_is kinds.Beb) ∙ simp in_2 refl
+beb_silent = ap (λ (g : Group). (g 1).put 2) (notice_is (plain BestEffort)) ∙ simp in_2 refl
 
 -- Lazy.
 
-pub lazy_own : put_in kinds.Lazy to_one 0 2 ≡ message ∷ []
-lazy_own = ap (λ (g : Group). (g 0).put 2) (to_one_is kinds.Lazy) ∙ put_out kinds.Lazy 2 in_2 refl
+pub lazy_own : put_in (plain Lazy) to_one 0 2 ≡ message ∷ []
+lazy_own = ap (λ (g : Group). (g 0).put 2) (to_one_is (plain Lazy)) ∙ put_out (plain Lazy) 2 in_2 refl
 
-pub lazy_delivered : log_in kinds.Lazy to_one 1 ≡ message ∷ []
+pub lazy_delivered : log_in (plain Lazy) to_one 1 ≡ message ∷ []
 unfolding calls_of known
-lazy_delivered = ap (λ (g : Group). log_of_member 1 (g 1)) (to_one_is kinds.Lazy)
+lazy_delivered = ap (λ (g : Group). log_of_member 1 (g 1)) (to_one_is (plain Lazy))
 
-pub lazy_before : put_in kinds.Lazy to_one 1 2 ≡ []
+pub lazy_before : put_in (plain Lazy) to_one 1 2 ≡ []
 unfolding calls_of known
-lazy_before = ap (λ (g : Group). (g 1).put 2) (to_one_is kinds.Lazy) ∙ simp in_2 refl
+lazy_before = ap (λ (g : Group). (g 1).put 2) (to_one_is (plain Lazy)) ∙ simp in_2 refl
 
-pub lazy_noticed : put_in kinds.Lazy (to_one ++ at second (Notice first) ∷ []) 1 2 ≡ message ∷ []
+pub lazy_noticed : put_in (plain Lazy) (to_one ++ at second (Notice first) ∷ []) 1 2 ≡ message ∷ []
 unfolding calls_of known
-lazy_noticed = ap (λ (g : Group). (g 1).put 2) (notice_is kinds.Lazy) ∙ simp in_2 refl
+lazy_noticed = ap (λ (g : Group). (g 1).put 2) (notice_is (plain Lazy)) ∙ simp in_2 refl
 
 -- Eager.
 
-pub eager_delivered : log_in kinds.Eager to_one 1 ≡ message ∷ []
+pub eager_delivered : log_in (plain Eager) to_one 1 ≡ message ∷ []
 unfolding calls_of known
-eager_delivered = ap (λ (g : Group). log_of_member 1 (g 1)) (to_one_is kinds.Eager)
+eager_delivered = ap (λ (g : Group). log_of_member 1 (g 1)) (to_one_is (plain Eager))
 
-pub eager_relayed : put_in kinds.Eager to_one 1 2 ≡ message ∷ []
+pub eager_relayed : put_in (plain Eager) to_one 1 2 ≡ message ∷ []
 unfolding calls_of known
-eager_relayed = ap (λ (g : Group). (g 1).put 2) (to_one_is kinds.Eager) ∙ simp in_2 refl
+eager_relayed = ap (λ (g : Group). (g 1).put 2) (to_one_is (plain Eager)) ∙ simp in_2 refl
 
-pub eager_relayed_back : put_in kinds.Eager to_one 1 0 ≡ message ∷ []
+pub eager_relayed_back : put_in (plain Eager) to_one 1 0 ≡ message ∷ []
 unfolding calls_of known
-eager_relayed_back = ap (λ (g : Group). (g 1).put 0) (to_one_is kinds.Eager) ∙ simp in_0 refl
+eager_relayed_back = ap (λ (g : Group). (g 1).put 0) (to_one_is (plain Eager)) ∙ simp in_0 refl
 
 -- All-ack.
 
 -- node 0's message goes to node 2
 abbrev pub zero_carried : Member
-zero_carried = carries 2 (carries 1 (zero_said kinds.AllAck))
+zero_carried = carries 2 (carries 1 (zero_said (plain AllAck)))
 
 abbrev pub two_took : Member
-two_took = has_come 0 (called 2 (Other first message) (ready kinds.AllAck))
+two_took = has_come 0 (called 2 (Other first message) (ready (plain AllAck)))
 
 abbrev pub group_carried : Group
-group_carried = with_at (group_one kinds.AllAck) 0 zero_carried
+group_carried = with_at (group_one (plain AllAck)) 0 zero_carried
 
 abbrev pub group_two : Group
 group_two = with_at group_carried 2 two_took
@@ -318,7 +311,7 @@ group_back = with_at group_two 2 (carries 1 two_took)
 
 -- and from there to node 1
 abbrev pub one_took_again : Member
-one_took_again = has_come 2 (called 1 (Other third message) (one_took kinds.AllAck))
+one_took_again = has_come 2 (called 1 (Other third message) (one_took (plain AllAck)))
 
 abbrev pub group_all : Group
 group_all = with_at group_back 1 one_took_again
@@ -327,26 +320,26 @@ back : two_took.put 1 ≡ message ∷ []
 unfolding calls_of known
 back = simp in_1 refl
 
-lead_sent : Leads (group_one kinds.AllAck) (at first (Took third 1) ∷ at third (Came first 1) ∷ at third (Took second 1) ∷ []) group_back
+lead_sent : Leads (group_one (plain AllAck)) (at first (Took third 1) ∷ at third (Came first 1) ∷ at third (Took second 1) ∷ []) group_back
 unfolding calls_of known
 lead_sent =
-    and_then (group_one kinds.AllAck) (at first (Took third 1)) zero_carried (at third (Came first 1) ∷ at third (Took second 1) ∷ []) group_back (refl, omega arith, length_one ((zero_said kinds.AllAck).put 2) message (put_out kinds.AllAck 2 in_2 refl)) refl
+    and_then (group_one (plain AllAck)) (at first (Took third 1)) zero_carried (at third (Came first 1) ∷ at third (Took second 1) ∷ []) group_back (refl, omega arith, length_one ((zero_said (plain AllAck)).put 2) message (put_out (plain AllAck) 2 in_2 refl)) refl
     (and_then group_carried (at third (Came first 1)) two_took (at third (Took second 1) ∷ []) group_back (refl, omega arith, omega arith, refl)
-    (comes kinds.AllAck third first 1 (ready kinds.AllAck) refl (simp in_0 refl) ((zero_said kinds.AllAck).put 2) (ap (λ xs. slice_get xs 0) (put_out kinds.AllAck 2 in_2 refl)))
+    (comes (plain AllAck) third first 1 (ready (plain AllAck)) refl (simp in_0 refl) ((zero_said (plain AllAck)).put 2) (ap (λ xs. slice_get xs 0) (put_out (plain AllAck) 2 in_2 refl)))
     (and_then group_two (at third (Took second 1)) (carries 1 two_took) [] group_back (refl, omega arith, length_one (two_took.put 1) message back) refl (stop_here group_back)))
 
 -- what comes to node 1 from node 2 there
-lead_back : (g : Group) → g 1 ≡ one_took kinds.AllAck → slice_get ((g 2).put 1) 0 ≡ Some message → 1 ≤ (g 2).taken 1 → Leads g (at second (Came third 1) ∷ []) (with_at g 1 one_took_again)
+lead_back : (g : Group) → g 1 ≡ one_took (plain AllAck) → slice_get ((g 2).put 1) 0 ≡ Some message → 1 ≤ (g 2).taken 1 → Leads g (at second (Came third 1) ∷ []) (with_at g 1 one_took_again)
 unfolding calls_of known
 lead_back g here there carried =
     and_then g (at second (Came third 1)) one_took_again [] (with_at g 1 one_took_again) (ap (λ (m : Member). m.stopped) here, omega arith, carried, ap (λ (m : Member). is_marked 1 (m.come 2)) here)
-    (ap (λ (m : Member). taken_in texts.One 1 third 1 (slice_get ((g 2).put 1) 0) m) here ∙ comes kinds.AllAck second third 1 (one_took kinds.AllAck) refl (simp (in_0, in_2) refl) ((g 2).put 1) there) (stop_here (with_at g 1 one_took_again))
+    (ap (λ (m : Member). taken_in texts.One 1 third 1 (slice_get ((g 2).put 1) 0) m) here ∙ comes (plain AllAck) second third 1 (one_took (plain AllAck)) refl (simp (in_0, in_2) refl) ((g 2).put 1) there) (stop_here (with_at g 1 one_took_again))
 
-to_all_is : alone bounds address (opened kinds.AllAck ++ to_all) ≡ group_all
+to_all_is : alone bounds address (opened (plain AllAck) ++ to_all) ≡ group_all
 to_all_is =
-    (join nobody (group_open kinds.AllAck) group_all (opened kinds.AllAck) to_all (open_all kinds.AllAck)
-    (join (group_open kinds.AllAck) (group_one kinds.AllAck) group_all to_one (at first (Took third 1) ∷ at third (Came first 1) ∷ at third (Took second 1) ∷ at second (Came third 1) ∷ []) (lead_one kinds.AllAck)
-    (join (group_one kinds.AllAck) group_back group_all (at first (Took third 1) ∷ at third (Came first 1) ∷ at third (Took second 1) ∷ []) (at second (Came third 1) ∷ []) lead_sent (lead_back group_back refl (ap (λ xs. slice_get xs 0) back) (omega arith))))).end
+    (join nobody (group_open (plain AllAck)) group_all (opened (plain AllAck)) to_all (open_all (plain AllAck))
+    (join (group_open (plain AllAck)) (group_one (plain AllAck)) group_all to_one (at first (Took third 1) ∷ at third (Came first 1) ∷ at third (Took second 1) ∷ at second (Came third 1) ∷ []) (lead_one (plain AllAck))
+    (join (group_one (plain AllAck)) group_back group_all (at first (Took third 1) ∷ at third (Came first 1) ∷ at third (Took second 1) ∷ []) (at second (Came third 1) ∷ []) lead_sent (lead_back group_back refl (ap (λ xs. slice_get xs 0) back) (omega arith))))).end
 
 -- node 2 drops the group before what it sent comes
 abbrev two_dropped : Member
@@ -358,70 +351,70 @@ group_dropping = with_at group_back 2 two_dropped
 abbrev group_dropped : Group
 group_dropped = with_at group_dropping 1 one_took_again
 
-dropped_is : alone bounds address (opened kinds.AllAck ++ third_drops) ≡ group_dropped
+dropped_is : alone bounds address (opened (plain AllAck) ++ third_drops) ≡ group_dropped
 dropped_is =
-    (join nobody (group_open kinds.AllAck) group_dropped (opened kinds.AllAck) third_drops (open_all kinds.AllAck)
-    (join (group_open kinds.AllAck) (group_one kinds.AllAck) group_dropped to_one (at first (Took third 1) ∷ at third (Came first 1) ∷ at third (Took second 1) ∷ at third Drop ∷ at second (Came third 1) ∷ []) (lead_one kinds.AllAck)
-    (join (group_one kinds.AllAck) group_back group_dropped (at first (Took third 1) ∷ at third (Came first 1) ∷ at third (Took second 1) ∷ []) (at third Drop ∷ at second (Came third 1) ∷ []) lead_sent
+    (join nobody (group_open (plain AllAck)) group_dropped (opened (plain AllAck)) third_drops (open_all (plain AllAck))
+    (join (group_open (plain AllAck)) (group_one (plain AllAck)) group_dropped to_one (at first (Took third 1) ∷ at third (Came first 1) ∷ at third (Took second 1) ∷ at third Drop ∷ at second (Came third 1) ∷ []) (lead_one (plain AllAck))
+    (join (group_one (plain AllAck)) group_back group_dropped (at first (Took third 1) ∷ at third (Came first 1) ∷ at third (Took second 1) ∷ []) (at third Drop ∷ at second (Came third 1) ∷ []) lead_sent
     (and_then group_back (at third Drop) two_dropped (at second (Came third 1) ∷ []) group_dropped tt refl
     (lead_back group_dropping refl (ap (λ xs. slice_get (take 1 xs) 0) back) (omega arith)))))).end
 
 abbrev without_two : Group
-without_two = with_at (group_one kinds.AllAck) 1 (notices 1 third (one_took kinds.AllAck))
+without_two = with_at (group_one (plain AllAck)) 1 (notices 1 third (one_took (plain AllAck)))
 
-without_two_is : alone bounds address (opened kinds.AllAck ++ (to_one ++ at second (Notice third) ∷ [])) ≡ without_two
+without_two_is : alone bounds address (opened (plain AllAck) ++ (to_one ++ at second (Notice third) ∷ [])) ≡ without_two
 without_two_is =
-    (join nobody (group_open kinds.AllAck) without_two (opened kinds.AllAck) (to_one ++ at second (Notice third) ∷ []) (open_all kinds.AllAck)
-    (join (group_open kinds.AllAck) (group_one kinds.AllAck) without_two to_one (at second (Notice third) ∷ []) (lead_one kinds.AllAck)
-    (and_then (group_one kinds.AllAck) (at second (Notice third)) (notices 1 third (one_took kinds.AllAck)) [] without_two (refl, refl) (noticed_is kinds.AllAck 1 third (one_took kinds.AllAck) refl in_2 refl) (stop_here without_two)))).end
+    (join nobody (group_open (plain AllAck)) without_two (opened (plain AllAck)) (to_one ++ at second (Notice third) ∷ []) (open_all (plain AllAck))
+    (join (group_open (plain AllAck)) (group_one (plain AllAck)) without_two to_one (at second (Notice third) ∷ []) (lead_one (plain AllAck))
+    (and_then (group_one (plain AllAck)) (at second (Notice third)) (notices 1 third (one_took (plain AllAck))) [] without_two (refl, refl) (noticed_is (plain AllAck) 1 third (one_took (plain AllAck)) refl in_2 refl) (stop_here without_two)))).end
 
-pub all_ack_not_yet : log_in kinds.AllAck to_one 1 ≡ []
+pub all_ack_not_yet : log_in (plain AllAck) to_one 1 ≡ []
 unfolding calls_of known
-all_ack_not_yet = ap (λ (g : Group). log_of_member 1 (g 1)) (to_one_is kinds.AllAck) ∙ simp all_of refl
+all_ack_not_yet = ap (λ (g : Group). log_of_member 1 (g 1)) (to_one_is (plain AllAck)) ∙ simp all_of refl
 
-pub all_ack_delivered : log_in kinds.AllAck to_all 1 ≡ message ∷ []
+pub all_ack_delivered : log_in (plain AllAck) to_all 1 ≡ message ∷ []
 unfolding calls_of known
 all_ack_delivered = ap (λ (g : Group). log_of_member 1 (g 1)) to_all_is ∙ simp all_of refl
 
-pub all_ack_had : HasHad (alone bounds address (opened kinds.AllAck ++ to_all)) 2 (message_of message)
+pub all_ack_had : HasHad (alone bounds address (opened (plain AllAck) ++ to_all)) 2 (message_of message)
 unfolding calls_of known
 all_ack_had = ap (λ (g : Group). mentions (calls_of (g 2).told) (message_of message)) to_all_is
 
-pub all_ack_noticed : log_in kinds.AllAck (to_one ++ at second (Notice third) ∷ []) 1 ≡ message ∷ []
+pub all_ack_noticed : log_in (plain AllAck) (to_one ++ at second (Notice third) ∷ []) 1 ≡ message ∷ []
 unfolding calls_of known
 all_ack_noticed = ap (λ (g : Group). log_of_member 1 (g 1)) without_two_is ∙ simp all_of refl
 
 -- A member drops the group.
 
-pub dropped_gone : log_in kinds.AllAck third_drops 2 ≡ []
+pub dropped_gone : log_in (plain AllAck) third_drops 2 ≡ []
 dropped_gone = ap (λ (g : Group). log_of_member 2 (g 2)) dropped_is
 
-pub dropped_delivered : log_in kinds.AllAck third_drops 1 ≡ message ∷ []
+pub dropped_delivered : log_in (plain AllAck) third_drops 1 ≡ message ∷ []
 unfolding calls_of known
 dropped_delivered = ap (λ (g : Group). log_of_member 1 (g 1)) dropped_is ∙ simp all_of refl
 
-pub dropped_unnoticed : noticed_at (alone bounds address (opened kinds.AllAck ++ third_drops) 1) 2 ≡ false
+pub dropped_unnoticed : noticed_at (alone bounds address (opened (plain AllAck) ++ third_drops) 1) 2 ≡ false
 unfolding calls_of
 dropped_unnoticed = ap (λ (g : Group). noticed_at (g 1) 2) dropped_is
 
-pub dropped_had : HasHad (alone bounds address (opened kinds.AllAck ++ third_drops)) 2 (message_of message)
+pub dropped_had : HasHad (alone bounds address (opened (plain AllAck) ++ third_drops)) 2 (message_of message)
 unfolding calls_of known
 dropped_had = ap (λ (g : Group). mentions (calls_of (g 2).told) (message_of message)) dropped_is
 
 -- Majority-ack.
 
-pub majority_not_yet : log_in kinds.Majority to_one 0 ≡ []
+pub majority_not_yet : log_in (plain Majority) to_one 0 ≡ []
 unfolding calls_of known
-majority_not_yet = ap (λ (g : Group). log_of_member 0 (g 0)) (to_one_is kinds.Majority) ∙ simp most_of refl
+majority_not_yet = ap (λ (g : Group). log_of_member 0 (g 0)) (to_one_is (plain Majority)) ∙ simp most_of refl
 
-pub majority_delivered : log_in kinds.Majority to_one 1 ≡ message ∷ []
+pub majority_delivered : log_in (plain Majority) to_one 1 ≡ message ∷ []
 unfolding calls_of known
-majority_delivered = ap (λ (g : Group). log_of_member 1 (g 1)) (to_one_is kinds.Majority) ∙ simp most_of refl
+majority_delivered = ap (λ (g : Group). log_of_member 1 (g 1)) (to_one_is (plain Majority)) ∙ simp most_of refl
 
-pub majority_had_first : HasHad (alone bounds address (opened kinds.Majority ++ to_one)) 0 (message_of message)
+pub majority_had_first : HasHad (alone bounds address (opened (plain Majority) ++ to_one)) 0 (message_of message)
 unfolding calls_of known
-majority_had_first = ap (λ (g : Group). mentions (calls_of (g 0).told) (message_of message)) (to_one_is kinds.Majority)
+majority_had_first = ap (λ (g : Group). mentions (calls_of (g 0).told) (message_of message)) (to_one_is (plain Majority))
 
-pub majority_had_second : HasHad (alone bounds address (opened kinds.Majority ++ to_one)) 1 (message_of message)
+pub majority_had_second : HasHad (alone bounds address (opened (plain Majority) ++ to_one)) 1 (message_of message)
 unfolding calls_of known
-majority_had_second = ap (λ (g : Group). mentions (calls_of (g 1).told) (message_of message)) (to_one_is kinds.Majority)
+majority_had_second = ap (λ (g : Group). mentions (calls_of (g 1).told) (message_of message)) (to_one_is (plain Majority))

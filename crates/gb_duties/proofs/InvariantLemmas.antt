@@ -13,7 +13,6 @@ use Rattle.gb_layer.specs.Histories.{mentions_stays}
 use Rattle.gb_layer.specs.Machine.{mentions, was_said, was_noticed, came_from}
 use Rattle.gb_layer.specs.Modules.{now_broadcast}
 use Rattle.gb_layer.specs.declared.call.Call.{Call}
-use Rattle.gb_stack.specs.Kinds.{module_of}
 use Rattle.gb_rules.specs.Group.{is_gone, is_member, is_other}
 use Rattle.gb_rules.specs.History.{call_of, calls_of, known, bytes_in, said_in, puts_of}
 use Rattle.gb_rules.specs.Messages.{has, bytes_of}
@@ -43,7 +42,7 @@ pub record Fits (calls : ℕ → List Call) (a : ℕ) (gone : Bool) (o : Option 
   -- what is put out is known here
   pub put_known : (b : ℕ) (m : MsgId) → has (put b) m ≡ true → mentions (calls_of told) m ≡ true
   -- where the group was not dropped, what is broadcast is put out to each other member that was not noticed
-  pub owes : gone ≡ false → (spec : Spec) → o ≡ Some spec → (b : ℕ) → is_other spec a b ≡ true → was_noticed (calls_of told) b ≡ false → (m : MsgId) → now_broadcast (module_of spec.kind) a (calls_of told) m ≡ true → has (put b) m ≡ true
+  pub owes : gone ≡ false → (spec : Spec) → o ≡ Some spec → (b : ℕ) → is_other spec a b ≡ true → was_noticed (calls_of told) b ≡ false → (m : MsgId) → now_broadcast spec.kind.module a (calls_of told) m ≡ true → has (put b) m ≡ true
 
 abbrev pub FitsAt : (ℕ → List Call) → ℕ → Member → Type 0
 FitsAt calls a m = Fits calls a (is_gone m.phase) m.spec m.told m.put
@@ -177,14 +176,14 @@ module _ (calls : ℕ → List Call) (a : ℕ) (spec : Spec) (told : List GroupC
 
 -- what a call puts out
 has-puts : (spec : Spec) (a : ℕ) (c : GroupCall) (told : List GroupCall) (m : MsgId)
-    → has (puts_of spec a c told) m ≡ ((now_broadcast (module_of spec.kind) a (call_of c ∷ calls_of told) m && not (now_broadcast (module_of spec.kind) a (calls_of told) m)) && mentions (call_of c ∷ calls_of told) m)
-has-puts spec a c told m = has-entries (known (c ∷ told)) _ m ∙ in_newly (now_broadcast (module_of spec.kind) a) (call_of c) (calls_of told) m
+    → has (puts_of spec a c told) m ≡ ((now_broadcast spec.kind.module a (call_of c ∷ calls_of told) m && not (now_broadcast spec.kind.module a (calls_of told) m)) && mentions (call_of c ∷ calls_of told) m)
+has-puts spec a c told m = has-entries (known (c ∷ told)) _ m ∙ in_newly (now_broadcast spec.kind.module a) (call_of c) (calls_of told) m
 
 -- the group is told something at a node; before, what was broadcast was put out to each that is not noticed now
 pub fits_called : (calls : ℕ → List Call) (a : ℕ) (gone : Bool) (c : GroupCall) (spec : Spec) (told : List GroupCall) (put : ℕ → List Entry) → Brings calls a spec told c → calls a ≡ calls_of (c ∷ told)
     → (before : ℕ → List Entry) → Fits calls a gone (Some spec) told before
     → ((b : ℕ) (m : MsgId) → has (put b) m ≡ true → mentions (calls_of told) m ≡ true)
-    → (gone ≡ false → (b : ℕ) → is_other spec a b ≡ true → was_noticed (calls_of (c ∷ told)) b ≡ false → (m : MsgId) → now_broadcast (module_of spec.kind) a (calls_of told) m ≡ true → has (put b) m ≡ true)
+    → (gone ≡ false → (b : ℕ) → is_other spec a b ≡ true → was_noticed (calls_of (c ∷ told)) b ≡ false → (m : MsgId) → now_broadcast spec.kind.module a (calls_of told) m ≡ true → has (put b) m ≡ true)
     → Fits calls a gone (Some spec) (c ∷ told) (put_to a (Some spec) c told put)
 unfolding calls_of
 fits_called calls a gone c spec told put brings grown before old put_known owes = record {
@@ -197,7 +196,7 @@ fits_called calls a gone c spec told put brings grown before old put_known owes 
   light = λ s is. subst (λ (z : Spec). bytes_in (c ∷ told) a ≤ z.bytes) (same_spec s is) (light_called calls a spec told c brings (old.light spec refl));
   from_known = from_called calls a spec told c brings grown old.from_known;
   put_known = λ b. put_sound b (is_other spec a b && not (was_noticed (call_of c ∷ calls_of told) b));
-  owes = λ here s is. subst (λ (z : Spec). (b : ℕ) → is_other z a b ≡ true → was_noticed (call_of c ∷ calls_of told) b ≡ false → (m : MsgId) → now_broadcast (module_of z.kind) a (call_of c ∷ calls_of told) m ≡ true → has (put_to a (Some spec) c told put b) m ≡ true) (same_spec s is) (owed here);
+  owes = λ here s is. subst (λ (z : Spec). (b : ℕ) → is_other z a b ≡ true → was_noticed (call_of c ∷ calls_of told) b ≡ false → (m : MsgId) → now_broadcast z.kind.module a (call_of c ∷ calls_of told) m ≡ true → has (put_to a (Some spec) c told put b) m ≡ true) (same_spec s is) (owed here);
 }
   where
     same_spec : (s : Spec) → Some spec ≡ Some s → spec ≡ s
@@ -211,15 +210,15 @@ fits_called calls a gone c spec told put brings grown before old put_known owes 
         go (inr new) = and_right _ (mentions (call_of c ∷ calls_of told) m) (sym (has-puts spec a c told m) ∙ new)
     put_sound b false m h = mentions_stays (call_of c) (calls_of told) m (put_known b m h)
 
-    joined : gone ≡ false → (b : ℕ) (m : MsgId) → is_other spec a b ≡ true → was_noticed (call_of c ∷ calls_of told) b ≡ false → now_broadcast (module_of spec.kind) a (call_of c ∷ calls_of told) m ≡ true → has (put b ++ puts_of spec a c told) m ≡ true
-    joined here b m other unnoticed out = has-append (put b) (puts_of spec a c told) m ∙ go (cases_Bool (now_broadcast (module_of spec.kind) a (calls_of told) m))
+    joined : gone ≡ false → (b : ℕ) (m : MsgId) → is_other spec a b ≡ true → was_noticed (call_of c ∷ calls_of told) b ≡ false → now_broadcast spec.kind.module a (call_of c ∷ calls_of told) m ≡ true → has (put b ++ puts_of spec a c told) m ≡ true
+    joined here b m other unnoticed out = has-append (put b) (puts_of spec a c told) m ∙ go (cases_Bool (now_broadcast spec.kind.module a (calls_of told) m))
       where
-        go : ((now_broadcast (module_of spec.kind) a (calls_of told) m ≡ true) ⊎ (now_broadcast (module_of spec.kind) a (calls_of told) m ≡ false)) → (has (put b) m || has (puts_of spec a c told) m) ≡ true
+        go : ((now_broadcast spec.kind.module a (calls_of told) m ≡ true) ⊎ (now_broadcast spec.kind.module a (calls_of told) m ≡ false)) → (has (put b) m || has (puts_of spec a c told) m) ≡ true
         go (inl old) = or_first (has (put b) m) (has (puts_of spec a c told) m) (owes here b other unnoticed m old)
         go (inr new) = or_second (has (put b) m) (has (puts_of spec a c told) m)
-            (has-puts spec a c told m ∙ and_both (and_both out (not_from_false (now_broadcast (module_of spec.kind) a (calls_of told) m) new)) (and_left (mentions (call_of c ∷ calls_of told) m) _ out))
+            (has-puts spec a c told m ∙ and_both (and_both out (not_from_false (now_broadcast spec.kind.module a (calls_of told) m) new)) (and_left (mentions (call_of c ∷ calls_of told) m) _ out))
 
-    owed : gone ≡ false → (b : ℕ) → is_other spec a b ≡ true → was_noticed (call_of c ∷ calls_of told) b ≡ false → (m : MsgId) → now_broadcast (module_of spec.kind) a (call_of c ∷ calls_of told) m ≡ true → has (put_to a (Some spec) c told put b) m ≡ true
+    owed : gone ≡ false → (b : ℕ) → is_other spec a b ≡ true → was_noticed (call_of c ∷ calls_of told) b ≡ false → (m : MsgId) → now_broadcast spec.kind.module a (call_of c ∷ calls_of told) m ≡ true → has (put_to a (Some spec) c told put b) m ≡ true
     owed here b other unnoticed m out =
         let t : (is_other spec a b && not (was_noticed (call_of c ∷ calls_of told) b)) ≡ true = and_both other (not_from_false (was_noticed (call_of c ∷ calls_of told) b) unnoticed) in
         ap (λ (t : Bool). has (if t then put b ++ puts_of spec a c told else put b) m) t ∙ joined here b m other unnoticed out

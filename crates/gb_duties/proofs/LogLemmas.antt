@@ -4,14 +4,16 @@ use Rattle.std.specs.Prelude.{filter, if◌then◌else◌}
 use Rattle.std.specs.FinSet as set
 use Rattle.std.specs.List.{list_any}
 use Rattle.gb_types.specs.Message.{same}
+use Rattle.gb_types.specs.declared.kind.Module.{Module}
+use Rattle.gb_types.specs.declared.kind.Order.{Order}
+use Rattle.gb_types.specs.declared.kind.Order.TheVariants.{Any, Fifo}
 use Rattle.gb_types.specs.declared.message.MsgId.{MsgId}
 use Rattle.gb_types.specs.declared.spec.Spec.{Spec}
 use Rattle.gb_layer.specs.Modules.{now_delivered, log}
-use Rattle.gb_layer.specs.declared.broadcast_module.BroadcastModule.{BroadcastModule}
 use Rattle.gb_layer.specs.declared.call.Call.{Call}
 use Rattle.gb_fifo.specs.Order.{is_in, in_order}
 use Rattle.gb_fifo.specs.OrderLaws.{AllIn}
-use Rattle.gb_stack.specs.Kinds.{module_of, is_fifo, kind_log}
+use Rattle.gb_stack.specs.Kinds.{released, kind_log}
 use Rattle.gb_stack.specs.LogLaws.{ModuleLogHasDelivered}
 use Rattle.gb_stack.proofs.DeliveryLemmas.{holds_of}
 use Rattle.gb_rules.specs.History.{calls_of, known, delivered}
@@ -37,17 +39,17 @@ logged-is me o spec told m is = ap (λ (p : Option Spec). has (log_at me p told)
 
 module _ (has_delivered : ModuleLogHasDelivered) where
   -- a module's log has a message where it is delivered
-  pub in_log : (base : BroadcastModule) (me : ℕ) (members : List ℕ) (past : List Call) (m : MsgId) → is_in (log base me members past) m ≡ now_delivered base me members past m
+  pub in_log : (base : Module) (me : ℕ) (members : List ℕ) (past : List Call) (m : MsgId) → is_in (log base me members past) m ≡ now_delivered base me members past m
   in_log base me members past m = left_is (λ x. same x m) (log base me members past) m (now_delivered base me members past m) (has_delivered base me members past m)
 
 -- what stands in a kind's log is delivered, where the order gives up only what is delivered
 pub kind_delivered : ((D : List MsgId) → AllIn D (in_order D)) → (spec : Spec) (me : ℕ) (past : List Call) (m : MsgId) → is_in (kind_log spec.kind me (set.items spec.members) past) m ≡ true
-    → is_in (log (module_of spec.kind) me (set.items spec.members) past) m ≡ true
-kind_delivered within spec me past m = go (is_fifo spec.kind)
+    → is_in (log spec.kind.module me (set.items spec.members) past) m ≡ true
+kind_delivered within spec me past m = go spec.kind.order
   where
     plain : List MsgId
-    plain = log (module_of spec.kind) me (set.items spec.members) past
+    plain = log spec.kind.module me (set.items spec.members) past
 
-    go : (b : Bool) → is_in (if b then in_order plain else plain) m ≡ true → is_in plain m ≡ true
-    go true h = holds_of (λ x. is_in plain x ≡ true) (in_order plain) (within plain) m h
-    go false h = h
+    go : (order : Order) → is_in (released order [] plain) m ≡ true → is_in plain m ≡ true
+    go Any h = h
+    go Fifo h = holds_of (λ x. is_in plain x ≡ true) (in_order plain) (within plain) m h

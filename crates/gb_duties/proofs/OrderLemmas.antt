@@ -1,9 +1,11 @@
 -- Which messages an order has: those of each origin from number 1 to the origin's top.
 use Rattle.std.proofs.Common.{◌≡◌, ℕ, zero, suc, ◌+◌, ◌<◌, ◌≤◌, Bool, true, false, cond, ◌&&◌, ◌||◌, ◌⊎◌, inl, inr, nat_eq, List, [], ◌∷◌, refl, sym, ap, ◌∙◌, arith}
-use Rattle.std.specs.Prelude.{if◌then◌else◌, map, filter}
+use Rattle.std.specs.Prelude.{map, filter}
 use Rattle.std.specs.FinSet as set
 use Rattle.std.specs.List.{list_any, range_with_len}
 use Rattle.std.proofs.lemmas.Bool.{eqb-true, eq-eqb, cases_lt}
+use Rattle.gb_types.specs.declared.kind.Order.{Order}
+use Rattle.gb_types.specs.declared.kind.Order.TheVariants.{Any, Fifo}
 use Rattle.gb_types.specs.declared.message.MsgId.{MsgId}
 use Rattle.gb_types.specs.declared.node.NodeId.{NodeId}
 use Rattle.gb_types.specs.declared.spec.Spec.{Spec}
@@ -11,7 +13,7 @@ use Rattle.gb_types.proofs.BoolLemmas.{or_cases, or_first, or_second}
 use Rattle.gb_layer.specs.Modules.{now_delivered, log}
 use Rattle.gb_layer.specs.declared.call.Call.{Call}
 use Rattle.gb_fifo.specs.Order.{is_in, numbered, upto, top, numbers_of, in_order}
-use Rattle.gb_stack.specs.Kinds.{module_of, is_fifo, kind_log}
+use Rattle.gb_stack.specs.Kinds.{released, kind_log}
 use Rattle.gb_stack.specs.LogLaws.{ModuleLogHasDelivered}
 use Rattle.gb_duties.proofs.LogLemmas.{in_log}
 
@@ -67,38 +69,38 @@ module _ (numbers : (origin : NodeId) (delivered : List MsgId) → numbers_of or
         go (inr le) = le
 
     -- a log has what another has, where its module delivers what the other's does
-    pub log_more : (spec : Spec) (b c : ℕ) (xs ys : List Call) → ((m : MsgId) → now_delivered (module_of spec.kind) b (set.items spec.members) xs m ≡ true → now_delivered (module_of spec.kind) c (set.items spec.members) ys m ≡ true)
+    pub log_more : (spec : Spec) (b c : ℕ) (xs ys : List Call) → ((m : MsgId) → now_delivered spec.kind.module b (set.items spec.members) xs m ≡ true → now_delivered spec.kind.module c (set.items spec.members) ys m ≡ true)
         → (m : MsgId) → is_in (kind_log spec.kind b (set.items spec.members) xs) m ≡ true → is_in (kind_log spec.kind c (set.items spec.members) ys) m ≡ true
-    log_more spec b c xs ys more m h = go (is_fifo spec.kind) h
+    log_more spec b c xs ys more m h = go spec.kind.order h
       where
         this : List MsgId
-        this = log (module_of spec.kind) b (set.items spec.members) xs
+        this = log spec.kind.module b (set.items spec.members) xs
 
         that : List MsgId
-        that = log (module_of spec.kind) c (set.items spec.members) ys
+        that = log spec.kind.module c (set.items spec.members) ys
 
         plain : (k : MsgId) → is_in this k ≡ true → is_in that k ≡ true
-        plain k e = in_log has_delivered (module_of spec.kind) c (set.items spec.members) ys k ∙ more k (sym (in_log has_delivered (module_of spec.kind) b (set.items spec.members) xs k) ∙ e)
+        plain k e = in_log has_delivered spec.kind.module c (set.items spec.members) ys k ∙ more k (sym (in_log has_delivered spec.kind.module b (set.items spec.members) xs k) ∙ e)
 
-        go : (t : Bool) → is_in (if t then in_order this else this) m ≡ true → is_in (if t then in_order that else that) m ≡ true
-        go true e =
+        go : (order : Order) → is_in (released order [] this) m ≡ true → is_in (released order [] that) m ≡ true
+        go Any e = plain m e
+        go Fifo e =
             let at = has_in_order this m e in
             let few = at.1 in
             let rises : top m.origin this ≤ top m.origin that = top_most m.origin that (top m.origin this) (λ k some le. plain (numbered m.origin k) (stand m.origin this k (omega (arith, some)) le)) in
             in_order_has that m at.0 (omega (arith, few, rises))
-        go false e = plain m e
 
     -- a log has the first messages of an origin, where its module delivers them
-    pub log_has : (spec : Spec) (b : ℕ) (ys : List Call) (s : NodeId) (n : ℕ) → ((k : ℕ) → 0 < k → k ≤ n → now_delivered (module_of spec.kind) b (set.items spec.members) ys (numbered s k) ≡ true)
+    pub log_has : (spec : Spec) (b : ℕ) (ys : List Call) (s : NodeId) (n : ℕ) → ((k : ℕ) → 0 < k → k ≤ n → now_delivered spec.kind.module b (set.items spec.members) ys (numbered s k) ≡ true)
         → (k : ℕ) → 0 < k → k ≤ n → is_in (kind_log spec.kind b (set.items spec.members) ys) (numbered s k) ≡ true
-    log_has spec b ys s n all k some few = go (is_fifo spec.kind)
+    log_has spec b ys s n all k some few = go spec.kind.order
       where
         that : List MsgId
-        that = log (module_of spec.kind) b (set.items spec.members) ys
+        that = log spec.kind.module b (set.items spec.members) ys
 
         plain : (j : ℕ) → 0 < j → j ≤ n → is_in that (numbered s j) ≡ true
-        plain j low le = in_log has_delivered (module_of spec.kind) b (set.items spec.members) ys (numbered s j) ∙ all j low le
+        plain j low le = in_log has_delivered spec.kind.module b (set.items spec.members) ys (numbered s j) ∙ all j low le
 
-        go : (t : Bool) → is_in (if t then in_order that else that) (numbered s k) ≡ true
-        go true = let most = top_most s that n plain in in_order_has that (numbered s k) some (omega (arith, few, most))
-        go false = plain k some few
+        go : (order : Order) → is_in (released order [] that) (numbered s k) ≡ true
+        go Any = plain k some few
+        go Fifo = let most = top_most s that n plain in in_order_has that (numbered s k) some (omega (arith, few, most))

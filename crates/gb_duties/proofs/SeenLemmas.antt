@@ -6,10 +6,9 @@ use Rattle.gb_types.specs.declared.entry.Entry.{Entry}
 use Rattle.gb_types.specs.declared.message.MsgId.{MsgId}
 use Rattle.gb_types.specs.declared.spec.Spec.{Spec}
 use Rattle.gb_types.proofs.BoolLemmas.{and_both, and_left, and_right}
-use Rattle.gb_layer.specs.declared.broadcast_module.BroadcastModule.{BroadcastModule}
-use Rattle.gb_layer.specs.declared.broadcast_module.BroadcastModule.TheVariants.{BestEffort, Lazy, Eager, AllAck, MajorityAck}
+use Rattle.gb_types.specs.declared.kind.Module.{Module}
+use Rattle.gb_types.specs.declared.kind.Module.TheVariants.{BestEffort, Lazy, Eager, AllAck, Majority}
 use Rattle.gb_fifo.specs.Order.{numbered}
-use Rattle.gb_stack.specs.Kinds.{module_of}
 use Rattle.gb_rules.specs.Group.{is_gone, is_member, is_other}
 use Rattle.gb_rules.specs.Messages.{has}
 use Rattle.gb_alone.specs.Alone.{Member, is_marked}
@@ -35,7 +34,7 @@ module _ (noticed seen : ℕ → Bool) (put rows : ℕ → List Entry) (had : �
   put_seen (inl h) = inl (more h)
   put_seen (inr h) = inr (ap (λ xs. has xs m) (sym alike) ∙ h)
 
-  duty_seen : (base : BroadcastModule) → Duty base noticed put had b c m → Duty base seen rows had b c m
+  duty_seen : (base : Module) → Duty base noticed put had b c m → Duty base seen rows had b c m
   duty_seen BestEffort done = λ own. put_seen (done own)
   duty_seen Lazy done = λ why. put_seen (done (by why (nat_eq m.origin.number b) refl))
     where
@@ -46,14 +45,14 @@ module _ (noticed seen : ℕ → Bool) (put rows : ℕ → List Entry) (had : �
   duty_seen Eager done = put_seen done
   duty_seen AllAck (inl h) = inl (more h)
   duty_seen AllAck (inr h) = inr h
-  duty_seen MajorityAck done = put_seen done
+  duty_seen Majority done = put_seen done
 
 pub duties_seen : (spec : Spec) (b : ℕ) (member : Member) → member.spec ≡ Some spec → is_gone member.phase ≡ false → Marked b member → (seen : ℕ → Bool) → ((c : ℕ) → is_marked c member.noticed ≡ (is_other spec b c && seen c)) → (rows : ℕ → List Entry)
     → ((c : ℕ) → is_member spec c ≡ true → member.put c ≡ rows c) → (had : ℕ → MsgId → Type 0) (messages : MsgId → Bool) → ((m : MsgId) → messages m ≡ true → is_member spec m.origin.number ≡ true) → KeepsDuties spec b (noticed_at member) member.put had messages → KeepsDuties spec b seen rows had messages
 duties_seen spec b member made here marked seen seen_is rows alike had messages inside duties = record {
   others = λ c other m in_messages.
       duty_seen (noticed_at member) seen member.put rows had b c m (noticed_seen b member spec made marked seen seen_is c) (λ differs. seen_noticed b member spec made marked seen seen_is m.origin.number here (and_both (inside m in_messages) (not_from_false (nat_eq m.origin.number b) differs)))
-      (alike c (and_left (is_member spec c) _ other)) (module_of spec.kind) (duties.others c other m in_messages);
+      (alike c (and_left (is_member spec c) _ other)) spec.kind.module (duties.others c other m in_messages);
   majority = duties.majority;
 }
 

@@ -16,9 +16,8 @@ use Rattle.gb_types.proofs.BoolLemmas.{or_left, or_right, refuted}
 use Rattle.gb_layer.specs.Histories.{mentions_stays}
 use Rattle.gb_layer.specs.Machine.{mentions, was_said, was_noticed}
 use Rattle.gb_layer.specs.Modules.{now_broadcast}
-use Rattle.gb_layer.specs.declared.broadcast_module.BroadcastModule.{BroadcastModule}
+use Rattle.gb_types.specs.declared.kind.Module.{Module}
 use Rattle.gb_layer.specs.declared.call.Call.{Call}
-use Rattle.gb_stack.specs.Kinds.{module_of}
 use Rattle.gb_stack.proofs.DeliveryLemmas.{noticed_stays}
 use Rattle.gb_rules.specs.Group.{is_gone, is_member, is_other, is_too_long}
 use Rattle.gb_rules.specs.declared.phase.Phase.{Phase}
@@ -61,7 +60,7 @@ kept group a n all same keeps = record {
 -- it was told something; these are the items put out before
 call_fits : (group : Group) (a : ℕ) (c : GroupCall) (spec : Spec) (put : ℕ → List Entry) → (group a).spec ≡ Some spec → AllFit group
     → ((b : ℕ) (m : MsgId) → has (put b) m ≡ true → mentions (calls_of (group a).told) m ≡ true)
-    → (is_gone (group a).phase ≡ false → (b : ℕ) → is_other spec a b ≡ true → was_noticed (calls_of (c ∷ (group a).told)) b ≡ false → (m : MsgId) → now_broadcast (module_of spec.kind) a (calls_of (group a).told) m ≡ true → has (put b) m ≡ true)
+    → (is_gone (group a).phase ≡ false → (b : ℕ) → is_other spec a b ≡ true → was_noticed (calls_of (c ∷ (group a).told)) b ≡ false → (m : MsgId) → now_broadcast spec.kind.module a (calls_of (group a).told) m ≡ true → has (put b) m ≡ true)
     → (calls : ℕ → List Call) → Later (calls_in group) calls → calls a ≡ calls_of (c ∷ (group a).told) → Brings calls a spec (group a).told c
     → Fits calls a (is_gone (group a).phase) (group a).spec (c ∷ (group a).told) (put_to a (group a).spec c (group a).told put)
 call_fits group a c spec put made all put_known owes calls later grown brings =
@@ -122,7 +121,7 @@ crashed_result group a q spec made all = record {
     sound b true m h = (all a).put_known b m (has-take ((group a).taken b) ((group a).put b) m h)
     sound b false m h = (all a).put_known b m h
 
-    owed : is_gone (group a).phase ≡ false → (b : ℕ) (t : Bool) → nat_eq b q.number ≡ t → is_other spec a b ≡ true → (nat_eq q.number b || was_noticed (calls_of (group a).told) b) ≡ false → (m : MsgId) → now_broadcast (module_of spec.kind) a (calls_of (group a).told) m ≡ true
+    owed : is_gone (group a).phase ≡ false → (b : ℕ) (t : Bool) → nat_eq b q.number ≡ t → is_other spec a b ≡ true → (nat_eq q.number b || was_noticed (calls_of (group a).told) b) ≡ false → (m : MsgId) → now_broadcast spec.kind.module a (calls_of (group a).told) m ≡ true
         → has (if t then take ((group a).taken b) ((group a).put b) else (group a).put b) m ≡ true
     owed here b true is other unnoticed m out = let e = or_left (nat_eq q.number b) _ unnoticed in let f = eq-eqb q.number b (sym (eqb-true b q.number is)) in absurd (cc)
     owed here b false is other unnoticed m out = (all a).owes here spec made b other (or_right (nat_eq q.number b) _ unnoticed) m out
@@ -151,7 +150,7 @@ made_fits calls a spec m makes fits = record {
   light = λ s is. let none = ap (λ (told : List GroupCall). bytes_in told a) none in omega (arith, none);
   from_known = fits.from_known;
   put_known = fits.put_known;
-  owes = λ here s is b other unnoticed x out. absurd (silent (module_of s.kind) x out);
+  owes = λ here s is b other unnoticed x out. absurd (silent s.kind.module x out);
 }
   where
     same_spec : (s : Spec) → Some spec ≡ Some s → spec ≡ s
@@ -163,7 +162,7 @@ made_fits calls a spec m makes fits = record {
     nothing : (x : MsgId) → mentions (calls_of m.told) x ≡ true → ⊥
     nothing x h = let e : mentions (calls_of []) x ≡ true = ap (λ (told : List GroupCall). mentions (calls_of told) x) (sym none) ∙ h in absurd (cc)
 
-    silent : (base : BroadcastModule) (x : MsgId) → now_broadcast base a (calls_of m.told) x ≡ true → ⊥
+    silent : (base : Module) (x : MsgId) → now_broadcast base a (calls_of m.told) x ≡ true → ⊥
     silent base x h = let e : now_broadcast base a (calls_of []) x ≡ true = ap (λ (told : List GroupCall). now_broadcast base a (calls_of told) x) (sym none) ∙ h in absurd (cc)
 
 -- the group goes to another phase, and is not dropped

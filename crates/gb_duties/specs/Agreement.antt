@@ -11,10 +11,9 @@ use Rattle.gb_types.specs.declared.version.Version.{Version}
 use Rattle.gb_types.specs.Version.{version_at}
 use Rattle.gb_types.specs.Places.{has_majority}
 use Rattle.gb_layer.specs.Machine.{was_noticed}
-use Rattle.gb_layer.specs.declared.broadcast_module.BroadcastModule.{BroadcastModule}
-use Rattle.gb_layer.specs.declared.broadcast_module.BroadcastModule.TheVariants.{BestEffort, Lazy, Eager, AllAck, MajorityAck}
+use Rattle.gb_types.specs.declared.kind.Module.{Module}
+use Rattle.gb_types.specs.declared.kind.Module.TheVariants.{BestEffort, Lazy, Eager, AllAck, Majority}
 use Rattle.gb_fifo.specs.Order.{numbered}
-use Rattle.gb_stack.specs.Kinds.{module_of}
 use Rattle.gb_rules.specs.Group.{is_gone, is_member}
 use Rattle.gb_rules.specs.History.{calls_of}
 use Rattle.gb_rules.specs.Messages.{has}
@@ -49,24 +48,24 @@ pub record IsSettled (bounds : Bounds) (addr : Addr) (steps : List GroupStep) (r
 
 -- with majority-ack more than half of the members run: if they do not, nothing is promised of the group's logs
 abbrev pub AreEnough : (ℕ → Bool) → Spec → Type 0
-AreEnough runs spec = module_of spec.kind ≡ MajorityAck → has_majority (is_member spec) runs ≡ true
+AreEnough runs spec = spec.kind.module ≡ Majority → has_majority (is_member spec) runs ≡ true
 
 -- the module is a uniform reliable broadcast
-abbrev pub is_uniform : BroadcastModule → Bool
+abbrev pub is_uniform : Module → Bool
 is_uniform BestEffort = false
 is_uniform Lazy = false
 is_uniform Eager = false
 is_uniform AllAck = true
-is_uniform MajorityAck = true
+is_uniform Majority = true
 
 -- What these logs have of the messages that were accepted at each node; `runs` says which nodes run.
 pub record KeepsAgreement (accepted : ℕ → List Accepted) (log : ℕ → List Entry) (runs : ℕ → Bool) (spec : Spec) : Type 0 where
   -- Validity: the log of each running member has each message that was accepted at a running member
   pub validity : (s : NodeId) (b : ℕ) → IsRunning runs spec s.number → IsRunning runs spec b → All (λ (x : Accepted). has (log b) (numbered s x.seq) ≡ true) (accepted s.number)
   -- Agreement: except with best effort, the logs of running members have the same messages
-  pub agreement : module_of spec.kind ≢ BestEffort → (b c : ℕ) → IsRunning runs spec b → IsRunning runs spec c → (m : MsgId) → has (log b) m ≡ has (log c) m
+  pub agreement : spec.kind.module ≢ BestEffort → (b c : ℕ) → IsRunning runs spec b → IsRunning runs spec c → (m : MsgId) → has (log b) m ≡ has (log c) m
   -- Uniform Agreement: with all-ack and majority-ack they have each message in the log of any member, even of one that stopped
-  pub uniform_agreement : is_uniform (module_of spec.kind) ≡ true → (b c : ℕ) → is_member spec b ≡ true → IsRunning runs spec c → (m : MsgId) → has (log b) m ≡ true → has (log c) m ≡ true
+  pub uniform_agreement : is_uniform spec.kind.module ≡ true → (b c : ℕ) → is_member spec b ≡ true → IsRunning runs spec c → (m : MsgId) → has (log b) m ≡ true → has (log c) m ≡ true
 
 -- the log of each node
 abbrev pub logs_of : Group → ℕ → List Entry

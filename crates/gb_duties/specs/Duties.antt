@@ -10,10 +10,9 @@ use Rattle.gb_types.specs.declared.spec.Spec.{Spec}
 use Rattle.gb_types.specs.Places.{has_majority}
 use Rattle.gb_layer.specs.Machine.{mentions, was_noticed}
 use Rattle.gb_layer.specs.Modules.{log}
-use Rattle.gb_layer.specs.declared.broadcast_module.BroadcastModule.{BroadcastModule}
-use Rattle.gb_layer.specs.declared.broadcast_module.BroadcastModule.TheVariants.{BestEffort, Lazy, Eager, AllAck, MajorityAck}
+use Rattle.gb_types.specs.declared.kind.Module.{Module}
+use Rattle.gb_types.specs.declared.kind.Module.TheVariants.{BestEffort, Lazy, Eager, AllAck, Majority}
 use Rattle.gb_fifo.specs.Order.{is_in}
-use Rattle.gb_stack.specs.Kinds.{module_of}
 use Rattle.gb_rules.specs.Group.{is_gone, is_member, is_other}
 use Rattle.gb_rules.specs.History.{calls_of}
 use Rattle.gb_rules.specs.Messages.{has}
@@ -30,12 +29,12 @@ IsPutOut noticed put c m = (noticed c ≡ true) ⊎ (has (put c) m ≡ true)
 -- which nodes have had which message. If c is not noticed,
 --   best effort (Algorithm 3.1) has put out its own messages, lazy (3.2) also those of a noticed origin, eager (3.3) and majority-ack (3.5) all; and before
 --   all-ack (3.4) delivers a message, c has had it.
-abbrev pub Duty : BroadcastModule → (ℕ → Bool) → (ℕ → List Entry) → (ℕ → MsgId → Type 0) → ℕ → ℕ → MsgId → Type 0
+abbrev pub Duty : Module → (ℕ → Bool) → (ℕ → List Entry) → (ℕ → MsgId → Type 0) → ℕ → ℕ → MsgId → Type 0
 Duty BestEffort noticed put had b c m = m.origin.number ≡ b → IsPutOut noticed put c m
 Duty Lazy noticed put had b c m = ((m.origin.number ≡ b) ⊎ (noticed m.origin.number ≡ true)) → IsPutOut noticed put c m
 Duty Eager noticed put had b c m = IsPutOut noticed put c m
 Duty AllAck noticed put had b c m = (noticed c ≡ true) ⊎ had c m
-Duty MajorityAck noticed put had b c m = IsPutOut noticed put c m
+Duty Majority noticed put had b c m = IsPutOut noticed put c m
 
 -- more than half of the members have had the message
 pub record IsHadByMajority (spec : Spec) (had : ℕ → MsgId → Type 0) (m : MsgId) : Type 0 where
@@ -45,8 +44,8 @@ pub record IsHadByMajority (spec : Spec) (had : ℕ → MsgId → Type 0) (m : M
 
 -- a node has done its duty for each other member and each of these messages; and before majority-ack (3.5) delivers a message, more than half of the members have had it
 pub record KeepsDuties (spec : Spec) (b : ℕ) (noticed : ℕ → Bool) (put : ℕ → List Entry) (had : ℕ → MsgId → Type 0) (messages : MsgId → Bool) : Type 0 where
-  pub others : (c : ℕ) → is_other spec b c ≡ true → (m : MsgId) → messages m ≡ true → Duty (module_of spec.kind) noticed put had b c m
-  pub majority : module_of spec.kind ≡ MajorityAck → (m : MsgId) → messages m ≡ true → IsHadByMajority spec had m
+  pub others : (c : ℕ) → is_other spec b c ≡ true → (m : MsgId) → messages m ≡ true → Duty spec.kind.module noticed put had b c m
+  pub majority : spec.kind.module ≡ Majority → (m : MsgId) → messages m ≡ true → IsHadByMajority spec had m
 
 -- the nodes that are noticed at a member
 abbrev pub noticed_at : Member → ℕ → Bool
@@ -54,7 +53,7 @@ noticed_at member = was_noticed (calls_of member.told)
 
 -- the messages that the module under the kind delivered at the node; a first-in first-out kind may still hold some back
 abbrev pub delivered_at : Spec → ℕ → Member → MsgId → Bool
-delivered_at spec b member = is_in (log (module_of spec.kind) b (set.items spec.members) (calls_of member.told))
+delivered_at spec b member = is_in (log spec.kind.module b (set.items spec.members) (calls_of member.told))
 
 -- the messages in a node's log
 abbrev pub logged_at : ℕ → Member → MsgId → Bool

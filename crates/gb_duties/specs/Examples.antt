@@ -5,6 +5,8 @@ use Rattle.std.specs.FinSet as set
 use Rattle.std.proofs.Common.{lit<}
 use Rattle.gb_types.specs.declared.entry.Entry.{Entry}
 use Rattle.gb_types.specs.declared.kind.Kind.{Kind}
+use Rattle.gb_types.specs.declared.kind.Module.{Module}
+use Rattle.gb_types.specs.declared.kind.Order.TheVariants.{Any, Fifo}
 use Rattle.gb_types.specs.declared.node.NodeId.{NodeId}
 use Rattle.gb_types.specs.declared.plan.Bounds.{Bounds}
 use Rattle.gb_types.specs.declared.spec.Spec.{Spec}
@@ -36,6 +38,13 @@ address = record { tenant = 7; group = 0; generation = 0 }
 -- three nodes, which all send version 1
 abbrev pub bounds : Bounds
 bounds = record { nodes = 3; versions = One ∷ One ∷ One ∷ [] }
+
+-- a module in any order, and first in, first out
+abbrev pub plain : Module → Kind
+plain base = record { «module» = base; order = Any }
+
+abbrev pub fifo : Module → Kind
+fifo base = record { «module» = base; order = Fifo }
 
 abbrev pub spec_of : Kind → Spec
 spec_of kind = record { kind = kind; members = members; msgs = 8; bytes = 64; window = 4 }

@@ -12,7 +12,6 @@ use Rattle.gb_types.specs.declared.refusal.Refusal.{Refusal}
 use Rattle.gb_types.specs.declared.reply.Reply.{Reply}
 use Rattle.gb_types.specs.declared.reply.Reply.TheVariants.{Done, Said, Refused}
 use Rattle.gb_types.specs.declared.request.Request.{Request}
-use Rattle.gb_types.specs.declared.request.Request.TheVariants.{AddTenant, Make, OpenGroup, ShutGroup, DropGroup, Say, Fetch}
 use Rattle.gb_types.specs.declared.spec.Spec.{Spec}
 use Rattle.gb_types.specs.declared.plan.Bounds.{Bounds}
 use Rattle.gb_types.specs.declared.version.Version.{Version}
@@ -25,17 +24,17 @@ use Rattle.gb_alone.specs.declared.event.GroupEvent.{GroupEvent}
 use Rattle.gb_alone.specs.declared.event.GroupEvent.TheVariants.{Make as AskMake, Open as AskOpen, Shut as AskShut, Drop as AskDrop, Say as AskSay}
 use Rattle.gb_alone.specs.Alone.{Member, Group, did, commanded, member_after, is_marked, MayHappen}
 use Rattle.gb_node.specs.Past.{Happened, frames_to, is_acked, is_taken, watched, added, tenants_in, is_stopped}
-use Rattle.gb_node.specs.PastGroups.{Told, noticed_after, waiting_of, asked_told, told_of, living_after, living_of}
+use Rattle.gb_node.specs.PastGroups.{Told, noticed_after, waiting_of, asked_told, told_of, living_after, living_done, living_of}
 use Rattle.gb_node.specs.declared.answer.NodeAnswer.TheVariants.{Reply as Replied}
 use Rattle.gb_node.specs.declared.event.NodeEvent.TheVariants.{Request as Asked}
 use Rattle.gb_node.specs.StepLaw.{has_group_token}
 use Rattle.gb_node.specs.declared.plan.NodePlan.{NodePlan}
-use Rattle.gb_node.proofs.EventLemmas.{added_refused, asked_untold}
 use Rattle.gb_isolation.specs.Project.{group_items_of, is_named, is_own_request, made_by, made_with, is_met_by, is_met, reply_in, replies_in}
 use Rattle.gb_isolation.specs.RunLaws.{is_dropped, is_dropped_by}
 use Rattle.gb_isolation.proofs.GoesLemmas.{goes_one}
 use Rattle.gb_isolation.proofs.MarkLemmas.{or_and_off}
 use Rattle.gb_isolation.proofs.MemberLemmas.{same_member, told-passed}
+use Rattle.gb_node.proofs.AskedLemmas.{if_same}
 use Rattle.gb_isolation.proofs.RoomLemmas.{own_living}
 use Rattle.gb_isolation.proofs.UnrelatedLemmas.{unrelated_goes}
 use Rattle.gb_isolation.proofs.View.{View, view_of, bounds_with, MemberIs, KeepsAcks, IsInside, AreMarked, Fits, Goes}
@@ -49,7 +48,7 @@ asking request reply = record { event = Asked request; answer = Replied reply }
 -- the view after a request has other links nowhere, and notices nobody
 pub view_asked : (plan : NodePlan) (g : Addr) (past : List Happened) (request : Request) (reply : Reply) (reserve : Option Reserve) (told : Option (Option Told)) (living : ℕ) (made : Option Spec) (dropped : Bool) (replies : List Reply) (met : Bool)
     → option_map reserve_of (row_of g.tenant (tenants_in past ++ added (Asked request) (Replied reply))) ≡ reserve
-    → asked_told g plan.me (noticed_after plan past) request reply (told_of plan g past) ≡ told
+    → asked_told g plan.me (noticed_after plan past) reply request.what (told_of plan g past) ≡ told
     → living_after g (Asked request) (Replied reply) (living_of g past) ≡ living
     → option_or (made_by g (Asked request) (Replied reply)) (made_with g past) ≡ made
     → (is_dropped_by g (Asked request) (Replied reply) || is_dropped g past) ≡ dropped
@@ -80,51 +79,22 @@ pub view_own : (plan : NodePlan) (g : Addr) (past : List Happened) (request : Re
     → is_stopped past ≡ false
     → is_own_request plan.me g past request ≡ true
     → added (Asked request) (Replied reply) ≡ []
-    → asked_told g plan.me (noticed_after plan past) request reply (told_of plan g past) ≡ told
+    → asked_told g plan.me (noticed_after plan past) reply request.what (told_of plan g past) ≡ told
     → option_or (made_by g (Asked request) (Replied reply)) (made_with g past) ≡ made
     → (is_dropped_by g (Asked request) (Replied reply) || is_dropped g past) ≡ dropped
     → view_of plan g (asking request reply ∷ past) ≡ record (view_of plan g past) { told = told; made = made; dropped = dropped; replies = replies_in plan.me g past ++ reply ∷ [] }
 view_own plan g past request reply told made dropped running own rows tells mades drops =
     view_asked plan g past request reply (view_of plan g past).reserve told (living_of g past) made dropped (replies_in plan.me g past ++ reply ∷ []) (is_met plan.me g past)
     (rows_kept plan g past request reply rows) tells
-    (own_living g request reply (living_of g past) (and_parts (is_named g request) (has_group_token plan.me (tenants_in past) request) own).0) mades drops
+    (if_same reply (living_done g request.what (living_of g past)) (living_of g past) (own_living g request.what (living_of g past) (and_parts (is_named g request.what) (has_group_token plan.me (tenants_in past) request) own).0)) mades drops
     (ap (λ b. replies_in plan.me g past ++ (if b then reply ∷ [] else [])) own)
     (ap (λ b. (b && is_own_request plan.me g past request) || is_met plan.me g past) running)
-
--- A refusal makes and drops nothing at the node.
-
-pub refused_makes : (g : Addr) (request : Request) (why : Refusal) → made_by g (Asked request) (Replied (Refused why)) ≡ None
-refused_makes g (AddTenant token row) why = refl
-refused_makes g (Make token addr spec) why = refl
-refused_makes g (OpenGroup token addr) why = refl
-refused_makes g (ShutGroup token addr) why = refl
-refused_makes g (DropGroup token addr) why = refl
-refused_makes g (Say token addr message) why = refl
-refused_makes g (Fetch token addr from most) why = refl
-
-pub refused_living : (g : Addr) (request : Request) (why : Refusal) (n : ℕ) → living_after g (Asked request) (Replied (Refused why)) n ≡ n
-refused_living g (AddTenant token row) why n = refl
-refused_living g (Make token addr spec) why n = refl
-refused_living g (OpenGroup token addr) why n = refl
-refused_living g (ShutGroup token addr) why n = refl
-refused_living g (DropGroup token addr) why n = refl
-refused_living g (Say token addr message) why n = refl
-refused_living g (Fetch token addr from most) why n = refl
-
-pub refused_drops : (g : Addr) (request : Request) (why : Refusal) → is_dropped_by g (Asked request) (Replied (Refused why)) ≡ false
-refused_drops g (AddTenant token row) why = refl
-refused_drops g (Make token addr spec) why = refl
-refused_drops g (OpenGroup token addr) why = refl
-refused_drops g (ShutGroup token addr) why = refl
-refused_drops g (DropGroup token addr) why = refl
-refused_drops g (Say token addr message) why = refl
-refused_drops g (Fetch token addr from most) why = refl
 
 -- a request that is not the group's own, and makes nothing of it
 pub unrelated_request : (plan : NodePlan) (versions : List Version) (g : Addr) (past : List Happened) (request : Request) (reply : Reply) (frames_from : ℕ → List (List Item)) (group : Group)
     → is_own_request plan.me g past request ≡ false
     → added (Asked request) (Replied reply) ≡ []
-    → asked_told g plan.me (noticed_after plan past) request reply (told_of plan g past) ≡ told_of plan g past
+    → asked_told g plan.me (noticed_after plan past) reply request.what (told_of plan g past) ≡ told_of plan g past
     → living_after g (Asked request) (Replied reply) (living_of g past) ≡ living_of g past
     → made_by g (Asked request) (Replied reply) ≡ None
     → is_dropped_by g (Asked request) (Replied reply) ≡ false
@@ -150,8 +120,7 @@ pub refused_unrelated : (plan : NodePlan) (versions : List Version) (g : Addr) (
     → Fits plan.nodes g plan.me.number frames_from (view_of plan g past) (group plan.me.number)
     → Goes (bounds_with plan versions) g plan.me frames_from (view_of plan g (asking request (Refused why) ∷ past)) group []
 refused_unrelated plan versions g past request why frames_from group other fits =
-    unrelated_request plan versions g past request (Refused why) frames_from group other (added_refused request why) (asked_untold g plan.me (noticed_after plan past) request why (told_of plan g past)) (refused_living g request why (living_of g past))
-    (refused_makes g request why) (refused_drops g request why) fits
+    unrelated_request plan versions g past request (Refused why) frames_from group other refl refl refl refl refl fits
 
 -- A command.
 

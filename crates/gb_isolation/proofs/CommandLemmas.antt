@@ -17,7 +17,10 @@ use Rattle.gb_types.specs.declared.refusal.Refusal.TheVariants.{NoGroup, Spent, 
 use Rattle.gb_types.specs.declared.reply.Reply.{Reply}
 use Rattle.gb_types.specs.declared.reply.Reply.TheVariants.{Done, Said, Refused}
 use Rattle.gb_types.specs.declared.request.Request.{Request}
-use Rattle.gb_types.specs.declared.request.Request.TheVariants.{AddTenant, Make, OpenGroup, ShutGroup, DropGroup, Say, Fetch}
+use Rattle.gb_types.specs.declared.request.Action.{Action}
+use Rattle.gb_types.specs.declared.request.Action.TheVariants.{AddTenant, Group as AtGroup}
+use Rattle.gb_types.specs.declared.request.GroupCommand.{GroupCommand}
+use Rattle.gb_types.specs.declared.request.GroupCommand.TheVariants.{Open, Shut, Drop, Say, Fetch}
 use Rattle.gb_types.specs.declared.spec.Spec.{Spec}
 use Rattle.gb_types.specs.declared.spec.TenantRow.{TenantRow}
 use Rattle.gb_types.specs.declared.version.Version.{Version}
@@ -27,7 +30,7 @@ use Rattle.gb_rules.specs.Address.{is_addr}
 use Rattle.gb_rules.specs.Group.{Shown, is_gone, is_member, on_made, open_answer, shut_answer, drop_answer, say_answer, fetch_answer}
 use Rattle.gb_rules.specs.Tenant.{by_tenant, reserve_of, row_of}
 use Rattle.gb_rules.specs.declared.phase.Phase.{Phase}
-use Rattle.gb_rules.specs.declared.phase.Phase.TheVariants.{Opened, Shut, Gone}
+use Rattle.gb_rules.specs.declared.phase.Phase.TheVariants.{Opened, Shut as Closed, Gone}
 use Rattle.gb_rules.specs.declared.reserve.Reserve.{Reserve}
 use Rattle.gb_rules.specs.History.{said_in}
 use Rattle.gb_rules.specs.declared.call.GroupCall.{GroupCall}
@@ -38,50 +41,47 @@ use Rattle.gb_alone.specs.Alone.{Member, Group, called, commanded, did, is_ackno
 use Rattle.gb_alone.specs.Alone as alone
 use Rattle.gb_rules.specs.Lifetime.{stepped, where_so}
 use Rattle.gb_rules.specs.Lifetime as life
-use Rattle.gb_node.specs.Past.{Happened, added, is_stopped, tenants_in}
+use Rattle.gb_node.specs.Past.{Happened, added, added_by, is_stopped, tenants_in}
 use Rattle.gb_node.specs.PastGroups.{Told, noticed_after, shown_of, shown_in, with_call, moved_to, asked_told, told_of}
 use Rattle.gb_node.specs.StepLaw.{group_answer, is_admitted_by, admitted_answer, has_group_token}
 use Rattle.gb_node.specs.declared.answer.NodeAnswer.TheVariants.{Reply as Replied}
 use Rattle.gb_node.specs.declared.event.NodeEvent.TheVariants.{Request as Asked}
 use Rattle.gb_node.specs.declared.plan.NodePlan.{NodePlan}
 use Rattle.gb_rules.proofs.AddressLemmas.{addr_is}
-use Rattle.gb_isolation.specs.Project.{is_named, is_own_request, made_by, made_with, tenant_given, other_given}
-use Rattle.gb_isolation.specs.RunLaws.{is_dropped, is_dropped_by}
+use Rattle.gb_isolation.specs.Project.{command_for, is_named, is_own_request, makes, made_by, made_with, tenant_of, tenant_given, other_given, ticked}
+use Rattle.gb_isolation.specs.RunLaws.{drops, is_dropped, is_dropped_by}
+use Rattle.gb_node.proofs.AskedLemmas.{if_same}
 use Rattle.gb_isolation.proofs.AskLemmas.{MemberFits, asking, carried_in, commands, member_fits, view_own}
 use Rattle.gb_isolation.proofs.FinishedLemmas.{counts_fit, unknown_acknowledged}
 use Rattle.gb_isolation.proofs.MemberLemmas.{answered-is, called_there, called_put}
 use Rattle.gb_isolation.proofs.PastLemmas.{running_unmet}
 use Rattle.gb_isolation.proofs.RoomLemmas.{own_given}
-use Rattle.gb_isolation.proofs.View.{View, view_of, MemberIs, IsThere, IsInside, Fits, Goes, bounds_with, asked_by, own_requested_by, requested_by}
+use Rattle.gb_isolation.proofs.View.{View, view_of, MemberIs, IsThere, IsInside, Fits, Goes, bounds_with, asked_by, is_noticed_after, own_requested_by, requested_by}
 use Rattle.gb_types.specs.declared.new_message.NewMessage.{NewMessage}
 
 -- A request that names a group comes with the token that it needs where it comes with the group's.
-pub group_token_is : (plan : NodePlan) (g : Addr) (past : List Happened) (request : Request) → is_named g request ≡ true → has_group_token plan.me (tenants_in past) request ≡ is_admitted_by plan past request
-group_token_is plan g past (AddTenant token row) named = absurd (cc)
-group_token_is plan g past (Make token addr spec) named = refl
-group_token_is plan g past (OpenGroup token addr) named = refl
-group_token_is plan g past (ShutGroup token addr) named = refl
-group_token_is plan g past (DropGroup token addr) named = refl
-group_token_is plan g past (Say token addr message) named = refl
-group_token_is plan g past (Fetch token addr from most) named = refl
+pub group_token_is : (plan : NodePlan) (g : Addr) (past : List Happened) (request : Request) → is_named g request.what ≡ true → has_group_token plan.me (tenants_in past) request ≡ is_admitted_by plan past request
+group_token_is plan g past request named = by request.what named
+  where
+    by : (what : Action) → is_named g what ≡ true → has_group_token plan.me (tenants_in past) (record { token = request.token; what = what }) ≡ is_admitted_by plan past (record { token = request.token; what = what })
+    by (AddTenant row) named = absurd (cc)
+    by (AtGroup addr command) named = refl
 
 -- A command with the right token: the group's tenant is here.
 
-none_admitted : (plan : NodePlan) (g : Addr) (past : List Happened) (request : Request) → row_of g.tenant (tenants_in past) ≡ None → is_named g request ≡ true → has_group_token plan.me (tenants_in past) request ≡ false
-none_admitted plan g past (AddTenant token row) none named = absurd (cc)
-none_admitted plan g past (Make token addr spec) none named = let there : row_of addr.tenant (tenants_in past) ≡ None = ap (λ (x : Addr). row_of x.tenant (tenants_in past)) (sym (addr_is g addr named)) ∙ none in rw there refl
-none_admitted plan g past (OpenGroup token addr) none named = let there : row_of addr.tenant (tenants_in past) ≡ None = ap (λ (x : Addr). row_of x.tenant (tenants_in past)) (sym (addr_is g addr named)) ∙ none in rw there refl
-none_admitted plan g past (ShutGroup token addr) none named = let there : row_of addr.tenant (tenants_in past) ≡ None = ap (λ (x : Addr). row_of x.tenant (tenants_in past)) (sym (addr_is g addr named)) ∙ none in rw there refl
-none_admitted plan g past (DropGroup token addr) none named = let there : row_of addr.tenant (tenants_in past) ≡ None = ap (λ (x : Addr). row_of x.tenant (tenants_in past)) (sym (addr_is g addr named)) ∙ none in rw there refl
-none_admitted plan g past (Say token addr message) none named = let there : row_of addr.tenant (tenants_in past) ≡ None = ap (λ (x : Addr). row_of x.tenant (tenants_in past)) (sym (addr_is g addr named)) ∙ none in rw there refl
-none_admitted plan g past (Fetch token addr from most) none named = let there : row_of addr.tenant (tenants_in past) ≡ None = ap (λ (x : Addr). row_of x.tenant (tenants_in past)) (sym (addr_is g addr named)) ∙ none in rw there refl
+none_admitted : (plan : NodePlan) (g : Addr) (past : List Happened) (request : Request) → row_of g.tenant (tenants_in past) ≡ None → is_named g request.what ≡ true → has_group_token plan.me (tenants_in past) request ≡ false
+none_admitted plan g past request none named = by request.what named
+  where
+    by : (what : Action) → is_named g what ≡ true → has_group_token plan.me (tenants_in past) (record { token = request.token; what = what }) ≡ false
+    by (AddTenant row) named = absurd (cc)
+    by (AtGroup addr command) named = let there : row_of addr.tenant (tenants_in past) ≡ None = ap (λ (x : Addr). row_of x.tenant (tenants_in past)) (sym (addr_is g addr named)) ∙ none in rw there refl
 
 pub tenant_here : (plan : NodePlan) (g : Addr) (past : List Happened) (request : Request) → is_own_request plan.me g past request ≡ true → is_some (view_of plan g past).reserve ≡ true
 tenant_here plan g past request own = by (row_of g.tenant (tenants_in past)) refl
   where
     by : (row : Option TenantRow) → row_of g.tenant (tenants_in past) ≡ row → is_some (option_map reserve_of row) ≡ true
     by None none =
-        let parts = and_parts (is_named g request) (has_group_token plan.me (tenants_in past) request) own in
+        let parts = and_parts (is_named g request.what) (has_group_token plan.me (tenants_in past) request) own in
         let off : has_group_token plan.me (tenants_in past) request ≡ false = none_admitted plan g past request none parts.0 in
         absurd (clash (sym off ∙ parts.1))
       where
@@ -106,11 +106,11 @@ module _ (plan : NodePlan) (versions : List Version) (g : Addr) (past : List Hap
   replies_running e running fits = ap (λ (b : Bool). if b then Refused Stopped else running_reply (bounds_with plan versions) g plan.me.number e (group plan.me.number)) (fits.stopped ∙ running_unmet plan g past running)
 
   -- what the group's own request gives it at a running node
-  pub given_own : is_stopped past ≡ false → is_own_request plan.me g past request ≡ true → asked_by plan g past request reply ≡ tenant_given g plan.me request reply ++ own_requested_by plan g past request reply
+  pub given_own : is_stopped past ≡ false → is_own_request plan.me g past request ≡ true → asked_by plan g past request reply ≡ tenant_given g plan.me reply request.what ++ own_requested_by plan g past request reply
   given_own running own =
       by
-      ∙ (ap (λ b. tenant_given g plan.me request reply ++ other_given g plan.me request reply ++ (if b then own_requested_by plan g past request reply else [])) own
-      ∙ ap (λ es. es ++ own_requested_by plan g past request reply) (own_given g plan.me request reply (and_parts (is_named g request) (has_group_token plan.me (tenants_in past) request) own).0))
+      ∙ (ap (λ b. tenant_given g plan.me reply request.what ++ other_given g plan.me reply request.what ++ (if b then own_requested_by plan g past request reply else [])) own
+      ∙ ap (λ es. es ++ own_requested_by plan g past request reply) (own_given g plan.me reply request.what (and_parts (is_named g request.what) (has_group_token plan.me (tenants_in past) request) own).0))
     where
       by : asked_by plan g past request reply ≡ requested_by plan g past request reply
       by = rw running refl
@@ -118,9 +118,9 @@ module _ (plan : NodePlan) (versions : List Version) (g : Addr) (past : List Hap
   -- the group's own request, which does not make it
   pub own_command : (e : GroupEvent) (o : Option (Option Told)) → is_stopped past ≡ false → is_own_request plan.me g past request ≡ true
       → added (Asked request) (Replied reply) ≡ []
-      → asked_told g plan.me (noticed_after plan past) request reply (told_of plan g past) ≡ o
+      → asked_told g plan.me (noticed_after plan past) reply request.what (told_of plan g past) ≡ o
       → made_by g (Asked request) (Replied reply) ≡ None
-      → tenant_given g plan.me request reply ++ own_requested_by plan g past request reply ≡ record { node = plan.me; event = e } ∷ []
+      → tenant_given g plan.me reply request.what ++ own_requested_by plan g past request reply ≡ record { node = plan.me; event = e } ∷ []
       → MayHappen plan.me e group
       → member_after (bounds_with plan versions) g plan.me e group ≡ commanded plan.me e (reply_to (bounds_with plan versions) g plan.me.number e (group plan.me.number)) (group plan.me.number)
       → running_reply (bounds_with plan versions) g plan.me.number e (group plan.me.number) ≡ reply
@@ -133,6 +133,30 @@ module _ (plan : NodePlan) (versions : List Version) (g : Addr) (past : List Hap
       subst (λ es. Goes (bounds_with plan versions) g plan.me frames_from (view_of plan g (asking request reply ∷ past)) group es) (sym (given_own running own ∙ one))
       (subst (λ (v : View). Goes (bounds_with plan versions) g plan.me frames_from v group (record { node = plan.me; event = e } ∷ [])) (sym (view_own plan g past request reply o (made_with g past) (is_dropped_by g (Asked request) (Replied reply) || is_dropped g past) running own rows told (ap (λ x. option_or x (made_with g past)) unmade) refl))
       (commands (bounds_with plan versions) g plan.me frames_from (view_of plan g past) group e reply o (is_dropped_by g (Asked request) (Replied reply) || is_dropped g past) fits may (is ∙ ap (λ r. commanded plan.me e r (group plan.me.number)) (replies_running e running fits ∙ same)) spec gone tells))
+
+  -- and so where it adds no tenant either
+  plain_command : (e : GroupEvent) (o : Option (Option Told)) → is_stopped past ≡ false → is_own_request plan.me g past request ≡ true
+      → added_by request.what ≡ []
+      → asked_told g plan.me (noticed_after plan past) reply request.what (told_of plan g past) ≡ o
+      → makes g request.what ≡ None
+      → tenant_of g plan.me request.what ≡ []
+      → command_for plan.me request.what ≡ record { node = plan.me; event = e } ∷ []
+      → MayHappen plan.me e group
+      → member_after (bounds_with plan versions) g plan.me e group ≡ commanded plan.me e (reply_to (bounds_with plan versions) g plan.me.number e (group plan.me.number)) (group plan.me.number)
+      → running_reply (bounds_with plan versions) g plan.me.number e (group plan.me.number) ≡ reply
+      → (did plan.me e reply (group plan.me.number)).spec ≡ (group plan.me.number).spec
+      → is_gone (did plan.me e reply (group plan.me.number)).phase ≡ (is_dropped_by g (Asked request) (Replied reply) || is_dropped g past)
+      → Fits plan.nodes g plan.me.number frames_from (view_of plan g past) (group plan.me.number)
+      → MemberFits plan.nodes plan.me.number (carried_in g (view_of plan g past)) o (did plan.me e reply (group plan.me.number))
+      → AskedGoes
+  plain_command e o running own rows told unmade none one may is same spec gone fits tells =
+      own_command e o running own (if_same reply (added_by request.what) [] rows) told (if_same reply (makes g request.what) None unmade)
+      (λ i. if_same reply (tenant_of g plan.me request.what) [] none i ++ (one i ++ ticked plan.me (is_noticed_after plan past) (if_same reply (makes g request.what) None unmade i)))
+      may is same spec gone fits tells
+
+  -- a request that drops no group leaves the group as it was
+  left_there : (gone : Bool) → drops g request.what ≡ false → gone ≡ is_dropped g past → gone ≡ (is_dropped_by g (Asked request) (Replied reply) || is_dropped g past)
+  left_there gone none was = was ∙ sym (ap (λ b. b || is_dropped g past) (if_same reply (drops g request.what) false none))
 
 -- the rules answer the same for the group alone
 pub answers_alike : (plan : NodePlan) (g : Addr) (past : List Happened) (request : Request) (frames_from : ℕ → List (List Item)) (group : Group) (answer : Shown → Reply) → plan.nodes ≤ NODES → is_own_request plan.me g past request ≡ true
@@ -164,6 +188,10 @@ inside_some nodes t within = λ u is b there. within b (ap (λ (x : Told). is_me
   where
     same : (u : Told) → Some (Some t) ≡ Some (Some u) → t ≡ u
     same u is = ap (told_or t) is
+
+-- a request for a command in a group
+abbrev pub asking_of : List ℕ → Addr → GroupCommand → Request
+asking_of token addr command = record { token = token; what = AtGroup addr command }
 
 -- Opening and shutting.
 
@@ -210,17 +238,17 @@ did_opened : (a : NodeId) (r : Reply) (m : Member) → did a AskOpen r m ≡ mem
 did_opened a Done m = refl
 did_opened a r m = refl
 
-did_shut : (a : NodeId) (r : Reply) (m : Member) → did a AskShut r m ≡ member_moved Shut r m
+did_shut : (a : NodeId) (r : Reply) (m : Member) → did a AskShut r m ≡ member_moved Closed r m
 did_shut a Done m = refl
 did_shut a r m = refl
 
-opened_for : (g : Addr) (me : NodeId) (noticed : set.FinSet nat_cmp) (token : List ℕ) (addr : Addr) (r : Reply) (o : Option (Option Told)) → is_addr g addr ≡ true → asked_told g me noticed (OpenGroup token addr) r o ≡ moved_after Opened r o
-opened_for g me noticed token addr Done o here = ap (λ b. where_so b (stepped (moved_to Opened)) o) here
-opened_for g me noticed token addr r o here = refl
+opened_for : (g : Addr) (me : NodeId) (noticed : set.FinSet nat_cmp) (addr : Addr) (r : Reply) (o : Option (Option Told)) → is_addr g addr ≡ true → asked_told g me noticed r (AtGroup addr Open) o ≡ moved_after Opened r o
+opened_for g me noticed addr Done o here = ap (λ b. where_so b (stepped (moved_to Opened)) o) here
+opened_for g me noticed addr r o here = refl
 
-shut_for : (g : Addr) (me : NodeId) (noticed : set.FinSet nat_cmp) (token : List ℕ) (addr : Addr) (r : Reply) (o : Option (Option Told)) → is_addr g addr ≡ true → asked_told g me noticed (ShutGroup token addr) r o ≡ moved_after Shut r o
-shut_for g me noticed token addr Done o here = ap (λ b. where_so b (stepped (moved_to Shut)) o) here
-shut_for g me noticed token addr r o here = refl
+shut_for : (g : Addr) (me : NodeId) (noticed : set.FinSet nat_cmp) (addr : Addr) (r : Reply) (o : Option (Option Told)) → is_addr g addr ≡ true → asked_told g me noticed r (AtGroup addr Shut) o ≡ moved_after Closed r o
+shut_for g me noticed addr Done o here = ap (λ b. where_so b (stepped (moved_to Closed)) o) here
+shut_for g me noticed addr r o here = refl
 
 -- Dropping.
 
@@ -245,18 +273,18 @@ dropped_fits nodes me carried t m fits =
       acks = record { each = λ b k low said. absurd (omega (arith, said)); beyond = λ b seq far. refl };
     }
 
-drops : (nodes me : ℕ) (carried : ℕ → List Entry) (o : Option (Option Told)) (m : Member) (r : Reply) → group_answer drop_answer (shown_in me o) ≡ r → MemberFits nodes me carried o m → MemberFits nodes me carried (dropped_after r o) (member_dropped r m)
-drops nodes me carried o m Done is fits =
+drop_fits : (nodes me : ℕ) (carried : ℕ → List Entry) (o : Option (Option Told)) (m : Member) (r : Reply) → group_answer drop_answer (shown_in me o) ≡ r → MemberFits nodes me carried o m → MemberFits nodes me carried (dropped_after r o) (member_dropped r m)
+drop_fits nodes me carried o m Done is fits =
     let made = found_from drop_answer me Done done_accepted o is in
     subst (λ x. MemberFits nodes me carried (life.dropped x) (member_dropped Done m)) (sym made.1) (dropped_fits nodes me carried made.0 m (subst (λ x. MemberFits nodes me carried x m) made.1 fits))
-drops nodes me carried o m r is fits = fits
+drop_fits nodes me carried o m r is fits = fits
 
 dropped_spec : (r : Reply) (m : Member) → (member_dropped r m).spec ≡ m.spec
 dropped_spec Done m = refl
 dropped_spec r m = refl
 
 dropped_gone : (g : Addr) (past : List Happened) (token : List ℕ) (addr : Addr) (r : Reply) (m : Member) → is_addr g addr ≡ true → is_gone m.phase ≡ is_dropped g past
-    → is_gone (member_dropped r m).phase ≡ (is_dropped_by g (Asked (DropGroup token addr)) (Replied r) || is_dropped g past)
+    → is_gone (member_dropped r m).phase ≡ (is_dropped_by g (Asked (asking_of token addr Drop)) (Replied r) || is_dropped g past)
 dropped_gone g past token addr Done m here was = sym (ap (λ b. b || is_dropped g past) here)
 dropped_gone g past token addr r m here was = was
 
@@ -264,9 +292,9 @@ did_dropped : (a : NodeId) (r : Reply) (m : Member) → did a AskDrop r m ≡ me
 did_dropped a Done m = refl
 did_dropped a r m = refl
 
-dropped_for : (g : Addr) (me : NodeId) (noticed : set.FinSet nat_cmp) (token : List ℕ) (addr : Addr) (r : Reply) (o : Option (Option Told)) → is_addr g addr ≡ true → asked_told g me noticed (DropGroup token addr) r o ≡ dropped_after r o
-dropped_for g me noticed token addr Done o here = ap (λ b. where_so b life.dropped o) here
-dropped_for g me noticed token addr r o here = refl
+dropped_for : (g : Addr) (me : NodeId) (noticed : set.FinSet nat_cmp) (addr : Addr) (r : Reply) (o : Option (Option Told)) → is_addr g addr ≡ true → asked_told g me noticed r (AtGroup addr Drop) o ≡ dropped_after r o
+dropped_for g me noticed addr Done o here = ap (λ b. where_so b life.dropped o) here
+dropped_for g me noticed addr r o here = refl
 
 -- Saying.
 
@@ -318,9 +346,13 @@ said_gone : (a : NodeId) (message : NewMessage) (r : Reply) (m : Member) → is_
 said_gone a message (Said seq) m = refl
 said_gone a message r m = refl
 
-said_for : (g : Addr) (me : NodeId) (noticed : set.FinSet nat_cmp) (token : List ℕ) (addr : Addr) (message : NewMessage) (r : Reply) (o : Option (Option Told)) → is_addr g addr ≡ true → asked_told g me noticed (Say token addr message) r o ≡ said_after me message.payload r o
-said_for g me noticed token addr message (Said seq) o here = ap (λ b. where_so b (stepped (with_call me (saying me message.payload seq))) o) here
-said_for g me noticed token addr message r o here = refl
+said_for : (g : Addr) (me : NodeId) (noticed : set.FinSet nat_cmp) (addr : Addr) (message : NewMessage) (r : Reply) (o : Option (Option Told)) → is_addr g addr ≡ true → asked_told g me noticed r (AtGroup addr (Say message)) o ≡ said_after me message.payload r o
+said_for g me noticed addr message (Said seq) o here = ap (λ b. where_so b (stepped (with_call me (saying me message.payload seq))) o) here
+said_for g me noticed addr message r o here = refl
+
+fetched_for : (g : Addr) (me : NodeId) (noticed : set.FinSet nat_cmp) (addr : Addr) (from most : ℕ) (r : Reply) (o : Option (Option Told)) → asked_told g me noticed r (AtGroup addr (Fetch from most)) o ≡ o
+fetched_for g me noticed addr from most Done o = refl
+fetched_for g me noticed addr from most r o = refl
 
 -- The group's commands, each with the node's reply.
 
@@ -335,57 +367,57 @@ module _ (plan : NodePlan) (versions : List Version) (g : Addr) (past : List Hap
   same_answer : (answer : Shown → Reply) → is_addr g addr ≡ true → reply ≡ group_answer answer (shown_in plan.me.number (told_of plan addr past)) → group_answer answer (shown_in plan.me.number (told_of plan g past)) ≡ reply
   same_answer answer named is = sym (is ∙ ap (λ (x : Addr). group_answer answer (shown_in plan.me.number (told_of plan x past))) (sym (addr_is g addr named)))
 
-  pub at_open : plan.nodes ≤ NODES → is_stopped past ≡ false → is_own_request plan.me g past (OpenGroup token addr) ≡ true → reply ≡ admitted_answer plan past (OpenGroup token addr)
-      → Fits plan.nodes g plan.me.number frames_from before m → AskedGoes plan versions g past (OpenGroup token addr) reply frames_from group
+  pub at_open : plan.nodes ≤ NODES → is_stopped past ≡ false → is_own_request plan.me g past (asking_of token addr Open) ≡ true → reply ≡ admitted_answer plan past (AtGroup addr Open)
+      → Fits plan.nodes g plan.me.number frames_from before m → AskedGoes plan versions g past (asking_of token addr Open) reply frames_from group
   at_open few running own is fits =
-      let named = (and_parts (is_addr g addr) (has_group_token plan.me (tenants_in past) (OpenGroup token addr)) own).0 in
+      let named = (and_parts (is_addr g addr) (has_group_token plan.me (tenants_in past) (asking_of token addr Open)) own).0 in
       let same = same_answer open_answer named is in
-      own_command plan versions g past (OpenGroup token addr) reply frames_from group AskOpen (moved_after Opened reply (told_of plan g past)) running own refl (opened_for g plan.me (noticed_after plan past) token addr reply (told_of plan g past) named) refl refl tt refl
-      (answers_alike plan g past (OpenGroup token addr) frames_from group open_answer few own fits ∙ same)
+      plain_command plan versions g past (asking_of token addr Open) reply frames_from group AskOpen (moved_after Opened reply (told_of plan g past)) running own refl (opened_for g plan.me (noticed_after plan past) addr reply (told_of plan g past) named) refl refl refl tt refl
+      (answers_alike plan g past (asking_of token addr Open) frames_from group open_answer few own fits ∙ same)
       (ap (λ (n : Member). n.spec) (did_opened plan.me reply m) ∙ moved_spec Opened reply m)
-      (ap (λ (n : Member). is_gone n.phase) (did_opened plan.me reply m) ∙ (moved_gone open_answer Opened refl plan.me.number (told_of plan g past) m reply same fits.told ∙ fits.gone)) fits
+      (left_there plan versions g past (asking_of token addr Open) reply frames_from group _ refl (ap (λ (n : Member). is_gone n.phase) (did_opened plan.me reply m) ∙ (moved_gone open_answer Opened refl plan.me.number (told_of plan g past) m reply same fits.told ∙ fits.gone))) fits
       (subst (λ (n : Member). MemberFits plan.nodes plan.me.number (carried_in g before) (moved_after Opened reply (told_of plan g past)) n) (sym (did_opened plan.me reply m))
       (moves open_answer Opened refl plan.nodes plan.me.number (carried_in g before) (told_of plan g past) m reply same (member_fits plan.nodes g plan.me.number frames_from before m fits)))
 
-  pub at_shut : plan.nodes ≤ NODES → is_stopped past ≡ false → is_own_request plan.me g past (ShutGroup token addr) ≡ true → reply ≡ admitted_answer plan past (ShutGroup token addr)
-      → Fits plan.nodes g plan.me.number frames_from before m → AskedGoes plan versions g past (ShutGroup token addr) reply frames_from group
+  pub at_shut : plan.nodes ≤ NODES → is_stopped past ≡ false → is_own_request plan.me g past (asking_of token addr Shut) ≡ true → reply ≡ admitted_answer plan past (AtGroup addr Shut)
+      → Fits plan.nodes g plan.me.number frames_from before m → AskedGoes plan versions g past (asking_of token addr Shut) reply frames_from group
   at_shut few running own is fits =
-      let named = (and_parts (is_addr g addr) (has_group_token plan.me (tenants_in past) (ShutGroup token addr)) own).0 in
+      let named = (and_parts (is_addr g addr) (has_group_token plan.me (tenants_in past) (asking_of token addr Shut)) own).0 in
       let same = same_answer shut_answer named is in
-      own_command plan versions g past (ShutGroup token addr) reply frames_from group AskShut (moved_after Shut reply (told_of plan g past)) running own refl (shut_for g plan.me (noticed_after plan past) token addr reply (told_of plan g past) named) refl refl tt refl
-      (answers_alike plan g past (ShutGroup token addr) frames_from group shut_answer few own fits ∙ same)
-      (ap (λ (n : Member). n.spec) (did_shut plan.me reply m) ∙ moved_spec Shut reply m)
-      (ap (λ (n : Member). is_gone n.phase) (did_shut plan.me reply m) ∙ (moved_gone shut_answer Shut refl plan.me.number (told_of plan g past) m reply same fits.told ∙ fits.gone)) fits
-      (subst (λ (n : Member). MemberFits plan.nodes plan.me.number (carried_in g before) (moved_after Shut reply (told_of plan g past)) n) (sym (did_shut plan.me reply m))
-      (moves shut_answer Shut refl plan.nodes plan.me.number (carried_in g before) (told_of plan g past) m reply same (member_fits plan.nodes g plan.me.number frames_from before m fits)))
+      plain_command plan versions g past (asking_of token addr Shut) reply frames_from group AskShut (moved_after Closed reply (told_of plan g past)) running own refl (shut_for g plan.me (noticed_after plan past) addr reply (told_of plan g past) named) refl refl refl tt refl
+      (answers_alike plan g past (asking_of token addr Shut) frames_from group shut_answer few own fits ∙ same)
+      (ap (λ (n : Member). n.spec) (did_shut plan.me reply m) ∙ moved_spec Closed reply m)
+      (left_there plan versions g past (asking_of token addr Shut) reply frames_from group _ refl (ap (λ (n : Member). is_gone n.phase) (did_shut plan.me reply m) ∙ (moved_gone shut_answer Closed refl plan.me.number (told_of plan g past) m reply same fits.told ∙ fits.gone))) fits
+      (subst (λ (n : Member). MemberFits plan.nodes plan.me.number (carried_in g before) (moved_after Closed reply (told_of plan g past)) n) (sym (did_shut plan.me reply m))
+      (moves shut_answer Closed refl plan.nodes plan.me.number (carried_in g before) (told_of plan g past) m reply same (member_fits plan.nodes g plan.me.number frames_from before m fits)))
 
-  pub at_drop : plan.nodes ≤ NODES → is_stopped past ≡ false → is_own_request plan.me g past (DropGroup token addr) ≡ true → reply ≡ admitted_answer plan past (DropGroup token addr)
-      → Fits plan.nodes g plan.me.number frames_from before m → AskedGoes plan versions g past (DropGroup token addr) reply frames_from group
+  pub at_drop : plan.nodes ≤ NODES → is_stopped past ≡ false → is_own_request plan.me g past (asking_of token addr Drop) ≡ true → reply ≡ admitted_answer plan past (AtGroup addr Drop)
+      → Fits plan.nodes g plan.me.number frames_from before m → AskedGoes plan versions g past (asking_of token addr Drop) reply frames_from group
   at_drop few running own is fits =
-      let named = (and_parts (is_addr g addr) (has_group_token plan.me (tenants_in past) (DropGroup token addr)) own).0 in
+      let named = (and_parts (is_addr g addr) (has_group_token plan.me (tenants_in past) (asking_of token addr Drop)) own).0 in
       let same = same_answer drop_answer named is in
-      own_command plan versions g past (DropGroup token addr) reply frames_from group AskDrop (dropped_after reply (told_of plan g past)) running own refl (dropped_for g plan.me (noticed_after plan past) token addr reply (told_of plan g past) named) refl refl tt refl
-      (answers_alike plan g past (DropGroup token addr) frames_from group drop_answer few own fits ∙ same)
+      plain_command plan versions g past (asking_of token addr Drop) reply frames_from group AskDrop (dropped_after reply (told_of plan g past)) running own refl (dropped_for g plan.me (noticed_after plan past) addr reply (told_of plan g past) named) refl refl refl tt refl
+      (answers_alike plan g past (asking_of token addr Drop) frames_from group drop_answer few own fits ∙ same)
       (ap (λ (n : Member). n.spec) (did_dropped plan.me reply m) ∙ dropped_spec reply m)
       (ap (λ (n : Member). is_gone n.phase) (did_dropped plan.me reply m) ∙ dropped_gone g past token addr reply m named fits.gone) fits
       (subst (λ (n : Member). MemberFits plan.nodes plan.me.number (carried_in g before) (dropped_after reply (told_of plan g past)) n) (sym (did_dropped plan.me reply m))
-      (drops plan.nodes plan.me.number (carried_in g before) (told_of plan g past) m reply same (member_fits plan.nodes g plan.me.number frames_from before m fits)))
+      (drop_fits plan.nodes plan.me.number (carried_in g before) (told_of plan g past) m reply same (member_fits plan.nodes g plan.me.number frames_from before m fits)))
 
-  pub at_say : version_at versions plan.me.number ≡ plan.version → (message : NewMessage) → plan.nodes ≤ NODES → is_stopped past ≡ false → is_own_request plan.me g past (Say token addr message) ≡ true → reply ≡ admitted_answer plan past (Say token addr message)
+  pub at_say : version_at versions plan.me.number ≡ plan.version → (message : NewMessage) → plan.nodes ≤ NODES → is_stopped past ≡ false → is_own_request plan.me g past (asking_of token addr (Say message)) ≡ true → reply ≡ admitted_answer plan past (AtGroup addr (Say message))
       → ((t : Told) → told_of plan g past ≡ Some (Some t) → (b : ℕ) → b < plan.nodes → list_any (alone.is_message plan.me.number (said_in t.calls + 1)) (carried_in g before b) ≡ false)
-      → Fits plan.nodes g plan.me.number frames_from before m → AskedGoes plan versions g past (Say token addr message) reply frames_from group
+      → Fits plan.nodes g plan.me.number frames_from before m → AskedGoes plan versions g past (asking_of token addr (Say message)) reply frames_from group
   at_say right message few running own is fresh fits =
-      let named = (and_parts (is_addr g addr) (has_group_token plan.me (tenants_in past) (Say token addr message)) own).0 in
+      let named = (and_parts (is_addr g addr) (has_group_token plan.me (tenants_in past) (asking_of token addr (Say message))) own).0 in
       let same = same_answer (λ s. say_answer plan.version s message) named is in
-      own_command plan versions g past (Say token addr message) reply frames_from group (AskSay message) (said_after plan.me message.payload reply (told_of plan g past)) running own refl (said_for g plan.me (noticed_after plan past) token addr message reply (told_of plan g past) named) refl refl tt refl
-      (ap (λ version. on_group (λ s. say_answer version s message) plan.me.number m) right ∙ (answers_alike plan g past (Say token addr message) frames_from group (λ s. say_answer plan.version s message) few own fits ∙ same))
-      (said_spec plan.me message reply m) (said_gone plan.me message reply m ∙ fits.gone) fits
+      plain_command plan versions g past (asking_of token addr (Say message)) reply frames_from group (AskSay message) (said_after plan.me message.payload reply (told_of plan g past)) running own refl (said_for g plan.me (noticed_after plan past) addr message reply (told_of plan g past) named) refl refl refl tt refl
+      (ap (λ version. on_group (λ s. say_answer version s message) plan.me.number m) right ∙ (answers_alike plan g past (asking_of token addr (Say message)) frames_from group (λ s. say_answer plan.version s message) few own fits ∙ same))
+      (said_spec plan.me message reply m) (left_there plan versions g past (asking_of token addr (Say message)) reply frames_from group _ refl (said_gone plan.me message reply m ∙ fits.gone)) fits
       (says plan.version plan.nodes plan.me (carried_in g before) message (told_of plan g past) m reply same fresh (member_fits plan.nodes g plan.me.number frames_from before m fits))
 
-  pub at_fetch : (from most : ℕ) → plan.nodes ≤ NODES → is_stopped past ≡ false → is_own_request plan.me g past (Fetch token addr from most) ≡ true → reply ≡ admitted_answer plan past (Fetch token addr from most)
-      → Fits plan.nodes g plan.me.number frames_from before m → AskedGoes plan versions g past (Fetch token addr from most) reply frames_from group
+  pub at_fetch : (from most : ℕ) → plan.nodes ≤ NODES → is_stopped past ≡ false → is_own_request plan.me g past (asking_of token addr (Fetch from most)) ≡ true → reply ≡ admitted_answer plan past (AtGroup addr (Fetch from most))
+      → Fits plan.nodes g plan.me.number frames_from before m → AskedGoes plan versions g past (asking_of token addr (Fetch from most)) reply frames_from group
   at_fetch from most few running own is fits =
-      let named = (and_parts (is_addr g addr) (has_group_token plan.me (tenants_in past) (Fetch token addr from most)) own).0 in
-      own_command plan versions g past (Fetch token addr from most) reply frames_from group (AskFetch from most) (told_of plan g past) running own refl refl refl refl tt refl
-      (answers_alike plan g past (Fetch token addr from most) frames_from group (λ s. fetch_answer s from most) few own fits ∙ same_answer (λ s. fetch_answer s from most) named is)
-      refl fits.gone fits (member_fits plan.nodes g plan.me.number frames_from before m fits)
+      let named = (and_parts (is_addr g addr) (has_group_token plan.me (tenants_in past) (asking_of token addr (Fetch from most))) own).0 in
+      plain_command plan versions g past (asking_of token addr (Fetch from most)) reply frames_from group (AskFetch from most) (told_of plan g past) running own refl (fetched_for g plan.me (noticed_after plan past) addr from most reply (told_of plan g past)) refl refl refl tt refl
+      (answers_alike plan g past (asking_of token addr (Fetch from most)) frames_from group (λ s. fetch_answer s from most) few own fits ∙ same_answer (λ s. fetch_answer s from most) named is)
+      refl (left_there plan versions g past (asking_of token addr (Fetch from most)) reply frames_from group _ refl fits.gone) fits (member_fits plan.nodes g plan.me.number frames_from before m fits)

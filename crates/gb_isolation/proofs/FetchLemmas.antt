@@ -8,7 +8,6 @@ use Rattle.gb_types.specs.declared.node.NodeId.{NodeId}
 use Rattle.gb_types.specs.declared.plan.Plan.{Plan}
 use Rattle.gb_types.specs.declared.reply.Reply.{Reply}
 use Rattle.gb_types.specs.declared.request.Request.{Request}
-use Rattle.gb_types.specs.declared.request.Request.TheVariants.{Fetch}
 use Rattle.gb_rules.specs.Group.{fetch_answer}
 use Rattle.gb_node.specs.NodeStep.{Turn, running_turn, stopped_answer, turn, IsTurn}
 use Rattle.gb_node.specs.NodeValue.{NodeValue, new_node}
@@ -25,25 +24,25 @@ use Rattle.gb_cluster.specs.Run.{Did, ComesTo, IsSent, past_at}
 use Rattle.gb_cluster.proofs.NodesLemmas.{have_pasts, stays}
 use Rattle.gb_isolation.specs.Isolation.{alone_in}
 use Rattle.gb_isolation.specs.Project.{is_named, is_own_request}
-use Rattle.gb_isolation.specs.RunLaws.{LogsMayBeFetched, fetched_alone}
+use Rattle.gb_isolation.specs.RunLaws.{LogsMayBeFetched, fetched_alone, to_fetch}
 use Rattle.gb_isolation.proofs.CommandLemmas.{answers_alike, group_token_is}
 use Rattle.gb_isolation.proofs.RunLemmas.{Laws, behaves}
 use Rattle.gb_isolation.proofs.View.{BehavesAlone, frames_for}
 
 -- what a running node makes of a request to fetch: it stays as it is
-fetch_turn : (old : NodeValue) (token : List ℕ) (g : Addr) (from most : ℕ) (reply : Reply) → old.stopped ≡ false → (turn old (Asked (Fetch token g from most))).answer ≡ Replied reply
-    → IsTurn old (Asked (Fetch token g from most)) (Replied reply) old
+fetch_turn : (old : NodeValue) (token : List ℕ) (g : Addr) (from most : ℕ) (reply : Reply) → old.stopped ≡ false → (turn old (Asked (to_fetch token g from most))).answer ≡ Replied reply
+    → IsTurn old (Asked (to_fetch token g from most)) (Replied reply) old
 fetch_turn old token g from most reply runs due = inr (sym due, sym (ap (λ b. (after b).value) runs))
   where
     event : NodeEvent
-    event = Asked (Fetch token g from most)
+    event = Asked (to_fetch token g from most)
 
     after : Bool → Turn
     after b = if b then record { value = old; answer = stopped_answer event } else running_turn old event
 
 -- it may happen in the cluster, which stays as it is
 fetch_acts : (v : ClusterValue) (a : NodeId) (token : List ℕ) (g : Addr) (from most : ℕ) (reply : Reply) → a.number < length v.nodes → (node_at v a).stopped ≡ false
-    → (turn (node_at v a) (Asked (Fetch token g from most))).answer ≡ Replied reply → NodeActs v a (Asked (Fetch token g from most)) (Replied reply) v
+    → (turn (node_at v a) (Asked (to_fetch token g from most))).answer ≡ Replied reply → NodeActs v a (Asked (to_fetch token g from most)) (Replied reply) v
 fetch_acts v a token g from most reply placed runs due = record {
   placed = placed;
   node = node_at v a;
@@ -67,23 +66,23 @@ goes_on plan run v w d comes sent acts = (v, comes, sent, acts)
 
 -- what the past says of a request of the group at a running node
 own_answered : (plan : NodePlan) (past : List Happened) (g : Addr) (request : Request) → is_stopped past ≡ false → is_own_request plan.me g past request ≡ true
-    → past_answer plan past request ≡ admitted_answer plan past request
+    → past_answer plan past request ≡ admitted_answer plan past request.what
 own_answered plan past g request running own = by
   where
     admitted : is_admitted_by plan past request ≡ true
-    admitted = let parts = and_parts (is_named g request) (has_group_token plan.me (tenants_in past) request) own in sym (group_token_is plan g past request parts.0) ∙ parts.1
+    admitted = let parts = and_parts (is_named g request.what) (has_group_token plan.me (tenants_in past) request) own in sym (group_token_is plan g past request parts.0) ∙ parts.1
 
-    by : past_answer plan past request ≡ admitted_answer plan past request
+    by : past_answer plan past request ≡ admitted_answer plan past request.what
     by = rw (running, admitted) refl
 
 pub may_be_fetched : PastsSay → Laws → LogsMayBeFetched
 may_be_fetched pasts laws plan run v comes g fed a token from most within running own =
-    subst (λ (r : Reply). ComesTo plan (record { node = a; event = Asked (Fetch token g from most); answer = Replied r } ∷ run) v) same
-    (goes_on plan run v v (record { node = a; event = Asked (Fetch token g from most); answer = Replied reply }) comes (request_sent v a (Fetch token g from most))
-    (fetch_acts v a token g from most reply placed runs (laws.answers.due (node_plan plan a) (past_at a run) (node_at v a) (Fetch token g from most) there)))
+    subst (λ (r : Reply). ComesTo plan (record { node = a; event = Asked (to_fetch token g from most); answer = Replied r } ∷ run) v) same
+    (goes_on plan run v v (record { node = a; event = Asked (to_fetch token g from most); answer = Replied reply }) comes (request_sent v a (to_fetch token g from most))
+    (fetch_acts v a token g from most reply placed runs (laws.answers.due (node_plan plan a) (past_at a run) (node_at v a) (to_fetch token g from most) there)))
   where
     reply : Reply
-    reply = past_answer (node_plan plan a) (past_at a run) (Fetch token g from most)
+    reply = past_answer (node_plan plan a) (past_at a run) (to_fetch token g from most)
 
     there : NodeComesTo (node_plan plan a) (past_at a run) (node_at v a)
     there = have_pasts plan run v a comes within
@@ -99,5 +98,5 @@ may_be_fetched pasts laws plan run v comes g fed a token from most within runnin
 
     same : reply ≡ fetched_alone plan run g a from most
     same =
-        own_answered (node_plan plan a) (past_at a run) g (Fetch token g from most) running own
-        ∙ sym (answers_alike (node_plan plan a) g (past_at a run) (Fetch token g from most) (frames_for plan run a) (alone_in plan g run) (λ s. fetch_answer s from most) (stays plan run v comes).right.few own (alike.fits a within))
+        own_answered (node_plan plan a) (past_at a run) g (to_fetch token g from most) running own
+        ∙ sym (answers_alike (node_plan plan a) g (past_at a run) (to_fetch token g from most) (frames_for plan run a) (alone_in plan g run) (λ s. fetch_answer s from most) (stays plan run v comes).right.few own (alike.fits a within))

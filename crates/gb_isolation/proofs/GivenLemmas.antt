@@ -11,7 +11,10 @@ use Rattle.gb_types.specs.declared.node.NodeId.{NodeId}
 use Rattle.gb_types.specs.declared.reply.Reply.{Reply}
 use Rattle.gb_types.specs.declared.reply.Reply.TheVariants.{Done}
 use Rattle.gb_types.specs.declared.request.Request.{Request}
-use Rattle.gb_types.specs.declared.request.Request.TheVariants.{AddTenant, Make, OpenGroup, ShutGroup, DropGroup, Say, Fetch}
+use Rattle.gb_types.specs.declared.request.Action.{Action}
+use Rattle.gb_types.specs.declared.request.Action.TheVariants.{AddTenant, Group as AtGroup}
+use Rattle.gb_types.specs.declared.request.GroupCommand.{GroupCommand}
+use Rattle.gb_types.specs.declared.request.GroupCommand.TheVariants.{Make, Open, Shut, Drop, Say, Fetch}
 use Rattle.gb_types.specs.declared.spec.Spec.{Spec}
 use Rattle.gb_frame.specs.declared.item.Item.{Item}
 use Rattle.gb_frame.specs.Packet.{Content}
@@ -26,7 +29,7 @@ use Rattle.gb_alone.proofs.CommandLemmas.{command_in, commands_at, commands}
 use Rattle.gb_duties.proofs.NoticeLemmas.{IsDue, AreDue}
 use Rattle.gb_node.specs.StepLaw.{has_group_token}
 use Rattle.gb_node.specs.NodeStep.{node_numbered}
-use Rattle.gb_node.specs.Past.{Happened, frames_to, read, is_stopped, tenants_in}
+use Rattle.gb_node.specs.Past.{if_done, Happened, frames_to, read, is_stopped, tenants_in}
 use Rattle.gb_node.specs.declared.answer.NodeAnswer.{NodeAnswer}
 use Rattle.gb_node.specs.declared.answer.NodeAnswer.TheVariants.{Reply as Replied, Taken, Sent, Ticked}
 use Rattle.gb_node.specs.declared.answer.PacketAnswer.TheVariants.{Good as TakenGood}
@@ -40,7 +43,7 @@ use Rattle.gb_cluster.specs.Run.{Did, past_at}
 use Rattle.gb_types.specs.declared.plan.Plan.{Plan}
 use Rattle.gb_types.specs.declared.plan.Bounds.{Bounds}
 use Rattle.gb_types.specs.Version.{bounds_of}
-use Rattle.gb_isolation.specs.Project.{group_items, group_items_of, offset, is_named, is_own_request, command_for, made_by, made_with, notices, tenant_given, other_given, is_met, with_stop, if_any, comes, all_acknowledged, is_new_ack, is_new_frame, acknowledges, brings, arrived, ticked, gives}
+use Rattle.gb_isolation.specs.Project.{group_items, group_items_of, offset, is_named, is_own_request, event_of, command_for, makes, made_by, made_with, notices, tenant_given, other_given, is_met, with_stop, if_any, comes, all_acknowledged, is_new_ack, is_new_frame, acknowledges, brings, arrived, ticked, gives}
 use Rattle.gb_isolation.proofs.NoticeLemmas.{notices_of, notices_there, notices_keep}
 use Rattle.gb_isolation.proofs.GoesLemmas.{after_there}
 use Rattle.gb_isolation.proofs.RoomLemmas.{own_given}
@@ -121,28 +124,25 @@ at_notices_of a (b ∷ bs) = (refl, at_notices_of a bs)
 at_notices : (a : NodeId) (spec : Spec) (test : ℕ → Bool) → AllAre (IsAt a) (notices a spec test)
 at_notices a spec test = at_notices_of a (filter (λ b. is_other spec a.number b && test b) (range_with_len 0 NODES))
 
-at_command : (g : Addr) (a : NodeId) (request : Request) → AllAre (IsAt a) (command_for a request)
-at_command g a (AddTenant token row) = tt
-at_command g a (Make token addr spec) = (refl, tt)
-at_command g a (OpenGroup token addr) = (refl, tt)
-at_command g a (ShutGroup token addr) = (refl, tt)
-at_command g a (DropGroup token addr) = (refl, tt)
-at_command g a (Say token addr message) = (refl, tt)
-at_command g a (Fetch token addr from most) = (refl, tt)
+at_command : (a : NodeId) (what : Action) → AllAre (IsAt a) (command_for a what)
+at_command a (AddTenant row) = tt
+at_command a (AtGroup addr command) = (refl, tt)
 
 at_stop : (a : NodeId) (met : Bool) (xs : List GroupStep) → AllAre (IsAt a) xs → AllAre (IsAt a) (with_stop a met xs)
 at_stop a met [] at = tt
 at_stop a true (c ∷ xs) at = at
 at_stop a false (c ∷ xs) at = (refl, at)
 
-at_tenant : (g : Addr) (a : NodeId) (request : Request) (reply : Reply) → AllAre (IsAt a) (tenant_given g a request reply)
-at_tenant g a (AddTenant token row) Done = elim (nat_eq row.tenant g.tenant) as (λ t. AllAre (IsAt a) (if t then record { node = a; event = Tenant (reserve_of row) } ∷ [] else [])) [ true ↦ (refl, tt) | false ↦ tt ]
-at_tenant g a request reply = tt
+at_tenant : (g : Addr) (a : NodeId) (reply : Reply) (what : Action) → AllAre (IsAt a) (tenant_given g a reply what)
+at_tenant g a Done (AddTenant row) = elim (nat_eq row.tenant g.tenant) as (λ t. AllAre (IsAt a) (if t then record { node = a; event = Tenant (reserve_of row) } ∷ [] else [])) [ true ↦ (refl, tt) | false ↦ tt ]
+at_tenant g a Done (AtGroup addr command) = tt
+at_tenant g a reply what = tt
 
-at_other : (g : Addr) (a : NodeId) (request : Request) (reply : Reply) → AllAre (IsAt a) (other_given g a request reply)
-at_other g a (Make token addr spec) Done = elim (is_other_generation g addr) as (λ t. AllAre (IsAt a) (if t then record { node = a; event = OtherMade addr.generation } ∷ [] else [])) [ true ↦ (refl, tt) | false ↦ tt ]
-at_other g a (DropGroup token addr) Done = elim (is_other_generation g addr) as (λ t. AllAre (IsAt a) (if t then record { node = a; event = OtherDropped } ∷ [] else [])) [ true ↦ (refl, tt) | false ↦ tt ]
-at_other g a request reply = tt
+at_other : (g : Addr) (a : NodeId) (reply : Reply) (what : Action) → AllAre (IsAt a) (other_given g a reply what)
+at_other g a Done (AtGroup addr (Make spec)) = elim (is_other_generation g addr) as (λ t. AllAre (IsAt a) (if t then record { node = a; event = OtherMade addr.generation } ∷ [] else [])) [ true ↦ (refl, tt) | false ↦ tt ]
+at_other g a Done (AtGroup addr Drop) = elim (is_other_generation g addr) as (λ t. AllAre (IsAt a) (if t then record { node = a; event = OtherDropped } ∷ [] else [])) [ true ↦ (refl, tt) | false ↦ tt ]
+at_other g a Done what = tt
+at_other g a reply what = tt
 
 at_ticked : (a : NodeId) (found : ℕ → Bool) (o : Option Spec) → AllAre (IsAt a) (ticked a found o)
 at_ticked a found None = tt
@@ -150,20 +150,20 @@ at_ticked a found (Some spec) = at_notices a spec found
 
 at_requested : (plan : NodePlan) (g : Addr) (past : List Happened) (request : Request) (reply : Reply) → AllAre (IsAt plan.me) (own_requested_by plan g past request reply)
 at_requested plan g past request reply =
-    all_both (IsAt plan.me) (command_for plan.me request) (ticked plan.me (is_noticed_after plan past) (made_by g (Asked request) (Replied reply))) (at_command g plan.me request)
+    all_both (IsAt plan.me) (command_for plan.me request.what) (ticked plan.me (is_noticed_after plan past) (made_by g (Asked request) (Replied reply))) (at_command plan.me request.what)
     (at_ticked plan.me (is_noticed_after plan past) (made_by g (Asked request) (Replied reply)))
 
 at_asked : (plan : NodePlan) (g : Addr) (past : List Happened) (request : Request) (reply : Reply) → AllAre (IsAt plan.me) (asked_by plan g past request reply)
 at_asked plan g past request reply = by (is_stopped past) (is_own_request plan.me g past request)
   where
-    beside : (xs : List GroupStep) → AllAre (IsAt plan.me) xs → AllAre (IsAt plan.me) (tenant_given g plan.me request reply ++ other_given g plan.me request reply ++ xs)
+    beside : (xs : List GroupStep) → AllAre (IsAt plan.me) xs → AllAre (IsAt plan.me) (tenant_given g plan.me reply request.what ++ other_given g plan.me reply request.what ++ xs)
     beside xs at =
-        all_both (IsAt plan.me) (tenant_given g plan.me request reply ++ other_given g plan.me request reply) xs
-        (all_both (IsAt plan.me) (tenant_given g plan.me request reply) (other_given g plan.me request reply) (at_tenant g plan.me request reply) (at_other g plan.me request reply)) at
+        all_both (IsAt plan.me) (tenant_given g plan.me reply request.what ++ other_given g plan.me reply request.what) xs
+        (all_both (IsAt plan.me) (tenant_given g plan.me reply request.what) (other_given g plan.me reply request.what) (at_tenant g plan.me reply request.what) (at_other g plan.me reply request.what)) at
 
     by : (stopped own : Bool)
-        → AllAre (IsAt plan.me) (if stopped then (if own then with_stop plan.me (is_met plan.me g past) (command_for plan.me request) else []) else tenant_given g plan.me request reply ++ other_given g plan.me request reply ++ (if own then own_requested_by plan g past request reply else []))
-    by true true = at_stop plan.me (is_met plan.me g past) (command_for plan.me request) (at_command g plan.me request)
+        → AllAre (IsAt plan.me) (if stopped then (if own then with_stop plan.me (is_met plan.me g past) (command_for plan.me request.what) else []) else tenant_given g plan.me reply request.what ++ other_given g plan.me reply request.what ++ (if own then own_requested_by plan g past request reply else []))
+    by true true = at_stop plan.me (is_met plan.me g past) (command_for plan.me request.what) (at_command plan.me request.what)
     by true false = tt
     by false true = beside (own_requested_by plan g past request reply) (at_requested plan g past request reply)
     by false false = beside [] tt
@@ -202,28 +202,33 @@ carried_plain event is = refl
 plain_carried : (a : NodeId) (xs : List GroupStep) → AllAre (IsCarried a) xs → AllAre IsPlain xs
 plain_carried a xs all = all_weaker (IsCarried a) IsPlain (λ x is. carried_plain x.event is.1) xs all
 
-plain_command : (g : Addr) (a : NodeId) (request : Request) → AllAre IsPlain (command_for a request)
-plain_command g a (AddTenant token row) = tt
-plain_command g a (Make token addr spec) = (refl, tt)
-plain_command g a (OpenGroup token addr) = (refl, tt)
-plain_command g a (ShutGroup token addr) = (refl, tt)
-plain_command g a (DropGroup token addr) = (refl, tt)
-plain_command g a (Say token addr message) = (refl, tt)
-plain_command g a (Fetch token addr from most) = (refl, tt)
+plain_event : (command : GroupCommand) → is_notice (event_of command) ≡ false
+plain_event (Make spec) = refl
+plain_event Open = refl
+plain_event Shut = refl
+plain_event Drop = refl
+plain_event (Say message) = refl
+plain_event (Fetch from most) = refl
+
+plain_command : (a : NodeId) (what : Action) → AllAre IsPlain (command_for a what)
+plain_command a (AddTenant row) = tt
+plain_command a (AtGroup addr command) = (plain_event command, tt)
 
 plain_stop : (a : NodeId) (met : Bool) (xs : List GroupStep) → AllAre IsPlain xs → AllAre IsPlain (with_stop a met xs)
 plain_stop a met [] plain = tt
 plain_stop a true (c ∷ xs) plain = plain
 plain_stop a false (c ∷ xs) plain = (refl, plain)
 
-plain_tenant : (g : Addr) (a : NodeId) (request : Request) (reply : Reply) → AllAre IsPlain (tenant_given g a request reply)
-plain_tenant g a (AddTenant token row) Done = elim (nat_eq row.tenant g.tenant) as (λ t. AllAre IsPlain (if t then record { node = a; event = Tenant (reserve_of row) } ∷ [] else [])) [ true ↦ (refl, tt) | false ↦ tt ]
-plain_tenant g a request reply = tt
+plain_tenant : (g : Addr) (a : NodeId) (reply : Reply) (what : Action) → AllAre IsPlain (tenant_given g a reply what)
+plain_tenant g a Done (AddTenant row) = elim (nat_eq row.tenant g.tenant) as (λ t. AllAre IsPlain (if t then record { node = a; event = Tenant (reserve_of row) } ∷ [] else [])) [ true ↦ (refl, tt) | false ↦ tt ]
+plain_tenant g a Done (AtGroup addr command) = tt
+plain_tenant g a reply what = tt
 
-plain_other : (g : Addr) (a : NodeId) (request : Request) (reply : Reply) → AllAre IsPlain (other_given g a request reply)
-plain_other g a (Make token addr spec) Done = elim (is_other_generation g addr) as (λ t. AllAre IsPlain (if t then record { node = a; event = OtherMade addr.generation } ∷ [] else [])) [ true ↦ (refl, tt) | false ↦ tt ]
-plain_other g a (DropGroup token addr) Done = elim (is_other_generation g addr) as (λ t. AllAre IsPlain (if t then record { node = a; event = OtherDropped } ∷ [] else [])) [ true ↦ (refl, tt) | false ↦ tt ]
-plain_other g a request reply = tt
+plain_other : (g : Addr) (a : NodeId) (reply : Reply) (what : Action) → AllAre IsPlain (other_given g a reply what)
+plain_other g a Done (AtGroup addr (Make spec)) = elim (is_other_generation g addr) as (λ t. AllAre IsPlain (if t then record { node = a; event = OtherMade addr.generation } ∷ [] else [])) [ true ↦ (refl, tt) | false ↦ tt ]
+plain_other g a Done (AtGroup addr Drop) = elim (is_other_generation g addr) as (λ t. AllAre IsPlain (if t then record { node = a; event = OtherDropped } ∷ [] else [])) [ true ↦ (refl, tt) | false ↦ tt ]
+plain_other g a Done what = tt
+plain_other g a reply what = tt
 
 notices_due : (bounds : Bounds) (addr : Addr) (a : NodeId) (bs : List ℕ) (group : Group) → is_some (group a.number).spec ≡ true → AreDue bounds addr group (notices_of a bs)
 notices_due bounds addr a [] group made = tt
@@ -244,35 +249,43 @@ making_due bounds addr a spec bs group made =
 
 module _ (bounds : Bounds) (plan : NodePlan) (g : Addr) (past : List Happened) (group : Group) where
   -- where the request is the group's own and the node runs
-  own_due : (request : Request) (reply : Reply) → is_named g request ≡ true
-      → (alone_from bounds g group (tenant_given g plan.me request reply ++ own_requested_by plan g past request reply) plan.me.number).spec ≡ made_with g (record { event = Asked request; answer = Replied reply } ∷ past)
-      → AreDue bounds g group (tenant_given g plan.me request reply ++ own_requested_by plan g past request reply)
+  own_due : (request : Request) (reply : Reply) → is_named g request.what ≡ true
+      → (alone_from bounds g group (tenant_given g plan.me reply request.what ++ own_requested_by plan g past request reply) plan.me.number).spec ≡ made_with g (record { event = Asked request; answer = Replied reply } ∷ past)
+      → AreDue bounds g group (tenant_given g plan.me reply request.what ++ own_requested_by plan g past request reply)
   unfolding made_with
-  own_due (Make token addr spec) Done named made =
-      let given : Bool → List GroupStep = λ t. record { node = plan.me; event = AskMake spec } ∷ ticked plan.me (is_noticed_after plan past) (if t then Some spec else None) in
-      subst (λ t. AreDue bounds g group (given t)) (sym named)
-      (making_due bounds g plan.me spec (filter (λ b. is_other spec plan.me.number b && is_noticed_after plan past b) (range_with_len 0 NODES)) group
-      (ap (λ (t : Bool). is_some (alone_from bounds g group (given t) plan.me.number).spec) (sym named) ∙ (ap is_some made ∙ ap (λ (t : Bool). is_some (option_or (if t then Some spec else None) (made_with g past))) named)))
-  own_due request reply named made = all_due bounds g (tenant_given g plan.me request reply ++ command_for plan.me request) group (all_both IsPlain (tenant_given g plan.me request reply) (command_for plan.me request) (plain_tenant g plan.me request reply) (plain_command g plan.me request))
+  own_due request reply named made = by request.what reply named made
+    where
+      given_by : Reply → Action → List GroupStep
+      given_by reply what = tenant_given g plan.me reply what ++ command_for plan.me what ++ ticked plan.me (is_noticed_after plan past) (if_done reply (makes g what) None)
+
+      by : (what : Action) (reply : Reply) → is_named g what ≡ true → (alone_from bounds g group (given_by reply what) plan.me.number).spec ≡ option_or (if_done reply (makes g what) None) (made_with g past) → AreDue bounds g group (given_by reply what)
+      by (AddTenant row) reply named made = absurd (cc)
+      by (AtGroup addr (Make spec)) Done named made =
+          let given : Bool → List GroupStep = λ t. record { node = plan.me; event = AskMake spec } ∷ ticked plan.me (is_noticed_after plan past) (if t then Some spec else None) in
+          subst (λ t. AreDue bounds g group (given t)) (sym named)
+          (making_due bounds g plan.me spec (filter (λ b. is_other spec plan.me.number b && is_noticed_after plan past b) (range_with_len 0 NODES)) group
+          (ap (λ (t : Bool). is_some (alone_from bounds g group (given t) plan.me.number).spec) (sym named) ∙ (ap is_some made ∙ ap (λ (t : Bool). is_some (option_or (if t then Some spec else None) (made_with g past))) named)))
+      by (AtGroup addr command) Done named made = all_due bounds g (record { node = plan.me; event = event_of command } ∷ []) group (plain_event command, tt)
+      by (AtGroup addr command) reply named made = all_due bounds g (record { node = plan.me; event = event_of command } ∷ []) group (plain_event command, tt)
 
   asked_due : (request : Request) (reply : Reply) → (alone_from bounds g group (asked_by plan g past request reply) plan.me.number).spec ≡ made_with g (record { event = Asked request; answer = Replied reply } ∷ past)
       → AreDue bounds g group (asked_by plan g past request reply)
   asked_due request reply = by (is_stopped past) (is_own_request plan.me g past request) refl
     where
       by : (stopped own : Bool) → is_own_request plan.me g past request ≡ own
-          → (alone_from bounds g group (if stopped then (if own then with_stop plan.me (is_met plan.me g past) (command_for plan.me request) else []) else tenant_given g plan.me request reply ++ other_given g plan.me request reply ++ (if own then own_requested_by plan g past request reply else [])) plan.me.number).spec ≡ made_with g (record { event = Asked request; answer = Replied reply } ∷ past)
-          → AreDue bounds g group (if stopped then (if own then with_stop plan.me (is_met plan.me g past) (command_for plan.me request) else []) else tenant_given g plan.me request reply ++ other_given g plan.me request reply ++ (if own then own_requested_by plan g past request reply else []))
-      by true true is made = all_due bounds g (with_stop plan.me (is_met plan.me g past) (command_for plan.me request)) group (plain_stop plan.me (is_met plan.me g past) (command_for plan.me request) (plain_command g plan.me request))
+          → (alone_from bounds g group (if stopped then (if own then with_stop plan.me (is_met plan.me g past) (command_for plan.me request.what) else []) else tenant_given g plan.me reply request.what ++ other_given g plan.me reply request.what ++ (if own then own_requested_by plan g past request reply else [])) plan.me.number).spec ≡ made_with g (record { event = Asked request; answer = Replied reply } ∷ past)
+          → AreDue bounds g group (if stopped then (if own then with_stop plan.me (is_met plan.me g past) (command_for plan.me request.what) else []) else tenant_given g plan.me reply request.what ++ other_given g plan.me reply request.what ++ (if own then own_requested_by plan g past request reply else []))
+      by true true is made = all_due bounds g (with_stop plan.me (is_met plan.me g past) (command_for plan.me request.what)) group (plain_stop plan.me (is_met plan.me g past) (command_for plan.me request.what) (plain_command plan.me request.what))
       by true false is made = tt
       by false true is made =
-          let named = (and_parts (is_named g request) (has_group_token plan.me (tenants_in past) request) is).0 in
-          let alone : tenant_given g plan.me request reply ++ other_given g plan.me request reply ≡ tenant_given g plan.me request reply = own_given g plan.me request reply named in
+          let named = (and_parts (is_named g request.what) (has_group_token plan.me (tenants_in past) request) is).0 in
+          let alone : tenant_given g plan.me reply request.what ++ other_given g plan.me reply request.what ≡ tenant_given g plan.me reply request.what = own_given g plan.me reply request.what named in
           subst (λ es. AreDue bounds g group (es ++ own_requested_by plan g past request reply)) (sym alone)
           (own_due request reply named (ap (λ es. (alone_from bounds g group (es ++ own_requested_by plan g past request reply) plan.me.number).spec) (sym alone) ∙ made))
       by false false is made =
-          all_due bounds g (tenant_given g plan.me request reply ++ other_given g plan.me request reply ++ []) group
-          (all_both IsPlain (tenant_given g plan.me request reply ++ other_given g plan.me request reply) []
-          (all_both IsPlain (tenant_given g plan.me request reply) (other_given g plan.me request reply) (plain_tenant g plan.me request reply) (plain_other g plan.me request reply)) tt)
+          all_due bounds g (tenant_given g plan.me reply request.what ++ other_given g plan.me reply request.what ++ []) group
+          (all_both IsPlain (tenant_given g plan.me reply request.what ++ other_given g plan.me reply request.what) []
+          (all_both IsPlain (tenant_given g plan.me reply request.what) (other_given g plan.me reply request.what) (plain_tenant g plan.me reply request.what) (plain_other g plan.me reply request.what)) tt)
 
 ticked_due : (bounds : Bounds) (addr : Addr) (a : NodeId) (found : ℕ → Bool) (o : Option Spec) (group : Group) → (group a.number).spec ≡ o → AreDue bounds addr group (ticked a found o)
 ticked_due bounds addr a found None group made = tt
@@ -328,25 +341,27 @@ unfolding commands
 no_commands_ticked s a found None = refl
 no_commands_ticked s a found (Some spec) = no_commands_notices s a spec found
 
-pub no_commands_tenant : (s : ℕ) (g : Addr) (a : NodeId) (request : Request) (reply : Reply) → commands s (tenant_given g a request reply) ≡ []
+pub no_commands_tenant : (s : ℕ) (g : Addr) (a : NodeId) (reply : Reply) (what : Action) → commands s (tenant_given g a reply what) ≡ []
 unfolding commands
-no_commands_tenant s g a (AddTenant token row) Done = elim (nat_eq row.tenant g.tenant) as (λ (t : Bool). commands s (if t then record { node = a; event = Tenant (reserve_of row) } ∷ [] else []) ≡ []) [
+no_commands_tenant s g a Done (AddTenant row) = elim (nat_eq row.tenant g.tenant) as (λ (t : Bool). commands s (if t then record { node = a; event = Tenant (reserve_of row) } ∷ [] else []) ≡ []) [
   | true ↦ ap (λ es. es ++ []) (no_commands_step s (record { node = a; event = Tenant (reserve_of row) }) refl)
   | false ↦ refl
 ]
-no_commands_tenant s g a request reply = refl
+no_commands_tenant s g a Done (AtGroup addr command) = refl
+no_commands_tenant s g a reply what = refl
 
-pub no_commands_other : (s : ℕ) (g : Addr) (a : NodeId) (request : Request) (reply : Reply) → commands s (other_given g a request reply) ≡ []
+pub no_commands_other : (s : ℕ) (g : Addr) (a : NodeId) (reply : Reply) (what : Action) → commands s (other_given g a reply what) ≡ []
 unfolding commands
-no_commands_other s g a (Make token addr spec) Done = elim (is_other_generation g addr) as (λ (t : Bool). commands s (if t then record { node = a; event = OtherMade addr.generation } ∷ [] else []) ≡ []) [
+no_commands_other s g a Done (AtGroup addr (Make spec)) = elim (is_other_generation g addr) as (λ (t : Bool). commands s (if t then record { node = a; event = OtherMade addr.generation } ∷ [] else []) ≡ []) [
   | true ↦ ap (λ es. es ++ []) (no_commands_step s (record { node = a; event = OtherMade addr.generation }) refl)
   | false ↦ refl
 ]
-no_commands_other s g a (DropGroup token addr) Done = elim (is_other_generation g addr) as (λ (t : Bool). commands s (if t then record { node = a; event = OtherDropped } ∷ [] else []) ≡ []) [
+no_commands_other s g a Done (AtGroup addr Drop) = elim (is_other_generation g addr) as (λ (t : Bool). commands s (if t then record { node = a; event = OtherDropped } ∷ [] else []) ≡ []) [
   | true ↦ ap (λ es. es ++ []) (no_commands_step s (record { node = a; event = OtherDropped }) refl)
   | false ↦ refl
 ]
-no_commands_other s g a request reply = refl
+no_commands_other s g a Done what = refl
+no_commands_other s g a reply what = refl
 
 -- a stop that is shown is no command
 pub commands_stopped : (s : ℕ) (a : NodeId) (met : Bool) (cs : List GroupStep) → commands s (with_stop a met cs) ≡ commands s cs

@@ -14,7 +14,8 @@ use Rattle.gb_types.specs.declared.node.NodeId.{NodeId}
 use Rattle.gb_types.specs.declared.refusal.Refusal.TheVariants.{NoGroup, Spent}
 use Rattle.gb_types.specs.declared.reply.Reply.{Reply}
 use Rattle.gb_types.specs.declared.reply.Reply.TheVariants.{Done, Refused}
-use Rattle.gb_types.specs.declared.request.Request.TheVariants.{Make}
+use Rattle.gb_types.specs.declared.request.Action.TheVariants.{Group as AtGroup}
+use Rattle.gb_types.specs.declared.request.GroupCommand.TheVariants.{Make}
 use Rattle.gb_types.specs.declared.spec.Spec.{Spec}
 use Rattle.gb_types.specs.declared.plan.Bounds.{Bounds}
 use Rattle.gb_types.specs.declared.version.Version.{Version}
@@ -41,7 +42,7 @@ use Rattle.gb_rules.proofs.AddressLemmas.{addr_is}
 use Rattle.gb_isolation.specs.Project.{is_met, is_own_request, made_with, replies_in}
 use Rattle.gb_isolation.specs.RunLaws.{is_dropped}
 use Rattle.gb_isolation.proofs.AskLemmas.{asking, carried_in, member_fits, view_own}
-use Rattle.gb_isolation.proofs.CommandLemmas.{AskedGoes, given_own, inside_some, own_command, replies_running}
+use Rattle.gb_isolation.proofs.CommandLemmas.{AskedGoes, asking_of, given_own, inside_some, own_command, replies_running}
 use Rattle.gb_isolation.proofs.FreshLemmas.{before_rising, marked_before, fresh_there, fresh_put}
 use Rattle.gb_isolation.proofs.GoesLemmas.{after_there, after_elsewhere}
 use Rattle.gb_isolation.proofs.MemberLemmas.{made-is, KeepsRest}
@@ -174,28 +175,28 @@ module _ (plan : NodePlan) (versions : List Version) (g : Addr) (past : List Hap
   alone_rule : (r : Reply) → version_at versions plan.me.number ≡ plan.version → Fits plan.nodes g plan.me.number frames_from before m → rule ≡ r → running_reply (bounds_with plan versions) g plan.me.number (AskMake spec) m ≡ r
   alone_rule r right fits is = (λ i. by_tenant (make_answer (right i) plan.nodes plan.me.number g (made-is (told_of plan g past) m fits.told i) (fits.others i) spec) (fits.reserve i)) ∙ is
 
-  made_by_reply : (r : Reply) → version_at versions plan.me.number ≡ plan.version → is_stopped past ≡ false → is_own_request plan.me g past (Make token addr spec) ≡ true → is_addr g addr ≡ true → rule ≡ r → is_noticed_after plan past ≡ set.contains noticed → ((b : ℕ) → set.contains noticed b ≡ true → b < NODES)
-      → Fits plan.nodes g plan.me.number frames_from before m → AskedGoes plan versions g past (Make token addr spec) r frames_from group
+  made_by_reply : (r : Reply) → version_at versions plan.me.number ≡ plan.version → is_stopped past ≡ false → is_own_request plan.me g past (asking_of token addr (Make spec)) ≡ true → is_addr g addr ≡ true → rule ≡ r → is_noticed_after plan past ≡ set.contains noticed → ((b : ℕ) → set.contains noticed b ≡ true → b < NODES)
+      → Fits plan.nodes g plan.me.number frames_from before m → AskedGoes plan versions g past (asking_of token addr (Make spec)) r frames_from group
   made_by_reply Done right running own named is silent below fits =
       let free : told_of plan g past ≡ None = not_made (told_of plan g past) before.reserve is in
       let unmet_here : is_met plan.me g past ≡ false = running_unmet plan g past running in
-      let answered : reply_to (bounds_with plan versions) g plan.me.number (AskMake spec) m ≡ Done = replies_running plan versions g past (Make token addr spec) Done frames_from group (AskMake spec) running fits ∙ alone_rule Done right fits is in
-      let later : view_of plan g (asking (Make token addr spec) Done ∷ past) ≡ record before { told = Some (Some (told_first spec plan.me noticed)); made = Some spec; replies = replies_in plan.me g past ++ Done ∷ [] } =
-      view_own plan g past (Make token addr spec) Done (Some (Some (told_first spec plan.me noticed))) (Some spec) (is_dropped g past) running own refl
+      let answered : reply_to (bounds_with plan versions) g plan.me.number (AskMake spec) m ≡ Done = replies_running plan versions g past (asking_of token addr (Make spec)) Done frames_from group (AskMake spec) running fits ∙ alone_rule Done right fits is in
+      let later : view_of plan g (asking (asking_of token addr (Make spec)) Done ∷ past) ≡ record before { told = Some (Some (told_first spec plan.me noticed)); made = Some spec; replies = replies_in plan.me g past ++ Done ∷ [] } =
+      view_own plan g past (asking_of token addr (Make spec)) Done (Some (Some (told_first spec plan.me noticed))) (Some spec) (is_dropped g past) running own refl
       (ap (λ b. if b then or_added (told_of plan g past) (Some (Some (told_first spec plan.me noticed))) else where_so (is_reached_by g addr) passed (told_of plan g past)) named
       ∙ ap (λ o. or_added o (Some (Some (told_first spec plan.me noticed)))) free)
       (ap (λ b. option_or (if b then Some spec else None) (made_with g past)) named) refl in
-      subst (λ es. Goes (bounds_with plan versions) g plan.me frames_from (view_of plan g (asking (Make token addr spec) Done ∷ past)) group es) (sym (given_own plan versions g past (Make token addr spec) Done frames_from group running own
+      subst (λ es. Goes (bounds_with plan versions) g plan.me frames_from (view_of plan g (asking (asking_of token addr (Make spec)) Done ∷ past)) group es) (sym (given_own plan versions g past (asking_of token addr (Make spec)) Done frames_from group running own
       ∙ (ap (λ (t : Bool). record { node = plan.me; event = AskMake spec } ∷ ticked plan.me (is_noticed_after plan past) (if t then Some spec else None)) named
       ∙ ap (λ (new : ℕ → Bool). record { node = plan.me; event = AskMake spec } ∷ notices plan.me spec new) silent)))
       (subst (λ (v : View). Goes (bounds_with plan versions) g plan.me frames_from v group (record { node = plan.me; event = AskMake spec } ∷ notices_of plan.me (noticed_members spec plan.me.number before.noticed))) (sym later)
       (made_goes (bounds_with plan versions) g plan.me frames_from before group spec noticed refl below free unmet_here answered fits))
   made_by_reply r right running own named is silent below fits =
-      own_command plan versions g past (Make token addr spec) r frames_from group (AskMake spec) (told_of plan g past) running own refl refl refl refl tt refl
+      own_command plan versions g past (asking_of token addr (Make spec)) r frames_from group (AskMake spec) (told_of plan g past) running own refl refl refl refl tt refl
       (alone_rule r right fits is) refl fits.gone fits (member_fits plan.nodes g plan.me.number frames_from before m fits)
 
-  pub at_make : (reply : Reply) → version_at versions plan.me.number ≡ plan.version → is_stopped past ≡ false → is_own_request plan.me g past (Make token addr spec) ≡ true → reply ≡ admitted_answer plan past (Make token addr spec) → is_noticed_after plan past ≡ set.contains noticed → ((b : ℕ) → set.contains noticed b ≡ true → b < NODES)
-      → Fits plan.nodes g plan.me.number frames_from before m → AskedGoes plan versions g past (Make token addr spec) reply frames_from group
+  pub at_make : (reply : Reply) → version_at versions plan.me.number ≡ plan.version → is_stopped past ≡ false → is_own_request plan.me g past (asking_of token addr (Make spec)) ≡ true → reply ≡ admitted_answer plan past (AtGroup addr (Make spec)) → is_noticed_after plan past ≡ set.contains noticed → ((b : ℕ) → set.contains noticed b ≡ true → b < NODES)
+      → Fits plan.nodes g plan.me.number frames_from before m → AskedGoes plan versions g past (asking_of token addr (Make spec)) reply frames_from group
   at_make reply right running own is silent below fits =
-      let named = (and_parts (is_addr g addr) (has_group_token plan.me (tenants_in past) (Make token addr spec)) own).0 in
+      let named = (and_parts (is_addr g addr) (has_group_token plan.me (tenants_in past) (asking_of token addr (Make spec))) own).0 in
       made_by_reply reply right running own named (sym (is ∙ ap (λ (x : Addr). by_tenant (make_answer plan.version plan.nodes plan.me.number x (is_some (told_of plan x past)) (living_of x past) spec) (option_map reserve_of (row_of x.tenant (tenants_in past)))) (sym (addr_is g addr named)))) silent below fits

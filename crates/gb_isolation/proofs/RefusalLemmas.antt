@@ -6,7 +6,7 @@ use Rattle.gb_types.specs.declared.refusal.Refusal.{Refusal}
 use Rattle.gb_types.specs.declared.reply.Reply.{Reply}
 use Rattle.gb_types.specs.declared.reply.Reply.TheVariants.{Refused}
 use Rattle.gb_types.specs.declared.request.Request.{Request}
-use Rattle.gb_types.specs.declared.request.Request.TheVariants.{AddTenant, Make, OpenGroup, ShutGroup, DropGroup, Say, Fetch}
+use Rattle.gb_types.specs.declared.request.Action.{Action}
 use Rattle.gb_node.specs.NodeStep.{node_did, running_turn, stopped_answer, turn, IsTurn}
 use Rattle.gb_node.specs.NodeValue.{NodeValue, new_node}
 use Rattle.gb_node.specs.declared.answer.NodeAnswer.{NodeAnswer}
@@ -19,17 +19,8 @@ use Rattle.gb_cluster.specs.Run.{Did, ComesTo}
 use Rattle.gb_cluster.proofs.EndLemmas.{one_end}
 use Rattle.gb_isolation.specs.RunLaws.{RefusalsChangeNothing}
 
-did_same : (request : Request) (why : Refusal) (v : NodeValue) → node_did request (Refused why) v ≡ v
-did_same (AddTenant token row) why v = refl
-did_same (Make token addr spec) why v = refl
-did_same (OpenGroup token addr) why v = refl
-did_same (ShutGroup token addr) why v = refl
-did_same (DropGroup token addr) why v = refl
-did_same (Say token addr message) why v = refl
-did_same (Fetch token addr from most) why v = refl
-
-refused_same : (request : Request) (why : Refusal) (v : NodeValue) (reply : Reply) → Replied (Refused why) ≡ Replied reply → node_did request reply v ≡ v
-refused_same request why v reply is = let same : reply ≡ Refused why = cc in ap (λ (r : Reply). node_did request r v) same ∙ did_same request why v
+refused_same : (what : Action) (why : Refusal) (v : NodeValue) (reply : Reply) → Replied (Refused why) ≡ Replied reply → node_did reply what v ≡ v
+refused_same what why v reply is = let same : reply ≡ Refused why = cc in ap (λ (r : Reply). node_did r what v) same
 
 -- the node is as it was
 node_same : (old new : NodeValue) (request : Request) (why : Refusal) → IsTurn old (Asked request) (Replied (Refused why)) new → new ≡ old
@@ -40,7 +31,7 @@ node_same old new request why (inr went) = went.1 ∙ by old.stopped refl
     by true is = ap (λ b. (if b then record { value = old; answer = stopped_answer (Asked request) } else running_turn old (Asked request)).value) is
     by false is =
         ap (λ b. (if b then record { value = old; answer = stopped_answer (Asked request) } else running_turn old (Asked request)).value) is
-        ∙ refused_same request why old _ (went.0 ∙ ap (λ b. (if b then record { value = old; answer = stopped_answer (Asked request) } else running_turn old (Asked request)).answer) is)
+        ∙ refused_same request.what why old _ (went.0 ∙ ap (λ b. (if b then record { value = old; answer = stopped_answer (Asked request) } else running_turn old (Asked request)).answer) is)
 
 acts_same : (old new : ClusterValue) (d : Did) (request : Request) (why : Refusal) → d.event ≡ Asked request → d.answer ≡ Replied (Refused why) → NodeActs old d.node d.event d.answer new → new ≡ old
 acts_same old new d request why asked refused acts = by (subst (λ (e : NodeEvent). NodeActs old d.node e (Replied (Refused why)) new) asked (subst (λ (x : NodeAnswer). NodeActs old d.node d.event x new) refused acts))

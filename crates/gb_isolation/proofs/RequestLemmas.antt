@@ -14,9 +14,11 @@ use Rattle.gb_types.specs.declared.refusal.Refusal.{Refusal}
 use Rattle.gb_types.specs.declared.refusal.Refusal.TheVariants.{Denied, OverReserve, NoRoom, TenantThere, Stopped, OutOfMemory}
 use Rattle.gb_types.specs.declared.reply.Reply.{Reply}
 use Rattle.gb_types.specs.declared.reply.Reply.TheVariants.{Done, Said, Refused}
+use Rattle.gb_types.specs.declared.request.Action.{Action}
+use Rattle.gb_types.specs.declared.request.Action.TheVariants.{AddTenant, Group as AtGroup}
+use Rattle.gb_types.specs.declared.request.GroupCommand.{GroupCommand}
+use Rattle.gb_types.specs.declared.request.GroupCommand.TheVariants.{Make, Open, Shut, Drop, Say, Fetch}
 use Rattle.gb_types.specs.declared.request.Request.{Request}
-use Rattle.gb_types.specs.declared.request.Request.TheVariants.{AddTenant, Make, OpenGroup, ShutGroup, DropGroup, Say, Fetch}
-use Rattle.gb_types.specs.declared.new_message.NewMessage.{NewMessage}
 use Rattle.gb_types.specs.declared.spec.Spec.{Spec}
 use Rattle.gb_types.specs.declared.spec.TenantRow.{TenantRow}
 use Rattle.gb_types.specs.declared.version.Version.{Version}
@@ -31,17 +33,18 @@ use Rattle.gb_alone.specs.Alone as alone
 use Rattle.gb_alone.specs.declared.event.GroupEvent.{GroupEvent}
 use Rattle.gb_alone.specs.declared.event.GroupEvent.TheVariants.{Tenant, OtherMade, OtherDropped}
 use Rattle.gb_rules.specs.Lifetime.{dropped, or_added, passed, where_so}
-use Rattle.gb_node.specs.NodeStep.{RequestTakesMemory}
-use Rattle.gb_node.specs.Past.{Happened, added, frames_to, is_stopped, tenants_in}
-use Rattle.gb_node.specs.PastGroups.{Told, noticed_after, told_first, asked_told, told_of, living_after, living_of}
+use Rattle.gb_rules.specs.Replied.{takes_memory}
+use Rattle.gb_node.specs.Past.{Happened, added, added_by, frames_to, is_stopped, tenants_in}
+use Rattle.gb_node.specs.PastGroups.{Told, noticed_after, told_first, asked_told, told_of, living_after, living_done, living_of}
 use Rattle.gb_node.specs.StepLaw.{IsAsked, admitted_answer, is_admitted_by, past_answer, has_group_token}
 use Rattle.gb_node.specs.declared.answer.NodeAnswer.TheVariants.{Reply as Replied}
 use Rattle.gb_node.specs.declared.event.NodeEvent.TheVariants.{Request as Asked}
 use Rattle.gb_node.specs.declared.plan.NodePlan.{NodePlan}
-use Rattle.gb_isolation.specs.Project.{is_met, is_named, is_own_request, is_starved_by, group_items_of, made_by, made_with, replies_in, tenant_given, other_given}
-use Rattle.gb_isolation.specs.RunLaws.{is_dropped, is_dropped_by}
+use Rattle.gb_isolation.specs.Project.{is_met, is_named, is_own_request, is_starved_by, group_items_of, makes, made_by, made_with, replies_in, tenant_of, tenant_given, other_of, other_given}
+use Rattle.gb_isolation.specs.RunLaws.{drops, is_dropped, is_dropped_by}
+use Rattle.gb_node.proofs.AskedLemmas.{if_same}
 use Rattle.gb_isolation.proofs.AskLemmas.{MemberFits, asking, carried_in, member_fits, passed_fits, rows_kept, unrelated_request, refused_unrelated, view_asked}
-use Rattle.gb_isolation.proofs.CommandLemmas.{AskedGoes, group_token_is, at_open, at_shut, at_drop, at_say, at_fetch}
+use Rattle.gb_isolation.proofs.CommandLemmas.{AskedGoes, asking_of, group_token_is, at_open, at_shut, at_drop, at_say, at_fetch}
 use Rattle.gb_isolation.proofs.GoesLemmas.{goes_none, goes_one}
 use Rattle.gb_isolation.proofs.MakeLemmas.{at_make}
 use Rattle.gb_isolation.proofs.MemberLemmas.{same_member}
@@ -79,6 +82,16 @@ none_of : (o : Option TenantRow) → is_some o ≡ false → o ≡ None
 none_of None is = refl
 none_of (Some row) is = absurd (cc)
 
+-- a request to add a tenant
+abbrev adding : List ℕ → TenantRow → Request
+adding token row = record { token = token; what = AddTenant row }
+
+-- a command that neither makes nor drops a group
+abbrev IsIdle : GroupCommand → Type 0
+IsIdle (Make spec) = ⊥
+IsIdle Drop = ⊥
+IsIdle command = Unit {0}
+
 module _ (plan : NodePlan) (versions : List Version) (g : Addr) (past : List Happened) (frames_from : ℕ → List (List Item)) (group : Group) where
   abbrev before : View
   before = view_of plan g past
@@ -89,50 +102,55 @@ module _ (plan : NodePlan) (versions : List Version) (g : Addr) (past : List Hap
   -- Requests that make nothing of the group.
 
   -- what is given then
-  given_beside : (request : Request) (reply : Reply) → is_stopped past ≡ false → is_own_request plan.me g past request ≡ false → asked_by plan g past request reply ≡ tenant_given g plan.me request reply ++ other_given g plan.me request reply
+  given_beside : (request : Request) (reply : Reply) → is_stopped past ≡ false → is_own_request plan.me g past request ≡ false → asked_by plan g past request reply ≡ tenant_given g plan.me reply request.what ++ other_given g plan.me reply request.what
   given_beside request reply running other =
       by
-      ∙ (ap (λ b. tenant_given g plan.me request reply ++ other_given g plan.me request reply ++ (if b then own_requested_by plan g past request reply else [])) other
-      ∙ append-nil (tenant_given g plan.me request reply ++ other_given g plan.me request reply))
+      ∙ (ap (λ b. tenant_given g plan.me reply request.what ++ other_given g plan.me reply request.what ++ (if b then own_requested_by plan g past request reply else [])) other
+      ∙ append-nil (tenant_given g plan.me reply request.what ++ other_given g plan.me reply request.what))
     where
       by : asked_by plan g past request reply ≡ requested_by plan g past request reply
       by = rw running refl
 
-  given_unrelated : (request : Request) (reply : Reply) → is_stopped past ≡ false → is_own_request plan.me g past request ≡ false → tenant_given g plan.me request reply ≡ [] → other_given g plan.me request reply ≡ [] → asked_by plan g past request reply ≡ []
+  given_unrelated : (request : Request) (reply : Reply) → is_stopped past ≡ false → is_own_request plan.me g past request ≡ false → tenant_given g plan.me reply request.what ≡ [] → other_given g plan.me reply request.what ≡ [] → asked_by plan g past request reply ≡ []
   given_unrelated request reply running other no_tenant none = given_beside request reply running other ∙ (λ i. no_tenant i ++ none i)
 
   passes : (request : Request) (reply : Reply) → is_stopped past ≡ false → is_own_request plan.me g past request ≡ false
       → added (Asked request) (Replied reply) ≡ []
-      → asked_told g plan.me (noticed_after plan past) request reply (told_of plan g past) ≡ told_of plan g past
+      → asked_told g plan.me (noticed_after plan past) reply request.what (told_of plan g past) ≡ told_of plan g past
       → living_after g (Asked request) (Replied reply) (living_of g past) ≡ living_of g past
       → made_by g (Asked request) (Replied reply) ≡ None
       → is_dropped_by g (Asked request) (Replied reply) ≡ false
-      → tenant_given g plan.me request reply ≡ []
-      → other_given g plan.me request reply ≡ []
+      → tenant_given g plan.me reply request.what ≡ []
+      → other_given g plan.me reply request.what ≡ []
       → FitsBefore → AskedGoes plan versions g past request reply frames_from group
   passes request reply running other rows told living unmade undropped no_tenant none fits =
       subst (λ es. Goes (bounds_with plan versions) g plan.me frames_from (view_of plan g (asking request reply ∷ past)) group es) (sym (given_unrelated request reply running other no_tenant none))
       (unrelated_request plan versions g past request reply frames_from group other rows told living unmade undropped fits)
 
+  -- and so where what is done makes nothing of it
+  idle : (request : Request) (reply : Reply) → is_stopped past ≡ false → is_own_request plan.me g past request ≡ false
+      → added_by request.what ≡ []
+      → asked_told g plan.me (noticed_after plan past) reply request.what (told_of plan g past) ≡ told_of plan g past
+      → living_done g request.what (living_of g past) ≡ living_of g past
+      → makes g request.what ≡ None
+      → drops g request.what ≡ false
+      → tenant_of g plan.me request.what ≡ []
+      → other_of g plan.me request.what ≡ []
+      → FitsBefore → AskedGoes plan versions g past request reply frames_from group
+  idle request reply running other rows told living unmade undropped no_tenant none =
+      passes request reply running other (if_same reply (added_by request.what) [] rows) told (if_same reply (living_done g request.what (living_of g past)) (living_of g past) living) (if_same reply (makes g request.what) None unmade)
+      (if_same reply (drops g request.what) false undropped) (if_same reply (tenant_of g plan.me request.what) [] no_tenant) (if_same reply (other_of g plan.me request.what) [] none)
+
   refusal_passes : (request : Request) (why : Refusal) → is_stopped past ≡ false → is_own_request plan.me g past request ≡ false → FitsBefore → AskedGoes plan versions g past request (Refused why) frames_from group
   refusal_passes request why running other fits =
-      subst (λ es. Goes (bounds_with plan versions) g plan.me frames_from (view_of plan g (asking request (Refused why) ∷ past)) group es) (sym (given_unrelated request (Refused why) running other (no_tenant request) (none request)))
+      subst (λ es. Goes (bounds_with plan versions) g plan.me frames_from (view_of plan g (asking request (Refused why) ∷ past)) group es) (sym (given_unrelated request (Refused why) running other refl refl))
       (refused_unrelated plan versions g past request why frames_from group other fits)
-    where
-      no_tenant : (request : Request) → tenant_given g plan.me request (Refused why) ≡ []
-      no_tenant (AddTenant token row) = refl
-      no_tenant request = refl
-
-      none : (request : Request) → other_given g plan.me request (Refused why) ≡ []
-      none (Make token addr spec) = refl
-      none (DropGroup token addr) = refl
-      none request = refl
 
   -- A tenant is taken in.
 
-  tenant_taken : (token : List ℕ) (row : TenantRow) → is_stopped past ≡ false → row_of row.tenant (tenants_in past) ≡ None → nat_eq row.tenant g.tenant ≡ true → FitsBefore → AskedGoes plan versions g past (AddTenant token row) Done frames_from group
+  tenant_taken : (token : List ℕ) (row : TenantRow) → is_stopped past ≡ false → row_of row.tenant (tenants_in past) ≡ None → nat_eq row.tenant g.tenant ≡ true → FitsBefore → AskedGoes plan versions g past (adding token row) Done frames_from group
   tenant_taken token row running new own fits =
-      subst (λ es. Goes (bounds_with plan versions) g plan.me frames_from (view_of plan g (asking (AddTenant token row) Done ∷ past)) group es) (sym given)
+      subst (λ es. Goes (bounds_with plan versions) g plan.me frames_from (view_of plan g (asking (adding token row) Done ∷ past)) group es) (sym given)
       (subst (λ (v : View). Goes (bounds_with plan versions) g plan.me frames_from v group (record { node = plan.me; event = Tenant (reserve_of row) } ∷ [])) (sym later)
       (goes_one (bounds_with plan versions) g plan.me frames_from (record before { reserve = Some (reserve_of row) }) group (Tenant (reserve_of row)) tt (record {
         reserve = refl;
@@ -157,51 +175,51 @@ module _ (plan : NodePlan) (versions : List Version) (g : Addr) (past : List Hap
       there : row_of g.tenant (tenants_in past ++ row ∷ []) ≡ Some row
       there = row-append g.tenant (tenants_in past) row (ap (λ t. row_of t (tenants_in past)) (sym same) ∙ new) ∙ ap (λ b. if b then Some row else None) own
 
-      given : asked_by plan g past (AddTenant token row) Done ≡ record { node = plan.me; event = Tenant (reserve_of row) } ∷ []
+      given : asked_by plan g past (adding token row) Done ≡ record { node = plan.me; event = Tenant (reserve_of row) } ∷ []
       given = by ∙ ap (λ b. (if b then record { node = plan.me; event = Tenant (reserve_of row) } ∷ [] else []) ++ [] ++ []) own
         where
-          by : asked_by plan g past (AddTenant token row) Done ≡ requested_by plan g past (AddTenant token row) Done
+          by : asked_by plan g past (adding token row) Done ≡ requested_by plan g past (adding token row) Done
           by = rw running refl
 
-      later : view_of plan g (asking (AddTenant token row) Done ∷ past) ≡ record before { reserve = Some (reserve_of row) }
-      later = view_asked plan g past (AddTenant token row) Done (Some (reserve_of row)) (told_of plan g past) (living_of g past) (made_with g past) (is_dropped g past) (replies_in plan.me g past) (is_met plan.me g past)
+      later : view_of plan g (asking (adding token row) Done ∷ past) ≡ record before { reserve = Some (reserve_of row) }
+      later = view_asked plan g past (adding token row) Done (Some (reserve_of row)) (told_of plan g past) (living_of g past) (made_with g past) (is_dropped g past) (replies_in plan.me g past) (is_met plan.me g past)
           (ap (option_map reserve_of) there) refl refl refl refl (append-nil (replies_in plan.me g past)) (ap (λ b. (b && false) || is_met plan.me g past) running)
 
-  tenant_other : (token : List ℕ) (row : TenantRow) → is_stopped past ≡ false → nat_eq row.tenant g.tenant ≡ false → FitsBefore → AskedGoes plan versions g past (AddTenant token row) Done frames_from group
+  tenant_other : (token : List ℕ) (row : TenantRow) → is_stopped past ≡ false → nat_eq row.tenant g.tenant ≡ false → FitsBefore → AskedGoes plan versions g past (adding token row) Done frames_from group
   tenant_other token row running other fits =
-      subst (λ es. Goes (bounds_with plan versions) g plan.me frames_from (view_of plan g (asking (AddTenant token row) Done ∷ past)) group es) (sym given)
+      subst (λ es. Goes (bounds_with plan versions) g plan.me frames_from (view_of plan g (asking (adding token row) Done ∷ past)) group es) (sym given)
       (subst (λ (v : View). Goes (bounds_with plan versions) g plan.me frames_from v group []) (sym later) (goes_none (bounds_with plan versions) g plan.me frames_from before group fits))
     where
-      given : asked_by plan g past (AddTenant token row) Done ≡ []
+      given : asked_by plan g past (adding token row) Done ≡ []
       given = by ∙ ap (λ b. (if b then record { node = plan.me; event = Tenant (reserve_of row) } ∷ [] else []) ++ [] ++ []) other
         where
-          by : asked_by plan g past (AddTenant token row) Done ≡ requested_by plan g past (AddTenant token row) Done
+          by : asked_by plan g past (adding token row) Done ≡ requested_by plan g past (adding token row) Done
           by = rw running refl
 
-      later : view_of plan g (asking (AddTenant token row) Done ∷ past) ≡ before
-      later = view_asked plan g past (AddTenant token row) Done before.reserve (told_of plan g past) (living_of g past) (made_with g past) (is_dropped g past) (replies_in plan.me g past) (is_met plan.me g past)
+      later : view_of plan g (asking (adding token row) Done ∷ past) ≡ before
+      later = view_asked plan g past (adding token row) Done before.reserve (told_of plan g past) (living_of g past) (made_with g past) (is_dropped g past) (replies_in plan.me g past) (is_met plan.me g past)
           (ap (option_map reserve_of) (row-other g.tenant (tenants_in past) row other)) refl refl refl refl (append-nil (replies_in plan.me g past)) (ap (λ b. (b && false) || is_met plan.me g past) running)
 
   -- by the reply
-  at_tenant : (token : List ℕ) (row : TenantRow) (r : Reply) → is_stopped past ≡ false → (r ≡ Done → row_of row.tenant (tenants_in past) ≡ None) → FitsBefore → AskedGoes plan versions g past (AddTenant token row) r frames_from group
+  at_tenant : (token : List ℕ) (row : TenantRow) (r : Reply) → is_stopped past ≡ false → (r ≡ Done → row_of row.tenant (tenants_in past) ≡ None) → FitsBefore → AskedGoes plan versions g past (adding token row) r frames_from group
   at_tenant token row Done running new fits = go (cases_Bool (nat_eq row.tenant g.tenant))
     where
-      go : ((nat_eq row.tenant g.tenant ≡ true) ⊎ (nat_eq row.tenant g.tenant ≡ false)) → AskedGoes plan versions g past (AddTenant token row) Done frames_from group
+      go : ((nat_eq row.tenant g.tenant ≡ true) ⊎ (nat_eq row.tenant g.tenant ≡ false)) → AskedGoes plan versions g past (adding token row) Done frames_from group
       go (inl own) = tenant_taken token row running (new refl) own fits
       go (inr other) = tenant_other token row running other fits
-  at_tenant token row r running new fits = passes (AddTenant token row) r running refl refl refl refl refl refl refl refl fits
+  at_tenant token row r running new fits = passes (adding token row) r running refl refl refl refl refl refl refl refl fits
 
   -- Another generation of the group's room is made or dropped.
 
   -- the request changes what is told and how many live
   generation_goes : (request : Request) (event : GroupEvent) (told : Option (Option Told)) (living : ℕ) → is_stopped past ≡ false → is_own_request plan.me g past request ≡ false
       → added (Asked request) (Replied Done) ≡ []
-      → asked_told g plan.me (noticed_after plan past) request Done (told_of plan g past) ≡ told
+      → asked_told g plan.me (noticed_after plan past) Done request.what (told_of plan g past) ≡ told
       → living_after g (Asked request) (Replied Done) (living_of g past) ≡ living
       → made_by g (Asked request) (Replied Done) ≡ None
       → is_dropped_by g (Asked request) (Replied Done) ≡ false
-      → tenant_given g plan.me request Done ≡ []
-      → other_given g plan.me request Done ≡ record { node = plan.me; event = event } ∷ []
+      → tenant_given g plan.me Done request.what ≡ []
+      → other_given g plan.me Done request.what ≡ record { node = plan.me; event = event } ∷ []
       → MayHappen plan.me event group
       → Fits plan.nodes g plan.me.number frames_from (record before { told = told; living = living }) (member_after (bounds_with plan versions) g plan.me event group)
       → AskedGoes plan versions g past request Done frames_from group
@@ -216,10 +234,10 @@ module _ (plan : NodePlan) (versions : List Version) (g : Addr) (past : List Hap
           (ap (λ b. replies_in plan.me g past ++ (if b then Done ∷ [] else [])) foreign ∙ append-nil (replies_in plan.me g past))
           (ap (λ b. (b && is_own_request plan.me g past request) || is_met plan.me g past) running)
 
-  generation_made : (token : List ℕ) (addr : Addr) (spec : Spec) → is_stopped past ≡ false → is_own_request plan.me g past (Make token addr spec) ≡ false → is_other_generation g addr ≡ true → FitsBefore
-      → AskedGoes plan versions g past (Make token addr spec) Done frames_from group
+  generation_made : (token : List ℕ) (addr : Addr) (spec : Spec) → is_stopped past ≡ false → is_own_request plan.me g past (asking_of token addr (Make spec)) ≡ false → is_other_generation g addr ≡ true → FitsBefore
+      → AskedGoes plan versions g past (asking_of token addr (Make spec)) Done frames_from group
   generation_made token addr spec running foreign other fits =
-      generation_goes (Make token addr spec) (OtherMade addr.generation) (where_so later passed (told_of plan g past)) (living_of g past + 1) running foreign refl
+      generation_goes (asking_of token addr (Make spec)) (OtherMade addr.generation) (where_so later passed (told_of plan g past)) (living_of g past + 1) running foreign refl
       (ap (λ b. if b then or_added (told_of plan g past) (Some (Some (told_first spec plan.me (noticed_after plan past)))) else where_so (is_reached_by g addr) passed (told_of plan g past)) (other_address g addr other)
       ∙ ap (λ b. where_so b passed (told_of plan g past)) (reached_later g addr other))
       (ap (λ b. if b then living_of g past + 1 else living_of g past) other)
@@ -248,10 +266,10 @@ module _ (plan : NodePlan) (versions : List Version) (g : Addr) (past : List Hap
       now : MemberFits plan.nodes plan.me.number (carried_in g before) (where_so later passed (told_of plan g past)) (member_after (bounds_with plan versions) g plan.me (OtherMade addr.generation) group)
       now = passed_fits plan.nodes plan.me.number (carried_in g before) later ((group plan.me.number).others + 1) (told_of plan g past) (group plan.me.number) (member_fits plan.nodes g plan.me.number frames_from before (group plan.me.number) fits)
 
-  generation_dropped : (token : List ℕ) (addr : Addr) → is_stopped past ≡ false → is_own_request plan.me g past (DropGroup token addr) ≡ false → is_other_generation g addr ≡ true → FitsBefore
-      → AskedGoes plan versions g past (DropGroup token addr) Done frames_from group
+  generation_dropped : (token : List ℕ) (addr : Addr) → is_stopped past ≡ false → is_own_request plan.me g past (asking_of token addr Drop) ≡ false → is_other_generation g addr ≡ true → FitsBefore
+      → AskedGoes plan versions g past (asking_of token addr Drop) Done frames_from group
   generation_dropped token addr running foreign other fits =
-      generation_goes (DropGroup token addr) OtherDropped (told_of plan g past) (living_of g past - 1) running foreign refl
+      generation_goes (asking_of token addr Drop) OtherDropped (told_of plan g past) (living_of g past - 1) running foreign refl
       (ap (λ b. where_so b dropped (told_of plan g past)) (other_address g addr other))
       (ap (λ b. if b then living_of g past - 1 else living_of g past) other) refl (other_address g addr other) refl
       (ap (λ b. if b then record { node = plan.me; event = OtherDropped } ∷ [] else []) other) tt
@@ -274,51 +292,58 @@ module _ (plan : NodePlan) (versions : List Version) (g : Addr) (past : List Hap
 
   -- Another group's request.
 
-  other_make : (token : List ℕ) (addr : Addr) (spec : Spec) (r : Reply) → is_stopped past ≡ false → is_own_request plan.me g past (Make token addr spec) ≡ false → is_addr g addr ≡ false → FitsBefore → AskedGoes plan versions g past (Make token addr spec) r frames_from group
+  other_make : (token : List ℕ) (addr : Addr) (spec : Spec) (r : Reply) → is_stopped past ≡ false → is_own_request plan.me g past (asking_of token addr (Make spec)) ≡ false → is_addr g addr ≡ false → FitsBefore → AskedGoes plan versions g past (asking_of token addr (Make spec)) r frames_from group
   other_make token addr spec Done running foreign unnamed fits = go (cases_Bool (is_other_generation g addr))
     where
-      go : ((is_other_generation g addr ≡ true) ⊎ (is_other_generation g addr ≡ false)) → AskedGoes plan versions g past (Make token addr spec) Done frames_from group
+      go : ((is_other_generation g addr ≡ true) ⊎ (is_other_generation g addr ≡ false)) → AskedGoes plan versions g past (asking_of token addr (Make spec)) Done frames_from group
       go (inl other) = generation_made token addr spec running foreign other fits
-      go (inr apart) = passes (Make token addr spec) Done running foreign refl
+      go (inr apart) = passes (asking_of token addr (Make spec)) Done running foreign refl
           (ap (λ b. if b then or_added (told_of plan g past) (Some (Some (told_first spec plan.me (noticed_after plan past)))) else where_so (is_reached_by g addr) passed (told_of plan g past)) unnamed
           ∙ ap (λ b. where_so b passed (told_of plan g past)) (unreached g addr unnamed apart))
           (ap (λ b. if b then living_of g past + 1 else living_of g past) apart)
           (ap (λ b. if b then Some spec else None) unnamed) refl refl
           (ap (λ b. if b then record { node = plan.me; event = OtherMade addr.generation } ∷ [] else []) apart) fits
-  other_make token addr spec r running foreign unnamed fits = passes (Make token addr spec) r running foreign refl refl refl refl refl refl refl fits
+  other_make token addr spec r running foreign unnamed fits = passes (asking_of token addr (Make spec)) r running foreign refl refl refl refl refl refl refl fits
 
-  other_drop : (token : List ℕ) (addr : Addr) (r : Reply) → is_stopped past ≡ false → is_own_request plan.me g past (DropGroup token addr) ≡ false → is_addr g addr ≡ false → FitsBefore → AskedGoes plan versions g past (DropGroup token addr) r frames_from group
+  other_drop : (token : List ℕ) (addr : Addr) (r : Reply) → is_stopped past ≡ false → is_own_request plan.me g past (asking_of token addr Drop) ≡ false → is_addr g addr ≡ false → FitsBefore → AskedGoes plan versions g past (asking_of token addr Drop) r frames_from group
   other_drop token addr Done running foreign unnamed fits = go (cases_Bool (is_other_generation g addr))
     where
-      go : ((is_other_generation g addr ≡ true) ⊎ (is_other_generation g addr ≡ false)) → AskedGoes plan versions g past (DropGroup token addr) Done frames_from group
+      go : ((is_other_generation g addr ≡ true) ⊎ (is_other_generation g addr ≡ false)) → AskedGoes plan versions g past (asking_of token addr Drop) Done frames_from group
       go (inl other) = generation_dropped token addr running foreign other fits
-      go (inr apart) = passes (DropGroup token addr) Done running foreign refl
+      go (inr apart) = passes (asking_of token addr Drop) Done running foreign refl
           (ap (λ b. where_so b dropped (told_of plan g past)) unnamed)
           (ap (λ b. if b then living_of g past - 1 else living_of g past) apart) refl unnamed refl
           (ap (λ b. if b then record { node = plan.me; event = OtherDropped } ∷ [] else []) apart) fits
-  other_drop token addr r running foreign unnamed fits = passes (DropGroup token addr) r running foreign refl refl refl refl refl refl refl fits
+  other_drop token addr r running foreign unnamed fits = passes (asking_of token addr Drop) r running foreign refl refl refl refl refl refl refl fits
 
-  other_open : (token : List ℕ) (addr : Addr) (r : Reply) → is_addr g addr ≡ false → asked_told g plan.me (noticed_after plan past) (OpenGroup token addr) r (told_of plan g past) ≡ told_of plan g past
-  other_open token addr Done other = rw other refl
-  other_open token addr r other = refl
+  other_told : (addr : Addr) (command : GroupCommand) (r : Reply) → is_addr g addr ≡ false → IsIdle command → asked_told g plan.me (noticed_after plan past) r (AtGroup addr command) (told_of plan g past) ≡ told_of plan g past
+  other_told addr Open Done other idle = rw other refl
+  other_told addr Shut Done other idle = rw other refl
+  other_told addr (Say message) (Said seq) other idle = rw other refl
+  other_told addr (Make spec) r other idle = absurd idle
+  other_told addr Drop r other idle = absurd idle
+  other_told addr Open r other idle = refl
+  other_told addr Shut r other idle = refl
+  other_told addr (Say message) r other idle = refl
+  other_told addr (Fetch from most) Done other idle = refl
+  other_told addr (Fetch from most) r other idle = refl
 
-  other_shut : (token : List ℕ) (addr : Addr) (r : Reply) → is_addr g addr ≡ false → asked_told g plan.me (noticed_after plan past) (ShutGroup token addr) r (told_of plan g past) ≡ told_of plan g past
-  other_shut token addr Done other = rw other refl
-  other_shut token addr r other = refl
-
-  other_say : (token : List ℕ) (addr : Addr) (message : NewMessage) (r : Reply) → is_addr g addr ≡ false → asked_told g plan.me (noticed_after plan past) (Say token addr message) r (told_of plan g past) ≡ told_of plan g past
-  other_say token addr message (Said seq) other = rw other refl
-  other_say token addr message r other = refl
-
-  other_goes : (request : Request) (r : Reply) → is_stopped past ≡ false → is_own_request plan.me g past request ≡ false → is_named g request ≡ false → ((token : List ℕ) (row : TenantRow) → request ≡ AddTenant token row → r ≡ Done → row_of row.tenant (tenants_in past) ≡ None)
+  other_goes : (request : Request) (r : Reply) → is_stopped past ≡ false → is_own_request plan.me g past request ≡ false → is_named g request.what ≡ false → ((row : TenantRow) → request.what ≡ AddTenant row → r ≡ Done → row_of row.tenant (tenants_in past) ≡ None)
       → FitsBefore → AskedGoes plan versions g past request r frames_from group
-  other_goes (AddTenant token row) r running own named new fits = at_tenant token row r running (new token row refl) fits
-  other_goes (Make token addr spec) r running own named new fits = other_make token addr spec r running own named fits
-  other_goes (OpenGroup token addr) r running own named new fits = passes (OpenGroup token addr) r running own refl (other_open token addr r named) refl refl refl refl refl fits
-  other_goes (ShutGroup token addr) r running own named new fits = passes (ShutGroup token addr) r running own refl (other_shut token addr r named) refl refl refl refl refl fits
-  other_goes (DropGroup token addr) r running own named new fits = other_drop token addr r running own named fits
-  other_goes (Say token addr message) r running own named new fits = passes (Say token addr message) r running own refl (other_say token addr message r named) refl refl refl refl refl fits
-  other_goes (Fetch token addr from most) r running own named new fits = passes (Fetch token addr from most) r running own refl refl refl refl refl refl refl fits
+  other_goes request r running own named new fits = by request.what own named new
+    where
+      token : List ℕ
+      token = request.token
+
+      by : (what : Action) → is_own_request plan.me g past (record { token = token; what = what }) ≡ false → is_named g what ≡ false → ((row : TenantRow) → what ≡ AddTenant row → r ≡ Done → row_of row.tenant (tenants_in past) ≡ None)
+          → AskedGoes plan versions g past (record { token = token; what = what }) r frames_from group
+      by (AddTenant row) own named new = at_tenant token row r running (new row refl) fits
+      by (AtGroup addr (Make spec)) own named new = other_make token addr spec r running own named fits
+      by (AtGroup addr Drop) own named new = other_drop token addr r running own named fits
+      by (AtGroup addr Open) own named new = idle (asking_of token addr Open) r running own refl (other_told addr Open r named tt) refl refl refl refl refl fits
+      by (AtGroup addr Shut) own named new = idle (asking_of token addr Shut) r running own refl (other_told addr Shut r named tt) refl refl refl refl refl fits
+      by (AtGroup addr (Say message)) own named new = idle (asking_of token addr (Say message)) r running own refl (other_told addr (Say message) r named tt) refl refl refl refl refl fits
+      by (AtGroup addr (Fetch from most)) own named new = idle (asking_of token addr (Fetch from most)) r running own refl (other_told addr (Fetch from most) r named tt) refl refl refl refl refl fits
 
   -- The group's own request.
 
@@ -326,41 +351,32 @@ module _ (plan : NodePlan) (versions : List Version) (g : Addr) (past : List Hap
       → is_noticed_after plan past ≡ set.contains (noticed_after plan past)
       → ((b : ℕ) → set.contains (noticed_after plan past) b ≡ true → b < NODES)
       → ((t : Told) → told_of plan g past ≡ Some (Some t) → (b : ℕ) → b < plan.nodes → list_any (alone.is_message plan.me.number (said_in t.calls + 1)) (group_items_of g (frames_to plan.cluster_key b past)) ≡ false)
-      → is_stopped past ≡ false → is_own_request plan.me g past request ≡ true → reply ≡ admitted_answer plan past request → FitsBefore → AskedGoes plan versions g past request reply frames_from group
-  own_goes (AddTenant token row) reply right few silent below fresh running own is fits = absurd (clash own)
+      → is_stopped past ≡ false → is_own_request plan.me g past request ≡ true → reply ≡ admitted_answer plan past request.what → FitsBefore → AskedGoes plan versions g past request reply frames_from group
+  own_goes request reply right few silent below fresh running own is fits = by request.what own is
     where
+      token : List ℕ
+      token = request.token
+
       clash : false ≡ true → ⊥
       clash e = cc
-  own_goes (Make token addr spec) reply right few silent below fresh running own is fits = at_make plan versions g past frames_from group token addr spec reply right running own is silent below fits
-  own_goes (OpenGroup token addr) reply right few silent below fresh running own is fits = at_open plan versions g past frames_from group reply token addr few running own is fits
-  own_goes (ShutGroup token addr) reply right few silent below fresh running own is fits = at_shut plan versions g past frames_from group reply token addr few running own is fits
-  own_goes (DropGroup token addr) reply right few silent below fresh running own is fits = at_drop plan versions g past frames_from group reply token addr few running own is fits
-  own_goes (Say token addr message) reply right few silent below fresh running own is fits = at_say plan versions g past frames_from group reply token addr right message few running own is fresh fits
-  own_goes (Fetch token addr from most) reply right few silent below fresh running own is fits = at_fetch plan versions g past frames_from group reply token addr from most few running own is fits
+
+      by : (what : Action) → is_own_request plan.me g past (record { token = token; what = what }) ≡ true → reply ≡ admitted_answer plan past what → AskedGoes plan versions g past (record { token = token; what = what }) reply frames_from group
+      by (AddTenant row) own is = absurd (clash own)
+      by (AtGroup addr (Make spec)) own is = at_make plan versions g past frames_from group token addr spec reply right running own is silent below fits
+      by (AtGroup addr Open) own is = at_open plan versions g past frames_from group reply token addr few running own is fits
+      by (AtGroup addr Shut) own is = at_shut plan versions g past frames_from group reply token addr few running own is fits
+      by (AtGroup addr Drop) own is = at_drop plan versions g past frames_from group reply token addr few running own is fits
+      by (AtGroup addr (Say message)) own is = at_say plan versions g past frames_from group reply token addr right message few running own is fresh fits
+      by (AtGroup addr (Fetch from most)) own is = at_fetch plan versions g past frames_from group reply token addr from most few running own is fits
 
 -- Replies.
 
-no_memory : (request : Request) (why : Refusal) → RequestTakesMemory request (Refused why) → ⊥
-no_memory (AddTenant token row) why takes = clash takes
-  where
-    clash : false ≡ true → ⊥
-    clash e = cc
-no_memory (Make token addr spec) why takes = clash takes
-  where
-    clash : false ≡ true → ⊥
-    clash e = cc
-no_memory (OpenGroup token addr) why takes = takes
-no_memory (ShutGroup token addr) why takes = takes
-no_memory (DropGroup token addr) why takes = takes
-no_memory (Say token addr message) why takes = takes
-no_memory (Fetch token addr from most) why takes = clash takes
-  where
-    clash : false ≡ true → ⊥
-    clash e = cc
+no_memory : (why : Refusal) → takes_memory (Refused why) ≡ true → ⊥
+no_memory why takes = cc
 
 module _ (plan : NodePlan) (past : List Happened) (request : Request) (reply : Reply) where
   stopped_reply : is_stopped past ≡ true → IsAsked plan past request reply → reply ≡ Refused Stopped
-  stopped_reply stopped (inl wants) = absurd (no_memory request Stopped (subst (RequestTakesMemory request) (answer stopped) wants.1))
+  stopped_reply stopped (inl wants) = absurd (no_memory Stopped (subst (λ (r : Reply). takes_memory r ≡ true) (answer stopped) wants.1.1))
     where
       answer : is_stopped past ≡ true → past_answer plan past request ≡ Refused Stopped
       answer stopped = rw stopped refl
@@ -369,7 +385,7 @@ module _ (plan : NodePlan) (past : List Happened) (request : Request) (reply : R
       answer : is_stopped past ≡ true → past_answer plan past request ≡ Refused Stopped
       answer stopped = rw stopped refl
 
-  running_answer : is_stopped past ≡ false → (b : Bool) → is_admitted_by plan past request ≡ b → past_answer plan past request ≡ (if b then admitted_answer plan past request else Refused Denied)
+  running_answer : is_stopped past ≡ false → (b : Bool) → is_admitted_by plan past request ≡ b → past_answer plan past request ≡ (if b then admitted_answer plan past request.what else Refused Denied)
   running_answer running b is = rw (running, is) refl
 
 -- A request.
@@ -398,15 +414,15 @@ asked_goes plan versions g past request reply frames_from group right few silent
         clash : true ≡ false → ⊥
         clash e = cc
 
-    new_tenant : is_stopped past ≡ false → is_admitted_by plan past request ≡ true → reply ≡ past_answer plan past request → (token : List ℕ) (row : TenantRow) → request ≡ AddTenant token row → reply ≡ Done → row_of row.tenant (tenants_in past) ≡ None
-    new_tenant running admitted is token row same done =
+    new_tenant : is_stopped past ≡ false → is_admitted_by plan past request ≡ true → reply ≡ past_answer plan past request → (row : TenantRow) → request.what ≡ AddTenant row → reply ≡ Done → row_of row.tenant (tenants_in past) ≡ None
+    new_tenant running admitted is row same done =
         none_of (row_of row.tenant (tenants_in past)) (tenant_new plan.places (reserved (tenants_in past)) (is_some (row_of row.tenant (tenants_in past))) row
         (sym (ap (admitted_answer plan past) same) ∙ (sym (running_answer plan past request reply running true admitted) ∙ (sym is ∙ done))))
 
-    unnamed : is_own_request plan.me g past request ≡ false → is_admitted_by plan past request ≡ true → is_named g request ≡ false
-    unnamed other admitted = by (is_named g request) refl
+    unnamed : is_own_request plan.me g past request ≡ false → is_admitted_by plan past request ≡ true → is_named g request.what ≡ false
+    unnamed other admitted = by (is_named g request.what) refl
       where
-        by : (named : Bool) → is_named g request ≡ named → named ≡ false
+        by : (named : Bool) → is_named g request.what ≡ named → named ≡ false
         by true named = let own : is_own_request plan.me g past request ≡ true = and_both named (group_token_is plan g past request named ∙ admitted) in absurd (cc)
         by false named = refl
 
@@ -418,7 +434,7 @@ asked_goes plan versions g past request reply frames_from group right few silent
     go (inl stopped) own answer = subst Wanted (sym (stopped_reply plan past request reply stopped answer)) (stopped_goes plan versions g past request frames_from group stopped fits)
     go (inr running) (inl own) (inl wants) = absurd (starved own wants.0)
     go (inr running) (inl own) (inr is) =
-        let parts = and_parts (is_named g request) (has_group_token plan.me (tenants_in past) request) own in
+        let parts = and_parts (is_named g request.what) (has_group_token plan.me (tenants_in past) request) own in
         own_goes plan versions g past frames_from group request reply right few silent below fresh running own (is ∙ running_answer plan past request reply running true (sym (group_token_is plan g past request parts.0) ∙ parts.1)) fits
     go (inr running) (inr other) (inl wants) = subst Wanted (sym wants.0) (refusal_passes plan versions g past frames_from group request OutOfMemory running other fits)
     go (inr running) (inr other) (inr is) = foreign running other is (cases_Bool (is_admitted_by plan past request))

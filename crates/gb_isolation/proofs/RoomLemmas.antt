@@ -7,16 +7,15 @@ use Rattle.std.proofs.lemmas.List.{append-nil}
 use Rattle.gb_types.specs.declared.address.Addr.{Addr}
 use Rattle.gb_types.specs.declared.node.NodeId.{NodeId}
 use Rattle.gb_types.specs.declared.reply.Reply.{Reply}
-use Rattle.gb_types.specs.declared.reply.Reply.TheVariants.{Done}
-use Rattle.gb_types.specs.declared.request.Request.{Request}
-use Rattle.gb_types.specs.declared.request.Request.TheVariants.{Make, DropGroup}
+use Rattle.gb_types.specs.declared.request.Action.{Action}
+use Rattle.gb_types.specs.declared.request.Action.TheVariants.{Group as AtGroup}
+use Rattle.gb_types.specs.declared.request.GroupCommand.TheVariants.{Make, Drop}
 use Rattle.gb_rules.specs.Address.{is_addr}
 use Rattle.gb_rules.specs.Room.{is_same_room, is_reached_by, is_other_generation}
 use Rattle.gb_alone.specs.declared.event.GroupEvent.TheVariants.{OtherMade, OtherDropped}
-use Rattle.gb_node.specs.PastGroups.{living_after}
-use Rattle.gb_node.specs.declared.answer.NodeAnswer.TheVariants.{Reply as Replied}
-use Rattle.gb_node.specs.declared.event.NodeEvent.TheVariants.{Request as Asked}
-use Rattle.gb_isolation.specs.Project.{is_named, tenant_given, other_given}
+use Rattle.gb_node.specs.PastGroups.{living_done}
+use Rattle.gb_node.proofs.AskedLemmas.{if_same}
+use Rattle.gb_isolation.specs.Project.{is_named, tenant_given, other_of, other_given}
 
 -- a group is no other generation of its room
 own_generation : (g addr : Addr) → is_addr g addr ≡ true → is_other_generation g addr ≡ false
@@ -36,16 +35,16 @@ unreached g addr unnamed apart = grind (arith, nat_tests, unnamed, apart)
 
 -- The group's own requests.
 
-own_others : (g : Addr) (a : NodeId) (request : Request) (reply : Reply) → is_named g request ≡ true → other_given g a request reply ≡ []
-own_others g a (Make token addr spec) Done named = ap (λ b. if b then record { node = a; event = OtherMade addr.generation } ∷ [] else []) (own_generation g addr named)
-own_others g a (DropGroup token addr) Done named = ap (λ b. if b then record { node = a; event = OtherDropped } ∷ [] else []) (own_generation g addr named)
-own_others g a request reply named = refl
+own_others : (g : Addr) (a : NodeId) (what : Action) → is_named g what ≡ true → other_of g a what ≡ []
+own_others g a (AtGroup addr (Make spec)) named = ap (λ b. if b then record { node = a; event = OtherMade addr.generation } ∷ [] else []) (own_generation g addr named)
+own_others g a (AtGroup addr Drop) named = ap (λ b. if b then record { node = a; event = OtherDropped } ∷ [] else []) (own_generation g addr named)
+own_others g a what named = refl
 
 -- so they give what they give beside such makes and drops
-pub own_given : (g : Addr) (a : NodeId) (request : Request) (reply : Reply) → is_named g request ≡ true → tenant_given g a request reply ++ other_given g a request reply ≡ tenant_given g a request reply
-own_given g a request reply named = ap (λ es. tenant_given g a request reply ++ es) (own_others g a request reply named) ∙ append-nil (tenant_given g a request reply)
+pub own_given : (g : Addr) (a : NodeId) (reply : Reply) (what : Action) → is_named g what ≡ true → tenant_given g a reply what ++ other_given g a reply what ≡ tenant_given g a reply what
+own_given g a reply what named = ap (λ es. tenant_given g a reply what ++ es) (if_same reply (other_of g a what) [] (own_others g a what named)) ∙ append-nil (tenant_given g a reply what)
 
-pub own_living : (g : Addr) (request : Request) (reply : Reply) (n : ℕ) → is_named g request ≡ true → living_after g (Asked request) (Replied reply) n ≡ n
-own_living g (Make token addr spec) Done n named = ap (λ b. if b then n + 1 else n) (own_generation g addr named)
-own_living g (DropGroup token addr) Done n named = ap (λ b. if b then n - 1 else n) (own_generation g addr named)
-own_living g request reply n named = refl
+pub own_living : (g : Addr) (what : Action) (n : ℕ) → is_named g what ≡ true → living_done g what n ≡ n
+own_living g (AtGroup addr (Make spec)) n named = ap (λ b. if b then n + 1 else n) (own_generation g addr named)
+own_living g (AtGroup addr Drop) n named = ap (λ b. if b then n - 1 else n) (own_generation g addr named)
+own_living g what n named = refl

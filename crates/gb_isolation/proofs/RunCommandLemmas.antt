@@ -10,7 +10,10 @@ use Rattle.gb_types.specs.declared.node.NodeId.{NodeId}
 use Rattle.gb_types.specs.declared.reply.Reply.{Reply}
 use Rattle.gb_types.specs.declared.reply.Reply.TheVariants.{Said}
 use Rattle.gb_types.specs.declared.request.Request.{Request}
-use Rattle.gb_types.specs.declared.request.Request.TheVariants.{AddTenant, Make, OpenGroup, ShutGroup, DropGroup, Say, Fetch}
+use Rattle.gb_types.specs.declared.request.Action.{Action}
+use Rattle.gb_types.specs.declared.request.Action.TheVariants.{AddTenant, Group as AtGroup}
+use Rattle.gb_types.specs.declared.request.GroupCommand.{GroupCommand}
+use Rattle.gb_types.specs.declared.request.GroupCommand.TheVariants.{Make, Open, Shut, Drop, Say, Fetch}
 use Rattle.gb_types.proofs.SameLemmas.{same_number}
 use Rattle.gb_alone.specs.Laws.{accepted_in}
 use Rattle.gb_alone.specs.declared.event.GroupEvent.{GroupEvent}
@@ -31,32 +34,32 @@ use Rattle.gb_cluster.specs.ClusterValue.{node_plan}
 use Rattle.gb_cluster.specs.Run.{Did, past_at}
 use Rattle.gb_types.specs.declared.plan.Plan.{Plan}
 use Rattle.gb_cluster.proofs.NodesLemmas.{past_same, past_other}
-use Rattle.gb_isolation.specs.Project.{group_items_of, is_named, is_own_request, command_for, made_by, made_with, tenant_given, other_given, is_met, with_stop, if_any, arrived, ticked, gives, project, reply_in, replies_in}
+use Rattle.gb_isolation.specs.Project.{event_of, group_items_of, is_named, is_own_request, command_for, made_by, made_with, tenant_given, other_given, is_met, with_stop, if_any, arrived, ticked, gives, project, reply_in, replies_in}
 use Rattle.gb_isolation.specs.RunLaws.{said_by, accepted_by, accepted_in_past}
 use Rattle.gb_isolation.proofs.GivenLemmas.{carried_any, carried_packets, given_at, no_commands_elsewhere, no_commands_carried, no_commands_ticked, no_commands_tenant, no_commands_other, commands_stopped}
 use Rattle.gb_isolation.proofs.View.{asked_by, is_noticed_after, own_requested_by}
 use Rattle.gb_frame.specs.Packet.{Content}
 
 -- what a request gives besides the command is no command
-commands_own : (plan : NodePlan) (g : Addr) (past : List Happened) (s : ℕ) (request : Request) (reply : Reply) → commands s (own_requested_by plan g past request reply) ≡ commands s (command_for plan.me request)
+commands_own : (plan : NodePlan) (g : Addr) (past : List Happened) (s : ℕ) (request : Request) (reply : Reply) → commands s (own_requested_by plan g past request reply) ≡ commands s (command_for plan.me request.what)
 unfolding commands
 commands_own plan g past s request reply =
-    commands-append s (command_for plan.me request) (ticked plan.me (is_noticed_after plan past) (made_by g (Asked request) (Replied reply)))
-    ∙ (ap (λ es. commands s (command_for plan.me request) ++ es) (no_commands_ticked s plan.me (is_noticed_after plan past) (made_by g (Asked request) (Replied reply)))
-    ∙ append-nil (commands s (command_for plan.me request)))
+    commands-append s (command_for plan.me request.what) (ticked plan.me (is_noticed_after plan past) (made_by g (Asked request) (Replied reply)))
+    ∙ (ap (λ es. commands s (command_for plan.me request.what) ++ es) (no_commands_ticked s plan.me (is_noticed_after plan past) (made_by g (Asked request) (Replied reply)))
+    ∙ append-nil (commands s (command_for plan.me request.what)))
 
-commands_asked : (plan : NodePlan) (g : Addr) (past : List Happened) (s : ℕ) (request : Request) (reply : Reply) → commands s (asked_by plan g past request reply) ≡ commands s (if is_own_request plan.me g past request then command_for plan.me request else [])
+commands_asked : (plan : NodePlan) (g : Addr) (past : List Happened) (s : ℕ) (request : Request) (reply : Reply) → commands s (asked_by plan g past request reply) ≡ commands s (if is_own_request plan.me g past request then command_for plan.me request.what else [])
 commands_asked plan g past s request reply = by (is_stopped past) (is_own_request plan.me g past request)
   where
-    beside : (xs : List GroupStep) → commands s (tenant_given g plan.me request reply ++ other_given g plan.me request reply ++ xs) ≡ commands s xs
+    beside : (xs : List GroupStep) → commands s (tenant_given g plan.me reply request.what ++ other_given g plan.me reply request.what ++ xs) ≡ commands s xs
     beside xs =
-        commands-append s (tenant_given g plan.me request reply ++ other_given g plan.me request reply) xs
-        ∙ ap (λ es. es ++ commands s xs) (commands-append s (tenant_given g plan.me request reply) (other_given g plan.me request reply) ∙ (λ i. no_commands_tenant s g plan.me request reply i ++ no_commands_other s g plan.me request reply i))
+        commands-append s (tenant_given g plan.me reply request.what ++ other_given g plan.me reply request.what) xs
+        ∙ ap (λ es. es ++ commands s xs) (commands-append s (tenant_given g plan.me reply request.what) (other_given g plan.me reply request.what) ∙ (λ i. no_commands_tenant s g plan.me reply request.what i ++ no_commands_other s g plan.me reply request.what i))
 
     by : (stopped own : Bool)
-        → commands s (if stopped then (if own then with_stop plan.me (is_met plan.me g past) (command_for plan.me request) else []) else tenant_given g plan.me request reply ++ other_given g plan.me request reply ++ (if own then own_requested_by plan g past request reply else []))
-        ≡ commands s (if own then command_for plan.me request else [])
-    by true true = commands_stopped s plan.me (is_met plan.me g past) (command_for plan.me request)
+        → commands s (if stopped then (if own then with_stop plan.me (is_met plan.me g past) (command_for plan.me request.what) else []) else tenant_given g plan.me reply request.what ++ other_given g plan.me reply request.what ++ (if own then own_requested_by plan g past request reply else []))
+        ≡ commands s (if own then command_for plan.me request.what else [])
+    by true true = commands_stopped s plan.me (is_met plan.me g past) (command_for plan.me request.what)
     by true false = refl
     by false true = beside (own_requested_by plan g past request reply) ∙ commands_own plan g past s request reply
     by false false = beside []
@@ -66,15 +69,18 @@ command_pairs : (a : NodeId) (e : GroupEvent) (r : Reply) → command_in e ≡ e
 unfolding commands
 command_pairs a e r is = subst (λ es. Pairs (es ++ []) (r ∷ []) (accepted_in e r)) (sym (ap (λ (t : Bool). if t then command_in e else []) (eq-eqb a.number a.number refl) ∙ is)) (one_pair e r)
 
-named_pairs : (g : Addr) (a : NodeId) (request : Request) (reply : Reply) → is_named g request ≡ true → Pairs (commands a.number (command_for a request)) (reply ∷ []) (said_by request reply)
-named_pairs g a (AddTenant token row) reply named = absurd (cc)
-named_pairs g a (Make token addr spec) reply named = command_pairs a (AskMake spec) reply refl
-named_pairs g a (OpenGroup token addr) reply named = command_pairs a AskOpen reply refl
-named_pairs g a (ShutGroup token addr) reply named = command_pairs a AskShut reply refl
-named_pairs g a (DropGroup token addr) reply named = command_pairs a AskDrop reply refl
-named_pairs g a (Say token addr message) (Said seq) named = command_pairs a (AskSay message) (Said seq) refl
-named_pairs g a (Say token addr message) reply named = command_pairs a (AskSay message) reply refl
-named_pairs g a (Fetch token addr from most) reply named = command_pairs a (AskFetch from most) reply refl
+command_replied : (a : NodeId) (addr : Addr) (command : GroupCommand) (reply : Reply) → Pairs (commands a.number (record { node = a; event = event_of command } ∷ [])) (reply ∷ []) (said_by (AtGroup addr command) reply)
+command_replied a addr (Make spec) reply = command_pairs a (AskMake spec) reply refl
+command_replied a addr Open reply = command_pairs a AskOpen reply refl
+command_replied a addr Shut reply = command_pairs a AskShut reply refl
+command_replied a addr Drop reply = command_pairs a AskDrop reply refl
+command_replied a addr (Say message) (Said seq) = command_pairs a (AskSay message) (Said seq) refl
+command_replied a addr (Say message) reply = command_pairs a (AskSay message) reply refl
+command_replied a addr (Fetch from most) reply = command_pairs a (AskFetch from most) reply refl
+
+named_pairs : (g : Addr) (a : NodeId) (what : Action) (reply : Reply) → is_named g what ≡ true → Pairs (commands a.number (command_for a what)) (reply ∷ []) (said_by what reply)
+named_pairs g a (AddTenant row) reply named = absurd (cc)
+named_pairs g a (AtGroup addr command) reply named = command_replied a addr command reply
 
 reply_pairs : (plan : NodePlan) (g : Addr) (past : List Happened) (request : Request) (reply : Reply)
     → Pairs (commands plan.me.number (asked_by plan g past request reply)) (reply_in plan.me g past (Asked request) (Replied reply)) (accepted_by plan g past (Asked request) (Replied reply))
@@ -83,8 +89,8 @@ reply_pairs plan g past request reply =
     subst (λ es. Pairs es (reply_in plan.me g past (Asked request) (Replied reply)) (accepted_by plan g past (Asked request) (Replied reply))) (sym (commands_asked plan g past plan.me.number request reply))
     (by (is_own_request plan.me g past request) refl)
   where
-    by : (own : Bool) → is_own_request plan.me g past request ≡ own → Pairs (commands plan.me.number (if own then command_for plan.me request else [])) (if own then reply ∷ [] else []) (if own then said_by request reply else [])
-    by true is = named_pairs g plan.me request reply (and_parts (is_named g request) (has_group_token plan.me (tenants_in past) request) is).0
+    by : (own : Bool) → is_own_request plan.me g past request ≡ own → Pairs (commands plan.me.number (if own then command_for plan.me request.what else [])) (if own then reply ∷ [] else []) (if own then said_by request.what reply else [])
+    by true is = named_pairs g plan.me request.what reply (and_parts (is_named g request.what) (has_group_token plan.me (tenants_in past) request) is).0
     by false is = no_pairs
 
 none_paired : (es : List GroupEvent) → es ≡ [] → Pairs es [] []

@@ -48,7 +48,6 @@ use Rattle.gb_isolation.proofs.MarkLemmas.{marks_more, offset_none}
 use Rattle.gb_isolation.proofs.PackLemmas.{packed_goes}
 use Rattle.gb_isolation.proofs.PastLemmas.{running_unmet}
 use Rattle.gb_types.specs.declared.request.Request.{Request}
-use Rattle.gb_types.specs.declared.request.Request.TheVariants.{AddTenant, Make, DropGroup}
 use Rattle.gb_types.proofs.BoolLemmas.{not_true}
 use Rattle.gb_types.specs.Version.{bounds_of}
 use Rattle.gb_isolation.proofs.UnrelatedLemmas.{unrelated_goes}
@@ -117,9 +116,6 @@ is_reply x = false
 -- a request that is answered by no reply adds no tenant, and makes and drops no group
 not_replied : (g : Addr) (request : Request) (x : NodeAnswer) (n : ℕ) → is_reply x ≡ false → (added (Asked request) x ≡ []) × (made_by g (Asked request) x ≡ None) × (living_after g (Asked request) x n ≡ n) × (is_dropped_by g (Asked request) x ≡ false)
 not_replied g request (Replied reply) n no_reply = absurd (cc)
-not_replied g (AddTenant token row) x n no_reply = (refl, refl, refl, refl)
-not_replied g (Make token addr spec) x n no_reply = (refl, refl, refl, refl)
-not_replied g (DropGroup token addr) x n no_reply = (refl, refl, refl, refl)
 not_replied g request x n no_reply = (refl, refl, refl, refl)
 
 -- The laws of nodes and links that the theorem stands on.

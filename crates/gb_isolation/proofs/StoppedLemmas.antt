@@ -1,6 +1,5 @@
 -- What a request at a node that has stopped does to each group there: the group's first command meets the stop.
 use Rattle.std.proofs.Common.{◌≡◌, ℕ, List, [], ◌∷◌, ◌++◌, Bool, true, false, ◌&&◌, ◌||◌, ◌⊎◌, inl, inr, refl, sym, ◌∙◌, ap, subst}
-use Rattle.std.specs.Option.{option_or}
 use Rattle.std.specs.Prelude.{if◌then◌else◌}
 use Rattle.std.proofs.lemmas.Bool.{cases_Bool, and_parts}
 use Rattle.gb_types.specs.declared.address.Addr.{Addr}
@@ -8,8 +7,10 @@ use Rattle.gb_types.specs.declared.node.NodeId.{NodeId}
 use Rattle.gb_types.specs.declared.refusal.Refusal.TheVariants.{Stopped}
 use Rattle.gb_types.specs.declared.reply.Reply.{Reply}
 use Rattle.gb_types.specs.declared.reply.Reply.TheVariants.{Refused}
+use Rattle.gb_types.specs.declared.request.Action.{Action}
+use Rattle.gb_types.specs.declared.request.Action.TheVariants.{AddTenant, Group as AtGroup}
+use Rattle.gb_types.specs.declared.request.GroupCommand.TheVariants.{Make, Open, Shut, Drop, Say, Fetch}
 use Rattle.gb_types.specs.declared.request.Request.{Request}
-use Rattle.gb_types.specs.declared.request.Request.TheVariants.{AddTenant, Make, OpenGroup, ShutGroup, DropGroup, Say, Fetch}
 use Rattle.gb_types.specs.declared.plan.Bounds.{Bounds}
 use Rattle.gb_types.specs.declared.version.Version.{Version}
 use Rattle.gb_frame.specs.declared.item.Item.{Item}
@@ -18,12 +19,11 @@ use Rattle.gb_alone.specs.declared.event.GroupEvent.TheVariants.{Make as AskMake
 use Rattle.gb_alone.specs.Alone.{Member, Group, alone_from, commanded, did, member_after, reply_to, running_reply, MayHappen}
 use Rattle.gb_node.specs.StepLaw.{has_group_token}
 use Rattle.gb_node.specs.Past.{Happened, is_stopped, tenants_in}
-use Rattle.gb_node.specs.PastGroups.{noticed_after, told_of, living_of}
+use Rattle.gb_node.specs.PastGroups.{told_of, living_of}
 use Rattle.gb_node.specs.declared.plan.NodePlan.{NodePlan}
 use Rattle.gb_isolation.specs.Project.{is_named, is_own_request, is_met, command_for, with_stop, made_with, replies_in}
 use Rattle.gb_isolation.specs.RunLaws.{is_dropped}
-use Rattle.gb_node.proofs.EventLemmas.{added_refused, asked_untold}
-use Rattle.gb_isolation.proofs.AskLemmas.{asking, view_asked, rows_kept, refused_makes, refused_living, refused_drops, refused_unrelated}
+use Rattle.gb_isolation.proofs.AskLemmas.{asking, view_asked, rows_kept, refused_unrelated}
 use Rattle.gb_isolation.proofs.GoesLemmas.{goes_one, goes_on}
 use Rattle.gb_isolation.proofs.MemberLemmas.{same_member}
 use Rattle.gb_isolation.proofs.View.{View, view_of, Fits, Goes, bounds_with, asked_by}
@@ -33,21 +33,21 @@ abbrev pub refused : Reply
 refused = Refused Stopped
 
 -- the one command that a request is
-pub record IsCommand (g : Addr) (a : NodeId) (request : Request) : Type 0 where
+pub record IsCommand (g : Addr) (a : NodeId) (what : Action) : Type 0 where
   pub event : GroupEvent
-  pub one : command_for a request ≡ record { node = a; event = event } ∷ []
+  pub one : command_for a what ≡ record { node = a; event = event } ∷ []
   pub may : (group : Group) → MayHappen a event group
   pub replied : (bounds : Bounds) (addr : Addr) (group : Group) → member_after bounds addr a event group ≡ commanded a event (reply_to bounds addr a.number event (group a.number)) (group a.number)
   pub nothing : (m : Member) → did a event refused m ≡ m
 
-pub command_named : (g : Addr) (a : NodeId) (request : Request) → is_named g request ≡ true → IsCommand g a request
-command_named g a (AddTenant token row) named = absurd (cc)
-command_named g a (Make token addr spec) named = record { event = AskMake spec; one = refl; may = λ group. tt; replied = λ bounds addr group. refl; nothing = λ m. refl }
-command_named g a (OpenGroup token addr) named = record { event = AskOpen; one = refl; may = λ group. tt; replied = λ bounds addr group. refl; nothing = λ m. refl }
-command_named g a (ShutGroup token addr) named = record { event = AskShut; one = refl; may = λ group. tt; replied = λ bounds addr group. refl; nothing = λ m. refl }
-command_named g a (DropGroup token addr) named = record { event = AskDrop; one = refl; may = λ group. tt; replied = λ bounds addr group. refl; nothing = λ m. refl }
-command_named g a (Say token addr message) named = record { event = AskSay message; one = refl; may = λ group. tt; replied = λ bounds addr group. refl; nothing = λ m. refl }
-command_named g a (Fetch token addr from most) named = record { event = AskFetch from most; one = refl; may = λ group. tt; replied = λ bounds addr group. refl; nothing = λ m. refl }
+pub command_named : (g : Addr) (a : NodeId) (what : Action) → is_named g what ≡ true → IsCommand g a what
+command_named g a (AddTenant row) named = absurd (cc)
+command_named g a (AtGroup addr (Make spec)) named = record { event = AskMake spec; one = refl; may = λ group. tt; replied = λ bounds addr group. refl; nothing = λ m. refl }
+command_named g a (AtGroup addr Open) named = record { event = AskOpen; one = refl; may = λ group. tt; replied = λ bounds addr group. refl; nothing = λ m. refl }
+command_named g a (AtGroup addr Shut) named = record { event = AskShut; one = refl; may = λ group. tt; replied = λ bounds addr group. refl; nothing = λ m. refl }
+command_named g a (AtGroup addr Drop) named = record { event = AskDrop; one = refl; may = λ group. tt; replied = λ bounds addr group. refl; nothing = λ m. refl }
+command_named g a (AtGroup addr (Say message)) named = record { event = AskSay message; one = refl; may = λ group. tt; replied = λ bounds addr group. refl; nothing = λ m. refl }
+command_named g a (AtGroup addr (Fetch from most)) named = record { event = AskFetch from most; one = refl; may = λ group. tt; replied = λ bounds addr group. refl; nothing = λ m. refl }
 
 -- The group alone at a node that has stopped.
 
@@ -72,9 +72,9 @@ module _ (bounds : Bounds) (g : Addr) (a : NodeId) (frames_from : ℕ → List (
   })
 
   -- and a command is refused then
-  refused_goes : (request : Request) (c : IsCommand g a request) (v : View) (group : Group) → v.met ≡ true → Fits bounds.nodes g a.number frames_from v (group a.number)
+  refused_goes : (what : Action) (c : IsCommand g a what) (v : View) (group : Group) → v.met ≡ true → Fits bounds.nodes g a.number frames_from v (group a.number)
       → Goes bounds g a frames_from (record v { replies = v.replies ++ refused ∷ [] }) group (record { node = a; event = c.event } ∷ [])
-  refused_goes request c v group met fits = goes_one bounds g a frames_from (record v { replies = v.replies ++ refused ∷ [] }) group c.event (c.may group) (subst (Fits bounds.nodes g a.number frames_from (record v { replies = v.replies ++ refused ∷ [] })) (sym left) (record {
+  refused_goes what c v group met fits = goes_one bounds g a frames_from (record v { replies = v.replies ++ refused ∷ [] }) group c.event (c.may group) (subst (Fits bounds.nodes g a.number frames_from (record v { replies = v.replies ++ refused ∷ [] })) (sym left) (record {
     reserve = fits.reserve;
     told = same_member v.told (group a.number) next refl refl refl refl fits.told;
     others = fits.others;
@@ -101,14 +101,14 @@ module _ (bounds : Bounds) (g : Addr) (a : NodeId) (frames_from : ℕ → List (
           ∙ ap (λ (m : Member). record m { replies = (group a.number).replies ++ refused ∷ [] }) (c.nothing (group a.number)))
 
   -- the first command meets the stop
-  meets : (request : Request) (c : IsCommand g a request) (v : View) (group : Group) → Fits bounds.nodes g a.number frames_from v (group a.number) → (b : Bool) → v.met ≡ b
+  meets : (what : Action) (c : IsCommand g a what) (v : View) (group : Group) → Fits bounds.nodes g a.number frames_from v (group a.number) → (b : Bool) → v.met ≡ b
       → Goes bounds g a frames_from (record v { replies = v.replies ++ refused ∷ []; met = true }) group (with_stop a b (record { node = a; event = c.event } ∷ []))
-  meets request c v group fits true met =
-      subst (λ (b : Bool). Goes bounds g a frames_from (record v { replies = v.replies ++ refused ∷ []; met = b }) group (record { node = a; event = c.event } ∷ [])) met (refused_goes request c v group met fits)
-  meets request c v group fits false met =
+  meets what c v group fits true met =
+      subst (λ (b : Bool). Goes bounds g a frames_from (record v { replies = v.replies ++ refused ∷ []; met = b }) group (record { node = a; event = c.event } ∷ [])) met (refused_goes what c v group met fits)
+  meets what c v group fits false met =
       let stops = stop_goes v group fits in
       goes_on bounds g a frames_from (record v { met = true }) (record v { replies = v.replies ++ refused ∷ []; met = true }) group (record { node = a; event = Stop } ∷ []) (record { node = a; event = c.event } ∷ []) stops
-      (refused_goes request c (record v { met = true }) (alone_from bounds g group (record { node = a; event = Stop } ∷ [])) refl stops.there)
+      (refused_goes what c (record v { met = true }) (alone_from bounds g group (record { node = a; event = Stop } ∷ [])) refl stops.there)
 
 -- The node.
 
@@ -117,7 +117,7 @@ module _ (plan : NodePlan) (versions : List Version) (g : Addr) (past : List Hap
   StoppedGoes = Goes (bounds_with plan versions) g plan.me frames_from (view_of plan g (asking request refused ∷ past)) group (asked_by plan g past request refused)
 
   -- what it gives the group
-  given_stopped : is_stopped past ≡ true → (own : Bool) → is_own_request plan.me g past request ≡ own → asked_by plan g past request refused ≡ (if own then with_stop plan.me (is_met plan.me g past) (command_for plan.me request) else [])
+  given_stopped : is_stopped past ≡ true → (own : Bool) → is_own_request plan.me g past request ≡ own → asked_by plan g past request refused ≡ (if own then with_stop plan.me (is_met plan.me g past) (command_for plan.me request.what) else [])
   given_stopped stopped own is = rw (stopped, is) refl
 
   -- a request of another group, or with a wrong token
@@ -127,19 +127,15 @@ module _ (plan : NodePlan) (versions : List Version) (g : Addr) (past : List Hap
       (refused_unrelated plan versions g past request Stopped frames_from group other fits)
 
   -- the group's own request
-  stopped_own : is_stopped past ≡ true → is_own_request plan.me g past request ≡ true → is_named g request ≡ true → Fits plan.nodes g plan.me.number frames_from (view_of plan g past) (group plan.me.number) → StoppedGoes
+  stopped_own : is_stopped past ≡ true → is_own_request plan.me g past request ≡ true → is_named g request.what ≡ true → Fits plan.nodes g plan.me.number frames_from (view_of plan g past) (group plan.me.number) → StoppedGoes
   stopped_own stopped own named fits =
-      let c = command_named g plan.me request named in
+      let c = command_named g plan.me request.what named in
       subst (λ es. Goes (bounds_with plan versions) g plan.me frames_from (view_of plan g (asking request refused ∷ past)) group es) (sym (given_stopped stopped true own ∙ ap (with_stop plan.me (is_met plan.me g past)) c.one))
-      (subst (λ (v : View). Goes (bounds_with plan versions) g plan.me frames_from v group (with_stop plan.me (is_met plan.me g past) (record { node = plan.me; event = c.event } ∷ []))) (sym later) (meets (bounds_with plan versions) g plan.me frames_from request c (view_of plan g past) group fits (is_met plan.me g past) refl))
+      (subst (λ (v : View). Goes (bounds_with plan versions) g plan.me frames_from v group (with_stop plan.me (is_met plan.me g past) (record { node = plan.me; event = c.event } ∷ []))) (sym later) (meets (bounds_with plan versions) g plan.me frames_from request.what c (view_of plan g past) group fits (is_met plan.me g past) refl))
     where
       later : view_of plan g (asking request refused ∷ past) ≡ record (view_of plan g past) { replies = replies_in plan.me g past ++ refused ∷ []; met = true }
       later = view_asked plan g past request refused (view_of plan g past).reserve (told_of plan g past) (living_of g past) (made_with g past) (is_dropped g past) (replies_in plan.me g past ++ refused ∷ []) true
-          (rows_kept plan g past request refused (added_refused request Stopped))
-          (asked_untold g plan.me (noticed_after plan past) request Stopped (told_of plan g past))
-          (refused_living g request Stopped (living_of g past))
-          (ap (λ o. option_or o (made_with g past)) (refused_makes g request Stopped))
-          (ap (λ b. b || is_dropped g past) (refused_drops g request Stopped))
+          (rows_kept plan g past request refused refl) refl refl refl refl
           (ap (λ b. replies_in plan.me g past ++ (if b then refused ∷ [] else [])) own)
           (ap (λ b. (b && is_own_request plan.me g past request) || is_met plan.me g past) stopped ∙ ap (λ b. b || is_met plan.me g past) own)
 
@@ -148,5 +144,5 @@ module _ (plan : NodePlan) (versions : List Version) (g : Addr) (past : List Hap
   stopped_goes stopped fits = go (cases_Bool (is_own_request plan.me g past request))
     where
       go : ((is_own_request plan.me g past request ≡ true) ⊎ (is_own_request plan.me g past request ≡ false)) → StoppedGoes
-      go (inl own) = stopped_own stopped own (and_parts (is_named g request) (has_group_token plan.me (tenants_in past) request) own).0 fits
+      go (inl own) = stopped_own stopped own (and_parts (is_named g request.what) (has_group_token plan.me (tenants_in past) request) own).0 fits
       go (inr other) = stopped_other stopped other fits

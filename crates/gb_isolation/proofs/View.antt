@@ -177,11 +177,11 @@ abbrev pub is_noticed_after : NodePlan → List Happened → ℕ → Bool
 is_noticed_after plan past b = (nat_lt b plan.nodes && not (nat_eq b plan.me.number)) && is_noticed plan.silence b (watched plan.cluster_key past)
 
 abbrev pub own_requested_by : NodePlan → Addr → List Happened → Request → Reply → List GroupStep
-own_requested_by plan g past request reply = command_for plan.me request ++ ticked plan.me (is_noticed_after plan past) (made_by g (Asked request) (Replied reply))
+own_requested_by plan g past request reply = command_for plan.me request.what ++ ticked plan.me (is_noticed_after plan past) (made_by g (Asked request) (Replied reply))
 
 abbrev pub requested_by : NodePlan → Addr → List Happened → Request → Reply → List GroupStep
 requested_by plan g past request reply =
-    tenant_given g plan.me request reply ++ other_given g plan.me request reply ++ (if is_own_request plan.me g past request then own_requested_by plan g past request reply else [])
+    tenant_given g plan.me reply request.what ++ other_given g plan.me reply request.what ++ (if is_own_request plan.me g past request then own_requested_by plan g past request reply else [])
 
 abbrev pub asked_by : NodePlan → Addr → List Happened → Request → Reply → List GroupStep
 asked_by plan g past request reply = asked plan.me g (is_noticed_after plan past) past request reply

@@ -9,9 +9,12 @@ use Rattle.gb_types.specs.declared.limits.TheConstants.{NODES}
 use Rattle.gb_types.specs.declared.node.NodeId.{NodeId}
 use Rattle.gb_types.specs.declared.refusal.Refusal.TheVariants.{OutOfMemory}
 use Rattle.gb_types.specs.declared.reply.Reply.{Reply}
-use Rattle.gb_types.specs.declared.reply.Reply.TheVariants.{Done, Refused}
+use Rattle.gb_types.specs.declared.reply.Reply.TheVariants.{Refused}
+use Rattle.gb_types.specs.declared.request.Action.{Action}
+use Rattle.gb_types.specs.declared.request.Action.TheVariants.{AddTenant, Group as AtGroup}
+use Rattle.gb_types.specs.declared.request.GroupCommand.{GroupCommand}
+use Rattle.gb_types.specs.declared.request.GroupCommand.TheVariants.{Make, Open, Shut, Drop, Say, Fetch}
 use Rattle.gb_types.specs.declared.request.Request.{Request}
-use Rattle.gb_types.specs.declared.request.Request.TheVariants.{AddTenant, Make, OpenGroup, ShutGroup, DropGroup, Say, Fetch}
 use Rattle.gb_types.specs.declared.spec.Spec.{Spec}
 use Rattle.gb_frame.specs.declared.item.Item.{Item}
 use Rattle.gb_frame.specs.Packet.{Content}
@@ -27,7 +30,7 @@ use Rattle.gb_alone.specs.declared.event.GroupStep.{GroupStep}
 use Rattle.gb_frame.specs.Items.{entry_of, items_for}
 use Rattle.gb_node.specs.StepLaw.{has_group_token}
 use Rattle.gb_node.specs.NodeStep.{node_numbered}
-use Rattle.gb_node.specs.Past.{Happened, read, frames_to, is_acked, is_frame, came, is_stopped, tenants_in, watched}
+use Rattle.gb_node.specs.Past.{if_done, Happened, read, frames_to, is_acked, is_frame, came, is_stopped, tenants_in, watched}
 use Rattle.gb_node.specs.declared.answer.NodeAnswer.{NodeAnswer}
 use Rattle.gb_node.specs.declared.answer.NodeAnswer.TheVariants.{Reply as Replied, Taken, Sent, Ticked}
 use Rattle.gb_node.specs.declared.answer.PacketAnswer.TheVariants.{Good as TakenGood}
@@ -59,31 +62,37 @@ has_come key b n past = list_any (λ (h : Happened). list_any (is_frame b n) (ca
 
 -- Requests.
 
--- the group that a request names, with its command for it
-abbrev pub command_in : Request → Option (Addr × GroupEvent)
-command_in (AddTenant token row) = None
-command_in (Make token addr spec) = Some (addr, AskMake spec)
-command_in (OpenGroup token addr) = Some (addr, AskOpen)
-command_in (ShutGroup token addr) = Some (addr, AskShut)
-command_in (DropGroup token addr) = Some (addr, AskDrop)
-command_in (Say token addr message) = Some (addr, AskSay message)
-command_in (Fetch token addr from most) = Some (addr, AskFetch from most)
+-- what a command is to the group alone
+abbrev pub event_of : GroupCommand → GroupEvent
+event_of (Make spec) = AskMake spec
+event_of Open = AskOpen
+event_of Shut = AskShut
+event_of Drop = AskDrop
+event_of (Say message) = AskSay message
+event_of (Fetch from most) = AskFetch from most
 
 -- the request names the group
-abbrev pub is_named : Addr → Request → Bool
-is_named g request = option_map_or (λ (c : Addr × GroupEvent). is_addr g c.0) (command_in request) false
+abbrev pub is_named : Addr → Action → Bool
+is_named g (AddTenant row) = false
+is_named g (AtGroup addr command) = is_addr g addr
 
 -- the request is one of the group at the node a: it names the group and has the token that it needs, under the tenants that were added there
 abbrev pub is_own_request : NodeId → Addr → List Happened → Request → Bool
-is_own_request a g past request = is_named g request && has_group_token a (tenants_in past) request
+is_own_request a g past request = is_named g request.what && has_group_token a (tenants_in past) request
 
--- the command that the request makes at the node a, whichever group it names
-abbrev pub command_for : NodeId → Request → List GroupStep
-command_for a request = option_map_or (λ (c : Addr × GroupEvent). record { node = a; event = c.1 } ∷ []) (command_in request) []
+-- the command that a request makes at the node a, whichever group it names
+abbrev pub command_for : NodeId → Action → List GroupStep
+command_for a (AddTenant row) = []
+command_for a (AtGroup addr command) = record { node = a; event = event_of command } ∷ []
+
+-- the spec with which a request makes the group, if it does so where it is done
+abbrev pub makes : Addr → Action → Option Spec
+makes g (AtGroup addr (Make spec)) = if is_addr g addr then Some spec else None
+makes g what = None
 
 -- the spec with which the group is made, if this event with its answer makes it
 abbrev pub made_by : Addr → NodeEvent → NodeAnswer → Option Spec
-made_by g (Asked (Make token addr spec)) (Replied Done) = if is_addr g addr then Some spec else None
+made_by g (Asked request) (Replied reply) = if_done reply (makes g request.what) None
 made_by g event answer = None
 
 unfoldable pub made_with : Addr → List Happened → Option Spec
@@ -102,15 +111,22 @@ notices a spec new = map (λ b. record { node = a; event = Notice (node_numbered
 abbrev pub ticked : NodeId → (ℕ → Bool) → Option Spec → List GroupStep
 ticked a found made = option_map_or (λ spec. notices a spec found) made []
 
-abbrev pub tenant_given : Addr → NodeId → Request → Reply → List GroupStep
-tenant_given g a (AddTenant token row) Done = if nat_eq row.tenant g.tenant then record { node = a; event = Tenant (reserve_of row) } ∷ [] else []
-tenant_given g a request reply = []
+-- the group's tenant is added
+abbrev pub tenant_of : Addr → NodeId → Action → List GroupStep
+tenant_of g a (AddTenant row) = if nat_eq row.tenant g.tenant then record { node = a; event = Tenant (reserve_of row) } ∷ [] else []
+tenant_of g a (AtGroup addr command) = []
+
+abbrev pub tenant_given : Addr → NodeId → Reply → Action → List GroupStep
+tenant_given g a reply what = if_done reply (tenant_of g a what) []
 
 -- another generation of the group's room is made or dropped
-abbrev pub other_given : Addr → NodeId → Request → Reply → List GroupStep
-other_given g a (Make token addr spec) Done = if is_other_generation g addr then record { node = a; event = OtherMade addr.generation } ∷ [] else []
-other_given g a (DropGroup token addr) Done = if is_other_generation g addr then record { node = a; event = OtherDropped } ∷ [] else []
-other_given g a request reply = []
+abbrev pub other_of : Addr → NodeId → Action → List GroupStep
+other_of g a (AtGroup addr (Make spec)) = if is_other_generation g addr then record { node = a; event = OtherMade addr.generation } ∷ [] else []
+other_of g a (AtGroup addr Drop) = if is_other_generation g addr then record { node = a; event = OtherDropped } ∷ [] else []
+other_of g a what = []
+
+abbrev pub other_given : Addr → NodeId → Reply → Action → List GroupStep
+other_given g a reply what = if_done reply (other_of g a what) []
 
 -- the event is a request of the group at a node that has stopped
 abbrev pub is_met_by : NodeId → Addr → List Happened → NodeEvent → NodeAnswer → Bool
@@ -131,10 +147,10 @@ with_stop a met (c ∷ commands) = if met then c ∷ commands else record { node
 -- also adds the notices of the members that are noticed there, and one that makes or drops another generation of its room adds that.
 abbrev pub asked : NodeId → Addr → (ℕ → Bool) → List Happened → Request → Reply → List GroupStep
 asked a g noticed past request reply =
-    if is_stopped past then (if is_own_request a g past request then with_stop a (is_met a g past) (command_for a request) else [])
-    else tenant_given g a request reply
-    ++ other_given g a request reply
-    ++ (if is_own_request a g past request then command_for a request ++ ticked a noticed (made_by g (Asked request) (Replied reply)) else [])
+    if is_stopped past then (if is_own_request a g past request then with_stop a (is_met a g past) (command_for a request.what) else [])
+    else tenant_given g a reply request.what
+    ++ other_given g a reply request.what
+    ++ (if is_own_request a g past request then command_for a request.what ++ ticked a noticed (made_by g (Asked request) (Replied reply)) else [])
 
 -- Links.
 

@@ -9,9 +9,11 @@ use Rattle.gb_types.specs.declared.message.MsgId.{MsgId}
 use Rattle.gb_types.specs.declared.node.NodeId.{NodeId}
 use Rattle.gb_types.specs.declared.refusal.Refusal.{Refusal}
 use Rattle.gb_types.specs.declared.reply.Reply.{Reply}
-use Rattle.gb_types.specs.declared.reply.Reply.TheVariants.{Done, Said, Refused}
+use Rattle.gb_types.specs.declared.reply.Reply.TheVariants.{Said, Refused}
 use Rattle.gb_types.specs.declared.request.Request.{Request}
-use Rattle.gb_types.specs.declared.request.Request.TheVariants.{DropGroup, Say, Fetch}
+use Rattle.gb_types.specs.declared.request.Action.{Action}
+use Rattle.gb_types.specs.declared.request.Action.TheVariants.{Group as AtGroup}
+use Rattle.gb_types.specs.declared.request.GroupCommand.TheVariants.{Drop, Say, Fetch}
 use Rattle.gb_types.specs.declared.spec.Spec.{Spec}
 use Rattle.gb_types.specs.declared.version.Version.{Version}
 use Rattle.gb_frame.specs.declared.item.Item.{Item}
@@ -25,7 +27,7 @@ use Rattle.gb_duties.specs.Agreement.{IsRunning, AreEnough, KeepsAgreement}
 use Rattle.gb_duties.specs.Duties.{HasHad, KeepsDuties, delivered_at}
 use Rattle.gb_node.specs.NodeGroups.{waiting_at}
 use Rattle.gb_node.specs.NodeStep.{node_numbered}
-use Rattle.gb_node.specs.Past.{Happened, frames_to, is_stopped, is_taken}
+use Rattle.gb_node.specs.Past.{if_done, Happened, frames_to, is_stopped, is_taken}
 use Rattle.gb_node.specs.declared.answer.NodeAnswer.{NodeAnswer}
 use Rattle.gb_node.specs.declared.answer.NodeAnswer.TheVariants.{Reply as Replied, Ticked}
 use Rattle.gb_node.specs.declared.answer.Ticked.TheVariants.{Noticed}
@@ -41,12 +43,12 @@ use Rattle.gb_isolation.specs.Project.{project, group_items, is_noticed_at, is_o
 -- What was accepted.
 
 -- the message that a request with its reply says, if it says one
-abbrev pub said_by : Request → Reply → List Accepted
-said_by (Say token addr message) (Said seq) = record { seq = seq; payload = message.payload } ∷ []
-said_by request reply = []
+abbrev pub said_by : Action → Reply → List Accepted
+said_by (AtGroup addr (Say message)) (Said seq) = record { seq = seq; payload = message.payload } ∷ []
+said_by what reply = []
 
 abbrev pub accepted_by : NodePlan → Addr → List Happened → NodeEvent → NodeAnswer → List Accepted
-accepted_by plan g past (Asked request) (Replied reply) = if is_own_request plan.me g past request then said_by request reply else []
+accepted_by plan g past (Asked request) (Replied reply) = if is_own_request plan.me g past request then said_by request.what reply else []
 accepted_by plan g past event answer = []
 
 -- the group's messages that were accepted at a node, in order
@@ -79,9 +81,14 @@ GroupsKeepOrder = OfGroupsInRuns RunOrder
 
 -- Duties.
 
+-- the request drops the group where it is done
+abbrev pub drops : Addr → Action → Bool
+drops g (AtGroup addr Drop) = is_addr g addr
+drops g what = false
+
 -- the event with its answer drops the group at the node
 abbrev pub is_dropped_by : Addr → NodeEvent → NodeAnswer → Bool
-is_dropped_by g (Asked (DropGroup token addr)) (Replied Done) = is_addr g addr
+is_dropped_by g (Asked request) (Replied reply) = if_done reply (drops g request.what) false
 is_dropped_by g event answer = false
 
 unfoldable pub is_dropped : Addr → List Happened → Bool
@@ -149,11 +156,15 @@ SettledGroupsAgree = OfGroupsInRuns RunAgreement
 abbrev pub fetched_alone : Plan → List Did → Addr → NodeId → ℕ → ℕ → Reply
 fetched_alone plan run g a from most = running_reply (bounds_of plan) g a.number (AskFetch from most) (alone_in plan g run a.number)
 
+-- a request to read a log
+abbrev pub to_fetch : List ℕ → Addr → ℕ → ℕ → Request
+to_fetch token g from most = record { token = token; what = AtGroup g (Fetch from most) }
+
 -- The run may go on by a request to fetch the group's log, at any running node, with the token that it needs. The answer is that of the group alone, and the cluster stays as it is.
 abbrev pub MayBeFetched : Plan → List Did → ClusterValue → Addr → Type 0
 MayBeFetched plan run v g =
-    (a : NodeId) (token : List ℕ) (from most : ℕ) → a.number < plan.nodes → is_stopped (past_at a run) ≡ false → is_own_request a g (past_at a run) (Fetch token g from most) ≡ true
-    → ComesTo plan (record { node = a; event = Asked (Fetch token g from most); answer = Replied (fetched_alone plan run g a from most) } ∷ run) v
+    (a : NodeId) (token : List ℕ) (from most : ℕ) → a.number < plan.nodes → is_stopped (past_at a run) ≡ false → is_own_request a g (past_at a run) (to_fetch token g from most) ≡ true
+    → ComesTo plan (record { node = a; event = Asked (to_fetch token g from most); answer = Replied (fetched_alone plan run g a from most) } ∷ run) v
 
 abbrev pub LogsMayBeFetched : Type 0
 LogsMayBeFetched = OfGroupsInRuns MayBeFetched

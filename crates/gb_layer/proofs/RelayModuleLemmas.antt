@@ -2,7 +2,7 @@
 use Rattle.std.proofs.Common.{◌≡◌, ℕ, not, ◌&&◌, List, [], ◌∷◌, ◌++◌, refl, ◌∙◌}
 use Rattle.std.specs.FinSet as set
 use Rattle.gb_types.specs.declared.node.NodeId.{NodeId}
-use Rattle.gb_layer.specs.declared.broadcast_module.BroadcastModule.{BroadcastModule}
+use Rattle.gb_types.specs.declared.kind.Module.{Module}
 use Rattle.gb_layer.specs.declared.call.Call.{Call}
 use Rattle.gb_layer.specs.BebMachine.{beb_gives}
 use Rattle.gb_layer.specs.Lists.{same_filter}
@@ -12,7 +12,7 @@ use Rattle.gb_layer.specs.Relay.{State, at_start, relay_next, relay_gives}
 use Rattle.gb_layer.specs.Rule.{Nodes, Rules, BroadcastsMore, DeliversMore, BroadcastsItsOwn, BroadcastsAs, DeliversAs, now_broadcast_by, now_delivered_by, rule_broadcasts, rule_delivers, rule_log}
 use Rattle.gb_layer.proofs.RelayOverBebLemmas.{relay_up, relay_out, relay_log}
 
-module _ (rules : Rules) (base : BroadcastModule) (me : ℕ) (members : Nodes) where
+module _ (rules : Rules) (base : Module) (me : ℕ) (members : Nodes) where
   broadcasts_alike : BroadcastsAs rules base → (c : Call) (past : List Call) → rule_broadcasts rules me c past ≡ broadcasts base me c past
   broadcasts_alike k c past =
       same_filter (λ m. now_broadcast_by rules me (c ∷ past) m && not (now_broadcast_by rules me past m)) (λ m. now_broadcast base me (c ∷ past) m && not (now_broadcast base me past m))
@@ -28,7 +28,7 @@ module _ (rules : Rules) (base : BroadcastModule) (me : ℕ) (members : Nodes) w
   log_alike k [] = refl
   log_alike k (c ∷ past) = λ i. log_alike k past i ++ delivers_alike k c past i
 
-module _ (rules : Rules) (broadcasts_more : BroadcastsMore rules) (delivers_more : DeliversMore rules) (broadcasts_its_own : BroadcastsItsOwn rules) (base : BroadcastModule) (me : NodeId) (members : Nodes) where
+module _ (rules : Rules) (broadcasts_more : BroadcastsMore rules) (delivers_more : DeliversMore rules) (broadcasts_its_own : BroadcastsItsOwn rules) (base : Module) (me : NodeId) (members : Nodes) where
   abbrev N : State NodeId → Call → State NodeId
   N = relay_next (λ s _. s) beb_gives (λ s. s) rules
 
@@ -45,7 +45,7 @@ module _ (rules : Rules) (broadcasts_more : BroadcastsMore rules) (delivers_more
   module_log alike past l = relay_log rules broadcasts_more delivers_more broadcasts_its_own me members past l ∙ log_alike rules base me.number members alike past
 
 -- a relay over `Beb` by these rules is the module, over every lawful history
-pub record IsModule (rules : Rules) (base : BroadcastModule) : Type 0 where
+pub record IsModule (rules : Rules) (base : Module) : Type 0 where
   pub up : (me : NodeId) (members : Nodes) (past : List Call) (c : Call) → IsLawful me.number (c ∷ past)
       → messages (relay_gives (λ s _. s) beb_gives (λ s. s) rules (after (relay_next (λ s _. s) beb_gives (λ s. s) rules) (at_start me members) past) c).ups ≡ delivers base me.number (set.items members) c past
   pub out : (me : NodeId) (members : Nodes) (past : List Call) (c : Call) → IsLawful me.number (c ∷ past)
@@ -54,7 +54,7 @@ pub record IsModule (rules : Rules) (base : BroadcastModule) : Type 0 where
       → messages (all_ups (relay_next (λ s _. s) beb_gives (λ s. s) rules) (relay_gives (λ s _. s) beb_gives (λ s. s) rules) (at_start me members) past) ≡ log base me.number (set.items members) past
 
 -- a rule that has a module's tests makes the module
-pub is_module : (rules : Rules) → BroadcastsMore rules → DeliversMore rules → BroadcastsItsOwn rules → (base : BroadcastModule) → BroadcastsAs rules base → DeliversAs rules base → IsModule rules base
+pub is_module : (rules : Rules) → BroadcastsMore rules → DeliversMore rules → BroadcastsItsOwn rules → (base : Module) → BroadcastsAs rules base → DeliversAs rules base → IsModule rules base
 is_module rules more delivers_more own base broadcasts_as delivers_as = record {
   up = λ me members. module_up rules more delivers_more own base me members delivers_as;
   out = λ me members. module_out rules more delivers_more own base me members broadcasts_as;

@@ -2,18 +2,18 @@
 use gb_frame::PacketFault;
 use gb_node::{Frame, NodeAnswer, NodeEvent, PacketAnswer, Ticked};
 use gb_status::{Figure, Figures};
-use gb_types::{Refusal, Reply, Request};
+use gb_types::{Action, GroupCommand, Refusal, Reply, Request};
 
 // Returns the figure that a request is counted under.
 pub(crate) fn asked_figure(request: &Request) -> Figure {
-    match request {
-        Request::AddTenant(_, _) => Figure::RequestsTenant,
-        Request::Make(_, _, _) => Figure::RequestsMake,
-        Request::OpenGroup(_, _) => Figure::RequestsOpen,
-        Request::ShutGroup(_, _) => Figure::RequestsShut,
-        Request::DropGroup(_, _) => Figure::RequestsDrop,
-        Request::Say(_, _, _) => Figure::RequestsSay,
-        Request::Fetch(_, _, _, _) => Figure::RequestsFetch,
+    match &request.what {
+        Action::AddTenant(_) => Figure::RequestsTenant,
+        Action::Group(_, GroupCommand::Make(_)) => Figure::RequestsMake,
+        Action::Group(_, GroupCommand::Open) => Figure::RequestsOpen,
+        Action::Group(_, GroupCommand::Shut) => Figure::RequestsShut,
+        Action::Group(_, GroupCommand::Drop) => Figure::RequestsDrop,
+        Action::Group(_, GroupCommand::Say(_)) => Figure::RequestsSay,
+        Action::Group(_, GroupCommand::Fetch(_, _)) => Figure::RequestsFetch,
     }
 }
 
@@ -41,9 +41,9 @@ pub(crate) fn refused_figure(why: Refusal) -> Figure {
 
 // Returns how many places for groups a request reserves where it is done.
 pub(crate) fn places_asked(request: &Request) -> u64 {
-    match request {
-        Request::AddTenant(_, row) => u64::from(row.groups),
-        _ => 0,
+    match &request.what {
+        Action::AddTenant(row) => u64::from(row.groups),
+        Action::Group(_, _) => 0,
     }
 }
 

@@ -22,7 +22,7 @@ use gb_node::{Good, NodeAnswer, NodeEvent, PacketAnswer, PacketText, Sent};
 use gb_port::Port;
 use gb_session::{Answers, Operation};
 use gb_status::{Figure, Figures};
-use gb_types::{Addr, NodeId, OutOfMemory, Refusal, Reply, Request};
+use gb_types::{Action, Addr, GroupCommand, NodeId, OutOfMemory, Refusal, Reply, Request};
 use std::alloc::Global;
 use std::snapshot::Snapshot;
 use std::sync::Wait;
@@ -135,13 +135,9 @@ fn reply_of(outcome: Result<NodeAnswer, HostFault>) -> Reply
 
 // Returns the group that a request may change.
 fn changed_by(request: &Request) -> Option<Addr> {
-    match request {
-        Request::Make(_, address, _)
-        | Request::OpenGroup(_, address)
-        | Request::ShutGroup(_, address)
-        | Request::DropGroup(_, address)
-        | Request::Say(_, address, _) => Some(*address),
-        Request::AddTenant(_, _) | Request::Fetch(_, _, _, _) => None,
+    match &request.what {
+        Action::AddTenant(_) | Action::Group(_, GroupCommand::Fetch(_, _)) => None,
+        Action::Group(address, _) => Some(*address),
     }
 }
 

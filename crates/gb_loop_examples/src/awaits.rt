@@ -5,7 +5,7 @@ use crate::clients::{
 };
 use gb_client::ClientFault;
 use gb_session::Head;
-use gb_types::NodeId;
+use gb_types::{CommandHead, NodeId};
 use std::alloc::Global;
 use std::net::{Net, TcpListener, TcpStream};
 use std::rt::HostRuntime;
@@ -26,10 +26,10 @@ static WORDS: [&str; 7] = [
 // Two groups, each with a member at both nodes.
 static PREPARATIONS: [(Head, &str, &str); 5] = [
     (Head::Tenant, "7 4 100 4096 100", "ok"),
-    (Head::Make, "7 1 beb 0,1 100 4096 100", "ok"),
-    (Head::Open, "7 1", "ok"),
-    (Head::Make, "7 2 beb 0,1 100 4096 100", "ok"),
-    (Head::Open, "7 2", "ok"),
+    (Head::Group(CommandHead::Make), "7 1 beb 0,1 100 4096 100", "ok"),
+    (Head::Group(CommandHead::Open), "7 1", "ok"),
+    (Head::Group(CommandHead::Make), "7 2 beb 0,1 100 4096 100", "ok"),
+    (Head::Group(CommandHead::Open), "7 2", "ok"),
 ];
 
 // The clients: two at each node.
@@ -129,7 +129,7 @@ fn all_wait<H: Net<Stream = TcpStream> + Clock + Threads + Sync>(
         first,
         third,
         &["7 1 0 16"],
-        (Head::Say, "7 1 hi"),
+        (Head::Group(CommandHead::Say), "7 1 hi"),
         b"log 1 1:1:6869",
     );
     let there = is_answered(rt, alloc, second);
@@ -139,7 +139,7 @@ fn all_wait<H: Net<Stream = TcpStream> + Clock + Threads + Sync>(
         first,
         second,
         &["7 1 1 16"],
-        (Head::Say, "7 1 yo"),
+        (Head::Group(CommandHead::Say), "7 1 yo"),
         b"log 1 0:1:796f",
     );
     let both = is_woken(
@@ -148,7 +148,7 @@ fn all_wait<H: Net<Stream = TcpStream> + Clock + Threads + Sync>(
         first,
         fourth,
         &["7 1 2 16", "7 2 0 16"],
-        (Head::Say, "7 2 ho"),
+        (Head::Group(CommandHead::Say), "7 2 ho"),
         b"at 1 log 1 1:1:686f",
     );
     let dropped = is_woken(
@@ -157,7 +157,7 @@ fn all_wait<H: Net<Stream = TcpStream> + Clock + Threads + Sync>(
         first,
         second,
         &["7 1 2 16"],
-        (Head::Drop, "7 1"),
+        (Head::Group(CommandHead::Drop), "7 1"),
         b"refused ",
     );
     [late, at_once, far, there, near, both, dropped]
@@ -233,11 +233,11 @@ static SIXTEEN: [&str; 3] = ["gb_serve", "--nodes=1", "--base-port=26800"];
 // Two groups of a node alone. The second one has a message.
 static LONE: [(Head, &str, &str); 6] = [
     (Head::Tenant, "7 4 100 4096 100", "ok"),
-    (Head::Make, "7 1 beb 0 100 4096 100", "ok"),
-    (Head::Open, "7 1", "ok"),
-    (Head::Make, "7 2 beb 0 100 4096 100", "ok"),
-    (Head::Open, "7 2", "ok"),
-    (Head::Say, "7 2 hi", "said 1"),
+    (Head::Group(CommandHead::Make), "7 1 beb 0 100 4096 100", "ok"),
+    (Head::Group(CommandHead::Open), "7 1", "ok"),
+    (Head::Group(CommandHead::Make), "7 2 beb 0 100 4096 100", "ok"),
+    (Head::Group(CommandHead::Open), "7 2", "ok"),
+    (Head::Group(CommandHead::Say), "7 2 hi", "said 1"),
 ];
 
 // Sixteen places of the group without a message, the same with the other group at the last one, and one place more.

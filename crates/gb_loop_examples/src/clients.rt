@@ -9,9 +9,9 @@ use gb_client::task::request_of;
 use gb_client::{Asked, ClientFault, Secrets};
 use gb_server::serve_main::serve_main;
 use gb_session::Head;
-use gb_types::NodeId;
 use gb_types::number::read_number;
 use gb_types::words::split_words;
+use gb_types::{CommandHead, NodeId};
 use std::alloc::Global;
 use std::fs::{File, Files};
 use std::io::{Read, Write};
@@ -286,7 +286,7 @@ fn places_of(
 ) -> Result<Vec<u8>, ClientFault> {
     let mut places = Vec::from_slice(alloc, word)?;
     for line in lines {
-        let fetch = body_of(alloc, node, Head::Fetch, line)?;
+        let fetch = body_of(alloc, node, Head::Group(CommandHead::Fetch), line)?;
         places.extend_from_slice(fetch.strip_prefix(b"fetch".as_slice()).unwrap_or(b""))?;
     }
     Ok(places)

@@ -4,7 +4,7 @@ use crate::clients::{
 };
 use gb_client::ClientFault;
 use gb_session::Head;
-use gb_types::NodeId;
+use gb_types::{CommandHead, NodeId};
 use std::alloc::Global;
 use std::io::{Read, Write};
 use std::net::{Net, TcpListener, TcpStream};
@@ -151,8 +151,8 @@ static PATIENT: [&str; 6] = [
 // A group of one member.
 static ALONE: [(Head, &str, &str); 3] = [
     (Head::Tenant, "7 4 100 65536 100", "ok"),
-    (Head::Make, "7 1 beb 0 100 65536 100", "ok"),
-    (Head::Open, "7 1", "ok"),
+    (Head::Group(CommandHead::Make), "7 1 beb 0 100 65536 100", "ok"),
+    (Head::Group(CommandHead::Open), "7 1", "ok"),
 ];
 
 // Says 16 messages of 1,000 bytes.
@@ -163,7 +163,7 @@ fn say_much(alloc: Global, member: &mut Member) -> Result<(), ClientFault> {
         line.push_str("x")?;
     }
     for _ in 0..16 {
-        ask(alloc, member, Head::Say, &line)?;
+        ask(alloc, member, Head::Group(CommandHead::Say), &line)?;
         let _ = told(alloc, member)?;
     }
     Ok(())
@@ -189,7 +189,7 @@ fn read_late<H: Net<Stream = TcpStream> + Clock>(
 ) -> Result<bool, ClientFault> {
     say_much(alloc, member)?;
     for _ in 0..1_000 {
-        ask(alloc, member, Head::Fetch, "7 1 0 16")?;
+        ask(alloc, member, Head::Group(CommandHead::Fetch), "7 1 0 16")?;
     }
     let first = told(alloc, member)?;
     for _ in 0..6 {

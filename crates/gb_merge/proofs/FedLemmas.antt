@@ -7,13 +7,11 @@ use Rattle.std.proofs.lemmas.List.{append-nil, reverse-append}
 use Rattle.gb_types.specs.declared.address.Addr.{Addr}
 use Rattle.gb_types.specs.declared.node.NodeId.{NodeId}
 use Rattle.gb_types.specs.declared.plan.Plan.{Plan}
-use Rattle.gb_types.specs.declared.refusal.Refusal.{Refusal}
 use Rattle.gb_types.specs.declared.refusal.Refusal.TheVariants.{OutOfMemory}
 use Rattle.gb_types.specs.declared.reply.Reply.{Reply}
 use Rattle.gb_types.specs.declared.reply.Reply.TheVariants.{Refused}
-use Rattle.gb_types.specs.declared.request.Request.{Request}
 use Rattle.gb_types.specs.declared.spec.TenantRow.{TenantRow}
-use Rattle.gb_types.specs.declared.request.Request.TheVariants.{AddTenant, Make, OpenGroup, ShutGroup, DropGroup, Say, Fetch}
+use Rattle.gb_types.specs.declared.request.Action.{Action}
 use Rattle.gb_frame.specs.declared.fault.PacketFault.{PacketFault}
 use Rattle.gb_frame.specs.Packet.{Content}
 use Rattle.gb_node.specs.NodeStep.{turn, running_turn, stopped_answer, node_did, sent, taken_answer, IsTurn}
@@ -163,8 +161,8 @@ ends_as_replay starves plan tape picks v a comes within past =
 -- Replies.
 
 added_none : (e : NodeEvent) (x : NodeAnswer) → wants_memory x ≡ true → added e x ≡ []
-added_none (Asked (AddTenant token row)) (Replied (Refused why)) wants = refl
-added_none (Asked (AddTenant token row)) (Replied reply) wants = absurd (cc)
+added_none (Asked request) (Replied (Refused why)) wants = refl
+added_none (Asked request) (Replied reply) wants = absurd (cc)
 added_none e x wants = refl
 
 reply_none : (a : NodeId) (g : Addr) (past : List Happened) (e : NodeEvent) (x : NodeAnswer) → wants_memory x ≡ true → is_starved_by a g past e x ≡ false → reply_in a g past e x ≡ []
@@ -252,18 +250,9 @@ replies_are a g tape past is free = ap (replies_in a g) (is ∙ past_of-fed tape
 
 -- A node that refuses.
 
-did_same : (request : Request) (why : Refusal) (v : NodeValue) → node_did request (Refused why) v ≡ v
-did_same (AddTenant token row) why v = refl
-did_same (Make token addr spec) why v = refl
-did_same (OpenGroup token addr) why v = refl
-did_same (ShutGroup token addr) why v = refl
-did_same (DropGroup token addr) why v = refl
-did_same (Say token addr payload) why v = refl
-did_same (Fetch token addr from most) why v = refl
-
-reply_same : (request : Request) (reply : Reply) (v : NodeValue) → wants_memory (Replied reply) ≡ true → node_did request reply v ≡ v
-reply_same request (Refused why) v wants = did_same request why v
-reply_same request reply v wants = absurd (cc)
+reply_same : (what : Action) (reply : Reply) (v : NodeValue) → wants_memory (Replied reply) ≡ true → node_did reply what v ≡ v
+reply_same what (Refused why) v wants = refl
+reply_same what reply v wants = absurd (cc)
 
 no_want_in : (v : NodeValue) (c : Option Content) → wants_memory (Sent (sent v c)) ≡ true → ⊥
 no_want_in v None wants = cc
@@ -274,7 +263,7 @@ no_want_read v (Ok c) wants = cc
 no_want_read v (Err f) wants = cc
 
 running_same : (v : NodeValue) (e : NodeEvent) → wants_memory (running_turn v e).answer ≡ true → (running_turn v e).value ≡ v
-running_same v (Asked r) wants = reply_same r _ v wants
+running_same v (Asked r) wants = reply_same r.what _ v wants
 running_same v (Came bytes) wants = absurd (no_want_read v _ wants)
 running_same v (Pack b) wants = absurd (no_want_in v _ wants)
 running_same v (Again b n) wants = refl

@@ -6,13 +6,12 @@ use Rattle.std.specs.Ordering.{nat_cmp}
 use Rattle.std.specs.List.{list_any}
 use Rattle.std.proofs.lemmas.List.{append-nil}
 use Rattle.gb_types.specs.declared.address.Addr.{Addr}
-use Rattle.gb_types.specs.declared.node.NodeId.{NodeId}
-use Rattle.gb_types.specs.declared.refusal.Refusal.{Refusal}
-use Rattle.gb_types.specs.declared.refusal.Refusal.TheVariants.{Stopped, OutOfMemory}
+use Rattle.gb_types.specs.declared.refusal.Refusal.TheVariants.{OutOfMemory}
 use Rattle.gb_types.specs.declared.reply.Reply.{Reply}
 use Rattle.gb_types.specs.declared.reply.Reply.TheVariants.{Done, Said, Log, Refused}
 use Rattle.gb_types.specs.declared.request.Request.{Request}
-use Rattle.gb_types.specs.declared.request.Request.TheVariants.{AddTenant, Make, OpenGroup, ShutGroup, DropGroup, Say, Fetch}
+use Rattle.gb_types.specs.declared.request.Action.{Action}
+use Rattle.gb_types.specs.declared.request.Action.TheVariants.{AddTenant, Group}
 use Rattle.gb_detect.specs.Silence.{Heard}
 use Rattle.gb_detect.specs.Watch.{replay}
 use Rattle.gb_frame.specs.Packet.{Content}
@@ -20,11 +19,11 @@ use Rattle.std.specs.Prelude.{slice_index_or}
 use Rattle.gb_link.specs.SendWindow.{new_window}
 use Rattle.gb_slot.specs.SlotState.{SlotState}
 use Rattle.gb_table.specs.TableValue.{TableValue}
-use Rattle.gb_table.specs.Requests.{table_did}
+use Rattle.gb_table.specs.Requests.{request_done, table_did}
 use Rattle.gb_node.specs.NodeValue.{NodeValue}
 use Rattle.gb_node.specs.NodeStep.{window_to, receiver_from, node_did, stopped_answer, IsStarved}
-use Rattle.gb_node.specs.Past.{Happened, came, packed_for, numbered, is_ack, is_taken_by, ticks, added, stops}
-use Rattle.gb_node.specs.PastGroups.{Told, noticed_after, asked_told, told_after, living_after}
+use Rattle.gb_node.specs.Past.{Happened, came, packed_for, numbered, is_ack, is_taken_by, ticks, added, added_by, stops}
+use Rattle.gb_node.specs.PastGroups.{Told, told_after, living_after}
 use Rattle.gb_node.specs.SendLaw.{StarvedSays}
 use Rattle.gb_node.specs.declared.plan.NodePlan.{NodePlan}
 use Rattle.gb_node.specs.declared.answer.NodeAnswer.{NodeAnswer}
@@ -32,7 +31,7 @@ use Rattle.gb_node.specs.declared.answer.NodeAnswer.TheVariants.{Reply as Replie
 use Rattle.gb_node.specs.declared.answer.Sent.TheVariants.{Packet as SentPacket, Nothing, Refused as SentRefused}
 use Rattle.gb_node.specs.declared.event.NodeEvent.{NodeEvent}
 use Rattle.gb_node.specs.declared.event.NodeEvent.TheVariants.{Request as Asked, Packet as Came, Pack, Again, Ack, Tick, Stop}
-use Rattle.gb_node.proofs.SlotGroups.{asked_for, group_after}
+use Rattle.gb_node.proofs.SlotGroups.{group_after}
 use Rattle.gb_node.proofs.PastLemmas.{Moved, filter_all}
 
 -- A step at which no packet is taken or packed.
@@ -75,18 +74,8 @@ pub no_op_moved : (key : List ℕ) (e : NodeEvent) (a : NodeAnswer) (v : NodeVal
 no_op_moved key e a v no_op =
     still_moved key e a v v no_op.still refl refl refl refl refl refl refl (ap (λ t. t || v.stopped) (sym no_op.no_stop)) (ap (replay v.watch) (sym no_op.no_tick)) (sym (append-nil v.table.tenants) ∙ ap (λ rows. v.table.tenants ++ rows) (sym no_op.none_added)) refl refl
 
--- a refused request adds no tenant
-pub added_refused : (r : Request) (why : Refusal) → added (Asked r) (Replied (Refused why)) ≡ []
-added_refused (AddTenant token row) why = refl
-added_refused (Make token addr spec) why = refl
-added_refused (OpenGroup token addr) why = refl
-added_refused (ShutGroup token addr) why = refl
-added_refused (DropGroup token addr) why = refl
-added_refused (Say token addr message) why = refl
-added_refused (Fetch token addr from most) why = refl
-
 stopped_no_op : (key : List ℕ) (e : NodeEvent) → IsNoOp key e (stopped_answer e)
-stopped_no_op key (Asked r) = record { still = record { none_came = refl; none_packed = λ b. refl; none_taken = λ b n. refl }; no_tick = refl; none_added = added_refused r Stopped; no_stop = refl }
+stopped_no_op key (Asked r) = record { still = record { none_came = refl; none_packed = λ b. refl; none_taken = λ b n. refl }; no_tick = refl; none_added = refl; no_stop = refl }
 stopped_no_op key (Came bytes) = record { still = record { none_came = refl; none_packed = λ b. refl; none_taken = λ b n. refl }; no_tick = refl; none_added = refl; no_stop = refl }
 stopped_no_op key (Pack x) = record { still = record { none_came = refl; none_packed = λ b. refl; none_taken = λ b n. refl }; no_tick = refl; none_added = refl; no_stop = refl }
 stopped_no_op key (Again x n) = record { still = record { none_came = refl; none_packed = λ b. refl; none_taken = λ b n. refl }; no_tick = refl; none_added = refl; no_stop = refl }
@@ -97,17 +86,8 @@ stopped_no_op key Stop = record { still = record { none_came = refl; none_packed
 pub stopped_moved : (key : List ℕ) (e : NodeEvent) (v : NodeValue) → Moved key e (stopped_answer e) v v
 stopped_moved key e v = no_op_moved key e (stopped_answer e) v (stopped_no_op key e)
 
-added_unsent : (r : Request) → added (Asked r) (Sent (SentRefused OutOfMemory)) ≡ []
-added_unsent (AddTenant token row) = refl
-added_unsent (Make token addr spec) = refl
-added_unsent (OpenGroup token addr) = refl
-added_unsent (ShutGroup token addr) = refl
-added_unsent (DropGroup token addr) = refl
-added_unsent (Say token addr message) = refl
-added_unsent (Fetch token addr from most) = refl
-
 unsent_no_op : (key : List ℕ) (e : NodeEvent) → IsNoOp key e (Sent (SentRefused OutOfMemory))
-unsent_no_op key (Asked r) = record { still = record { none_came = refl; none_packed = λ b. refl; none_taken = λ b n. refl }; no_tick = refl; none_added = added_unsent r; no_stop = refl }
+unsent_no_op key (Asked r) = record { still = record { none_came = refl; none_packed = λ b. refl; none_taken = λ b n. refl }; no_tick = refl; none_added = refl; no_stop = refl }
 unsent_no_op key (Came bytes) = record { still = record { none_came = refl; none_packed = λ b. refl; none_taken = λ b n. refl }; no_tick = refl; none_added = refl; no_stop = refl }
 unsent_no_op key (Pack x) = record { still = record { none_came = refl; none_packed = λ b. refl; none_taken = λ b n. refl }; no_tick = refl; none_added = refl; no_stop = refl }
 unsent_no_op key (Again x n) = record { still = record { none_came = refl; none_packed = λ b. refl; none_taken = λ b n. refl }; no_tick = refl; none_added = refl; no_stop = refl }
@@ -174,42 +154,22 @@ starved_no_op key e should answer starved = by (starved_says e should answer sta
     by (inl is) = subst (IsNoOp key e) (sym is) (unsent_no_op key e)
     by (inr is) =
         subst (λ x. IsNoOp key x answer) (sym is.1) (subst (IsNoOp key (Asked is.0)) (sym is.2)
-        (record { still = record { none_came = refl; none_packed = λ b. refl; none_taken = λ b n. refl }; no_tick = refl; none_added = added_refused is.0 OutOfMemory; no_stop = refl }))
+        (record { still = record { none_came = refl; none_packed = λ b. refl; none_taken = λ b n. refl }; no_tick = refl; none_added = refl; no_stop = refl }))
 
 pub starved_moved : (key : List ℕ) (e : NodeEvent) (should answer : NodeAnswer) (v : NodeValue) → IsStarved e should answer → Moved key e answer v v
 starved_moved key e should answer v starved = no_op_moved key e answer v (starved_no_op key e should answer starved)
 
 -- Requests.
 
-did_tenants : (noticed : set.FinSet nat_cmp) (r : Request) (reply : Reply) (t : TableValue) → (table_did noticed r reply t).tenants ≡ t.tenants ++ added (Asked r) (Replied reply)
-did_tenants noticed (AddTenant token row) Done t = refl
-did_tenants noticed (AddTenant token row) (Said seq) t = sym (append-nil t.tenants)
-did_tenants noticed (AddTenant token row) (Log entries) t = sym (append-nil t.tenants)
-did_tenants noticed (AddTenant token row) (Refused why) t = sym (append-nil t.tenants)
-did_tenants noticed (Make token addr spec) Done t = sym (append-nil t.tenants)
-did_tenants noticed (Make token addr spec) (Said seq) t = sym (append-nil t.tenants)
-did_tenants noticed (Make token addr spec) (Log entries) t = sym (append-nil t.tenants)
-did_tenants noticed (Make token addr spec) (Refused why) t = sym (append-nil t.tenants)
-did_tenants noticed (OpenGroup token addr) Done t = sym (append-nil t.tenants)
-did_tenants noticed (OpenGroup token addr) (Said seq) t = sym (append-nil t.tenants)
-did_tenants noticed (OpenGroup token addr) (Log entries) t = sym (append-nil t.tenants)
-did_tenants noticed (OpenGroup token addr) (Refused why) t = sym (append-nil t.tenants)
-did_tenants noticed (ShutGroup token addr) Done t = sym (append-nil t.tenants)
-did_tenants noticed (ShutGroup token addr) (Said seq) t = sym (append-nil t.tenants)
-did_tenants noticed (ShutGroup token addr) (Log entries) t = sym (append-nil t.tenants)
-did_tenants noticed (ShutGroup token addr) (Refused why) t = sym (append-nil t.tenants)
-did_tenants noticed (DropGroup token addr) Done t = sym (append-nil t.tenants)
-did_tenants noticed (DropGroup token addr) (Said seq) t = sym (append-nil t.tenants)
-did_tenants noticed (DropGroup token addr) (Log entries) t = sym (append-nil t.tenants)
-did_tenants noticed (DropGroup token addr) (Refused why) t = sym (append-nil t.tenants)
-did_tenants noticed (Say token addr message) Done t = sym (append-nil t.tenants)
-did_tenants noticed (Say token addr message) (Said seq) t = sym (append-nil t.tenants)
-did_tenants noticed (Say token addr message) (Log entries) t = sym (append-nil t.tenants)
-did_tenants noticed (Say token addr message) (Refused why) t = sym (append-nil t.tenants)
-did_tenants noticed (Fetch token addr from most) Done t = sym (append-nil t.tenants)
-did_tenants noticed (Fetch token addr from most) (Said seq) t = sym (append-nil t.tenants)
-did_tenants noticed (Fetch token addr from most) (Log entries) t = sym (append-nil t.tenants)
-did_tenants noticed (Fetch token addr from most) (Refused why) t = sym (append-nil t.tenants)
+did_tenants : (noticed : set.FinSet nat_cmp) (r : Request) (reply : Reply) (t : TableValue) → (table_did noticed reply r.what t).tenants ≡ t.tenants ++ added (Asked r) (Replied reply)
+did_tenants noticed r Done t = done_tenants r.what
+  where
+    done_tenants : (what : Action) → (request_done noticed what t).tenants ≡ t.tenants ++ added_by what
+    done_tenants (AddTenant row) = refl
+    done_tenants (Group addr command) = sym (append-nil t.tenants)
+did_tenants noticed r (Said seq) t = sym (append-nil t.tenants)
+did_tenants noticed r (Log entries) t = sym (append-nil t.tenants)
+did_tenants noticed r (Refused why) t = sym (append-nil t.tenants)
 
 -- tables of the same node, with the same cluster, version, places and administrator
 pub record SameTable (t u : TableValue) : Type 0 where
@@ -219,81 +179,19 @@ pub record SameTable (t u : TableValue) : Type 0 where
   places : u.places ≡ t.places
   admin_key : u.admin_key ≡ t.admin_key
 
-pub did_same : (noticed : set.FinSet nat_cmp) (r : Request) (reply : Reply) (t : TableValue) → SameTable t (table_did noticed r reply t)
-did_same noticed (AddTenant token row) Done t = record { me = refl; nodes = refl; version = refl; places = refl; admin_key = refl }
-did_same noticed (AddTenant token row) (Said seq) t = record { me = refl; nodes = refl; version = refl; places = refl; admin_key = refl }
-did_same noticed (AddTenant token row) (Log entries) t = record { me = refl; nodes = refl; version = refl; places = refl; admin_key = refl }
-did_same noticed (AddTenant token row) (Refused why) t = record { me = refl; nodes = refl; version = refl; places = refl; admin_key = refl }
-did_same noticed (Make token addr spec) Done t = record { me = refl; nodes = refl; version = refl; places = refl; admin_key = refl }
-did_same noticed (Make token addr spec) (Said seq) t = record { me = refl; nodes = refl; version = refl; places = refl; admin_key = refl }
-did_same noticed (Make token addr spec) (Log entries) t = record { me = refl; nodes = refl; version = refl; places = refl; admin_key = refl }
-did_same noticed (Make token addr spec) (Refused why) t = record { me = refl; nodes = refl; version = refl; places = refl; admin_key = refl }
-did_same noticed (OpenGroup token addr) Done t = record { me = refl; nodes = refl; version = refl; places = refl; admin_key = refl }
-did_same noticed (OpenGroup token addr) (Said seq) t = record { me = refl; nodes = refl; version = refl; places = refl; admin_key = refl }
-did_same noticed (OpenGroup token addr) (Log entries) t = record { me = refl; nodes = refl; version = refl; places = refl; admin_key = refl }
-did_same noticed (OpenGroup token addr) (Refused why) t = record { me = refl; nodes = refl; version = refl; places = refl; admin_key = refl }
-did_same noticed (ShutGroup token addr) Done t = record { me = refl; nodes = refl; version = refl; places = refl; admin_key = refl }
-did_same noticed (ShutGroup token addr) (Said seq) t = record { me = refl; nodes = refl; version = refl; places = refl; admin_key = refl }
-did_same noticed (ShutGroup token addr) (Log entries) t = record { me = refl; nodes = refl; version = refl; places = refl; admin_key = refl }
-did_same noticed (ShutGroup token addr) (Refused why) t = record { me = refl; nodes = refl; version = refl; places = refl; admin_key = refl }
-did_same noticed (DropGroup token addr) Done t = record { me = refl; nodes = refl; version = refl; places = refl; admin_key = refl }
-did_same noticed (DropGroup token addr) (Said seq) t = record { me = refl; nodes = refl; version = refl; places = refl; admin_key = refl }
-did_same noticed (DropGroup token addr) (Log entries) t = record { me = refl; nodes = refl; version = refl; places = refl; admin_key = refl }
-did_same noticed (DropGroup token addr) (Refused why) t = record { me = refl; nodes = refl; version = refl; places = refl; admin_key = refl }
-did_same noticed (Say token addr message) Done t = record { me = refl; nodes = refl; version = refl; places = refl; admin_key = refl }
-did_same noticed (Say token addr message) (Said seq) t = record { me = refl; nodes = refl; version = refl; places = refl; admin_key = refl }
-did_same noticed (Say token addr message) (Log entries) t = record { me = refl; nodes = refl; version = refl; places = refl; admin_key = refl }
-did_same noticed (Say token addr message) (Refused why) t = record { me = refl; nodes = refl; version = refl; places = refl; admin_key = refl }
-did_same noticed (Fetch token addr from most) Done t = record { me = refl; nodes = refl; version = refl; places = refl; admin_key = refl }
-did_same noticed (Fetch token addr from most) (Said seq) t = record { me = refl; nodes = refl; version = refl; places = refl; admin_key = refl }
-did_same noticed (Fetch token addr from most) (Log entries) t = record { me = refl; nodes = refl; version = refl; places = refl; admin_key = refl }
-did_same noticed (Fetch token addr from most) (Refused why) t = record { me = refl; nodes = refl; version = refl; places = refl; admin_key = refl }
+pub did_same : (noticed : set.FinSet nat_cmp) (reply : Reply) (what : Action) (t : TableValue) → SameTable t (table_did noticed reply what t)
+did_same noticed Done (AddTenant row) t = record { me = refl; nodes = refl; version = refl; places = refl; admin_key = refl }
+did_same noticed Done (Group addr command) t = record { me = refl; nodes = refl; version = refl; places = refl; admin_key = refl }
+did_same noticed (Said seq) what t = record { me = refl; nodes = refl; version = refl; places = refl; admin_key = refl }
+did_same noticed (Log entries) what t = record { me = refl; nodes = refl; version = refl; places = refl; admin_key = refl }
+did_same noticed (Refused why) what t = record { me = refl; nodes = refl; version = refl; places = refl; admin_key = refl }
 
-pub asked_moved : (key : List ℕ) (r : Request) (reply : Reply) (v : NodeValue) → Moved key (Asked r) (Replied reply) v (node_did r reply v)
+pub asked_moved : (key : List ℕ) (r : Request) (reply : Reply) (v : NodeValue) → Moved key (Asked r) (Replied reply) v (node_did reply r.what v)
 asked_moved key r reply v =
-    let kept = did_same v.watch.noticed r reply v.table in
-    still_moved key (Asked r) (Replied reply) v (node_did r reply v) (record { none_came = refl; none_packed = λ b. refl; none_taken = λ b n. refl }) refl kept.me kept.nodes kept.version kept.places kept.admin_key refl refl refl (did_tenants v.watch.noticed r reply v.table) refl refl
+    let kept = did_same v.watch.noticed reply r.what v.table in
+    still_moved key (Asked r) (Replied reply) v (node_did reply r.what v) (record { none_came = refl; none_packed = λ b. refl; none_taken = λ b n. refl }) refl kept.me kept.nodes kept.version kept.places kept.admin_key refl refl refl (did_tenants v.watch.noticed r reply v.table) refl refl
 
 -- Groups.
-
--- a refused request makes nothing of a group
-asked_refused : (g : Addr) (me : NodeId) (noticed : set.FinSet nat_cmp) (r : Request) (why : Refusal) (o : Option (Option SlotState)) → asked_for g me noticed r (Refused why) o ≡ o
-asked_refused g me noticed (AddTenant token row) why o = refl
-asked_refused g me noticed (Make token addr spec) why o = refl
-asked_refused g me noticed (OpenGroup token addr) why o = refl
-asked_refused g me noticed (ShutGroup token addr) why o = refl
-asked_refused g me noticed (DropGroup token addr) why o = refl
-asked_refused g me noticed (Say token addr message) why o = refl
-asked_refused g me noticed (Fetch token addr from most) why o = refl
-
--- and tells it nothing
-pub asked_untold : (g : Addr) (me : NodeId) (noticed : set.FinSet nat_cmp) (r : Request) (why : Refusal) (t : Option (Option Told)) → asked_told g me noticed r (Refused why) t ≡ t
-asked_untold g me noticed (AddTenant token row) why t = refl
-asked_untold g me noticed (Make token addr spec) why t = refl
-asked_untold g me noticed (OpenGroup token addr) why t = refl
-asked_untold g me noticed (ShutGroup token addr) why t = refl
-asked_untold g me noticed (DropGroup token addr) why t = refl
-asked_untold g me noticed (Say token addr message) why t = refl
-asked_untold g me noticed (Fetch token addr from most) why t = refl
-
--- and as many of its room live
-living_refused : (g : Addr) (r : Request) (why : Refusal) (n : ℕ) → living_after g (Asked r) (Replied (Refused why)) n ≡ n
-living_refused g (AddTenant token row) why n = refl
-living_refused g (Make token addr spec) why n = refl
-living_refused g (OpenGroup token addr) why n = refl
-living_refused g (ShutGroup token addr) why n = refl
-living_refused g (DropGroup token addr) why n = refl
-living_refused g (Say token addr message) why n = refl
-living_refused g (Fetch token addr from most) why n = refl
-
-living_unsent : (g : Addr) (r : Request) (n : ℕ) → living_after g (Asked r) (Sent (SentRefused OutOfMemory)) n ≡ n
-living_unsent g (AddTenant token row) n = refl
-living_unsent g (Make token addr spec) n = refl
-living_unsent g (OpenGroup token addr) n = refl
-living_unsent g (ShutGroup token addr) n = refl
-living_unsent g (DropGroup token addr) n = refl
-living_unsent g (Say token addr message) n = refl
-living_unsent g (Fetch token addr from most) n = refl
 
 -- nothing is made of a group, nothing is told to it, and as many of its room live
 abbrev pub LeavesGroup : NodePlan → Addr → List Happened → NodeEvent → NodeAnswer → Type 0
@@ -301,7 +199,7 @@ LeavesGroup plan g past e a = ((o : Option (Option SlotState)) → o ≡ group_a
 
 -- so by a stopped node
 pub stopped_group : (plan : NodePlan) (g : Addr) (past : List Happened) (e : NodeEvent) → LeavesGroup plan g past e (stopped_answer e)
-stopped_group plan g past (Asked r) = (λ o. sym (asked_refused g plan.me (noticed_after plan past) r Stopped o), λ t. sym (asked_untold g plan.me (noticed_after plan past) r Stopped t), λ n. sym (living_refused g r Stopped n))
+stopped_group plan g past (Asked r) = (λ o. refl, λ t. refl, λ n. refl)
 stopped_group plan g past (Came bytes) = (λ o. refl, λ t. refl, λ n. refl)
 stopped_group plan g past (Pack x) = (λ o. refl, λ t. refl, λ n. refl)
 stopped_group plan g past (Again x n) = (λ o. refl, λ t. refl, λ n. refl)
@@ -310,7 +208,7 @@ stopped_group plan g past Tick = (λ o. refl, λ t. refl, λ n. refl)
 stopped_group plan g past Stop = (λ o. refl, λ t. refl, λ n. refl)
 
 unsent_group : (plan : NodePlan) (g : Addr) (past : List Happened) (e : NodeEvent) → LeavesGroup plan g past e (Sent (SentRefused OutOfMemory))
-unsent_group plan g past (Asked r) = (λ o. refl, λ t. refl, λ n. sym (living_unsent g r n))
+unsent_group plan g past (Asked r) = (λ o. refl, λ t. refl, λ n. refl)
 unsent_group plan g past (Came bytes) = (λ o. refl, λ t. refl, λ n. refl)
 unsent_group plan g past (Pack x) = (λ o. refl, λ t. refl, λ n. refl)
 unsent_group plan g past (Again x n) = (λ o. refl, λ t. refl, λ n. refl)
@@ -326,4 +224,4 @@ starved_group plan g past e should answer starved = by (starved_says e should an
     by (inl is) = subst (LeavesGroup plan g past e) (sym is) (unsent_group plan g past e)
     by (inr is) =
         subst (λ x. LeavesGroup plan g past x answer) (sym is.1) (subst (LeavesGroup plan g past (Asked is.0)) (sym is.2)
-        (λ o. sym (asked_refused g plan.me (noticed_after plan past) is.0 OutOfMemory o), λ t. sym (asked_untold g plan.me (noticed_after plan past) is.0 OutOfMemory t), λ n. sym (living_refused g is.0 OutOfMemory n)))
+        (λ o. refl, λ t. refl, λ n. refl))

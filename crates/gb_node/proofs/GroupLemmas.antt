@@ -16,8 +16,11 @@ use Rattle.gb_types.specs.declared.node.NodeId.{NodeId}
 use Rattle.gb_types.specs.declared.reply.Reply.{Reply}
 use Rattle.gb_types.specs.declared.reply.Reply.TheVariants.{Done, Said, Log, Refused}
 use Rattle.gb_types.specs.declared.request.Request.{Request}
-use Rattle.gb_types.specs.declared.request.Request.TheVariants.{AddTenant, Make, OpenGroup, ShutGroup, DropGroup, Say, Fetch}
-use Rattle.gb_rules.specs.declared.phase.Phase.TheVariants.{Opened, Shut}
+use Rattle.gb_types.specs.declared.request.Action.{Action}
+use Rattle.gb_types.specs.declared.request.Action.TheVariants.{AddTenant, Group}
+use Rattle.gb_types.specs.declared.request.GroupCommand.{GroupCommand}
+use Rattle.gb_types.specs.declared.request.GroupCommand.TheVariants.{Make, Open, Shut, Drop, Say, Fetch}
+use Rattle.gb_rules.specs.declared.phase.Phase.TheVariants.{Opened, Shut as Closed}
 use Rattle.gb_frame.specs.declared.item.Item.{Item}
 use Rattle.gb_frame.specs.Packet.{Content}
 use Rattle.gb_frame.specs.Reading.{reading}
@@ -30,7 +33,7 @@ use Rattle.gb_link.specs.Received.{Received, admission}
 use Rattle.gb_link.specs.declared.receiver.Admission.{Admission}
 use Rattle.gb_link.specs.declared.receiver.Admission.TheVariants.{First, Seen, Outside}
 use Rattle.gb_slot.specs.SlotState.{SlotState}
-use Rattle.gb_slot.specs.Slot.{new_slot, slot_moved, slot_said, slot_noticed, slot_came, slot_done, slot_took}
+use Rattle.gb_slot.specs.Slot.{new_slot, slot_moved, slot_said, slot_noticed, slot_done, slot_took}
 use Rattle.gb_table.specs.SlotsValue.{AreApart}
 use Rattle.gb_frame.specs.Items.{address_of, entry_of, names, items_for, item_for}
 use Rattle.gb_table.specs.AtAddress.{item_came}
@@ -41,13 +44,13 @@ use Rattle.gb_rules.specs.Room.{is_reached_by}
 use Rattle.gb_rules.proofs.AddressLemmas.{addr_is}
 use Rattle.gb_table.specs.OneGroup.{group_in, waiting_in, came_for, with_rows, AreInOrder, EachGroup}
 use Rattle.gb_table.specs.TableValue.{TableValue, table_noticed, table_packed}
-use Rattle.gb_table.specs.Requests.{table_did, table_reply}
+use Rattle.gb_table.specs.Requests.{admitted_reply, groups_done, groups_said, request_done, table_did, table_reply}
 use Rattle.gb_node.specs.NodeValue.{NodeValue}
 use Rattle.gb_node.specs.NodeStep.{node_numbered, window_to, receiver_from, is_reached, content_to, batch_to, room_to, unless_empty, next_batch, sent_batch, newly_done, took_ack, heard, good_of, node_took, node_ticked, node_did, item_done, frame_done, item_comes, items_come, fate, kind_of, frame_comes, notice_each}
 use Rattle.gb_node.proofs.PacketLemmas.{read_one}
 use Rattle.gb_node.specs.Past.{Happened, read, packed_for, frames_to, numbered, is_acked, is_first}
 use Rattle.gb_node.specs.PastGroups.{freed_by, items_freed}
-use Rattle.gb_node.proofs.SlotGroups.{asked_for, done_for, taken_for, packed_from, noticed_for, group_after, StandsForPast}
+use Rattle.gb_node.proofs.SlotGroups.{command_slot, done_slot, said_slot, asked_for, done_for, taken_for, packed_from, noticed_for, group_after, StandsForPast}
 use Rattle.gb_node.specs.declared.plan.NodePlan.{NodePlan}
 use Rattle.gb_node.specs.declared.answer.NodeAnswer.{NodeAnswer}
 use Rattle.gb_node.specs.declared.answer.NodeAnswer.TheVariants.{Reply as Replied, Taken, Sent, Ticked, Halted}
@@ -57,7 +60,7 @@ use Rattle.gb_node.specs.declared.answer.Ticked.TheVariants.{Noticed}
 use Rattle.gb_node.specs.declared.event.NodeEvent.{NodeEvent}
 use Rattle.gb_node.specs.declared.event.NodeEvent.TheVariants.{Request as Asked, Packet as Came, Pack, Again, Ack, Tick, Stop}
 use Rattle.gb_node.proofs.LinkLemmas.{told, keeps_all, keeps_frame}
-use Rattle.gb_node.proofs.AskedLemmas.{AreWithinLimits, can_make}
+use Rattle.gb_node.proofs.AskedLemmas.{AreWithinLimits, can_make, done_is}
 
 -- Requests.
 
@@ -75,38 +78,38 @@ added_fresh g addr s t fresh =
     by (Some o) true none = let no = none refl in absurd (cc)
     by o false none = refl
 
-pub did_for : EachGroup → (noticed : set.FinSet nat_cmp) (g : Addr) (r : Request) (reply : Reply) (t : TableValue) → AreInOrder t.groups → AreWithinLimits t.tenants → reply ≡ table_reply r t
-    → group_in g (table_did noticed r reply t).groups ≡ asked_for g t.me noticed r reply (group_in g t.groups)
-did_for law noticed g (AddTenant token row) Done t order limits is = refl
-did_for law noticed g (AddTenant token row) (Said seq) t order limits is = refl
-did_for law noticed g (AddTenant token row) (Log entries) t order limits is = refl
-did_for law noticed g (AddTenant token row) (Refused why) t order limits is = refl
-did_for law noticed g (Make token addr spec) Done t order limits is =
-    let can = can_make t token addr spec limits is in
+-- a command that is done
+command_for : EachGroup → (noticed : set.FinSet nat_cmp) (g addr : Addr) (command : GroupCommand) (t : TableValue) → AreInOrder t.groups → AreWithinLimits t.tenants → Done ≡ admitted_reply (Group addr command) t
+    → group_in g (groups_done t.me noticed addr command t.groups) ≡ command_slot g t.me noticed addr command (group_in g t.groups)
+command_for law noticed g addr (Make spec) t order limits is =
+    let can = can_make t addr spec limits is in
     law.added g addr (new_slot spec t.me noticed) t.groups order can ∙ added_fresh g addr (new_slot spec t.me noticed) t.groups can.fresh
-did_for law noticed g (Make token addr spec) (Said seq) t order limits is = refl
-did_for law noticed g (Make token addr spec) (Log entries) t order limits is = refl
-did_for law noticed g (Make token addr spec) (Refused why) t order limits is = refl
-did_for law noticed g (OpenGroup token addr) Done t order limits is = law.addressed g addr (slot_moved Opened Done) t.groups
-did_for law noticed g (OpenGroup token addr) (Said seq) t order limits is = refl
-did_for law noticed g (OpenGroup token addr) (Log entries) t order limits is = refl
-did_for law noticed g (OpenGroup token addr) (Refused why) t order limits is = refl
-did_for law noticed g (ShutGroup token addr) Done t order limits is = law.addressed g addr (slot_moved Shut Done) t.groups
-did_for law noticed g (ShutGroup token addr) (Said seq) t order limits is = refl
-did_for law noticed g (ShutGroup token addr) (Log entries) t order limits is = refl
-did_for law noticed g (ShutGroup token addr) (Refused why) t order limits is = refl
-did_for law noticed g (DropGroup token addr) Done t order limits is = law.erased g addr t.groups order
-did_for law noticed g (DropGroup token addr) (Said seq) t order limits is = refl
-did_for law noticed g (DropGroup token addr) (Log entries) t order limits is = refl
-did_for law noticed g (DropGroup token addr) (Refused why) t order limits is = refl
-did_for law noticed g (Say token addr message) Done t order limits is = refl
-did_for law noticed g (Say token addr message) (Said seq) t order limits is = law.addressed g addr (slot_said message.payload (Said seq)) t.groups
-did_for law noticed g (Say token addr message) (Log entries) t order limits is = refl
-did_for law noticed g (Say token addr message) (Refused why) t order limits is = refl
-did_for law noticed g (Fetch token addr from most) Done t order limits is = refl
-did_for law noticed g (Fetch token addr from most) (Said seq) t order limits is = refl
-did_for law noticed g (Fetch token addr from most) (Log entries) t order limits is = refl
-did_for law noticed g (Fetch token addr from most) (Refused why) t order limits is = refl
+command_for law noticed g addr Open t order limits is = law.addressed g addr (slot_moved Opened Done) t.groups
+command_for law noticed g addr Shut t order limits is = law.addressed g addr (slot_moved Closed Done) t.groups
+command_for law noticed g addr Drop t order limits is = law.erased g addr t.groups order
+command_for law noticed g addr (Say message) t order limits is = refl
+command_for law noticed g addr (Fetch from most) t order limits is = refl
+
+-- a command that is said
+said_for : EachGroup → (g : Addr) (seq : ℕ) (what : Action) (groups : GroupsValue) → group_in g (groups_said seq what groups) ≡ said_slot g seq what (group_in g groups)
+said_for law g seq (AddTenant row) groups = refl
+said_for law g seq (Group addr (Make spec)) groups = refl
+said_for law g seq (Group addr Open) groups = refl
+said_for law g seq (Group addr Shut) groups = refl
+said_for law g seq (Group addr Drop) groups = refl
+said_for law g seq (Group addr (Say message)) groups = law.addressed g addr (slot_said message.payload (Said seq)) groups
+said_for law g seq (Group addr (Fetch from most)) groups = refl
+
+pub did_for : EachGroup → (noticed : set.FinSet nat_cmp) (g : Addr) (r : Request) (reply : Reply) (t : TableValue) → AreInOrder t.groups → AreWithinLimits t.tenants → reply ≡ table_reply r t
+    → group_in g (table_did noticed reply r.what t).groups ≡ asked_for g t.me noticed reply r.what (group_in g t.groups)
+did_for law noticed g r Done t order limits is = by r.what (done_is r t is)
+  where
+    by : (what : Action) → Done ≡ admitted_reply what t → group_in g (request_done noticed what t).groups ≡ done_slot g t.me noticed what (group_in g t.groups)
+    by (AddTenant row) is = refl
+    by (Group addr command) is = command_for law noticed g addr command t order limits is
+did_for law noticed g r (Said seq) t order limits is = said_for law g seq r.what t.groups
+did_for law noticed g r (Log entries) t order limits is = refl
+did_for law noticed g r (Refused why) t order limits is = refl
 
 -- Items that are acknowledged.
 
@@ -185,11 +188,11 @@ packed_in law g b room items t apart is =
 
 -- What each event makes of each group, in the words of the past.
 module _ (each : EachGroup) (plan : NodePlan) (past : List Happened) (v : NodeValue) (was : StandsForPast plan past v) (g : Addr) where
-  pub asked_groups : (r : Request) (reply : Reply) → AreInOrder v.table.groups → AreWithinLimits v.table.tenants → reply ≡ table_reply r v.table → group_in g (node_did r reply v).table.groups ≡ group_after plan g past (Asked r) (Replied reply) (group_in g v.table.groups)
+  pub asked_groups : (r : Request) (reply : Reply) → AreInOrder v.table.groups → AreWithinLimits v.table.tenants → reply ≡ table_reply r v.table → group_in g (node_did reply r.what v).table.groups ≡ group_after plan g past (Asked r) (Replied reply) (group_in g v.table.groups)
   asked_groups r reply order limits is =
       did_for each v.watch.noticed g r reply v.table order limits is
-      ∙ (ap (λ m. asked_for g m v.watch.noticed r reply (group_in g v.table.groups)) was.beside.me
-      ∙ ap (λ (w : Watch). asked_for g plan.me w.noticed r reply (group_in g v.table.groups)) was.beside.watch)
+      ∙ (ap (λ m. asked_for g m v.watch.noticed reply r.what (group_in g v.table.groups)) was.beside.me
+      ∙ ap (λ (w : Watch). asked_for g plan.me w.noticed reply r.what (group_in g v.table.groups)) was.beside.watch)
 
   -- a node with a number beyond all has no frames
   no_frames : (key : List ℕ) (n : ℕ) (hs : List Happened) → NODES ≤ n → frames_to key n hs ≡ []

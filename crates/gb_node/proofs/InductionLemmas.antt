@@ -15,7 +15,8 @@ use Rattle.gb_types.specs.declared.refusal.Refusal.TheVariants.{Stopped, OutOfMe
 use Rattle.gb_types.specs.declared.reply.Reply.{Reply}
 use Rattle.gb_types.specs.declared.reply.Reply.TheVariants.{Done, Refused}
 use Rattle.gb_types.specs.declared.request.Request.{Request}
-use Rattle.gb_types.specs.declared.request.Request.TheVariants.{AddTenant}
+use Rattle.gb_types.specs.declared.request.Action.{Action}
+use Rattle.gb_types.specs.declared.request.Action.TheVariants.{AddTenant, Group}
 use Rattle.gb_types.specs.declared.spec.TenantRow.{TenantRow}
 use Rattle.gb_rules.specs.Tenant.{is_over_limits}
 use Rattle.gb_frame.specs.declared.fault.PacketFault.{PacketFault}
@@ -32,13 +33,13 @@ use Rattle.gb_frame.specs.Items.{items_for}
 use Rattle.gb_table.specs.GroupsValue.{no_groups}
 use Rattle.gb_table.specs.OneGroup.{group_in, waiting_in, AreInOrder, EachGroup, EachCount, StayInOrder}
 use Rattle.gb_table.specs.Rooms.{others_living}
-use Rattle.gb_table.specs.Requests.{table_reply}
+use Rattle.gb_table.specs.Requests.{admitted_reply, table_reply}
 use Rattle.gb_detect.specs.Silence.{is_noticed}
 use Rattle.gb_detect.specs.Laws.{NoticedByCalls}
 use Rattle.gb_node.specs.NodeValue.{NodeValue, new_node, IsNodePlan}
 use Rattle.gb_node.specs.NodeStep.{fate, Turn, turn, running_turn, stopped_answer, IsTurn, IsSpelt, is_here, if_here, taken_answer, node_read, next_batch, room_to, sent, sent_batch, content_to, window_to, receiver_from, node_numbered, newly_done, heard, took_ack, without_done, receives, again_content, ack_content}
 use Rattle.gb_node.proofs.PacketLemmas.{read_one}
-use Rattle.gb_node.specs.Past.{Happened, ComesTo, read, frames_to, numbered, is_acked, is_taken, watched, added, tenants_in, is_stopped}
+use Rattle.gb_node.specs.Past.{Happened, ComesTo, read, frames_to, numbered, is_acked, is_taken, watched, added, added_by, tenants_in, is_stopped}
 use Rattle.gb_node.specs.PastGroups.{noticed_after, taken_told, packed_told, told_after, told_of, living_after, living_of}
 use Rattle.gb_node.specs.PastLaw.{IsOfPast, PastsSay}
 use Rattle.gb_node.proofs.SlotGroups.{taken_for, packed_from, group_after, group_of, IsTold, StandsForPast}
@@ -55,7 +56,7 @@ use Rattle.gb_node.proofs.EventLemmas.{starved_says, no_op_moved, stopped_moved,
 use Rattle.gb_node.proofs.ShownLemmas.{told_shown, told_waiting}
 use Rattle.gb_node.proofs.ToldLemmas.{SlotLaws, asked_stands, taken_stands, packed_stands, noticed_stands}
 use Rattle.gb_node.proofs.GroupLemmas.{waiting_enough, asked_groups, took_groups, packed_groups, ticked_groups, next_items}
-use Rattle.gb_node.proofs.AskedLemmas.{AreWithinLimits, tenant_within}
+use Rattle.gb_node.proofs.AskedLemmas.{AreWithinLimits, done_is, tenant_within}
 use Rattle.gb_node.proofs.OrderLemmas.{did_order, frames_done_order, frame_comes_order, notices_order, did_living, frames_done_living, frame_comes_living, notices_living}
 use Rattle.gb_node.proofs.LinkLemmas.{took_moved, packed_moved, ticked_moved, halted_moved, told as packet_told}
 
@@ -221,19 +222,23 @@ no_groups_order = record {
 
 -- the tenants that an event adds are within the limits
 added_within : (v : NodeValue) (e : NodeEvent) (a : NodeAnswer) (w : NodeValue) → IsTurn v e a w → AreWithinLimits (added e a)
-added_within v (Asked (AddTenant token row)) (Replied Done) w (inl starved) = absurd (never (starved_says (Asked (AddTenant token row)) (turn v (Asked (AddTenant token row))).answer (Replied Done) starved.0))
+added_within v (Asked r) (Replied Done) w (inl starved) = absurd (never (starved_says (Asked r) (turn v (Asked r)).answer (Replied Done) starved.0))
   where
-    never : (Replied Done ≡ Sent (SentRefused OutOfMemory)) ⊎ ((r : Request) × (Asked (AddTenant token row) ≡ Asked r) × (Replied Done ≡ Replied (Refused OutOfMemory))) → ⊥
+    never : (Replied Done ≡ Sent (SentRefused OutOfMemory)) ⊎ ((q : Request) × (Asked r ≡ Asked q) × (Replied Done ≡ Replied (Refused OutOfMemory))) → ⊥
     never (inl is) = cc
     never (inr is) = let e = is.2 in cc
-added_within v (Asked (AddTenant token row)) (Replied Done) w (inr went) = by v.stopped went.0
+added_within v (Asked r) (Replied Done) w (inr went) = by v.stopped went.0
   where
     one_reply : {x : Reply} → Replied Done ≡ Replied x → Done ≡ x
     one_reply e = cc
 
-    by : (b : Bool) → Replied Done ≡ (if b then record { value = v; answer = Replied (Refused Stopped) } else running_turn v (Asked (AddTenant token row))).answer → AreWithinLimits (row ∷ [])
+    adds : (what : Action) → Done ≡ admitted_reply what v.table → AreWithinLimits (added_by what)
+    adds (AddTenant row) e = All-cons (λ (r : TenantRow). is_over_limits r ≡ false) row [] (tenant_within v.table row e) (All-nil (λ (r : TenantRow). is_over_limits r ≡ false))
+    adds (Group addr command) e = All-nil (λ (r : TenantRow). is_over_limits r ≡ false)
+
+    by : (b : Bool) → Replied Done ≡ (if b then record { value = v; answer = Replied (Refused Stopped) } else running_turn v (Asked r)).answer → AreWithinLimits (added_by r.what)
     by true e = absurd (cc)
-    by false e = All-cons (λ (r : TenantRow). is_over_limits r ≡ false) row [] (tenant_within v.table token row (one_reply e)) (All-nil (λ (r : TenantRow). is_over_limits r ≡ false))
+    by false e = adds r.what (done_is r v.table (one_reply e))
 added_within v e a w turned = λ k d l. absurd (omega arith)
 
 -- a node comes from one that was started rightly

@@ -11,9 +11,12 @@ use Rattle.gb_types.specs.declared.node.NodeId.{NodeId}
 use Rattle.gb_types.specs.declared.reply.Reply.{Reply}
 use Rattle.gb_types.specs.declared.reply.Reply.TheVariants.{Done, Said, Log, Refused}
 use Rattle.gb_types.specs.declared.request.Request.{Request}
-use Rattle.gb_types.specs.declared.request.Request.TheVariants.{AddTenant, Make, OpenGroup, ShutGroup, DropGroup, Say, Fetch}
+use Rattle.gb_types.specs.declared.request.Action.{Action}
+use Rattle.gb_types.specs.declared.request.Action.TheVariants.{AddTenant, Group}
+use Rattle.gb_types.specs.declared.request.GroupCommand.{GroupCommand}
+use Rattle.gb_types.specs.declared.request.GroupCommand.TheVariants.{Make, Open, Shut, Drop, Say, Fetch}
 use Rattle.gb_rules.specs.Group.{is_too_long}
-use Rattle.gb_rules.specs.declared.phase.Phase.TheVariants.{Opened, Shut}
+use Rattle.gb_rules.specs.declared.phase.Phase.TheVariants.{Opened, Shut as Closed}
 use Rattle.gb_frame.specs.declared.item.Item.{Item}
 use Rattle.gb_frame.specs.Items.{address_of, entry_of}
 use Rattle.gb_link.specs.Received.{Received, admission}
@@ -22,47 +25,45 @@ use Rattle.gb_link.specs.declared.receiver.Admission.TheVariants.{First, Seen, O
 use Rattle.gb_slot.specs.Slot.{new_slot, slot_moved, slot_said, slot_noticed, slot_came, slot_done}
 use Rattle.gb_table.specs.AtAddress.{item_came}
 use Rattle.gb_table.specs.OneGroup.{AreInOrder, StayInOrder, EachCount}
+use Rattle.gb_table.specs.GroupsValue.{GroupsValue}
 use Rattle.gb_table.specs.Rooms.{others_living}
 use Rattle.gb_table.specs.TableValue.{TableValue, table_noticed}
-use Rattle.gb_table.specs.Requests.{table_did, table_reply}
+use Rattle.gb_table.specs.Requests.{admitted_reply, groups_done, groups_said, request_done, table_did, table_reply}
 use Rattle.gb_node.specs.NodeStep.{node_numbered, item_done, frame_done, item_comes, items_come, frame_comes, notice_each}
-use Rattle.gb_node.specs.PastGroups.{living_after}
+use Rattle.gb_node.specs.PastGroups.{living_after, living_done}
 use Rattle.gb_node.specs.declared.answer.NodeAnswer.TheVariants.{Reply as Replied}
 use Rattle.gb_node.specs.declared.event.NodeEvent.TheVariants.{Request as Asked}
-use Rattle.gb_node.proofs.AskedLemmas.{AreWithinLimits, can_make, dropped_there}
+use Rattle.gb_node.proofs.AskedLemmas.{AreWithinLimits, can_make, done_is, dropped_there}
 
 -- No two groups have one address, and each room has its places.
 
 module _ (law : StayInOrder) where
-  pub did_order : (noticed : set.FinSet nat_cmp) (r : Request) (reply : Reply) (t : TableValue) → AreInOrder t.groups → AreWithinLimits t.tenants → reply ≡ table_reply r t → AreInOrder (table_did noticed r reply t).groups
-  did_order noticed (AddTenant token row) Done t order limits is = order
-  did_order noticed (AddTenant token row) (Said seq) t order limits is = order
-  did_order noticed (AddTenant token row) (Log entries) t order limits is = order
-  did_order noticed (AddTenant token row) (Refused why) t order limits is = order
-  did_order noticed (Make token addr spec) Done t order limits is = law.added addr (new_slot spec t.me noticed) t.groups order (can_make t token addr spec limits is)
-  did_order noticed (Make token addr spec) (Said seq) t order limits is = order
-  did_order noticed (Make token addr spec) (Log entries) t order limits is = order
-  did_order noticed (Make token addr spec) (Refused why) t order limits is = order
-  did_order noticed (OpenGroup token addr) Done t order limits is = law.addressed addr (slot_moved Opened Done) t.groups order
-  did_order noticed (OpenGroup token addr) (Said seq) t order limits is = order
-  did_order noticed (OpenGroup token addr) (Log entries) t order limits is = order
-  did_order noticed (OpenGroup token addr) (Refused why) t order limits is = order
-  did_order noticed (ShutGroup token addr) Done t order limits is = law.addressed addr (slot_moved Shut Done) t.groups order
-  did_order noticed (ShutGroup token addr) (Said seq) t order limits is = order
-  did_order noticed (ShutGroup token addr) (Log entries) t order limits is = order
-  did_order noticed (ShutGroup token addr) (Refused why) t order limits is = order
-  did_order noticed (DropGroup token addr) Done t order limits is = law.erased addr t.groups order
-  did_order noticed (DropGroup token addr) (Said seq) t order limits is = order
-  did_order noticed (DropGroup token addr) (Log entries) t order limits is = order
-  did_order noticed (DropGroup token addr) (Refused why) t order limits is = order
-  did_order noticed (Say token addr message) Done t order limits is = order
-  did_order noticed (Say token addr message) (Said seq) t order limits is = law.addressed addr (slot_said message.payload (Said seq)) t.groups order
-  did_order noticed (Say token addr message) (Log entries) t order limits is = order
-  did_order noticed (Say token addr message) (Refused why) t order limits is = order
-  did_order noticed (Fetch token addr from most) Done t order limits is = order
-  did_order noticed (Fetch token addr from most) (Said seq) t order limits is = order
-  did_order noticed (Fetch token addr from most) (Log entries) t order limits is = order
-  did_order noticed (Fetch token addr from most) (Refused why) t order limits is = order
+  command_order : (noticed : set.FinSet nat_cmp) (addr : Addr) (command : GroupCommand) (t : TableValue) → AreInOrder t.groups → AreWithinLimits t.tenants → Done ≡ admitted_reply (Group addr command) t → AreInOrder (groups_done t.me noticed addr command t.groups)
+  command_order noticed addr (Make spec) t order limits is = law.added addr (new_slot spec t.me noticed) t.groups order (can_make t addr spec limits is)
+  command_order noticed addr Open t order limits is = law.addressed addr (slot_moved Opened Done) t.groups order
+  command_order noticed addr Shut t order limits is = law.addressed addr (slot_moved Closed Done) t.groups order
+  command_order noticed addr Drop t order limits is = law.erased addr t.groups order
+  command_order noticed addr (Say message) t order limits is = order
+  command_order noticed addr (Fetch from most) t order limits is = order
+
+  said_order : (seq : ℕ) (what : Action) (groups : GroupsValue) → AreInOrder groups → AreInOrder (groups_said seq what groups)
+  said_order seq (AddTenant row) groups order = order
+  said_order seq (Group addr (Make spec)) groups order = order
+  said_order seq (Group addr Open) groups order = order
+  said_order seq (Group addr Shut) groups order = order
+  said_order seq (Group addr Drop) groups order = order
+  said_order seq (Group addr (Say message)) groups order = law.addressed addr (slot_said message.payload (Said seq)) groups order
+  said_order seq (Group addr (Fetch from most)) groups order = order
+
+  pub did_order : (noticed : set.FinSet nat_cmp) (r : Request) (reply : Reply) (t : TableValue) → AreInOrder t.groups → AreWithinLimits t.tenants → reply ≡ table_reply r t → AreInOrder (table_did noticed reply r.what t).groups
+  did_order noticed r Done t order limits is = by r.what (done_is r t is)
+    where
+      by : (what : Action) → Done ≡ admitted_reply what t → AreInOrder (request_done noticed what t).groups
+      by (AddTenant row) is = order
+      by (Group addr command) is = command_order noticed addr command t order limits is
+  did_order noticed r (Said seq) t order limits is = said_order seq r.what t.groups order
+  did_order noticed r (Log entries) t order limits is = order
+  did_order noticed r (Refused why) t order limits is = order
 
   order_all : {X : Type 0} (step : TableValue → X → TableValue) → ((t : TableValue) (x : X) → AreInOrder t.groups → AreInOrder (step t x).groups) → (t : TableValue) (xs : List X) → AreInOrder t.groups → AreInOrder (fold step t xs).groups
   order_all step one t [] order = order
@@ -100,36 +101,34 @@ module _ (law : StayInOrder) where
 -- The number of other generations of a group's room that live.
 
 module _ (law : EachCount) (g : Addr) where
+  command_living : (noticed : set.FinSet nat_cmp) (addr : Addr) (command : GroupCommand) (t : TableValue) → AreInOrder t.groups → AreWithinLimits t.tenants → Done ≡ admitted_reply (Group addr command) t
+      → others_living g (groups_done t.me noticed addr command t.groups).rows ≡ living_done g (Group addr command) (others_living g t.groups.rows)
+  command_living noticed addr (Make spec) t order limits is = law.added g addr (new_slot spec t.me noticed) t.groups order (can_make t addr spec limits is)
+  command_living noticed addr Open t order limits is = law.addressed g addr (slot_moved Opened Done) t.groups.rows
+  command_living noticed addr Shut t order limits is = law.addressed g addr (slot_moved Closed Done) t.groups.rows
+  command_living noticed addr Drop t order limits is = let there = dropped_there t addr is in law.erased g addr there.0 t.groups order there.1
+  command_living noticed addr (Say message) t order limits is = refl
+  command_living noticed addr (Fetch from most) t order limits is = refl
+
+  said_living : (seq : ℕ) (what : Action) (groups : GroupsValue) → others_living g (groups_said seq what groups).rows ≡ others_living g groups.rows
+  said_living seq (AddTenant row) groups = refl
+  said_living seq (Group addr (Make spec)) groups = refl
+  said_living seq (Group addr Open) groups = refl
+  said_living seq (Group addr Shut) groups = refl
+  said_living seq (Group addr Drop) groups = refl
+  said_living seq (Group addr (Say message)) groups = law.addressed g addr (slot_said message.payload (Said seq)) groups.rows
+  said_living seq (Group addr (Fetch from most)) groups = refl
+
   pub did_living : (noticed : set.FinSet nat_cmp) (r : Request) (reply : Reply) (t : TableValue) → AreInOrder t.groups → AreWithinLimits t.tenants → reply ≡ table_reply r t
-      → others_living g (table_did noticed r reply t).groups.rows ≡ living_after g (Asked r) (Replied reply) (others_living g t.groups.rows)
-  did_living noticed (AddTenant token row) Done t order limits is = refl
-  did_living noticed (AddTenant token row) (Said seq) t order limits is = refl
-  did_living noticed (AddTenant token row) (Log entries) t order limits is = refl
-  did_living noticed (AddTenant token row) (Refused why) t order limits is = refl
-  did_living noticed (Make token addr spec) Done t order limits is = law.added g addr (new_slot spec t.me noticed) t.groups order (can_make t token addr spec limits is)
-  did_living noticed (Make token addr spec) (Said seq) t order limits is = refl
-  did_living noticed (Make token addr spec) (Log entries) t order limits is = refl
-  did_living noticed (Make token addr spec) (Refused why) t order limits is = refl
-  did_living noticed (OpenGroup token addr) Done t order limits is = law.addressed g addr (slot_moved Opened Done) t.groups.rows
-  did_living noticed (OpenGroup token addr) (Said seq) t order limits is = refl
-  did_living noticed (OpenGroup token addr) (Log entries) t order limits is = refl
-  did_living noticed (OpenGroup token addr) (Refused why) t order limits is = refl
-  did_living noticed (ShutGroup token addr) Done t order limits is = law.addressed g addr (slot_moved Shut Done) t.groups.rows
-  did_living noticed (ShutGroup token addr) (Said seq) t order limits is = refl
-  did_living noticed (ShutGroup token addr) (Log entries) t order limits is = refl
-  did_living noticed (ShutGroup token addr) (Refused why) t order limits is = refl
-  did_living noticed (DropGroup token addr) Done t order limits is = let there = dropped_there t token addr is in law.erased g addr there.0 t.groups order there.1
-  did_living noticed (DropGroup token addr) (Said seq) t order limits is = refl
-  did_living noticed (DropGroup token addr) (Log entries) t order limits is = refl
-  did_living noticed (DropGroup token addr) (Refused why) t order limits is = refl
-  did_living noticed (Say token addr message) Done t order limits is = refl
-  did_living noticed (Say token addr message) (Said seq) t order limits is = law.addressed g addr (slot_said message.payload (Said seq)) t.groups.rows
-  did_living noticed (Say token addr message) (Log entries) t order limits is = refl
-  did_living noticed (Say token addr message) (Refused why) t order limits is = refl
-  did_living noticed (Fetch token addr from most) Done t order limits is = refl
-  did_living noticed (Fetch token addr from most) (Said seq) t order limits is = refl
-  did_living noticed (Fetch token addr from most) (Log entries) t order limits is = refl
-  did_living noticed (Fetch token addr from most) (Refused why) t order limits is = refl
+      → others_living g (table_did noticed reply r.what t).groups.rows ≡ living_after g (Asked r) (Replied reply) (others_living g t.groups.rows)
+  did_living noticed r Done t order limits is = by r.what (done_is r t is)
+    where
+      by : (what : Action) → Done ≡ admitted_reply what t → others_living g (request_done noticed what t).groups.rows ≡ living_done g what (others_living g t.groups.rows)
+      by (AddTenant row) is = refl
+      by (Group addr command) is = command_living noticed addr command t order limits is
+  did_living noticed r (Said seq) t order limits is = said_living seq r.what t.groups
+  did_living noticed r (Log entries) t order limits is = refl
+  did_living noticed r (Refused why) t order limits is = refl
 
   living_all : {X : Type 0} (step : TableValue → X → TableValue) → ((t : TableValue) (x : X) → others_living g (step t x).groups.rows ≡ others_living g t.groups.rows) → (t : TableValue) (xs : List X) → others_living g (fold step t xs).groups.rows ≡ others_living g t.groups.rows
   living_all step one t [] = refl

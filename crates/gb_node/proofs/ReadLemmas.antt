@@ -14,7 +14,9 @@ use Rattle.gb_types.specs.declared.refusal.Refusal.TheVariants.{BadPlace, Denied
 use Rattle.gb_types.specs.declared.reply.Reply.{Reply}
 use Rattle.gb_types.specs.declared.reply.Reply.TheVariants.{Done, Said, Log, Refused}
 use Rattle.gb_types.specs.declared.request.Request.{Request}
-use Rattle.gb_types.specs.declared.request.Request.TheVariants.{AddTenant, Make, OpenGroup, ShutGroup, DropGroup, Say, Fetch}
+use Rattle.gb_types.specs.declared.request.Action.{Action}
+use Rattle.gb_types.specs.declared.request.Action.TheVariants.{AddTenant, Group}
+use Rattle.gb_types.specs.declared.request.GroupCommand.TheVariants.{Make, Open, Shut, Drop, Say, Fetch}
 use Rattle.gb_types.specs.declared.spec.Spec.{Spec}
 use Rattle.gb_types.specs.declared.spec.TenantRow.{TenantRow}
 use Rattle.gb_frame.specs.Packet.{Content}
@@ -27,7 +29,7 @@ use Rattle.gb_rules.specs.Room.{can_name}
 use Rattle.gb_rules.specs.declared.room.TheConstants.{GENERATIONS}
 use Rattle.gb_rules.specs.Tenant.{is_over_limits, is_bad, is_over, tenant_answer, make_answer, by_tenant}
 use Rattle.gb_rules.specs.declared.phase.Phase.{Phase}
-use Rattle.gb_rules.specs.declared.phase.Phase.TheVariants.{Made, Opened, Shut, Gone}
+use Rattle.gb_rules.specs.declared.phase.Phase.TheVariants.{Made, Opened, Shut as Closed, Gone}
 use Rattle.gb_rules.specs.declared.reserve.Reserve.{Reserve}
 use Rattle.gb_rules.specs.declared.usage.Usage.{Usage}
 use Rattle.gb_slot.specs.SlotState.{SlotState}
@@ -37,7 +39,7 @@ use Rattle.gb_table.specs.TableValue.{TableValue, reserve_for}
 use Rattle.gb_table.specs.Requests.{is_admitted, admitted_reply, table_reply, table_did}
 use Rattle.gb_node.specs.NodeValue.{NodeValue}
 use Rattle.gb_node.specs.NodeStep.{Turn, turn, running_turn, stopped_answer, sent, window_to, content_to, next_batch, pack_content, IsStarved, IsTurn, IsSpelt}
-use Rattle.gb_node.specs.Reads.{is_read, packet_room, IsReplyWithin, IsSentWithin, IsWithin}
+use Rattle.gb_node.specs.Reads.{is_fetch, is_read, packet_room, IsReplyWithin, IsSentWithin, IsWithin}
 use Rattle.gb_node.specs.declared.answer.NodeAnswer.{NodeAnswer}
 use Rattle.gb_node.specs.declared.answer.NodeAnswer.TheVariants.{Sent}
 use Rattle.gb_node.specs.declared.event.NodeEvent.{NodeEvent}
@@ -46,21 +48,24 @@ use Rattle.gb_types.specs.declared.new_message.NewMessage.{NewMessage}
 
 -- Reads.
 
-fetch_did : (noticed : set.FinSet nat_cmp) (token : List ℕ) (addr : Addr) (from most : ℕ) (reply : Reply) (t : TableValue) → table_did noticed (Fetch token addr from most) reply t ≡ t
-fetch_did noticed token addr from most Done t = refl
-fetch_did noticed token addr from most (Said seq) t = refl
-fetch_did noticed token addr from most (Log entries) t = refl
-fetch_did noticed token addr from most (Refused why) t = refl
+fetch_did : (noticed : set.FinSet nat_cmp) (addr : Addr) (from most : ℕ) (reply : Reply) (t : TableValue) → table_did noticed reply (Group addr (Fetch from most)) t ≡ t
+fetch_did noticed addr from most Done t = refl
+fetch_did noticed addr from most (Said seq) t = refl
+fetch_did noticed addr from most (Log entries) t = refl
+fetch_did noticed addr from most (Refused why) t = refl
 
 -- what a running node becomes by an event that only reads
 read_running : (v : NodeValue) (e : NodeEvent) → is_read e ≡ true → (running_turn v e).value ≡ v
-read_running v (Asked (Fetch token addr from most)) h = ap (λ t. record v { table = t }) (fetch_did v.watch.noticed token addr from most (table_reply (Fetch token addr from most) v.table) v.table)
-read_running v (Asked (AddTenant token row)) h = absurd (false≢true h)
-read_running v (Asked (Make token addr spec)) h = absurd (false≢true h)
-read_running v (Asked (OpenGroup token addr)) h = absurd (false≢true h)
-read_running v (Asked (ShutGroup token addr)) h = absurd (false≢true h)
-read_running v (Asked (DropGroup token addr)) h = absurd (false≢true h)
-read_running v (Asked (Say token addr message)) h = absurd (false≢true h)
+read_running v (Asked r) h = ap (λ t. record v { table = t }) (by r.what h)
+  where
+    by : (what : Action) → is_fetch what ≡ true → table_did v.watch.noticed (table_reply r v.table) what v.table ≡ v.table
+    by (Group addr (Fetch from most)) h = fetch_did v.watch.noticed addr from most (table_reply r v.table) v.table
+    by (AddTenant row) h = absurd (false≢true h)
+    by (Group addr (Make spec)) h = absurd (false≢true h)
+    by (Group addr Open) h = absurd (false≢true h)
+    by (Group addr Shut) h = absurd (false≢true h)
+    by (Group addr Drop) h = absurd (false≢true h)
+    by (Group addr (Say message)) h = absurd (false≢true h)
 read_running v (Came bytes) h = absurd (false≢true h)
 read_running v (Pack b) h = absurd (false≢true h)
 read_running v (Again b n) h = refl
@@ -109,13 +114,13 @@ at_within answer (Some (Some s)) h = h _
 open_within : (phase : Phase) → IsReplyWithin (open_in phase)
 open_within Made = tt
 open_within Opened = tt
-open_within Shut = tt
+open_within Closed = tt
 open_within Gone = tt
 
 shut_within : (phase : Phase) → IsReplyWithin (shut_in phase)
 shut_within Made = tt
 shut_within Opened = tt
-shut_within Shut = tt
+shut_within Closed = tt
 shut_within Gone = tt
 
 say_within : (version : Version) (spec : Spec) (phase : Phase) (usage : Usage) (log : List Entry) (message : NewMessage) → IsReplyWithin (say_answer version (record { spec = spec; phase = phase; usage = usage; log = log }) message)
@@ -128,20 +133,20 @@ say_within version spec Opened usage log message =
     within_if (is_out_of_turn usage.said message.seq) (Refused BadPlace) short tt
     (within_if (is_too_long version message.payload) (Refused TooLong) few tt (within_if (nat_le spec.msgs usage.said) (Refused Budget) few_bytes tt
     (within_if (nat_lt spec.bytes (usage.bytes + length message.payload)) (Refused Bytes) open_window tt (within_if (nat_le spec.window usage.unfinished) (Refused Window) (Said (usage.said + 1)) tt tt))))
-say_within version spec Shut usage log message = tt
+say_within version spec Closed usage log message = tt
 say_within version spec Gone usage log message = tt
 
-admitted_within : (r : Request) (t : TableValue) → is_read (Asked r) ≡ false → IsReplyWithin (admitted_reply r t)
-admitted_within (AddTenant token row) t h = tenant_within _ _ _ row
-admitted_within (Make token addr spec) t h = by_within _ (reserve_for addr.tenant t) (λ r. make_within t.version t.nodes t.me.number addr (is_some (group_in addr t.groups)) (others_living addr t.groups.rows) spec r)
-admitted_within (OpenGroup token addr) t h = at_within open_answer (group_in addr t.groups) (λ s. open_within s.phase)
-admitted_within (ShutGroup token addr) t h = at_within shut_answer (group_in addr t.groups) (λ s. shut_within s.phase)
-admitted_within (DropGroup token addr) t h = at_within drop_answer (group_in addr t.groups) (λ s. tt)
-admitted_within (Say token addr message) t h = at_within (λ s. say_answer t.version s message) (group_in addr t.groups) (λ s. say_within t.version s.spec s.phase s.usage s.log message)
-admitted_within (Fetch token addr from most) t h = absurd (true≢false h)
+admitted_within : (what : Action) (t : TableValue) → is_fetch what ≡ false → IsReplyWithin (admitted_reply what t)
+admitted_within (AddTenant row) t h = tenant_within _ _ _ row
+admitted_within (Group addr (Make spec)) t h = by_within _ (reserve_for addr.tenant t) (λ r. make_within t.version t.nodes t.me.number addr (is_some (group_in addr t.groups)) (others_living addr t.groups.rows) spec r)
+admitted_within (Group addr Open) t h = at_within open_answer (group_in addr t.groups) (λ s. open_within s.phase)
+admitted_within (Group addr Shut) t h = at_within shut_answer (group_in addr t.groups) (λ s. shut_within s.phase)
+admitted_within (Group addr Drop) t h = at_within drop_answer (group_in addr t.groups) (λ s. tt)
+admitted_within (Group addr (Say message)) t h = at_within (λ s. say_answer t.version s message) (group_in addr t.groups) (λ s. say_within t.version s.spec s.phase s.usage s.log message)
+admitted_within (Group addr (Fetch from most)) t h = absurd (true≢false h)
 
-asked_within : (r : Request) (t : TableValue) → is_read (Asked r) ≡ false → IsReplyWithin (table_reply r t)
-asked_within r t h = within_if (is_admitted r t) (admitted_reply r t) (Refused Denied) (admitted_within r t h) tt
+asked_within : (r : Request) (t : TableValue) → is_fetch r.what ≡ false → IsReplyWithin (table_reply r t)
+asked_within r t h = within_if (is_admitted r t) (admitted_reply r.what t) (Refused Denied) (admitted_within r.what t h) tt
 
 -- Packets.
 

@@ -9,13 +9,15 @@ use Rattle.gb_types.specs.declared.limits.TheConstants.{NODES}
 use Rattle.gb_types.specs.declared.node.NodeId.{NodeId}
 use Rattle.gb_types.specs.declared.version.Version.{Version}
 use Rattle.gb_types.specs.declared.reply.Reply.{Reply}
-use Rattle.gb_types.specs.declared.reply.Reply.TheVariants.{Done, Said}
-use Rattle.gb_types.specs.declared.request.Request.{Request}
-use Rattle.gb_types.specs.declared.request.Request.TheVariants.{Make, OpenGroup, ShutGroup, DropGroup, Say}
+use Rattle.gb_types.specs.declared.reply.Reply.TheVariants.{Done, Said, Log, Refused}
+use Rattle.gb_types.specs.declared.request.Action.{Action}
+use Rattle.gb_types.specs.declared.request.Action.TheVariants.{AddTenant, Group}
+use Rattle.gb_types.specs.declared.request.GroupCommand.{GroupCommand}
+use Rattle.gb_types.specs.declared.request.GroupCommand.TheVariants.{Make, Open, Shut, Drop, Say}
 use Rattle.gb_frame.specs.declared.item.Item.{Item}
 use Rattle.gb_frame.specs.Packet.{Content}
 use Rattle.gb_rules.specs.Address.{is_addr}
-use Rattle.gb_rules.specs.declared.phase.Phase.TheVariants.{Opened, Shut}
+use Rattle.gb_rules.specs.declared.phase.Phase.TheVariants.{Opened, Shut as Closed}
 use Rattle.gb_slot.specs.SlotState.{SlotState}
 use Rattle.gb_slot.specs.Slot.{new_slot, slot_moved, slot_said, slot_done, slot_took, slot_noticed, waiting}
 use Rattle.gb_slot.specs.StandsFor.{StandsFor}
@@ -41,14 +43,30 @@ use Rattle.gb_node.specs.PastLaw.{IsOfPastBesideGroups}
 
 -- What each event makes of a group's slot.
 
--- a request of the group, where it is answered so: made, it knows which nodes are noticed
-abbrev pub asked_for : Addr → NodeId → set.FinSet nat_cmp → Request → Reply → Option (Option SlotState) → Option (Option SlotState)
-asked_for g me noticed (Make token addr spec) Done o = if is_addr g addr then or_added o (Some (Some (new_slot spec me noticed))) else where_so (is_reached_by g addr) passed o
-asked_for g me noticed (OpenGroup token addr) Done o = where_so (is_addr g addr) (stepped (slot_moved Opened Done)) o
-asked_for g me noticed (ShutGroup token addr) Done o = where_so (is_addr g addr) (stepped (slot_moved Shut Done)) o
-asked_for g me noticed (DropGroup token addr) Done o = where_so (is_addr g addr) dropped o
-asked_for g me noticed (Say token addr message) (Said seq) o = where_so (is_addr g addr) (stepped (slot_said message.payload (Said seq))) o
-asked_for g me noticed request reply o = o
+-- a command on the group with this address is done: made, it knows which nodes are noticed
+abbrev pub command_slot : Addr → NodeId → set.FinSet nat_cmp → Addr → GroupCommand → Option (Option SlotState) → Option (Option SlotState)
+command_slot g me noticed addr (Make spec) o = if is_addr g addr then or_added o (Some (Some (new_slot spec me noticed))) else where_so (is_reached_by g addr) passed o
+command_slot g me noticed addr Open o = where_so (is_addr g addr) (stepped (slot_moved Opened Done)) o
+command_slot g me noticed addr Shut o = where_so (is_addr g addr) (stepped (slot_moved Closed Done)) o
+command_slot g me noticed addr Drop o = where_so (is_addr g addr) dropped o
+command_slot g me noticed addr command o = o
+
+-- a request is done
+abbrev pub done_slot : Addr → NodeId → set.FinSet nat_cmp → Action → Option (Option SlotState) → Option (Option SlotState)
+done_slot g me noticed (AddTenant row) o = o
+done_slot g me noticed (Group addr command) o = command_slot g me noticed addr command o
+
+-- a request is said under this number
+abbrev pub said_slot : Addr → ℕ → Action → Option (Option SlotState) → Option (Option SlotState)
+said_slot g seq (Group addr (Say message)) o = where_so (is_addr g addr) (stepped (slot_said message.payload (Said seq))) o
+said_slot g seq what o = o
+
+-- a request has this reply
+abbrev pub asked_for : Addr → NodeId → set.FinSet nat_cmp → Reply → Action → Option (Option SlotState) → Option (Option SlotState)
+asked_for g me noticed Done what o = done_slot g me noticed what o
+asked_for g me noticed (Said seq) what o = said_slot g seq what o
+asked_for g me noticed (Log entries) what o = o
+asked_for g me noticed (Refused why) what o = o
 
 abbrev pub done_for : NodeId → Option (Option SlotState) → Item → Option (Option SlotState)
 done_for from o i = where_so (nat_lt i.origin NODES) (stepped (slot_done from (message_of (entry_of i)))) o
@@ -65,7 +83,7 @@ abbrev pub noticed_for : Option (Option SlotState) → ℕ → Option (Option Sl
 noticed_for o b = stepped (slot_noticed (node_numbered b)) o
 
 abbrev pub group_after : NodePlan → Addr → List Happened → NodeEvent → NodeAnswer → Option (Option SlotState) → Option (Option SlotState)
-group_after plan g past (Asked request) (Replied reply) o = asked_for g plan.me (noticed_after plan past) request reply o
+group_after plan g past (Asked request) (Replied reply) o = asked_for g plan.me (noticed_after plan past) reply request.what o
 group_after plan g past (Came bytes) (Taken (TakenGood good)) o = fold (taken_for plan.version plan.cluster_key g past good.frame) o (read plan.cluster_key bytes)
 group_after plan g past (Pack b) (Sent (SentPacket text)) o = fold (packed_from g b) o (read plan.cluster_key text)
 group_after plan g past Tick (Ticked (Noticed found)) o = fold noticed_for o (rising found)

@@ -10,7 +10,9 @@ use Rattle.gb_types.specs.declared.refusal.Refusal.TheVariants.{Stopped, Denied}
 use Rattle.gb_types.specs.declared.reply.Reply.{Reply}
 use Rattle.gb_types.specs.declared.reply.Reply.TheVariants.{Refused}
 use Rattle.gb_types.specs.declared.request.Request.{Request}
-use Rattle.gb_types.specs.declared.request.Request.TheVariants.{AddTenant, Make, OpenGroup, ShutGroup, DropGroup, Say, Fetch}
+use Rattle.gb_types.specs.declared.request.Action.{Action}
+use Rattle.gb_types.specs.declared.request.Action.TheVariants.{AddTenant, Group}
+use Rattle.gb_types.specs.declared.request.GroupCommand.TheVariants.{Make, Open, Shut, Drop, Say, Fetch}
 use Rattle.gb_frame.specs.declared.fault.PacketFault.{PacketFault}
 use Rattle.gb_frame.specs.declared.fault.PacketFault.TheVariants.{Node}
 use Rattle.gb_frame.specs.declared.item.Item.{Item}
@@ -86,14 +88,14 @@ module _ (plan : NodePlan) (past : List Happened) (v : NodeValue) (was : IsOfPas
   may_is : (r : Request) → is_admitted r (record (past_table plan past) { groups = v.table.groups }) ≡ is_admitted_by plan past r
   may_is r = refl
 
-  admitted_is : (r : Request) → admitted_reply r (record (past_table plan past) { groups = v.table.groups }) ≡ admitted_answer plan past r
-  admitted_is (AddTenant token row) = refl
-  admitted_is (Make token addr spec) = λ i. by_tenant (make_answer plan.version plan.nodes plan.me.number addr (made_is addr i) (was.living addr i) spec) (option_map reserve_of (row_of addr.tenant (tenants_in past)))
-  admitted_is (OpenGroup token addr) = at_group open_answer addr
-  admitted_is (ShutGroup token addr) = at_group shut_answer addr
-  admitted_is (DropGroup token addr) = at_group drop_answer addr
-  admitted_is (Say token addr message) = at_group (λ s. say_answer plan.version s message) addr
-  admitted_is (Fetch token addr from most) = at_group (λ s. fetch_answer s from most) addr
+  admitted_is : (what : Action) → admitted_reply what (record (past_table plan past) { groups = v.table.groups }) ≡ admitted_answer plan past what
+  admitted_is (AddTenant row) = refl
+  admitted_is (Group addr (Make spec)) = λ i. by_tenant (make_answer plan.version plan.nodes plan.me.number addr (made_is addr i) (was.living addr i) spec) (option_map reserve_of (row_of addr.tenant (tenants_in past)))
+  admitted_is (Group addr Open) = at_group open_answer addr
+  admitted_is (Group addr Shut) = at_group shut_answer addr
+  admitted_is (Group addr Drop) = at_group drop_answer addr
+  admitted_is (Group addr (Say message)) = at_group (λ s. say_answer plan.version s message) addr
+  admitted_is (Group addr (Fetch from most)) = at_group (λ s. fetch_answer s from most) addr
 
   -- what a node should reply is what its past says
   should_reply : (r : Request) → (turn v (Asked r)).answer ≡ Replied (past_answer plan past r)
@@ -103,8 +105,8 @@ module _ (plan : NodePlan) (past : List Happened) (v : NodeValue) (was : IsOfPas
       by true = refl
       by false = refl
 
-      table_says : table_reply r v.table ≡ (if is_admitted_by plan past r then admitted_answer plan past r else Refused Denied)
-      table_says = ap (table_reply r) table_is ∙ (λ i. if may_is r i then admitted_is r i else Refused Denied)
+      table_says : table_reply r v.table ≡ (if is_admitted_by plan past r then admitted_answer plan past r.what else Refused Denied)
+      table_says = ap (table_reply r) table_is ∙ (λ i. if may_is r i then admitted_is r.what i else Refused Denied)
 
   asked : (r : Request) (reply : Reply) (w : NodeValue) → IsTurn v (Asked r) (Replied reply) w → IsAsked plan past r reply
   asked r reply w (inl starved) = let lacked = subst (λ should. IsStarved (Asked r) should (Replied reply)) (should_reply r) starved.0 in inl (one_reply lacked.0, lacked.1)

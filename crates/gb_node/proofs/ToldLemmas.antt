@@ -12,17 +12,19 @@ use Rattle.gb_types.specs.declared.limits.TheConstants.{NODES}
 use Rattle.gb_types.specs.declared.message.MsgId.{MsgId}
 use Rattle.gb_types.specs.declared.node.NodeId.{NodeId}
 use Rattle.gb_types.specs.declared.version.Version.{Version}
-use Rattle.gb_types.specs.declared.refusal.Refusal.TheVariants.{Denied}
 use Rattle.gb_types.specs.declared.reply.Reply.{Reply}
 use Rattle.gb_types.specs.declared.reply.Reply.TheVariants.{Done, Said, Log, Refused}
 use Rattle.gb_types.specs.declared.request.Request.{Request}
-use Rattle.gb_types.specs.declared.request.Request.TheVariants.{AddTenant, Make, OpenGroup, ShutGroup, DropGroup, Say, Fetch}
+use Rattle.gb_types.specs.declared.request.Action.{Action}
+use Rattle.gb_types.specs.declared.request.Action.TheVariants.{AddTenant, Group}
+use Rattle.gb_types.specs.declared.request.GroupCommand.{GroupCommand}
+use Rattle.gb_types.specs.declared.request.GroupCommand.TheVariants.{Make, Open, Shut, Drop, Say, Fetch}
 use Rattle.gb_types.specs.declared.spec.Spec.{Spec}
 use Rattle.gb_rules.proofs.AddressLemmas.{addr_is}
 use Rattle.gb_rules.specs.Address.{is_addr}
 use Rattle.gb_rules.specs.Group.{is_other, is_too_long, say_answer}
 use Rattle.gb_rules.specs.declared.phase.Phase.{Phase}
-use Rattle.gb_rules.specs.declared.phase.Phase.TheVariants.{Opened, Shut}
+use Rattle.gb_rules.specs.declared.phase.Phase.TheVariants.{Opened, Shut as Closed}
 use Rattle.gb_rules.specs.Group.{Shown}
 use Rattle.gb_frame.specs.declared.item.Item.{Item}
 use Rattle.gb_frame.specs.Packet.{Content}
@@ -37,11 +39,12 @@ use Rattle.gb_rules.specs.Lifetime.{stepped, dropped, or_added, passed, where_so
 use Rattle.gb_rules.specs.Room.{is_reached_by}
 use Rattle.gb_table.specs.OneGroup.{group_in, answer_in, group_reply, came_for}
 use Rattle.gb_table.specs.TableValue.{TableValue}
-use Rattle.gb_table.specs.Requests.{is_admitted, table_reply}
+use Rattle.gb_table.specs.Requests.{admitted_reply, table_reply}
 use Rattle.gb_node.specs.NodeStep.{node_numbered}
 use Rattle.gb_node.specs.Past.{Happened, is_first}
-use Rattle.gb_node.specs.PastGroups.{Told, with_call, moved_to, cut_off, took_from, finished_by, told_first, asked_told, done_told, unless_falls, came_told, taken_told, if_other, noticed_told, freed_by, items_freed}
-use Rattle.gb_node.proofs.SlotGroups.{asked_for, done_for, taken_for, noticed_for, AcksAgree, SlotTold, IsTold}
+use Rattle.gb_node.specs.PastGroups.{Told, with_call, moved_to, cut_off, took_from, finished_by, told_first, asked_done, asked_said, asked_told, command_done, done_told, unless_falls, came_told, taken_told, if_other, noticed_told, freed_by, items_freed}
+use Rattle.gb_node.proofs.SlotGroups.{asked_for, command_slot, done_slot, said_slot, done_for, taken_for, noticed_for, AcksAgree, SlotTold, IsTold}
+use Rattle.gb_node.proofs.AskedLemmas.{said_is_reply}
 use Rattle.gb_node.proofs.FreshLemmas.{made_told}
 use Rattle.gb_node.proofs.WaitsLemmas.{waits_told, waits_noticed, own_unnoticed, other_unnoticed}
 use Rattle.gb_node.proofs.AcknowledgedLemmas.{acks_said, acks_done}
@@ -118,15 +121,11 @@ reply_is answer None = refl
 reply_is answer (Some None) = refl
 reply_is answer (Some (Some s)) = refl
 
-said_seq : (t : TableValue) (token : List ℕ) (message : NewMessage) (addr : Addr) (seq : ℕ) (s : SlotState) → Said seq ≡ table_reply (Say token addr message) t → group_in addr t.groups ≡ Some (Some s) → seq ≡ s.said + 1
-said_seq t token message addr seq s e here = by (is_admitted (Say token addr message) t) e
+said_seq : (t : TableValue) (message : NewMessage) (addr : Addr) (seq : ℕ) (s : SlotState) → Said seq ≡ admitted_reply (Group addr (Say message)) t → group_in addr t.groups ≡ Some (Some s) → seq ≡ s.said + 1
+said_seq t message addr seq s e here = (said_is t.version (shown s) message seq (sym (e ∙ reply))).next
   where
     reply : group_reply (λ x. say_answer t.version x message) addr t.groups ≡ say_answer t.version (shown s) message
     reply = ap (answer_in (λ x. say_answer t.version x message)) here
-
-    by : (admitted : Bool) → Said seq ≡ (if admitted then group_reply (λ x. say_answer t.version x message) addr t.groups else Refused Denied) → seq ≡ s.said + 1
-    by true e = (said_is t.version (shown s) message seq (sym (e ∙ reply))).next
-    by false e = absurd (cc)
 
 said_told : SlotLaws → (me : NodeId) (s : SlotState) (t : Told) (payload : List ℕ) (seq : ℕ) → seq ≡ s.said + 1 → SlotTold me s t
     → SlotTold me (slot_said payload (Said seq) s) (with_call me (Own (record { origin = me; seq = seq; payload = payload })) t)
@@ -157,41 +156,38 @@ module _ (law : SlotLaws) (me : NodeId) (noticed : set.FinSet nat_cmp) (few : (b
   made_where true reached spec = told_added me o x (Some (Some (new_slot spec me noticed))) (Some (Some (told_first spec me noticed))) h (made_told law.fresh spec me noticed few)
   made_where false reached spec = both_where me reached passed passed o x (λ _. told_passed me o x h) h
 
-  pub asked_stands : (r : Request) (reply : Reply) → reply ≡ table_reply r t → IsTold me (asked_for g me noticed r reply o) (asked_told g me noticed r reply x)
-  asked_stands (AddTenant token row) Done e = h
-  asked_stands (AddTenant token row) (Said seq) e = h
-  asked_stands (AddTenant token row) (Log entries) e = h
-  asked_stands (AddTenant token row) (Refused why) e = h
-  asked_stands (Make token addr spec) Done e = made_where (is_addr g addr) (is_reached_by g addr) spec
-  asked_stands (Make token addr spec) (Said seq) e = h
-  asked_stands (Make token addr spec) (Log entries) e = h
-  asked_stands (Make token addr spec) (Refused why) e = h
-  asked_stands (OpenGroup token addr) Done e =
+  command_stands : (addr : Addr) (command : GroupCommand) → IsTold me (command_slot g me noticed addr command o) (command_done g me noticed addr command x)
+  command_stands addr (Make spec) = made_where (is_addr g addr) (is_reached_by g addr) spec
+  command_stands addr Open =
       both_where me (is_addr g addr) (stepped (slot_moved Opened Done)) (stepped (moved_to Opened)) o x (λ _. told_step me (slot_moved Opened Done) (moved_to Opened) o x (λ s y there st. moved_told law me Opened s y st) h) h
-  asked_stands (OpenGroup token addr) (Said seq) e = h
-  asked_stands (OpenGroup token addr) (Log entries) e = h
-  asked_stands (OpenGroup token addr) (Refused why) e = h
-  asked_stands (ShutGroup token addr) Done e =
-      both_where me (is_addr g addr) (stepped (slot_moved Shut Done)) (stepped (moved_to Shut)) o x (λ _. told_step me (slot_moved Shut Done) (moved_to Shut) o x (λ s y there st. moved_told law me Shut s y st) h) h
-  asked_stands (ShutGroup token addr) (Said seq) e = h
-  asked_stands (ShutGroup token addr) (Log entries) e = h
-  asked_stands (ShutGroup token addr) (Refused why) e = h
-  asked_stands (DropGroup token addr) Done e = both_where me (is_addr g addr) dropped dropped o x (λ _. told_dropped me o x h) h
-  asked_stands (DropGroup token addr) (Said seq) e = h
-  asked_stands (DropGroup token addr) (Log entries) e = h
-  asked_stands (DropGroup token addr) (Refused why) e = h
-  asked_stands (Say token addr message) Done e = h
-  asked_stands (Say token addr message) (Said seq) e =
+  command_stands addr Shut =
+      both_where me (is_addr g addr) (stepped (slot_moved Closed Done)) (stepped (moved_to Closed)) o x (λ _. told_step me (slot_moved Closed Done) (moved_to Closed) o x (λ s y there st. moved_told law me Closed s y st) h) h
+  command_stands addr Drop = both_where me (is_addr g addr) dropped dropped o x (λ _. told_dropped me o x h) h
+  command_stands addr (Say message) = h
+  command_stands addr (Fetch from most) = h
+
+  done_what : (what : Action) → IsTold me (done_slot g me noticed what o) (asked_done g me noticed what x)
+  done_what (AddTenant row) = h
+  done_what (Group addr command) = command_stands addr command
+
+  said_what : (seq : ℕ) (what : Action) → Said seq ≡ admitted_reply what t → IsTold me (said_slot g seq what o) (asked_said g me seq what x)
+  said_what seq (AddTenant row) e = h
+  said_what seq (Group addr (Make spec)) e = h
+  said_what seq (Group addr Open) e = h
+  said_what seq (Group addr Shut) e = h
+  said_what seq (Group addr Drop) e = h
+  said_what seq (Group addr (Say message)) e =
       let call = with_call me (Own (record { origin = me; seq = seq; payload = message.payload })) in
       both_where me (is_addr g addr) (stepped (slot_said message.payload (Said seq))) (stepped call) o x
-      (λ own. told_step me (slot_said message.payload (Said seq)) call o x (λ s y there st. said_told law me s y message.payload seq (said_seq t token message addr seq s e (ap (λ a. group_in a t.groups) (sym (addr_is g addr own)) ∙ (sym is ∙ there))) st) h)
+      (λ own. told_step me (slot_said message.payload (Said seq)) call o x (λ s y there st. said_told law me s y message.payload seq (said_seq t message addr seq s e (ap (λ a. group_in a t.groups) (sym (addr_is g addr own)) ∙ (sym is ∙ there))) st) h)
       h
-  asked_stands (Say token addr message) (Log entries) e = h
-  asked_stands (Say token addr message) (Refused why) e = h
-  asked_stands (Fetch token addr from most) Done e = h
-  asked_stands (Fetch token addr from most) (Said seq) e = h
-  asked_stands (Fetch token addr from most) (Log entries) e = h
-  asked_stands (Fetch token addr from most) (Refused why) e = h
+  said_what seq (Group addr (Fetch from most)) e = h
+
+  pub asked_stands : (r : Request) (reply : Reply) → reply ≡ table_reply r t → IsTold me (asked_for g me noticed reply r.what o) (asked_told g me noticed reply r.what x)
+  asked_stands r Done e = done_what r.what
+  asked_stands r (Said seq) e = said_what seq r.what (said_is_reply r t seq e)
+  asked_stands r (Log entries) e = h
+  asked_stands r (Refused why) e = h
 
 -- Items.
 module _ (law : SlotLaws) (me from : NodeId) where

@@ -8,7 +8,7 @@ use Rattle.gb_types.specs.Version.{limits_of}
 use Rattle.gb_types.specs.declared.limits.TheConstants.{NODES}
 use Rattle.gb_types.specs.declared.node.NodeId.{NodeId}
 use Rattle.gb_types.specs.declared.reply.Reply.{Reply}
-use Rattle.gb_types.specs.declared.request.Request.{Request}
+use Rattle.gb_types.specs.declared.request.Action.{Action}
 use Rattle.gb_types.specs.declared.version.Version.{Version}
 use Rattle.gb_frame.specs.Batch.{batch_in, IsBatch, FitPacket}
 use Rattle.gb_frame.specs.declared.item.Item.{Item}
@@ -74,8 +74,8 @@ same_table t u ws me nodes version k = record {
   frames = λ b. subst (λ (v : Version). IsOfVersion v (slice_index_or ws b (new_frames v))) (sym version) (k.frames b);
 }
 
-pub did_keeps : (noticed : set.FinSet nat_cmp) (r : Request) (reply : Reply) (t : TableValue) (ws : List FrameWindow) → KeepsVersion t ws → KeepsVersion (table_did noticed r reply t) ws
-did_keeps noticed r reply t ws k = let same = did_same noticed r reply t in same_table t (table_did noticed r reply t) ws same.me same.nodes same.version k
+pub did_keeps : (noticed : set.FinSet nat_cmp) (reply : Reply) (what : Action) (t : TableValue) (ws : List FrameWindow) → KeepsVersion t ws → KeepsVersion (table_did noticed reply what t) ws
+did_keeps noticed reply what t ws k = let same = did_same noticed reply what t in same_table t (table_did noticed reply what t) ws same.me same.nodes same.version k
 
 pub noticed_keeps : (t : TableValue) (found : List ℕ) (ws : List FrameWindow) → KeepsVersion t ws → KeepsVersion (notice_each t found) ws
 noticed_keeps t found ws k = let same = keeps_notices t found in same_table t (notice_each t found) ws same.me same.nodes same.version k

@@ -8,8 +8,7 @@ use Rattle.gb_types.specs.declared.node.NodeId.{NodeId}
 use Rattle.gb_types.specs.declared.refusal.Refusal.TheVariants.{Stopped, OutOfMemory}
 use Rattle.gb_types.specs.declared.reply.Reply.{Reply}
 use Rattle.gb_types.specs.declared.reply.Reply.TheVariants.{Refused}
-use Rattle.gb_types.specs.declared.request.Request.{Request}
-use Rattle.gb_types.specs.declared.request.Request.TheVariants.{AddTenant, Make, Fetch}
+use Rattle.gb_types.specs.declared.request.Action.{Action}
 use Rattle.gb_types.specs.declared.version.Version.{Version}
 use Rattle.gb_frame.specs.declared.fault.PacketFault.{PacketFault}
 use Rattle.gb_frame.specs.declared.fault.PacketFault.TheVariants.{Node}
@@ -24,13 +23,12 @@ use Rattle.gb_link.specs.Ack.{covers}
 use Rattle.gb_link.specs.declared.receiver.Admission.{Admission}
 use Rattle.gb_link.specs.declared.receiver.Admission.TheVariants.{First, Seen, Outside}
 use Rattle.gb_detect.specs.Watch.{due, after_heard, after_tick}
-use Rattle.gb_rules.specs.Replied.{takes_memory}
 use Rattle.gb_frame.specs.Items.{address_of, entry_of, rest_is_node}
 use Rattle.gb_table.specs.GroupsValue.{batch}
 use Rattle.gb_table.specs.OneGroup.{longest_item, NothingWaits}
 use Rattle.gb_table.specs.Packing.{Visit, items}
 use Rattle.gb_table.specs.TableValue.{TableValue, table_came, table_done, table_noticed, table_packed}
-use Rattle.gb_table.specs.Requests.{table_reply, table_did}
+use Rattle.gb_table.specs.Requests.{TakesMemory, table_reply, table_did}
 use Rattle.gb_node.specs.NodeValue.{NodeValue}
 use Rattle.gb_node.specs.declared.answer.NodeAnswer.{NodeAnswer}
 use Rattle.gb_node.specs.declared.answer.NodeAnswer.TheVariants.{Reply as Replied, Taken, Sent, Ticked, Halted}
@@ -231,12 +229,12 @@ pub record Turn : Type 0 where
   pub answer : NodeAnswer
 
 -- after a reply
-abbrev pub node_did : Request → Reply → NodeValue → NodeValue
-node_did request reply v = record v { table = table_did v.watch.noticed request reply v.table }
+abbrev pub node_did : Reply → Action → NodeValue → NodeValue
+node_did reply what v = record v { table = table_did v.watch.noticed reply what v.table }
 
 -- a running node
 abbrev pub running_turn : NodeValue → NodeEvent → Turn
-running_turn v (Asked request) = let reply = table_reply request v.table in record { value = node_did request reply v; answer = Replied reply }
+running_turn v (Asked request) = let reply = table_reply request v.table in record { value = node_did reply request.what v; answer = Replied reply }
 running_turn v (Came bytes) = let read = read_at v bytes in record { value = node_read read v; answer = Taken (taken_answer v read) }
 running_turn v (Pack b) = record { value = node_packed b v; answer = Sent (sent v (pack_content v b)) }
 running_turn v (Again b n) = record { value = v; answer = Sent (sent v (again_content v b n)) }
@@ -259,16 +257,9 @@ turn v event = if v.stopped then record { value = v; answer = stopped_answer eve
 
 -- Lack of memory.
 
--- a request takes memory where it adds a tenant, makes a group or reads entries
-abbrev pub RequestTakesMemory : Request → Reply → Type 0
-RequestTakesMemory (AddTenant token row) reply = takes_memory reply ≡ true
-RequestTakesMemory (Make token addr spec) reply = takes_memory reply ≡ true
-RequestTakesMemory (Fetch token addr from most) reply = takes_memory reply ≡ true
-RequestTakesMemory request reply = ⊥
-
 -- the answer is lack of memory, and the event takes memory: a packet is built, a tenant added, a group made, entries read
 abbrev pub IsStarved : NodeEvent → NodeAnswer → NodeAnswer → Type 0
-IsStarved (Asked request) (Replied should) answer = (answer ≡ Replied (Refused OutOfMemory)) × RequestTakesMemory request should
+IsStarved (Asked request) (Replied should) answer = (answer ≡ Replied (Refused OutOfMemory)) × TakesMemory request.what should
 IsStarved event (Sent (SentPacket text)) answer = answer ≡ Sent (SentRefused OutOfMemory)
 IsStarved event should answer = ⊥
 

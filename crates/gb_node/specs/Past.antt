@@ -1,8 +1,10 @@
 -- A node's past: its events with their answers, and all that follows from these alone. A past has the newest first.
 use Rattle.std.specs.Prelude.{ℕ, ◌≡◌, ◌+◌, ◌&&◌, ◌||◌, Bool, true, false, List, [], ◌∷◌, ◌++◌, length, map, nat_eq, nat_le, if◌then◌else◌}
 use Rattle.std.specs.List.{list_any}
+use Rattle.gb_types.specs.declared.reply.Reply.{Reply}
 use Rattle.gb_types.specs.declared.reply.Reply.TheVariants.{Done}
-use Rattle.gb_types.specs.declared.request.Request.TheVariants.{AddTenant}
+use Rattle.gb_types.specs.declared.request.Action.{Action}
+use Rattle.gb_types.specs.declared.request.Action.TheVariants.{AddTenant, Group}
 use Rattle.gb_types.specs.declared.spec.TenantRow.{TenantRow}
 use Rattle.gb_frame.specs.declared.item.Item.{Item}
 use Rattle.gb_frame.specs.Packet.{Content}
@@ -96,8 +98,18 @@ unfoldable pub watched : List ℕ → List Happened → List Call
 watched key [] = []
 watched key (h ∷ past) = ticks h.event h.answer ++ map (λ (c : Content). Heard c.from) (came key h.event h.answer) ++ watched key past
 
+-- the first of the two where the reply is that the request was done, otherwise the second
+abbrev pub if_done : {A : Type 0} → Reply → A → A → A
+if_done Done x y = x
+if_done reply x y = y
+
+-- the tenant that a request adds
+abbrev pub added_by : Action → List TenantRow
+added_by (AddTenant row) = row ∷ []
+added_by (Group addr command) = []
+
 abbrev pub added : NodeEvent → NodeAnswer → List TenantRow
-added (Asked (AddTenant token row)) (Replied Done) = row ∷ []
+added (Asked request) (Replied reply) = if_done reply (added_by request.what) []
 added event answer = []
 
 -- the tenants that were added, in order

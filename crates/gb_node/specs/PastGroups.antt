@@ -11,9 +11,11 @@ use Rattle.gb_types.specs.declared.limits.TheConstants.{NODES}
 use Rattle.gb_types.specs.declared.message.MsgId.{MsgId}
 use Rattle.gb_types.specs.declared.node.NodeId.{NodeId}
 use Rattle.gb_types.specs.declared.reply.Reply.{Reply}
-use Rattle.gb_types.specs.declared.reply.Reply.TheVariants.{Done, Said}
-use Rattle.gb_types.specs.declared.request.Request.{Request}
-use Rattle.gb_types.specs.declared.request.Request.TheVariants.{Make, OpenGroup, ShutGroup, DropGroup, Say}
+use Rattle.gb_types.specs.declared.reply.Reply.TheVariants.{Done, Said, Log, Refused}
+use Rattle.gb_types.specs.declared.request.Action.{Action}
+use Rattle.gb_types.specs.declared.request.Action.TheVariants.{AddTenant, Group}
+use Rattle.gb_types.specs.declared.request.GroupCommand.{GroupCommand}
+use Rattle.gb_types.specs.declared.request.GroupCommand.TheVariants.{Make, Open, Shut, Drop, Say}
 use Rattle.gb_types.specs.declared.spec.Spec.{Spec}
 use Rattle.gb_frame.specs.declared.item.Item.{Item}
 use Rattle.gb_frame.specs.Packet.{Content}
@@ -23,7 +25,7 @@ use Rattle.gb_rules.specs.Address.{is_addr}
 use Rattle.gb_types.specs.declared.version.Version.{Version}
 use Rattle.gb_rules.specs.Group.{Shown, is_other, is_too_long}
 use Rattle.gb_rules.specs.declared.phase.Phase.{Phase}
-use Rattle.gb_rules.specs.declared.phase.Phase.TheVariants.{Made, Opened, Shut}
+use Rattle.gb_rules.specs.declared.phase.Phase.TheVariants.{Made, Opened, Shut as Closed}
 use Rattle.gb_rules.specs.declared.usage.Usage.{Usage}
 use Rattle.gb_rules.specs.declared.call.GroupCall.{GroupCall}
 use Rattle.gb_rules.specs.declared.call.GroupCall.TheVariants.{Own, Other, Crashed}
@@ -41,7 +43,7 @@ use Rattle.gb_node.specs.declared.answer.Sent.TheVariants.{Packet as SentPacket}
 use Rattle.gb_node.specs.declared.answer.Ticked.TheVariants.{Noticed}
 use Rattle.gb_node.specs.declared.event.NodeEvent.{NodeEvent}
 use Rattle.gb_node.specs.declared.event.NodeEvent.TheVariants.{Request as Asked, Packet as Came, Pack, Tick}
-use Rattle.gb_node.specs.Past.{Happened, read, frames_to, numbered, is_acked, is_first, watched}
+use Rattle.gb_node.specs.Past.{if_done, Happened, read, frames_to, numbered, is_acked, is_first, watched}
 
 -- the nodes that are noticed
 abbrev pub noticed_after : NodePlan → List Happened → set.FinSet nat_cmp
@@ -138,14 +140,30 @@ crashed_onto calls bs = fold (λ cs b. Crashed (node_numbered b) ∷ cs) calls b
 abbrev pub told_first : Spec → NodeId → set.FinSet nat_cmp → Told
 told_first spec me noticed = record { spec = spec; phase = Made; calls = crashed_onto [] (noticed_members spec me.number (set.contains noticed)); waiting = λ b. []; acknowledged = λ seq b. false }
 
+-- the group after a command on the group with this address is done
+abbrev pub command_done : Addr → NodeId → set.FinSet nat_cmp → Addr → GroupCommand → Option (Option Told) → Option (Option Told)
+command_done g me noticed addr (Make spec) o = if is_addr g addr then or_added o (Some (Some (told_first spec me noticed))) else where_so (is_reached_by g addr) passed o
+command_done g me noticed addr Open o = where_so (is_addr g addr) (stepped (moved_to Opened)) o
+command_done g me noticed addr Shut o = where_so (is_addr g addr) (stepped (moved_to Closed)) o
+command_done g me noticed addr Drop o = where_so (is_addr g addr) dropped o
+command_done g me noticed addr command o = o
+
+-- the group after a request is done
+abbrev pub asked_done : Addr → NodeId → set.FinSet nat_cmp → Action → Option (Option Told) → Option (Option Told)
+asked_done g me noticed (AddTenant row) o = o
+asked_done g me noticed (Group addr command) o = command_done g me noticed addr command o
+
+-- the group after a say under this number
+abbrev pub asked_said : Addr → NodeId → ℕ → Action → Option (Option Told) → Option (Option Told)
+asked_said g me seq (Group addr (Say message)) o = where_so (is_addr g addr) (stepped (with_call me (Own (record { origin = me; seq = seq; payload = message.payload })))) o
+asked_said g me seq what o = o
+
 -- the group after a request with this reply
-abbrev pub asked_told : Addr → NodeId → set.FinSet nat_cmp → Request → Reply → Option (Option Told) → Option (Option Told)
-asked_told g me noticed (Make token addr spec) Done o = if is_addr g addr then or_added o (Some (Some (told_first spec me noticed))) else where_so (is_reached_by g addr) passed o
-asked_told g me noticed (OpenGroup token addr) Done o = where_so (is_addr g addr) (stepped (moved_to Opened)) o
-asked_told g me noticed (ShutGroup token addr) Done o = where_so (is_addr g addr) (stepped (moved_to Shut)) o
-asked_told g me noticed (DropGroup token addr) Done o = where_so (is_addr g addr) dropped o
-asked_told g me noticed (Say token addr message) (Said seq) o = where_so (is_addr g addr) (stepped (with_call me (Own (record { origin = me; seq = seq; payload = message.payload })))) o
-asked_told g me noticed request reply o = o
+abbrev pub asked_told : Addr → NodeId → set.FinSet nat_cmp → Reply → Action → Option (Option Told) → Option (Option Told)
+asked_told g me noticed Done what o = asked_done g me noticed what o
+asked_told g me noticed (Said seq) what o = asked_said g me seq what o
+asked_told g me noticed (Log entries) what o = o
+asked_told g me noticed (Refused why) what o = o
 
 -- an item of the group is acknowledged by a node; an item whose origin is no node changes nothing
 abbrev pub done_told : NodeId → NodeId → Option (Option Told) → Item → Option (Option Told)
@@ -178,7 +196,7 @@ noticed_told me o b = stepped (if_other me (node_numbered b)) o
 
 -- what an event with its answer changes in a group
 abbrev pub told_after : NodePlan → Addr → List Happened → NodeEvent → NodeAnswer → Option (Option Told) → Option (Option Told)
-told_after plan g past (Asked request) (Replied reply) o = asked_told g plan.me (noticed_after plan past) request reply o
+told_after plan g past (Asked request) (Replied reply) o = asked_told g plan.me (noticed_after plan past) reply request.what o
 told_after plan g past (Came bytes) (Taken (TakenGood good)) o = fold (taken_told plan.version plan.me plan.cluster_key g past good.frame) o (read plan.cluster_key bytes)
 told_after plan g past (Pack b) (Sent (SentPacket text)) o = fold (packed_told g b) o (read plan.cluster_key text)
 told_after plan g past Tick (Ticked (Noticed found)) o = fold (noticed_told plan.me) o (rising found)
@@ -189,10 +207,15 @@ unfoldable pub told_of : NodePlan → Addr → List Happened → Option (Option 
 told_of plan g [] = None
 told_of plan g (h ∷ past) = told_after plan g past h.event h.answer (told_of plan g past)
 
--- what an event with its answer changes in the number of other generations of the group's room that live at the node
+-- what a request that is done changes in the number of other generations of the group's room that live at the node
+abbrev pub living_done : Addr → Action → ℕ → ℕ
+living_done g (Group addr (Make spec)) n = one_more g addr n
+living_done g (Group addr Drop) n = one_less g addr n
+living_done g what n = n
+
+-- what an event with its answer changes in that number
 abbrev pub living_after : Addr → NodeEvent → NodeAnswer → ℕ → ℕ
-living_after g (Asked (Make token addr spec)) (Replied Done) n = one_more g addr n
-living_after g (Asked (DropGroup token addr)) (Replied Done) n = one_less g addr n
+living_after g (Asked request) (Replied reply) n = if_done reply (living_done g request.what n) n
 living_after g event answer n = n
 
 -- the number of other generations of the group's room that live at the node

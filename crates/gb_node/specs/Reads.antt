@@ -4,7 +4,9 @@ use Rattle.gb_types.specs.Version.{limits_of}
 use Rattle.gb_types.specs.declared.version.Version.{Version}
 use Rattle.gb_types.specs.declared.reply.Reply.{Reply}
 use Rattle.gb_types.specs.declared.reply.Reply.TheVariants.{Log}
-use Rattle.gb_types.specs.declared.request.Request.TheVariants.{Fetch}
+use Rattle.gb_types.specs.declared.request.Action.{Action}
+use Rattle.gb_types.specs.declared.request.Action.TheVariants.{Group}
+use Rattle.gb_types.specs.declared.request.GroupCommand.TheVariants.{Fetch}
 use Rattle.gb_node.specs.declared.answer.NodeAnswer.{NodeAnswer}
 use Rattle.gb_node.specs.declared.answer.NodeAnswer.TheVariants.{Reply as Replied, Sent}
 use Rattle.gb_node.specs.declared.answer.Sent.{Sent as SentValue}
@@ -12,9 +14,14 @@ use Rattle.gb_node.specs.declared.answer.Sent.TheVariants.{Packet as SentPacket}
 use Rattle.gb_node.specs.declared.event.NodeEvent.{NodeEvent}
 use Rattle.gb_node.specs.declared.event.NodeEvent.TheVariants.{Request as Asked, Pack, Again, Ack}
 
+-- the request is a fetch of a log
+abbrev pub is_fetch : Action → Bool
+is_fetch (Group addr (Fetch from most)) = true
+is_fetch what = false
+
 -- the event only reads: whatever the answer is, the node stays as it was
 abbrev pub is_read : NodeEvent → Bool
-is_read (Asked (Fetch token addr from most)) = true
+is_read (Asked request) = is_fetch request.what
 is_read (Again b n) = true
 is_read (Ack b) = true
 is_read event = false

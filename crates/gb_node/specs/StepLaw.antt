@@ -7,16 +7,19 @@ use Rattle.gb_types.specs.declared.node.NodeId.{NodeId}
 use Rattle.gb_types.specs.declared.refusal.Refusal.TheVariants.{Stopped, OutOfMemory, Denied}
 use Rattle.gb_types.specs.declared.reply.Reply.{Reply}
 use Rattle.gb_types.specs.declared.reply.Reply.TheVariants.{Refused}
+use Rattle.gb_types.specs.declared.request.Action.{Action}
+use Rattle.gb_types.specs.declared.request.Action.TheVariants.{AddTenant, Group}
+use Rattle.gb_types.specs.declared.request.GroupCommand.TheVariants.{Make, Open, Shut, Drop, Say, Fetch}
 use Rattle.gb_types.specs.declared.request.Request.{Request}
-use Rattle.gb_types.specs.declared.request.Request.TheVariants.{AddTenant, Make, OpenGroup, ShutGroup, DropGroup, Say, Fetch}
 use Rattle.gb_frame.specs.Packet.{Content}
 use Rattle.gb_rules.specs.Group.{Shown, absent_answer, open_answer, shut_answer, drop_answer, say_answer, fetch_answer}
 use Rattle.gb_rules.specs.Tenant.{reserve_of, row_of, reserved, tenant_answer, make_answer, by_tenant}
 use Rattle.gb_frame.specs.Items.{items_for, item_for}
 use Rattle.gb_table.specs.Admission.{has_token}
+use Rattle.gb_table.specs.Requests.{TakesMemory}
 pub use Rattle.gb_table.specs.Admission.{has_group_token}
 use Rattle.gb_node.specs.NodeValue.{NodeValue}
-use Rattle.gb_node.specs.NodeStep.{turn, RequestTakesMemory}
+use Rattle.gb_node.specs.NodeStep.{turn}
 use Rattle.gb_node.specs.Past.{Happened, ComesTo, read, is_first, is_taken, tenants_in, is_stopped}
 use Rattle.gb_node.specs.PastGroups.{noticed_after, shown_in, waiting_of, told_of, living_of}
 use Rattle.gb_node.specs.declared.answer.Good.{Good}
@@ -42,25 +45,25 @@ group_answer answer (Some None) = absent_answer true
 group_answer answer (Some (Some x)) = answer x
 
 -- the reply to a request with the right token
-abbrev pub admitted_answer : NodePlan → List Happened → Request → Reply
-admitted_answer plan past (AddTenant token row) = tenant_answer plan.places (reserved (tenants_in past)) (is_some (row_of row.tenant (tenants_in past))) row
-admitted_answer plan past (Make token addr spec) =
+abbrev pub admitted_answer : NodePlan → List Happened → Action → Reply
+admitted_answer plan past (AddTenant row) = tenant_answer plan.places (reserved (tenants_in past)) (is_some (row_of row.tenant (tenants_in past))) row
+admitted_answer plan past (Group addr (Make spec)) =
     by_tenant (make_answer plan.version plan.nodes plan.me.number addr (is_some (told_of plan addr past)) (living_of addr past) spec) (option_map reserve_of (row_of addr.tenant (tenants_in past)))
-admitted_answer plan past (OpenGroup token addr) = group_answer open_answer (shown_in plan.me.number (told_of plan addr past))
-admitted_answer plan past (ShutGroup token addr) = group_answer shut_answer (shown_in plan.me.number (told_of plan addr past))
-admitted_answer plan past (DropGroup token addr) = group_answer drop_answer (shown_in plan.me.number (told_of plan addr past))
-admitted_answer plan past (Say token addr message) = group_answer (λ s. say_answer plan.version s message) (shown_in plan.me.number (told_of plan addr past))
-admitted_answer plan past (Fetch token addr from most) = group_answer (λ s. fetch_answer s from most) (shown_in plan.me.number (told_of plan addr past))
+admitted_answer plan past (Group addr Open) = group_answer open_answer (shown_in plan.me.number (told_of plan addr past))
+admitted_answer plan past (Group addr Shut) = group_answer shut_answer (shown_in plan.me.number (told_of plan addr past))
+admitted_answer plan past (Group addr Drop) = group_answer drop_answer (shown_in plan.me.number (told_of plan addr past))
+admitted_answer plan past (Group addr (Say message)) = group_answer (λ s. say_answer plan.version s message) (shown_in plan.me.number (told_of plan addr past))
+admitted_answer plan past (Group addr (Fetch from most)) = group_answer (λ s. fetch_answer s from most) (shown_in plan.me.number (told_of plan addr past))
 
 -- the reply to any request
 abbrev pub past_answer : NodePlan → List Happened → Request → Reply
-past_answer plan past request = if is_stopped past then Refused Stopped else (if is_admitted_by plan past request then admitted_answer plan past request else Refused Denied)
+past_answer plan past request = if is_stopped past then Refused Stopped else (if is_admitted_by plan past request then admitted_answer plan past request.what else Refused Denied)
 
 -- The answers.
 
 -- the reply to a request is the one that the past says, or OutOfMemory if that reply takes memory
 abbrev pub IsAsked : NodePlan → List Happened → Request → Reply → Type 0
-IsAsked plan past request reply = ((reply ≡ Refused OutOfMemory) × RequestTakesMemory request (past_answer plan past request)) ⊎ (reply ≡ past_answer plan past request)
+IsAsked plan past request reply = ((reply ≡ Refused OutOfMemory) × TakesMemory request.what (past_answer plan past request)) ⊎ (reply ≡ past_answer plan past request)
 
 -- a packet is packed by a running node for another one, and has the first of the items that wait there in each group
 pub record IsPacked (plan : NodePlan) (past : List Happened) (b : NodeId) (text : List ℕ) : Type 0 where

@@ -6,23 +6,34 @@ ghost use Rattle.gb_node.specs.Reads.{IsReplyWithin, IsSentWithin};
 
 use crate::answer::{Sent, Ticked};
 use crate::packet_text::PacketText;
-use gb_types::{OutOfMemory, Reply, Request};
+use gb_types::{Action, GroupCommand, OutOfMemory, Reply, Request};
 use std::alloc::Global;
+
+/// Returns a copy of the command. Only the message of a say takes memory.
+fn copy_command(alloc: Global, command: &GroupCommand) -> Result<GroupCommand, OutOfMemory>
+    ensures { IfOk result (λ c. c ≡ command.now) }
+{
+    Ok(match command {
+        GroupCommand::Make(spec) => GroupCommand::Make(spec.duplicate()),
+        GroupCommand::Open => GroupCommand::Open,
+        GroupCommand::Shut => GroupCommand::Shut,
+        GroupCommand::Drop => GroupCommand::Drop,
+        GroupCommand::Say(message) => GroupCommand::Say(message.duplicate(alloc)?),
+        GroupCommand::Fetch(from, most) => GroupCommand::Fetch(*from, *most),
+    })
+}
 
 /// Returns a copy of the request. Only the message of a say takes memory.
 pub(crate) fn copy_request(alloc: Global, request: &Request) -> Result<Request, OutOfMemory>
     ensures { IfOk result (λ r. r ≡ request.now) }
 {
-    Ok(match request {
-        Request::AddTenant(token, row) => Request::AddTenant(*token, *row),
-        Request::Make(token, addr, spec) => Request::Make(*token, *addr, spec.duplicate()),
-        Request::OpenGroup(token, addr) => Request::OpenGroup(*token, *addr),
-        Request::ShutGroup(token, addr) => Request::ShutGroup(*token, *addr),
-        Request::DropGroup(token, addr) => Request::DropGroup(*token, *addr),
-        Request::Say(token, addr, message) => {
-            Request::Say(*token, *addr, message.duplicate(alloc)?)
-        }
-        Request::Fetch(token, addr, from, most) => Request::Fetch(*token, *addr, *from, *most),
+    let what = match &request.what {
+        Action::AddTenant(row) => Action::AddTenant(*row),
+        Action::Group(addr, command) => Action::Group(*addr, copy_command(alloc, command)?),
+    };
+    Ok(Request {
+        token: request.token,
+        what,
     })
 }
 

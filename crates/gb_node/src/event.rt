@@ -5,7 +5,7 @@ ghost use Rattle.gb_node.specs.Reads.{is_read};
 use crate::copies::{copy_request, copy_text};
 use crate::packet_text::PacketText;
 use crate::same::{same_node, same_request, same_text};
-use gb_types::{NodeId, OutOfMemory, Request};
+use gb_types::{Action, GroupCommand, NodeId, OutOfMemory, Request};
 use std::alloc::Global;
 
 /// What happens at a node.
@@ -64,7 +64,9 @@ impl NodeEvent {
         ensures { result ≡ is_read self.now }
     {
         match self {
-            NodeEvent::Request(Request::Fetch(_, _, _, _)) => true,
+            NodeEvent::Request(request) => {
+                matches!(&request.what, Action::Group(_, GroupCommand::Fetch(_, _)))
+            }
             NodeEvent::Again(_, _) => true,
             NodeEvent::Ack(_) => true,
             _ => false,

@@ -3,7 +3,7 @@ ghost use Rattle.std.specs.Prelude.{◌≡◌, ◌↔◌, IsTrue};
 
 use crate::answer::{Good, PacketAnswer, Sent, Ticked};
 use crate::packet_text::PacketText;
-use gb_types::{Addr, Entry, NewMessage, NodeId, NodeSet, Reply, Request, Spec};
+use gb_types::{Action, Entry, GroupCommand, NewMessage, NodeId, NodeSet, Reply, Request, Spec};
 
 /// Returns true if the bytes are the same.
 pub(crate) fn same_text(first: &PacketText, second: &PacketText) -> bool
@@ -36,39 +36,47 @@ fn same_spec(first: &Spec, second: &Spec) -> bool
         && first.window == second.window
 }
 
-/// Returns true if the tokens and the groups are the same.
-fn same_group(token: &[u8; 32], group: &Addr, other_token: &[u8; 32], other_group: &Addr) -> bool
-    ensures { IsTrue result ↔ ((token.now ≡ other_token.now) × (group.now ≡ other_group.now)) }
-{
-    *token == *other_token && *group == *other_group
-}
-
 fn same_message(first: &NewMessage, second: &NewMessage) -> bool
     ensures { IsTrue result ↔ (first.now ≡ second.now) }
 {
     first.seq == second.seq && first.payload.as_slice() == second.payload.as_slice()
 }
 
+/// Returns true if the commands are the same.
+fn same_command(first: &GroupCommand, second: &GroupCommand) -> bool
+    ensures { IsTrue result ↔ (first.now ≡ second.now) }
+{
+    match (first, second) {
+        (GroupCommand::Make(spec), GroupCommand::Make(other)) => same_spec(spec, other),
+        (GroupCommand::Open, GroupCommand::Open)
+        | (GroupCommand::Shut, GroupCommand::Shut)
+        | (GroupCommand::Drop, GroupCommand::Drop) => true,
+        (GroupCommand::Say(message), GroupCommand::Say(other)) => same_message(message, other),
+        (GroupCommand::Fetch(from, most), GroupCommand::Fetch(start, count)) => {
+            *from == *start && *most == *count
+        }
+        _ => false,
+    }
+}
+
+/// Returns true if the requests ask for the same.
+fn same_action(first: &Action, second: &Action) -> bool
+    ensures { IsTrue result ↔ (first.now ≡ second.now) }
+{
+    match (first, second) {
+        (Action::AddTenant(row), Action::AddTenant(other)) => *row == *other,
+        (Action::Group(a, command), Action::Group(b, other)) => {
+            *a == *b && same_command(command, other)
+        }
+        _ => false,
+    }
+}
+
 /// Returns true if the requests are the same, including their tokens.
 pub(crate) fn same_request(first: &Request, second: &Request) -> bool
     ensures { IsTrue result ↔ (first.now ≡ second.now) }
 {
-    match (first, second) {
-        (Request::AddTenant(t, row), Request::AddTenant(u, other)) => *t == *u && *row == *other,
-        (Request::Make(t, a, spec), Request::Make(u, b, other)) => {
-            same_group(t, a, u, b) && same_spec(spec, other)
-        }
-        (Request::OpenGroup(t, a), Request::OpenGroup(u, b))
-        | (Request::ShutGroup(t, a), Request::ShutGroup(u, b))
-        | (Request::DropGroup(t, a), Request::DropGroup(u, b)) => same_group(t, a, u, b),
-        (Request::Say(t, a, message), Request::Say(u, b, other)) => {
-            same_group(t, a, u, b) && same_message(message, other)
-        }
-        (Request::Fetch(t, a, from, most), Request::Fetch(u, b, start, count)) => {
-            same_group(t, a, u, b) && *from == *start && *most == *count
-        }
-        _ => false,
-    }
+    first.token == second.token && same_action(&first.what, &second.what)
 }
 
 fn same_entry(first: &Entry, second: &Entry) -> bool

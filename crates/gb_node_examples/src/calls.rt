@@ -1,7 +1,7 @@
 // Sealed packets that no node sends.
 use crate::steps::{FIRST, GROUP, Line, SECOND, Step, Told, run};
 use gb_node::Frame;
-use gb_types::Kind;
+use gb_types::Module;
 use std::rt::HostRuntime;
 use std::test::Fail;
 
@@ -32,7 +32,7 @@ const OUTSIDE: Told = Told::Came(FIRST, Frame::Outside, 0, 0);
 /// may be of frames that were never sent, up to the greatest number.
 const WHAT_NO_NODE_SENDS: &[Line] = &[
     (SECOND, Step::Tenant(7), Told::Done),
-    (SECOND, Step::Make(GROUP, Kind::Eager), Told::Done),
+    (SECOND, Step::Make(GROUP, Module::Eager), Told::Done),
     (SECOND, Step::Open(GROUP), Told::Done),
     (SECOND, Step::Say(GROUP, b"own"), Told::Said(1)),
     (SECOND, Step::Packet([1, 0, 1], FIRST_1), FIRST_TIME),

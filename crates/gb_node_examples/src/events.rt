@@ -4,7 +4,10 @@ use crate::texts::{long_packet, packet};
 use gb_cap::token::token;
 use gb_cap::{Key, Need, Token};
 use gb_node::{NodeEvent, PacketText};
-use gb_types::{Addr, Kind, NewMessage, NodeSet, OutOfMemory, Payload, Request, Spec, TenantRow};
+use gb_types::{
+    Action, Addr, GroupCommand, Kind, Module, NewMessage, NodeSet, Order, OutOfMemory, Payload,
+    Request, Spec, TenantRow,
+};
 use std::alloc::Global;
 
 pub const ADMIN_KEY: Key = [1; 32];
@@ -21,7 +24,10 @@ fn add(tenant: u16) -> Request {
         bytes: 65_536,
         window: 8,
     };
-    Request::AddTenant(token(&ADMIN_KEY, Need::Admin), row)
+    Request {
+        token: token(&ADMIN_KEY, Need::Admin),
+        what: Action::AddTenant(row),
+    }
 }
 
 /// Returns the token of a group's owner.
@@ -34,14 +40,25 @@ fn member(addr: Addr, me: u8) -> Token {
     token(&TENANT_KEY, Need::Member(addr.tenant, addr.group, node(me)))
 }
 
+/// Returns the event by which a group's owner asks for something.
+fn by_owner(addr: Addr, command: GroupCommand) -> NodeEvent {
+    NodeEvent::Request(Request::of_group(owner(addr), addr, command))
+}
+
+/// Returns the event by which a group's member at a node asks for something.
+fn by_member(addr: Addr, me: u8, command: GroupCommand) -> NodeEvent {
+    NodeEvent::Request(Request::of_group(member(addr, me), addr, command))
+}
+
 /// Returns the specification of a group of the first two nodes and a third.
-fn spec(kind: Kind, third: u8) -> Spec {
+fn spec(module: Module, third: u8) -> Spec {
     let mut members = NodeSet::new();
     members.insert(node(FIRST));
     members.insert(node(SECOND));
     members.insert(node(third));
+    let order = Order::Any;
     Spec {
-        kind,
+        kind: Kind { module, order },
         members,
         msgs: 8,
         bytes: 65_536,
@@ -50,14 +67,14 @@ fn spec(kind: Kind, third: u8) -> Spec {
 }
 
 /// Returns the event that makes a group of the first two nodes and a third.
-fn make(addr: Addr, kind: Kind, third: u8) -> NodeEvent {
-    NodeEvent::Request(Request::Make(owner(addr), addr, spec(kind, third)))
+fn make(addr: Addr, module: Module, third: u8) -> NodeEvent {
+    by_owner(addr, GroupCommand::Make(spec(module, third)))
 }
 
 /// Returns the event that says `bytes` in a group at a node.
 fn say(alloc: Global, me: u8, addr: Addr, bytes: &[u8]) -> Result<NodeEvent, OutOfMemory> {
     let message = NewMessage::new(Payload::from_slice(alloc, bytes)?);
-    Ok(NodeEvent::Request(Request::Say(member(addr, me), addr, message)))
+    Ok(by_member(addr, me, GroupCommand::Say(message)))
 }
 
 /// Returns the arrival of the packet with this number among those that were sent, or of no bytes if there is no such packet.
@@ -80,11 +97,11 @@ pub fn event(
 ) -> Result<NodeEvent, OutOfMemory> {
     Ok(match step {
         Step::Tenant(tenant) => NodeEvent::Request(add(*tenant)),
-        Step::Make(addr, kind) => make(*addr, *kind, THIRD),
-        Step::MakeFar(addr, kind) => make(*addr, *kind, LAST),
-        Step::Open(addr) => NodeEvent::Request(Request::OpenGroup(owner(*addr), *addr)),
+        Step::Make(addr, module) => make(*addr, *module, THIRD),
+        Step::MakeFar(addr, module) => make(*addr, *module, LAST),
+        Step::Open(addr) => by_owner(*addr, GroupCommand::Open),
         Step::Say(addr, bytes) => say(alloc, me, *addr, bytes)?,
-        Step::Fetch(addr) => NodeEvent::Request(Request::Fetch(member(*addr, me), *addr, 0, 16)),
+        Step::Fetch(addr) => by_member(*addr, me, GroupCommand::Fetch(0, 16)),
         Step::Pack(to) => NodeEvent::Pack(node(*to)),
         Step::Again(to, frame) => NodeEvent::Again(node(*to), *frame),
         Step::Ack(to) => NodeEvent::Ack(node(*to)),

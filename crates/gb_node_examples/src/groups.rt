@@ -6,8 +6,8 @@ use gb_frame::ItemView;
 use gb_frame::item::first_item;
 use gb_table::Table;
 use gb_types::{
-    Addr, Kind, MsgId, NewMessage, NodeId, NodeSet, OutOfMemory, Payload, Refusal, Request, Spec,
-    TenantRow, Version,
+    Action, Addr, GroupCommand, Kind, Module, MsgId, NewMessage, NodeId, NodeSet, Order,
+    OutOfMemory, Payload, Refusal, Request, Spec, TenantRow, Version,
 };
 use std::alloc::Global;
 use std::process::Abort;
@@ -77,8 +77,9 @@ fn spec() -> Spec {
     let mut members = NodeSet::new();
     members.insert(FRIEND);
     members.insert(ME);
+    let (module, order) = (Module::BestEffort, Order::Any);
     Spec {
-        kind: Kind::Beb,
+        kind: Kind { module, order },
         members,
         msgs: 8,
         bytes: 65_536,
@@ -92,9 +93,19 @@ fn answer(table: &mut Table, request: &Request) -> Told {
     in_short(&reply)
 }
 
+/// Returns the answer to what a group's owner asks.
+fn by_owner(table: &mut Table, addr: Addr, command: GroupCommand) -> Told {
+    answer(table, &Request::of_group(owner(addr), addr, command))
+}
+
+/// Returns the answer to what a group's member asks.
+fn by_member(table: &mut Table, addr: Addr, command: GroupCommand) -> Told {
+    answer(table, &Request::of_group(member(addr), addr, command))
+}
+
 fn open(table: &mut Table, addr: Addr) -> Told {
-    match answer(table, &Request::Make(owner(addr), addr, spec())) {
-        Told::Done => answer(table, &Request::OpenGroup(owner(addr), addr)),
+    match by_owner(table, addr, GroupCommand::Make(spec())) {
+        Told::Done => by_owner(table, addr, GroupCommand::Open),
         refused => refused,
     }
 }
@@ -102,7 +113,7 @@ fn open(table: &mut Table, addr: Addr) -> Told {
 /// Says a message of one byte.
 fn say(alloc: Global, table: &mut Table, addr: Addr) -> Result<Told, OutOfMemory> {
     let message = NewMessage::new(Payload::from_slice(alloc, b"a")?);
-    Ok(answer(table, &Request::Say(member(addr), addr, message)))
+    Ok(by_member(table, addr, GroupCommand::Say(message)))
 }
 
 /// Hands in the friend's first message in a group.
@@ -130,9 +141,9 @@ fn take(alloc: Global, table: &mut Table, step: Step, group: Group) -> Result<To
             table.done(FRIEND, addr, MsgId { origin: ME, seq: 1 });
             Told::Done
         }
-        Step::Shut => answer(table, &Request::ShutGroup(owner(addr), addr)),
-        Step::Drop => answer(table, &Request::DropGroup(owner(addr), addr)),
-        Step::Fetch => answer(table, &Request::Fetch(member(addr), addr, 0, 16)),
+        Step::Shut => by_owner(table, addr, GroupCommand::Shut),
+        Step::Drop => by_owner(table, addr, GroupCommand::Drop),
+        Step::Fetch => by_member(table, addr, GroupCommand::Fetch(0, 16)),
     })
 }
 
@@ -160,8 +171,11 @@ fn add_tenant(table: &mut Table, tenant: u16) -> Told {
         bytes: 65_536,
         window: 1_024,
     };
-    let admin = token(&ADMIN_KEY, Need::Admin);
-    answer(table, &Request::AddTenant(admin, row))
+    let request = Request {
+        token: token(&ADMIN_KEY, Need::Admin),
+        what: Action::AddTenant(row),
+    };
+    answer(table, &request)
 }
 
 /// Returns the table of a node of this version whose four tenants have all rooms.

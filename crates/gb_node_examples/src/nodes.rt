@@ -1,7 +1,7 @@
 // Frames, and what is not sent.
-use crate::steps::{FIRST, GROUP, Line, SECOND, Step, Told, run};
+use crate::steps::{BEST_EFFORT, FIRST, GROUP, Line, SECOND, Step, Told, run};
 use gb_node::Frame;
-use gb_types::{Addr, Kind, Refusal};
+use gb_types::{Addr, Refusal};
 use std::rt::HostRuntime;
 use std::test::Fail;
 
@@ -23,19 +23,19 @@ const ELSEWHERE: Addr = Addr {
 const A_FRAME_OF_MANY_GROUPS: &[Line] = &[
     (FIRST, Step::Tenant(7), Told::Done),
     (FIRST, Step::Tenant(9), Told::Done),
-    (FIRST, Step::Make(BESIDE, Kind::Beb), Told::Done),
+    (FIRST, Step::Make(BESIDE, BEST_EFFORT), Told::Done),
     (FIRST, Step::Open(BESIDE), Told::Done),
-    (FIRST, Step::Make(GROUP, Kind::Beb), Told::Done),
+    (FIRST, Step::Make(GROUP, BEST_EFFORT), Told::Done),
     (FIRST, Step::Open(GROUP), Told::Done),
-    (FIRST, Step::Make(ELSEWHERE, Kind::Beb), Told::Done),
+    (FIRST, Step::Make(ELSEWHERE, BEST_EFFORT), Told::Done),
     (FIRST, Step::Open(ELSEWHERE), Told::Done),
     (SECOND, Step::Tenant(7), Told::Done),
     (SECOND, Step::Tenant(9), Told::Done),
-    (SECOND, Step::Make(BESIDE, Kind::Beb), Told::Done),
+    (SECOND, Step::Make(BESIDE, BEST_EFFORT), Told::Done),
     (SECOND, Step::Open(BESIDE), Told::Done),
-    (SECOND, Step::Make(GROUP, Kind::Beb), Told::Done),
+    (SECOND, Step::Make(GROUP, BEST_EFFORT), Told::Done),
     (SECOND, Step::Open(GROUP), Told::Done),
-    (SECOND, Step::Make(ELSEWHERE, Kind::Beb), Told::Done),
+    (SECOND, Step::Make(ELSEWHERE, BEST_EFFORT), Told::Done),
     (SECOND, Step::Open(ELSEWHERE), Told::Done),
     (FIRST, Step::Say(BESIDE, b"one"), Told::Said(1)),
     (FIRST, Step::Say(GROUP, b"two"), Told::Said(1)),
@@ -86,7 +86,7 @@ const AN_ACKNOWLEDGEMENT_IS_SENT_AGAIN: &[Line] = &[
         Told::Came(SECOND, Frame::Nothing, 0, 0),
     ),
     (FIRST, Step::Tenant(7), Told::Done),
-    (FIRST, Step::Make(GROUP, Kind::Beb), Told::Done),
+    (FIRST, Step::Make(GROUP, BEST_EFFORT), Told::Done),
     (FIRST, Step::Open(GROUP), Told::Done),
     (FIRST, Step::Say(GROUP, b"a"), Told::Said(1)),
     (FIRST, Step::Pack(SECOND), Told::Sent(49)),

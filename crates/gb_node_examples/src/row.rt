@@ -2,7 +2,7 @@
 use crate::steps::{FIRST, GROUP, Line, SECOND, Step, THIRD, Told, compare, holds, three};
 use crate::texts::disturb;
 use gb_node::{Frame, Node, PacketText};
-use gb_types::{Kind, OutOfMemory};
+use gb_types::{Module, OutOfMemory};
 use std::alloc::Global;
 use std::process::Abort;
 use std::rt::HostRuntime;
@@ -11,13 +11,13 @@ use std::test::Fail;
 /// The three nodes have a group.
 const PREPARED: &[Line] = &[
     (FIRST, Step::Tenant(7), Told::Done),
-    (FIRST, Step::Make(GROUP, Kind::Lazy), Told::Done),
+    (FIRST, Step::Make(GROUP, Module::Lazy), Told::Done),
     (FIRST, Step::Open(GROUP), Told::Done),
     (SECOND, Step::Tenant(7), Told::Done),
-    (SECOND, Step::Make(GROUP, Kind::Lazy), Told::Done),
+    (SECOND, Step::Make(GROUP, Module::Lazy), Told::Done),
     (SECOND, Step::Open(GROUP), Told::Done),
     (THIRD, Step::Tenant(7), Told::Done),
-    (THIRD, Step::Make(GROUP, Kind::Lazy), Told::Done),
+    (THIRD, Step::Make(GROUP, Module::Lazy), Told::Done),
     (THIRD, Step::Open(GROUP), Told::Done),
 ];
 

@@ -1,7 +1,8 @@
 //! One group at one node.
 use crate::slot_steps::{FRIEND, ME, OTHER, STRANGER, Step, compare, node};
+use crate::steps::BEST_EFFORT;
 use gb_slot::{Slot, Store};
-use gb_types::{Kind, MsgId, NodeSet, Refusal, Spec, Version};
+use gb_types::{Kind, Module, MsgId, NodeSet, Order, Refusal, Spec, Version};
 use std::alloc::Global;
 use std::process::Abort;
 use std::rt::HostRuntime;
@@ -42,7 +43,7 @@ const SMALL: Limits = Limits {
 };
 
 /// Returns a group of three members at one of them. The other may be noticed before it is made.
-fn group(alloc: Global, kind: Kind, limits: Limits, noticed: bool) -> Result<Slot, Refusal> {
+fn group(alloc: Global, module: Module, limits: Limits, noticed: bool) -> Result<Slot, Refusal> {
     let me = node(ME);
     let mut members = NodeSet::new();
     members.insert(node(FRIEND));
@@ -60,8 +61,9 @@ fn group(alloc: Global, kind: Kind, limits: Limits, noticed: bool) -> Result<Slo
     if !members.contains(me) || msgs == 0 || msgs > 1_024 || bytes > 65_536 || window > 1_024 {
         return Err(Refusal::BadMembers);
     }
+    let order = Order::Any;
     let spec = Spec {
-        kind,
+        kind: Kind { module, order },
         members,
         msgs,
         bytes,
@@ -70,15 +72,15 @@ fn group(alloc: Global, kind: Kind, limits: Limits, noticed: bool) -> Result<Slo
     Slot::new(alloc, spec, me, &seen)
 }
 
-/// Compares the answer of each call of a group of this kind.
+/// Compares the answer of each call of a group of this module.
 fn run(
     rt: &impl Abort,
     alloc: Global,
-    kind: Kind,
+    module: Module,
     limits: Limits,
     steps: &[Step],
 ) -> Result<(), Fail> {
-    let mut slot = group(alloc, kind, limits, false)?;
+    let mut slot = group(alloc, module, limits, false)?;
     compare(rt, Version::One, &mut slot, steps);
     Ok(())
 }
@@ -104,7 +106,7 @@ const MEMBERS_SAY_AND_HEAR: &[Step] = &[
 
 #[test]
 fn members_say_and_hear(rt: HostRuntime) -> Result<(), Fail> {
-    run(&rt, rt.alloc(), Kind::Beb, WIDE, MEMBERS_SAY_AND_HEAR)
+    run(&rt, rt.alloc(), BEST_EFFORT, WIDE, MEMBERS_SAY_AND_HEAR)
 }
 
 // Up to 16 bytes stand in the payload's value; a longer payload takes memory.
@@ -131,7 +133,7 @@ fn payloads_of_each_length_are_fetched(rt: HostRuntime) -> Result<(), Fail> {
     run(
         &rt,
         rt.alloc(),
-        Kind::Beb,
+        BEST_EFFORT,
         WIDE,
         PAYLOADS_OF_EACH_LENGTH_ARE_FETCHED,
     )
@@ -162,7 +164,7 @@ fn what_is_said_waits_for_each_other_member(rt: HostRuntime) -> Result<(), Fail>
     run(
         &rt,
         rt.alloc(),
-        Kind::Beb,
+        BEST_EFFORT,
         WIDE,
         WHAT_IS_SAID_WAITS_FOR_EACH_OTHER_MEMBER,
     )
@@ -179,7 +181,7 @@ const NOTHING_WAITS_FOR_A_NODE_THAT_WAS_NOTICED: &[Step] = &[
 
 #[test]
 fn nothing_waits_for_a_node_that_was_noticed(rt: HostRuntime) -> Result<(), Fail> {
-    let mut slot = group(rt.alloc(), Kind::Beb, WIDE, true)?;
+    let mut slot = group(rt.alloc(), BEST_EFFORT, WIDE, true)?;
     compare(
         &rt,
         Version::One,
@@ -227,7 +229,7 @@ fn refusals_come_in_their_order(rt: HostRuntime) -> Result<(), Fail> {
     run(
         &rt,
         rt.alloc(),
-        Kind::Beb,
+        BEST_EFFORT,
         Limits { msgs: 2, ..WIDE },
         REFUSALS_COME_IN_THEIR_ORDER,
     )
@@ -245,7 +247,7 @@ const PAYLOADS_OF_VERSION_TWO: &[Step] = &[
 
 #[test]
 fn longer_payloads_are_said_at_a_node_of_version_two(rt: HostRuntime) -> Result<(), Fail> {
-    let mut slot = group(rt.alloc(), Kind::Beb, WIDE, false)?;
+    let mut slot = group(rt.alloc(), BEST_EFFORT, WIDE, false)?;
     compare(&rt, Version::Two, &mut slot, PAYLOADS_OF_VERSION_TWO);
     Ok(())
 }
@@ -285,7 +287,7 @@ const ITEMS_ARE_LET_FALL: &[Step] = &[
 
 #[test]
 fn items_are_let_fall(rt: HostRuntime) -> Result<(), Fail> {
-    run(&rt, rt.alloc(), Kind::Beb, WIDE, ITEMS_ARE_LET_FALL)
+    run(&rt, rt.alloc(), BEST_EFFORT, WIDE, ITEMS_ARE_LET_FALL)
 }
 
 const NOTHING_WAITS_FOR_A_NODE_THAT_CRASHES: &[Step] = &[
@@ -320,7 +322,7 @@ fn nothing_waits_for_a_node_that_crashes(rt: HostRuntime) -> Result<(), Fail> {
     run(
         &rt,
         rt.alloc(),
-        Kind::Beb,
+        BEST_EFFORT,
         WIDE,
         NOTHING_WAITS_FOR_A_NODE_THAT_CRASHES,
     )
@@ -345,7 +347,7 @@ const BEST_EFFORT_TAKES_RELAYED_COPIES_IN_2: &[Step] = &[
 
 #[test]
 fn best_effort_takes_relayed_copies_in(rt: HostRuntime) -> Result<(), Fail> {
-    let mut slot = group(rt.alloc(), Kind::Beb, WIDE, false)?;
+    let mut slot = group(rt.alloc(), BEST_EFFORT, WIDE, false)?;
     compare(
         &rt,
         Version::One,
@@ -380,7 +382,7 @@ fn lazy_groups_relay_after_a_crash(rt: HostRuntime) -> Result<(), Fail> {
     run(
         &rt,
         rt.alloc(),
-        Kind::Lazy,
+        Module::Lazy,
         WIDE,
         LAZY_GROUPS_RELAY_AFTER_A_CRASH,
     )
@@ -408,7 +410,7 @@ const ALL_ACK_GROUPS_WAIT_FOR_EACH_MEMBER_3: &[Step] = &[
 
 #[test]
 fn all_ack_groups_wait_for_each_member(rt: HostRuntime) -> Result<(), Fail> {
-    let mut slot = group(rt.alloc(), Kind::AllAck, WIDE, false)?;
+    let mut slot = group(rt.alloc(), Module::AllAck, WIDE, false)?;
     compare(
         &rt,
         Version::One,
@@ -457,7 +459,13 @@ const ACKNOWLEDGEMENTS_ARE_KEPT: &[Step] = &[
 
 #[test]
 fn acknowledgements_are_kept(rt: HostRuntime) -> Result<(), Fail> {
-    run(&rt, rt.alloc(), Kind::Beb, WIDE, ACKNOWLEDGEMENTS_ARE_KEPT)
+    run(
+        &rt,
+        rt.alloc(),
+        BEST_EFFORT,
+        WIDE,
+        ACKNOWLEDGEMENTS_ARE_KEPT,
+    )
 }
 
 const USAGE_IS_BOUNDED: &[Step] = &[
@@ -483,7 +491,7 @@ const USAGE_IS_BOUNDED: &[Step] = &[
 
 #[test]
 fn usage_is_bounded(rt: HostRuntime) -> Result<(), Fail> {
-    run(&rt, rt.alloc(), Kind::Beb, NARROW, USAGE_IS_BOUNDED)
+    run(&rt, rt.alloc(), BEST_EFFORT, NARROW, USAGE_IS_BOUNDED)
 }
 
 /// The bytes of each origin are limited separately. An item that is let fall, or known, does not count.
@@ -512,7 +520,7 @@ fn bytes_of_an_origin_are_bounded(rt: HostRuntime) -> Result<(), Fail> {
     run(
         &rt,
         rt.alloc(),
-        Kind::Beb,
+        BEST_EFFORT,
         NARROW,
         BYTES_OF_AN_ORIGIN_ARE_BOUNDED,
     )
@@ -547,7 +555,7 @@ fn all_that_may_be_said_is_taken(rt: HostRuntime) -> Result<(), Fail> {
     run(
         &rt,
         rt.alloc(),
-        Kind::Eager,
+        Module::Eager,
         SMALL,
         ALL_THAT_MAY_BE_SAID_IS_TAKEN,
     )

@@ -8,7 +8,7 @@ use gb_frame::PacketFault;
 use gb_node::{
     Frame, Good, Halted, Node, NodeAnswer, NodePlan, PacketAnswer, PacketText, Sent, Ticked,
 };
-use gb_types::{Addr, Kind, NodeId, OutOfMemory, Refusal, Reply, Version};
+use gb_types::{Addr, Module, NodeId, OutOfMemory, Refusal, Reply, Version};
 use std::alloc::Global;
 use std::process::Abort;
 
@@ -26,6 +26,9 @@ pub fn node(number: u8) -> NodeId {
     NodeId::new(number % 32)
 }
 
+/// What most groups choose.
+pub const BEST_EFFORT: Module = Module::BestEffort;
+
 /// The group of most tests.
 pub const GROUP: Addr = Addr {
     tenant: 7,
@@ -38,9 +41,9 @@ pub enum Step {
     /// A tenant is added, which may make two groups.
     Tenant(u16),
     /// A group of the three nodes is made.
-    Make(Addr, Kind),
+    Make(Addr, Module),
     /// A group of the first two nodes and the last of 32 is made.
-    MakeFar(Addr, Kind),
+    MakeFar(Addr, Module),
     Open(Addr),
     Say(Addr, &'static [u8]),
     Fetch(Addr),

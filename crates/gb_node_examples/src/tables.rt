@@ -4,8 +4,8 @@ use gb_cap::token::token;
 use gb_cap::{Key, Need, Token};
 use gb_table::Table;
 use gb_types::{
-    Addr, Kind, NewMessage, NodeId, NodeSet, OutOfMemory, Payload, Refusal, Request, Spec,
-    TenantRow, Version,
+    Action, Addr, GroupCommand, Kind, Module, NewMessage, NodeId, NodeSet, Order, OutOfMemory,
+    Payload, Refusal, Request, Spec, TenantRow, Version,
 };
 use std::alloc::Global;
 use std::process::Abort;
@@ -69,8 +69,9 @@ fn spec(member: NodeId, msgs: u32) -> Spec {
     let mut members = NodeSet::new();
     members.insert(member);
     members.insert(FRIEND);
+    let (module, order) = (Module::BestEffort, Order::Any);
     Spec {
-        kind: Kind::Beb,
+        kind: Kind { module, order },
         members,
         msgs,
         bytes: 64,
@@ -86,20 +87,24 @@ fn addr(group: u16) -> Addr {
     }
 }
 
+fn in_group(group: u16, command: GroupCommand) -> Action {
+    Action::Group(addr(group), command)
+}
+
 fn request(alloc: Global, ask: Ask, token: Token) -> Result<Request, OutOfMemory> {
-    let request = match ask {
-        Ask::Tenant(tenant, groups) => Request::AddTenant(token, row(tenant, groups)),
-        Ask::Make(group, member, msgs) => Request::Make(token, addr(group), spec(member, msgs)),
-        Ask::Open(group) => Request::OpenGroup(token, addr(group)),
-        Ask::Shut(group) => Request::ShutGroup(token, addr(group)),
-        Ask::Drop(group) => Request::DropGroup(token, addr(group)),
+    let what = match ask {
+        Ask::Tenant(tenant, groups) => Action::AddTenant(row(tenant, groups)),
+        Ask::Make(group, member, msgs) => in_group(group, GroupCommand::Make(spec(member, msgs))),
+        Ask::Open(group) => in_group(group, GroupCommand::Open),
+        Ask::Shut(group) => in_group(group, GroupCommand::Shut),
+        Ask::Drop(group) => in_group(group, GroupCommand::Drop),
         Ask::Say(group, zeros) => {
             let payload = Payload::from_slice(alloc, [0; 4_097].get(..zeros).unwrap_or(&[]))?;
-            Request::Say(token, addr(group), NewMessage::new(payload))
+            in_group(group, GroupCommand::Say(NewMessage::new(payload)))
         }
-        Ask::Fetch(group, from) => Request::Fetch(token, addr(group), from, 16),
+        Ask::Fetch(group, from) => in_group(group, GroupCommand::Fetch(from, 16)),
     };
-    Ok(request)
+    Ok(Request { token, what })
 }
 
 /// Returns a table's answer to a request, in short.

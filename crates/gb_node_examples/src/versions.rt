@@ -1,10 +1,10 @@
 // Nodes of each version of the packet text, and the last of 32 nodes.
 use crate::steps::{
-    FIRST, GROUP, LAST, Line, SECOND, Step, Told, far, narrow, run, run_at, unlike,
+    BEST_EFFORT, FIRST, GROUP, LAST, Line, SECOND, Step, Told, far, narrow, run, run_at, unlike,
 };
 use gb_frame::PacketFault;
 use gb_node::Frame;
-use gb_types::{Addr, Kind, Refusal, Version};
+use gb_types::{Addr, Module, Refusal, Version};
 use std::rt::HostRuntime;
 use std::test::Fail;
 
@@ -51,10 +51,10 @@ const OVERFILLS_THREE: &[u8] = &[b'a'; 4_006];
 /// frame is acknowledged.
 const VERSIONS_ARE_UNLIKE: &[Line] = &[
     (FIRST, Step::Tenant(7), Told::Done),
-    (FIRST, Step::Make(GROUP, Kind::Eager), Told::Done),
+    (FIRST, Step::Make(GROUP, Module::Eager), Told::Done),
     (FIRST, Step::Open(GROUP), Told::Done),
     (SECOND, Step::Tenant(7), Told::Done),
-    (SECOND, Step::Make(GROUP, Kind::Eager), Told::Done),
+    (SECOND, Step::Make(GROUP, Module::Eager), Told::Done),
     (SECOND, Step::Open(GROUP), Told::Done),
     (
         SECOND,
@@ -125,9 +125,9 @@ fn longest_packets(rt: HostRuntime) -> Result<(), Fail> {
 /// A packet of version 1 has 8,153 bytes for items.
 const ROOM_OF_ONE: &[Line] = &[
     (FIRST, Step::Tenant(7), Told::Done),
-    (FIRST, Step::Make(BESIDE, Kind::Beb), Told::Done),
+    (FIRST, Step::Make(BESIDE, BEST_EFFORT), Told::Done),
     (FIRST, Step::Open(BESIDE), Told::Done),
-    (FIRST, Step::Make(GROUP, Kind::Beb), Told::Done),
+    (FIRST, Step::Make(GROUP, BEST_EFFORT), Told::Done),
     (FIRST, Step::Open(GROUP), Told::Done),
     (FIRST, Step::Say(BESIDE, LONGEST_OF_ONE), Told::Said(1)),
     (FIRST, Step::Say(BESIDE, LONGEST_OF_ONE), Told::Said(2)),
@@ -166,7 +166,7 @@ fn room_of_version_one(rt: HostRuntime) -> Result<(), Fail> {
 /// A packet of version 2 has 16,345 bytes for items.
 const ROOM_OF_TWO: &[Line] = &[
     (FIRST, Step::Tenant(7), Told::Done),
-    (FIRST, Step::MakeFar(BESIDE, Kind::Beb), Told::Done),
+    (FIRST, Step::MakeFar(BESIDE, BEST_EFFORT), Told::Done),
     (FIRST, Step::Open(BESIDE), Told::Done),
     (FIRST, Step::Say(BESIDE, LONGEST_OF_TWO), Told::Said(1)),
     (FIRST, Step::Say(BESIDE, LONGEST_OF_TWO), Told::Said(2)),
@@ -195,7 +195,7 @@ fn room_of_version_two(rt: HostRuntime) -> Result<(), Fail> {
 /// A packet of version 3 has 16,345 bytes for items, each with a header of 13. A frame is sent again as it was, and acknowledged.
 const ROOM_OF_THREE: &[Line] = &[
     (FIRST, Step::Tenant(7), Told::Done),
-    (FIRST, Step::MakeFar(BESIDE, Kind::Beb), Told::Done),
+    (FIRST, Step::MakeFar(BESIDE, BEST_EFFORT), Told::Done),
     (FIRST, Step::Open(BESIDE), Told::Done),
     (FIRST, Step::Say(BESIDE, LONGEST_OF_TWO), Told::Said(1)),
     (FIRST, Step::Say(BESIDE, LONGEST_OF_TWO), Told::Said(2)),
@@ -232,7 +232,7 @@ fn room_of_version_three(rt: HostRuntime) -> Result<(), Fail> {
 /// A node with room for 1,400 bytes of items a packet. An item that is longer travels in a packet of its own.
 const ROOM_OF_A_PLAN: &[Line] = &[
     (FIRST, Step::Tenant(7), Told::Done),
-    (FIRST, Step::Make(GROUP, Kind::Beb), Told::Done),
+    (FIRST, Step::Make(GROUP, BEST_EFFORT), Told::Done),
     (FIRST, Step::Open(GROUP), Told::Done),
     (FIRST, Step::Say(GROUP, LONGEST_OF_ONE), Told::Said(1)),
     (FIRST, Step::Say(GROUP, LONGEST_OF_ONE), Told::Said(2)),
@@ -257,13 +257,13 @@ fn room_of_a_plan(rt: HostRuntime) -> Result<(), Fail> {
 /// The last of 32 nodes says and hears, and is relayed for once it is noticed.
 const THE_LAST_NODE: &[Line] = &[
     (FIRST, Step::Tenant(7), Told::Done),
-    (FIRST, Step::MakeFar(GROUP, Kind::Lazy), Told::Done),
+    (FIRST, Step::MakeFar(GROUP, Module::Lazy), Told::Done),
     (FIRST, Step::Open(GROUP), Told::Done),
     (SECOND, Step::Tenant(7), Told::Done),
-    (SECOND, Step::MakeFar(GROUP, Kind::Lazy), Told::Done),
+    (SECOND, Step::MakeFar(GROUP, Module::Lazy), Told::Done),
     (SECOND, Step::Open(GROUP), Told::Done),
     (LAST, Step::Tenant(7), Told::Done),
-    (LAST, Step::MakeFar(GROUP, Kind::Lazy), Told::Done),
+    (LAST, Step::MakeFar(GROUP, Module::Lazy), Told::Done),
     (LAST, Step::Open(GROUP), Told::Done),
     (FIRST, Step::Say(GROUP, b"first"), Told::Said(1)),
     (FIRST, Step::Pack(LAST), Told::SentTwo(53)),
@@ -322,13 +322,13 @@ const TWO_GENERATIONS: &[u8] = b"GB\x03\0\x01\
 /// A group and its next generation have their messages in one frame, and each receives its own.
 const A_FRAME_OF_TWO_GENERATIONS: &[Line] = &[
     (FIRST, Step::Tenant(7), Told::Done),
-    (FIRST, Step::MakeFar(GROUP, Kind::Beb), Told::Done),
+    (FIRST, Step::MakeFar(GROUP, BEST_EFFORT), Told::Done),
     (FIRST, Step::Open(GROUP), Told::Done),
-    (FIRST, Step::MakeFar(NEXT, Kind::Beb), Told::Done),
+    (FIRST, Step::MakeFar(NEXT, BEST_EFFORT), Told::Done),
     (FIRST, Step::Open(NEXT), Told::Done),
     (SECOND, Step::Tenant(7), Told::Done),
-    (SECOND, Step::MakeFar(GROUP, Kind::Beb), Told::Done),
-    (SECOND, Step::MakeFar(NEXT, Kind::Beb), Told::Done),
+    (SECOND, Step::MakeFar(GROUP, BEST_EFFORT), Told::Done),
+    (SECOND, Step::MakeFar(NEXT, BEST_EFFORT), Told::Done),
     (FIRST, Step::Say(GROUP, b"a"), Told::Said(1)),
     (FIRST, Step::Say(NEXT, b"b"), Told::Said(1)),
     (FIRST, Step::Pack(SECOND), Told::SentBytes(TWO_GENERATIONS)),

@@ -7,8 +7,11 @@ use Rattle.gb_types.specs.RequestWords.{IsShort, IsLong, IsGroup}
 use Rattle.gb_types.specs.Rising.{AreNodes}
 use Rattle.gb_types.specs.declared.address.Addr.{Addr}
 use Rattle.gb_types.specs.declared.new_message.NewMessage.{NewMessage}
+use Rattle.gb_types.specs.declared.request.Action.{Action}
+use Rattle.gb_types.specs.declared.request.Action.TheVariants.{AddTenant, Group}
+use Rattle.gb_types.specs.declared.request.GroupCommand.{GroupCommand}
+use Rattle.gb_types.specs.declared.request.GroupCommand.TheVariants.{Make, Say, Fetch}
 use Rattle.gb_types.specs.declared.request.Request.{Request}
-use Rattle.gb_types.specs.declared.request.Request.TheVariants.{AddTenant, Make, OpenGroup, ShutGroup, DropGroup, Say, Fetch}
 use Rattle.gb_types.specs.declared.spec.Spec.{Spec}
 use Rattle.gb_types.specs.declared.spec.TenantRow.{TenantRow}
 use Rattle.gb_node.specs.declared.answer.NodeAnswer.{NodeAnswer}
@@ -42,14 +45,18 @@ pub record FitsSpec (spec : Spec) : Type 0 where
 abbrev pub FitsMessage : NewMessage → Type 0
 FitsMessage message = IsBytes message.payload × ForSome message.seq IsLong
 
+abbrev pub FitsCommand : GroupCommand → Type 0
+FitsCommand (Make spec) = FitsSpec spec
+FitsCommand (Say message) = FitsMessage message
+FitsCommand (Fetch from most) = IsLong from × IsLong most
+FitsCommand command = Unit {0}
+
+abbrev pub FitsAction : Action → Type 0
+FitsAction (AddTenant row) = FitsRow row
+FitsAction (Group addr command) = FitsAddress addr × FitsCommand command
+
 abbrev pub FitsRequest : Request → Type 0
-FitsRequest (AddTenant token row) = IsBytes token × FitsRow row
-FitsRequest (Make token addr spec) = IsBytes token × FitsAddress addr × FitsSpec spec
-FitsRequest (OpenGroup token addr) = IsBytes token × FitsAddress addr
-FitsRequest (ShutGroup token addr) = IsBytes token × FitsAddress addr
-FitsRequest (DropGroup token addr) = IsBytes token × FitsAddress addr
-FitsRequest (Say token addr message) = IsBytes token × FitsAddress addr × FitsMessage message
-FitsRequest (Fetch token addr from most) = IsBytes token × FitsAddress addr × IsLong from × IsLong most
+FitsRequest request = IsBytes request.token × FitsAction request.what
 
 abbrev pub FitsEvent : NodeEvent → Type 0
 FitsEvent (Asked request) = FitsRequest request

@@ -7,8 +7,11 @@ use Rattle.gb_types.specs.ReplyText.{reply_spelling}
 use Rattle.gb_types.specs.declared.address.Addr.{Addr}
 use Rattle.gb_types.specs.declared.node.NodeId.{NodeId}
 use Rattle.gb_types.specs.declared.reply.Reply.TheVariants.{Refused}
+use Rattle.gb_types.specs.declared.request.Action.{Action}
+use Rattle.gb_types.specs.declared.request.Action.TheVariants.{AddTenant, Group}
+use Rattle.gb_types.specs.declared.request.GroupCommand.{GroupCommand}
+use Rattle.gb_types.specs.declared.request.GroupCommand.TheVariants.{Make, Open, Shut, Drop, Say, Fetch}
 use Rattle.gb_types.specs.declared.request.Request.{Request}
-use Rattle.gb_types.specs.declared.request.Request.TheVariants.{AddTenant, Make, OpenGroup, ShutGroup, DropGroup, Say, Fetch}
 use Rattle.gb_types.specs.declared.spec.Spec.{Spec}
 use Rattle.gb_types.specs.declared.spec.TenantRow.{TenantRow}
 use Rattle.gb_node.specs.declared.answer.NodeAnswer.{NodeAnswer}
@@ -63,15 +66,30 @@ seq_text (Some seq) = after_space (decimal seq)
 abbrev pub message_text : NewMessage → List ℕ
 message_text message = after_space (payload_word message.payload) ++ seq_text message.seq
 
--- a request as in a schedule, with the tenant's key and the token behind it
+-- the word that a command begins with
+abbrev pub command_head : GroupCommand → List ℕ
+command_head (Make spec) = codes "make"
+command_head Open = codes "open"
+command_head Shut = codes "shut"
+command_head Drop = codes "drop"
+command_head (Say message) = codes "say"
+command_head (Fetch from most) = codes "fetch"
+
+-- what a command has behind the group's address
+abbrev pub command_text : GroupCommand → List ℕ
+command_text (Make spec) = spec_text spec
+command_text (Say message) = message_text message
+command_text (Fetch from most) = after_space (decimal from) ++ after_space (decimal most)
+command_text command = []
+
+-- what a request asks, as in a schedule, with a tenant's key behind it
+abbrev pub action_text : NodeId → Action → List ℕ
+action_text b (AddTenant row) = codes "tenant" ++ row_text b row
+action_text b (Group addr command) = command_head command ++ address_text b addr ++ command_text command
+
+-- a request: what it asks, with the token behind it
 abbrev pub request_text : NodeId → Request → List ℕ
-request_text b (AddTenant token row) = codes "tenant" ++ row_text b row ++ token_text token
-request_text b (Make token addr spec) = codes "make" ++ address_text b addr ++ spec_text spec ++ token_text token
-request_text b (OpenGroup token addr) = codes "open" ++ address_text b addr ++ token_text token
-request_text b (ShutGroup token addr) = codes "shut" ++ address_text b addr ++ token_text token
-request_text b (DropGroup token addr) = codes "drop" ++ address_text b addr ++ token_text token
-request_text b (Say token addr message) = codes "say" ++ address_text b addr ++ message_text message ++ token_text token
-request_text b (Fetch token addr from most) = codes "fetch" ++ address_text b addr ++ after_space (decimal from) ++ after_space (decimal most) ++ token_text token
+request_text b request = action_text b request.what ++ token_text request.token
 
 -- an event: a request, `came B HEX`, or a step of a schedule
 abbrev pub event_text : NodeId → NodeEvent → List ℕ

@@ -5,11 +5,13 @@ ghost use Rattle.hex.specs.Hex.{IsBytes};
 ghost use Rattle.gb_types.specs.Laws.{FitsEntry as FitsLogEntry, FitsReply};
 ghost use Rattle.gb_types.specs.RequestWords.{IsLong};
 ghost use Rattle.gb_types.specs.Rising.{AreNodes};
-ghost use Rattle.gb_record_text.specs.Fits.{FitsAddress, FitsRow, FitsSpec, FitsMessage, FitsRequest, FitsEvent, FitsAnswer, FitsEntry, FitsHead};
+ghost use Rattle.gb_record_text.specs.Fits.{FitsAddress, FitsRow, FitsSpec, FitsMessage, FitsCommand, FitsAction, FitsRequest, FitsEvent, FitsAnswer, FitsEntry, FitsHead};
 
 use crate::head::RecordHead;
 use gb_node::{Good, NodeAnswer, NodeEvent, PacketAnswer, Sent, TapeEntry, Ticked};
-use gb_types::{Addr, Entry, NewMessage, NodeSet, Reply, Request, Spec, TenantRow};
+use gb_types::{
+    Action, Addr, Entry, GroupCommand, NewMessage, NodeSet, Reply, Request, Spec, TenantRow,
+};
 
 fn bytes_fit(bytes: &[u8])
     ensures { IsBytes bytes.now }
@@ -70,43 +72,37 @@ fn message_fits(message: &NewMessage)
     seq_fits(message.seq);
 }
 
-fn request_fits(request: &Request)
-    ensures { FitsRequest request.now }
+fn command_fits(command: &GroupCommand)
+    ensures { FitsCommand command.now }
 {
-    match request {
-        Request::AddTenant(token, row) => {
-            key_fits(token);
-            row_fits(row);
-        }
-        Request::Make(token, addr, spec) => {
-            key_fits(token);
-            address_fits(addr);
-            spec_fits(spec);
-        }
-        Request::OpenGroup(token, addr) => {
-            key_fits(token);
-            address_fits(addr);
-        }
-        Request::ShutGroup(token, addr) => {
-            key_fits(token);
-            address_fits(addr);
-        }
-        Request::DropGroup(token, addr) => {
-            key_fits(token);
-            address_fits(addr);
-        }
-        Request::Say(token, addr, message) => {
-            key_fits(token);
-            address_fits(addr);
-            message_fits(message);
-        }
-        Request::Fetch(token, addr, from, most) => {
-            key_fits(token);
-            address_fits(addr);
+    match command {
+        GroupCommand::Make(spec) => spec_fits(spec),
+        GroupCommand::Open | GroupCommand::Shut | GroupCommand::Drop => {}
+        GroupCommand::Say(message) => message_fits(message),
+        GroupCommand::Fetch(from, most) => {
             let _from = *from;
             let _most = *most;
         }
     }
+}
+
+fn action_fits(what: &Action)
+    ensures { FitsAction what.now }
+{
+    match what {
+        Action::AddTenant(row) => row_fits(row),
+        Action::Group(addr, command) => {
+            address_fits(addr);
+            command_fits(command);
+        }
+    }
+}
+
+fn request_fits(request: &Request)
+    ensures { FitsRequest request.now }
+{
+    key_fits(&request.token);
+    action_fits(&request.what);
 }
 
 fn event_fits(event: &NodeEvent)

@@ -9,15 +9,14 @@ use gb_frame::PacketFault;
 use gb_node::{
     Frame, Good, Halted, NodeAnswer, NodeEvent, PacketAnswer, PacketText, Sent, TapeEntry, Ticked,
 };
+use gb_types::command_words::{read_command, read_head};
 use gb_types::number::read_number;
 use gb_types::payload_word::read_payload;
-use gb_types::request_words::{
-    read_address, read_limits, read_message, read_spec, read_u16, read_u32,
-};
+use gb_types::request_words::{read_address, read_limits, read_u16, read_u32};
 use gb_types::token_word::read_token;
 use gb_types::words::split_words;
 use gb_types::{
-    Addr, Entries, Entry, NodeId, NodeSet, OutOfMemory, Refusal, Reply, Request, TenantRow,
+    Action, Entries, Entry, NodeId, NodeSet, OutOfMemory, Refusal, Reply, Request, TenantRow,
 };
 use std::alloc::Global;
 
@@ -37,113 +36,57 @@ pub(crate) fn read_node(word: &[u8]) -> Option<NodeId> {
     Some(NodeId::new(number as u8))
 }
 
-// Returns the node and the group that `A T G` name.
-fn read_group(words: &[&[u8]]) -> Option<(NodeId, Addr)> {
-    let [node, tenant, group] = words else {
-        return None;
-    };
-    let node = read_node(node)?;
-    let addr = read_address(tenant, group)?;
-    Some((node, addr))
-}
-
-fn read_tenant(token: [u8; 32], words: &[&[u8]]) -> Option<(NodeId, Request)> {
-    let [node, tenant, groups, msgs, bytes, window, key_head, key] = words else {
+// Returns the tenant whose row the words behind the node spell.
+fn read_row(words: &[&[u8]]) -> Option<TenantRow> {
+    let [tenant, groups, msgs, bytes, window, key_head, key] = words else {
         return None;
     };
     if **key_head != *b"key".as_slice() {
         return None;
     }
-    let node = read_node(node)?;
     let (msgs, bytes, window) = read_limits(msgs, bytes, window)?;
-    let row = TenantRow {
+    Some(TenantRow {
         tenant: read_u16(tenant)?,
         key: read_token(key)?,
         groups: read_u32(groups)?,
         msgs,
         bytes,
         window,
-    };
-    Some((node, Request::AddTenant(token, row)))
+    })
 }
 
-fn read_make(token: [u8; 32], words: &[&[u8]]) -> Option<(NodeId, Request)> {
-    let [node, tenant, group, spec @ ..] = words else {
-        return None;
-    };
-    let node = read_node(node)?;
-    let addr = read_address(tenant, group)?;
-    let spec = read_spec(spec)?;
-    Some((node, Request::Make(token, addr, spec)))
-}
-
-fn read_say(
-    alloc: Global,
-    token: [u8; 32],
-    words: &[&[u8]],
-) -> Result<Option<(NodeId, Request)>, OutOfMemory> {
-    let [node, tenant, group, message @ ..] = words else {
-        return Ok(None);
-    };
-    let (Some(node), Some(addr)) = (read_node(node), read_address(tenant, group)) else {
-        return Ok(None);
-    };
-    match read_message(alloc, message)? {
-        Some(message) => Ok(Some((node, Request::Say(token, addr, message)))),
-        None => Ok(None),
+// Returns what a request with this head asks. The words are those behind its node.
+fn read_action(alloc: Global, head: &[u8], words: &[&[u8]]) -> Result<Option<Action>, OutOfMemory> {
+    if head == b"tenant".as_slice() {
+        return Ok(read_row(words).map(|row| Action::AddTenant(row)));
     }
-}
-
-fn read_fetch(token: [u8; 32], words: &[&[u8]]) -> Option<(NodeId, Request)> {
-    let [group @ .., from, most] = words else {
-        return None;
+    let [tenant, group, words @ ..] = words else {
+        return Ok(None);
     };
-    let (node, addr) = read_group(group)?;
-    let from = read_u32(from)?;
-    let most = read_u32(most)?;
-    Some((node, Request::Fetch(token, addr, from, most)))
+    let (Some(head), Some(addr)) = (read_head(head), read_address(tenant, group)) else {
+        return Ok(None);
+    };
+    let command = read_command(alloc, head, words)?;
+    Ok(command.map(|command| Action::Group(addr, command)))
 }
 
-// Returns the request with this head. The last two of the words behind it are `by TOKEN`.
+// Returns the request with this head, and its node, which is the first of the words behind it. The last two of them are `by TOKEN`.
 fn read_request(
     alloc: Global,
     head: &[u8],
     words: &[&[u8]],
 ) -> Result<Option<(NodeId, Request)>, OutOfMemory> {
-    let [words @ .., by, token] = words else {
+    let [node, words @ .., by, token] = words else {
         return Ok(None);
     };
-    let Some(token) = read_token(token) else {
+    let (Some(node), Some(token)) = (read_node(node), read_token(token)) else {
         return Ok(None);
     };
     if *by != b"by".as_slice() {
         return Ok(None);
     }
-    if head == b"say".as_slice() {
-        return read_say(alloc, token, words);
-    }
-    if head == b"tenant".as_slice() {
-        return Ok(read_tenant(token, words));
-    }
-    if head == b"make".as_slice() {
-        return Ok(read_make(token, words));
-    }
-    if head == b"fetch".as_slice() {
-        return Ok(read_fetch(token, words));
-    }
-    let Some((node, addr)) = read_group(words) else {
-        return Ok(None);
-    };
-    if head == b"open".as_slice() {
-        return Ok(Some((node, Request::OpenGroup(token, addr))));
-    }
-    if head == b"shut".as_slice() {
-        return Ok(Some((node, Request::ShutGroup(token, addr))));
-    }
-    if head == b"drop".as_slice() {
-        return Ok(Some((node, Request::DropGroup(token, addr))));
-    }
-    Ok(None)
+    let what = read_action(alloc, head, words)?;
+    Ok(what.map(|what| (node, Request { token, what })))
 }
 
 // Returns the step with this head: one between nodes, or one of a node.

@@ -4,7 +4,7 @@ ghost use Rattle.hex.specs.Hex.{encode_lower};
 ghost use Rattle.gb_types.specs.MembersWord.{members_word};
 ghost use Rattle.gb_types.specs.RequestWords.{group_word};
 ghost use Rattle.gb_types.specs.Rising.{rising, rising_from};
-ghost use Rattle.gb_record_text.specs.RecordText.{after_space, address_text, token_text, limits_text, row_text, spec_text, message_text, each_after_comma, request_text, event_text, taken_text, sent_text, answer_text, entry_line};
+ghost use Rattle.gb_record_text.specs.RecordText.{after_space, address_text, token_text, limits_text, row_text, spec_text, message_text, each_after_comma, command_head, command_text, action_text, request_text, event_text, taken_text, sent_text, answer_text, entry_line};
 
 use crate::digits::{put_digits, put_payload};
 use crate::log::put_reply;
@@ -13,7 +13,9 @@ use gb_simulate::answer_text::{put_halted, put_packet, put_refusal, put_ticked};
 use gb_types::kind_word::word_of;
 use gb_types::memory::put_bytes;
 use gb_types::number::put_number;
-use gb_types::{Addr, NewMessage, NodeId, NodeSet, OutOfMemory, Request, Spec, TenantRow};
+use gb_types::{
+    Action, Addr, GroupCommand, NewMessage, NodeId, NodeSet, OutOfMemory, Request, Spec, TenantRow,
+};
 
 /// Appends bytes.
 fn put(out: &mut Vec<u8>, bytes: &[u8]) -> Result<(), OutOfMemory>
@@ -137,54 +139,58 @@ fn put_message(out: &mut Vec<u8>, message: &NewMessage) -> Result<(), OutOfMemor
     }
 }
 
-/// Appends a request of a group by its address alone.
-fn put_named(
-    out: &mut Vec<u8>,
-    head: &[u8],
-    node: NodeId,
-    token: &[u8; 32],
-    addr: &Addr,
-) -> Result<(), OutOfMemory>
-    ensures { OnOk result (out.new.items ≡ out.old.items ++ (head.now ++ address_text node addr.now ++ token_text token.now)) }
+/// Returns the word that a command begins with.
+fn head_of(command: &GroupCommand) -> &'static [u8]
+    ensures { result.now ≡ command_head command.now }
 {
-    put_bytes(out, head)?;
-    put_address(out, node, addr)?;
-    put_token(out, token)
+    match command {
+        GroupCommand::Make(_) => b"make",
+        GroupCommand::Open => b"open",
+        GroupCommand::Shut => b"shut",
+        GroupCommand::Drop => b"drop",
+        GroupCommand::Say(_) => b"say",
+        GroupCommand::Fetch(_, _) => b"fetch",
+    }
+}
+
+/// Appends what a command has behind the group's address.
+fn put_command(out: &mut Vec<u8>, command: &GroupCommand) -> Result<(), OutOfMemory>
+    ensures { OnOk result (out.new.items ≡ out.old.items ++ command_text command.now) }
+{
+    match command {
+        GroupCommand::Make(spec) => put_spec(out, spec),
+        GroupCommand::Open | GroupCommand::Shut | GroupCommand::Drop => Ok(()),
+        GroupCommand::Say(message) => put_message(out, message),
+        GroupCommand::Fetch(from, most) => {
+            put_after(out, u64::from(*from))?;
+            put_after(out, u64::from(*most))
+        }
+    }
+}
+
+/// Appends what a request asks of a node.
+fn put_action(out: &mut Vec<u8>, node: NodeId, what: &Action) -> Result<(), OutOfMemory>
+    ensures { OnOk result (out.new.items ≡ out.old.items ++ action_text node what.now) }
+{
+    match what {
+        Action::AddTenant(row) => {
+            put_bytes(out, b"tenant")?;
+            put_row(out, node, row)
+        }
+        Action::Group(addr, command) => {
+            put_bytes(out, head_of(command))?;
+            put_address(out, node, addr)?;
+            put_command(out, command)
+        }
+    }
 }
 
 /// Appends a request.
 pub fn put_request(out: &mut Vec<u8>, node: NodeId, request: &Request) -> Result<(), OutOfMemory>
     ensures { OnOk result (out.new.items ≡ out.old.items ++ request_text node request.now) }
 {
-    match request {
-        Request::AddTenant(token, row) => {
-            put_bytes(out, b"tenant")?;
-            put_row(out, node, row)?;
-            put_token(out, token)
-        }
-        Request::Make(token, addr, spec) => {
-            put_bytes(out, b"make")?;
-            put_address(out, node, addr)?;
-            put_spec(out, spec)?;
-            put_token(out, token)
-        }
-        Request::OpenGroup(token, addr) => put_named(out, b"open", node, token, addr),
-        Request::ShutGroup(token, addr) => put_named(out, b"shut", node, token, addr),
-        Request::DropGroup(token, addr) => put_named(out, b"drop", node, token, addr),
-        Request::Say(token, addr, message) => {
-            put_bytes(out, b"say")?;
-            put_address(out, node, addr)?;
-            put_message(out, message)?;
-            put_token(out, token)
-        }
-        Request::Fetch(token, addr, from, most) => {
-            put_bytes(out, b"fetch")?;
-            put_address(out, node, addr)?;
-            put_after(out, u64::from(*from))?;
-            put_after(out, u64::from(*most))?;
-            put_token(out, token)
-        }
-    }
+    put_action(out, node, &request.what)?;
+    put_token(out, &request.token)
 }
 
 /// Appends a head and the numbers of two nodes.

@@ -5,7 +5,8 @@ use Rattle.std.proofs.Math.Seq.{take-length}
 use Rattle.std.proofs.lemmas.List.{take_more}
 use Rattle.gb_types.specs.declared.node.NodeId.{NodeId}
 use Rattle.gb_types.specs.declared.reply.Reply.{Reply}
-use Rattle.gb_types.specs.declared.request.Request.TheVariants.{AddTenant, Make, OpenGroup, ShutGroup, DropGroup, Say, Fetch}
+use Rattle.gb_types.specs.declared.request.Action.{Action}
+use Rattle.gb_types.specs.declared.request.Action.TheVariants.{AddTenant, Group}
 use Rattle.gb_types.specs.declared.spec.TenantRow.{TenantRow}
 use Rattle.gb_types.specs.Rising.{rising}
 use Rattle.gb_frame.specs.declared.fault.PacketFault.{PacketFault}
@@ -13,7 +14,7 @@ use Rattle.gb_frame.specs.declared.item.Item.{Item}
 use Rattle.gb_frame.specs.Packet.{Content}
 use Rattle.gb_detect.specs.Watch.{due, after_tick}
 use Rattle.gb_table.specs.TableValue.{TableValue}
-use Rattle.gb_table.specs.Requests.{table_reply}
+use Rattle.gb_table.specs.Requests.{TakesMemory, table_reply}
 use Rattle.gb_node.specs.NodeStep.{Turn, turn, running_turn, stopped_answer, heard, took_ack, took_frame, node_took, node_read, read_at, newly_done, without_done, window_to, receiver_from, receives, node_numbered, next_batch, sent_batch, node_did, IsTurn, IsStarved, IsSpelt}
 use Rattle.gb_node.specs.NodeValue.{NodeValue}
 use Rattle.gb_node.specs.Past.{Happened, ComesTo, added, tenants_in}
@@ -25,9 +26,9 @@ use Rattle.gb_node.specs.declared.event.NodeEvent.{NodeEvent}
 use Rattle.gb_node.specs.declared.event.NodeEvent.TheVariants.{Request as Asked, Packet as Came, Pack, Again, Ack, Tick, Stop}
 use Rattle.gb_node.specs.declared.plan.NodePlan.{NodePlan}
 use Rattle.gb_node.specs.declared.tape.TapeEntry.{TapeEntry}
-use Rattle.gb_redact.specs.Redacted.{redacted_event, redacted_entry, rows_in, AreRedacted}
+use Rattle.gb_redact.specs.Redacted.{redacted_action, redacted_event, redacted_entry, rows_in, AreRedacted}
 use Rattle.gb_redact.specs.Pasts.{happened, past_of, redacted_node, redacted_plan, StaysDenied, StayDenied, RedactedAreATape}
-use Rattle.gb_redact.proofs.TableLemmas.{redacted_at, frames_done_blind, frame_blind, notice_blind, table_reply_same, did_same}
+use Rattle.gb_redact.proofs.TableLemmas.{frames_done_blind, frame_blind, notice_blind, table_reply_same, did_same}
 use Rattle.gb_redact.proofs.TokenLemmas.{rows_more}
 
 -- a turn with redacted keys
@@ -61,10 +62,10 @@ batch_same b (Some items) v = refl
 running_same : (event : NodeEvent) (v : NodeValue) → StaysDenied v.table.admin_key v.table.me v.table.tenants event
     → running_turn (redacted_node v) (redacted_event v.table.admin_key v.table.me v.table.tenants event) ≡ redacted_turn (running_turn v event)
 running_same (Asked request) v stays =
-    let turn_of = λ (reply : Reply). let u : Turn = record { value = node_did (redacted_at v.table request) reply (redacted_node v); answer = Replied reply } in u in
+    let turn_of = λ (reply : Reply). let u : Turn = record { value = node_did reply (redacted_action request.what) (redacted_node v); answer = Replied reply } in u in
     let reply = table_reply request v.table in
     let after = λ (t : TableValue). let u : Turn = record { value = record v { table = t }; answer = Replied reply } in u in
-    ap turn_of (table_reply_same request v.table stays) ∙ ap after (did_same v.watch.noticed request reply v.table)
+    ap turn_of (table_reply_same request v.table stays) ∙ ap after (did_same v.watch.noticed reply request.what v.table)
 running_same (Came bytes) v stays = ap (λ (w : NodeValue). let u : Turn = record (running_turn v (Came bytes)) { value = w } in u) (read_same (read_at v bytes) v)
 running_same (Pack b) v stays = ap (λ (w : NodeValue). let u : Turn = record (running_turn v (Pack b)) { value = w } in u) (batch_same b (next_batch v b) v)
 running_same (Again b n) v stays = refl
@@ -101,14 +102,12 @@ turn_same event v stays = by v.stopped
     by true = ap halted (stopped_same v.table.admin_key v.table.me v.table.tenants event)
     by false = running_same event v stays
 
+takes_same : (what : Action) (should : Reply) → TakesMemory what should → TakesMemory (redacted_action what) should
+takes_same (AddTenant row) should h = h
+takes_same (Group addr command) should h = h
+
 starved_same : (admin : List ℕ) (me : NodeId) (rows : List TenantRow) (event : NodeEvent) (should answer : NodeAnswer) → IsStarved event should answer → IsStarved (redacted_event admin me rows event) should answer
-starved_same admin me rows (Asked (AddTenant token row)) should answer h = h
-starved_same admin me rows (Asked (Make token addr spec)) should answer h = h
-starved_same admin me rows (Asked (OpenGroup token addr)) should answer h = h
-starved_same admin me rows (Asked (ShutGroup token addr)) should answer h = h
-starved_same admin me rows (Asked (DropGroup token addr)) should answer h = h
-starved_same admin me rows (Asked (Say token addr message)) should answer h = h
-starved_same admin me rows (Asked (Fetch token addr from most)) should answer h = h
+starved_same admin me rows (Asked request) (Replied should) answer h = (h.0, takes_same request.what should h.1)
 starved_same admin me rows event should answer h = h
 
 turned_same : (v w : NodeValue) (event : NodeEvent) (answer : NodeAnswer) → StaysAt v event → IsTurn v event answer w → IsTurn (redacted_node v) (event_at v event) answer (redacted_node w)

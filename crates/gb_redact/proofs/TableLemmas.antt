@@ -8,9 +8,11 @@ use Rattle.gb_types.specs.declared.limits.TheConstants.{NODES}
 use Rattle.gb_types.specs.declared.node.NodeId.{NodeId}
 use Rattle.gb_types.specs.declared.refusal.Refusal.TheVariants.{Denied}
 use Rattle.gb_types.specs.declared.reply.Reply.{Reply}
-use Rattle.gb_types.specs.declared.reply.Reply.TheVariants.{Done, Said, Refused}
+use Rattle.gb_types.specs.declared.reply.Reply.TheVariants.{Done, Said, Log, Refused}
+use Rattle.gb_types.specs.declared.request.Action.{Action}
+use Rattle.gb_types.specs.declared.request.Action.TheVariants.{AddTenant, Group}
+use Rattle.gb_types.specs.declared.request.GroupCommand.TheVariants.{Make}
 use Rattle.gb_types.specs.declared.request.Request.{Request}
-use Rattle.gb_types.specs.declared.request.Request.TheVariants.{AddTenant, Make, OpenGroup, ShutGroup, DropGroup, Say, Fetch}
 use Rattle.gb_types.specs.declared.spec.TenantRow.{TenantRow}
 use Rattle.gb_types.specs.Entry.{message_of}
 use Rattle.gb_frame.specs.Items.{address_of, entry_of}
@@ -25,7 +27,7 @@ use Rattle.gb_table.specs.Requests.{is_admitted, admitted_reply, table_reply, ta
 use Rattle.gb_table.specs.TableValue.{TableValue, reserve_for, table_done, table_noticed}
 use Rattle.gb_node.specs.declared.event.NodeEvent.TheVariants.{Request as Asked}
 use Rattle.gb_node.specs.NodeStep.{item_done, frame_done, item_comes, items_come, frame_comes, notice_each, node_numbered}
-use Rattle.gb_redact.specs.Redacted.{redacted_row, redacted_request}
+use Rattle.gb_redact.specs.Redacted.{redacted_row, redacted_action, redacted_request}
 use Rattle.gb_redact.specs.Pasts.{redacted_table, StaysDenied}
 use Rattle.gb_redact.proofs.TokenLemmas.{right_so, row_redacted}
 
@@ -88,15 +90,11 @@ reserve_same tenant t = ap (λ (o : Option TenantRow). option_map reserve_of o) 
 abbrev pub redacted_at : TableValue → Request → Request
 redacted_at t request = redacted_request t.admin_key t.me t.tenants request
 
-reply_same : (request : Request) (t : TableValue) → admitted_reply (redacted_at t request) (redacted_table t) ≡ admitted_reply request t
-reply_same (AddTenant token row) t = ap₂ (λ (n : ℕ) (b : Bool). tenant_answer t.places n b row) (reserved_from 0 t.tenants) (there_same row.tenant t.tenants)
-reply_same (Make token addr spec) t =
+reply_same : (what : Action) (t : TableValue) → admitted_reply (redacted_action what) (redacted_table t) ≡ admitted_reply what t
+reply_same (AddTenant row) t = ap₂ (λ (n : ℕ) (b : Bool). tenant_answer t.places n b row) (reserved_from 0 t.tenants) (there_same row.tenant t.tenants)
+reply_same (Group addr (Make spec)) t =
     ap (by_tenant (make_answer t.version t.nodes t.me.number addr (is_some (group_in addr t.groups)) (others_living addr t.groups.rows) spec)) (reserve_same addr.tenant t)
-reply_same (OpenGroup token addr) t = refl
-reply_same (ShutGroup token addr) t = refl
-reply_same (DropGroup token addr) t = refl
-reply_same (Say token addr message) t = refl
-reply_same (Fetch token addr from most) t = refl
+reply_same (Group addr command) t = refl
 
 admitted_same : (request : Request) (t : TableValue) → StaysDenied t.admin_key t.me t.tenants (Asked request) → is_admitted (redacted_at t request) (redacted_table t) ≡ is_admitted request t
 admitted_same request t stays = by (is_admitted request t) refl
@@ -106,14 +104,13 @@ admitted_same request t stays = by (is_admitted request t) refl
     by false is = stays is ∙ sym is
 
 pub table_reply_same : (request : Request) (t : TableValue) → StaysDenied t.admin_key t.me t.tenants (Asked request) → table_reply (redacted_at t request) (redacted_table t) ≡ table_reply request t
-table_reply_same request t stays = ap₂ (λ (b : Bool) (r : Reply). if b then r else Refused Denied) (admitted_same request t stays) (reply_same request t)
+table_reply_same request t stays = ap₂ (λ (b : Bool) (r : Reply). if b then r else Refused Denied) (admitted_same request t stays) (reply_same request.what t)
 
 -- what a request changes
-pub did_same : (noticed : set.FinSet nat_cmp) (request : Request) (reply : Reply) (t : TableValue) → table_did noticed (redacted_at t request) reply (redacted_table t) ≡ redacted_table (table_did noticed request reply t)
-did_same noticed (AddTenant token row) Done t = ap (λ (rows : List TenantRow). record (redacted_table t) { tenants = rows }) (sym (map-append redacted_row t.tenants (row ∷ [])))
-did_same noticed (Make token addr spec) Done t = refl
-did_same noticed (OpenGroup token addr) Done t = refl
-did_same noticed (ShutGroup token addr) Done t = refl
-did_same noticed (DropGroup token addr) Done t = refl
-did_same noticed (Say token addr message) (Said seq) t = refl
-did_same noticed request reply t = refl
+pub did_same : (noticed : set.FinSet nat_cmp) (reply : Reply) (what : Action) (t : TableValue) → table_did noticed reply (redacted_action what) (redacted_table t) ≡ redacted_table (table_did noticed reply what t)
+did_same noticed Done (AddTenant row) t = ap (λ (rows : List TenantRow). record (redacted_table t) { tenants = rows }) (sym (map-append redacted_row t.tenants (row ∷ [])))
+did_same noticed Done (Group addr command) t = refl
+did_same noticed (Said seq) (AddTenant row) t = refl
+did_same noticed (Said seq) (Group addr command) t = refl
+did_same noticed (Log entries) what t = refl
+did_same noticed (Refused why) what t = refl

@@ -5,21 +5,23 @@ use Rattle.std.proofs.lemmas.Slice.Eq.{bytes_eq-Decides}
 use Rattle.std.proofs.lemmas.Grind.{flat_map-append}
 use Rattle.std.proofs.lemmas.List.{append-nil, ext_get_or, take_more}
 use Rattle.gb_types.specs.declared.node.NodeId.{NodeId}
+use Rattle.gb_types.specs.declared.request.Action.{Action}
+use Rattle.gb_types.specs.declared.request.Action.TheVariants.{AddTenant, Group}
 use Rattle.gb_types.specs.declared.request.Request.{Request}
-use Rattle.gb_types.specs.declared.request.Request.TheVariants.{AddTenant, Make, OpenGroup, ShutGroup, DropGroup, Say, Fetch}
 use Rattle.gb_types.specs.declared.spec.TenantRow.{TenantRow}
 use Rattle.gb_cap.specs.Token.{token_of}
 use Rattle.gb_cap.specs.declared.token.Need.{Need}
-use Rattle.gb_cap.specs.declared.token.Need.TheVariants.{Admin, Tenant, Member}
+use Rattle.gb_cap.specs.declared.token.Need.TheVariants.{Admin}
 use Rattle.gb_rules.specs.Tenant.{row_of}
-use Rattle.gb_table.specs.Admission.{is_token, is_by_row, has_token}
+use Rattle.gb_table.specs.Admission.{is_token, is_by_row, command_need, has_token}
 use Rattle.gb_node.specs.Past.{added}
 use Rattle.gb_node.specs.declared.answer.NodeAnswer.{NodeAnswer}
+use Rattle.gb_node.specs.declared.answer.NodeAnswer.TheVariants.{Reply as Replied}
 use Rattle.gb_node.specs.declared.event.NodeEvent.{NodeEvent}
 use Rattle.gb_node.specs.declared.event.NodeEvent.TheVariants.{Request as Asked, Packet as Came, Pack, Again, Ack, Tick, Stop}
 use Rattle.gb_node.specs.declared.tape.TapeEntry.{TapeEntry}
 use Rattle.gb_redact.specs.Laws.{with_token, IsDenied, event_with, AreBothDenied, AreAlike, RightStayRight, DeniedLeaveNothing}
-use Rattle.gb_redact.specs.Redacted.{redacted_key, redacted_row, no_token, redacted_token, rows_in, redacted_request, redacted_event, redacted_entry, AreRedacted}
+use Rattle.gb_redact.specs.Redacted.{redacted_key, redacted_row, no_token, redacted_token, rows_in, token_for, redacted_action, redacted_request, redacted_event, redacted_entry, AreRedacted}
 
 -- a token that is made for a need is the one for it
 own : (key : List ℕ) (need : Need) → is_token key need (token_of key need) ≡ true
@@ -51,13 +53,12 @@ right_row need token tenant rows fits =
     by (Some row) fits = right_key need row.key token fits
 
 pub right_so : RightStayRight
-right_so admin me rows (AddTenant token row) fits = right_key Admin admin token fits
-right_so admin me rows (Make token addr spec) fits = right_row (Tenant addr.tenant) token addr.tenant rows fits
-right_so admin me rows (OpenGroup token addr) fits = right_row (Tenant addr.tenant) token addr.tenant rows fits
-right_so admin me rows (ShutGroup token addr) fits = right_row (Tenant addr.tenant) token addr.tenant rows fits
-right_so admin me rows (DropGroup token addr) fits = right_row (Tenant addr.tenant) token addr.tenant rows fits
-right_so admin me rows (Say token addr message) fits = right_row (Member addr.tenant addr.group me) token addr.tenant rows fits
-right_so admin me rows (Fetch token addr from most) fits = right_row (Member addr.tenant addr.group me) token addr.tenant rows fits
+right_so admin me rows request fits = by request.what fits
+  where
+    by : (what : Action) → has_token admin me rows (record { token = request.token; what = what }) ≡ true
+        → has_token (redacted_key admin) me (map redacted_row rows) (redacted_request admin me rows (record { token = request.token; what = what })) ≡ true
+    by (AddTenant row) fits = right_key Admin admin request.token fits
+    by (Group addr command) fits = right_row (command_need me addr command) request.token addr.tenant rows fits
 
 -- a token that does not admit becomes none
 wrong_key : (need : Need) (key token : List ℕ) → is_token key need token ≡ false → redacted_token need (Some key) token ≡ no_token
@@ -67,34 +68,21 @@ wrong_row : (need : Need) (token : List ℕ) (o : Option TenantRow) → is_by_ro
 wrong_row need token None lacks = refl
 wrong_row need token (Some row) lacks = wrong_key need row.key token lacks
 
+wrong_token : (admin : List ℕ) (me : NodeId) (rows : List TenantRow) (what : Action) (token : List ℕ) → has_token admin me rows (record { token = token; what = what }) ≡ false → token_for admin me rows what token ≡ no_token
+wrong_token admin me rows (AddTenant row) token lacks = wrong_key Admin admin token lacks
+wrong_token admin me rows (Group addr command) token lacks = wrong_row (command_need me addr command) token (row_of addr.tenant rows) lacks
+
 -- a request that is denied
 abbrev pub denied : Request → Request
-denied (AddTenant token row) = AddTenant no_token (redacted_row row)
-denied request = with_token no_token request
+denied request = record { token = no_token; what = redacted_action request.what }
 
 denied_is : (admin : List ℕ) (me : NodeId) (rows : List TenantRow) (request : Request) → has_token admin me rows request ≡ false → redacted_request admin me rows request ≡ denied request
-denied_is admin me rows (AddTenant token row) lacks = ap (λ t. AddTenant t (redacted_row row)) (wrong_key Admin admin token lacks)
-denied_is admin me rows (Make token addr spec) lacks = ap (λ t. Make t addr spec) (wrong_row (Tenant addr.tenant) token (row_of addr.tenant rows) lacks)
-denied_is admin me rows (OpenGroup token addr) lacks = ap (λ t. OpenGroup t addr) (wrong_row (Tenant addr.tenant) token (row_of addr.tenant rows) lacks)
-denied_is admin me rows (ShutGroup token addr) lacks = ap (λ t. ShutGroup t addr) (wrong_row (Tenant addr.tenant) token (row_of addr.tenant rows) lacks)
-denied_is admin me rows (DropGroup token addr) lacks = ap (λ t. DropGroup t addr) (wrong_row (Tenant addr.tenant) token (row_of addr.tenant rows) lacks)
-denied_is admin me rows (Say token addr message) lacks = ap (λ t. Say t addr message) (wrong_row (Member addr.tenant addr.group me) token (row_of addr.tenant rows) lacks)
-denied_is admin me rows (Fetch token addr from most) lacks = ap (λ t. Fetch t addr from most) (wrong_row (Member addr.tenant addr.group me) token (row_of addr.tenant rows) lacks)
-
--- it is denied whatever its token
-denied_with : (token : List ℕ) (request : Request) → denied (with_token token request) ≡ denied request
-denied_with token (AddTenant old row) = refl
-denied_with token (Make old addr spec) = refl
-denied_with token (OpenGroup old addr) = refl
-denied_with token (ShutGroup old addr) = refl
-denied_with token (DropGroup old addr) = refl
-denied_with token (Say old addr message) = refl
-denied_with token (Fetch old addr from most) = refl
+denied_is admin me rows request lacks = ap (λ token. record (denied request) { token = token }) (wrong_token admin me rows request.what request.token lacks)
 
 event_same : (admin : List ℕ) (me : NodeId) (rows : List TenantRow) (token : List ℕ) (event : NodeEvent) → IsDenied admin me rows (event_with token event) → IsDenied admin me rows event
     → redacted_event admin me rows (event_with token event) ≡ redacted_event admin me rows event
 event_same admin me rows token (Asked request) first second =
-    ap Asked (denied_is admin me rows (with_token token request) first ∙ (denied_with token request ∙ sym (denied_is admin me rows request second)))
+    ap Asked (denied_is admin me rows (with_token token request) first ∙ sym (denied_is admin me rows request second))
 event_same admin me rows token (Came bytes) first second = refl
 event_same admin me rows token (Pack to) first second = refl
 event_same admin me rows token (Again to frame) first second = refl
@@ -104,19 +92,8 @@ event_same admin me rows token Stop first second = refl
 
 -- no token changes what is added
 added_with : (token : List ℕ) (event : NodeEvent) (answer : NodeAnswer) → added (event_with token event) answer ≡ added event answer
-added_with token (Asked (AddTenant old row)) answer = refl
-added_with token (Asked (Make old addr spec)) answer = refl
-added_with token (Asked (OpenGroup old addr)) answer = refl
-added_with token (Asked (ShutGroup old addr)) answer = refl
-added_with token (Asked (DropGroup old addr)) answer = refl
-added_with token (Asked (Say old addr message)) answer = refl
-added_with token (Asked (Fetch old addr from most)) answer = refl
-added_with token (Came bytes) answer = refl
-added_with token (Pack to) answer = refl
-added_with token (Again to frame) answer = refl
-added_with token (Ack to) answer = refl
-added_with token Tick answer = refl
-added_with token Stop answer = refl
+added_with token (Asked request) (Replied reply) = refl
+added_with token event answer = refl
 
 abbrev pub added_by : TapeEntry → List TenantRow
 added_by e = added e.event e.answer

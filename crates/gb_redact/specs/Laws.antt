@@ -1,8 +1,9 @@
 -- What redaction keeps of entries, and what it leaves out.
 use Rattle.std.specs.Prelude.{◌≡◌, ◌⊎◌, ℕ, ◌<◌, true, false, List, length, take, get_or, map}
 use Rattle.gb_types.specs.declared.node.NodeId.{NodeId}
+use Rattle.gb_types.specs.declared.request.Action.{Action}
+use Rattle.gb_types.specs.declared.request.Action.TheVariants.{AddTenant, Group}
 use Rattle.gb_types.specs.declared.request.Request.{Request}
-use Rattle.gb_types.specs.declared.request.Request.TheVariants.{AddTenant, Make, OpenGroup, ShutGroup, DropGroup, Say, Fetch}
 use Rattle.gb_types.specs.declared.spec.TenantRow.{TenantRow}
 use Rattle.gb_table.specs.Admission.{has_token}
 use Rattle.gb_node.specs.declared.event.NodeEvent.{NodeEvent}
@@ -12,22 +13,16 @@ use Rattle.gb_redact.specs.Redacted.{redacted_key, redacted_row, no_token, rows_
 
 -- the request with this token
 abbrev pub with_token : List ℕ → Request → Request
-with_token token (AddTenant old row) = AddTenant token row
-with_token token (Make old addr spec) = Make token addr spec
-with_token token (OpenGroup old addr) = OpenGroup token addr
-with_token token (ShutGroup old addr) = ShutGroup token addr
-with_token token (DropGroup old addr) = DropGroup token addr
-with_token token (Say old addr message) = Say token addr message
-with_token token (Fetch old addr from most) = Fetch token addr from most
+with_token token request = record request { token = token }
 
--- the request without a tenant's key
-abbrev pub without_key : Request → Request
-without_key (AddTenant token row) = AddTenant token (record row { key = no_token })
-without_key request = request
+-- what a request asks, without a tenant's key
+abbrev pub without_key : Action → Action
+without_key (AddTenant row) = AddTenant (record row { key = no_token })
+without_key (Group addr command) = Group addr command
 
 -- the event with nothing in the place of a token and of a key
 abbrev pub bare : NodeEvent → NodeEvent
-bare (Asked request) = Asked (without_key (with_token no_token request))
+bare (Asked request) = Asked (record { token = no_token; what = without_key request.what })
 bare event = event
 
 -- the entry is the other one, but for a token and a key

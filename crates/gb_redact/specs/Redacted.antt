@@ -1,17 +1,17 @@
 -- The entries of a node's record without what lets a reader act for others: the tenants' keys and the tokens.
 use Rattle.std.specs.Prelude.{◌≡◌, ℕ, ◌<◌, List, length, take, get_or, codes, replicate, Option, Some, None, option_map, if◌then◌else◌}
 use Rattle.std.specs.List.{flat_map}
-use Rattle.gb_types.specs.declared.address.Addr.{Addr}
 use Rattle.gb_types.specs.declared.node.NodeId.{NodeId}
+use Rattle.gb_types.specs.declared.request.Action.{Action}
+use Rattle.gb_types.specs.declared.request.Action.TheVariants.{AddTenant, Group}
 use Rattle.gb_types.specs.declared.request.Request.{Request}
-use Rattle.gb_types.specs.declared.request.Request.TheVariants.{AddTenant, Make, OpenGroup, ShutGroup, DropGroup, Say, Fetch}
 use Rattle.gb_types.specs.declared.spec.TenantRow.{TenantRow}
 use Rattle.gb_cap.specs.Hmac.{hmac_of}
 use Rattle.gb_cap.specs.Token.{token_of}
 use Rattle.gb_cap.specs.declared.token.Need.{Need}
-use Rattle.gb_cap.specs.declared.token.Need.TheVariants.{Admin, Tenant, Member}
+use Rattle.gb_cap.specs.declared.token.Need.TheVariants.{Admin}
 use Rattle.gb_rules.specs.Tenant.{row_of}
-use Rattle.gb_table.specs.Admission.{is_token}
+use Rattle.gb_table.specs.Admission.{is_token, command_need}
 use Rattle.gb_node.specs.Past.{added}
 use Rattle.gb_node.specs.declared.event.NodeEvent.{NodeEvent}
 use Rattle.gb_node.specs.declared.event.NodeEvent.TheVariants.{Request as Asked}
@@ -43,22 +43,19 @@ rows_in entries = flat_map (λ (e : TapeEntry). added e.event e.answer) entries
 abbrev pub key_in : List TenantRow → ℕ → Option (List ℕ)
 key_in rows tenant = option_map (λ (row : TenantRow). row.key) (row_of tenant rows)
 
--- what stands for the token of a group's tenant, and for that of its member at this node
-abbrev pub tenant_token : List TenantRow → Addr → List ℕ → List ℕ
-tenant_token rows addr token = redacted_token (Tenant addr.tenant) (key_in rows addr.tenant) token
+-- What stands for a token that came with a request for this, at the node `me` with these tenants. `admin` is the key of the administrator's token.
+abbrev pub token_for : List ℕ → NodeId → List TenantRow → Action → List ℕ → List ℕ
+token_for admin me rows (AddTenant row) token = redacted_token Admin (Some admin) token
+token_for admin me rows (Group addr command) token = redacted_token (command_need me addr command) (key_in rows addr.tenant) token
 
-abbrev pub member_token : NodeId → List TenantRow → Addr → List ℕ → List ℕ
-member_token me rows addr token = redacted_token (Member addr.tenant addr.group me) (key_in rows addr.tenant) token
+-- what a request asks, with what stands for a tenant's key
+abbrev pub redacted_action : Action → Action
+redacted_action (AddTenant row) = AddTenant (redacted_row row)
+redacted_action (Group addr command) = Group addr command
 
 -- a request at a node with these tenants, with what stands for its token and for a tenant's key
 abbrev pub redacted_request : List ℕ → NodeId → List TenantRow → Request → Request
-redacted_request admin me rows (AddTenant token row) = AddTenant (redacted_token Admin (Some admin) token) (redacted_row row)
-redacted_request admin me rows (Make token addr spec) = Make (tenant_token rows addr token) addr spec
-redacted_request admin me rows (OpenGroup token addr) = OpenGroup (tenant_token rows addr token) addr
-redacted_request admin me rows (ShutGroup token addr) = ShutGroup (tenant_token rows addr token) addr
-redacted_request admin me rows (DropGroup token addr) = DropGroup (tenant_token rows addr token) addr
-redacted_request admin me rows (Say token addr message) = Say (member_token me rows addr token) addr message
-redacted_request admin me rows (Fetch token addr from most) = Fetch (member_token me rows addr token) addr from most
+redacted_request admin me rows request = record { token = token_for admin me rows request.what request.token; what = redacted_action request.what }
 
 -- other events have neither
 abbrev pub redacted_event : List ℕ → NodeId → List TenantRow → NodeEvent → NodeEvent

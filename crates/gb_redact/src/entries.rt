@@ -4,10 +4,10 @@ ghost use Rattle.gb_node.specs.Past.{added};
 ghost use Rattle.gb_redact.specs.Laws.{AreKept};
 ghost use Rattle.gb_redact.specs.Redacted.{redacted_event, redacted_entry, AreRedacted};
 
-use crate::secrets::redacted_request;
+use crate::secrets::redact_request;
 use gb_cap::Key;
 use gb_node::{NodeAnswer, NodeEvent, TapeEntry};
-use gb_types::{NodeId, OutOfMemory, Reply, Request, TenantRow};
+use gb_types::{Action, NodeId, OutOfMemory, Reply, TenantRow};
 use std::alloc::Global;
 
 // Returns the event with what stands for the secrets of its request.
@@ -20,13 +20,11 @@ fn redacted_event(
 ) -> Result<NodeEvent, OutOfMemory>
     ensures { IfOk result (λ made. made ≡ redacted_event admin.now me rows.now event.now) }
 {
-    match event {
-        NodeEvent::Request(request) => {
-            let request = redacted_request(alloc, admin, me, rows, request)?;
-            Ok(NodeEvent::Request(request))
-        }
-        _ => event.duplicate(alloc),
+    let mut made = event.duplicate(alloc)?;
+    if let NodeEvent::Request(request) = &mut made {
+        redact_request(admin, me, rows, request);
     }
+    Ok(made)
 }
 
 // Returns the entry with what stands for the secrets of its request.
@@ -51,7 +49,8 @@ fn redacted_entry(
 fn note_tenant(rows: &mut Vec<TenantRow>, entry: &TapeEntry) -> Result<(), OutOfMemory>
     ensures { OnOk result (rows.new.items ≡ rows.old.items ++ added entry.now.event entry.now.answer) }
 {
-    if let NodeEvent::Request(Request::AddTenant(_, row)) = &entry.event
+    if let NodeEvent::Request(request) = &entry.event
+        && let Action::AddTenant(row) = &request.what
         && let NodeAnswer::Reply(Reply::Done) = &entry.answer
     {
         rows.push(*row)?;

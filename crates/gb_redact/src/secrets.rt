@@ -1,29 +1,19 @@
 //! What stands for a key, for a token, and for a request with both.
-ghost use Rattle.std.specs.Prelude.{◌≡◌, IfOk};
+ghost use Rattle.std.specs.Prelude.{◌≡◌};
 ghost use Rattle.std.specs.Option.{option_copied};
-ghost use Rattle.gb_redact.specs.Redacted.{redacted_key, redacted_row, redacted_token, key_in, tenant_token, member_token, redacted_request};
+ghost use Rattle.gb_table.specs.Admission.{command_need};
+ghost use Rattle.gb_redact.specs.Redacted.{redacted_key, redacted_token, key_in, token_for, redacted_request};
 
 use gb_cap::hmac::hmac;
 use gb_cap::token::{admits, token as token_for};
 use gb_cap::{Key, Need, Token};
-use gb_types::{Addr, NodeId, OutOfMemory, Request, TenantId, TenantRow};
-use std::alloc::Global;
+use gb_types::{Action, Addr, GroupCommand, NodeId, Request, TenantId, TenantRow};
 
 /// Returns the key that stands for `key`: HMAC-SHA-256 of the word `redacted` under it. Nobody who has it alone can compute the other.
 pub fn redacted_key(key: &Key) -> Key
     ensures { result ≡ redacted_key key.now }
 {
     hmac(key, b"redacted")
-}
-
-/// Returns the row with the key that stands for its key.
-fn redacted_row(row: &TenantRow) -> TenantRow
-    ensures { result ≡ redacted_row row.now }
-{
-    TenantRow {
-        key: redacted_key(&row.key),
-        ..*row
-    }
 }
 
 /// Returns what stands for a token that came for this need. `key` is the key under which the need's token is made; `None` if its tenant is
@@ -47,55 +37,39 @@ fn key_in(rows: &[TenantRow], tenant: TenantId) -> Option<&Key>
     }
 }
 
-/// Returns what stands for a token that came as that of the address's tenant.
-fn tenant_token(rows: &[TenantRow], addr: Addr, token: &Token) -> Token
-    ensures { result ≡ tenant_token rows.now addr token.now }
+/// Returns what the token of a command in the group with this address is for, at the node `me`.
+fn need_of(me: NodeId, addr: Addr, command: &GroupCommand) -> Need
+    ensures { result ≡ command_need me addr command.now }
 {
-    redacted_token(Need::Tenant(addr.tenant), key_in(rows, addr.tenant), token)
+    match command {
+        GroupCommand::Make(_) | GroupCommand::Open | GroupCommand::Shut | GroupCommand::Drop =>
+            Need::Tenant(addr.tenant),
+        GroupCommand::Say(_) | GroupCommand::Fetch(_, _) => {
+            Need::Member(addr.tenant, addr.group, me)
+        }
+    }
 }
 
-/// Returns what stands for a token that came as that of the address's member at the node `me`.
-fn member_token(me: NodeId, rows: &[TenantRow], addr: Addr, token: &Token) -> Token
-    ensures { result ≡ member_token me rows.now addr token.now }
+/// Returns what stands for the token of a request for this.
+fn token_of(admin: &Key, me: NodeId, rows: &[TenantRow], what: &Action, token: &Token) -> Token
+    ensures { result ≡ token_for admin.now me rows.now what.now token.now }
 {
-    let need = Need::Member(addr.tenant, addr.group, me);
-    redacted_token(need, key_in(rows, addr.tenant), token)
+    match what {
+        Action::AddTenant(_) => redacted_token(Need::Admin, Some(admin), token),
+        Action::Group(addr, command) => {
+            let need = need_of(me, *addr, command);
+            redacted_token(need, key_in(rows, addr.tenant), token)
+        }
+    }
 }
 
-/// Returns the request with what stands for its token and, if it adds a tenant, for the tenant's key. `admin` is the key of the
-/// administrator's token, `me` the node that is asked, and `rows` are the tenants that it has. `Err` if there is no memory for a message.
-pub fn redacted_request(
-    alloc: Global,
-    admin: &Key,
-    me: NodeId,
-    rows: &[TenantRow],
-    request: &Request,
-) -> Result<Request, OutOfMemory>
-    ensures { IfOk result (λ made. made ≡ redacted_request admin.now me rows.now request.now) }
+/// Puts what stands for the request's token in its place and, if it adds a tenant, for the tenant's key. `admin` is the key of the
+/// administrator's token, `me` the node that is asked, and `rows` are the tenants that it has.
+pub fn redact_request(admin: &Key, me: NodeId, rows: &[TenantRow], request: &mut Request)
+    ensures { request.new ≡ redacted_request admin.now me rows.now request.old }
 {
-    Ok(match request {
-        Request::AddTenant(token, row) => {
-            let token = redacted_token(Need::Admin, Some(admin), token);
-            Request::AddTenant(token, redacted_row(row))
-        }
-        Request::Make(token, addr, spec) => {
-            Request::Make(tenant_token(rows, *addr, token), *addr, spec.duplicate())
-        }
-        Request::OpenGroup(token, addr) => {
-            Request::OpenGroup(tenant_token(rows, *addr, token), *addr)
-        }
-        Request::ShutGroup(token, addr) => {
-            Request::ShutGroup(tenant_token(rows, *addr, token), *addr)
-        }
-        Request::DropGroup(token, addr) => {
-            Request::DropGroup(tenant_token(rows, *addr, token), *addr)
-        }
-        Request::Say(token, addr, message) => {
-            let token = member_token(me, rows, *addr, token);
-            Request::Say(token, *addr, message.duplicate(alloc)?)
-        }
-        Request::Fetch(token, addr, from, most) => {
-            Request::Fetch(member_token(me, rows, *addr, token), *addr, *from, *most)
-        }
-    })
+    request.token = token_of(admin, me, rows, &request.what, &request.token);
+    if let Action::AddTenant(row) = &mut request.what {
+        row.key = redacted_key(&row.key);
+    }
 }

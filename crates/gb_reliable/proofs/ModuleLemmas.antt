@@ -1,5 +1,5 @@
 -- Relays by these rules are the modules.
-use Rattle.gb_layer.specs.declared.broadcast_module.BroadcastModule.TheVariants.{Lazy, Eager}
+use Rattle.gb_types.specs.declared.kind.Module.TheVariants.{Lazy, Eager}
 use Rattle.gb_layer.proofs.RelayModuleLemmas.{IsModule, is_module}
 use Rattle.gb_reliable.specs.Rules.{lazy_rules, eager_rules}
 use Rattle.gb_reliable.specs.LazyLemmas.{lazy_more, lazy_delivers_more, lazy_own, lazy_broadcasts_as, lazy_delivers_as}

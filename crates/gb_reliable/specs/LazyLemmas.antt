@@ -2,7 +2,7 @@
 use Rattle.std.proofs.Common.{◌||◌, ◌&&◌, nat_eq, refl, ap}
 use Rattle.std.specs.FinSet as set
 use Rattle.std.proofs.lemmas.Bool.{eq-eqb}
-use Rattle.gb_layer.specs.declared.broadcast_module.BroadcastModule.TheVariants.{Lazy}
+use Rattle.gb_types.specs.declared.kind.Module.TheVariants.{Lazy}
 use Rattle.gb_types.proofs.BoolLemmas.{or_more}
 use Rattle.gb_layer.specs.Machine.{mentions}
 use Rattle.gb_layer.specs.Rule.{BroadcastsMore, DeliversMore, BroadcastsItsOwn, BroadcastsAs, DeliversAs}

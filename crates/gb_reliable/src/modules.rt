@@ -1,5 +1,5 @@
 //! Laws: which rules are which module of broadcast.
-ghost use Rattle.gb_layer.specs.declared.broadcast_module.BroadcastModule.TheVariants.{Lazy, Eager};
+ghost use Rattle.gb_types.specs.declared.kind.Module.TheVariants.{Lazy, Eager};
 ghost use Rattle.gb_layer.specs.Rule.{BroadcastsAs, DeliversAs};
 
 use crate::eager::Eagerly;

@@ -7,13 +7,14 @@ use Rattle.std.specs.Prelude.{codes, decimal, map, get_or, Result, OnOk}
 use Rattle.hex.proofs.HexLemmas.{length-encode_with}
 use Rattle.hex.specs.Hex.{encode_lower, lower_digits}
 use Rattle.gb_types.specs.declared.node.NodeId.{NodeId}
+use Rattle.gb_types.specs.declared.request.Action.{Action}
+use Rattle.gb_types.specs.declared.request.Action.TheVariants.{AddTenant, Group}
 use Rattle.gb_types.specs.declared.request.Request.{Request}
-use Rattle.gb_types.specs.declared.request.Request.TheVariants.{AddTenant, Make, OpenGroup, ShutGroup, DropGroup, Say, Fetch}
 use Rattle.gb_types.specs.declared.version.Version.{Version}
 use Rattle.gb_record_text.proofs.TextLemmas.{on_ok}
-use Rattle.gb_record_text.specs.RecordText.{after_space, limits_text, each_after_comma, request_text, token_text}
+use Rattle.gb_record_text.specs.RecordText.{after_space, limits_text, each_after_comma, action_text, request_text, token_text}
 use Rattle.gb_schedule.specs.Versions.{versions_word}
-use Rattle.gb_replay.specs.ScheduleText.{request_line, key_text, secret_text, version_byte}
+use Rattle.gb_replay.specs.ScheduleText.{action_line, key_text, key_behind, secret_text, version_byte}
 
 length_after : (word bytes : List ℕ) → length (word ++ encode_lower bytes) ≡ length word + 2 * length bytes
 length_after word bytes = length-append word (encode_lower bytes) ∙ ap (λ n. length word + n) (length-encode_with lower_digits bytes)
@@ -33,14 +34,9 @@ moved head row word key token =
     ap (λ q. (head ++ q) ++ token) (append_assoc row word key) ∙ (ap (λ q. q ++ token) (sym (append_assoc head row (word ++ key))) ∙ append_assoc (head ++ row) (word ++ key) token)
 
 -- a request in a record is its line in a schedule, with what is secret behind it
-pub parted : (b : NodeId) (request : Request) → request_text b request ≡ request_line b request ++ secret_text request
-parted b (AddTenant token row) = moved (codes "tenant") (after_space (decimal b.number) ++ after_space (decimal row.tenant) ++ after_space (decimal row.groups) ++ limits_text row.msgs row.bytes row.window) (codes " key ") (encode_lower row.key) (token_text token)
-parted b (Make token addr spec) = refl
-parted b (OpenGroup token addr) = refl
-parted b (ShutGroup token addr) = refl
-parted b (DropGroup token addr) = refl
-parted b (Say token addr message) = refl
-parted b (Fetch token addr from most) = refl
+parted : (b : NodeId) (what : Action) (token : List ℕ) → action_text b what ++ token_text token ≡ action_line b what ++ (key_behind what ++ token_text token)
+parted b (AddTenant row) token = moved (codes "tenant") (after_space (decimal b.number) ++ after_space (decimal row.tenant) ++ after_space (decimal row.groups) ++ limits_text row.msgs row.bytes row.window) (codes " key ") (encode_lower row.key) (token_text token)
+parted b (Group addr command) token = refl
 
 cut : (old text front behind all : List ℕ) → all ≡ old ++ text → text ≡ front ++ behind → take (length all - length behind) all ≡ old ++ front
 cut old text front behind all is split =
@@ -50,8 +46,8 @@ cut old text front behind all is split =
     ap (λ n. take n all) count ∙ (ap (λ t. take (length (old ++ front)) t) whole ∙ take-append_seam (old ++ front) behind)
 
 -- what is left of a request that was written behind some text, once its secrets are cut off
-pub cut_off : (b : NodeId) (request : Request) (old all : List ℕ) (n : ℕ) → all ≡ old ++ request_text b request → n ≡ length all - length (secret_text request) → take n all ≡ old ++ request_line b request
-cut_off b request old all n is count = ap (λ k. take k all) count ∙ cut old (request_text b request) (request_line b request) (secret_text request) all is (parted b request)
+pub cut_off : (b : NodeId) (request : Request) (old all : List ℕ) (n : ℕ) → all ≡ old ++ request_text b request → n ≡ length all - length (secret_text request) → take n all ≡ old ++ action_line b request.what
+cut_off b request old all n is count = ap (λ k. take k all) count ∙ cut old (request_text b request) (action_line b request.what) (secret_text request) all is (parted b request.what request.token)
 
 -- one number more, each after a comma
 pub comma_more : (ns : List ℕ) (n : ℕ) → each_after_comma (ns ++ n ∷ []) ≡ each_after_comma ns ++ (codes "," ++ decimal n)

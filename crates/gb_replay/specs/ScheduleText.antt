@@ -7,8 +7,9 @@ use Rattle.gb_types.specs.declared.node.NodeId.{NodeId}
 use Rattle.gb_types.specs.declared.plan.Plan.{Plan}
 use Rattle.gb_types.specs.declared.refusal.Refusal.TheVariants.{Denied}
 use Rattle.gb_types.specs.declared.reply.Reply.TheVariants.{Refused}
+use Rattle.gb_types.specs.declared.request.Action.{Action}
+use Rattle.gb_types.specs.declared.request.Action.TheVariants.{AddTenant, Group}
 use Rattle.gb_types.specs.declared.request.Request.{Request}
-use Rattle.gb_types.specs.declared.request.Request.TheVariants.{AddTenant, Make, OpenGroup, ShutGroup, DropGroup, Say, Fetch}
 use Rattle.gb_types.specs.declared.version.Version.{Version}
 use Rattle.gb_node.specs.declared.event.NodeEvent.{NodeEvent}
 use Rattle.gb_node.specs.declared.event.NodeEvent.TheVariants.{Request as Asked, Packet as Came}
@@ -18,38 +19,31 @@ use Rattle.gb_cluster.specs.declared.event.Event.{Event}
 use Rattle.gb_cluster.specs.declared.event.Event.TheVariants.{At, Arrive}
 use Rattle.gb_lines.specs.Lines.{ended}
 use Rattle.gb_schedule.specs.Versions.{versions_word}
-use Rattle.gb_record_text.specs.RecordText.{after_space, address_text, limits_text, spec_text, message_text, token_text, event_text}
+use Rattle.gb_record_text.specs.RecordText.{after_space, limits_text, token_text, action_text, event_text}
 use Rattle.gb_simulate.specs.AnswerText.{answer_spelling}
 use Rattle.gb_simulate.specs.RunTexts.{RunStep}
 
 -- a request, with neither its token nor a tenant's key: gb_sim makes these anew
-abbrev pub request_line : NodeId → Request → List ℕ
-request_line b (AddTenant token row) =
+abbrev pub action_line : NodeId → Action → List ℕ
+action_line b (AddTenant row) =
     codes "tenant" ++ (after_space (decimal b.number) ++ after_space (decimal row.tenant) ++ after_space (decimal row.groups) ++ limits_text row.msgs row.bytes row.window)
-request_line b (Make token addr spec) = codes "make" ++ address_text b addr ++ spec_text spec
-request_line b (OpenGroup token addr) = codes "open" ++ address_text b addr
-request_line b (ShutGroup token addr) = codes "shut" ++ address_text b addr
-request_line b (DropGroup token addr) = codes "drop" ++ address_text b addr
-request_line b (Say token addr message) = codes "say" ++ address_text b addr ++ message_text message
-request_line b (Fetch token addr from most) = codes "fetch" ++ address_text b addr ++ after_space (decimal from) ++ after_space (decimal most)
+action_line b (Group addr command) = action_text b (Group addr command)
 
 -- ` key KEY`
 abbrev pub key_text : List ℕ → List ℕ
 key_text key = codes " key " ++ encode_lower key
 
--- what a record has behind that
+-- what a record has behind that: a tenant's key, and the token
+abbrev pub key_behind : Action → List ℕ
+key_behind (AddTenant row) = key_text row.key
+key_behind (Group addr command) = []
+
 abbrev pub secret_text : Request → List ℕ
-secret_text (AddTenant token row) = key_text row.key ++ token_text token
-secret_text (Make token addr spec) = token_text token
-secret_text (OpenGroup token addr) = token_text token
-secret_text (ShutGroup token addr) = token_text token
-secret_text (DropGroup token addr) = token_text token
-secret_text (Say token addr message) = token_text token
-secret_text (Fetch token addr from most) = token_text token
+secret_text request = key_behind request.what ++ token_text request.token
 
 -- an event at a node
 abbrev pub event_line : NodeId → NodeEvent → List ℕ
-event_line b (Asked request) = request_line b request
+event_line b (Asked request) = action_line b request.what
 event_line b (Came bytes) = codes "noise " ++ decimal b.number ++ codes " " ++ payload_word bytes
 event_line b event = event_text b event
 

@@ -3,7 +3,7 @@ ghost use Rattle.std.specs.Prelude.{◌≡◌, ◌≤◌, ◌++◌, codes, decim
 ghost use Rattle.gb_types.specs.declared.limits.TheConstants.{NODES as MOST};
 ghost use Rattle.gb_schedule.specs.Versions.{versions_word};
 ghost use Rattle.gb_record_text.specs.RecordText.{after_space, each_after_comma, token_text};
-ghost use Rattle.gb_replay.specs.ScheduleText.{request_line, key_text, secret_text, event_line, line_of, first_line, version_byte};
+ghost use Rattle.gb_replay.specs.ScheduleText.{action_line, key_text, secret_text, event_line, line_of, first_line, version_byte};
 
 use gb_cluster::Event;
 use gb_node::NodeEvent;
@@ -11,7 +11,7 @@ use gb_record_text::writing::{put_event, put_request};
 use gb_types::memory::put_bytes;
 use gb_types::number::put_number;
 use gb_types::payload_word::put_payload;
-use gb_types::{NodeId, OutOfMemory, Plan, Request, Version};
+use gb_types::{Action, NodeId, OutOfMemory, Plan, Request, Version};
 
 // Appends a number after a space.
 fn put_after(out: &mut Vec<u8>, number: u64) -> Result<(), OutOfMemory>
@@ -44,20 +44,16 @@ fn key_length(key: &[u8; 32]) -> usize
 fn secret_length(request: &Request) -> usize
     ensures { result ≡ length (secret_text request.now) }
 {
-    match request {
-        Request::AddTenant(token, row) => key_length(&row.key) + token_length(token),
-        Request::Make(token, _, _) => token_length(token),
-        Request::OpenGroup(token, _) => token_length(token),
-        Request::ShutGroup(token, _) => token_length(token),
-        Request::DropGroup(token, _) => token_length(token),
-        Request::Say(token, _, _) => token_length(token),
-        Request::Fetch(token, _, _, _) => token_length(token),
+    let token = token_length(&request.token);
+    match &request.what {
+        Action::AddTenant(row) => key_length(&row.key) + token,
+        Action::Group(_, _) => token,
     }
 }
 
 // Appends a request. It is written as in a record, and what a schedule does not have is cut off behind it.
 fn put_request_line(out: &mut Vec<u8>, node: NodeId, request: &Request) -> Result<(), OutOfMemory>
-    ensures { OnOk result (out.new.items ≡ out.old.items ++ request_line node request.now) }
+    ensures { OnOk result (out.new.items ≡ out.old.items ++ action_line node request.now.what) }
 {
     put_request(out, node, request)?;
     let length = out.len().saturating_sub(secret_length(request));

@@ -7,7 +7,6 @@ use Rattle.gb_types.specs.declared.spec.Spec.{Spec}
 use Rattle.gb_layer.specs.Modules.{first_mentions, now_broadcast}
 use Rattle.gb_layer.specs.declared.call.Call.{Call}
 use Rattle.gb_layer.specs.declared.call.Call.TheVariants.{Notice}
-use Rattle.gb_stack.specs.Kinds.{module_of}
 use Rattle.gb_rules.specs.History.{calls_of, known, puts_of}
 use Rattle.gb_rules.specs.Messages.{entry_in}
 use Rattle.gb_rules.specs.declared.call.GroupCall.TheVariants.{Crashed}
@@ -17,7 +16,7 @@ pub none_put : (spec : Spec) (me : ℕ) (q : NodeId) (qs : List NodeId) → puts
 unfolding calls_of
 none_put spec me q qs =
     let past : List Call = calls_of (map Crashed qs) in
-    let test : MsgId → Bool = λ m. now_broadcast (module_of spec.kind) me (Notice q ∷ past) m && not (now_broadcast (module_of spec.kind) me past m) in
+    let test : MsgId → Bool = λ m. now_broadcast spec.kind.module me (Notice q ∷ past) m && not (now_broadcast spec.kind.module me past m) in
     ap (λ ms. map (entry_in (known (map Crashed (q ∷ qs)))) (filter test ms)) (none_first qs)
   where
     none_first : (qs : List NodeId) → first_mentions (calls_of (map Crashed qs)) ≡ []

@@ -12,7 +12,7 @@ use Rattle.gb_types.proofs.ReadLemmas.{Reads, found, only}
 abbrev pub Finds : (Command → Type 0) → Option Command → Type 0
 Finds P answer = (command : Command) → (answer ≡ Some command) ↔ P command
 
-line_finds : (nodes : Option ℕ) (line : List ℕ) (head : Head) (word : List ℕ) (rest : List (List ℕ)) (answer : Option Command)
+pub line_finds : (nodes : Option ℕ) (line : List ℕ) (head : Head) (word : List ℕ) (rest : List (List ℕ)) (answer : Option Command)
     → words_of line ≡ word ∷ rest → Reads (λ h. word ≡ head_word h) head → Finds (λ command. Spells head nodes command rest) answer
     → Finds (IsCommandLine nodes line) answer
 line_finds nodes line head word rest answer are reads finds command =

@@ -1,5 +1,6 @@
 pub mod VersionLemmas
 pub mod RowLemmas
+pub mod GroupLemmas
 pub mod SayLemmas
 pub mod StepLemmas
 pub mod HeadLemmas

@@ -1,21 +1,35 @@
 -- The command of a line is in its place.
-use Rattle.std.proofs.Common.{◌≡◌, ◌↔◌, ℕ, List, Option, Some, None, Result, Ok, Err, refl, arith}
+use Rattle.std.proofs.Common.{◌≡◌, ◌↔◌, ℕ, ◌<◌, List, Option, Some, None, Result, Ok, Err, refl, arith}
 use Rattle.std.specs.Result.{IfOk}
-use Rattle.std.specs.Option.{IfSome}
+use Rattle.std.specs.Option.{IfSome, IfNone, option_map}
 use Rattle.std.proofs.lemmas.List.{get_or-replicate}
 use Rattle.gb_types.specs.declared.limits.TheConstants.{NODES}
+use Rattle.gb_types.specs.declared.address.Addr.{Addr}
+use Rattle.gb_types.specs.declared.node.NodeId.{NodeId}
+use Rattle.gb_types.specs.declared.request.GroupCommand.{GroupCommand}
+use Rattle.gb_types.specs.declared.request.GroupCommand.TheVariants.{Make, Open, Shut, Drop, Say, Fetch}
 use Rattle.gb_types.specs.declared.version.Version.TheVariants.{One}
 use Rattle.gb_types.specs.Version.{version_at}
+use Rattle.gb_schedule.specs.declared.command.ClusterStart.{ClusterStart}
 use Rattle.gb_schedule.specs.declared.command.Command.{Command}
-use Rattle.gb_schedule.specs.declared.command.Command.TheVariants.{Step as StepCommand}
+use Rattle.gb_schedule.specs.declared.command.Command.TheVariants.{Cluster, Step as StepCommand}
 use Rattle.gb_schedule.specs.declared.command.Step.{Step}
 use Rattle.gb_schedule.specs.declared.head.Head.{Head}
-use Rattle.gb_schedule.specs.declared.head.Head.TheVariants.{Cluster, Cluster2, Tenant, Make, Open, Shut, Drop, Say, Fetch, Forge, Pack, Again, Ack, Arrive, Noise, Tick, Stop}
-use Rattle.gb_schedule.specs.Grammar.{Spells, IsCommandLine, IsInPlace}
+use Rattle.gb_schedule.specs.declared.head.Head.TheVariants.{Cluster as ClusterHead, Cluster2, Tenant, Group, Forge, Pack, Again, Ack, Arrive, Noise, Tick, Stop}
+use Rattle.gb_schedule.specs.Grammar.{asked_at, Spells, IsCommandLine, IsInPlace, IsStart}
 use Rattle.gb_schedule.proofs.CommandLemmas.{Finds}
 
+-- what is asked of a node of the cluster is in its place
+asked_in_place : (nodes : ℕ) (node : NodeId) (address : Addr) (asked : GroupCommand) → node.number < nodes → IsInPlace (Some nodes) (asked_at node address asked)
+asked_in_place nodes node address (Make spec) below = below
+asked_in_place nodes node address Open below = below
+asked_in_place nodes node address Shut below = below
+asked_in_place nodes node address Drop below = below
+asked_in_place nodes node address (Say message) below = below
+asked_in_place nodes node address (Fetch from most) below = below
+
 spelt_in_place : (head : Head) (nodes : Option ℕ) (command : Command) (words : List (List ℕ)) → Spells head nodes command words → IsInPlace nodes command
-spelt_in_place Cluster None command words s =
+spelt_in_place ClusterHead None command words s =
     let few = s.nodes_in.1 in
     rw s.command_is (record {
       some = s.nodes_in.0;
@@ -34,21 +48,11 @@ spelt_in_place Cluster2 None command words s = rw s.command_is (record {
   named = s.versions_are.named;
 })
 spelt_in_place Cluster2 (Some nodes) command words s = absurd s
-spelt_in_place Cluster (Some nodes) command words s = absurd s
+spelt_in_place ClusterHead (Some nodes) command words s = absurd s
 spelt_in_place Tenant None command words s = absurd s
 spelt_in_place Tenant (Some nodes) command words s = rw s.command_is s.in_cluster
-spelt_in_place Make None command words s = absurd s
-spelt_in_place Make (Some nodes) command words s = rw s.command_is s.in_cluster
-spelt_in_place Open None command words s = absurd s
-spelt_in_place Open (Some nodes) command words s = rw s.command_is s.in_cluster
-spelt_in_place Shut None command words s = absurd s
-spelt_in_place Shut (Some nodes) command words s = rw s.command_is s.in_cluster
-spelt_in_place Drop None command words s = absurd s
-spelt_in_place Drop (Some nodes) command words s = rw s.command_is s.in_cluster
-spelt_in_place Say None command words s = absurd s
-spelt_in_place Say (Some nodes) command words s = rw s.command_is s.in_cluster
-spelt_in_place Fetch None command words s = absurd s
-spelt_in_place Fetch (Some nodes) command words s = rw s.command_is s.in_cluster
+spelt_in_place (Group head) None command words s = absurd s
+spelt_in_place (Group head) (Some nodes) command words s = rw s.command_is (asked_in_place nodes s.node s.address s.asked s.in_cluster)
 spelt_in_place Forge None command words s = absurd s
 spelt_in_place Forge (Some nodes) command words s = rw s.command_is s.in_cluster
 spelt_in_place Pack None command words s = absurd s
@@ -84,3 +88,13 @@ pub step_in_place : (nodes : ℕ) (line : List ℕ) (answer : Option Step) → (
     → IfSome answer (λ step. IsInPlace (Some nodes) (StepCommand step))
 step_in_place nodes line None finds = tt
 step_in_place nodes line (Some step) finds = line_in_place (Some nodes) line (StepCommand step) ((finds step).0 refl)
+
+-- and none is spelt where none was found
+pub none_spelt : {X : Type 0} {P : X → Type 0} (answer : Option X) → ((x : X) → (answer ≡ Some x) ↔ P x) → IfNone answer ((x : X) → P x → ⊥)
+none_spelt None finds = λ x spelt. cc ((finds x).1 spelt)
+none_spelt (Some x) finds = tt
+
+-- how a cluster is started in place
+pub start_in_place : (line : List ℕ) (answer : Option ClusterStart) → Finds (IsCommandLine None line) (option_map Cluster answer) → IfSome answer IsStart
+start_in_place line None finds = tt
+start_in_place line (Some start) finds = line_in_place None line (Cluster start) ((finds (Cluster start)).0 refl)

@@ -5,21 +5,20 @@ use Rattle.gb_types.specs.PayloadWord.{payload_of}
 use Rattle.gb_types.specs.declared.new_message.NewMessage.{NewMessage}
 use Rattle.gb_types.specs.declared.node.NodeId.{NodeId}
 use Rattle.gb_types.specs.declared.address.Addr.{Addr}
-use Rattle.gb_types.specs.declared.spec.Spec.{Spec}
+use Rattle.gb_types.specs.declared.request.Action.TheVariants.{AddTenant, Group}
+use Rattle.gb_types.specs.declared.request.GroupCommand.TheVariants.{Say}
 use Rattle.gb_types.specs.declared.spec.TenantRow.{TenantRow}
-use Rattle.gb_types.specs.declared.request.Request.{Request as AnyRequest}
-use Rattle.gb_types.specs.declared.request.Request.TheVariants.{AddTenant, Make, Say}
 use Rattle.gb_types.specs.declared.version.Version.{Version}
 use Rattle.gb_types.specs.declared.version.Version.TheVariants.{One}
 use Rattle.gb_types.specs.Version.{limits_of}
 use Rattle.gb_schedule.specs.declared.command.ClusterStart.{ClusterStart}
 use Rattle.gb_schedule.specs.declared.command.Command.{Command}
 use Rattle.gb_schedule.specs.declared.command.Command.TheVariants.{Cluster, Request, Noise}
-use Rattle.gb_types.specs.RequestWords.{IsShort, SpellsSpec, group_word, IsGroup}
+use Rattle.gb_types.specs.RequestWords.{IsShort, group_word, IsGroup}
 use Rattle.gb_types.proofs.RequestWordLemmas.{IsShortWord, IsLongWord, AreAddressWords, AreLimitWords}
-use Rattle.gb_schedule.specs.Grammar.{AreRoomWords, SpellsCluster, SpellsCluster2, SpellsTenant, SpellsMake, SpellsNamed, SpellsForge, SpellsNoise}
+use Rattle.gb_schedule.specs.Grammar.{AreRoomWords, SpellsCluster, SpellsCluster2, SpellsTenant, SpellsForge, SpellsNoise}
 use Rattle.gb_schedule.specs.Versions.{AreVersions}
-use Rattle.gb_schedule.specs.Keys.{tenant_key, no_token, admin_token, tenant_token}
+use Rattle.gb_schedule.specs.Keys.{tenant_key, no_token, admin_token}
 use Rattle.gb_types.proofs.ReadLemmas.{Reads, found, only, reads_one, some_same}
 
 -- what the readers of single words find
@@ -52,31 +51,6 @@ no_tenant_limits nodes words a t gs m b w command are none spelt =
     let row = spelt.row in
     let same : a ∷ t ∷ gs ∷ m ∷ b ∷ w ∷ [] ≡ decimal spelt.node.number ∷ decimal row.tenant ∷ decimal row.groups ∷ decimal row.msgs ∷ decimal row.bytes ∷ decimal row.window ∷ [] = sym are ∙ spelt.words_are in
     cc ((none (row.msgs, row.bytes, row.window)).1 ((spelt.msgs, cc), (spelt.bytes, cc), (spelt.window, cc)))
-
-pub named_reads : (request : List ℕ → Addr → AnyRequest) (nodes : ℕ) (words : List (List ℕ)) (a t g : List ℕ) (group : NodeId × Addr) (token : List ℕ) → words ≡ a ∷ t ∷ g ∷ []
-    → Reads (AreGroupWords nodes a t g) group → token ≡ tenant_token group.1.tenant
-    → Reads (λ command. SpellsNamed request nodes command words) (Request group.0 (request token group.1))
-named_reads request nodes words a t g group token are reads_group is_token =
-    let node = group.0 in
-    let address = group.1 in
-    let are_words = found (AreGroupWords nodes a t g) group reads_group in
-    let is_node = are_words.0 in
-    let is_address = are_words.1 in
-    let here : SpellsNamed request nodes (Request node (request token address)) words = record {
-      node = node;
-      address = address;
-      command_is = ap (λ q. Request node (request q address)) is_token;
-      words_are = cc (are, is_node.1, is_address.1, is_address.3);
-      in_cluster = is_node.0;
-      tenant = is_address.0;
-      group = is_address.2;
-    } in
-    reads_one (λ command. SpellsNamed request nodes command words) _ here (λ command spelt.
-    let same : a ∷ t ∷ g ∷ [] ≡ decimal spelt.node.number ∷ decimal spelt.address.tenant ∷ group_word spelt.address ∷ [] = sym are ∙ spelt.words_are in
-    let same_group : group ≡ (spelt.node, spelt.address) = only (AreGroupWords nodes a t g) group (spelt.node, spelt.address) reads_group ((spelt.in_cluster, cc), (spelt.tenant, cc, spelt.group, cc)) in
-    let same_node : node ≡ spelt.node = ap (λ q. q.0) same_group in
-    let same_address : address ≡ spelt.address = ap (λ q. q.1) same_group in
-    ap (λ q. Request node (request q address)) is_token ∙ (λ i. Request (same_node i) (request (tenant_token (same_address i).tenant) (same_address i))) ∙ sym spelt.command_is)
 
 -- what the readers of the words behind `cluster` and `cluster2` find
 abbrev pub IsSilenceWord : List ℕ → ℕ → Type 0
@@ -175,17 +149,17 @@ pub tenant_reads : (nodes : ℕ) (words : List (List ℕ)) (a t gs m b w : List 
     → Reads (IsNodeWord nodes a) node → Reads (IsShortWord t) tenant → Reads (IsLongWord gs) groups → Reads (AreLimitWords m b w) limits
     → token ≡ admin_token → key ≡ tenant_key tenant
     → Reads (λ command. SpellsTenant nodes command words)
-    (Request node (AddTenant token (record { tenant = tenant; key = key; groups = groups; msgs = limits.0; bytes = limits.1; window = limits.2 })))
+    (Request node (record { token = token; what = AddTenant (record { tenant = tenant; key = key; groups = groups; msgs = limits.0; bytes = limits.1; window = limits.2 }) }))
 tenant_reads nodes words a t gs m b w node tenant groups limits token key are reads_node reads_tenant reads_groups reads_limits is_token is_key =
     let is_node = found (IsNodeWord nodes a) node reads_node in
     let is_tenant = found (IsShortWord t) tenant reads_tenant in
     let is_groups = found (IsLongWord gs) groups reads_groups in
     let are_limits = found (AreLimitWords m b w) limits reads_limits in
     let row : TenantRow = record { tenant = tenant; key = key; groups = groups; msgs = limits.0; bytes = limits.1; window = limits.2 } in
-    let here : SpellsTenant nodes (Request node (AddTenant token row)) words = record {
+    let here : SpellsTenant nodes (Request node (record { token = token; what = AddTenant row })) words = record {
       node = node;
       row = row;
-      command_is = ap (λ q. Request node (AddTenant q row)) is_token;
+      command_is = ap (λ q. Request node (record { token = q; what = AddTenant row })) is_token;
       words_are = cc (are, is_node.1, is_tenant.1, is_groups.1, are_limits.0.1, are_limits.1.1, are_limits.2.1);
       in_cluster = is_node.0;
       tenant = is_tenant.0;
@@ -204,38 +178,7 @@ tenant_reads nodes words a t gs m b w node tenant groups limits token key are re
     let same_limits : limits ≡ (other.msgs, other.bytes, other.window) = only (AreLimitWords m b w) limits (other.msgs, other.bytes, other.window) reads_limits ((spelt.msgs, cc), (spelt.bytes, cc), (spelt.window, cc)) in
     let same_key : key ≡ other.key = is_key ∙ ap tenant_key same_tenant ∙ sym spelt.key in
     let same_row : row ≡ other = λ i. record { tenant = same_tenant i; key = same_key i; groups = same_groups i; msgs = (same_limits i).0; bytes = (same_limits i).1; window = (same_limits i).2 } in
-    ap (λ q. Request node (AddTenant q row)) is_token ∙ (λ i. Request (same_node i) (AddTenant admin_token (same_row i))) ∙ sym spelt.command_is)
-
-pub make_reads : (nodes : ℕ) (words : List (List ℕ)) (a t g : List ℕ) (rest : List (List ℕ)) (group : NodeId × Addr) (spec : Spec) (token : List ℕ) → words ≡ a ∷ t ∷ g ∷ rest
-    → Reads (AreGroupWords nodes a t g) group → Reads (λ x. SpellsSpec x rest) spec → token ≡ tenant_token group.1.tenant
-    → Reads (λ command. SpellsMake nodes command words) (Request group.0 (Make token group.1 spec))
-make_reads nodes words a t g rest group spec token are reads_group reads_spec is_token =
-    let node = group.0 in
-    let address = group.1 in
-    let are_words = found (AreGroupWords nodes a t g) group reads_group in
-    let is_node = are_words.0 in
-    let is_address = are_words.1 in
-    let is_spec = found (λ x. SpellsSpec x rest) spec reads_spec in
-    let here : SpellsMake nodes (Request node (Make token address spec)) words = record {
-      node = node;
-      address = address;
-      spec = spec;
-      spec_words = rest;
-      command_is = ap (λ q. Request node (Make q address spec)) is_token;
-      words_are = cc (are, is_node.1, is_address.1, is_address.3);
-      in_cluster = is_node.0;
-      tenant = is_address.0;
-      group = is_address.2;
-      spells_spec = is_spec;
-    } in
-    reads_one (λ command. SpellsMake nodes command words) _ here (λ command spelt.
-    let same : a ∷ t ∷ g ∷ rest ≡ decimal spelt.node.number ∷ decimal spelt.address.tenant ∷ group_word spelt.address ∷ spelt.spec_words = sym are ∙ spelt.words_are in
-    let same_group : group ≡ (spelt.node, spelt.address) = only (AreGroupWords nodes a t g) group (spelt.node, spelt.address) reads_group ((spelt.in_cluster, cc), (spelt.tenant, cc, spelt.group, cc)) in
-    let same_node : node ≡ spelt.node = ap (λ q. q.0) same_group in
-    let same_address : address ≡ spelt.address = ap (λ q. q.1) same_group in
-    let same_words : spelt.spec_words ≡ rest = cc in
-    let same_spec : spec ≡ spelt.spec = only (λ x. SpellsSpec x rest) spec spelt.spec reads_spec (rw same_words at spelt.spells_spec) in
-    ap (λ q. Request node (Make q address spec)) is_token ∙ (λ i. Request (same_node i) (Make (tenant_token (same_address i).tenant) (same_address i) (same_spec i))) ∙ sym spelt.command_is)
+    ap (λ q. Request node (record { token = q; what = AddTenant row })) is_token ∙ (λ i. Request (same_node i) (record { token = admin_token; what = AddTenant (same_row i) })) ∙ sym spelt.command_is)
 
 -- what a forger says: no bytes, under whatever number is next
 abbrev nothing_said : NewMessage
@@ -243,17 +186,17 @@ nothing_said = record { payload = []; seq = None }
 
 pub forge_reads : (nodes : ℕ) (words : List (List ℕ)) (a t g : List ℕ) (group : NodeId × Addr) (message : NewMessage) → words ≡ a ∷ t ∷ g ∷ []
     → Reads (AreGroupWords nodes a t g) group → message ≡ nothing_said
-    → Reads (λ command. SpellsForge nodes command words) (Request group.0 (Say no_token group.1 message))
+    → Reads (λ command. SpellsForge nodes command words) (Request group.0 (record { token = no_token; what = Group group.1 (Say message) }))
 forge_reads nodes words a t g group message are reads_group none =
     let node = group.0 in
     let address = group.1 in
     let are_words = found (AreGroupWords nodes a t g) group reads_group in
     let is_node = are_words.0 in
     let is_address = are_words.1 in
-    let here : SpellsForge nodes (Request node (Say no_token address message)) words = record {
+    let here : SpellsForge nodes (Request node (record { token = no_token; what = Group address (Say message) })) words = record {
       node = node;
       address = address;
-      command_is = ap (λ q. Request node (Say no_token address q)) none;
+      command_is = ap (λ q. Request node (record { token = no_token; what = Group address (Say q) })) none;
       words_are = cc (are, is_node.1, is_address.1, is_address.3);
       in_cluster = is_node.0;
       tenant = is_address.0;
@@ -264,7 +207,7 @@ forge_reads nodes words a t g group message are reads_group none =
     let same_group : group ≡ (spelt.node, spelt.address) = only (AreGroupWords nodes a t g) group (spelt.node, spelt.address) reads_group ((spelt.in_cluster, cc), (spelt.tenant, cc, spelt.group, cc)) in
     let same_node : node ≡ spelt.node = ap (λ q. q.0) same_group in
     let same_address : address ≡ spelt.address = ap (λ q. q.1) same_group in
-    ap (λ q. Request node (Say no_token address q)) none ∙ (λ i. Request (same_node i) (Say no_token (same_address i) nothing_said)) ∙ sym spelt.command_is)
+    ap (λ q. Request node (record { token = no_token; what = Group address (Say q) })) none ∙ (λ i. Request (same_node i) (record { token = no_token; what = Group (same_address i) (Say nothing_said) })) ∙ sym spelt.command_is)
 
 pub noise_reads : (nodes : ℕ) (words : List (List ℕ)) (a h : List ℕ) (node : NodeId) (bytes : List ℕ) → words ≡ a ∷ h ∷ []
     → Reads (IsNodeWord nodes a) node → payload_of h ≡ Some bytes

@@ -1,8 +1,9 @@
 -- A line that asks for nothing begins with no head.
 use Rattle.std.proofs.Common.{◌≡◌, ℕ, List, [], ◌∷◌, get_or, refl, sym, ap, ◌∙◌, arith}
 use Rattle.std.specs.List.{onto_first}
+use Rattle.gb_types.specs.declared.command_words.CommandHead.TheVariants as commands
 use Rattle.gb_schedule.specs.declared.head.Head.{Head}
-use Rattle.gb_schedule.specs.declared.head.Head.TheVariants.{Cluster, Cluster2, Tenant, Make, Open, Shut, Drop, Say, Fetch, Forge, Pack, Again, Ack, Arrive, Noise, Tick, Stop}
+use Rattle.gb_schedule.specs.declared.head.Head.TheVariants.{Cluster, Cluster2, Tenant, Group, Forge, Pack, Again, Ack, Arrive, Noise, Tick, Stop}
 use Rattle.gb_schedule.specs.Head.{head_word}
 use Rattle.gb_types.specs.Words.{words_of}
 use Rattle.gb_schedule.specs.Grammar.{SilentLinesSpellNothing}
@@ -12,12 +13,12 @@ head_word-letter : (head : Head) → (get_or (head_word head) 0 0 ≡ 0 → ⊥)
 head_word-letter Cluster = (λ is. omega (arith, is), λ is. omega (arith, is))
 head_word-letter Cluster2 = (λ is. omega (arith, is), λ is. omega (arith, is))
 head_word-letter Tenant = (λ is. omega (arith, is), λ is. omega (arith, is))
-head_word-letter Make = (λ is. omega (arith, is), λ is. omega (arith, is))
-head_word-letter Open = (λ is. omega (arith, is), λ is. omega (arith, is))
-head_word-letter Shut = (λ is. omega (arith, is), λ is. omega (arith, is))
-head_word-letter Drop = (λ is. omega (arith, is), λ is. omega (arith, is))
-head_word-letter Say = (λ is. omega (arith, is), λ is. omega (arith, is))
-head_word-letter Fetch = (λ is. omega (arith, is), λ is. omega (arith, is))
+head_word-letter (Group commands.Make) = (λ is. omega (arith, is), λ is. omega (arith, is))
+head_word-letter (Group commands.Open) = (λ is. omega (arith, is), λ is. omega (arith, is))
+head_word-letter (Group commands.Shut) = (λ is. omega (arith, is), λ is. omega (arith, is))
+head_word-letter (Group commands.Drop) = (λ is. omega (arith, is), λ is. omega (arith, is))
+head_word-letter (Group commands.Say) = (λ is. omega (arith, is), λ is. omega (arith, is))
+head_word-letter (Group commands.Fetch) = (λ is. omega (arith, is), λ is. omega (arith, is))
 head_word-letter Forge = (λ is. omega (arith, is), λ is. omega (arith, is))
 head_word-letter Pack = (λ is. omega (arith, is), λ is. omega (arith, is))
 head_word-letter Again = (λ is. omega (arith, is), λ is. omega (arith, is))

@@ -1,20 +1,15 @@
 -- The steps that the words behind a head spell, from the numbers that the words write.
 use Rattle.std.proofs.Common.{◌≡◌, ◌↔◌, ℕ, ◌+◌, ◌<◌, ◌≤◌, ◌^◌, List, [], ◌∷◌, Some, None, drop, get_or, refl, sym, ◌∙◌, decimal, arith, length, ap}
 use Rattle.std.proofs.lemmas.Fmt.{decimal_injective}
-use Rattle.gb_types.specs.RequestWords.{group_word}
 use Rattle.gb_types.specs.Words.{words_of}
 use Rattle.gb_types.specs.declared.limits.TheConstants.{NODES}
-use Rattle.gb_types.specs.declared.address.Addr.{Addr}
 use Rattle.gb_types.specs.declared.node.NodeId.{NodeId}
-use Rattle.gb_types.proofs.GroupWordLemmas.{one_address}
-use Rattle.gb_types.proofs.RequestWordLemmas.{IsLongWord}
-use Rattle.gb_schedule.proofs.RowLemmas.{AreGroupWords}
 use Rattle.gb_types.proofs.ReadLemmas.{Reads, found, reads_one}
 use Rattle.gb_types.proofs.SameLemmas.{same_number}
 use Rattle.gb_schedule.specs.declared.command.Command.TheVariants.{Step}
-use Rattle.gb_schedule.specs.declared.command.Step.TheVariants.{Pack, Again, Ack, Arrive, Tick, Stop, Fetch}
+use Rattle.gb_schedule.specs.declared.command.Step.TheVariants.{Pack, Again, Ack, Arrive, Tick, Stop}
 use Rattle.gb_schedule.specs.declared.command.Step.{Step as AnyStep}
-use Rattle.gb_schedule.specs.Grammar.{NamesTwoNodes, SpellsPack, SpellsAgain, SpellsAck, SpellsArrive, SpellsTick, SpellsStop, SpellsFetch}
+use Rattle.gb_schedule.specs.Grammar.{NamesTwoNodes, SpellsPack, SpellsAgain, SpellsAck, SpellsArrive, SpellsTick, SpellsStop}
 use Rattle.gb_schedule.specs.Numbers.{IsNumberAt, AreNumbers}
 use Rattle.gb_schedule.proofs.NumbersLemmas.{within}
 
@@ -25,7 +20,7 @@ same_node a b is =
     let small_b = b.below in
     same_number a b (decimal_injective a.number b.number (omega (arith, small_a)) (omega (arith, small_b)) is)
 
-step_is : {a b : AnyStep} → Step a ≡ Step b → a ≡ b
+pub step_is : {a b : AnyStep} → Step a ≡ Step b → a ≡ b
 step_is is = cc is
 
 -- where no numbers were read, none are there
@@ -206,84 +201,3 @@ again_none nodes last text is none step = (
       none_there (last ∷ last ∷ largest ∷ []) text (spelt.node.number ∷ spelt.to.number ∷ spelt.frame ∷ []) none
       (spelt.words_are, (omega (arith, is, first), (omega (arith, is, second), (spelt.frame_in, tt)))),
 )
-
--- the bounds of the numbers of a fetch
-abbrev pub fetch_bounds : ℕ → List ℕ
-fetch_bounds last = last ∷ 65535 ∷ 65535 ∷ 4294967295 ∷ 4294967295 ∷ []
-
-pub fetch_within : (last : ℕ) (text ns : List ℕ) → Reads (AreNumbers (fetch_bounds last) text) ns
-    → (get_or ns 0 0 ≤ last) × (get_or ns 1 0 ≤ 65535) × (get_or ns 2 0 ≤ 65535) × (get_or ns 3 0 ≤ 4294967295) × (get_or ns 4 0 ≤ 4294967295)
-fetch_within last text ns reads =
-    let are = (found (AreNumbers (fetch_bounds last) text) ns reads).1 in
-    let le = within (fetch_bounds last) ns in
-    (le 0 are, le 1 are, le 2 are, le 3 are, le 4 are)
-
--- numbers within their bounds spell a fetch of a first generation
-pub first_fetch : (nodes last : ℕ) (text ns : List ℕ) (node : NodeId) (from most : ℕ) → last + 1 ≡ nodes → Reads (AreNumbers (fetch_bounds last) text) ns
-    → node.number ≡ get_or ns 0 0 → from ≡ get_or ns 3 0 → most ≡ get_or ns 4 0
-    → SpellsFetch nodes (Step (Fetch node (record { tenant = get_or ns 1 0; group = get_or ns 2 0; generation = 0 }) from most)) (words_of text)
-first_fetch nodes last text [] node from most is reads n f m = absurd (found (AreNumbers (fetch_bounds last) text) [] reads).1
-first_fetch nodes last text (a ∷ []) node from most is reads n f m = absurd (found (AreNumbers (fetch_bounds last) text) (a ∷ []) reads).1.1
-first_fetch nodes last text (a ∷ b ∷ []) node from most is reads n f m = absurd (found (AreNumbers (fetch_bounds last) text) (a ∷ b ∷ []) reads).1.1.1
-first_fetch nodes last text (a ∷ b ∷ c ∷ []) node from most is reads n f m = absurd (found (AreNumbers (fetch_bounds last) text) (a ∷ b ∷ c ∷ []) reads).1.1.1.1
-first_fetch nodes last text (a ∷ b ∷ c ∷ d ∷ []) node from most is reads n f m = absurd (found (AreNumbers (fetch_bounds last) text) (a ∷ b ∷ c ∷ d ∷ []) reads).1.1.1.1.1
-first_fetch nodes last text (a ∷ b ∷ c ∷ d ∷ e ∷ x ∷ ns) node from most is reads n f m = absurd (found (AreNumbers (fetch_bounds last) text) (a ∷ b ∷ c ∷ d ∷ e ∷ x ∷ ns) reads).1.1.1.1.1.1
-first_fetch nodes last text (a ∷ b ∷ c ∷ d ∷ e ∷ []) node from most is reads n f m =
-    let are = found (AreNumbers (fetch_bounds last) text) (a ∷ b ∷ c ∷ d ∷ e ∷ []) reads in
-    let first : a ≤ last = are.1.0 in
-    let second : b ≤ 65535 = are.1.1.0 in
-    let third : c ≤ 65535 = are.1.1.1.0 in
-    let fourth : d ≤ 4294967295 = are.1.1.1.1.0 in
-    let fifth : e ≤ 4294967295 = are.1.1.1.1.1.0 in
-    record {
-      node = node;
-      address = record { tenant = b; group = c; generation = 0 };
-      from = from;
-      most = most;
-      command_is = refl;
-      words_are = cc (are.0, n, f, m);
-      in_cluster = omega (arith, is, n, first);
-      tenant = second;
-      group = (third, omega arith);
-      from_in = omega (arith, f, fourth);
-      most_in = omega (arith, m, fifth);
-    }
-
--- words spell one fetch at most
-pub one_fetch : (nodes : ℕ) (words : List (List ℕ)) (step other : AnyStep) → SpellsFetch nodes (Step step) words → SpellsFetch nodes (Step other) words → step ≡ other
-one_fetch nodes words step other here spelt =
-    let same : decimal here.node.number ∷ decimal here.address.tenant ∷ group_word here.address ∷ decimal here.from ∷ decimal here.most ∷ [] ≡ decimal spelt.node.number ∷ decimal spelt.address.tenant ∷ group_word spelt.address ∷ decimal spelt.from ∷ decimal spelt.most ∷ [] = sym here.words_are ∙ spelt.words_are in
-    let same_first : here.node ≡ spelt.node = same_node here.node spelt.node cc in
-    let tenants : decimal here.address.tenant ≡ decimal spelt.address.tenant = cc in
-    let groups : group_word here.address ≡ group_word spelt.address = cc in
-    let same_address : here.address ≡ spelt.address = one_address here.address spelt.address here.tenant spelt.tenant here.group spelt.group tenants groups in
-    let same_from : here.from ≡ spelt.from = decimal_injective here.from spelt.from (let small = here.from_in in omega (arith, small)) (let small = spelt.from_in in omega (arith, small)) cc in
-    let same_most : here.most ≡ spelt.most = decimal_injective here.most spelt.most (let small = here.most_in in omega (arith, small)) (let small = spelt.most_in in omega (arith, small)) cc in
-    let same_fetch : Fetch here.node here.address here.from here.most ≡ Fetch spelt.node spelt.address spelt.from spelt.most = λ i. Fetch (same_first i) (same_address i) (same_from i) (same_most i) in
-    step_is here.command_is ∙ same_fetch ∙ sym (step_is spelt.command_is)
-
--- a fetch that words spell is what they spell
-pub fetch_found : (nodes : ℕ) (words : List (List ℕ)) (step : AnyStep) → SpellsFetch nodes (Step step) words → Reads (λ x. SpellsFetch nodes (Step x) words) step
-fetch_found nodes words step here = reads_one (λ x. SpellsFetch nodes (Step x) words) step here (λ other spelt. one_fetch nodes words step other here spelt)
-
--- the words of a node, a group and two numbers spell a fetch
-pub fetch_reads : (nodes : ℕ) (words : List (List ℕ)) (a t g f m : List ℕ) (node : NodeId) (address : Addr) (from most : ℕ) → words ≡ a ∷ t ∷ g ∷ f ∷ m ∷ []
-    → Reads (AreGroupWords nodes a t g) (node, address) → Reads (IsLongWord f) from → Reads (IsLongWord m) most
-    → Reads (λ step. SpellsFetch nodes (Step step) words) (Fetch node address from most)
-fetch_reads nodes words a t g f m node address from most are reads_group reads_from reads_most =
-    let is = found (AreGroupWords nodes a t g) (node, address) reads_group in
-    let is_from = found (IsLongWord f) from reads_from in
-    let is_most = found (IsLongWord m) most reads_most in
-    fetch_found nodes words (Fetch node address from most) (record {
-      node = node;
-      address = address;
-      from = from;
-      most = most;
-      command_is = refl;
-      words_are = cc (are, is.0.1, is.1.1, is.1.3, is_from.1, is_most.1);
-      in_cluster = is.0.0;
-      tenant = is.1.0;
-      group = is.1.2;
-      from_in = is_from.0;
-      most_in = is_most.0;
-    })

@@ -2,15 +2,16 @@
 -- without a leading zero.
 use Rattle.std.specs.Prelude.{◌≡◌, ◌⊎◌, ℕ, ◌<◌, ◌≤◌, List, [], ◌∷◌, Option, None, Some, replicate, decimal}
 use Rattle.gb_types.specs.declared.limits.TheConstants.{NODES, SILENCE_MIN, SILENCE_MAX}
+use Rattle.gb_types.specs.CommandWords.{SpellsCommand}
 use Rattle.gb_types.specs.PayloadWord.{payload_of}
-use Rattle.gb_types.specs.RequestWords.{IsShort, IsLong, SpellsSpec, SpellsMessage, group_word, IsGroup}
+use Rattle.gb_types.specs.RequestWords.{IsShort, IsLong, group_word, IsGroup}
 use Rattle.gb_types.specs.declared.node.NodeId.{NodeId}
 use Rattle.gb_types.specs.declared.address.Addr.{Addr}
-use Rattle.gb_types.specs.declared.new_message.NewMessage.{NewMessage}
-use Rattle.gb_types.specs.declared.spec.Spec.{Spec}
+use Rattle.gb_types.specs.declared.command_words.CommandHead.{CommandHead}
+use Rattle.gb_types.specs.declared.request.Action.TheVariants as actions
+use Rattle.gb_types.specs.declared.request.GroupCommand.{GroupCommand}
+use Rattle.gb_types.specs.declared.request.GroupCommand.TheVariants as commands
 use Rattle.gb_types.specs.declared.spec.TenantRow.{TenantRow}
-use Rattle.gb_types.specs.declared.request.Request.{Request as AnyRequest}
-use Rattle.gb_types.specs.declared.request.Request.TheVariants.{AddTenant, Make, OpenGroup, ShutGroup, DropGroup, Say}
 use Rattle.gb_types.specs.declared.version.Version.TheVariants.{One}
 use Rattle.gb_types.specs.Version.{limits_of, version_at}
 use Rattle.gb_schedule.specs.declared.command.ClusterStart.{ClusterStart}
@@ -54,7 +55,7 @@ pub record SpellsCluster2 (command : Command) (words : List (List ℕ)) : Type 0
 pub record SpellsTenant (nodes : ℕ) (command : Command) (words : List (List ℕ)) : Type 0 where
   pub node : NodeId
   pub row : TenantRow
-  pub command_is : command ≡ Request node (AddTenant admin_token row)
+  pub command_is : command ≡ Request node (record { token = admin_token; what = actions.AddTenant row })
   pub words_are : words ≡ decimal node.number ∷ decimal row.tenant ∷ decimal row.groups ∷ decimal row.msgs ∷ decimal row.bytes ∷ decimal row.window ∷ []
   pub in_cluster : node.number < nodes
   pub tenant : IsShort row.tenant
@@ -64,28 +65,25 @@ pub record SpellsTenant (nodes : ℕ) (command : Command) (words : List (List �
   pub bytes : IsLong row.bytes
   pub window : IsLong row.window
 
--- `make A T G KIND MEMBERS MSGS BYTES WINDOW`
-pub record SpellsMake (nodes : ℕ) (command : Command) (words : List (List ℕ)) : Type 0 where
-  pub node : NodeId
-  pub address : Addr
-  pub spec : Spec
-  pub spec_words : List (List ℕ)
-  pub command_is : command ≡ Request node (Make (tenant_token address.tenant) address spec)
-  pub words_are : words ≡ decimal node.number ∷ decimal address.tenant ∷ group_word address ∷ spec_words
-  pub in_cluster : node.number < nodes
-  pub tenant : IsShort address.tenant
-  pub group : IsGroup address
-  pub spells_spec : SpellsSpec spec spec_words
+-- What a schedule asks for by a command in a group: a request with the member's token to say a message, and with the tenant's for each
+-- other command; or a fetch, to which the member's token is added when the line is executed.
+abbrev pub asked_at : NodeId → Addr → GroupCommand → Command
+asked_at node address (commands.Fetch from most) = Step (Fetch node address from most)
+asked_at node address (commands.Say message) = Request node (record { token = member_token address node; what = actions.Group address (commands.Say message) })
+asked_at node address command = Request node (record { token = tenant_token address.tenant; what = actions.Group address command })
 
--- `A T G`, behind a head that makes this request of a group, with the tenant's token
-pub record SpellsNamed (request : List ℕ → Addr → AnyRequest) (nodes : ℕ) (command : Command) (words : List (List ℕ)) : Type 0 where
+-- `A T G`, and the words of a command
+pub record SpellsGroup (head : CommandHead) (nodes : ℕ) (command : Command) (words : List (List ℕ)) : Type 0 where
   pub node : NodeId
   pub address : Addr
-  pub command_is : command ≡ Request node (request (tenant_token address.tenant) address)
-  pub words_are : words ≡ decimal node.number ∷ decimal address.tenant ∷ group_word address ∷ []
+  pub asked : GroupCommand
+  pub asked_words : List (List ℕ)
+  pub command_is : command ≡ asked_at node address asked
+  pub words_are : words ≡ decimal node.number ∷ decimal address.tenant ∷ group_word address ∷ asked_words
   pub in_cluster : node.number < nodes
   pub tenant : IsShort address.tenant
   pub group : IsGroup address
+  pub asked_spelt : SpellsCommand head asked asked_words
 
 -- the first three words of a text name a node, a tenant and a group; these bytes stand behind them
 pub record NamesMember (nodes : ℕ) (text : List ℕ) (node : NodeId) (address : Addr) (behind : List ℕ) : Type 0 where
@@ -94,44 +92,11 @@ pub record NamesMember (nodes : ℕ) (text : List ℕ) (node : NodeId) (address 
   pub tenant : IsShort address.tenant
   pub group : IsGroup address
 
--- the first three words of a text, with a word behind them, name no member
-abbrev pub NamesNoMember : ℕ → List ℕ → Type 0
-NamesNoMember nodes text =
-    (node : NodeId) (address : Addr) (word : List ℕ) (words : List (List ℕ)) → node.number < nodes → IsShort address.tenant → IsGroup address
-    → words_of text ≡ decimal node.number ∷ decimal address.tenant ∷ group_word address ∷ word ∷ words → ⊥
-
--- `say A T G PAYLOAD`, or `say A T G PAYLOAD SEQ`
-pub record SpellsSay (nodes : ℕ) (command : Command) (words : List (List ℕ)) : Type 0 where
-  pub node : NodeId
-  pub address : Addr
-  pub message : NewMessage
-  pub message_words : List (List ℕ)
-  pub command_is : command ≡ Request node (Say (member_token address node) address message)
-  pub words_are : words ≡ decimal node.number ∷ decimal address.tenant ∷ group_word address ∷ message_words
-  pub in_cluster : node.number < nodes
-  pub tenant : IsShort address.tenant
-  pub group : IsGroup address
-  pub spells_message : SpellsMessage message message_words
-
--- `fetch A T G FROM MAX`; the member's token is added when the line is executed
-pub record SpellsFetch (nodes : ℕ) (command : Command) (words : List (List ℕ)) : Type 0 where
-  pub node : NodeId
-  pub address : Addr
-  pub from : ℕ
-  pub most : ℕ
-  pub command_is : command ≡ Step (Fetch node address from most)
-  pub words_are : words ≡ decimal node.number ∷ decimal address.tenant ∷ group_word address ∷ decimal from ∷ decimal most ∷ []
-  pub in_cluster : node.number < nodes
-  pub tenant : IsShort address.tenant
-  pub group : IsGroup address
-  pub from_in : IsLong from
-  pub most_in : IsLong most
-
 -- `forge A T G`: a say whose token is not valid
 pub record SpellsForge (nodes : ℕ) (command : Command) (words : List (List ℕ)) : Type 0 where
   pub node : NodeId
   pub address : Addr
-  pub command_is : command ≡ Request node (Say no_token address (record { payload = []; seq = None }))
+  pub command_is : command ≡ Request node (record { token = no_token; what = actions.Group address (commands.Say (record { payload = []; seq = None })) })
   pub words_are : words ≡ decimal node.number ∷ decimal address.tenant ∷ group_word address ∷ []
   pub in_cluster : node.number < nodes
   pub tenant : IsShort address.tenant
@@ -211,12 +176,7 @@ Spells heads.Cluster (Some nodes) command words = ⊥
 Spells heads.Cluster2 None command words = SpellsCluster2 command words
 Spells heads.Cluster2 (Some nodes) command words = ⊥
 Spells heads.Tenant (Some nodes) command words = SpellsTenant nodes command words
-Spells heads.Make (Some nodes) command words = SpellsMake nodes command words
-Spells heads.Open (Some nodes) command words = SpellsNamed OpenGroup nodes command words
-Spells heads.Shut (Some nodes) command words = SpellsNamed ShutGroup nodes command words
-Spells heads.Drop (Some nodes) command words = SpellsNamed DropGroup nodes command words
-Spells heads.Say (Some nodes) command words = SpellsSay nodes command words
-Spells heads.Fetch (Some nodes) command words = SpellsFetch nodes command words
+Spells (heads.Group head) (Some nodes) command words = SpellsGroup head nodes command words
 Spells heads.Forge (Some nodes) command words = SpellsForge nodes command words
 Spells heads.Pack (Some nodes) command words = SpellsPack nodes command words
 Spells heads.Again (Some nodes) command words = SpellsAgain nodes command words

@@ -1,19 +1,15 @@
 -- The words that lines of a schedule begin with.
 use Rattle.std.specs.Prelude.{ℕ, List, codes}
+use Rattle.gb_types.specs.CommandWords as commands
 use Rattle.gb_schedule.specs.declared.head.Head.{Head}
-use Rattle.gb_schedule.specs.declared.head.Head.TheVariants.{Cluster, Cluster2, Tenant, Make, Open, Shut, Drop, Say, Fetch, Forge, Pack, Again, Ack, Arrive, Noise, Tick, Stop}
+use Rattle.gb_schedule.specs.declared.head.Head.TheVariants.{Cluster, Cluster2, Tenant, Group, Forge, Pack, Again, Ack, Arrive, Noise, Tick, Stop}
 
 -- the word for a head
 abbrev pub head_word : Head → List ℕ
 head_word Cluster = codes "cluster"
 head_word Cluster2 = codes "cluster2"
 head_word Tenant = codes "tenant"
-head_word Make = codes "make"
-head_word Open = codes "open"
-head_word Shut = codes "shut"
-head_word Drop = codes "drop"
-head_word Say = codes "say"
-head_word Fetch = codes "fetch"
+head_word (Group head) = commands.head_word head
 head_word Forge = codes "forge"
 head_word Pack = codes "pack"
 head_word Again = codes "again"

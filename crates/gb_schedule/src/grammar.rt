@@ -1,6 +1,6 @@
 //! The grammar of a schedule: the words behind each head, and the command that they spell.
-ghost use Rattle.std.specs.Prelude.{◌≡◌, ◌≤◌, ◌<◌, ◌↔◌, ℕ, List, [], ◌∷◌, ◌++◌, Some, IfOk, IfSome, IfNone, IsTrue, codes, decimal, map, slice_index};
-ghost use Rattle.std.specs.Option.{ForSome};
+ghost use Rattle.std.specs.Prelude.{◌≡◌, ◌≤◌, ◌<◌, ◌↔◌, ℕ, List, [], ◌∷◌, ◌++◌, None, Some, IfOk, IfSome, IfNone, IsTrue, decimal, map, slice_index};
+ghost use Rattle.std.specs.Option.{option_map};
 ghost use Rattle.std.specs.Io.{StartsWith};
 ghost use Rattle.gb_types.specs.Words.{words_of};
 ghost use Rattle.gb_types.specs.RequestWords.{IsShort, SpellsMessage, group_word, IsGroup};
@@ -10,23 +10,22 @@ ghost use Rattle.gb_types.specs.declared.node.NodeId.{NodeId as TheNode};
 ghost use Rattle.gb_schedule.specs.declared.command.Step.{Step as TheStep};
 ghost use Rattle.gb_schedule.specs.declared.command.Command.{Command as TheCommand};
 ghost use Rattle.gb_schedule.specs.declared.command.Command.TheVariants as Commands;
-ghost use Rattle.gb_types.specs.declared.request.Request.TheVariants.{OpenGroup, ShutGroup, DropGroup};
-ghost use Rattle.gb_schedule.specs.declared.head.Head.TheVariants.{Open as OpenHead, Shut as ShutHead, Drop as DropHead, Say as SayHead};
-ghost use Rattle.gb_schedule.specs.Grammar.{NamesMember, NamesNoMember, NamesTwoNodes, AreRoomWords, SpellsCluster, SpellsCluster2, SpellsTenant, SpellsMake, SpellsNamed, SpellsSay, SpellsFetch, SpellsForge, SpellsPack, SpellsAgain, SpellsAck, SpellsArrive, SpellsNoise, SpellsTick, SpellsStop, Spells, IsCommandLine, IsInPlace, IsSilent, SilentLinesSpellNothing};
+ghost use Rattle.gb_types.specs.declared.command_words.CommandHead.TheVariants.{Fetch as FetchHead};
+ghost use Rattle.gb_schedule.specs.Grammar.{NamesMember, NamesTwoNodes, AreRoomWords, SpellsCluster, SpellsCluster2, SpellsTenant, asked_at, SpellsGroup, SpellsForge, SpellsPack, SpellsAgain, SpellsAck, SpellsArrive, SpellsNoise, SpellsTick, SpellsStop, Spells, IsCommandLine, IsInPlace, IsStart, IsSilent, SilentLinesSpellNothing};
 
 use crate::command::{ClusterStart, Command, Step};
 use crate::head::{Head, read_head};
 use crate::keys::{Keys, NO_TOKEN, tenant_key};
 use crate::versions::read_versions;
 use crate::words::{WORDS, cut_word, last_number_at, number_at, numbers_in, words_in};
-use gb_cap::Token;
 use gb_types::limits::{NODES, SILENCE_MAX, SILENCE_MIN};
 use gb_types::number::read_number;
 use gb_types::payload_word::read_payload;
-use gb_types::request_words::{
-    read_address, read_limits, read_message, read_spec, read_u16, read_u32,
+use gb_types::request_words::{read_address, read_limits, read_message, read_u16, read_u32};
+use gb_types::{
+    Action, Addr, CommandHead, GroupCommand, NewMessage, NodeId, OutOfMemory, Payload, Request,
+    TenantRow, Version, command_words,
 };
-use gb_types::{Addr, NewMessage, NodeId, OutOfMemory, Payload, Request, TenantRow, Version};
 use std::alloc::Global;
 
 // The largest numbers of 16 and of 32 bits.
@@ -77,8 +76,8 @@ fn read_count(word: &[u8], most: u8) -> Option<u8>
 }
 
 // cluster N S
-fn read_cluster(words: &[&[u8]]) -> Option<Command>
-    ensures { (command : TheCommand) → (result ≡ Some command)
+fn read_cluster(words: &[&[u8]]) -> Option<ClusterStart>
+    ensures { (command : TheCommand) → (option_map Commands.Cluster result ≡ Some command)
         ↔ SpellsCluster command (map (λ word. word.now) words.now) }
 {
     let [nodes, silence] = words else {
@@ -86,12 +85,12 @@ fn read_cluster(words: &[&[u8]]) -> Option<Command>
     };
     let nodes = read_count(nodes, Version::One.limits().nodes)?;
     let silence = read_silence(silence)?;
-    Some(Command::Cluster(ClusterStart {
+    Some(ClusterStart {
         nodes,
         versions: [Version::One; NODES],
         silence,
         room: ROOM,
-    }))
+    })
 }
 
 // Reads the most bytes of the items of a packet: 1 to 16,345. Returns 16,345 if there is no word.
@@ -109,8 +108,8 @@ fn read_room(words: &[&[u8]]) -> Option<u16>
 }
 
 // cluster2 N S VERS, or cluster2 N S VERS ROOM
-fn read_cluster2(words: &[&[u8]]) -> Option<Command>
-    ensures { (command : TheCommand) → (result ≡ Some command)
+fn read_cluster2(words: &[&[u8]]) -> Option<ClusterStart>
+    ensures { (command : TheCommand) → (option_map Commands.Cluster result ≡ Some command)
         ↔ SpellsCluster2 command (map (λ word. word.now) words.now) }
 {
     let [nodes, silence, versions, rest @ ..] = words else {
@@ -120,12 +119,12 @@ fn read_cluster2(words: &[&[u8]]) -> Option<Command>
     let silence = read_silence(silence)?;
     let versions = read_versions(nodes, versions)?;
     let room = read_room(rest)?;
-    Some(Command::Cluster(ClusterStart {
+    Some(ClusterStart {
         nodes,
         versions,
         silence,
         room,
-    }))
+    })
 }
 
 // tenant A T GROUPS MSGS BYTES WINDOW
@@ -149,7 +148,10 @@ fn read_tenant(keys: &Keys, nodes: u8, words: &[&[u8]]) -> Option<Command>
         bytes,
         window,
     };
-    let request = Request::AddTenant(keys.admin(), row);
+    let request = Request {
+        token: keys.admin(),
+        what: Action::AddTenant(row),
+    };
     Some(Command::Request(node, request))
 }
 
@@ -166,50 +168,47 @@ fn read_group(nodes: u8, node: &[u8], tenant: &[u8], group: &[u8]) -> Option<(No
     Some((node, address))
 }
 
-// make A T G KIND MEMBERS MSGS BYTES WINDOW
-fn read_make(keys: &mut Keys, nodes: u8, words: &[&[u8]]) -> Option<Command>
-    requires { (1 ≤ nodes) × (nodes ≤ NODES) }
-    ensures { (command : TheCommand) → (result ≡ Some command)
-        ↔ SpellsMake nodes command (map (λ word. word.now) words.now) }
+// Returns what a schedule asks of a node by a command in a group.
+#[inline(always)]
+fn asked_at(keys: &mut Keys, node: NodeId, address: Addr, command: GroupCommand) -> Command
+    ensures { result ≡ asked_at node address command }
 {
-    let [node, tenant, group, spec @ ..] = words else {
-        return None;
-    };
-    let (node, address) = read_group(nodes, node, tenant, group)?;
-    let spec = read_spec(spec)?;
-    let token = keys.tenant(address.tenant);
-    Some(Command::Request(node, Request::Make(token, address, spec)))
-}
-
-// Returns the request that a head makes of a group by its address alone: to open it, to shut it or to drop it.
-fn named_request(head: Head, token: Token, address: Addr) -> Request
-    ensures open { head ≡ OpenHead → result ≡ OpenGroup token address }
-    ensures shut { head ≡ ShutHead → result ≡ ShutGroup token address }
-    ensures drop { head ≡ DropHead → result ≡ DropGroup token address }
-{
-    match head {
-        Head::Open => Request::OpenGroup(token, address),
-        Head::Shut => Request::ShutGroup(token, address),
-        _ => Request::DropGroup(token, address),
+    match command {
+        GroupCommand::Fetch(from, most) => Command::Step(Step::Fetch(node, address, from, most)),
+        GroupCommand::Say(message) => {
+            let token = keys.member(address, node);
+            let command = GroupCommand::Say(message);
+            Command::Request(node, Request::of_group(token, address, command))
+        }
+        _ => {
+            let token = keys.tenant(address.tenant);
+            Command::Request(node, Request::of_group(token, address, command))
+        }
     }
 }
 
-// open A T G, shut A T G, drop A T G
-fn read_named(keys: &mut Keys, nodes: u8, head: Head, words: &[&[u8]]) -> Option<Command>
+// A T G, and the words of a command
+fn read_group_command(
+    alloc: Global,
+    keys: &mut Keys,
+    nodes: u8,
+    head: CommandHead,
+    words: &[&[u8]],
+) -> Result<Option<Command>, OutOfMemory>
     requires { (1 ≤ nodes) × (nodes ≤ NODES) }
-    ensures open { head ≡ OpenHead → (command : TheCommand) → (result ≡ Some command)
-        ↔ SpellsNamed OpenGroup nodes command (map (λ word. word.now) words.now) }
-    ensures shut { head ≡ ShutHead → (command : TheCommand) → (result ≡ Some command)
-        ↔ SpellsNamed ShutGroup nodes command (map (λ word. word.now) words.now) }
-    ensures drop { head ≡ DropHead → (command : TheCommand) → (result ≡ Some command)
-        ↔ SpellsNamed DropGroup nodes command (map (λ word. word.now) words.now) }
+    ensures { IfOk result (λ found. (command : TheCommand) → (found ≡ Some command)
+        ↔ SpellsGroup head nodes command (map (λ word. word.now) words.now)) }
 {
-    let [node, tenant, group] = words else {
-        return None;
+    let [node, tenant, group, words @ ..] = words else {
+        return Ok(None);
     };
-    let (node, address) = read_group(nodes, node, tenant, group)?;
-    let token = keys.tenant(address.tenant);
-    Some(Command::Request(node, named_request(head, token, address)))
+    let Some((node, address)) = read_group(nodes, node, tenant, group) else {
+        return Ok(None);
+    };
+    let Some(command) = command_words::read_command(alloc, head, words)? else {
+        return Ok(None);
+    };
+    Ok(Some(asked_at(keys, node, address, command)))
 }
 
 // Returns the member of a group's first generation that the first three words of a text name, and what stands behind them. This is
@@ -234,35 +233,6 @@ fn first_member(nodes: u8, text: &[u8]) -> Option<(NodeId, Addr, &[u8])>
     Some((NodeId::new(node as u8), address, &text[rest..]))
 }
 
-// Returns the member that the first three words of a text name, and what stands behind them. Not inlined, since it is called for
-// few lines.
-#[inline(never)]
-fn any_member(nodes: u8, text: &[u8]) -> Option<(NodeId, Addr, &[u8])>
-    requires { (1 ≤ nodes) × (nodes ≤ NODES) }
-    ensures some { IfSome result (λ found. NamesMember nodes text.now found.0 found.1 found.2.now) }
-    ensures none { IfNone result (NamesNoMember nodes text.now) }
-{
-    let (node, behind) = cut_word(text);
-    let (tenant, behind) = cut_word(behind?);
-    let (group, behind) = cut_word(behind?);
-    let rest = behind?;
-    let (node, address) = read_group(nodes, node, tenant, group)?;
-    Some((node, address, rest))
-}
-
-// Returns the member that the first three words of a text name, and what stands behind them.
-#[inline(always)]
-fn member_in(nodes: u8, text: &[u8]) -> Option<(NodeId, Addr, &[u8])>
-    requires { (1 ≤ nodes) × (nodes ≤ NODES) }
-    ensures some { IfSome result (λ found. NamesMember nodes text.now found.0 found.1 found.2.now) }
-    ensures none { IfNone result (NamesNoMember nodes text.now) }
-{
-    match first_member(nodes, text) {
-        Some(found) => Some(found),
-        None => any_member(nodes, text),
-    }
-}
-
 // Returns the message that a text spells: PAYLOAD, or PAYLOAD SEQ.
 fn read_message_in(alloc: Global, text: &[u8]) -> Result<Option<NewMessage>, OutOfMemory>
     ensures { IfOk result (λ found. (message : TheMessage) → (found ≡ Some message)
@@ -275,26 +245,29 @@ fn read_message_in(alloc: Global, text: &[u8]) -> Result<Option<NewMessage>, Out
     }
 }
 
-// say A T G PAYLOAD, or say A T G PAYLOAD SEQ
-fn read_say(
+// say A T G PAYLOAD, or say A T G PAYLOAD SEQ, in a group's first generation. This is the short way for most says of a schedule; where
+// it returns `Ok(None)`, the line may spell a command.
+fn read_first_say(
     alloc: Global,
     keys: &mut Keys,
     nodes: u8,
-    text: &[u8],
+    line: &[u8],
 ) -> Result<Option<Command>, OutOfMemory>
     requires { (1 ≤ nodes) × (nodes ≤ NODES) }
-    ensures { IfOk result (λ found. (command : TheCommand) → (found ≡ Some command)
-        ↔ SpellsSay nodes command (words_of text.now)) }
+    ensures { IfOk result (λ found. IfSome found (λ said. (command : TheCommand) → (Some said ≡ Some command)
+        ↔ IsCommandLine (Some nodes) line.now command)) }
 {
-    let Some((node, address, rest)) = member_in(nodes, text) else {
+    let Some(text) = behind(line, b"say ") else {
+        return Ok(None);
+    };
+    let Some((node, address, rest)) = first_member(nodes, text) else {
         return Ok(None);
     };
     let Some(message) = read_message_in(alloc, rest)? else {
         return Ok(None);
     };
-    let token = keys.member(address, node);
-    let request = Request::Say(token, address, message);
-    Ok(Some(Command::Request(node, request)))
+    let command = GroupCommand::Say(message);
+    Ok(Some(asked_at(keys, node, address, command)))
 }
 
 // forge A T G
@@ -309,7 +282,7 @@ fn read_forge(alloc: Global, nodes: u8, words: &[&[u8]]) -> Option<Command>
     let (node, address) = read_group(nodes, node, tenant, group)?;
     let nothing = Payload::new();
     let message = NewMessage::new(nothing);
-    let request = Request::Say(NO_TOKEN, address, message);
+    let request = Request::of_group(NO_TOKEN, address, GroupCommand::Say(message));
     Some(Command::Request(node, request))
 }
 
@@ -413,7 +386,8 @@ fn read_stop(nodes: u8, text: &[u8]) -> Option<Step>
 #[inline(always)]
 fn read_first_fetch(nodes: u8, text: &[u8]) -> Option<Step>
     requires { (1 ≤ nodes) × (nodes ≤ NODES) }
-    ensures { IfSome result (λ step. SpellsFetch nodes (Commands.Step step) (words_of text.now)) }
+    ensures { IfSome result (λ found. (step : TheStep) → (Some found ≡ Some step)
+        ↔ SpellsGroup FetchHead nodes (Commands.Step step) (words_of text.now)) }
 {
     let last = u64::from(nodes) - 1;
     let [node, tenant, group, from, most] = numbers_in(text, [last, SHORT, SHORT, LONG, LONG])?;
@@ -429,14 +403,13 @@ fn read_first_fetch(nodes: u8, text: &[u8]) -> Option<Step>
 fn read_fetch_words(nodes: u8, words: &[&[u8]]) -> Option<Step>
     requires { (1 ≤ nodes) × (nodes ≤ NODES) }
     ensures { (step : TheStep) → (result ≡ Some step)
-        ↔ SpellsFetch nodes (Commands.Step step) (map (λ word. word.now) words.now) }
+        ↔ SpellsGroup FetchHead nodes (Commands.Step step) (map (λ word. word.now) words.now) }
 {
-    let [node, tenant, group, from, most] = words else {
+    let [node, tenant, group, words @ ..] = words else {
         return None;
     };
     let (node, address) = read_group(nodes, node, tenant, group)?;
-    let from = read_u32(from)?;
-    let most = read_u32(most)?;
+    let (from, most) = command_words::read_fetch(words)?;
     Some(Step::Fetch(node, address, from, most))
 }
 
@@ -445,7 +418,7 @@ fn read_fetch_words(nodes: u8, words: &[&[u8]]) -> Option<Step>
 fn read_any_fetch(nodes: u8, text: &[u8]) -> Option<Step>
     requires { (1 ≤ nodes) × (nodes ≤ NODES) }
     ensures { (step : TheStep) → (result ≡ Some step)
-        ↔ SpellsFetch nodes (Commands.Step step) (words_of text.now) }
+        ↔ SpellsGroup FetchHead nodes (Commands.Step step) (words_of text.now) }
 {
     let mut space: [&[u8]; WORDS] = [text; WORDS];
     let count = words_in(text, &mut space)?;
@@ -456,7 +429,7 @@ fn read_any_fetch(nodes: u8, text: &[u8]) -> Option<Step>
 fn read_fetch(nodes: u8, text: &[u8]) -> Option<Step>
     requires { (1 ≤ nodes) × (nodes ≤ NODES) }
     ensures { (step : TheStep) → (result ≡ Some step)
-        ↔ SpellsFetch nodes (Commands.Step step) (words_of text.now) }
+        ↔ SpellsGroup FetchHead nodes (Commands.Step step) (words_of text.now) }
 {
     match read_first_fetch(nodes, text) {
         Some(step) => Some(step),
@@ -507,88 +480,53 @@ fn find_step(nodes: u8, line: &[u8]) -> Option<Step>
     }
 }
 
-/// Returns the step that a line of a schedule spells: a fetch, or what is asked of links, time and a node's end. `None` if it spells
-/// none. `nodes` is the number of nodes of the cluster, or `None` before a cluster is started; then there is no step.
-pub fn read_step(nodes: Option<u8>, line: &[u8]) -> Option<Step>
-    requires { ForSome nodes (λ count. (1 ≤ count) × (count ≤ NODES)) }
+/// Returns the step that a line of a schedule spells in a cluster of `nodes` nodes: a fetch, or what is asked of links, time and a
+/// node's end. `None` if it spells none.
+pub fn read_step(nodes: u8, line: &[u8]) -> Option<Step>
+    requires { (1 ≤ nodes) × (nodes ≤ NODES) }
     ensures spelt { (step : TheStep) → (result ≡ Some step)
-        ↔ IsCommandLine nodes line.now (Commands.Step step) }
-    ensures in_place { IfSome result (λ step. IsInPlace nodes (Commands.Step step)) }
+        ↔ IsCommandLine (Some nodes) line.now (Commands.Step step) }
+    ensures none { IfNone result ((step : TheStep) → IsCommandLine (Some nodes) line.now (Commands.Step step) → ⊥) }
+    ensures in_place { IfSome result (λ step. IsInPlace (Some nodes) (Commands.Step step)) }
 {
-    match nodes {
-        None => None,
-        Some(nodes) => find_step(nodes, line),
-    }
+    find_step(nodes, line)
 }
 
-// Returns the number of nodes of the cluster, and what stands behind `say ` in a line. `None` if there is no cluster yet, or if the
-// line does not begin with `say `.
-fn behind_say(nodes: Option<u8>, line: &[u8]) -> Option<(u8, &[u8])>
-    ensures some { IfSome result (λ found. (nodes ≡ Some found.0) × (line.now ≡ codes "say " ++ found.1.now)) }
-    ensures none { IfNone result (ForSome nodes (λ count. StartsWith line.now (codes "say ") → ⊥)) }
-{
-    let nodes = nodes?;
-    let text = behind(line, b"say ")?;
-    Some((nodes, text))
-}
-
-// Returns the command that a head and the words behind it, its arguments, spell, if it is neither a step nor a say.
+// Returns the command that a head and the words behind it, its arguments, spell, if it is no step.
 fn read_arguments(
     alloc: Global,
     keys: &mut Keys,
-    nodes: Option<u8>,
+    nodes: u8,
     head: Head,
     arguments: &[&[u8]],
 ) -> Result<Option<Command>, OutOfMemory>
-    requires few { ForSome nodes (λ count. (1 ≤ count) × (count ≤ NODES)) }
-    requires no_step { (step : TheStep) → Spells head nodes (Commands.Step step) (map (λ word. word.now) arguments.now) → ⊥ }
-    requires no_say { (command : TheCommand) → head ≡ SayHead → Spells head nodes command (map (λ word. word.now) arguments.now) → ⊥ }
+    requires few { (1 ≤ nodes) × (nodes ≤ NODES) }
+    requires no_step { (step : TheStep) → Spells head (Some nodes) (Commands.Step step) (map (λ word. word.now) arguments.now) → ⊥ }
     ensures { IfOk result (λ found. (command : TheCommand) → (found ≡ Some command)
-        ↔ Spells head nodes command (map (λ word. word.now) arguments.now)) }
+        ↔ Spells head (Some nodes) command (map (λ word. word.now) arguments.now)) }
 {
-    let Some(nodes) = nodes else {
-        return Ok(match head {
-            Head::Cluster => read_cluster(arguments),
-            Head::Cluster2 => read_cluster2(arguments),
-            _ => None,
-        });
-    };
     match head {
         Head::Cluster | Head::Cluster2 => Ok(None),
         Head::Tenant => Ok(read_tenant(keys, nodes, arguments)),
-        Head::Make => Ok(read_make(keys, nodes, arguments)),
-        Head::Open | Head::Shut | Head::Drop => Ok(read_named(keys, nodes, head, arguments)),
+        Head::Group(head) => read_group_command(alloc, keys, nodes, head, arguments),
         Head::Forge => Ok(read_forge(alloc, nodes, arguments)),
         Head::Noise => read_noise(alloc, nodes, arguments),
-        Head::Say
-        | Head::Fetch
-        | Head::Pack
-        | Head::Again
-        | Head::Ack
-        | Head::Arrive
-        | Head::Tick
-        | Head::Stop => Ok(None),
+        Head::Pack | Head::Again | Head::Ack | Head::Arrive | Head::Tick | Head::Stop => Ok(None),
     }
 }
 
-/// Returns the command that a line of a schedule spells, if it spells no step. `Ok(None)` if it spells none. `Err` if there is no
-/// memory. `nodes` is the number of nodes of the cluster, or `None` before a cluster is started. A request has its token, made and kept
-/// by `keys`, unless it is a forged one.
-pub fn read_other_command(
+// Returns the command that a line spells, if it spells no step. This is the long way, by the words of the line.
+fn read_words(
     alloc: Global,
     keys: &mut Keys,
-    nodes: Option<u8>,
+    nodes: u8,
     line: &[u8],
 ) -> Result<Option<Command>, OutOfMemory>
-    requires few { ForSome nodes (λ count. (1 ≤ count) × (count ≤ NODES)) }
-    requires no_step { (step : TheStep) → IsCommandLine nodes line.now (Commands.Step step) → ⊥ }
-    ensures spelt { IfOk result (λ found. (command : TheCommand) → (found ≡ Some command)
-        ↔ IsCommandLine nodes line.now command) }
-    ensures in_place { IfOk result (λ found. IfSome found (IsInPlace nodes)) }
+    requires few { (1 ≤ nodes) × (nodes ≤ NODES) }
+    requires no_step { (step : TheStep) → IsCommandLine (Some nodes) line.now (Commands.Step step) → ⊥ }
+    ensures { IfOk result (λ found. (command : TheCommand) → (found ≡ Some command)
+        ↔ IsCommandLine (Some nodes) line.now command) }
 {
-    if let Some((nodes, text)) = behind_say(nodes, line) {
-        return read_say(alloc, keys, nodes, text);
-    }
     let mut space: [&[u8]; WORDS] = [line; WORDS];
     let Some(count) = words_in(line, &mut space) else {
         return Ok(None);
@@ -603,24 +541,52 @@ pub fn read_other_command(
     read_arguments(alloc, keys, nodes, head, arguments)
 }
 
-/// Returns the command that a line of a schedule spells. `Ok(None)` if it spells none. `Err` if there is no memory. `nodes` is the
-/// number of nodes of the cluster, or `None` before a cluster is started. A request has its token, made and kept by `keys`, unless it
-/// is a forged one.
-pub fn read_command(
+/// Returns the command that a line of a schedule spells in a cluster of `nodes` nodes, if it spells no step. `Ok(None)` if it spells
+/// none. `Err` if there is no memory. A request has its token, made and kept by `keys`, unless it is a forged one.
+pub fn read_other_command(
     alloc: Global,
     keys: &mut Keys,
-    nodes: Option<u8>,
+    nodes: u8,
     line: &[u8],
 ) -> Result<Option<Command>, OutOfMemory>
-    requires { ForSome nodes (λ count. (1 ≤ count) × (count ≤ NODES)) }
+    requires few { (1 ≤ nodes) × (nodes ≤ NODES) }
+    requires no_step { (step : TheStep) → IsCommandLine (Some nodes) line.now (Commands.Step step) → ⊥ }
     ensures spelt { IfOk result (λ found. (command : TheCommand) → (found ≡ Some command)
-        ↔ IsCommandLine nodes line.now command) }
-    ensures in_place { IfOk result (λ found. IfSome found (IsInPlace nodes)) }
+        ↔ IsCommandLine (Some nodes) line.now command) }
+    ensures in_place { IfOk result (λ found. IfSome found (IsInPlace (Some nodes))) }
 {
-    match read_step(nodes, line) {
-        Some(step) => Ok(Some(Command::Step(step))),
-        None => read_other_command(alloc, keys, nodes, line),
+    match read_first_say(alloc, keys, nodes, line)? {
+        Some(said) => Ok(Some(said)),
+        None => read_words(alloc, keys, nodes, line),
     }
+}
+
+// Returns how a cluster is started by a head and the words behind it, its arguments.
+fn start_of(head: Head, arguments: &[&[u8]]) -> Option<ClusterStart>
+    ensures { (command : TheCommand) → (option_map Commands.Cluster result ≡ Some command)
+        ↔ Spells head None command (map (λ word. word.now) arguments.now) }
+{
+    match head {
+        Head::Cluster => read_cluster(arguments),
+        Head::Cluster2 => read_cluster2(arguments),
+        _ => None,
+    }
+}
+
+/// Returns how the cluster is started by a line of a schedule before which none was started. `None` if the line starts none; then it
+/// spells no command.
+pub fn read_start(line: &[u8]) -> Option<ClusterStart>
+    ensures spelt { (command : TheCommand) → (option_map Commands.Cluster result ≡ Some command)
+        ↔ IsCommandLine None line.now command }
+    ensures right { IfSome result IsStart }
+{
+    let mut space: [&[u8]; WORDS] = [line; WORDS];
+    let count = words_in(line, &mut space)?;
+    let words = &space[..count];
+    let [head, arguments @ ..] = words else {
+        return None;
+    };
+    start_of(read_head(head)?, arguments)
 }
 
 /// Returns true if a line of a schedule asks for nothing: it is empty, or a comment, which begins with `#`.

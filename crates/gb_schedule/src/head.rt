@@ -3,6 +3,8 @@ ghost use Rattle.std.specs.Prelude.{◌≡◌, ◌↔◌, Some};
 ghost use Rattle.gb_schedule.specs.declared.head.Head.{Head};
 ghost use Rattle.gb_schedule.specs.Head.{head_word};
 
+use gb_types::{CommandHead, command_words};
+
 /// The first word of a line.
 #[derive(Clone, Copy)]
 pub enum Head {
@@ -10,12 +12,8 @@ pub enum Head {
     /// `cluster2`: a cluster each of whose nodes sends its own version.
     Cluster2,
     Tenant,
-    Make,
-    Open,
-    Shut,
-    Drop,
-    Say,
-    Fetch,
+    /// The head of a command in a group.
+    Group(CommandHead),
     Forge,
     Pack,
     Again,
@@ -34,12 +32,7 @@ fn word_of(head: Head) -> &'static [u8]
         Head::Cluster => b"cluster",
         Head::Cluster2 => b"cluster2",
         Head::Tenant => b"tenant",
-        Head::Make => b"make",
-        Head::Open => b"open",
-        Head::Shut => b"shut",
-        Head::Drop => b"drop",
-        Head::Say => b"say",
-        Head::Fetch => b"fetch",
+        Head::Group(head) => command_words::head_word(head),
         Head::Forge => b"forge",
         Head::Pack => b"pack",
         Head::Again => b"again",
@@ -51,7 +44,7 @@ fn word_of(head: Head) -> &'static [u8]
     }
 }
 
-/// Returns the only head that a word can name, by its first two letters, or by its first and its last.
+/// Returns the only head that a word can name, by its first two letters, or by its first and its last. `None` if it can name none.
 fn head_like(word: &[u8]) -> Option<Head>
     ensures { (head : Head) → word.now ≡ head_word head → result ≡ Some head }
 {
@@ -60,20 +53,14 @@ fn head_like(word: &[u8]) -> Option<Head>
         [b'c', ..] => Some(Head::Cluster),
         [b't', b'e', ..] => Some(Head::Tenant),
         [b't', ..] => Some(Head::Tick),
-        [b'm', ..] => Some(Head::Make),
-        [b'o', ..] => Some(Head::Open),
-        [b's', b'h', ..] => Some(Head::Shut),
-        [b's', b'a', ..] => Some(Head::Say),
-        [b's', ..] => Some(Head::Stop),
-        [b'd', ..] => Some(Head::Drop),
-        [b'f', b'e', ..] => Some(Head::Fetch),
-        [b'f', ..] => Some(Head::Forge),
+        [b's', b't', ..] => Some(Head::Stop),
+        [b'f', b'o', ..] => Some(Head::Forge),
         [b'p', ..] => Some(Head::Pack),
         [b'a', b'g', ..] => Some(Head::Again),
         [b'a', b'c', ..] => Some(Head::Ack),
         [b'a', ..] => Some(Head::Arrive),
         [b'n', ..] => Some(Head::Noise),
-        _ => None,
+        _ => Some(Head::Group(command_words::read_head(word)?)),
     }
 }
 

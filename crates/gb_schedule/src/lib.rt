@@ -1,5 +1,6 @@
 //! Schedules as text: the command that each line of a schedule spells. This crate reads no files and runs no cluster. Read
-//! `command::Command` first, then `grammar::read_command`.
+//! `command::Command` first, then `grammar::read_start`, `grammar::read_step` and
+//! `grammar::read_other_command`.
 #![tactic(auto)]
 
 pub mod command;

@@ -9,8 +9,8 @@ use gb_client::exchange::{receive, send};
 use gb_client::task::request_of;
 use gb_client::{Asked, ClientFault, Secrets};
 use gb_session::Head;
-use gb_types::NodeId;
 use gb_types::words::split_words;
+use gb_types::{CommandHead, NodeId};
 use std::alloc::Global;
 use std::net::{Net, TcpStream};
 use std::thread;
@@ -26,20 +26,20 @@ const SECRETS: Secrets = Secrets {
 // The requests at each node before the first message, and their replies.
 static PREPARATIONS: [(Head, &str, &str); 3] = [
     (Head::Tenant, "7 4 100 4096 100", "ok"),
-    (Head::Make, "7 1 fallack 0,1,2 100 4096 100", "ok"),
-    (Head::Open, "7 1", "ok"),
+    (Head::Group(CommandHead::Make), "7 1 fallack 0,1,2 100 4096 100", "ok"),
+    (Head::Group(CommandHead::Open), "7 1", "ok"),
 ];
 
 // Each member's message, and the requests at its node at the end.
 static SAYS: [[(Head, &str, &str); 1]; 3] = [
-    [(Head::Say, "7 1 hello", "said 1")],
-    [(Head::Say, "7 1 hi", "said 1")],
-    [(Head::Say, "7 1 goodbye", "said 1")],
+    [(Head::Group(CommandHead::Say), "7 1 hello", "said 1")],
+    [(Head::Group(CommandHead::Say), "7 1 hi", "said 1")],
+    [(Head::Group(CommandHead::Say), "7 1 goodbye", "said 1")],
 ];
 
 static END: [(Head, &str, &str); 2] = [
-    (Head::Shut, "7 1", "ok"),
-    (Head::Say, "7 1 more", "refused 6 WrongPhase"),
+    (Head::Group(CommandHead::Shut), "7 1", "ok"),
+    (Head::Group(CommandHead::Say), "7 1 more", "refused 6 WrongPhase"),
 ];
 
 // The entries of each member's log: origin, number, payload.
@@ -134,7 +134,7 @@ fn are_all(words: &[&[u8]]) -> bool {
 // Returns true if a member's log has all messages within ten seconds.
 fn hears_all<H: Clock>(rt: &H, alloc: Global, member: &mut Member) -> Result<bool, ClientFault> {
     for _ in 0..1_000 {
-        let log = reply(alloc, member, Head::Fetch, "7 1 0 16")?;
+        let log = reply(alloc, member, Head::Group(CommandHead::Fetch), "7 1 0 16")?;
         if has_all(alloc, &log)? {
             return Ok(true);
         }

@@ -4,7 +4,7 @@ use crate::messages::{DENIED, OPEN};
 use crate::served::{KEYS, is_told, prints};
 use gb_client::ClientFault;
 use gb_session::Head;
-use gb_types::NodeId;
+use gb_types::{CommandHead, NodeId};
 use std::alloc::Global;
 use std::net::{Net, TcpStream};
 use std::rt::HostRuntime;
@@ -26,18 +26,18 @@ static WORDS: [&str; 9] = [
 // The requests at the first and at the last node before the first message, and their replies.
 static PREPARATIONS: [(Head, &str, &str); 3] = [
     (Head::Tenant, "7 2 1 5 1", "ok"),
-    (Head::Make, "7 1 beb 0,31 1 5 1", "ok"),
-    (Head::Open, "7 1", "ok"),
+    (Head::Group(CommandHead::Make), "7 1 beb 0,31 1 5 1", "ok"),
+    (Head::Group(CommandHead::Open), "7 1", "ok"),
 ];
 
-static SAY: [(Head, &str, &str); 1] = [(Head::Say, "7 1 hello", "said 1")];
+static SAY: [(Head, &str, &str); 1] = [(Head::Group(CommandHead::Say), "7 1 hello", "said 1")];
 
 static HEARD: &[u8] = b"log 1 31:1:68656c6c6f";
 
 // Returns true if a member's log has the message within ten seconds.
 fn hears<H: Clock>(rt: &H, alloc: Global, member: &mut Member) -> Result<bool, ClientFault> {
     for _ in 0..1_000 {
-        let log = reply(alloc, member, Head::Fetch, "7 1 0 16")?;
+        let log = reply(alloc, member, Head::Group(CommandHead::Fetch), "7 1 0 16")?;
         if log.as_slice() == HEARD {
             return Ok(true);
         }

@@ -7,7 +7,7 @@ use gb_loop::Ending;
 use gb_server::{ServerLog, Signals, StatusServer, Why};
 use gb_session::Head;
 use gb_status::{Figure, Figures};
-use gb_types::{NodeId, NodeSet};
+use gb_types::{CommandHead, NodeId, NodeSet};
 use std::alloc::Global;
 use std::fs::{File, Files};
 use std::io::{ErrorKind, Read, Write};
@@ -31,15 +31,15 @@ fn has(text: &[u8], part: &[u8]) -> bool {
 // What a member asks at node 0, and its replies: two of the six requests are refused.
 static TRAFFIC: [(Head, &str, &str); 6] = [
     (Head::Tenant, "7 24 100 4096 100", "ok"),
-    (Head::Make, "7 1 allack 0 100 4096 100", "ok"),
-    (Head::Say, "7 1 early", "refused 6 WrongPhase"),
-    (Head::Open, "7 1", "ok"),
-    (Head::Say, "7 1 hello", "said 1"),
-    (Head::Say, "7 2 hello", "refused 2 NoGroup"),
+    (Head::Group(CommandHead::Make), "7 1 allack 0 100 4096 100", "ok"),
+    (Head::Group(CommandHead::Say), "7 1 early", "refused 6 WrongPhase"),
+    (Head::Group(CommandHead::Open), "7 1", "ok"),
+    (Head::Group(CommandHead::Say), "7 1 hello", "said 1"),
+    (Head::Group(CommandHead::Say), "7 2 hello", "refused 2 NoGroup"),
 ];
 
 // What a member asks at node 1, which knows no tenant.
-static DENIED_OPEN: [(Head, &str, &str); 1] = [(Head::Open, "8 1", "refused 1 Denied")];
+static DENIED_OPEN: [(Head, &str, &str); 1] = [(Head::Group(CommandHead::Open), "8 1", "refused 1 Denied")];
 
 // Lines of the text of figures after this traffic, and after three bytes that are no packet came to node 1.
 static FIGURES: [&[u8]; 13] = [

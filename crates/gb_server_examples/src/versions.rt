@@ -3,7 +3,7 @@ use crate::chat::{gives, joined};
 use crate::served::{KEYS, prints};
 use gb_client::ClientFault;
 use gb_session::Head;
-use gb_types::NodeId;
+use gb_types::{CommandHead, NodeId};
 use std::alloc::{AllocError, Global};
 use std::net::{Net, TcpStream};
 use std::rt::HostRuntime;
@@ -13,8 +13,8 @@ use std::time::Clock;
 // The requests before the first message, and their replies.
 static PREPARATIONS: [(Head, &str, &str); 3] = [
     (Head::Tenant, "7 2 1 4096 1", "ok"),
-    (Head::Make, "7 1 allack 0 1 4096 1", "ok"),
-    (Head::Open, "7 1", "ok"),
+    (Head::Group(CommandHead::Make), "7 1 allack 0 1 4096 1", "ok"),
+    (Head::Group(CommandHead::Open), "7 1", "ok"),
 ];
 
 // A server of one node: the option of its version, the length of a message, and the reply to the member that says it.
@@ -42,7 +42,7 @@ fn is_answered<H: Net<Stream = TcpStream> + Clock>(
     let mut member = joined(rt, base_port, NodeId::new(0))?;
     let is_prepared = gives(alloc, &mut member, &PREPARATIONS)?;
     let line = say_line(alloc, bytes)?;
-    let is_told = gives(alloc, &mut member, &[(Head::Say, &line, want)])?;
+    let is_told = gives(alloc, &mut member, &[(Head::Group(CommandHead::Say), &line, want)])?;
     Ok(is_prepared && is_told)
 }
 

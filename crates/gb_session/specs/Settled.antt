@@ -4,8 +4,9 @@ use Rattle.std.specs.List.{flat_map}
 use Rattle.gb_types.specs.ReplyText.{reply_spelling}
 use Rattle.gb_types.specs.declared.reply.Reply.{Reply}
 use Rattle.gb_types.specs.declared.reply.Reply.TheVariants.{Log}
+use Rattle.gb_types.specs.declared.request.Action.TheVariants.{Group}
+use Rattle.gb_types.specs.declared.request.GroupCommand.TheVariants.{Fetch}
 use Rattle.gb_types.specs.declared.request.Request.{Request}
-use Rattle.gb_types.specs.declared.request.Request.TheVariants.{Fetch}
 use Rattle.gb_session.specs.declared.ask.Ask.{Ask}
 use Rattle.gb_session.specs.declared.ask.Ask.TheVariants.{Now, Await, Operate}
 use Rattle.gb_session.specs.declared.ask.Place.{Place}
@@ -15,7 +16,7 @@ use Rattle.gb_session.specs.Streams.{framed}
 
 -- the request that fetches from a place
 abbrev pub fetch_of : Place → Request
-fetch_of place = Fetch place.token place.address place.from place.most
+fetch_of place = record { token = place.token; what = Group place.address (Fetch place.from place.most) }
 
 -- a log without entries
 abbrev pub is_empty_log : Reply → Bool

@@ -20,7 +20,7 @@ use crate::serve::SessionEnd;
 use gb_types::memory::put_bytes;
 use gb_types::number::put_number;
 use gb_types::reply_text::put_reply;
-use gb_types::{Entries, OutOfMemory, Refusal, Reply, Request};
+use gb_types::{Entries, GroupCommand, OutOfMemory, Refusal, Reply, Request};
 use std::alloc::Global;
 use std::marker::Model;
 
@@ -136,7 +136,8 @@ fn is_empty_log(reply: &Reply) -> bool
 fn fetch<A: Answers>(answers: &mut A, place: &Place) -> Reply
     ensures { A.answers.replies answers.old (fetch_of place.now) result answers.new }
 {
-    answers.answer(Request::Fetch(place.token, place.address, place.from, place.most))
+    let command = GroupCommand::Fetch(place.from, place.most);
+    answers.answer(Request::of_group(place.token, place.address, command))
 }
 
 // Fetches from the places in turn until a reply is not an empty log. Returns the index of that place and the reply.

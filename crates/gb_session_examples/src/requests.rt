@@ -1,7 +1,10 @@
 //! Tokens, and what the bodies of requests spell.
 use gb_session::grammar::parse_request;
 use gb_types::token_word::read_token;
-use gb_types::{Addr, Kind, NodeId, OutOfMemory, Refusal, Request, Spec, TenantRow};
+use gb_types::{
+    Action, Addr, GroupCommand, Kind, Module, NodeId, Order, OutOfMemory, Refusal, Request,
+    Spec, TenantRow,
+};
 use std::alloc::Global;
 use std::test::Fail;
 
@@ -107,14 +110,14 @@ fn which_open(token: &[u8; 32], address: Addr) -> (u8, bool) {
     (1, is_of_group(token, address))
 }
 
-/// Which of these requests it is, where all its parts are the ones that its words spell: 1 open, 2 shut, 3 drop, 4 say,
-/// 5 fetch, 6 tenant, 7 make, 8 say under 0, 9 say under 4,294,967,295, 10 open of the last generation; 0 for any other.
-fn which(request: &Request) -> u8 {
-    let (number, is_spelled) = match request {
-        Request::OpenGroup(token, address) => which_open(token, *address),
-        Request::ShutGroup(token, address) => (2, is_of_group(token, *address)),
-        Request::DropGroup(token, address) => (3, is_of_group(token, *address)),
-        Request::Say(token, address, message) => {
+/// Which command it is, by the numbers of `which`, and whether all its parts are right.
+fn which_command(token: &[u8; 32], address: Addr, command: &GroupCommand) -> (u8, bool) {
+    match command {
+        GroupCommand::Make(spec) => (7, *token == BYTES && is_spec(address, spec)),
+        GroupCommand::Open => which_open(token, address),
+        GroupCommand::Shut => (2, is_of_group(token, address)),
+        GroupCommand::Drop => (3, is_of_group(token, address)),
+        GroupCommand::Say(message) => {
             let is_said = message.payload.as_slice() == b"\xc0\xff\xee".as_slice();
             let number = match message.seq {
                 None => 4,
@@ -122,14 +125,22 @@ fn which(request: &Request) -> u8 {
                 Some(u32::MAX) => 9,
                 Some(_) => 0,
             };
-            (number, is_said && is_of_group(token, *address))
+            (number, is_said && is_of_group(token, address))
         }
-        Request::Fetch(token, address, from, most) => {
+        GroupCommand::Fetch(from, most) => {
             let is_fetched = *from == 5 && *most == 16;
-            (5, is_fetched && is_of_group(token, *address))
+            (5, is_fetched && is_of_group(token, address))
         }
-        Request::AddTenant(token, row) => (6, *token == BYTES && is_row(row)),
-        Request::Make(token, address, spec) => (7, *token == BYTES && is_spec(*address, spec)),
+    }
+}
+
+/// Which of these requests it is, where all its parts are the ones that its words spell: 1 open, 2 shut, 3 drop, 4 say,
+/// 5 fetch, 6 tenant, 7 make, 8 say under 0, 9 say under 4,294,967,295, 10 open of the last generation; 0 for any other.
+fn which(request: &Request) -> u8 {
+    let token = &request.token;
+    let (number, is_spelled) = match &request.what {
+        Action::AddTenant(row) => (6, *token == BYTES && is_row(row)),
+        Action::Group(address, command) => which_command(token, *address, command),
     };
     if is_spelled { number } else { 0 }
 }
@@ -157,7 +168,8 @@ fn is_spec(address: Addr, spec: &Spec) -> bool {
     }
     let is_named = address.tenant == 65_535 && address.group == 0;
     let is_limited = spec.msgs == 8 && spec.bytes == 4_294_967_295 && spec.window == 3;
-    is_named && is_limited && spec.kind == Kind::FifoLazy
+    let Kind { module, order } = spec.kind;
+    is_named && is_limited && module == Module::Lazy && order == Order::Fifo
 }
 
 /// Each body, and which request it spells.
@@ -208,8 +220,13 @@ fn is_malformed(alloc: Global, body: &[u8]) -> bool {
 
 /// Returns true if there are this many bytes, and they spell a say of this length.
 fn is_say(alloc: Global, body: &[u8], len: usize, said: usize) -> bool {
-    match &parse_request(alloc, body) {
-        Ok(Request::Say(_, _, message)) => body.len() == len && message.payload.len() == said,
+    let Ok(request) = parse_request(alloc, body) else {
+        return false;
+    };
+    match &request.what {
+        Action::Group(_, GroupCommand::Say(message)) => {
+            body.len() == len && message.payload.len() == said
+        }
         _ => false,
     }
 }

@@ -4,7 +4,9 @@ ghost use Rattle.gb_session.specs.SessionValue.{SessionValue};
 
 use gb_session::answers::put_refusal;
 use gb_session::{Answers, Operation, Session, SessionEnd, Step};
-use gb_types::{Entries, Entry, NodeId, OutOfMemory, Payload, Refusal, Reply, Request};
+use gb_types::{
+    Action, Entries, Entry, GroupCommand, NodeId, OutOfMemory, Payload, Refusal, Reply, Request,
+};
 use std::alloc::Global;
 use std::test::Fail;
 
@@ -38,8 +40,8 @@ impl Answers for Groups {
 
     fn answer(&mut self, request: Request) -> Reply {
         self.asked = self.asked.saturating_add(1);
-        match &request {
-            Request::Fetch(_, address, _, _) => {
+        match &request.what {
+            Action::Group(address, GroupCommand::Fetch(_, _)) => {
                 if address.group == 99 {
                     Reply::Refused(Refusal::NoGroup)
                 } else if address.group >= self.some_from {

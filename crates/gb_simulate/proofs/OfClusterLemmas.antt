@@ -1,5 +1,5 @@
 -- What a cluster's calls say, in the words of schedules.
-use Rattle.std.proofs.Common.{◌≡◌, Some, ap, ◌∙◌, arith}
+use Rattle.std.proofs.Common.{◌≡◌, ap, ◌∙◌, arith}
 use Rattle.std.proofs.lemmas.List.FromFn.{length-map-range_with_len}
 use Rattle.gb_node.specs.NodeStep.{node_numbered}
 use Rattle.gb_node.specs.NodeValue.{new_node}
@@ -7,10 +7,10 @@ use Rattle.gb_cluster.specs.ClusterStep.{IsStep}
 use Rattle.gb_cluster.specs.ClusterValue.{ClusterValue, new_cluster, node_plan, IsClusterPlan}
 use Rattle.gb_cluster.specs.declared.answer.Answer.{Answer}
 use Rattle.gb_cluster.specs.declared.event.Event.{Event}
+use Rattle.gb_schedule.specs.Grammar.{IsStart}
 use Rattle.gb_schedule.specs.declared.command.ClusterStart.{ClusterStart}
 use Rattle.gb_simulate.specs.OfCluster.{plan_of, started, size, Takes}
 use Rattle.gb_simulate.specs.Schedule.{HasNodes}
-use Rattle.gb_types.proofs.ReadLemmas.{some_same}
 
 pub started_so : (v : ClusterValue) (start : ClusterStart) → v ≡ new_cluster (plan_of start) → v ≡ started start
 unfolding started
@@ -20,13 +20,15 @@ pub started_size : (start : ClusterStart) → size (started start) ≡ start.nod
 unfolding started
 started_size start = length-map-range_with_len (λ a. new_node (node_plan (plan_of start) (node_numbered a))) 0 start.nodes
 
-pub has_nodes : (v : ClusterValue) (start : ClusterStart) → IsClusterPlan (plan_of start) → v ≡ new_cluster (plan_of start) → HasNodes (Some v)
-has_nodes v start right is count some =
-    let size_is : size v ≡ start.nodes = ap size (started_so v start is) ∙ started_size start in
-    let same : size v ≡ count = some_same (size v) count some in
+pub is_plan : (start : ClusterStart) → IsStart start → IsClusterPlan (plan_of start)
+is_plan start right = record { some = right.some; few = right.few; named = right.named; places = omega arith; least = right.least; most = right.most }
+
+pub has_nodes : (v : ClusterValue) (start : ClusterStart) → IsStart start → v ≡ started start → HasNodes v
+has_nodes v start right is =
+    let size_is : size v ≡ start.nodes = ap size is ∙ started_size start in
     let least = right.some in
     let most = right.few in
-    (omega (arith, size_is, same, least), omega (arith, size_is, same, most))
+    (omega (arith, size_is, least), omega (arith, size_is, most))
 
 pub takes_so : (before after : ClusterValue) (event : Event) (answer : Answer) → IsStep before event answer after → Takes before event answer after
 unfolding Takes

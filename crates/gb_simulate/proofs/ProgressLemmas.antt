@@ -1,17 +1,18 @@
 -- How each line moves a schedule on.
 use Rattle.std.proofs.Common.{ℕ, ◌+◌, ◌-◌, ◌≡◌, ◌≢◌, ◌≤◌, ◌<◌, List, [], ◌∷◌, ◌++◌, Option, Some, None, length, reverse, take, refl, sym, ap, ◌∙◌, subst, inl, inr, arith}
-use Rattle.std.specs.Prelude.{Result, Ok, Err, IfOk, IfErr}
+use Rattle.std.specs.Prelude.{Result, Ok, Err, IfOk, IfErr, IsErrAnd, ⊤}
 use Rattle.std.specs.Io.KnownBytes.{prepend_known}
 use Rattle.std.specs.Option.{IfSome}
 use Rattle.std.proofs.Math.Seq.{take-append-add}
 use Rattle.std.proofs.lemmas.Bool.{cases_lt}
 use Rattle.std.proofs.lemmas.List.{append_assoc, append-nil, reverse-append, take-append-le}
-use Rattle.gb_lines.specs.Lines.{lines_of}
+use Rattle.gb_lines.specs.Buffered.{WhereKnown}
+use Rattle.gb_lines.specs.Lines.{lines_of, GivesLine}
 use Rattle.gb_cluster.specs.ClusterValue.{ClusterValue}
 use Rattle.gb_simulate.specs.AnswerText.{bad_line}
 use Rattle.gb_simulate.specs.Schedule.{GoesOn}
-use Rattle.gb_simulate.specs.Text.{AreAnswered, Reaches, IsText, IsLeftOff, IsWrittenUpTo}
-use Rattle.gb_simulate.specs.Progress.{TakesLine, Ends, Fails, HandsOver, IsCutShort, IsAt, IsHalfway, IsGathered, IsGatheredUpTo}
+use Rattle.gb_simulate.specs.Text.{AreAnswered, Reaches, IsText, IsLeftOff, IsWritten, IsWrittenUpTo}
+use Rattle.gb_simulate.specs.Progress.{TakesLine, IsNext, Stops, HandsOver, IsCutShort, IsAt, IsOver}
 use Rattle.gb_simulate.specs.declared.outcome.SimEnd.{SimEnd}
 use Rattle.gb_simulate.specs.declared.outcome.SimEnd.TheVariants.{All, BadLine}
 use Rattle.gb_simulate.specs.declared.outcome.SimFault.{SimFault}
@@ -43,9 +44,19 @@ reaches_on input text xs ys line answer w after n r first few short goes =
 reaches_same : (input text : List ℕ) (w : Option ClusterValue) (n : ℕ) (xs ys : List (List ℕ)) → xs ≡ ys → Reaches input text w n xs → Reaches input text w n ys
 reaches_same input text w n xs ys same r = subst (λ q. Reaches input text w n q) same r
 
+-- the next line of a text that gives this one
+pub next_is : (P : List ℕ → Type 0) (line : List ℕ) (left left' : Option (List ℕ)) → WhereKnown (GivesLine line) left left' → P line → IsNext P left
+next_is P line None left' given p = tt
+next_is P line (Some text) None given p = absurd given
+next_is P line (Some text) (Some rest) given p = (line, lines_of rest, given.first, p)
+
+pub is_left : (P : List ℕ → Type 0) (left : Option (List ℕ)) → IsNext P left → IsNext (λ line. ⊤) left
+is_left P None next = tt
+is_left P (Some text) next = (next.0, next.1, next.2, tt)
+
 -- ---- one line more, and what is handed over
 
-at_on : (i b : List ℕ) (n : ℕ) (w after : Option ClusterValue) (left left' now : Option (List ℕ)) (g g' : List ℕ) → IsAt i b n w left now g → TakesLine n w after left left' g g' → IsAt i b (n + 1) after left' now g'
+pub at_on : (i b : List ℕ) (n : ℕ) (w after : Option ClusterValue) (left left' now : Option (List ℕ)) (g g' : List ℕ) → IsAt i b n w left now g → TakesLine n w after left left' g g' → IsAt i b (n + 1) after left' now g'
 at_on i b n w after None left' now g g' at takes = absurd (cc (at.left_is))
 at_on i b n w after (Some xs) None now g g' at takes = absurd takes.given
 at_on i b n w after (Some xs) (Some ys) now g g' at takes =
@@ -64,7 +75,7 @@ at_on i b n w after (Some xs) (Some ys) now g g' at takes =
 grown : (b written front xs ys : List ℕ) → Some xs ≡ Some (b ++ written) → ys ≡ xs ++ front → ys ≡ b ++ (written ++ front)
 grown b written front xs ys was is = is ∙ ap (λ q. q ++ front) (some_same xs (b ++ written) was) ∙ append_assoc b written front
 
-at_handed : (i b : List ℕ) (n : ℕ) (w : Option ClusterValue) (left now now' : Option (List ℕ)) (g g' : List ℕ) → IsAt i b n w left now g → HandsOver now now' g g' → IsAt i b n w left now' g'
+pub at_handed : (i b : List ℕ) (n : ℕ) (w : Option ClusterValue) (left now now' : Option (List ℕ)) (g g' : List ℕ) → IsAt i b n w left now g → HandsOver now now' g g' → IsAt i b n w left now' g'
 at_handed i b n w left None now' g g' at handed = absurd (cc (at.now_is))
 at_handed i b n w left (Some xs) None g g' at handed = absurd handed.1
 at_handed i b n w left (Some xs) (Some ys) g g' at (front, grows, is) =
@@ -77,45 +88,33 @@ at_handed i b n w left (Some xs) (Some ys) g g' at (front, grows, is) =
       reaches = subst (λ q. Reaches i q w n (lines_of at.rest)) same at.reaches;
     }
 
-pub halfway_start : (input before : Option (List ℕ)) (w : Option ClusterValue) (g : List ℕ) → w ≡ None → g ≡ [] → IsHalfway input before 1 w input before g
-halfway_start None before w g first none = tt
-halfway_start (Some i) None w g first none = tt
-halfway_start (Some i) (Some b) w g first none =
-    let here : IsAt i b 1 None (Some i) (Some b) g = record { written = []; rest = i; left_is = refl; now_is = ap Some (sym (append-nil b)); reaches = subst (λ q. Reaches i q None 1 (lines_of i)) (sym none) (reaches_start i) } in
-    subst (λ q. IsAt i b 1 q (Some i) (Some b) g) (sym first) here
+at_start : (i b : List ℕ) → IsAt i b 1 None (Some i) (Some b) []
+at_start i b = record { written = []; rest = i; left_is = refl; now_is = ap Some (sym (append-nil b)); reaches = reaches_start i }
 
-pub halfway_on : (input before left left' now now' : Option (List ℕ)) (n : ℕ) (w after : Option ClusterValue) (g mid g' : List ℕ)
-    → IsHalfway input before n w left now g → HandsOver now now' g mid → TakesLine n w after left left' mid g' → IsHalfway input before (n + 1) after left' now' g'
-halfway_on None before left left' now now' n w after g mid g' half handed takes = tt
-halfway_on (Some i) None left left' now now' n w after g mid g' half handed takes = tt
-halfway_on (Some i) (Some b) left left' now now' n w after g mid g' half handed takes =
-    at_on i b n w after left left' now' mid g' (at_handed i b n w left now now' g mid half handed) takes
+-- nothing is handed over
+pub none_handed : (now : Option (List ℕ)) (g : List ℕ) → HandsOver now now g g
+none_handed None g = ([], tt, refl)
+none_handed (Some xs) g = ([], sym (append-nil xs), refl)
 
 -- ---- the end
 
 -- the schedule ends here
-at_end : (i b : List ℕ) (n : ℕ) (w : Option ClusterValue) (left now : Option (List ℕ)) (g g' : List ℕ) (end : SimEnd) → IsAt i b n w left now g → Ends end n w left g g' → IsGathered end i b now g'
-at_end i b n w None now g g' end at ends = absurd (cc (at.left_is))
-at_end i b n w (Some xs) now g g' All at ends =
+pub at_end : (i b : List ℕ) (n : ℕ) (w : Option ClusterValue) (left unread unread' now : Option (List ℕ)) (g g' : List ℕ) (end : SimEnd)
+    → IsAt i b n w left now g → Stops (Ok (Some end)) n w left unread g g' → IsOver (Ok end) i b unread' now g'
+at_end i b n w None unread unread' now g g' end at ends = absurd (cc (at.left_is))
+at_end i b n w (Some xs) unread unread' now g g' All at ends =
     let none : at.rest ≡ [] = sym (some_same xs at.rest at.left_is) ∙ ends.0 in
     let r : Reaches i (at.written ++ g) w n [] = reaches_same i (at.written ++ g) w n (lines_of at.rest) [] (ap lines_of none) at.reaches in
     (at.written, at.now_is, (w, n, subst (λ q. Reaches i (at.written ++ q) w n []) (sym ends.1) r))
-at_end i b n w (Some xs) now g g' (BadLine k why) at ends =
+at_end i b n w (Some xs) unread unread' now g g' (BadLine k why) at ends =
     let bad = ends.0 in
     let lines_are : lines_of at.rest ≡ bad.0 ∷ bad.1 = ap lines_of (sym (some_same xs at.rest at.left_is)) ∙ bad.2 in
     let text_is : at.written ++ g' ≡ (at.written ++ g) ++ bad_line n = ap (λ q. at.written ++ q) ends.1 ∙ sym (append_assoc at.written g (bad_line n)) in
     rw ends.2 (at.written, at.now_is, (w, at.written ++ g, bad.0, bad.1, reaches_same i (at.written ++ g) w n (lines_of at.rest) (bad.0 ∷ bad.1) lines_are at.reaches, bad.3, text_is))
 
-pub end_gathered : (input before left now now' : Option (List ℕ)) (n : ℕ) (w : Option ClusterValue) (g mid g' : List ℕ) (found : Option SimEnd) (end : SimEnd)
-    → IsHalfway input before n w left now g → HandsOver now now' g mid → IfSome found (λ e. Ends e n w left mid g') → found ≡ Some end
-    → IfSome input (λ i. IfSome before (λ b. IsGathered end i b now' g'))
-end_gathered None before left now now' n w g mid g' found end half handed ends is = tt
-end_gathered (Some i) None left now now' n w g mid g' found end half handed ends is = tt
-end_gathered (Some i) (Some b) left now now' n w g mid g' found end half handed ends is =
-    at_end i b n w left now' mid g' end (at_handed i b n w left now now' g mid half handed) (subst (λ f. IfSome f (λ e. Ends e n w left mid g')) is ends)
-
 -- a fault of a read or of memory ends it here
-at_fault : (i b : List ℕ) (n : ℕ) (w : Option ClusterValue) (left unread now : Option (List ℕ)) (g g' : List ℕ) (why : SimFault) → IsAt i b n w left now g → Fails why left unread g g' → IsGatheredUpTo why i b unread now g'
+at_fault : (i b : List ℕ) (n : ℕ) (w : Option ClusterValue) (left unread now : Option (List ℕ)) (g g' : List ℕ) (why : SimFault)
+    → IsAt i b n w left now g → Stops (Err why) n w left unread g g' → IsOver (Err why) i b unread now g'
 at_fault i b n w None unread now g g' why at fails = absurd (cc (at.left_is))
 at_fault i b n w (Some xs) None now g g' Read at fails = absurd fails.0.2
 at_fault i b n w (Some xs) (Some ys) now g g' Read at fails =
@@ -128,14 +127,6 @@ at_fault i b n w (Some xs) unread now g g' OutOfMemory at fails =
     let r : Reaches i (at.written ++ g) w n (due.0 ∷ due.1) = reaches_same i (at.written ++ g) w n (lines_of at.rest) (due.0 ∷ due.1) lines_are at.reaches in
     (at.written, at.now_is, inr (w, n, due.0, due.1, subst (λ q. Reaches i (at.written ++ q) w n (due.0 ∷ due.1)) (sym fails.1) r))
 at_fault i b n w (Some xs) unread now g g' Write at fails = absurd fails
-
-pub fault_gathered : (input before left unread now now' : Option (List ℕ)) (n : ℕ) (w : Option ClusterValue) (g mid g' : List ℕ) (why : SimFault)
-    → IsHalfway input before n w left now g → HandsOver now now' g mid → Fails why left unread mid g'
-    → IfSome input (λ i. IfSome before (λ b. IsGatheredUpTo why i b unread now' g'))
-fault_gathered None before left unread now now' n w g mid g' why half handed fails = tt
-fault_gathered (Some i) None left unread now now' n w g mid g' why half handed fails = tt
-fault_gathered (Some i) (Some b) left unread now now' n w g mid g' why half handed fails =
-    at_fault i b n w left unread now' mid g' why (at_handed i b n w left now now' g mid half handed) fails
 
 -- ---- a failed write
 
@@ -189,69 +180,79 @@ front_of_text i unread text (BadLine n why) k (w, answers, line, more, r, bad, i
 ]
 
 -- so of a text up to a fault
-front_of_rest : (i : List ℕ) (unread unread' : Option (List ℕ)) (text : List ℕ) (why : SimFault) (k : ℕ) → why ≢ Write → IsLeftOff why i text unread → text ≢ [] → IsLeftOff Write i (take k text) unread'
-front_of_rest i unread unread' text Read k other (w, n, piece, rest, is, line, r) some = front_reached i unread' text w n (lines_of (piece ++ rest)) k r some
-front_of_rest i unread unread' text OutOfMemory k other (inl (same, none)) some = absurd (some none)
-front_of_rest i unread unread' text OutOfMemory k other (inr (w, n, line, more, r)) some = front_reached i unread' text w n (line ∷ more) k r some
-front_of_rest i unread unread' text Write k other off some = absurd (other refl)
+front_of_rest : (i : List ℕ) (unread : Option (List ℕ)) (text : List ℕ) (why : SimFault) (k : ℕ) → why ≢ Write → IsLeftOff why i text unread → text ≢ [] → IsLeftOff Write i (take k text) unread
+front_of_rest i unread text Read k other (w, n, piece, rest, is, line, r) some = front_reached i unread text w n (lines_of (piece ++ rest)) k r some
+front_of_rest i unread text OutOfMemory k other (inl (same, none)) some = absurd (some none)
+front_of_rest i unread text OutOfMemory k other (inr (w, n, line, more, r)) some = front_reached i unread text w n (line ∷ more) k r some
+front_of_rest i unread text Write k other off some = absurd (other refl)
 
 -- a front of what was gathered is written behind what is written
-cut_short : (i b written xs : List ℕ) (unread now' : Option (List ℕ)) (g : List ℕ) → Some xs ≡ Some (b ++ written) → IsCutShort (Some xs) now' g
-    → ((k : ℕ) → IsLeftOff Write i (take k (written ++ g)) unread) → IsWrittenUpTo Write i b unread now'
-cut_short i b written xs unread None g was cut off = absurd cut.1.1
-cut_short i b written xs unread (Some ys) g was (some, (count, grows)) off = (
+cut_short : (i b written : List ℕ) (unread now now' : Option (List ℕ)) (g : List ℕ) → now ≡ Some (b ++ written) → IsCutShort now now' g
+    → ((k : ℕ) → written ++ g ≢ [] → IsLeftOff Write i (take k (written ++ g)) unread) → IsWrittenUpTo Write i b unread now'
+cut_short i b written unread None now' g was cut off = absurd (cc was)
+cut_short i b written unread (Some xs) None g was cut off = absurd cut.1.1
+cut_short i b written unread (Some xs) (Some ys) g was (some, (count, grows)) off = (
   written ++ take count g,
   ap Some (grown b written (take count g) xs ys was grows),
-  subst (λ q. IsLeftOff Write i q unread) (take-append-add written g count) (off (length written + count)),
+  subst (λ q. IsLeftOff Write i q unread) (take-append-add written g count) (off (length written + count) (some_behind written g some)),
 )
 
 at_cut : (i b : List ℕ) (n : ℕ) (w : Option ClusterValue) (left unread now now' : Option (List ℕ)) (g : List ℕ) → IsAt i b n w left now g → IsCutShort now now' g → IsWrittenUpTo Write i b unread now'
-at_cut i b n w left unread None now' g at cut = absurd (cc (at.now_is))
-at_cut i b n w left unread (Some xs) now' g at cut =
-    cut_short i b at.written xs unread now' g at.now_is cut (λ k. front_reached i unread (at.written ++ g) w n (lines_of at.rest) k at.reaches (some_behind at.written g cut.0))
+at_cut i b n w left unread now now' g at cut =
+    cut_short i b at.written unread now now' g at.now_is cut (λ k some. front_reached i unread (at.written ++ g) w n (lines_of at.rest) k at.reaches some)
 
-pub cut_halfway : (input before left unread now now' : Option (List ℕ)) (n : ℕ) (w : Option ClusterValue) (g g' : List ℕ) (why : SimFault)
-    → IsHalfway input before n w left now g → (why ≡ Write) × IsCutShort now now' g → IfSome input (λ i. IfSome before (λ b. IsGatheredUpTo why i b unread now' g'))
-cut_halfway None before left unread now now' n w g g' why half cut = tt
-cut_halfway (Some i) None left unread now now' n w g g' why half cut = tt
-cut_halfway (Some i) (Some b) left unread now now' n w g g' why half cut =
-    subst (λ q. IsGatheredUpTo q i b unread now' g') (sym cut.0) (at_cut i b n w left unread now now' g half cut.1)
+-- so the schedule is over
+pub fault_over : (r : Result SimEnd SimFault) (why : SimFault) (i b : List ℕ) (n : ℕ) (w : Option ClusterValue) (left unread now : Option (List ℕ)) (g g' : List ℕ) → IsErrAnd r (λ x. x ≡ why)
+    → IsAt i b n w left now g → Stops (Err why) n w left unread g g' → IsOver r i b unread now g'
+fault_over (Ok end) why i b n w left unread now g g' is at stops = absurd is
+fault_over (Err x) why i b n w left unread now g g' is at stops = subst (λ q. IsOver (Err q) i b unread now g') (sym is) (at_fault i b n w left unread now g g' why at stops)
 
--- ---- a write fails at the end
+pub cut_over : (r : Result SimEnd SimFault) (why : SimFault) (i b : List ℕ) (n : ℕ) (w : Option ClusterValue) (left unread now now' : Option (List ℕ)) (g g' : List ℕ) → IsErrAnd r (λ x. x ≡ why)
+    → IsAt i b n w left now g → (why ≡ Write) × IsCutShort now now' g → IsOver r i b unread now' g'
+cut_over (Ok end) why i b n w left unread now now' g g' is at cut = absurd is
+cut_over (Err x) why i b n w left unread now now' g g' is at cut = subst (λ q. IsOver (Err q) i b unread now' g') (sym (is ∙ cut.0)) (at_cut i b n w left unread now now' g at cut.1)
 
-end_cut_at : (i b : List ℕ) (unread now now' : Option (List ℕ)) (g : List ℕ) (end : SimEnd) → IsGathered end i b now g → IsCutShort now now' g → IsWrittenUpTo Write i b unread now'
-end_cut_at i b unread None now' g end gathered cut = absurd (cc (gathered.1))
-end_cut_at i b unread (Some xs) now' g end (written, was, text) cut =
-    cut_short i b written xs unread now' g was cut (λ k. front_of_text i unread (written ++ g) end k text (some_behind written g cut.0))
+-- ---- the gathered answers are handed over at the end
 
-pub end_cut : (input before unread now now' : Option (List ℕ)) (g : List ℕ) (end : SimEnd)
-    → IfSome input (λ i. IfSome before (λ b. IsGathered end i b now g)) → IsCutShort now now' g → IfSome input (λ i. IfSome before (λ b. IsWrittenUpTo Write i b unread now'))
-end_cut None before unread now now' g end gathered cut = tt
-end_cut (Some i) None unread now now' g end gathered cut = tt
-end_cut (Some i) (Some b) unread now now' g end gathered cut = end_cut_at i b unread now now' g end gathered cut
+-- a front of them is written, and then a write fails
+pub over_cut : (outcome : Result SimEnd SimFault) (i b : List ℕ) (unread now now' : Option (List ℕ)) (g : List ℕ) → IsOver outcome i b unread now g → outcome ≢ Err Write → IsCutShort now now' g
+    → IsWrittenUpTo Write i b unread now'
+over_cut (Ok end) i b unread now now' g (written, was, text) other cut = cut_short i b written unread now now' g was cut (λ k some. front_of_text i unread (written ++ g) end k text some)
+over_cut (Err Write) i b unread now now' g over other cut = absurd (other refl)
+over_cut (Err Read) i b unread now now' g (written, was, off) other cut = cut_short i b written unread now now' g was cut (λ k some. front_of_rest i unread (written ++ g) Read k (λ is. other (ap Err is)) off some)
+over_cut (Err OutOfMemory) i b unread now now' g (written, was, off) other cut =
+    cut_short i b written unread now now' g was cut (λ k some. front_of_rest i unread (written ++ g) OutOfMemory k (λ is. other (ap Err is)) off some)
 
-fault_cut_at : (i b : List ℕ) (unread now now' : Option (List ℕ)) (g : List ℕ) (why : SimFault) → why ≢ Write → IsGatheredUpTo why i b unread now g → IsCutShort now now' g → IsWrittenUpTo Write i b unread now'
-fault_cut_at i b unread now now' g Write other gathered cut = absurd (other refl)
-fault_cut_at i b unread None now' g Read other gathered cut = absurd (cc (gathered.1))
-fault_cut_at i b unread (Some xs) now' g Read other (written, was, off) cut =
-    cut_short i b written xs unread now' g was cut (λ k. front_of_rest i unread unread (written ++ g) Read k other off (some_behind written g cut.0))
-fault_cut_at i b unread None now' g OutOfMemory other gathered cut = absurd (cc (gathered.1))
-fault_cut_at i b unread (Some xs) now' g OutOfMemory other (written, was, off) cut =
-    cut_short i b written xs unread now' g was cut (λ k. front_of_rest i unread unread (written ++ g) OutOfMemory k other off (some_behind written g cut.0))
+-- the text that a schedule makes is written
+abbrev pub IsWrittenTo : Result SimEnd SimFault → List ℕ → List ℕ → Option (List ℕ) → Option (List ℕ) → Type 0
+IsWrittenTo (Ok end) i b unread now = IsWritten end i b now
+IsWrittenTo (Err why) i b unread now = IsWrittenUpTo why i b unread now
 
-pub fault_cut : (input before unread now now' : Option (List ℕ)) (g : List ℕ) (why : SimFault) → why ≢ Write
-    → IfSome input (λ i. IfSome before (λ b. IsGatheredUpTo why i b unread now g)) → IsCutShort now now' g → IfSome input (λ i. IfSome before (λ b. IsWrittenUpTo Write i b unread now'))
-fault_cut None before unread now now' g why other gathered cut = tt
-fault_cut (Some i) None unread now now' g why other gathered cut = tt
-fault_cut (Some i) (Some b) unread now now' g why other gathered cut = fault_cut_at i b unread now now' g why other gathered cut
+all_handed : (b written : List ℕ) (now now' : Option (List ℕ)) (g : List ℕ) → now ≡ Some (b ++ written) → HandsOver now now' g [] → now' ≡ Some (b ++ (written ++ g))
+all_handed b written None now' g was handed = absurd (cc was)
+all_handed b written (Some xs) None g was handed = absurd handed.1
+all_handed b written (Some xs) (Some ys) g was (front, grows, is) =
+    ap Some (grown b written front xs ys was grows ∙ ap (λ q. b ++ (written ++ q)) (sym (is ∙ append-nil front)))
 
--- so however it ends
-pub outcome_cut : (outcome : Result SimEnd SimFault) (input before unread now now' : Option (List ℕ)) (g : List ℕ) (why : SimFault)
-    → IfOk outcome (λ end. IfSome (prepend_known [] input) (λ i. IfSome before (λ b. IsGathered end i b now g)))
-    → IfErr outcome (λ q. IfSome (prepend_known [] input) (λ i. IfSome before (λ b. IsGatheredUpTo q i b unread now g)))
-    → outcome ≢ Err Write → (why ≡ Write) × IsCutShort now now' g → IfSome input (λ i. IfSome before (λ b. IsWrittenUpTo why i b unread now'))
-outcome_cut outcome None before unread now now' g why ended off other cut = tt
-outcome_cut (Ok end) (Some i) before unread now now' g why ended off other cut =
-    subst (λ q. IfSome before (λ b. IsWrittenUpTo q i b unread now')) (sym cut.0) (end_cut (Some i) before unread now now' g end ended cut.1)
-outcome_cut (Err q) (Some i) before unread now now' g why ended off other cut =
-    subst (λ q. IfSome before (λ b. IsWrittenUpTo q i b unread now')) (sym cut.0) (fault_cut (Some i) before unread now now' g q (λ is. other (ap Err is)) off cut.1)
+-- all of them are written
+pub over_handed : (outcome : Result SimEnd SimFault) (i b : List ℕ) (unread now now' : Option (List ℕ)) (g : List ℕ) → IsOver outcome i b unread now g → outcome ≢ Err Write → HandsOver now now' g []
+    → IsWrittenTo outcome i b unread now'
+over_handed (Ok end) i b unread now now' g (written, was, text) other handed = (written ++ g, all_handed b written now now' g was handed, text)
+over_handed (Err Write) i b unread now now' g over other handed = absurd (other refl)
+over_handed (Err Read) i b unread now now' g (written, was, off) other handed = (written ++ g, all_handed b written now now' g was handed, off)
+over_handed (Err OutOfMemory) i b unread now now' g (written, was, off) other handed = (written ++ g, all_handed b written now now' g was handed, off)
+
+-- what is known of a schedule from its start on, where its text and what was written before are known
+pub text_so : (outcome : Result SimEnd SimFault) (input before unread now : Option (List ℕ)) → ((i b : List ℕ) → IsAt i b 1 None (prepend_known [] input) before [] → IsWrittenTo outcome i b unread now)
+    → IfOk outcome (λ end. IfSome input (λ i. IfSome before (λ b. IsWritten end i b now)))
+text_so (Err why) input before unread now so = tt
+text_so (Ok end) None before unread now so = tt
+text_so (Ok end) (Some i) None unread now so = tt
+text_so (Ok end) (Some i) (Some b) unread now so = so i b (at_start i b)
+
+pub fault_so : (outcome : Result SimEnd SimFault) (input before unread now : Option (List ℕ)) → ((i b : List ℕ) → IsAt i b 1 None (prepend_known [] input) before [] → IsWrittenTo outcome i b unread now)
+    → IfErr outcome (λ why. IfSome input (λ i. IfSome before (λ b. IsWrittenUpTo why i b unread now)))
+fault_so (Ok end) input before unread now so = tt
+fault_so (Err why) None before unread now so = tt
+fault_so (Err why) (Some i) None unread now so = tt
+fault_so (Err why) (Some i) (Some b) unread now so = so i b (at_start i b)

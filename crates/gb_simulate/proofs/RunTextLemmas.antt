@@ -25,6 +25,7 @@ use Rattle.gb_simulate.specs.RunTexts.{RunStep, AreRunSteps, TellsRun}
 use Rattle.gb_simulate.specs.Schedule.{Obeys, GoesOn, event_of}
 use Rattle.gb_simulate.specs.Text.{AreAnswered, Reaches}
 use Rattle.gb_cluster.proofs.CodeLemmas.{goes_on}
+use Rattle.gb_simulate.proofs.OfClusterLemmas.{is_plan}
 use Rattle.gb_simulate.specs.TextLaws.{IsServed, KeepsPromises, TellsLawfulRun, BeginsWithRun, TextsAreOfRuns}
 
 comes_started : (start : ClusterStart) → IsClusterPlan (plan_of start) → ComesTo (plan_of start) [] (started start)
@@ -77,7 +78,7 @@ start_on lines text line answer w (Cluster start) event run spelt (after_is, ans
         steps = [];
         told = (refl, refl);
         made = steps_started start;
-        comes = comes_started start (record { some = plan.some; few = plan.few; named = plan.named; places = omega arith; least = plan.least; most = plan.most });
+        comes = comes_started start (is_plan start plan);
       },
     )
 start_on lines text line answer w other event run spelt obeys = absurd obeys

@@ -1,6 +1,6 @@
 -- How one line changes the cluster, what is left of the text, and the gathered answers. What is left of the text and what is
 -- written may be unknown.
-use Rattle.std.specs.Prelude.{ℕ, ◌≡◌, ◌≢◌, ◌≤◌, List, [], ◌∷◌, ◌++◌, length, Option, Some}
+use Rattle.std.specs.Prelude.{ℕ, ◌≡◌, ◌≢◌, ◌≤◌, List, [], ◌∷◌, ◌++◌, length, Option, None, Some, Result, Ok, Err, ⊤}
 use Rattle.std.specs.Option.{IfSome}
 use Rattle.std.specs.Io.KnownBytes.{Appends, Keeps, prepend_known}
 use Rattle.gb_lines.specs.Buffered.{WhereKnown}
@@ -9,11 +9,10 @@ use Rattle.gb_lines.specs.declared.lines.TheConstants.{LINE}
 use Rattle.gb_cluster.specs.ClusterValue.{ClusterValue}
 use Rattle.gb_simulate.specs.Schedule.{GoesOn, IsBadLine}
 use Rattle.gb_simulate.specs.AnswerText.{bad_line}
-use Rattle.gb_simulate.specs.Text.{Reaches, IsText, IsLeftOff}
+use Rattle.gb_simulate.specs.Text.{Reaches, IsText, IsLeftOff, IsWrittenUpTo}
 use Rattle.gb_simulate.specs.Writing.{AppendsFront}
 use Rattle.gb_simulate.specs.declared.obey.TheConstants.{LINES}
 use Rattle.gb_simulate.specs.declared.outcome.SimEnd.{SimEnd}
-use Rattle.gb_simulate.specs.declared.outcome.BadLine.{BadLine as Reason}
 use Rattle.gb_simulate.specs.declared.outcome.SimEnd.TheVariants.{All, BadLine}
 use Rattle.gb_simulate.specs.declared.outcome.SimFault.{SimFault}
 use Rattle.gb_simulate.specs.declared.outcome.SimFault.TheVariants.{Read, Write, OutOfMemory}
@@ -28,28 +27,23 @@ pub record TakesLine (n : ℕ) (w after : Option ClusterValue) (left left' : Opt
   pub goes : GoesOn w line after answer
   pub answered : gathered' ≡ gathered ++ answer
 
--- the next line is bad, or is too long to be read
-abbrev pub IsNextBad : Reason → ℕ → Option ClusterValue → Option (List ℕ) → Type 0
-IsNextBad why n w left = IfSome left (λ text. (line : List ℕ) × (more : List (List ℕ)) × (lines_of text ≡ line ∷ more) × IsBadLine why n w line)
-
--- the schedule ends at line n: there is no such line, or it is bad, and the text that says so is gathered
-abbrev pub Ends : SimEnd → ℕ → Option ClusterValue → Option (List ℕ) → List ℕ → List ℕ → Type 0
-Ends All n w left gathered gathered' = IfSome left (λ text. text ≡ []) × (gathered' ≡ gathered)
-Ends (BadLine k why) n w left gathered gathered' = IsNextBad why n w left × (gathered' ≡ gathered ++ bad_line n) × (k ≡ n)
-
--- a line is left of the text
-abbrev pub IsDue : Option (List ℕ) → Type 0
-IsDue left = IfSome left (λ text. (line : List ℕ) × (more : List (List ℕ)) × (lines_of text ≡ line ∷ more))
+-- a line is left of the text, and the next one is such
+abbrev pub IsNext : (List ℕ → Type 0) → Option (List ℕ) → Type 0
+IsNext P left = IfSome left (λ text. (line : List ℕ) × (more : List (List ℕ)) × (lines_of text ≡ line ∷ more) × P line)
 
 -- what is left of the text is a piece of a line and the bytes that the reader has left
 abbrev pub IsHeldUp : Option (List ℕ) → Option (List ℕ) → Type 0
 IsHeldUp left unread = (piece : List ℕ) × IsLine piece × Keeps left (prepend_known piece unread)
 
--- the next line is not answered, because of this fault
-abbrev pub Fails : SimFault → Option (List ℕ) → Option (List ℕ) → List ℕ → List ℕ → Type 0
-Fails Read left unread gathered gathered' = IsHeldUp left unread × (gathered' ≡ gathered)
-Fails OutOfMemory left unread gathered gathered' = IsDue left × (gathered' ≡ gathered)
-Fails Write left unread gathered gathered' = ⊥
+-- The schedule stops at line n, if it does: there is no such line, or it is bad, and the text that says so is gathered; or a fault
+-- keeps it from being answered.
+abbrev pub Stops : Result (Option SimEnd) SimFault → ℕ → Option ClusterValue → Option (List ℕ) → Option (List ℕ) → List ℕ → List ℕ → Type 0
+Stops (Ok None) n w left unread gathered gathered' = ⊤
+Stops (Ok (Some All)) n w left unread gathered gathered' = IfSome left (λ text. text ≡ []) × (gathered' ≡ gathered)
+Stops (Ok (Some (BadLine k why))) n w left unread gathered gathered' = IsNext (IsBadLine why n w) left × (gathered' ≡ gathered ++ bad_line n) × (k ≡ n)
+Stops (Err Read) n w left unread gathered gathered' = IsHeldUp left unread × (gathered' ≡ gathered)
+Stops (Err OutOfMemory) n w left unread gathered gathered' = IsNext (λ line. ⊤) left × (gathered' ≡ gathered)
+Stops (Err Write) n w left unread gathered gathered' = ⊥
 
 -- a front of what was gathered, which may be empty or whole, is written; the rest is still gathered
 abbrev pub HandsOver : Option (List ℕ) → Option (List ℕ) → List ℕ → List ℕ → Type 0
@@ -68,15 +62,9 @@ pub record IsAt (input before : List ℕ) (n : ℕ) (w : Option ClusterValue) (l
   pub now_is : now ≡ Some (before ++ written)
   pub reaches : Reaches input (written ++ gathered) w n (lines_of rest)
 
--- a reader and a writer stand at a line, as far as their bytes are known
-abbrev pub IsHalfway : Option (List ℕ) → Option (List ℕ) → ℕ → Option ClusterValue → Option (List ℕ) → Option (List ℕ) → List ℕ → Type 0
-IsHalfway input before n w left now gathered = IfSome input (λ i. IfSome before (λ b. IsAt i b n w left now gathered))
-
--- the text of the whole schedule is written behind what was there before, except what is still gathered
-abbrev pub IsGathered : SimEnd → List ℕ → List ℕ → Option (List ℕ) → List ℕ → Type 0
-IsGathered end input before now gathered = (written : List ℕ) × (now ≡ Some (before ++ written)) × IsText input (written ++ gathered) end
-
--- the text up to a fault is written behind what was there before; if no write failed, except what is still gathered
-abbrev pub IsGatheredUpTo : SimFault → List ℕ → List ℕ → Option (List ℕ) → Option (List ℕ) → List ℕ → Type 0
-IsGatheredUpTo Write input before unread now gathered = (written : List ℕ) × (now ≡ Some (before ++ written)) × IsLeftOff Write input written unread
-IsGatheredUpTo why input before unread now gathered = (written : List ℕ) × (now ≡ Some (before ++ written)) × IsLeftOff why input (written ++ gathered) unread
+-- The schedule is over with this outcome. Without a failed write the text that it makes is written behind what was there before,
+-- except what is still gathered.
+abbrev pub IsOver : Result SimEnd SimFault → List ℕ → List ℕ → Option (List ℕ) → Option (List ℕ) → List ℕ → Type 0
+IsOver (Ok end) input before unread now gathered = (written : List ℕ) × (now ≡ Some (before ++ written)) × IsText input (written ++ gathered) end
+IsOver (Err Write) input before unread now gathered = IsWrittenUpTo Write input before unread now
+IsOver (Err why) input before unread now gathered = (written : List ℕ) × (now ≡ Some (before ++ written)) × IsLeftOff why input (written ++ gathered) unread

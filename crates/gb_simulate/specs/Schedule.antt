@@ -1,8 +1,8 @@
 -- What a schedule makes a cluster answer.
 use Rattle.std.specs.Prelude.{ℕ, ◌≡◌, ◌≢◌, ◌≤◌, ◌<◌, ◌⊎◌, List, [], drop, length, Option, Some, None, codes}
-use Rattle.std.specs.Option.{ForSome}
 use Rattle.gb_types.specs.declared.limits.TheConstants.{NODES}
-use Rattle.gb_types.specs.declared.request.Request.TheVariants.{Fetch as FetchRequest}
+use Rattle.gb_types.specs.declared.request.Action.TheVariants.{Group}
+use Rattle.gb_types.specs.declared.request.GroupCommand.TheVariants.{Fetch as FetchCommand}
 use Rattle.gb_node.specs.declared.event.NodeEvent.TheVariants.{Request as AskEvent, Packet as CameEvent, Pack as PackEvent, Again as AgainEvent, Ack as AckEvent, Tick as TickEvent, Stop as StopEvent}
 use Rattle.gb_cluster.specs.ClusterValue.{ClusterValue}
 use Rattle.gb_cluster.specs.declared.answer.Answer.{Answer}
@@ -36,16 +36,16 @@ event_of (Step (Arrive packet)) = Some (ArriveEvent packet)
 event_of (Noise node bytes) = Some (At node (CameEvent bytes))
 event_of (Step (Tick node)) = Some (At node TickEvent)
 event_of (Step (Stop node)) = Some (At node StopEvent)
-event_of (Step (Fetch node address from most)) = Some (At node (AskEvent (FetchRequest (member_token address node) address from most)))
+event_of (Step (Fetch node address from most)) = Some (At node (AskEvent (record { token = member_token address node; what = Group address (FetchCommand from most) })))
 
 -- the number of nodes of the cluster, once there is one
 abbrev pub size_in : Option ClusterValue → Option ℕ
 size_in None = None
 size_in (Some v) = Some (size v)
 
--- the cluster, if there is one, has 1 to `NODES` nodes
-abbrev pub HasNodes : Option ClusterValue → Type 0
-HasNodes w = ForSome (size_in w) (λ count. (1 ≤ count) × (count ≤ NODES))
+-- the cluster has 1 to `NODES` nodes
+abbrev pub HasNodes : ClusterValue → Type 0
+HasNodes v = (1 ≤ size v) × (size v ≤ NODES)
 
 -- a cluster takes an event, and its answer is this line
 pub record Answers (v : ClusterValue) (event : Event) (after : Option ClusterValue) (text : List ℕ) : Type 0 where

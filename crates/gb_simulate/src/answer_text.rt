@@ -215,13 +215,12 @@ pub fn put_answer(out: &mut Vec<u8>, answer: &Answer) -> Result<(), OutOfMemory>
     }
 }
 
-/// Appends to `out` the line `ok`, which says that a cluster was started. `Err` if there is no memory.
+/// Appends to `out` the line `ok`, which says that a cluster was started. `Err` if there is no memory; then `out` is as it was.
 pub fn put_started(out: &mut Vec<u8>) -> Result<(), OutOfMemory>
     ensures ok { OnOk result (out.new.items ≡ out.old.items ++ ended (codes "ok")) }
-    ensures err { OnErr result (StartsWith out.new.items out.old.items) }
+    ensures err { OnErr result (out.new.items ≡ out.old.items) }
 {
-    out.extend_from_slice(b"ok\n")?;
-    Ok(())
+    put_bytes(out, b"ok\n")
 }
 
 /// Appends to `out` the line `bad line NUMBER`, which says which line of a schedule is bad. `Err` if there is no memory; then a part of

@@ -1,20 +1,22 @@
 //! Runs a schedule, line by line.
-ghost use Rattle.std.specs.Prelude.{◌≡◌, ◌≢◌, ◌++◌, [], Ok, Some, None, IfOk, IfErr, OnOk, IfSome};
-ghost use Rattle.std.specs.Io.{StartsWith};
-ghost use Rattle.gb_lines.specs.Buffered.{left, WantsRead};
-ghost use Rattle.gb_simulate.specs.AnswerText.{bad_line};
-ghost use Rattle.gb_simulate.specs.Schedule.{HasNodes};
+ghost use Rattle.std.specs.Prelude.{◌≡◌, ◌≢◌, ◌≤◌, ℕ, List, [], length, Ok, Option, Some, None, IfOk, IfErr, OnOk, IfSome};
+ghost use Rattle.gb_lines.specs.Buffered.{left, WantsRead, WhereKnown};
+ghost use Rattle.gb_lines.specs.Lines.{GivesLine};
+ghost use Rattle.gb_lines.specs.declared.lines.TheConstants.{LINE};
+ghost use Rattle.gb_cluster.specs.ClusterValue.{ClusterValue};
+ghost use Rattle.gb_simulate.specs.OfCluster.{size};
+ghost use Rattle.gb_simulate.specs.Schedule.{HasNodes, IsBadLine};
 ghost use Rattle.gb_simulate.specs.Text.{IsWritten, IsWrittenUpTo};
-ghost use Rattle.gb_simulate.specs.Progress.{TakesLine, Ends, Fails, HandsOver, IsCutShort, IsGathered, IsGatheredUpTo};
+ghost use Rattle.gb_simulate.specs.Progress.{TakesLine, IsNext, Stops, HandsOver, IsCutShort, IsAt, IsOver};
 
 use crate::answer_text::put_bad_line;
-use crate::obey::answer_line;
+use crate::obey::{LINES, answer_line, begin};
 use crate::outcome::{BadLine, SimEnd, SimFault};
 use crate::writing::write_text;
 use gb_cluster::Cluster;
 use gb_lines::{LineBuffer, NextLine};
 use gb_schedule::Keys;
-use gb_types::OutOfMemory;
+use gb_schedule::grammar::{is_silent, read_start};
 use std::alloc::Global;
 use std::io::{Read, Write};
 
@@ -23,69 +25,106 @@ const GATHERED: usize = 16_384;
 
 const _: () = prove!(GATHERED == 16_384);
 
-/// Ends a schedule: line `number` is bad.
-fn end_badly(number: u64, why: BadLine, gathered: &mut Vec<u8>) -> Result<SimEnd, OutOfMemory>
-    ensures ok { IfOk result (λ end. (end ≡ SimEnd.BadLine number why) × (gathered.new.items ≡ gathered.old.items ++ bad_line number)) }
-    ensures front { StartsWith gathered.new.items gathered.old.items }
-{
-    put_bad_line(gathered, number)?;
-    Ok(SimEnd::BadLine(number, why))
+/// A schedule that is run.
+#[derive(Drop)]
+struct Run {
+    alloc: Global,
+    lines: LineBuffer,
+    /// The number of the next line, from 1.
+    number: u64,
+    keys: Keys,
+    /// The answers that are not yet written. A line's answer is there whole, or not at all.
+    gathered: Vec<u8>,
 }
 
-/// Answers the next line, or finds the end of the schedule. If there is no memory, a part of the answer may be gathered. Inlined,
-/// as the next function is: a schedule was measured to take less time so.
-#[inline(always)]
-fn gather_next<R: Read>(
-    alloc: Global,
-    number: u64,
-    reader: &mut R,
-    lines: &mut LineBuffer,
-    keys: &mut Keys,
-    cluster: &mut Option<Cluster>,
-    gathered: &mut Vec<u8>,
-) -> Result<Option<SimEnd>, SimFault>
-    requires { HasNodes cluster.old }
-    ensures few { OnOk result (HasNodes cluster.new) }
-    ensures goes_on { result ≡ Ok None → TakesLine number cluster.old cluster.new (left lines.old (R.remaining reader.old)) (left lines.new (R.remaining reader.new)) gathered.old.items gathered.new.items }
-    ensures ends { IfOk result (λ found. IfSome found (λ end. Ends end number cluster.old (left lines.old (R.remaining reader.old)) gathered.old.items gathered.new.items)) }
-    ensures fails { IfErr result (λ why. Fails why (left lines.old (R.remaining reader.old)) (R.remaining reader.new) gathered.old.items gathered.old.items) }
-    ensures front { StartsWith gathered.new.items gathered.old.items }
+/// Ends a schedule: line `number` is bad.
+fn end_badly(number: u64, why: BadLine, gathered: &mut Vec<u8>) -> Result<Option<SimEnd>, SimFault>
+    ensures ends { result ≢ Ok None }
+    ensures stops { (w : Option ClusterValue) (left unread : Option (List ℕ)) → IsNext (IsBadLine why number w) left → Stops result number w left unread gathered.old.items gathered.new.items }
 {
-    match lines.next(reader)? {
+    let before = gathered.len();
+    if put_bad_line(gathered, number).is_err() {
+        gathered.truncate(before);
+        return Err(SimFault::OutOfMemory);
+    }
+    Ok(Some(SimEnd::BadLine(number, why)))
+}
+
+/// Reads the next line. Returns how the schedule ends if it is at its end, or the line is too long or one too many. Inlined, as
+/// `answer_next` is: a schedule was measured to take less time so.
+#[inline(always)]
+fn next_line<R: Read>(run: &mut Run, reader: &mut R) -> Result<Option<SimEnd>, SimFault>
+    ensures number { run.new.number ≡ run.old.number }
+    ensures given { result ≡ Ok None → WhereKnown (GivesLine run.new.lines.line) (left run.old.lines (R.remaining reader.old)) (left run.new.lines (R.remaining reader.new)) }
+    ensures short { result ≡ Ok None → length run.new.lines.line ≤ LINE }
+    ensures few { result ≡ Ok None → run.old.number ≤ LINES }
+    ensures gathered { result ≡ Ok None → run.new.gathered.items ≡ run.old.gathered.items }
+    ensures stops { (w : Option ClusterValue) → Stops result run.old.number w (left run.old.lines (R.remaining reader.old)) (R.remaining reader.new) run.old.gathered.items run.new.gathered.items }
+{
+    match run.lines.next(reader)? {
         NextLine::End => Ok(Some(SimEnd::All)),
-        NextLine::TooLong => Ok(Some(end_badly(number, BadLine::TooLong, gathered)?)),
-        NextLine::Given => {
-            match answer_line(alloc, number, keys, cluster, lines.line(), gathered)? {
-                Some(why) => Ok(Some(end_badly(number, why, gathered)?)),
-                None => Ok(None),
-            }
+        NextLine::TooLong => end_badly(run.number, BadLine::TooLong, &mut run.gathered),
+        NextLine::Given if run.number > LINES => {
+            end_badly(run.number, BadLine::TooMany, &mut run.gathered)
+        }
+        NextLine::Given => Ok(None),
+    }
+}
+
+/// Answers the next line before the cluster is started: it asks for nothing or starts the cluster, or else the schedule ends.
+fn begin_next<R: Read>(
+    run: &mut Run,
+    reader: &mut R,
+    cluster: &mut Option<Cluster>,
+) -> Result<Option<SimEnd>, SimFault>
+    requires { cluster.old ≡ None }
+    ensures few { IfSome cluster.new HasNodes }
+    ensures number { run.new.number ≡ run.old.number }
+    ensures goes_on { result ≡ Ok None → TakesLine run.old.number None cluster.new (left run.old.lines (R.remaining reader.old)) (left run.new.lines (R.remaining reader.new)) run.old.gathered.items run.new.gathered.items }
+    ensures stops { Stops result run.old.number None (left run.old.lines (R.remaining reader.old)) (R.remaining reader.new) run.old.gathered.items run.new.gathered.items }
+{
+    if let Some(end) = next_line(run, reader)? {
+        return Ok(Some(end));
+    }
+    let line = run.lines.line();
+    if is_silent(line) {
+        return Ok(None);
+    }
+    match read_start(line) {
+        None => end_badly(run.number, BadLine::NoCluster, &mut run.gathered),
+        Some(start) => {
+            *cluster = Some(begin(run.alloc, &start, &mut run.gathered)?);
+            Ok(None)
         }
     }
 }
 
-/// Answers the next line, or finds the end of the schedule. A line's answer is gathered whole, or not at all.
+/// Answers the next line, once the cluster is started, or finds the end of the schedule.
 #[inline(always)]
 fn answer_next<R: Read>(
-    alloc: Global,
-    number: u64,
+    run: &mut Run,
     reader: &mut R,
-    lines: &mut LineBuffer,
-    keys: &mut Keys,
-    cluster: &mut Option<Cluster>,
-    gathered: &mut Vec<u8>,
+    cluster: &mut Cluster,
 ) -> Result<Option<SimEnd>, SimFault>
     requires { HasNodes cluster.old }
-    ensures few { OnOk result (HasNodes cluster.new) }
-    ensures goes_on { result ≡ Ok None → TakesLine number cluster.old cluster.new (left lines.old (R.remaining reader.old)) (left lines.new (R.remaining reader.new)) gathered.old.items gathered.new.items }
-    ensures ends { IfOk result (λ found. IfSome found (λ end. Ends end number cluster.old (left lines.old (R.remaining reader.old)) gathered.old.items gathered.new.items)) }
-    ensures fails { IfErr result (λ why. Fails why (left lines.old (R.remaining reader.old)) (R.remaining reader.new) gathered.old.items gathered.new.items) }
+    ensures size { size cluster.new ≡ size cluster.old }
+    ensures number { run.new.number ≡ run.old.number }
+    ensures goes_on { result ≡ Ok None → TakesLine run.old.number (Some cluster.old) (Some cluster.new) (left run.old.lines (R.remaining reader.old)) (left run.new.lines (R.remaining reader.new)) run.old.gathered.items run.new.gathered.items }
+    ensures stops { Stops result run.old.number (Some cluster.old) (left run.old.lines (R.remaining reader.old)) (R.remaining reader.new) run.old.gathered.items run.new.gathered.items }
 {
-    let before = gathered.len();
-    let outcome = gather_next(alloc, number, reader, lines, keys, cluster, gathered);
-    if outcome.is_err() {
-        gathered.truncate(before);
+    if let Some(end) = next_line(run, reader)? {
+        return Ok(Some(end));
     }
-    outcome
+    let before = run.gathered.len();
+    let line = run.lines.line();
+    match answer_line(run.alloc, &mut run.keys, cluster, line, &mut run.gathered) {
+        Ok(true) => Ok(None),
+        Ok(false) => end_badly(run.number, BadLine::NoCommand, &mut run.gathered),
+        Err(_) => {
+            run.gathered.truncate(before);
+            Err(SimFault::OutOfMemory)
+        }
+    }
 }
 
 /// Writes the answers that were gathered, if there are any, and flushes them.
@@ -119,47 +158,45 @@ fn hand_over_in_time<W: Write>(
     Ok(())
 }
 
-/// Answers the lines of a schedule. At the end, or if a read fails or there is no memory, the gathered answers are not yet written.
+/// Answers the lines of a schedule behind the one that started the cluster. At the end, or if a read fails or there is no memory, the
+/// gathered answers are not yet written.
 fn answer_lines<R: Read, W: Write>(
-    alloc: Global,
+    run: &mut Run,
     reader: &mut R,
     writer: &mut W,
-    lines: &mut LineBuffer,
-    keys: &mut Keys,
-    cluster: &mut Option<Cluster>,
-    gathered: &mut Vec<u8>,
+    cluster: &mut Cluster,
 ) -> Result<SimEnd, SimFault>
-    requires first { cluster.old ≡ None }
-    requires none { gathered.old.items ≡ [] }
-    ensures text { IfOk result (λ end. IfSome (left lines.old (R.remaining reader.old)) (λ input. IfSome (W.contents writer.old) (λ before. IsGathered end input before (W.contents writer.new) gathered.new.items))) }
-    ensures fault { IfErr result (λ why. IfSome (left lines.old (R.remaining reader.old)) (λ input. IfSome (W.contents writer.old) (λ before. IsGatheredUpTo why input before (R.remaining reader.new) (W.contents writer.new) gathered.new.items))) }
+    requires { HasNodes cluster.old }
+    ensures { (input before : List ℕ) → IsAt input before run.old.number (Some cluster.old) (left run.old.lines (R.remaining reader.old)) (W.contents writer.old) run.old.gathered.items → IsOver result input before (R.remaining reader.new) (W.contents writer.new) run.new.gathered.items }
 {
-    let mut number = 0;
     loop {
-        number += 1;
-        hand_over_in_time(writer, lines, gathered)?;
-        if let Some(end) = answer_next(alloc, number, reader, lines, keys, cluster, gathered)? {
+        hand_over_in_time(writer, &run.lines, &mut run.gathered)?;
+        if let Some(end) = answer_next(run, reader, cluster)? {
             return Ok(end);
         }
+        run.number += 1;
     }
 }
 
-/// Answers the lines of a schedule, with keys of its own.
+/// Answers the lines of a schedule: those up to the one that starts the cluster, and then the others.
 fn answer_all<R: Read, W: Write>(
-    alloc: Global,
+    run: &mut Run,
     reader: &mut R,
     writer: &mut W,
-    lines: &mut LineBuffer,
     cluster: &mut Option<Cluster>,
-    gathered: &mut Vec<u8>,
 ) -> Result<SimEnd, SimFault>
-    requires first { cluster.old ≡ None }
-    requires none { gathered.old.items ≡ [] }
-    ensures text { IfOk result (λ end. IfSome (left lines.old (R.remaining reader.old)) (λ input. IfSome (W.contents writer.old) (λ before. IsGathered end input before (W.contents writer.new) gathered.new.items))) }
-    ensures fault { IfErr result (λ why. IfSome (left lines.old (R.remaining reader.old)) (λ input. IfSome (W.contents writer.old) (λ before. IsGatheredUpTo why input before (R.remaining reader.new) (W.contents writer.new) gathered.new.items))) }
+    requires { cluster.old ≡ None }
+    ensures { (input before : List ℕ) → IsAt input before run.old.number None (left run.old.lines (R.remaining reader.old)) (W.contents writer.old) run.old.gathered.items → IsOver result input before (R.remaining reader.new) (W.contents writer.new) run.new.gathered.items }
 {
-    let mut keys = Keys::new(alloc);
-    answer_lines(alloc, reader, writer, lines, &mut keys, cluster, gathered)
+    loop {
+        if let Some(cluster) = cluster {
+            return answer_lines(run, reader, writer, cluster);
+        }
+        if let Some(end) = begin_next(run, reader, cluster)? {
+            return Ok(end);
+        }
+        run.number += 1;
+    }
 }
 
 /// Runs the schedule of a cluster that `reader` holds, line by line, and writes its answers to `writer`: a line for each event, up to
@@ -177,11 +214,16 @@ pub fn simulate<R: Read, W: Write>(
     ensures fault { IfErr result (λ why. IfSome (R.remaining reader.old) (λ input. IfSome (W.contents writer.old) (λ before. IsWrittenUpTo why input before (R.remaining reader.new) (W.contents writer.new)))) }
 {
     *cluster = None;
-    let mut lines = LineBuffer::new(alloc)?;
-    let mut gathered = Vec::new(alloc);
-    let outcome = answer_all(alloc, reader, writer, &mut lines, cluster, &mut gathered);
+    let mut run = Run {
+        alloc,
+        lines: LineBuffer::new(alloc)?,
+        number: 1,
+        keys: Keys::new(alloc),
+        gathered: Vec::new(alloc),
+    };
+    let outcome = answer_all(&mut run, reader, writer, cluster);
     if outcome != Err(SimFault::Write) {
-        hand_over(writer, &mut gathered)?;
+        hand_over(writer, &mut run.gathered)?;
     }
     outcome
 }

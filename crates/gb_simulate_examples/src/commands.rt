@@ -2,11 +2,14 @@
 ghost use Rattle.std.specs.Prelude.{◌≤◌};
 ghost use Rattle.std.specs.Option.{ForSome};
 
-use gb_schedule::grammar::{is_silent, read_command};
+use gb_schedule::grammar::{is_silent, read_other_command, read_start, read_step};
 use gb_schedule::{ClusterStart, Command, Keys, Step};
 use gb_types::limits::NODES;
 use gb_types::number::put_number;
-use gb_types::{Addr, Kind, NodeId, OutOfMemory, Request, Spec, TenantRow, Version};
+use gb_types::{
+    Action, Addr, GroupCommand, Kind, Module, NewMessage, NodeId, Order, OutOfMemory, Request,
+    Spec, TenantRow, Version,
+};
 use std::alloc::Global;
 use std::process::Abort;
 use std::test::Fail;
@@ -65,7 +68,8 @@ fn told_limits(
     address: Addr,
     spec: &Spec,
 ) -> Result<Vec<u8>, OutOfMemory> {
-    let words: &[u8] = if spec.kind == Kind::Beb {
+    let Kind { module, order } = spec.kind;
+    let words: &[u8] = if module == Module::BestEffort && order == Order::Any {
         b"make"
     } else {
         b"make another kind"
@@ -106,26 +110,39 @@ fn told_fetch(
     shown(alloc, b"fetch", &numbers)
 }
 
+/// What is said in a group.
+fn told_message(
+    alloc: Global,
+    node: u64,
+    address: Addr,
+    message: &NewMessage,
+) -> Result<Vec<u8>, OutOfMemory> {
+    match message.seq {
+        None => {
+            let numbers = place(node, address);
+            shown_bytes(alloc, b"say", &numbers, message.payload.as_slice())
+        }
+        Some(seq) => {
+            let [node, tenant, group] = place(node, address);
+            let numbers = [node, tenant, group, u64::from(seq)];
+            shown_bytes(alloc, b"say under", &numbers, message.payload.as_slice())
+        }
+    }
+}
+
 /// What a request at a node asks for.
 fn told_request(alloc: Global, node: u64, request: &Request) -> Result<Vec<u8>, OutOfMemory> {
-    match request {
-        Request::AddTenant(_, row) => told_row(alloc, node, row),
-        Request::Make(_, address, spec) => told_spec(alloc, node, *address, spec),
-        Request::OpenGroup(_, address) => shown(alloc, b"open", &place(node, *address)),
-        Request::ShutGroup(_, address) => shown(alloc, b"shut", &place(node, *address)),
-        Request::DropGroup(_, address) => shown(alloc, b"drop", &place(node, *address)),
-        Request::Say(_, address, message) => match message.seq {
-            None => {
-                let numbers = place(node, *address);
-                shown_bytes(alloc, b"say", &numbers, message.payload.as_slice())
-            }
-            Some(seq) => {
-                let [node, tenant, group] = place(node, *address);
-                let numbers = [node, tenant, group, u64::from(seq)];
-                shown_bytes(alloc, b"say under", &numbers, message.payload.as_slice())
-            }
-        },
-        Request::Fetch(_, _, _, _) => shown(alloc, b"bad", &[]),
+    let (address, command) = match &request.what {
+        Action::AddTenant(row) => return told_row(alloc, node, row),
+        Action::Group(address, command) => (*address, command),
+    };
+    match command {
+        GroupCommand::Make(spec) => told_spec(alloc, node, address, spec),
+        GroupCommand::Open => shown(alloc, b"open", &place(node, address)),
+        GroupCommand::Shut => shown(alloc, b"shut", &place(node, address)),
+        GroupCommand::Drop => shown(alloc, b"drop", &place(node, address)),
+        GroupCommand::Say(message) => told_message(alloc, node, address, message),
+        GroupCommand::Fetch(_, _) => shown(alloc, b"bad", &[]),
     }
 }
 
@@ -195,7 +212,22 @@ fn told_command(alloc: Global, command: &Command) -> Result<Vec<u8>, OutOfMemory
     }
 }
 
-/// What a line asks for.
+/// The command that a line spells in a cluster of `nodes` nodes.
+fn command_of(
+    alloc: Global,
+    keys: &mut Keys,
+    nodes: u8,
+    line: &[u8],
+) -> Result<Option<Command>, OutOfMemory>
+    requires { (1 ≤ nodes) × (nodes ≤ NODES) }
+{
+    match read_step(nodes, line) {
+        Some(step) => Ok(Some(Command::Step(step))),
+        None => read_other_command(alloc, keys, nodes, line),
+    }
+}
+
+/// What a line asks for in a cluster of `nodes` nodes, or before one is started where that is `None`.
 fn told(
     alloc: Global,
     keys: &mut Keys,
@@ -204,7 +236,11 @@ fn told(
 ) -> Result<Vec<u8>, OutOfMemory>
     requires { ForSome nodes (λ count. (1 ≤ count) × (count ≤ NODES)) }
 {
-    match read_command(alloc, keys, nodes, line)? {
+    let command = match nodes {
+        None => read_start(line).map(Command::Cluster),
+        Some(nodes) => command_of(alloc, keys, nodes, line)?,
+    };
+    match command {
         Some(command) => told_command(alloc, &command),
         None => shown(alloc, b"bad", &[]),
     }
@@ -304,14 +340,10 @@ fn bad_lines(rt: HostRuntime) -> Result<(), Fail> {
 /// The group that a command names.
 fn named(command: &Command) -> Option<Addr> {
     match command {
-        Command::Request(_, Request::Make(_, address, _)) => Some(*address),
-        Command::Request(
-            _,
-            Request::OpenGroup(_, address)
-            | Request::ShutGroup(_, address)
-            | Request::DropGroup(_, address),
-        ) => Some(*address),
-        Command::Request(_, Request::Say(_, address, _)) => Some(*address),
+        Command::Request(_, request) => match &request.what {
+            Action::AddTenant(_) => None,
+            Action::Group(address, _) => Some(*address),
+        },
         Command::Step(Step::Fetch(_, address, _, _)) => Some(*address),
         _ => None,
     }
@@ -319,7 +351,7 @@ fn named(command: &Command) -> Option<Addr> {
 
 /// Returns tenant, group and generation of the group that a line names, each after a space.
 fn told_group(alloc: Global, keys: &mut Keys, line: &[u8]) -> Result<Vec<u8>, OutOfMemory> {
-    let Some(command) = read_command(alloc, keys, Some(3), line)? else {
+    let Some(command) = command_of(alloc, keys, 3, line)? else {
         return shown(alloc, b"bad", &[]);
     };
     let Some(address) = named(&command) else {

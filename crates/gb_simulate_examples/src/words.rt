@@ -1,12 +1,13 @@
 //! Words and texts as they stand in requests, schedules and replies.
-use gb_types::kind_word::read_kind;
+use gb_types::kind_word::{read_kind, word_of};
 use gb_types::limits::NODES;
 use gb_types::members_word::read_members;
 use gb_types::number::{put_number, read_number};
 use gb_types::payload_word::{put_payload, read_payload};
 use gb_types::reply_text::reply_text;
 use gb_types::{
-    Entries, Entry, Kind, NodeId, NodeSet, OutOfMemory, Payload, Refusal, Reply, Spec, laws,
+    Entries, Entry, Kind, Module, NodeId, NodeSet, Order, OutOfMemory, Payload, Refusal, Reply,
+    Spec, laws,
 };
 use std::alloc::Global;
 use std::process::Abort;
@@ -144,37 +145,42 @@ fn numbers_are_written(rt: HostRuntime) -> Result<(), Fail> {
     Ok(())
 }
 
-const KINDS: &[(&[u8], Option<Kind>)] = &[
-    (b"beb", Some(Kind::Beb)),
-    (b"lazy", Some(Kind::Lazy)),
-    (b"eager", Some(Kind::Eager)),
-    (b"allack", Some(Kind::AllAck)),
-    (b"majority", Some(Kind::Majority)),
-    (b"fbeb", Some(Kind::FifoBeb)),
-    (b"flazy", Some(Kind::FifoLazy)),
-    (b"feager", Some(Kind::FifoEager)),
-    (b"fallack", Some(Kind::FifoAllAck)),
-    (b"fmajority", Some(Kind::FifoMajority)),
-    (b"", None),
-    (b"f", None),
-    (b"be", None),
-    (b"bebb", None),
-    (b"Beb", None),
-    (b"beb ", None),
-    (b"fifo", None),
-    (b"ffbeb", None),
-    (b"lazyf", None),
-    (b"all-ack", None),
-    (b"maj", None),
-    (b"majorityf", None),
-    (b"fLazy", None),
+/// The words of a module, in any order and first in, first out.
+const KINDS: &[(&[u8], &[u8], Module)] = &[
+    (b"beb", b"fbeb", Module::BestEffort),
+    (b"lazy", b"flazy", Module::Lazy),
+    (b"eager", b"feager", Module::Eager),
+    (b"allack", b"fallack", Module::AllAck),
+    (b"majority", b"fmajority", Module::Majority),
+];
+
+const NO_KINDS: &[&[u8]] = &[
+    b"",
+    b"f",
+    b"be",
+    b"bebb",
+    b"Beb",
+    b"beb ",
+    b"fifo",
+    b"ffbeb",
+    b"lazyf",
+    b"all-ack",
+    b"maj",
+    b"majorityf",
+    b"fLazy",
 ];
 
 #[test]
 fn kinds(rt: HostRuntime) {
-    for (word, kind) in KINDS {
-        let found = read_kind(word);
-        assert!(rt; found == *kind);
+    for (any, fifo, module) in KINDS {
+        let module = *module;
+        for (word, order) in [(*any, Order::Any), (*fifo, Order::Fifo)] {
+            assert!(rt; read_kind(word) == Some(Kind { module, order }));
+            assert!(rt; word_of(Kind { module, order }) == word);
+        }
+    }
+    for word in NO_KINDS {
+        assert!(rt; read_kind(word).is_none());
     }
 }
 
@@ -358,15 +364,16 @@ fn entries(rt: HostRuntime) -> Result<(), Fail> {
 
 #[test]
 fn specs(rt: HostRuntime) {
+    let (module, order) = (Module::BestEffort, Order::Fifo);
     let spec = Spec {
-        kind: Kind::Beb,
+        kind: Kind { module, order },
         members: set(&rt, &[4]),
         msgs: 8,
         bytes: 4096,
         window: 4,
     };
     let copy = spec.duplicate();
-    assert!(rt; copy.kind == Kind::Beb);
+    assert!(rt; copy.kind == Kind { module, order });
     assert!(rt; copy.msgs == 8 && copy.bytes == 4096 && copy.window == 4);
     assert!(rt; copy.members.contains(node(&rt, 4)));
 }

@@ -3,8 +3,8 @@
 ghost use Rattle.std.specs.Prelude.{◌≡◌, ℕ, List, ◌∷◌};
 ghost use Rattle.std.specs.FinSet as set;
 ghost use Rattle.gb_types.specs.declared.node.NodeId.{NodeId};
-ghost use Rattle.gb_layer.specs.declared.broadcast_module.BroadcastModule.{BroadcastModule};
-ghost use Rattle.gb_layer.specs.declared.broadcast_module.BroadcastModule.TheVariants.{BestEffort};
+ghost use Rattle.gb_types.specs.declared.kind.Module.{Module};
+ghost use Rattle.gb_types.specs.declared.kind.Module.TheVariants.{BestEffort};
 ghost use Rattle.gb_layer.specs.declared.call.Call.{Call};
 ghost use Rattle.gb_layer.specs.Machine.{after, all_ups, messages};
 ghost use Rattle.gb_layer.specs.Modules.{IsLawful, broadcasts, delivers, log};
@@ -38,10 +38,10 @@ pub fn relays<R: Rule>()
         → (⟦<Relay<Beb, R> as Layer>⟧.gives (after ⟦<Relay<Beb, R> as Layer>⟧.next (at_start me members) past) c).sends ≡ rule_broadcasts R.rules me.number c past }
     ensures log { (me : NodeId) (members : Nodes) (past : List Call) → IsLawful me.number past
         → messages (all_ups ⟦<Relay<Beb, R> as Layer>⟧.next ⟦<Relay<Beb, R> as Layer>⟧.gives (at_start me members) past) ≡ rule_log R.rules me.number members past }
-    ensures module_up { (base : BroadcastModule) → DeliversAs R.rules base → (me : NodeId) (members : Nodes) (past : List Call) (c : Call) → IsLawful me.number (c ∷ past)
+    ensures module_up { (base : Module) → DeliversAs R.rules base → (me : NodeId) (members : Nodes) (past : List Call) (c : Call) → IsLawful me.number (c ∷ past)
         → messages (⟦<Relay<Beb, R> as Layer>⟧.gives (after ⟦<Relay<Beb, R> as Layer>⟧.next (at_start me members) past) c).ups ≡ delivers base me.number (set.items members) c past }
-    ensures module_out { (base : BroadcastModule) → BroadcastsAs R.rules base → (me : NodeId) (members : Nodes) (past : List Call) (c : Call) → IsLawful me.number (c ∷ past)
+    ensures module_out { (base : Module) → BroadcastsAs R.rules base → (me : NodeId) (members : Nodes) (past : List Call) (c : Call) → IsLawful me.number (c ∷ past)
         → (⟦<Relay<Beb, R> as Layer>⟧.gives (after ⟦<Relay<Beb, R> as Layer>⟧.next (at_start me members) past) c).sends ≡ broadcasts base me.number c past }
-    ensures module_log { (base : BroadcastModule) → DeliversAs R.rules base → (me : NodeId) (members : Nodes) (past : List Call) → IsLawful me.number past
+    ensures module_log { (base : Module) → DeliversAs R.rules base → (me : NodeId) (members : Nodes) (past : List Call) → IsLawful me.number past
         → messages (all_ups ⟦<Relay<Beb, R> as Layer>⟧.next ⟦<Relay<Beb, R> as Layer>⟧.gives (at_start me members) past) ≡ log base me.number (set.items members) past }
 {}

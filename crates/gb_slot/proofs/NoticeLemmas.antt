@@ -16,10 +16,10 @@ use Rattle.gb_layer.specs.Counts.{count_by-cons}
 use Rattle.gb_layer.specs.Machine.{mentions, was_noticed, came_from, all_sends, count_sends}
 use Rattle.gb_layer.specs.Modules.{IsLawful, first_mentions, log, now_delivered}
 use Rattle.gb_layer.specs.Rule.{Nodes}
-use Rattle.gb_layer.specs.declared.broadcast_module.BroadcastModule.{BroadcastModule}
+use Rattle.gb_types.specs.declared.kind.Module.{Module}
 use Rattle.gb_layer.specs.declared.call.Call.{Call}
 use Rattle.gb_layer.specs.declared.call.Call.TheVariants.{Notice}
-use Rattle.gb_stack.specs.Kinds.{module_of, kind_log}
+use Rattle.gb_stack.specs.Kinds.{kind_log}
 use Rattle.gb_stack.specs.StackLemmas.{stack_sends_handed_in}
 use Rattle.gb_stack.specs.StackState.{stack_next, stack_gives, untold_stack}
 use Rattle.gb_stack.specs.Stands.{is_other_noticed}
@@ -76,7 +76,7 @@ unfolding calls_of
 none_first [] = refl
 none_first (q ∷ qs) = none_first qs
 
-none_delivered : (base : BroadcastModule) (me : ℕ) (members : List ℕ) (qs : List NodeId) → [] ≡ log base me members (calls_of (map Crashed qs))
+none_delivered : (base : Module) (me : ℕ) (members : List ℕ) (qs : List NodeId) → [] ≡ log base me members (calls_of (map Crashed qs))
 unfolding calls_of
 none_delivered base me members [] = refl
 none_delivered base me members (q ∷ qs) =
@@ -85,7 +85,7 @@ none_delivered base me members (q ∷ qs) =
     λ i. none_delivered base me members qs i ++ filter test (none_first qs i)
 
 pub none_logged : (kind : Kind) (me : ℕ) (members : List ℕ) (qs : List NodeId) → [] ≡ kind_log kind me members (calls_of (map Crashed qs))
-none_logged kind me members qs = stack.none_logged kind me members (calls_of (map Crashed qs)) (none_delivered (module_of kind) me members qs)
+none_logged kind me members qs = stack.none_logged kind me members (calls_of (map Crashed qs)) (none_delivered kind.module me members qs)
 
 -- the calls that notices are
 pub notice_calls : (qs : List NodeId) → map Notice qs ≡ calls_of (map Crashed qs)

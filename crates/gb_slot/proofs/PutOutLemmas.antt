@@ -8,11 +8,10 @@ use Rattle.gb_types.specs.declared.message.MsgId.{MsgId}
 use Rattle.gb_types.proofs.SameLemmas.{same_itself}
 use Rattle.gb_layer.specs.Machine.{mentions, was_noticed}
 use Rattle.gb_layer.specs.Modules.{first_mentions, is_broadcast, now_broadcast, broadcasts}
-use Rattle.gb_layer.specs.declared.broadcast_module.BroadcastModule.{BroadcastModule}
-use Rattle.gb_layer.specs.declared.broadcast_module.BroadcastModule.TheVariants.{BestEffort, Lazy, Eager, AllAck, MajorityAck}
+use Rattle.gb_types.specs.declared.kind.Module.{Module}
+use Rattle.gb_types.specs.declared.kind.Module.TheVariants.{BestEffort, Lazy}
 use Rattle.gb_layer.specs.declared.call.Call.{Call}
 use Rattle.gb_layer.specs.declared.call.Call.TheVariants.{Say}
-use Rattle.gb_stack.specs.Kinds.{module_of}
 use Rattle.gb_stack.specs.StackState.{stack_gives}
 use Rattle.gb_rules.specs.declared.call.GroupCall.{GroupCall}
 use Rattle.gb_rules.specs.declared.call.GroupCall.TheVariants.{Own}
@@ -24,14 +23,12 @@ use Rattle.gb_slot.proofs.CalledLemmas.{called_sends}
 use Rattle.gb_slot.proofs.HistoryLemmas.{own_new, own_lawful}
 
 -- a message that is said here is broadcast, whatever the module
-own_broadcast : (base : BroadcastModule) (me : ℕ) (past : List Call) (m : MsgId) → m.origin.number ≡ me → is_broadcast base me past m ≡ true
+own_broadcast : (base : Module) (me : ℕ) (past : List Call) (m : MsgId) → m.origin.number ≡ me → is_broadcast base me past m ≡ true
 own_broadcast BestEffort me past m own = eq-eqb m.origin.number me own
 own_broadcast Lazy me past m own = ap (λ b. b || was_noticed past m.origin.number) (eq-eqb m.origin.number me own)
-own_broadcast Eager me past m own = refl
-own_broadcast AllAck me past m own = refl
-own_broadcast MajorityAck me past m own = refl
+own_broadcast _ me past m own = refl
 
-said_broadcast : (base : BroadcastModule) (me : ℕ) (m : MsgId) (past : List Call) → m.origin.number ≡ me → mentions past m ≡ false → 0 < length (broadcasts base me (Say m) past)
+said_broadcast : (base : Module) (me : ℕ) (m : MsgId) (past : List Call) → m.origin.number ≡ me → mentions past m ≡ false → 0 < length (broadcasts base me (Say m) past)
 said_broadcast base me m past own new =
     let test : MsgId → Bool = λ x. now_broadcast base me (Say m ∷ past) x && not (now_broadcast base me past x) in
     let passes : test m ≡ true = λ i. ((same_itself m i || mentions past m) && own_broadcast base me (Say m ∷ past) m own i) && not (new i && is_broadcast base me past m) in
@@ -45,5 +42,5 @@ pub said_sends : (s : SlotState) (told : List GroupCall) (payload : List ℕ) �
 said_sends s told payload st =
     let m : MsgId = message_of (own_entry s payload) in
     let sent = called_sends s told (Own (own_entry s payload)) st (own_lawful s told payload st) in
-    let some = said_broadcast (module_of s.spec.kind) s.me.number m (calls_of told) refl (own_new s told payload st) in
+    let some = said_broadcast s.spec.kind.module s.me.number m (calls_of told) refl (own_new s told payload st) in
     omega (arith, ap length sent, some)

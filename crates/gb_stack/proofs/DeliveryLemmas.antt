@@ -6,6 +6,8 @@ use Rattle.gb_types.specs.Message.{same}
 use Rattle.gb_types.specs.Places.{has_majority}
 use Rattle.gb_types.proofs.MajorityLemmas.{majority_more}
 use Rattle.gb_types.specs.declared.kind.Kind.{Kind}
+use Rattle.gb_types.specs.declared.kind.Order.{Order}
+use Rattle.gb_types.specs.declared.kind.Order.TheVariants.{Any, Fifo}
 use Rattle.gb_types.specs.declared.message.MsgId.{MsgId}
 use Rattle.gb_types.proofs.SameLemmas.{same-true}
 use Rattle.gb_types.proofs.BoolLemmas.{and_left, and_more, or_more, or_second}
@@ -14,14 +16,14 @@ use Rattle.gb_layer.specs.Lists.{all_append, all_weaker, list_all_weaker}
 use Rattle.gb_layer.specs.Machine.{mentions, was_noticed, came_from}
 use Rattle.gb_layer.specs.FirstMentionLemmas.{first_mentions-mentioned, first_mentions-once}
 use Rattle.gb_layer.specs.Modules.{first_mentions, holds, is_delivered, now_delivered, now_broadcast, newly, delivers, broadcasts, log}
-use Rattle.gb_layer.specs.declared.broadcast_module.BroadcastModule.{BroadcastModule}
-use Rattle.gb_layer.specs.declared.broadcast_module.BroadcastModule.TheVariants.{BestEffort, Lazy, Eager, AllAck, MajorityAck}
+use Rattle.gb_types.specs.declared.kind.Module.{Module}
+use Rattle.gb_types.specs.declared.kind.Module.TheVariants.{BestEffort, Lazy, Eager, AllAck, Majority}
 use Rattle.gb_layer.specs.declared.call.Call.{Call}
 use Rattle.gb_layer.specs.declared.call.Call.TheVariants.{Say, Came, Notice}
 use Rattle.gb_fifo.specs.Order.{is_in, in_order, RunsFromOne}
 use Rattle.gb_fifo.specs.OrderLaws.{AllIn}
 use Rattle.gb_fifo.proofs.InOrderLemmas.{order_runs, order_delivered, order_once}
-use Rattle.gb_stack.specs.Kinds.{module_of, is_fifo, kind_broadcasts, kind_log}
+use Rattle.gb_stack.specs.Kinds.{released, kind_broadcasts, kind_log}
 
 -- Nothing is forgotten.
 
@@ -40,17 +42,17 @@ holds_stays me c past p m h =
     or_more (came_from me past p m) (nat_eq me p && mentions past m) (came_from me (c ∷ past) p m) (nat_eq me p && mentions (c ∷ past) m) (came_stays me c past p m)
     (and_more (nat_eq me p) (mentions past m) (nat_eq me p) (mentions (c ∷ past) m) (λ e. e) (mentions_stays c past m)) h
 
-is_delivered_stays : (base : BroadcastModule) (me : ℕ) (members : List ℕ) (c : Call) (past : List Call) (m : MsgId) → is_delivered base me members past m ≡ true → is_delivered base me members (c ∷ past) m ≡ true
+is_delivered_stays : (base : Module) (me : ℕ) (members : List ℕ) (c : Call) (past : List Call) (m : MsgId) → is_delivered base me members past m ≡ true → is_delivered base me members (c ∷ past) m ≡ true
 is_delivered_stays BestEffort me members c past m h = came_stays me c past m.origin.number m h
 is_delivered_stays Lazy me members c past m h = refl
 is_delivered_stays Eager me members c past m h = refl
 is_delivered_stays AllAck me members c past m h =
     list_all_weaker (λ p. was_noticed past p || holds me past p m) (λ p. was_noticed (c ∷ past) p || holds me (c ∷ past) p m)
     (λ p. or_more (was_noticed past p) (holds me past p m) (was_noticed (c ∷ past) p) (holds me (c ∷ past) p m) (noticed_stays c past p) (holds_stays me c past p m)) members h
-is_delivered_stays MajorityAck me members c past m h = majority_more (λ p. list_any (λ q. nat_eq q p) members) (λ p. holds me past p m) (λ p. holds me (c ∷ past) p m) (λ p in_p. holds_stays me c past p m) h
+is_delivered_stays Majority me members c past m h = majority_more (λ p. list_any (λ q. nat_eq q p) members) (λ p. holds me past p m) (λ p. holds me (c ∷ past) p m) (λ p in_p. holds_stays me c past p m) h
 
 -- a delivered message stays delivered
-pub delivered_stays : (base : BroadcastModule) (me : ℕ) (members : List ℕ) (c : Call) (past : List Call) (m : MsgId) → now_delivered base me members past m ≡ true → now_delivered base me members (c ∷ past) m ≡ true
+pub delivered_stays : (base : Module) (me : ℕ) (members : List ℕ) (c : Call) (past : List Call) (m : MsgId) → now_delivered base me members past m ≡ true → now_delivered base me members (c ∷ past) m ≡ true
 delivered_stays base me members c past m =
     and_more (mentions past m) (is_delivered base me members past m) (mentions (c ∷ past) m) (is_delivered base me members (c ∷ past) m) (mentions_stays c past m) (is_delivered_stays base me members c past m)
 
@@ -85,7 +87,7 @@ newly_once test c past m within =
     both false b d f = refl
 
 -- a message stands in the log once, if it is delivered
-pub log_once : (base : BroadcastModule) (me : ℕ) (members : List ℕ) (past : List Call) (m : MsgId) → filter (λ x. same x m) (log base me members past) ≡ cond (now_delivered base me members past m) (m ∷ []) []
+pub log_once : (base : Module) (me : ℕ) (members : List ℕ) (past : List Call) (m : MsgId) → filter (λ x. same x m) (log base me members past) ≡ cond (now_delivered base me members past m) (m ∷ []) []
 log_once base me members [] m = refl
 log_once base me members (c ∷ past) m =
     filter-append (λ x. same x m) (log base me members past) (delivers base me members c past)
@@ -108,10 +110,10 @@ all_filter P q (x ∷ xs) a = elim (q x) as (λ b. AllByRecursion P (cond b (x �
 newly_mentioned : (test : List Call → MsgId → Bool) (c : Call) (past : List Call) → AllByRecursion (λ m. mentions (c ∷ past) m ≡ true) (newly test c past)
 newly_mentioned test c past = all_filter (λ m. mentions (c ∷ past) m ≡ true) (λ m. test (c ∷ past) m && not (test past m)) (first_mentions (c ∷ past)) (first_mentions-mentioned (c ∷ past))
 
-pub broadcasts_mentioned : (base : BroadcastModule) (me : ℕ) (c : Call) (past : List Call) → AllByRecursion (λ m. mentions (c ∷ past) m ≡ true) (broadcasts base me c past)
+pub broadcasts_mentioned : (base : Module) (me : ℕ) (c : Call) (past : List Call) → AllByRecursion (λ m. mentions (c ∷ past) m ≡ true) (broadcasts base me c past)
 broadcasts_mentioned base me c past = newly_mentioned (now_broadcast base me) c past
 
-pub log_mentioned : (base : BroadcastModule) (me : ℕ) (members : List ℕ) (past : List Call) → AllByRecursion (λ m. mentions past m ≡ true) (log base me members past)
+pub log_mentioned : (base : Module) (me : ℕ) (members : List ℕ) (past : List Call) → AllByRecursion (λ m. mentions past m ≡ true) (log base me members past)
 log_mentioned base me members [] = tt
 log_mentioned base me members (c ∷ past) =
     all_append (λ m. mentions (c ∷ past) m ≡ true) (log base me members past) (delivers base me members c past)
@@ -134,36 +136,35 @@ all_in : (P : MsgId → Type 0) (xs ys : List MsgId) → AllByRecursion P xs →
 all_in P xs ys all = all_weaker (λ m. is_in xs m ≡ true) P (holds_of P xs all) ys
 
 pub kind_log_mentioned : (kind : Kind) (me : ℕ) (members : List ℕ) (past : List Call) → AllByRecursion (λ m. mentions past m ≡ true) (kind_log kind me members past)
-kind_log_mentioned kind me members past =
-    let plain = log (module_of kind) me members past in
-    let all = log_mentioned (module_of kind) me members past in
-    elim (is_fifo kind) as (λ b. AllByRecursion (λ m. mentions past m ≡ true) (cond b (in_order plain) plain)) [
-      | true ↦ all_in (λ m. mentions past m ≡ true) plain (in_order plain) all (order_delivered plain)
-      | false ↦ all
-    ]
+kind_log_mentioned kind me members past = all_released kind.order (log kind.module me members past) (log_mentioned kind.module me members past)
+  where
+    all_released : (order : Order) (plain : List MsgId) → AllByRecursion (λ m. mentions past m ≡ true) plain → AllByRecursion (λ m. mentions past m ≡ true) (released order [] plain)
+    all_released Any plain all = all
+    all_released Fifo plain all = all_in (λ m. mentions past m ≡ true) plain (in_order plain) all (order_delivered plain)
 
 pub kind_broadcasts_mentioned : (kind : Kind) (me : ℕ) (c : Call) (past : List Call) → AllByRecursion (λ m. mentions (c ∷ past) m ≡ true) (kind_broadcasts kind me c past)
-kind_broadcasts_mentioned kind = broadcasts_mentioned (module_of kind)
+kind_broadcasts_mentioned kind = broadcasts_mentioned kind.module
 
 -- no message stands in the log twice
 pub kind_log_once : (kind : Kind) (me : ℕ) (members : List ℕ) (past : List Call) (m : MsgId) → length (filter (λ x. same x m) (kind_log kind me members past)) ≤ 1
-kind_log_once kind me members past m =
-    let base = module_of kind in
-    let plain = log base me members past in
-    elim (is_fifo kind) as (λ b. length (filter (λ x. same x m) (cond b (in_order plain) plain)) ≤ 1) [
-      | true ↦ order_once plain m
-      | false ↦ at_most (now_delivered base me members past m) (filter (λ x. same x m) plain) (log_once base me members past m)
-    ]
+kind_log_once kind me members past m = go kind.order
   where
+    plain : List MsgId
+    plain = log kind.module me members past
+
     at_most : (b : Bool) (xs : List MsgId) → xs ≡ cond b (m ∷ []) [] → length xs ≤ 1
     at_most true xs e = let k : length xs ≡ 1 = ap length e in omega (arith, k)
     at_most false xs e = let k : length xs ≡ 0 = ap length e in omega (arith, k)
 
+    go : (order : Order) → length (filter (λ x. same x m) (released order [] plain)) ≤ 1
+    go Any = at_most (now_delivered kind.module me members past m) (filter (λ x. same x m) plain) (log_once kind.module me members past m)
+    go Fifo = order_once plain m
+
 -- where the kind keeps an order each origin's messages stand in the log as 1, 2, 3, ..
-pub kind_log_in_order : (kind : Kind) (me : ℕ) (members : List ℕ) (past : List Call) → is_fifo kind ≡ true → RunsFromOne (kind_log kind me members past)
+pub kind_log_in_order : (kind : Kind) (me : ℕ) (members : List ℕ) (past : List Call) → kind.order ≡ Fifo → RunsFromOne (kind_log kind me members past)
 kind_log_in_order kind me members past fifo =
-    let plain = log (module_of kind) me members past in
-    subst (λ (b : Bool). RunsFromOne (cond b (in_order plain) plain)) (sym fifo) (order_runs plain)
+    let plain = log kind.module me members past in
+    subst (λ order. RunsFromOne (released order [] plain)) (sym fifo) (order_runs plain)
 
 -- The members are read through tests on all of them alone.
 
@@ -180,17 +181,17 @@ module _ (me : ℕ) (ms ns : List ℕ) (alike : (p : ℕ → Bool) → list_all 
   listed_alike : (p : ℕ) → list_any (λ q. nat_eq q p) ms ≡ list_any (λ q. nat_eq q p) ns
   listed_alike p = any_not_all (λ q. nat_eq q p) ms ∙ (ap not (alike (λ q. not (nat_eq q p))) ∙ sym (any_not_all (λ q. nat_eq q p) ns))
 
-  delivered_alike : (base : BroadcastModule) (past : List Call) (m : MsgId) → is_delivered base me ms past m ≡ is_delivered base me ns past m
+  delivered_alike : (base : Module) (past : List Call) (m : MsgId) → is_delivered base me ms past m ≡ is_delivered base me ns past m
   delivered_alike BestEffort past m = refl
   delivered_alike Lazy past m = refl
   delivered_alike Eager past m = refl
   delivered_alike AllAck past m = alike (λ p. was_noticed past p || holds me past p m)
-  delivered_alike MajorityAck past m = λ i. has_majority (λ p. listed_alike p i) (λ p. holds me past p m)
+  delivered_alike Majority past m = λ i. has_majority (λ p. listed_alike p i) (λ p. holds me past p m)
 
-  log_alike : (base : BroadcastModule) (past : List Call) → log base me ms past ≡ log base me ns past
+  log_alike : (base : Module) (past : List Call) → log base me ms past ≡ log base me ns past
   log_alike base [] = refl
   log_alike base (c ∷ past) = λ i. log_alike base past i ++ newly (λ h m. mentions h m && delivered_alike base h m i) c past
 
 -- two lists of the same members give the same log
 pub same_members : (kind : Kind) (me : ℕ) (ms ns : List ℕ) → ((p : ℕ → Bool) → list_all p ms ≡ list_all p ns) → (past : List Call) → kind_log kind me ms past ≡ kind_log kind me ns past
-same_members kind me ms ns alike past = ap (λ xs. cond (is_fifo kind) (in_order xs) xs) (log_alike me ms ns alike (module_of kind) past)
+same_members kind me ms ns alike past = ap (released kind.order []) (log_alike me ms ns alike kind.module past)

@@ -11,10 +11,11 @@ use Rattle.std.specs.Prelude.{if◌then◌else◌}
 use Rattle.std.proofs.Math.Bool.{and-true}
 use Rattle.gb_types.specs.Rising.{AreNodes}
 use Rattle.gb_types.specs.declared.kind.Kind.{Kind}
+use Rattle.gb_types.specs.declared.kind.Order.TheVariants.{Any, Fifo}
 use Rattle.gb_types.specs.declared.limits.TheConstants.{NODES}
 use Rattle.gb_types.specs.declared.node.NodeId.{NodeId}
-use Rattle.gb_layer.specs.declared.broadcast_module.BroadcastModule.{BroadcastModule}
-use Rattle.gb_layer.specs.declared.broadcast_module.BroadcastModule.TheVariants.{BestEffort, Lazy, Eager, AllAck, MajorityAck}
+use Rattle.gb_types.specs.declared.kind.Module.{Module}
+use Rattle.gb_types.specs.declared.kind.Module.TheVariants.{BestEffort, Lazy, Eager, AllAck, Majority}
 use Rattle.gb_layer.specs.declared.call.Call.{Call}
 use Rattle.gb_layer.specs.declared.call.Call.TheVariants.{Notice}
 use Rattle.gb_layer.specs.Machine.{nothing, after}
@@ -24,8 +25,7 @@ use Rattle.gb_layer.proofs.NodeSetLemmas.{again}
 use Rattle.gb_reliable.specs.Rules.{lazy_rules, eager_rules}
 use Rattle.gb_uniform.specs.Rules.{all_ack_rules, majority_ack_rules}
 use Rattle.gb_fifo.specs.Entries.{taken}
-use Rattle.gb_stack.specs.Kinds.{module_of, is_fifo}
-use Rattle.gb_stack.specs.StackState.{StackState, unordered, fifo, lazy, eager, all_ack, majority_ack, relayed_next, relayed_gives, unordered_next, unordered_gives, unordered_me, unordered_noticing, IsUntold, IsUntoldStack, stack_next, stack_me, stack_noticing, untold_stack, others_in, new_stack}
+use Rattle.gb_stack.specs.StackState.{StackState, unordered, fifo, lazy, eager, all_ack, majority_ack, relayed_next, relayed_gives, unordered_next, unordered_gives, unordered_me, unordered_noticing, IsUntold, IsUntoldStack, stack_next, stack_me, stack_over, stack_noticing, untold_stack, others_in, new_stack}
 use Rattle.gb_stack.specs.Stands.{is_other_noticed, HasHeard}
 
 -- a relay that was told notices alone
@@ -45,31 +45,28 @@ module _ (rules : Rules) (me : NodeId) (members noticed : Nodes) (q : NodeId) wh
   relay_silent : relayed_gives rules (noticing me members noticed) (Notice q) ≡ nothing
   relay_silent = elim (set.contains noticed q.number) as (λ b. cond b nothing nothing ≡ nothing) [ true ↦ refl | false ↦ refl ]
 
-one_more : (base : BroadcastModule) (me : NodeId) (members noticed : Nodes) (q : NodeId) → unordered_next (unordered_noticing base me members noticed) (Notice q) ≡ unordered_noticing base me members (set.insert noticed q.number)
+one_more : (base : Module) (me : NodeId) (members noticed : Nodes) (q : NodeId) → unordered_next (unordered_noticing base me members noticed) (Notice q) ≡ unordered_noticing base me members (set.insert noticed q.number)
 one_more BestEffort me members noticed q = refl
 one_more Lazy me members noticed q = ap lazy (relay_more lazy_rules me members noticed q)
 one_more Eager me members noticed q = ap eager (relay_more eager_rules me members noticed q)
 one_more AllAck me members noticed q = ap all_ack (relay_more all_ack_rules me members noticed q)
-one_more MajorityAck me members noticed q = ap majority_ack (relay_more majority_ack_rules me members noticed q)
+one_more Majority me members noticed q = ap majority_ack (relay_more majority_ack_rules me members noticed q)
 
-silent : (base : BroadcastModule) (me : NodeId) (members noticed : Nodes) (q : NodeId) → unordered_gives (unordered_noticing base me members noticed) (Notice q) ≡ nothing
+silent : (base : Module) (me : NodeId) (members noticed : Nodes) (q : NodeId) → unordered_gives (unordered_noticing base me members noticed) (Notice q) ≡ nothing
 silent BestEffort me members noticed q = refl
 silent Lazy me members noticed q = relay_silent lazy_rules me members noticed q
 silent Eager me members noticed q = relay_silent eager_rules me members noticed q
 silent AllAck me members noticed q = relay_silent all_ack_rules me members noticed q
-silent MajorityAck me members noticed q = relay_silent majority_ack_rules me members noticed q
+silent Majority me members noticed q = relay_silent majority_ack_rules me members noticed q
 
 -- one more node is noticed
 stack_more : (kind : Kind) (me : NodeId) (members noticed : Nodes) (q : NodeId) → stack_next (stack_noticing kind me members noticed) (Notice q) ≡ stack_noticing kind me members (set.insert noticed q.number)
 stack_more kind me members noticed q =
-    let base = module_of kind in
-    let more = one_more base me members noticed q in
-    let none = silent base me members noticed q in
-    elim (is_fifo kind) as (λ b.
-    stack_next (cond b (fifo (record { lower = unordered_noticing base me members noticed; entries = [] })) (unordered (unordered_noticing base me members noticed))) (Notice q)
-    ≡ cond b (fifo (record { lower = unordered_noticing base me members (set.insert noticed q.number); entries = [] })) (unordered (unordered_noticing base me members (set.insert noticed q.number)))) [
-      | true ↦ (λ i. fifo (record { lower = more i; entries = taken (none i).ups [] }))
-      | false ↦ ap unordered more
+    let more = one_more kind.module me members noticed q in
+    let none = silent kind.module me members noticed q in
+    elim kind.order as (λ order. stack_next (stack_over order (unordered_noticing kind.module me members noticed)) (Notice q) ≡ stack_over order (unordered_noticing kind.module me members (set.insert noticed q.number))) [
+      | Any ↦ ap unordered more
+      | Fifo ↦ λ i. fifo (record { lower = more i; entries = taken (none i).ups [] })
     ]
 
 -- these nodes are noticed, one after the other
@@ -167,30 +164,30 @@ new_heard kind me members noticed old s nodes from heard =
 -- a stack that was told nothing is at its node
 pub untold_me : (kind : Kind) (me : NodeId) (members : Nodes) → stack_me (untold_stack kind me members) ≡ me
 untold_me kind me members =
-    elim (is_fifo kind) as (λ b. stack_me (cond b (fifo (record { lower = unordered_noticing (module_of kind) me members set.empty; entries = [] })) (unordered (unordered_noticing (module_of kind) me members set.empty))) ≡ me) [
-      | true ↦ at (module_of kind)
-      | false ↦ at (module_of kind)
+    elim kind.order as (λ order. stack_me (stack_over order (unordered_noticing kind.module me members set.empty)) ≡ me) [
+      | Any ↦ at kind.module
+      | Fifo ↦ at kind.module
     ]
   where
-    at : (base : BroadcastModule) → unordered_me (unordered_noticing base me members set.empty) ≡ me
+    at : (base : Module) → unordered_me (unordered_noticing base me members set.empty) ≡ me
     at BestEffort = refl
     at Lazy = refl
     at Eager = refl
     at AllAck = refl
-    at MajorityAck = refl
+    at Majority = refl
 
--- a stack that was told nothing is so
+-- a broadcast that was told nothing is so
+pub lower_untold : (base : Module) (me : NodeId) (members : Nodes) → IsUntold (unordered_noticing base me members set.empty)
+lower_untold BestEffort me members = tt
+lower_untold Lazy me members = record { lower = tt; noticed = refl; entries = refl }
+lower_untold Eager me members = record { lower = tt; noticed = refl; entries = refl }
+lower_untold AllAck me members = record { lower = tt; noticed = refl; entries = refl }
+lower_untold Majority me members = record { lower = tt; noticed = refl; entries = refl }
+
+-- and a stack over it
 pub was_untold : (kind : Kind) (me : NodeId) (members : Nodes) → IsUntoldStack (untold_stack kind me members)
 was_untold kind me members =
-    let base = module_of kind in
-    elim (is_fifo kind) as (λ b. IsUntoldStack (if b then fifo (record { lower = unordered_noticing base me members set.empty; entries = [] }) else unordered (unordered_noticing base me members set.empty))) [
-      | true ↦ record { lower = lower base; entries = refl }
-      | false ↦ lower base
+    elim kind.order as (λ order. IsUntoldStack (stack_over order (unordered_noticing kind.module me members set.empty))) [
+      | Any ↦ lower_untold kind.module me members
+      | Fifo ↦ record { lower = lower_untold kind.module me members; entries = refl }
     ]
-  where
-    lower : (base : BroadcastModule) → IsUntold (unordered_noticing base me members set.empty)
-    lower BestEffort = tt
-    lower Lazy = record { lower = tt; noticed = refl; entries = refl }
-    lower Eager = record { lower = tt; noticed = refl; entries = refl }
-    lower AllAck = record { lower = tt; noticed = refl; entries = refl }
-    lower MajorityAck = record { lower = tt; noticed = refl; entries = refl }

@@ -14,7 +14,7 @@ use Rattle.gb_sinks.specs.RelayColumn.{RelayKnows, relay_grows}
 use Rattle.gb_stack.specs.declared.stack.Stack.{Stack}
 use Rattle.gb_stack.specs.declared.stack.Stack.TheVariants.{Plain, Ordered}
 use Rattle.gb_stack.specs.declared.unordered.Unordered.{Unordered}
-use Rattle.gb_stack.specs.declared.unordered.Unordered.TheVariants.{BestEffort, Lazy, Eager, AllAck, MajorityAck}
+use Rattle.gb_stack.specs.declared.unordered.Unordered.TheVariants.{BestEffort, Lazy, Eager, AllAck, Majority}
 use Rattle.gb_stack.specs.StackState.{UnorderedState, best_effort, lazy, eager, all_ack, majority_ack, StackState, unordered, fifo}
 
 -- the state of the lowest layer: its node
@@ -31,7 +31,7 @@ unordered_of ms (BestEffort d) = best_effort (beb_of ms d.lower)
 unordered_of ms (Lazy r) = lazy (column.state_of beb_of ms r)
 unordered_of ms (Eager r) = eager (column.state_of beb_of ms r)
 unordered_of ms (AllAck r) = all_ack (column.state_of beb_of ms r)
-unordered_of ms (MajorityAck r) = majority_ack (column.state_of beb_of ms r)
+unordered_of ms (Majority r) = majority_ack (column.state_of beb_of ms r)
 
 -- a relay over the lowest layer was told the first n places, and has memory for w
 abbrev pub Relays : {R : Type 0} → Rules → List MsgId → Relay Beb R → ℕ → ℕ → Type 0
@@ -43,7 +43,7 @@ UnorderedKnows ms (BestEffort d) n w = Unit {0}
 UnorderedKnows ms (Lazy r) n w = Relays lazy_rules ms r n w
 UnorderedKnows ms (Eager r) n w = Relays eager_rules ms r n w
 UnorderedKnows ms (AllAck r) n w = Relays all_ack_rules ms r n w
-UnorderedKnows ms (MajorityAck r) n w = Relays majority_ack_rules ms r n w
+UnorderedKnows ms (Majority r) n w = Relays majority_ack_rules ms r n w
 
 relays_grow : {R : Type 0} (rules : Rules) (ms more : List MsgId) (r : Relay Beb R) (n w : ℕ) → Relays rules ms r n w → (column.state_of beb_of (ms ++ more) r ≡ column.state_of beb_of ms r) × Relays rules (ms ++ more) r n w
 relays_grow rules = relay_grows beb_of (λ s. s) rules beb_knows (λ ms more b n w k. (refl, tt))
@@ -54,7 +54,7 @@ unordered_grows ms more (BestEffort d) n w k = (refl, tt)
 unordered_grows ms more (Lazy r) n w k = let g = relays_grow lazy_rules ms more r n w k in (ap lazy g.0, g.1)
 unordered_grows ms more (Eager r) n w k = let g = relays_grow eager_rules ms more r n w k in (ap eager g.0, g.1)
 unordered_grows ms more (AllAck r) n w k = let g = relays_grow all_ack_rules ms more r n w k in (ap all_ack g.0, g.1)
-unordered_grows ms more (MajorityAck r) n w k = let g = relays_grow majority_ack_rules ms more r n w k in (ap majority_ack g.0, g.1)
+unordered_grows ms more (Majority r) n w k = let g = relays_grow majority_ack_rules ms more r n w k in (ap majority_ack g.0, g.1)
 
 -- the state of a stack
 abbrev pub stack_of : List MsgId → Stack → StackState

@@ -3,17 +3,18 @@ use Rattle.std.specs.Prelude.{◌≡◌, ℕ, ◌≤◌, true, List, [], ◌∷�
 use Rattle.std.specs.List.{AllByRecursion}
 use Rattle.gb_types.specs.Message.{same}
 use Rattle.gb_types.specs.declared.kind.Kind.{Kind}
+use Rattle.gb_types.specs.declared.kind.Order.TheVariants.{Fifo}
 use Rattle.gb_types.specs.declared.message.MsgId.{MsgId}
 use Rattle.gb_layer.specs.Machine.{mentions}
 use Rattle.gb_layer.specs.Modules.{now_delivered, log}
-use Rattle.gb_layer.specs.declared.broadcast_module.BroadcastModule.{BroadcastModule}
+use Rattle.gb_types.specs.declared.kind.Module.{Module}
 use Rattle.gb_layer.specs.declared.call.Call.{Call}
 use Rattle.gb_fifo.specs.Order.{RunsFromOne}
-use Rattle.gb_stack.specs.Kinds.{is_fifo, kind_log}
+use Rattle.gb_stack.specs.Kinds.{kind_log}
 
 -- the log of a fifo kind has each origin's messages as 1, 2, 3, .., without a gap
 abbrev pub FifoLogRuns : Type 0
-FifoLogRuns = (kind : Kind) (me : ℕ) (members : List ℕ) (past : List Call) → is_fifo kind ≡ true → RunsFromOne (kind_log kind me members past)
+FifoLogRuns = (kind : Kind) (me : ℕ) (members : List ℕ) (past : List Call) → kind.order ≡ Fifo → RunsFromOne (kind_log kind me members past)
 
 -- each message is in a log at most once
 abbrev pub KindLogOnce : Type 0
@@ -26,5 +27,5 @@ KindLogMentioned = (kind : Kind) (me : ℕ) (members : List ℕ) (past : List Ca
 -- the log of a module has exactly the messages that are delivered, each once
 abbrev pub ModuleLogHasDelivered : Type 0
 ModuleLogHasDelivered =
-    (base : BroadcastModule) (me : ℕ) (members : List ℕ) (past : List Call) (m : MsgId)
+    (base : Module) (me : ℕ) (members : List ℕ) (past : List Call) (m : MsgId)
     → filter (λ x. same x m) (log base me members past) ≡ (if now_delivered base me members past m then m ∷ [] else [])

@@ -1,10 +1,12 @@
 -- The state of a stack, the effects of a call, and the state after it.
-use Rattle.std.specs.Prelude.{[], if◌then◌else◌}
+use Rattle.std.specs.Prelude.{[]}
 use Rattle.std.specs.FinSet as set
 use Rattle.gb_types.specs.declared.kind.Kind.{Kind}
+use Rattle.gb_types.specs.declared.kind.Module.{Module}
+use Rattle.gb_types.specs.declared.kind.Module.TheVariants.{BestEffort, Lazy, Eager, AllAck, Majority}
+use Rattle.gb_types.specs.declared.kind.Order.{Order}
+use Rattle.gb_types.specs.declared.kind.Order.TheVariants.{Any, Fifo}
 use Rattle.gb_types.specs.declared.node.NodeId.{NodeId}
-use Rattle.gb_layer.specs.declared.broadcast_module.BroadcastModule.{BroadcastModule}
-use Rattle.gb_layer.specs.declared.broadcast_module.BroadcastModule.TheVariants.{BestEffort, Lazy, Eager, AllAck, MajorityAck}
 use Rattle.gb_layer.specs.declared.call.Call.{Call}
 use Rattle.gb_layer.specs.BebMachine.{beb_gives}
 use Rattle.gb_layer.specs.Machine.{Gives, own_gives}
@@ -14,7 +16,6 @@ use Rattle.gb_layer.specs.Rule.{Nodes, Rules}
 use Rattle.gb_reliable.specs.Rules.{lazy_rules, eager_rules}
 use Rattle.gb_uniform.specs.Rules.{all_ack_rules, majority_ack_rules}
 use Rattle.gb_fifo.specs.FifoMachine.{FifoState, IsNew, fifo_next, fifo_gives}
-use Rattle.gb_stack.specs.Kinds.{module_of, is_fifo}
 
 -- the state of a broadcast without an order: for best effort its node alone, for the others that of a relay
 pub data UnorderedState : Type 0 where
@@ -90,18 +91,21 @@ IsUntoldStack (unordered s) = IsUntold s
 IsUntoldStack (fifo s) = IsNew IsUntold s
 
 -- a broadcast at a node, in a group with these members, that took the notices of these nodes, and no other call
-abbrev pub unordered_noticing : BroadcastModule → NodeId → Nodes → Nodes → UnorderedState
+abbrev pub unordered_noticing : Module → NodeId → Nodes → Nodes → UnorderedState
 unordered_noticing BestEffort me members noticed = best_effort me
 unordered_noticing Lazy me members noticed = lazy (record { lower = me; members = members; noticed = noticed; entries = [] })
 unordered_noticing Eager me members noticed = eager (record { lower = me; members = members; noticed = noticed; entries = [] })
 unordered_noticing AllAck me members noticed = all_ack (record { lower = me; members = members; noticed = noticed; entries = [] })
-unordered_noticing MajorityAck me members noticed = majority_ack (record { lower = me; members = members; noticed = noticed; entries = [] })
+unordered_noticing Majority me members noticed = majority_ack (record { lower = me; members = members; noticed = noticed; entries = [] })
+
+-- a stack of an order over a broadcast, from which nothing came up
+abbrev pub stack_over : Order → UnorderedState → StackState
+stack_over Any lower = unordered lower
+stack_over Fifo lower = fifo (record { lower = lower; entries = [] })
 
 -- a stack of a kind that starts at a node which has noticed these nodes
 abbrev pub stack_noticing : Kind → NodeId → Nodes → Nodes → StackState
-stack_noticing kind me members noticed =
-    if is_fifo kind then fifo (record { lower = unordered_noticing (module_of kind) me members noticed; entries = [] })
-    else unordered (unordered_noticing (module_of kind) me members noticed)
+stack_noticing kind me members noticed = stack_over kind.order (unordered_noticing kind.module me members noticed)
 
 -- a stack to which no call was made
 abbrev pub untold_stack : Kind → NodeId → Nodes → StackState

@@ -3,7 +3,6 @@
 //! kind delivers and broadcasts. `stands` says that each stack keeps it, and `plain` computes it slowly, straight from its definition.
 #![tactic(auto)]
 
-pub mod kinds;
 mod nothing;
 pub mod plain;
 pub mod stack;

@@ -5,10 +5,9 @@ ghost use Rattle.gb_layer.specs.Machine.{numbers};
 ghost use Rattle.gb_layer.specs.Modules.{newest};
 ghost use Rattle.gb_stack.specs.Kinds.{kind_broadcasts, kind_log};
 
-use crate::kinds::{broadcast_module, is_fifo};
 use gb_fifo::plain::in_order;
 use gb_layer::{Call, plain};
-use gb_types::{Kind, MsgId, NodeId, OutOfMemory};
+use gb_types::{Kind, MsgId, NodeId, Order, OutOfMemory};
 use std::alloc::Global;
 
 /// Returns the messages that the newest call of a history makes node `me` send, in order, by the definition of the kind of broadcast.
@@ -21,7 +20,7 @@ pub fn broadcasts(
 ) -> Result<Vec<MsgId>, OutOfMemory>
     ensures { IfOk result (λ found. found.items ≡ newest (kind_broadcasts kind me.number) history.now) }
 {
-    plain::broadcasts(alloc, broadcast_module(kind), me, history)
+    plain::broadcasts(alloc, kind.module, me, history)
 }
 
 /// Returns the log of node `me` after a history: the messages that its calls delivered, the oldest first, by the definition of the kind
@@ -35,10 +34,9 @@ pub fn log(
 ) -> Result<Vec<MsgId>, OutOfMemory>
     ensures { IfOk result (λ found. found.items ≡ kind_log kind me.number (numbers members.now) history.now) }
 {
-    let delivered = plain::log(alloc, broadcast_module(kind), me, members, history)?;
-    if is_fifo(kind) {
-        in_order(alloc, &delivered)
-    } else {
-        Ok(delivered)
+    let delivered = plain::log(alloc, kind.module, me, members, history)?;
+    match kind.order {
+        Order::Any => Ok(delivered),
+        Order::Fifo => in_order(alloc, &delivered),
     }
 }

@@ -7,12 +7,11 @@ ghost use Rattle.gb_stack.specs.Stands.{is_other_noticed, HasHeard, HasStarted};
 ghost use Rattle.gb_stack.specs.StackState.{untold_stack, new_stack};
 
 use crate::Unordered;
-use crate::kinds::{broadcast_module, is_fifo};
 use crate::nothing::Nothing;
 use gb_layer::Room;
 use gb_sinks::{Bounded, Broadcast, Fifo, Index, Lawful, Layer, PlacedCall, Sink};
 use gb_types::limits::NODES;
-use gb_types::{Kind, NodeId, NodeSet, OutOfMemory, Spec};
+use gb_types::{Kind, NodeId, NodeSet, Order, OutOfMemory, Spec};
 use std::alloc::Global;
 
 /// Makes the layer take the notice of a node, if the node is another member that was noticed. What the layer sends and hands up is
@@ -61,11 +60,10 @@ impl Stack {
         ensures meaning { (ms : List MsgId) → ⟦<Stack as Layer>⟧.meaning ms result ≡ untold_stack kind me members }
         ensures known { (ms : List MsgId) → ⟦<Stack as Layer>⟧.knows ms result 0 0 }
     {
-        let lower = Unordered::new(alloc, broadcast_module(kind), me, members);
-        if is_fifo(kind) {
-            Stack::Ordered(Fifo::new(alloc, lower))
-        } else {
-            Stack::Plain(lower)
+        let lower = Unordered::new(alloc, kind.module, me, members);
+        match kind.order {
+            Order::Any => Stack::Plain(lower),
+            Order::Fifo => Stack::Ordered(Fifo::new(alloc, lower)),
         }
     }
 

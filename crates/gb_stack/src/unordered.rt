@@ -4,10 +4,10 @@ ghost use Rattle.gb_types.specs.declared.message.MsgId.{MsgId};
 ghost use Rattle.gb_stack.specs.StackState.{unordered_noticing};
 ghost use Rattle.std.specs.FinSet as set;
 
-use gb_layer::{BroadcastModule, Room};
+use gb_layer::Room;
 use gb_reliable::{Eagerly, Lazily};
 use gb_sinks::{Beb, Bounded, Broadcast, Direct, Index, Lawful, Layer, PlacedCall, Relay, Sink};
-use gb_types::{NodeId, NodeSet, OutOfMemory};
+use gb_types::{Module, NodeId, NodeSet, OutOfMemory};
 use gb_uniform::{AllAcked, MajorityAcked};
 use std::alloc::Global;
 
@@ -18,25 +18,23 @@ pub enum Unordered {
     Lazy(Relay<Beb, Lazily>),
     Eager(Relay<Beb, Eagerly>),
     AllAck(Relay<Beb, AllAcked>),
-    MajorityAck(Relay<Beb, MajorityAcked>),
+    Majority(Relay<Beb, MajorityAcked>),
 }
 
 impl Unordered {
     /// Returns the broadcast of a module at the node `me`, in a group with these members. It was told no place and has noticed nobody.
-    pub fn new(alloc: Global, base: BroadcastModule, me: NodeId, members: NodeSet) -> Unordered
+    pub fn new(alloc: Global, base: Module, me: NodeId, members: NodeSet) -> Unordered
         ensures meaning { (ms : List MsgId) → ⟦<Unordered as Layer>⟧.meaning ms result ≡ unordered_noticing base me members set.empty }
         ensures known { (ms : List MsgId) → ⟦<Unordered as Layer>⟧.knows ms result 0 0 }
     {
         let lower = Beb::new(me);
         match base {
-            BroadcastModule::BestEffort => Unordered::BestEffort(Direct::new(lower)),
-            BroadcastModule::Lazy => Unordered::Lazy(Relay::new(alloc, lower, Lazily, members)),
-            BroadcastModule::Eager => Unordered::Eager(Relay::new(alloc, lower, Eagerly, members)),
-            BroadcastModule::AllAck => {
-                Unordered::AllAck(Relay::new(alloc, lower, AllAcked, members))
-            }
-            BroadcastModule::MajorityAck => {
-                Unordered::MajorityAck(Relay::new(alloc, lower, MajorityAcked, members))
+            Module::BestEffort => Unordered::BestEffort(Direct::new(lower)),
+            Module::Lazy => Unordered::Lazy(Relay::new(alloc, lower, Lazily, members)),
+            Module::Eager => Unordered::Eager(Relay::new(alloc, lower, Eagerly, members)),
+            Module::AllAck => Unordered::AllAck(Relay::new(alloc, lower, AllAcked, members)),
+            Module::Majority => {
+                Unordered::Majority(Relay::new(alloc, lower, MajorityAcked, members))
             }
         }
     }
@@ -67,7 +65,7 @@ impl Layer for Unordered {
             Unordered::Lazy(layer) => layer.me(),
             Unordered::Eager(layer) => layer.me(),
             Unordered::AllAck(layer) => layer.me(),
-            Unordered::MajorityAck(layer) => layer.me(),
+            Unordered::Majority(layer) => layer.me(),
         }
     }
 
@@ -77,7 +75,7 @@ impl Layer for Unordered {
             Unordered::Lazy(layer) => layer.whole(places),
             Unordered::Eager(layer) => layer.whole(places),
             Unordered::AllAck(layer) => layer.whole(places),
-            Unordered::MajorityAck(layer) => layer.whole(places),
+            Unordered::Majority(layer) => layer.whole(places),
         }
     }
 
@@ -88,7 +86,7 @@ impl Layer for Unordered {
             Unordered::Lazy(layer) => layer.take(index, call, out),
             Unordered::Eager(layer) => layer.take(index, call, out),
             Unordered::AllAck(layer) => layer.take(index, call, out),
-            Unordered::MajorityAck(layer) => layer.take(index, call, out),
+            Unordered::Majority(layer) => layer.take(index, call, out),
         }
     }
 
@@ -124,7 +122,7 @@ impl Bounded for Unordered {
             Unordered::Lazy(layer) => layer.most(),
             Unordered::Eager(layer) => layer.most(),
             Unordered::AllAck(layer) => layer.most(),
-            Unordered::MajorityAck(layer) => layer.most(),
+            Unordered::Majority(layer) => layer.most(),
         }
     }
 }

@@ -8,13 +8,12 @@ use Rattle.std.proofs.lemmas.Bool.{cases_eq}
 use Rattle.std.proofs.lemmas.List.{get_or_default, get_or-set_same, get_or-set_other, length-set}
 use Rattle.gb_types.specs.declared.limits.TheConstants.{NODES}
 use Rattle.gb_slot.specs.SlotState.{SlotState}
-use Rattle.gb_table.specs.Busy.{members_of}
 use Rattle.gb_table.specs.Covered.{HaveWord, HaveGrown, AreCovered}
 use Rattle.gb_table.specs.GroupsValue.{IsIndex}
 use Rattle.gb_table.specs.Members.{has_member, AreMemberships, IsEnrolled}
 use Rattle.gb_table.specs.PlaceSet.{has}
 use Rattle.gb_table.specs.SlotsValue.{Row, row_at, no_row, on_slot}
-use Rattle.gb_table.proofs.NotedLemmas.{members_stepped}
+use Rattle.gb_table.proofs.NotedLemmas.{members_of, members_stepped}
 
 -- sets that grow, one after the other
 

@@ -1,5 +1,5 @@
 -- The index of the groups where something waits, over all nodes.
-use Rattle.std.proofs.Common.{zero, suc, ◌∷◌, ◌++◌, refl, length-append, ◌≡◌, ◌≢◌, ℕ, ◌<◌, min, List, [], length, get_or, ap, sym, subst, ◌∙◌, arith, inl, inr}
+use Rattle.std.proofs.Common.{zero, suc, ◌∷◌, ◌++◌, refl, length-append, ◌≡◌, ◌≢◌, ℕ, ◌<◌, ◌≤◌, min, List, [], length, get_or, ap, sym, subst, ◌∙◌, arith, inl, inr}
 use Rattle.std.proofs.Math.ListN.{set}
 use Rattle.std.proofs.lemmas.Bool.{cases_eq}
 use Rattle.std.proofs.lemmas.List.{get_or_default, get_or-set_same, get_or-set_other, length-set, length-map, map-set, map-append}
@@ -9,7 +9,7 @@ use Rattle.gb_types.specs.declared.entry.Entry.{Entry}
 use Rattle.gb_table.specs.SlotsValue.{Row, row_at, no_row}
 use Rattle.gb_table.specs.Packing.{queue, queues}
 use Rattle.gb_table.specs.Busy.{IsBusy}
-use Rattle.gb_table.specs.GroupsValue.{ArePlaces, IsIndex, IsIndexBut}
+use Rattle.gb_table.specs.GroupsValue.{ArePlaces, IsIndex}
 use Rattle.gb_table.specs.PlaceSet.{has}
 use Rattle.gb_table.proofs.WalkLemmas.{queues_at}
 
@@ -74,6 +74,12 @@ index_as_many rows busy p row h ok same = record {
 
 pub places_unchanged : (rows : List Row) (cursors : List ℕ) (p : ℕ) (row : Row) → ArePlaces rows cursors → ArePlaces (set rows p row) cursors
 places_unchanged rows cursors p row ok = record { size = ok.size; within = λ d. let n = length-set rows p row in let h = ok.within d in omega arith }
+
+-- the index is right, except for one place
+pub record IsIndexBut (p : ℕ) (rows : List Row) (busy : List (List ℕ)) : Type 0 where
+  pub size : length busy ≡ NODES
+  pub few : length rows ≤ PLACES
+  pub each : (d q : ℕ) → d < NODES → q ≢ p → has (get_or busy d []) q ≡ min 1 (length (get_or (queues d rows) q []))
 
 -- a group changes: the index is right but for its place
 pub index_but : (rows : List Row) (busy : List (List ℕ)) (p : ℕ) (row : Row) → IsIndex rows busy → IsIndexBut p (set rows p row) busy

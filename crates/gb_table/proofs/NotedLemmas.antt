@@ -17,13 +17,13 @@ use Rattle.gb_slot.specs.Slot.{waiting, taken_for}
 use Rattle.gb_slot.specs.SlotState.{SlotState}
 use Rattle.gb_slot.specs.StandsFor.{reaches}
 use Rattle.gb_slot.specs.Waiting.{WaitsForEach}
-use Rattle.gb_table.specs.Busy.{members_of, is_reached, IsPutOut, IsWritten, IsNoted, IsPlaced}
-use Rattle.gb_table.specs.GroupsValue.{IsIndex, IsIndexBut}
+use Rattle.gb_table.specs.Busy.{IsWritten, IsNoted, IsPlaced}
+use Rattle.gb_table.specs.GroupsValue.{IsIndex}
 use Rattle.gb_table.specs.Members.{IsEnrolled}
 use Rattle.gb_table.specs.Packing.{queue, queue_of, queues}
 use Rattle.gb_table.specs.PlaceSet.{has}
 use Rattle.gb_table.specs.SlotsValue.{Row, row_at, no_row, on_slot, gone}
-use Rattle.gb_table.proofs.IndexLemmas.{index_whole, index_but}
+use Rattle.gb_table.proofs.IndexLemmas.{IsIndexBut, index_whole, index_but}
 use Rattle.gb_table.proofs.WalkLemmas.{queues_at}
 
 pub written_none : (place : ℕ) (picks : ℕ → Bool) (value : ℕ → ℕ) (busy : List (List ℕ)) → IsWritten 0 place picks value busy busy
@@ -108,6 +108,16 @@ reached_member s d member = (λ i. (member i && not (nat_eq d s.me.number)) && n
 pub reached_outside : (s : SlotState) (d : ℕ) → nodes.contains s.spec.members d ≡ false → reaches s d ≡ false
 reached_outside s d out = λ i. (out i && not (nat_eq d s.me.number)) && not (nodes.contains s.noticed d)
 
+-- the members of a group; the empty set for a group that was dropped
+abbrev pub members_of : Option SlotState → nodes.FinSet nat_cmp
+members_of None = nodes.empty
+members_of (Some s) = s.spec.members
+
+-- the group's items are put out to the node; those of a dropped group to no node
+abbrev pub is_reached : ℕ → Option SlotState → Bool
+is_reached dest None = false
+is_reached dest (Some s) = reaches s dest
+
 -- nothing waits for a node that is not reached
 unreached_none : (d : ℕ) (slot : Option SlotState) → is_reached d slot ≡ false → queue_of d slot ≡ []
 unreached_none d None e = refl
@@ -141,9 +151,8 @@ index_noted rows old busy p s h is ok outside w =
     (λ d l m. let no = ap (λ o. nodes.contains (members_of o) d) is ∙ m in outside d l no ∙ sym (ap (λ (q : List Entry). min 1 (length q)) (waiting_outside d (row_at rows p).slot no)))
 
 -- the sets of the nodes to which its items are put out, where something was put out
-pub index_put_out : (rows : List Row) (old busy : List (List ℕ)) (p : ℕ) (s : SlotState) → p < length rows → (row_at rows p).slot ≡ Some s → IsIndexBut p rows old → IsPutOut (row_at rows p).slot → ((d : ℕ) → d < NODES → is_reached d (row_at rows p).slot ≡ false → has (get_or old d []) p ≡ 0) → IsPlaced NODES p s old busy → IsIndex rows busy
-index_put_out rows old busy p s h is ok put_out unreached w =
-    let waits : WaitsForEach s = subst IsPutOut is put_out in
+pub index_put_out : (rows : List Row) (old busy : List (List ℕ)) (p : ℕ) (s : SlotState) → p < length rows → (row_at rows p).slot ≡ Some s → IsIndexBut p rows old → WaitsForEach s → ((d : ℕ) → d < NODES → is_reached d (row_at rows p).slot ≡ false → has (get_or old d []) p ≡ 0) → IsPlaced NODES p s old busy → IsIndex rows busy
+index_put_out rows old busy p s h is ok waits unreached w =
     index_written rows old busy p (reaches s) (λ _. 1) h ok w
     (λ d l m. let some = waits d m in let one : 1 ≡ min 1 (length (waiting s d)) = omega arith in one ∙ sym (ap (λ o. min 1 (length (queue_of d o))) is))
     (λ d l m. let no = ap (is_reached d) is ∙ m in unreached d l no ∙ sym (ap (λ (q : List Entry). min 1 (length q)) (unreached_none d (row_at rows p).slot no)))

@@ -1,5 +1,5 @@
 -- What the parts of a table's code yield together.
-use Rattle.std.proofs.Common.{◌≡◌, ℕ, List, refl, ap, sym, ◌∙◌, subst, true, false}
+use Rattle.std.proofs.Common.{◌≡◌, ℕ, List, refl, ap, sym, ◌∙◌, subst, true, false, inl, inr}
 use Rattle.std.specs.Prelude.{Bool, Option, Some, None, is_some, option_map, if◌then◌else◌}
 use Rattle.std.specs.Ordering.{nat_cmp}
 use Rattle.std.specs.FinSet as set
@@ -8,15 +8,18 @@ use Rattle.gb_types.specs.declared.refusal.Refusal.TheVariants.{Denied}
 use Rattle.gb_types.specs.declared.reply.Reply.{Reply}
 use Rattle.gb_types.specs.declared.reply.Reply.TheVariants.{Done, Said, Log, Refused}
 use Rattle.gb_types.specs.declared.request.Request.{Request}
-use Rattle.gb_types.specs.declared.request.Request.TheVariants.{Make}
+use Rattle.gb_types.specs.declared.request.Action.{Action}
+use Rattle.gb_types.specs.declared.request.Action.TheVariants.{Group}
+use Rattle.gb_types.specs.declared.request.GroupCommand.TheVariants.{Make, Fetch}
 use Rattle.gb_types.specs.declared.spec.Spec.{Spec}
 use Rattle.gb_types.specs.declared.spec.TenantRow.{TenantRow}
+use Rattle.gb_rules.specs.Replied.{IsReply}
 use Rattle.gb_rules.specs.Tenant.{row_of, reserve_of, make_answer, by_tenant}
 use Rattle.gb_rules.specs.declared.reserve.Reserve.{Reserve}
 use Rattle.gb_table.specs.OneGroup.{group_in}
 use Rattle.gb_table.specs.Rooms.{others_living}
 use Rattle.gb_table.specs.TableValue.{TableValue, reserve_for}
-use Rattle.gb_table.specs.Requests.{is_admitted, admitted_reply, table_reply, IsReplyTo, table_did}
+use Rattle.gb_table.specs.Requests.{asks_memory, is_admitted, admitted_reply, table_reply, IsReplyTo, table_did}
 use Rattle.gb_table.specs.Within.{names_of, IsWithin}
 
 -- a step that keeps the rooms keeps what holds of them
@@ -24,8 +27,8 @@ pub within_step : (places : ℕ) (tenants : List TenantRow) (rooms new : List (A
 within_step places tenants rooms new e w = subst (λ (rs : List (Addr × ℕ)). IsWithin places tenants (names_of rs)) (sym e) w
 
 -- a request with the right token is answered by the rules
-pub admitted : (request : Request) (t : TableValue) (reply : Reply) → is_admitted request t ≡ true → IsReplyTo request (admitted_reply request t) reply → IsReplyTo request (table_reply request t) reply
-admitted request t reply h r = subst (λ (b : Bool). IsReplyTo request (if b then admitted_reply request t else Refused Denied) reply) (sym h) r
+pub admitted : (request : Request) (t : TableValue) (reply : Reply) → is_admitted request t ≡ true → IsReplyTo request.what (admitted_reply request.what t) reply → IsReplyTo request.what (table_reply request t) reply
+admitted request t reply h r = subst (λ (b : Bool). IsReplyTo request.what (if b then admitted_reply request.what t else Refused Denied) reply) (sym h) r
 
 -- the answer that the rules give to a request to make a group
 abbrev pub make_reply : Addr → Spec → TableValue → Reply
@@ -42,13 +45,25 @@ make_should t now addr spec row nodes made living reserve r same found n m l own
     ∙ ap (make_reply addr spec) same
 
 -- what is not made changes nothing
-pub not_made : (noticed : set.FinSet nat_cmp) (token : List ℕ) (addr : Addr) (spec : Spec) (r : Reply) (t : TableValue) → (r ≡ Done → ⊥) → t ≡ table_did noticed (Make token addr spec) r t
-not_made noticed token addr spec Done t ne = absurd (ne refl)
-not_made noticed token addr spec (Said seq) t ne = refl
-not_made noticed token addr spec (Log entries) t ne = refl
-not_made noticed token addr spec (Refused why) t ne = refl
+pub not_made : (noticed : set.FinSet nat_cmp) (addr : Addr) (spec : Spec) (r : Reply) (t : TableValue) → (r ≡ Done → ⊥) → t ≡ table_did noticed r (Group addr (Make spec)) t
+not_made noticed addr spec Done t ne = absurd (ne refl)
+not_made noticed addr spec (Said seq) t ne = refl
+not_made noticed addr spec (Log entries) t ne = refl
+not_made noticed addr spec (Refused why) t ne = refl
 
 -- a group that the table has not made, and no later one, may be made
 pub not_some : {A : Type 0} (o : Option A) → is_some o ≡ false → o ≡ None
 not_some None e = refl
 not_some (Some x) e = absurd (cc)
+
+-- a reply that memory may lack for is that to a request that takes memory
+pub may_lack : (what : Action) (should reply : Reply) → asks_memory what ≡ true → IsReply should reply → IsReplyTo what should reply
+may_lack what should reply asks (inl lacks) = inl (lacks.0, (asks, lacks.1))
+may_lack what should reply asks (inr is) = inr is
+
+-- a fetch changes nothing
+pub fetch_leaves : (noticed : set.FinSet nat_cmp) (reply : Reply) (addr : Addr) (from most : ℕ) (t : TableValue) → t ≡ table_did noticed reply (Group addr (Fetch from most)) t
+fetch_leaves noticed Done addr from most t = refl
+fetch_leaves noticed (Said seq) addr from most t = refl
+fetch_leaves noticed (Log entries) addr from most t = refl
+fetch_leaves noticed (Refused why) addr from most t = refl

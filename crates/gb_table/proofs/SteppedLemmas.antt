@@ -15,7 +15,7 @@ use Rattle.gb_table.specs.declared.places.Place.TheVariants.{Key, Gone}
 use Rattle.gb_table.specs.SlotsValue.{Row, row_at, no_row, on_slot, IsShort}
 use Rattle.gb_table.specs.Places.{slot_under, row_of, place_at, groups_of, AreKept, AreIndexed, AreGroups}
 use Rattle.gb_table.specs.GroupsValue.{GroupsValue, IsIndex, cursor_for}
-use Rattle.gb_table.specs.Busy.{members_of, IsBusy, IsPutOut, IsNoted, IsPlaced}
+use Rattle.gb_table.specs.Busy.{IsBusy, IsNoted, IsPlaced}
 use Rattle.gb_table.specs.Covered.{HaveWord, AreCovered}
 use Rattle.gb_table.specs.Packing.{queue, queue_of, took}
 use Rattle.gb_table.specs.PlaceSet.{has}
@@ -40,7 +40,7 @@ use Rattle.gb_table.proofs.InRoomsLemmas.{on_slot_is, rooms_set}
 use Rattle.gb_table.proofs.IndexLemmas.{index_at, index_but, index_changed, index_as_many, places_unchanged}
 use Rattle.gb_table.proofs.LivingLemmas.{lives_at}
 use Rattle.gb_table.proofs.MemberLemmas.{memberships_step}
-use Rattle.gb_table.proofs.NotedLemmas.{index_noted, index_put_out, outside_stepped, unreached_stepped}
+use Rattle.gb_table.proofs.NotedLemmas.{members_of, index_noted, index_put_out, outside_stepped, unreached_stepped}
 use Rattle.gb_table.proofs.SlotsLemmas.{changed, leads_within, row_is, slot_is, slot_written}
 use Rattle.gb_table.proofs.TakingLemmas.{queue-other}
 use Rattle.gb_table.proofs.WalkLemmas.{queues_at}
@@ -125,7 +125,7 @@ put_out f h p k new busy ok s same waits placed =
     let rows = rows_in h in
     let now = set rows p (on_slot f (row_at rows p)) in
     indexed f h p k new busy ok s
-    (index_put_out now h.busy busy p new (within_set rows p (on_slot f (row_at rows p)) s.within) s.slot (index_but rows h.busy p (on_slot f (row_at rows p)) ok.1.index) (subst IsPutOut (sym s.slot) waits) (unreached_stepped f rows h.busy p s.within same ok.1.index) placed)
+    (index_put_out now h.busy busy p new (within_set rows p (on_slot f (row_at rows p)) s.within) s.slot (index_but rows h.busy p (on_slot f (row_at rows p)) ok.1.index) waits (unreached_stepped f rows h.busy p s.within same ok.1.index) placed)
     (covered_kept h.memberships h.busy busy ok.1.covered placed.words)
 
 -- what waits in the group was looked at for each member

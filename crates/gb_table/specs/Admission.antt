@@ -1,8 +1,12 @@
 -- Which token a request needs: a predicate over keys, tenants' rows and the node that is asked.
 use Rattle.std.specs.Prelude.{ℕ, Bool, false, List, bytes_eq, Option, Some, None}
 use Rattle.gb_types.specs.declared.node.NodeId.{NodeId}
+use Rattle.gb_types.specs.declared.address.Addr.{Addr}
+use Rattle.gb_types.specs.declared.request.Action.{Action}
+use Rattle.gb_types.specs.declared.request.Action.TheVariants.{AddTenant, Group}
+use Rattle.gb_types.specs.declared.request.GroupCommand.{GroupCommand}
+use Rattle.gb_types.specs.declared.request.GroupCommand.TheVariants.{Say, Fetch}
 use Rattle.gb_types.specs.declared.request.Request.{Request}
-use Rattle.gb_types.specs.declared.request.Request.TheVariants.{AddTenant, Make, OpenGroup, ShutGroup, DropGroup, Say, Fetch}
 use Rattle.gb_types.specs.declared.spec.TenantRow.{TenantRow}
 use Rattle.gb_cap.specs.Token.{token_of}
 use Rattle.gb_cap.specs.declared.token.Need.{Need}
@@ -18,17 +22,28 @@ abbrev pub is_by_row : Need → List ℕ → Option TenantRow → Bool
 is_by_row need token None = false
 is_by_row need token (Some row) = is_token row.key need token
 
--- a request that names a group comes with the token that it needs: to say or fetch that of the group's member at this node, otherwise that of the group's tenant
+-- what the token of a command on a group is for: to say or fetch the group's member at this node, otherwise the group's tenant
+abbrev pub command_need : NodeId → Addr → GroupCommand → Need
+command_need me addr (Say message) = Member addr.tenant addr.group me
+command_need me addr (Fetch from most) = Member addr.tenant addr.group me
+command_need me addr command = Tenant addr.tenant
+
+-- a command on a group comes with the token that it needs
+abbrev pub is_command_token : NodeId → List TenantRow → List ℕ → Addr → GroupCommand → Bool
+is_command_token me rows token addr command = is_by_row (command_need me addr command) token (row_of addr.tenant rows)
+
+-- a request that names a group comes with the token that it needs
 abbrev pub has_group_token : NodeId → List TenantRow → Request → Bool
-has_group_token me rows (AddTenant token row) = false
-has_group_token me rows (Make token addr spec) = is_by_row (Tenant addr.tenant) token (row_of addr.tenant rows)
-has_group_token me rows (OpenGroup token addr) = is_by_row (Tenant addr.tenant) token (row_of addr.tenant rows)
-has_group_token me rows (ShutGroup token addr) = is_by_row (Tenant addr.tenant) token (row_of addr.tenant rows)
-has_group_token me rows (DropGroup token addr) = is_by_row (Tenant addr.tenant) token (row_of addr.tenant rows)
-has_group_token me rows (Say token addr message) = is_by_row (Member addr.tenant addr.group me) token (row_of addr.tenant rows)
-has_group_token me rows (Fetch token addr from most) = is_by_row (Member addr.tenant addr.group me) token (row_of addr.tenant rows)
+has_group_token me rows request = action_of request.what
+  where
+    action_of : Action → Bool
+    action_of (AddTenant row) = false
+    action_of (Group addr command) = is_command_token me rows request.token addr command
 
 -- a request comes with the token that it needs: the administrator's to add a tenant, otherwise the group's
 abbrev pub has_token : List ℕ → NodeId → List TenantRow → Request → Bool
-has_token admin_key me rows (AddTenant token row) = is_token admin_key Admin token
-has_token admin_key me rows request = has_group_token me rows request
+has_token admin_key me rows request = action_of request.what
+  where
+    action_of : Action → Bool
+    action_of (AddTenant row) = is_token admin_key Admin request.token
+    action_of (Group addr command) = is_command_token me rows request.token addr command

@@ -1,12 +1,10 @@
 -- An index of the groups where something waits.
-use Rattle.std.specs.Prelude.{ℕ, ◌≡◌, ◌≢◌, ◌≤◌, ◌<◌, min, Bool, true, false, List, [], length, slice_index_or, Option, Some, None}
+use Rattle.std.specs.Prelude.{ℕ, ◌≡◌, ◌≢◌, ◌≤◌, ◌<◌, min, Bool, true, false, List, [], length, slice_index_or}
 use Rattle.std.specs.FinSet as set
-use Rattle.std.specs.Ordering.{nat_cmp}
 use Rattle.gb_types.specs.declared.limits.TheConstants.{PLACES}
 use Rattle.gb_slot.specs.Slot.{waiting}
 use Rattle.gb_slot.specs.SlotState.{SlotState}
 use Rattle.gb_slot.specs.StandsFor.{reaches}
-use Rattle.gb_slot.specs.Waiting.{WaitsForEach}
 use Rattle.gb_table.specs.PlaceSet.{has}
 use Rattle.gb_table.specs.SlotsValue.{Row}
 use Rattle.gb_table.specs.Packing.{queues}
@@ -15,21 +13,6 @@ use Rattle.gb_table.specs.Packing.{queues}
 pub record IsBusy (dest : ℕ) (words : List ℕ) (rows : List Row) : Type 0 where
   pub few : length rows ≤ PLACES
   pub each : (p : ℕ) → has words p ≡ min 1 (length (slice_index_or (queues dest rows) p []))
-
--- the members of a group; the empty set for a group that was dropped
-abbrev pub members_of : Option SlotState → set.FinSet nat_cmp
-members_of None = set.empty
-members_of (Some s) = s.spec.members
-
--- the group's items are put out to the node; those of a dropped group to no node
-abbrev pub is_reached : ℕ → Option SlotState → Bool
-is_reached dest None = false
-is_reached dest (Some s) = reaches s dest
-
--- something waits in the group for each node to which its items are put out
-abbrev pub IsPutOut : Option SlotState → Type 0
-IsPutOut None = Unit {0}
-IsPutOut (Some s) = WaitsForEach s
 
 -- In each set before a bound, if a test picks its node, the bit of a place is a given value, 1 if it is in. Nothing else changed.
 pub record IsWritten (bound place : ℕ) (picks : ℕ → Bool) (value : ℕ → ℕ) (old new : List (List ℕ)) : Type 0 where

@@ -1,13 +1,12 @@
 -- All groups of a node, with the places where packing continues, as contracts see them.
-use Rattle.std.specs.Prelude.{ℕ, ◌≡◌, ◌≢◌, ◌≤◌, ◌<◌, min, List, [], length, replicate, slice_index_or, slice_set, Some}
-use Rattle.gb_types.specs.declared.limits.TheConstants.{NODES, PLACES}
+use Rattle.std.specs.Prelude.{ℕ, ◌≡◌, ◌≤◌, ◌<◌, List, [], length, replicate, slice_index_or, slice_set, Some}
+use Rattle.gb_types.specs.declared.limits.TheConstants.{NODES}
 use Rattle.gb_types.specs.declared.version.Version.{Version}
 use Rattle.gb_types.specs.declared.address.Addr.{Addr}
 use Rattle.gb_slot.specs.SlotState.{SlotState}
 use Rattle.gb_table.specs.SlotsValue.{Row, with_room}
 use Rattle.gb_table.specs.Rooms.{rank_of, free_place, with_made}
 use Rattle.gb_table.specs.Packing.{Visit, queues, walk, fit, gave, new_cursor}
-use Rattle.gb_table.specs.PlaceSet.{has}
 use Rattle.gb_table.specs.Busy.{IsBusy}
 
 -- the rooms, their places, and for each node the place where packing continues
@@ -60,9 +59,3 @@ pub record ArePlaces (rows : List Row) (cursors : List ℕ) : Type 0 where
 pub record IsIndex (rows : List Row) (busy : List (List ℕ)) : Type 0 where
   pub size : length busy ≡ NODES
   pub each : (d : ℕ) → d < NODES → IsBusy d (slice_index_or busy d []) rows
-
--- the same, except for one place
-pub record IsIndexBut (p : ℕ) (rows : List Row) (busy : List (List ℕ)) : Type 0 where
-  pub size : length busy ≡ NODES
-  pub few : length rows ≤ PLACES
-  pub each : (d q : ℕ) → d < NODES → q ≢ p → has (slice_index_or busy d []) q ≡ min 1 (length (slice_index_or (queues d rows) q []))

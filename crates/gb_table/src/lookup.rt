@@ -2,7 +2,7 @@
 ghost use Rattle.std.specs.Prelude.{◌≡◌, ◌≤◌, ◌<◌, ◌+◌, Some, None, is_some, length, IfSome, MatchOption, ◌&&◌, not, count_by, take, drop, if◌then◌else◌};
 ghost use Rattle.gb_types.specs.declared.limits.TheConstants.{PLACES, PAYLOAD};
 ghost use Rattle.gb_rules.specs.Group.{absent_answer};
-ghost use Rattle.gb_table.specs.SlotsValue.{row_at, AreApart, HaveCounters, IsShort, AreShort, AreVacant};
+ghost use Rattle.gb_table.specs.SlotsValue.{row_at, AreApart, IsShort};
 ghost use Rattle.gb_table.specs.Rooms.{rank_of, is_passed, free_place, others_living, first_free};
 ghost use Rattle.gb_table.specs.AtAddress.{place_of, living_place};
 ghost use Rattle.gb_table.specs.OneGroup.{group_in};
@@ -19,11 +19,7 @@ use gb_types::{Addr, Refusal, Reply};
 impl Groups {
     /// Returns the number of places, four for each room that was begun.
     pub(crate) fn len(&self) -> usize
-        ensures len { result ≡ length self.now.rows }
-        ensures counters { HaveCounters self.now.rows }
-        ensures apart { AreApart self.now.rows }
-        ensures vacant { AreVacant self.now.rows }
-        ensures short { AreShort PAYLOAD self.now.rows }
+        ensures { result ≡ length self.now.rows }
     {
         self.places.len()
     }

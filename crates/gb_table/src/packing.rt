@@ -137,7 +137,6 @@ impl Groups {
         ensures turn { MatchOption result (walk at (ahead from lap at 0 (queues dest.number self.now.rows)) ≡ []) (λ r. IsTurn dest.number from lap at self.now.rows r.0 r.1) }
         ensures within { IfSome result (λ r. r.1 < 64 * length active.now) }
     {
-        let _places = self.len();
         match next_of(active, summary, at) {
             Some(place) => Some((lap, place)),
             None => match next_of(active, summary, 0) {

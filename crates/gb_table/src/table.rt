@@ -20,10 +20,10 @@ ghost use Rattle.gb_table.specs.GroupsValue.{walk_to, batch};
 ghost use Rattle.gb_table.specs.Packing.{items, size};
 ghost use Rattle.gb_table.specs.TableValue.{new_table, reserve_for, table_came, table_done, table_noticed, table_packed};
 ghost use Rattle.gb_cap.specs.declared.token.Need.TheVariants.{Admin};
-ghost use Rattle.gb_table.specs.Admission.{is_token};
+ghost use Rattle.gb_table.specs.Admission.{is_token, is_command_token};
 ghost use Rattle.gb_table.specs.Kept.{IsMemberToken};
 ghost use Rattle.gb_table.specs.Listing.{list_answer};
-ghost use Rattle.gb_table.specs.Requests.{is_admitted, is_by_tenant, place_for, table_reply, IsReplyTo, table_did};
+ghost use Rattle.gb_table.specs.Requests.{is_admitted, is_by_tenant, place_for, admitted_reply, table_reply, IsReplyTo, table_did};
 
 use crate::Groups;
 use crate::listing::{LISTED, Listing};
@@ -35,7 +35,8 @@ use gb_rules::Reserve;
 use gb_rules::room::{GENERATIONS, name_of};
 use gb_rules::tenant::{answer_make, answer_tenant};
 use gb_types::{
-    Addr, MsgId, NewMessage, NodeId, NodeSet, Refusal, Reply, Request, Spec, TenantRow, Version,
+    Action, Addr, GroupCommand, MsgId, NewMessage, NodeId, NodeSet, Refusal, Reply, Request, Spec,
+    TenantRow, Version,
 };
 use indexmap::IndexMap;
 use std::alloc::Global;
@@ -152,12 +153,12 @@ impl Table {
 
     /// Returns the place of the group that a member's say or fetch is for, or `None` if that group does not live here or for other
     /// requests.
-    fn place_for(&self, request: &Request) -> Option<usize>
-        ensures { result ≡ place_for request.now self.now }
+    fn place_for(&self, what: &Action) -> Option<usize>
+        ensures { result ≡ place_for what.now self.now }
     {
-        match request {
-            Request::Say(_, addr, _) => self.groups.find(*addr),
-            Request::Fetch(_, addr, _, _) => self.groups.find(*addr),
+        match what {
+            Action::Group(addr, GroupCommand::Say(_)) => self.groups.find(*addr),
+            Action::Group(addr, GroupCommand::Fetch(_, _)) => self.groups.find(*addr),
             _ => None,
         }
     }
@@ -166,14 +167,29 @@ impl Table {
     fn is_admitted(&self, request: &Request, place: Option<usize>) -> bool
         ensures { result ≡ is_admitted request.now self.now }
     {
-        match request {
-            Request::AddTenant(token, _) => self.admin_key.admits(Need::Admin, token),
-            Request::Make(token, addr, _) => self.is_tenant(token, *addr),
-            Request::OpenGroup(token, addr) => self.is_tenant(token, *addr),
-            Request::ShutGroup(token, addr) => self.is_tenant(token, *addr),
-            Request::DropGroup(token, addr) => self.is_tenant(token, *addr),
-            Request::Say(token, addr, _) => self.is_member(token, *addr, place),
-            Request::Fetch(token, addr, _, _) => self.is_member(token, *addr, place),
+        let token = &request.token;
+        match &request.what {
+            Action::AddTenant(_) => self.admin_key.admits(Need::Admin, token),
+            Action::Group(addr, command) => self.is_command_token(token, *addr, command, place),
+        }
+    }
+
+    /// Returns true if `token` is the one that the command in the group needs. A member's token is looked up at `place`.
+    fn is_command_token(
+        &self,
+        token: &Token,
+        addr: Addr,
+        command: &GroupCommand,
+        place: Option<usize>,
+    ) -> bool
+        ensures { result ≡ is_command_token self.now.me self.now.tenants token.now addr command.now }
+    {
+        match command {
+            GroupCommand::Make(_)
+            | GroupCommand::Open
+            | GroupCommand::Shut
+            | GroupCommand::Drop => self.is_tenant(token, addr),
+            GroupCommand::Say(_) | GroupCommand::Fetch(_, _) => self.is_member(token, addr, place),
         }
     }
 
@@ -229,7 +245,7 @@ impl Table {
     #[inline(never)]
     fn add_tenant(&mut self, row: &TenantRow) -> Reply
         ensures reply { IsReply (tenant_answer self.old.places (reserved self.old.tenants) (is_some (row_of row.now.tenant self.old.tenants)) row.now) result }
-        ensures state { (noticed : set.FinSet nat_cmp) (token : List ℕ) → self.new ≡ table_did noticed (Request.AddTenant token row.now) result self.old }
+        ensures state { (noticed : set.FinSet nat_cmp) → self.new ≡ table_did noticed result (Action.AddTenant row.now) self.old }
     {
         let there = self.tenants.row(row.tenant).is_some();
         let places = u32::from(self.places);
@@ -245,7 +261,7 @@ impl Table {
 
     fn make_group(&mut self, addr: Addr, spec: &Spec, noticed: &NodeSet) -> Reply
         ensures reply { IsReply (by_tenant (make_answer self.old.version self.old.nodes self.old.me.number addr (is_some (group_in addr self.old.groups)) (others_living addr self.old.groups.rows) spec.now) (reserve_for addr.tenant self.old)) result }
-        ensures state { (token : List ℕ) → self.new ≡ table_did noticed.now (Request.Make token addr spec.now) result self.old }
+        ensures state { self.new ≡ table_did noticed.now result (Action.Group addr (GroupCommand.Make spec.now)) self.old }
     {
         let Some(row) = self.tenants.row(addr.tenant) else {
             return Reply::Refused(Refusal::Denied);
@@ -277,7 +293,7 @@ impl Table {
     #[inline(never)]
     fn make(&mut self, addr: Addr, spec: &Spec, noticed: &NodeSet) -> Reply
         ensures reply { IsReply (by_tenant (make_answer self.old.version self.old.nodes self.old.me.number addr (is_some (group_in addr self.old.groups)) (others_living addr self.old.groups.rows) spec.now) (reserve_for addr.tenant self.old)) result }
-        ensures state { (token : List ℕ) → self.new ≡ table_did noticed.now (Request.Make token addr spec.now) result self.old }
+        ensures state { self.new ≡ table_did noticed.now result (Action.Group addr (GroupCommand.Make spec.now)) self.old }
     {
         let reply = self.make_group(addr, spec, noticed);
         if let Reply::Done = &reply {
@@ -289,7 +305,7 @@ impl Table {
     #[inline(never)]
     fn open_group(&mut self, addr: Addr) -> Reply
         ensures reply { result ≡ group_reply open_answer addr self.old.groups }
-        ensures state { (noticed : set.FinSet nat_cmp) (token : List ℕ) → self.new ≡ table_did noticed (Request.OpenGroup token addr) result self.old }
+        ensures state { (noticed : set.FinSet nat_cmp) → self.new ≡ table_did noticed result (Action.Group addr GroupCommand.Open) self.old }
     {
         self.groups.open_group(addr)
     }
@@ -297,7 +313,7 @@ impl Table {
     #[inline(never)]
     fn shut_group(&mut self, addr: Addr) -> Reply
         ensures reply { result ≡ group_reply shut_answer addr self.old.groups }
-        ensures state { (noticed : set.FinSet nat_cmp) (token : List ℕ) → self.new ≡ table_did noticed (Request.ShutGroup token addr) result self.old }
+        ensures state { (noticed : set.FinSet nat_cmp) → self.new ≡ table_did noticed result (Action.Group addr GroupCommand.Shut) self.old }
     {
         self.groups.shut_group(addr)
     }
@@ -305,7 +321,7 @@ impl Table {
     #[inline(never)]
     fn drop_group(&mut self, addr: Addr) -> Reply
         ensures reply { result ≡ group_reply drop_answer addr self.old.groups }
-        ensures state { (noticed : set.FinSet nat_cmp) (token : List ℕ) → self.new ≡ table_did noticed (Request.DropGroup token addr) result self.old }
+        ensures state { (noticed : set.FinSet nat_cmp) → self.new ≡ table_did noticed result (Action.Group addr GroupCommand.Drop) self.old }
     {
         self.groups.drop_group(addr)
     }
@@ -313,11 +329,33 @@ impl Table {
     fn say(&mut self, addr: Addr, place: Option<usize>, message: &NewMessage) -> Reply
         requires { place ≡ living_place addr self.old.groups.rows }
         ensures reply { result ≡ group_reply (λ s. say_answer self.old.version s message.now) addr self.old.groups }
-        ensures state { (noticed : set.FinSet nat_cmp) (token : List ℕ) → self.new ≡ table_did noticed (Request.Say token addr message.now) result self.old }
+        ensures state { (noticed : set.FinSet nat_cmp) → self.new ≡ table_did noticed result (Action.Group addr (GroupCommand.Say message.now)) self.old }
     {
         let payload = message.payload.as_slice();
         self.groups
             .say(self.version, addr, place, message.seq, payload)
+    }
+
+    /// Does what the command asks of the group with this address. `place` is what `place_for` returned.
+    fn command(
+        &mut self,
+        addr: Addr,
+        command: &GroupCommand,
+        place: Option<usize>,
+        noticed: &NodeSet,
+    ) -> Reply
+        requires { place ≡ place_for (Action.Group addr command.now) self.old }
+        ensures reply { IsReplyTo (Action.Group addr command.now) (admitted_reply (Action.Group addr command.now) self.old) result }
+        ensures state { self.new ≡ table_did noticed.now result (Action.Group addr command.now) self.old }
+    {
+        match command {
+            GroupCommand::Make(spec) => self.make(addr, spec, noticed),
+            GroupCommand::Open => self.open_group(addr),
+            GroupCommand::Shut => self.shut_group(addr),
+            GroupCommand::Drop => self.drop_group(addr),
+            GroupCommand::Say(message) => self.say(addr, place, message),
+            GroupCommand::Fetch(from, most) => self.groups.fetch(addr, place, *from, *most),
+        }
     }
 
     /// Does what the request asks, in this table, and returns the reply. `noticed` are the nodes that this node holds for crashed
@@ -325,22 +363,17 @@ impl Table {
     /// not here, or the token is another group's. Then come the other refusals in the order of the rules, and `OutOfMemory` last. After
     /// a refusal nothing has changed.
     pub fn request(&mut self, request: &Request, noticed: &NodeSet) -> Reply
-        ensures reply { IsReplyTo request.now (table_reply request.now self.old) result }
-        ensures state { self.new ≡ table_did noticed.now request.now result self.old }
+        ensures reply { IsReplyTo request.now.what (table_reply request.now self.old) result }
+        ensures state { self.new ≡ table_did noticed.now result request.now.what self.old }
         ensures denied { is_admitted request.now self.old ≡ false → (result ≡ Reply.Refused Refusal.Denied) × (self.new ≡ self.old) }
     {
-        let place = self.place_for(request);
+        let place = self.place_for(&request.what);
         if !self.is_admitted(request, place) {
             return Reply::Refused(Refusal::Denied);
         }
-        match request {
-            Request::AddTenant(_, row) => self.add_tenant(row),
-            Request::Make(_, addr, spec) => self.make(*addr, spec, noticed),
-            Request::OpenGroup(_, addr) => self.open_group(*addr),
-            Request::ShutGroup(_, addr) => self.shut_group(*addr),
-            Request::DropGroup(_, addr) => self.drop_group(*addr),
-            Request::Say(_, addr, message) => self.say(*addr, place, message),
-            Request::Fetch(_, addr, from, most) => self.groups.fetch(*addr, place, *from, *most),
+        match &request.what {
+            Action::AddTenant(row) => self.add_tenant(row),
+            Action::Group(addr, command) => self.command(*addr, command, place, noticed),
         }
     }
 

@@ -15,19 +15,19 @@ use Rattle.gb_isolation.specs.Project.{command_for, made_by, notices, ticked, wi
 
 -- it makes none
 pub own_alone : (a : NodeId) (g : Addr) (noticed : ℕ → Bool) (request : Request) (reply : Reply) (steps later given : List GroupStep) → None ≡ made_by g (Asked request) (Replied reply)
-    → given ≡ command_for a request → later ≡ steps ++ given → later ≡ steps ++ (command_for a request ++ ticked a noticed (made_by g (Asked request) (Replied reply)))
+    → given ≡ command_for a request.what → later ≡ steps ++ given → later ≡ steps ++ (command_for a request.what ++ ticked a noticed (made_by g (Asked request) (Replied reply)))
 own_alone a g noticed request reply steps later given none is adds =
     adds
-    ∙ ap (λ xs. steps ++ xs) (is ∙ (sym (append-nil (command_for a request)) ∙ ap (λ (o : Option Spec). command_for a request ++ ticked a noticed o) none))
+    ∙ ap (λ xs. steps ++ xs) (is ∙ (sym (append-nil (command_for a request.what)) ∙ ap (λ (o : Option Spec). command_for a request.what ++ ticked a noticed o) none))
 
 -- it makes one
 pub own_made : (a : NodeId) (g : Addr) (noticed : ℕ → Bool) (request : Request) (reply : Reply) (spec : Spec) (steps later given : List GroupStep) → Some spec ≡ made_by g (Asked request) (Replied reply)
-    → given ≡ command_for a request → later ≡ steps ++ given
-    → later ++ notices a spec noticed ≡ steps ++ (command_for a request ++ ticked a noticed (made_by g (Asked request) (Replied reply)))
+    → given ≡ command_for a request.what → later ≡ steps ++ given
+    → later ++ notices a spec noticed ≡ steps ++ (command_for a request.what ++ ticked a noticed (made_by g (Asked request) (Replied reply)))
 own_made a g noticed request reply spec steps later given one is adds =
     ap (λ xs. xs ++ notices a spec noticed) (adds ∙ ap (λ xs. steps ++ xs) is)
-    ∙ (append_assoc steps (command_for a request) (notices a spec noticed)
-    ∙ ap (λ xs. steps ++ xs) (ap (λ (o : Option Spec). command_for a request ++ ticked a noticed o) one))
+    ∙ (append_assoc steps (command_for a request.what) (notices a spec noticed)
+    ∙ ap (λ xs. steps ++ xs) (ap (λ (o : Option Spec). command_for a request.what ++ ticked a noticed o) one))
 
 -- the stop stands before the command, unless one met it before
 pub stop_shown : (a : NodeId) (met : Bool) (step : GroupStep) (steps stopped later commands : List GroupStep) → commands ≡ step ∷ [] → stopped ≡ steps ++ (if met then [] else record { node = a; event = Stop } ∷ [])

@@ -6,7 +6,6 @@ use Rattle.gb_types.specs.declared.node.NodeId.{NodeId}
 use Rattle.gb_types.specs.declared.plan.Plan.{Plan}
 use Rattle.gb_types.specs.declared.reply.Reply.{Reply}
 use Rattle.gb_types.specs.declared.request.Request.{Request}
-use Rattle.gb_types.specs.declared.request.Request.TheVariants.{Fetch}
 use Rattle.gb_node.specs.declared.answer.NodeAnswer.TheVariants.{Reply as Replied}
 use Rattle.gb_node.specs.declared.event.NodeEvent.TheVariants.{Request as Asked}
 use Rattle.gb_cluster.specs.ClusterStep.{IsStep, NodeActs}
@@ -18,7 +17,7 @@ use Rattle.gb_cluster.specs.declared.event.Event.{Event}
 use Rattle.gb_cluster.specs.declared.event.Event.TheVariants.{At}
 use Rattle.gb_cluster.specs.declared.posted.Posted.{Posted}
 use Rattle.gb_cluster.proofs.EndLemmas.{one_end}
-use Rattle.gb_isolation.specs.RunLaws.{LogsMayBeFetched, fetched_alone}
+use Rattle.gb_isolation.specs.RunLaws.{LogsMayBeFetched, fetched_alone, to_fetch}
 use Rattle.gb_trace.specs.Run.{LogsAreShown}
 use Rattle.gb_trace.specs.Trace.{all_did, did_in, run_of, AreSteps, IsRun}
 use Rattle.gb_trace.proofs.RunLemmas.{all_did_more, steps_more}
@@ -59,5 +58,5 @@ goes_on plan events answers packets v was a request reply goes = record {
 
 pub logs_shown : LogsMayBeFetched → LogsAreShown
 logs_shown fetched plan events answers packets v was g fed a token from most within running own =
-    goes_on plan events answers packets v was a (Fetch token g from most) (fetched_alone plan (run_of events answers packets) g a from most)
+    goes_on plan events answers packets v was a (to_fetch token g from most) (fetched_alone plan (run_of events answers packets) g a from most)
     (fetched plan (run_of events answers packets) v was.comes g fed a token from most within running own)

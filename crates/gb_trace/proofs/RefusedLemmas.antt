@@ -6,7 +6,6 @@ use Rattle.std.specs.Prelude.{reverse, option_map, if◌then◌else◌}
 use Rattle.gb_types.specs.declared.address.Addr.{Addr}
 use Rattle.gb_types.specs.declared.limits.TheConstants.{NODES}
 use Rattle.gb_types.specs.declared.node.NodeId.{NodeId}
-use Rattle.gb_types.specs.declared.request.Request.TheVariants.{AddTenant}
 use Rattle.gb_types.specs.declared.spec.TenantRow.{TenantRow}
 use Rattle.gb_types.proofs.BoolLemmas.{or_left, or_right}
 use Rattle.gb_node.specs.Past.{Happened, added, tenants_in}
@@ -50,13 +49,11 @@ is_reply answer = false
 
 unrefused : (g : Addr) (a : NodeId) (past : List Happened) (event : NodeEvent) (answer : NodeAnswer) → is_reply answer ≡ false → (is_untaken_by g event answer || is_starved_by a g past event answer) ≡ false
 unrefused g a past event (Replied reply) other = absurd (cc)
-unrefused g a past (Asked (AddTenant token row)) answer other = refl
 unrefused g a past (Asked request) answer other = refl
 unrefused g a past event answer other = refl
 
 unadded : (event : NodeEvent) (answer : NodeAnswer) → is_reply answer ≡ false → added event answer ≡ []
 unadded event (Replied reply) other = absurd (cc)
-unadded (Asked (AddTenant token row)) answer other = refl
 unadded (Asked request) answer other = refl
 unadded event answer other = refl
 

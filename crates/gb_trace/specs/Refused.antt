@@ -3,7 +3,8 @@ use Rattle.std.specs.Prelude.{Bool, false, ◌||◌, List, [], ◌∷◌, nat_eq
 use Rattle.gb_types.specs.declared.address.Addr.{Addr}
 use Rattle.gb_types.specs.declared.refusal.Refusal.TheVariants.{OutOfMemory}
 use Rattle.gb_types.specs.declared.reply.Reply.TheVariants.{Refused}
-use Rattle.gb_types.specs.declared.request.Request.TheVariants.{AddTenant}
+use Rattle.gb_types.specs.declared.request.Action.{Action}
+use Rattle.gb_types.specs.declared.request.Action.TheVariants.{AddTenant, Group}
 use Rattle.gb_types.specs.declared.node.NodeId.{NodeId}
 use Rattle.gb_types.specs.declared.spec.TenantRow.{TenantRow}
 use Rattle.gb_node.specs.Past.{added}
@@ -18,9 +19,14 @@ use Rattle.gb_cluster.specs.declared.event.Event.{Event}
 use Rattle.gb_cluster.specs.declared.event.Event.TheVariants.{At}
 use Rattle.gb_isolation.specs.Project.{is_starved_by}
 
+-- the request is to add the group's tenant
+abbrev pub is_tenants : Addr → Action → Bool
+is_tenants g (AddTenant row) = nat_eq row.tenant g.tenant
+is_tenants g (Group addr command) = false
+
 -- a request that adds the group's tenant was refused for lack of memory
 abbrev pub is_untaken_by : Addr → NodeEvent → NodeAnswer → Bool
-is_untaken_by g (Asked (AddTenant token row)) (Replied (Refused OutOfMemory)) = nat_eq row.tenant g.tenant
+is_untaken_by g (Asked request) (Replied (Refused OutOfMemory)) = is_tenants g request.what
 is_untaken_by g event answer = false
 
 -- in the run a request that adds the group's tenant, or a request of the group, was refused for lack of memory

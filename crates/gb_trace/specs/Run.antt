@@ -3,7 +3,6 @@ use Rattle.std.specs.Prelude.{ℕ, ◌≡◌, ◌<◌, Bool, true, false, List, 
 use Rattle.gb_types.specs.declared.address.Addr.{Addr}
 use Rattle.gb_types.specs.declared.node.NodeId.{NodeId}
 use Rattle.gb_types.specs.declared.plan.Plan.{Plan}
-use Rattle.gb_types.specs.declared.request.Request.TheVariants.{Fetch}
 use Rattle.gb_node.specs.Past.{is_stopped}
 use Rattle.gb_node.specs.declared.answer.NodeAnswer.{NodeAnswer}
 use Rattle.gb_node.specs.declared.event.NodeEvent.TheVariants.{Request as Asked}
@@ -16,7 +15,7 @@ use Rattle.gb_cluster.specs.declared.event.Event.TheVariants.{At}
 use Rattle.gb_cluster.specs.declared.posted.Posted.{Posted}
 use Rattle.gb_isolation.specs.Isolation.{IsIsolated, wants_memory}
 use Rattle.gb_isolation.specs.Project.{is_fed, is_own_request}
-use Rattle.gb_isolation.specs.RunLaws.{fetched_alone}
+use Rattle.gb_isolation.specs.RunLaws.{fetched_alone, to_fetch}
 use Rattle.gb_trace.specs.Trace.{own_answer, run_of, IsRun}
 
 -- each group that had no request refused for lack of memory is what it is alone
@@ -33,8 +32,8 @@ abbrev pub LogsAreShown : Type 0
 LogsAreShown =
     (plan : Plan) (events : List Event) (answers : List Answer) (packets : List Posted) (v : ClusterValue) → IsRun plan events answers packets v
     → (g : Addr) → is_fed g (run_of events answers packets) ≡ true → (a : NodeId) (token : List ℕ) (from most : ℕ) → a.number < plan.nodes
-    → is_stopped (past_at a (run_of events answers packets)) ≡ false → is_own_request a g (past_at a (run_of events answers packets)) (Fetch token g from most) ≡ true
-    → IsRun plan (events ++ At a (Asked (Fetch token g from most)) ∷ []) (answers ++ AnswerReply (fetched_alone plan (run_of events answers packets) g a from most) ∷ []) packets v
+    → is_stopped (past_at a (run_of events answers packets)) ≡ false → is_own_request a g (past_at a (run_of events answers packets)) (to_fetch token g from most) ≡ true
+    → IsRun plan (events ++ At a (Asked (to_fetch token g from most)) ∷ []) (answers ++ AnswerReply (fetched_alone plan (run_of events answers packets) g a from most) ∷ []) packets v
 
 -- the node that acted refused for lack of memory
 abbrev pub is_refused_by : Option NodeAnswer → Bool

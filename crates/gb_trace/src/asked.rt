@@ -2,7 +2,7 @@
 ghost use Rattle.std.specs.Prelude.{◌≡◌, ◌++◌, [], ◌∷◌, IfOk, OnOk, if◌then◌else◌};
 ghost use Rattle.std.specs.Option.{option_to_list};
 ghost use Rattle.gb_alone.specs.declared.event.GroupEvent.TheVariants.{Stop as Ends};
-ghost use Rattle.gb_isolation.specs.Project.{command_for, made_by, is_own_request as is_own, is_noticed_at, ticked, tenant_given, other_given, with_stop, asked};
+ghost use Rattle.gb_isolation.specs.Project.{event_of, command_for, made_by, is_own_request as is_own, is_noticed_at, ticked, tenant_given, other_given, with_stop, asked};
 ghost use Rattle.gb_node.specs.declared.answer.NodeAnswer.TheVariants.{Reply as Replied};
 ghost use Rattle.gb_node.specs.declared.event.NodeEvent.TheVariants.{Request as Asked};
 ghost use Rattle.gb_trace.specs.Deeds.{past_in};
@@ -17,21 +17,30 @@ use crate::steps::{add, at};
 use gb_alone::{GroupEvent, GroupStep};
 use gb_rules::Reserve;
 use gb_rules::room::is_other_generation;
-use gb_types::{Addr, NodeId, OutOfMemory, Plan, Reply, Request};
+use gb_types::{Action, Addr, GroupCommand, NodeId, OutOfMemory, Plan, Reply, Request};
 use std::alloc::Global;
 
-/// Returns the command that `request` makes for a group at the node `a`. `Ok(None)` if the request names no group.
-fn command(alloc: Global, a: NodeId, request: &Request) -> Result<Option<GroupStep>, OutOfMemory>
-    ensures { IfOk result (λ s. option_to_list s ≡ command_for a request.now) }
+/// Returns what the command is to the group alone.
+fn event_of(alloc: Global, command: &GroupCommand) -> Result<GroupEvent, OutOfMemory>
+    ensures { IfOk result (λ e. e ≡ event_of command.now) }
 {
-    Ok(match request {
-        Request::AddTenant(_, _) => None,
-        Request::Make(_, _, spec) => Some(at(a, GroupEvent::Make(spec.duplicate()))),
-        Request::OpenGroup(_, _) => Some(at(a, GroupEvent::Open)),
-        Request::ShutGroup(_, _) => Some(at(a, GroupEvent::Shut)),
-        Request::DropGroup(_, _) => Some(at(a, GroupEvent::Drop)),
-        Request::Say(_, _, message) => Some(at(a, GroupEvent::Say(message.duplicate(alloc)?))),
-        Request::Fetch(_, _, from, most) => Some(at(a, GroupEvent::Fetch(*from, *most))),
+    Ok(match command {
+        GroupCommand::Make(spec) => GroupEvent::Make(spec.duplicate()),
+        GroupCommand::Open => GroupEvent::Open,
+        GroupCommand::Shut => GroupEvent::Shut,
+        GroupCommand::Drop => GroupEvent::Drop,
+        GroupCommand::Say(message) => GroupEvent::Say(message.duplicate(alloc)?),
+        GroupCommand::Fetch(from, most) => GroupEvent::Fetch(*from, *most),
+    })
+}
+
+/// Returns the command that a request for `what` makes for a group at the node `a`. `Ok(None)` if the request names no group.
+fn command(alloc: Global, a: NodeId, what: &Action) -> Result<Option<GroupStep>, OutOfMemory>
+    ensures { IfOk result (λ s. option_to_list s ≡ command_for a what.now) }
+{
+    Ok(match what {
+        Action::AddTenant(_) => None,
+        Action::Group(_, command) => Some(at(a, event_of(alloc, command)?)),
     })
 }
 
@@ -50,47 +59,43 @@ fn of_own(
     steps: &mut Vec<GroupStep>,
 ) -> Result<(), OutOfMemory>
     requires { KeepsLinks plan.now addr (past_in a before.now) links.now }
-    ensures { OnOk result (steps.new.items ≡ steps.old.items ++ (command_for a request.now ++ ticked a (is_noticed_at plan.now a (past_in a before.now)) (made_by addr (Asked request.now) (Replied reply.now)))) }
+    ensures { OnOk result (steps.new.items ≡ steps.old.items ++ (command_for a request.now.what ++ ticked a (is_noticed_at plan.now a (past_in a before.now)) (made_by addr (Asked request.now) (Replied reply.now)))) }
 {
-    add(command(alloc, a, request)?, steps)?;
+    add(command(alloc, a, &request.what)?, steps)?;
     match made(addr, request, reply) {
         None => Ok(()),
         Some(spec) => add_noticed(plan, addr, a, spec, before, links, steps),
     }
 }
 
-/// Returns the step that tells the group of its tenant, or `None` if the request with its reply adds another tenant or none.
-fn tenant(addr: Addr, a: NodeId, request: &Request, reply: &Reply) -> Option<GroupStep>
-    ensures { option_to_list result ≡ tenant_given addr a request.now reply.now }
-{
-    match request {
-        Request::AddTenant(_, row) => match reply {
-            Reply::Done => {
-                if row.tenant == addr.tenant {
-                    Some(at(a, GroupEvent::Tenant(Reserve::of(row))))
-                } else {
-                    None
-                }
-            }
-            _ => None,
-        },
-        _ => None,
-    }
-}
-
-/// Returns the step that tells the group of another generation of its room, or `None` if the request with its reply neither makes
-/// nor drops one.
-fn other(addr: Addr, a: NodeId, request: &Request, reply: &Reply) -> Option<GroupStep>
-    ensures { option_to_list result ≡ other_given addr a request.now reply.now }
+/// Returns the step that tells the group of its tenant, or `None` if a request for `what` with its reply adds another tenant or none.
+fn tenant(addr: Addr, a: NodeId, what: &Action, reply: &Reply) -> Option<GroupStep>
+    ensures { option_to_list result ≡ tenant_given addr a reply.now what.now }
 {
     let Reply::Done = reply else {
         return None;
     };
-    match request {
-        Request::Make(_, named, _) if is_other_generation(addr, *named) => {
+    match what {
+        Action::AddTenant(row) if row.tenant == addr.tenant => {
+            Some(at(a, GroupEvent::Tenant(Reserve::of(row))))
+        }
+        _ => None,
+    }
+}
+
+/// Returns the step that tells the group of another generation of its room, or `None` if a request for `what` with its reply neither
+/// makes nor drops one.
+fn other(addr: Addr, a: NodeId, what: &Action, reply: &Reply) -> Option<GroupStep>
+    ensures { option_to_list result ≡ other_given addr a reply.now what.now }
+{
+    let Reply::Done = reply else {
+        return None;
+    };
+    match what {
+        Action::Group(named, GroupCommand::Make(_)) if is_other_generation(addr, *named) => {
             Some(at(a, GroupEvent::OtherMade(named.generation)))
         }
-        Request::DropGroup(_, named) if is_other_generation(addr, *named) => {
+        Action::Group(named, GroupCommand::Drop) if is_other_generation(addr, *named) => {
             Some(at(a, GroupEvent::OtherDropped))
         }
         _ => None,
@@ -111,10 +116,10 @@ fn of_running(
     steps: &mut Vec<GroupStep>,
 ) -> Result<(), OutOfMemory>
     requires { KeepsNode plan.now addr a (past_in a before.now) node.now }
-    ensures { OnOk result (steps.new.items ≡ steps.old.items ++ (tenant_given addr a request.now reply.now ++ (other_given addr a request.now reply.now ++ (if is_own a addr (past_in a before.now) request.now then command_for a request.now ++ ticked a (is_noticed_at plan.now a (past_in a before.now)) (made_by addr (Asked request.now) (Replied reply.now)) else [])))) }
+    ensures { OnOk result (steps.new.items ≡ steps.old.items ++ (tenant_given addr a reply.now request.now.what ++ (other_given addr a reply.now request.now.what ++ (if is_own a addr (past_in a before.now) request.now then command_for a request.now.what ++ ticked a (is_noticed_at plan.now a (past_in a before.now)) (made_by addr (Asked request.now) (Replied reply.now)) else [])))) }
 {
-    add(tenant(addr, a, request, reply), steps)?;
-    add(other(addr, a, request, reply), steps)?;
+    add(tenant(addr, a, &request.what, reply), steps)?;
+    add(other(addr, a, &request.what, reply), steps)?;
     if is_own_request(addr, a, before, node.row.as_ref(), request) {
         of_own(
             alloc,
@@ -147,12 +152,12 @@ fn of_stopped(
     alloc: Global,
     a: NodeId,
     met: bool,
-    request: &Request,
+    what: &Action,
     steps: &mut Vec<GroupStep>,
 ) -> Result<(), OutOfMemory>
-    ensures { OnOk result (steps.new.items ≡ steps.old.items ++ with_stop a met (command_for a request.now)) }
+    ensures { OnOk result (steps.new.items ≡ steps.old.items ++ with_stop a met (command_for a what.now)) }
 {
-    if let Some(step) = command(alloc, a, request)? {
+    if let Some(step) = command(alloc, a, what)? {
         add_stop(a, met, steps)?;
         steps.push(step)?;
     }
@@ -179,7 +184,7 @@ pub(crate) fn of_request(
         return of_running(alloc, plan, addr, before, node, a, request, reply, steps);
     }
     if is_own_request(addr, a, before, node.row.as_ref(), request) {
-        return of_stopped(alloc, a, node.met, request, steps);
+        return of_stopped(alloc, a, node.met, &request.what, steps);
     }
     Ok(())
 }

@@ -4,7 +4,7 @@ ghost use Rattle.std.specs.Option.{option_copied};
 ghost use Rattle.gb_rules.specs.Tenant.{row_of};
 ghost use Rattle.gb_node.specs.Past.{added, tenants_in};
 ghost use Rattle.gb_node.specs.Past as occurred;
-ghost use Rattle.gb_table.specs.Admission.{has_group_token, is_by_row};
+ghost use Rattle.gb_table.specs.Admission.{command_need, has_group_token, is_by_row};
 ghost use Rattle.gb_types.specs.declared.spec.TenantRow.{TenantRow as RowValue};
 ghost use Rattle.gb_node.specs.declared.answer.NodeAnswer.TheVariants.{Reply as Replied};
 ghost use Rattle.gb_node.specs.declared.event.NodeEvent.TheVariants.{Request as Asked};
@@ -18,7 +18,7 @@ use gb_cap::token::admits;
 use gb_cap::{Need, Token};
 use gb_node::{Halted, NodeAnswer, NodeEvent};
 use gb_rules::address::is_same;
-use gb_types::{Addr, NodeId, Plan, Reply, Request, Spec, TenantRow};
+use gb_types::{Action, Addr, GroupCommand, NodeId, Plan, Reply, Request, Spec, TenantRow};
 
 /// Returns the row of the tenant, if the request with its reply added it.
 pub(crate) fn row_added<'a>(
@@ -28,17 +28,11 @@ pub(crate) fn row_added<'a>(
 ) -> Option<&'a TenantRow>
     ensures { option_copied result ≡ row_of tenant (added (Asked request.now) (Replied reply.now)) }
 {
-    match request {
-        Request::AddTenant(_, row) => match reply {
-            Reply::Done => {
-                if row.tenant == tenant {
-                    Some(row)
-                } else {
-                    None
-                }
-            }
-            _ => None,
-        },
+    let Reply::Done = reply else {
+        return None;
+    };
+    match &request.what {
+        Action::AddTenant(row) if row.tenant == tenant => Some(row),
         _ => None,
     }
 }
@@ -66,25 +60,30 @@ fn is_token(need: Need, token: &Token, row: Option<&TenantRow>) -> bool
     }
 }
 
+/// Returns what the token of a command in the group with this address is for, at the node `a`.
+fn need_of(a: NodeId, addr: Addr, command: &GroupCommand) -> Need
+    ensures { result ≡ command_need a addr command.now }
+{
+    match command {
+        GroupCommand::Make(_) | GroupCommand::Open | GroupCommand::Shut | GroupCommand::Drop =>
+            Need::Tenant(addr.tenant),
+        GroupCommand::Say(_) | GroupCommand::Fetch(_, _) => {
+            Need::Member(addr.tenant, addr.group, a)
+        }
+    }
+}
+
 /// Returns true if the request names the group and has the token that it needs at the node `a`. `row` is the row of the group's
 /// tenant at the node.
 pub(crate) fn is_own_by(addr: Addr, a: NodeId, row: Option<&TenantRow>, request: &Request) -> bool
-    ensures { (rows : List RowValue) → option_copied row.entry ≡ row_of addr.tenant rows → result ≡ (projected.is_named addr request.now && has_group_token a rows request.now) }
+    ensures { (rows : List RowValue) → option_copied row.entry ≡ row_of addr.tenant rows → result ≡ (projected.is_named addr request.now.what && has_group_token a rows request.now) }
 {
-    let (token, named, need) = match request {
-        Request::AddTenant(_, _) => return false,
-        Request::Make(token, named, _) => (token, named, Need::Tenant(named.tenant)),
-        Request::OpenGroup(token, named) => (token, named, Need::Tenant(named.tenant)),
-        Request::ShutGroup(token, named) => (token, named, Need::Tenant(named.tenant)),
-        Request::DropGroup(token, named) => (token, named, Need::Tenant(named.tenant)),
-        Request::Say(token, named, _) => (token, named, Need::Member(named.tenant, named.group, a)),
-        Request::Fetch(token, named, _, _) => (
-            token,
-            named,
-            Need::Member(named.tenant, named.group, a),
-        ),
-    };
-    is_same(addr, *named) && is_token(need, token, row)
+    match &request.what {
+        Action::AddTenant(_) => false,
+        Action::Group(named, command) => {
+            is_same(addr, *named) && is_token(need_of(a, *named, command), &request.token, row)
+        }
+    }
 }
 
 /// Returns true if the request is one of the group at the node: it names the group and has the token that it needs there. `row`
@@ -134,17 +133,11 @@ pub(crate) fn meets(plan: &Plan, addr: Addr, before: &[Deed], node: &NodeKept, d
 pub(crate) fn made<'a>(addr: Addr, request: &'a Request, reply: &Reply) -> Option<&'a Spec>
     ensures { option_copied result ≡ projected.made_by addr (Asked request.now) (Replied reply.now) }
 {
-    match request {
-        Request::Make(_, named, spec) => match reply {
-            Reply::Done => {
-                if is_same(addr, *named) {
-                    Some(spec)
-                } else {
-                    None
-                }
-            }
-            _ => None,
-        },
+    let Reply::Done = reply else {
+        return None;
+    };
+    match &request.what {
+        Action::Group(named, GroupCommand::Make(spec)) if is_same(addr, *named) => Some(spec),
         _ => None,
     }
 }

@@ -14,7 +14,7 @@ use crate::trace::Trace;
 use gb_cluster::{Answer, Event};
 use gb_node::NodeEvent;
 use gb_types::limits::NODES;
-use gb_types::{Addr, NodeId, Refusal, Reply, Request, TenantRow};
+use gb_types::{Action, Addr, NodeId, Refusal, Reply, TenantRow};
 
 /// Returns the row of the tenant, if the event with its answer added it at the node `a`.
 fn row_in<'a>(a: NodeId, tenant: u16, event: &'a Event, answer: &Answer) -> Option<&'a TenantRow>
@@ -54,7 +54,7 @@ fn is_lacking(rows: &[Option<TenantRow>; NODES], addr: Addr, event: &Event, answ
     let Answer::Reply(Reply::Refused(Refusal::OutOfMemory)) = answer else {
         return false;
     };
-    if let Request::AddTenant(_, row) = request {
+    if let Action::AddTenant(row) = &request.what {
         return row.tenant == addr.tenant;
     }
     let row = rows[node.index()].as_ref();

@@ -1,5 +1,5 @@
 -- The words behind a head, one by one, and the answer of a reader of words.
-use Rattle.std.proofs.Common.{◌≡◌, ◌↔◌, ℕ, zero, suc, ◌-◌, ◌≤◌, List, [], ◌∷◌, ◌++◌, Some, length, map, take, drop, get_or, refl, sym, ap, ◌∙◌, subst, arith}
+use Rattle.std.proofs.Common.{◌≡◌, ◌↔◌, ℕ, zero, suc, ◌-◌, ◌≤◌, List, [], ◌∷◌, ◌++◌, None, Some, length, map, take, drop, get_or, refl, sym, ap, ◌∙◌, subst, arith}
 use Rattle.std.proofs.lemmas.List.{take_rest}
 use Rattle.std.specs.Prelude.{IfErr, Result, Ok, Err}
 use Rattle.std.specs.Result.{IsErrAnd}
@@ -57,3 +57,12 @@ only Q x y reads spelt = some_same x y ((reads y).1 spelt)
 -- what is spelt, alone, is found
 pub reads_one : {X : Type 0} (Q : X → Type 0) (x : X) → Q x → ((y : X) → Q y → x ≡ y) → Reads Q x
 reads_one Q x here alone y = (λ is. subst Q (some_same x y is) here, λ spelt. ap Some (alone y spelt))
+
+-- what is made of what was found is found, where it is made of nothing else
+pub made_reads : {X Y : Type 0} (make : X → Y) (Q : X → Type 0) (x : X) → Reads Q x → Reads (λ y. (z : X) × (y ≡ make z) × Q z) (make x)
+made_reads {X} make Q x reads =
+    reads_one (λ y. (z : X) × (y ≡ make z) × Q z) (make x) (x, refl, found Q x reads) (λ y spelt. ap make (only Q x spelt.0 reads spelt.2) ∙ sym spelt.1)
+
+-- and nothing is made of nothing
+pub none_made : {X Y : Type 0} (make : X → Y) (Q : X → Type 0) → ((x : X) → (None ≡ Some x) ↔ Q x) → (y : Y) → (None ≡ Some y) ↔ ((x : X) × (y ≡ make x) × Q x)
+none_made make Q none y = (λ is. cc is, λ spelt. let is = (none spelt.0).1 spelt.2 in cc is)

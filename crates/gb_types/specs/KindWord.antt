@@ -1,17 +1,24 @@
 -- The words for the kinds of broadcast.
-use Rattle.std.specs.Prelude.{ℕ, List, codes}
+use Rattle.std.specs.Prelude.{ℕ, List, ◌++◌, codes}
 use Rattle.gb_types.specs.declared.kind.Kind.{Kind}
-use Rattle.gb_types.specs.declared.kind.Kind.TheVariants.{Beb, Lazy, Eager, AllAck, Majority, FifoBeb, FifoLazy, FifoEager, FifoAllAck, FifoMajority}
+use Rattle.gb_types.specs.declared.kind.Module.{Module}
+use Rattle.gb_types.specs.declared.kind.Module.TheVariants.{BestEffort, Lazy, Eager, AllAck, Majority}
+use Rattle.gb_types.specs.declared.kind.Order.{Order}
+use Rattle.gb_types.specs.declared.kind.Order.TheVariants.{Any, Fifo}
 
--- the word for a kind; the letter f stands for first-in first-out order
+-- the word for a module of broadcast
+abbrev pub module_word : Module → List ℕ
+module_word BestEffort = codes "beb"
+module_word Lazy = codes "lazy"
+module_word Eager = codes "eager"
+module_word AllAck = codes "allack"
+module_word Majority = codes "majority"
+
+-- the letter f stands for first-in first-out order
+abbrev pub order_word : Order → List ℕ
+order_word Any = codes ""
+order_word Fifo = codes "f"
+
+-- the word for a kind
 abbrev pub kind_word : Kind → List ℕ
-kind_word Beb = codes "beb"
-kind_word Lazy = codes "lazy"
-kind_word Eager = codes "eager"
-kind_word AllAck = codes "allack"
-kind_word Majority = codes "majority"
-kind_word FifoBeb = codes "fbeb"
-kind_word FifoLazy = codes "flazy"
-kind_word FifoEager = codes "feager"
-kind_word FifoAllAck = codes "fallack"
-kind_word FifoMajority = codes "fmajority"
+kind_word kind = order_word kind.order ++ module_word kind.module

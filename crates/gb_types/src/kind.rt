@@ -1,41 +1,45 @@
-//! The broadcast that a group chooses.
+//! The broadcast that a group chooses: one of five modules, and an order of delivery.
 
-/// A broadcast stack. Source: Cachin, Guerraoui, Rodrigues, Introduction to Reliable and Secure
-/// Distributed Programming, 2011, chapter 3.
+/// A broadcast. Source: Cachin, Guerraoui, Rodrigues, Introduction to Reliable and Secure Distributed Programming, 2011,
+/// chapter 3.
 #[derive(Clone, Copy, PartialEq, Eq)]
-pub enum Kind {
-    /// Best-effort broadcast.
-    Beb,
-    /// Lazy reliable broadcast: a message is relayed once its origin is noticed to have crashed.
-    Lazy,
-    /// Eager reliable broadcast: every message is relayed.
-    Eager,
-    /// All-ack uniform reliable broadcast: a message is delivered once every member not noticed holds it.
-    AllAck,
-    /// Majority-ack uniform reliable broadcast: a message is delivered once more than half of the members hold it.
-    Majority,
-    /// Best-effort broadcast in the order in which each origin said its messages.
-    FifoBeb,
-    /// Lazy reliable broadcast in the order in which each origin said its messages.
-    FifoLazy,
-    /// Eager reliable broadcast in the order in which each origin said its messages.
-    FifoEager,
-    /// All-ack uniform reliable broadcast in the order in which each origin said its messages.
-    FifoAllAck,
-    /// Majority-ack uniform reliable broadcast in the order in which each origin said its messages.
-    FifoMajority,
+pub struct Kind {
+    pub module: Module,
+    pub order: Order,
 }
 
-/// All kinds.
-pub const KINDS: &[Kind] = &[
-    Kind::Beb,
-    Kind::Lazy,
-    Kind::Eager,
-    Kind::AllAck,
-    Kind::Majority,
-    Kind::FifoBeb,
-    Kind::FifoLazy,
-    Kind::FifoEager,
-    Kind::FifoAllAck,
-    Kind::FifoMajority,
+/// A module of broadcast: it says which messages a member sends on, and when it delivers one. The numbers are those of chapter 3.
+#[derive(Clone, Copy, PartialEq, Eq)]
+pub enum Module {
+    /// Best-effort broadcast (Module 3.1; Algorithm 3.1, Basic Broadcast): a message is delivered once it came from its origin.
+    BestEffort,
+    /// Reliable broadcast (Module 3.2; Algorithm 3.2, Lazy Reliable Broadcast): a message is relayed once its origin is noticed to
+    /// have crashed.
+    Lazy,
+    /// Reliable broadcast (Module 3.2; Algorithm 3.3, Eager Reliable Broadcast): every message is relayed.
+    Eager,
+    /// Uniform reliable broadcast (Module 3.3; Algorithm 3.4, All-Ack Uniform Reliable Broadcast): a message is delivered once
+    /// every member not noticed holds it.
+    AllAck,
+    /// Uniform reliable broadcast (Module 3.3; Algorithm 3.5, Majority-Ack Uniform Reliable Broadcast): a message is delivered once
+    /// more than half of the members hold it.
+    Majority,
+}
+
+/// The order in which a member delivers the messages of one origin.
+#[derive(Clone, Copy, PartialEq, Eq)]
+pub enum Order {
+    /// Any order: each message as soon as the module delivers it.
+    Any,
+    /// First in, first out (section 3.9): the order in which the origin said them. A message waits for those said before it.
+    Fifo,
+}
+
+/// All modules.
+pub const MODULES: &[Module] = &[
+    Module::BestEffort,
+    Module::Lazy,
+    Module::Eager,
+    Module::AllAck,
+    Module::Majority,
 ];

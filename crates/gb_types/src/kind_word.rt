@@ -1,44 +1,38 @@
 //! The words for the kinds of broadcast.
 ghost use Rattle.std.specs.Prelude.{◌≡◌, ◌↔◌, Some};
 ghost use Rattle.gb_types.specs.declared.kind.Kind.{Kind};
-ghost use Rattle.gb_types.specs.KindWord.{kind_word};
+ghost use Rattle.gb_types.specs.declared.kind.Module.{Module};
+ghost use Rattle.gb_types.specs.KindWord.{kind_word, module_word};
 
-use crate::kind::Kind;
+use crate::kind::{Kind, Module, Order};
 
 /// Returns the word for a kind of broadcast, such as `lazy`, or `flazy` for the same in first-in first-out order.
 pub fn word_of(kind: Kind) -> &'static [u8]
     ensures { result.now ≡ kind_word kind }
 {
-    match kind {
-        Kind::Beb => b"beb",
-        Kind::Lazy => b"lazy",
-        Kind::Eager => b"eager",
-        Kind::AllAck => b"allack",
-        Kind::Majority => b"majority",
-        Kind::FifoBeb => b"fbeb",
-        Kind::FifoLazy => b"flazy",
-        Kind::FifoEager => b"feager",
-        Kind::FifoAllAck => b"fallack",
-        Kind::FifoMajority => b"fmajority",
+    let word: &'static [u8] = match kind.module {
+        Module::BestEffort => b"fbeb",
+        Module::Lazy => b"flazy",
+        Module::Eager => b"feager",
+        Module::AllAck => b"fallack",
+        Module::Majority => b"fmajority",
+    };
+    match kind.order {
+        Order::Any => &word[1..],
+        Order::Fifo => word,
     }
 }
 
-/// Returns the only kind that the word can name, by its first letters.
-fn kind_like(word: &[u8]) -> Option<Kind>
-    ensures { (k : Kind) → word.now ≡ kind_word k → result ≡ Some k }
+/// Returns the only module that the word can name, by its first letter.
+fn module_like(word: &[u8]) -> Module
+    ensures { (m : Module) → word.now ≡ module_word m → result ≡ m }
 {
     match word {
-        [b'b', ..] => Some(Kind::Beb),
-        [b'l', ..] => Some(Kind::Lazy),
-        [b'e', ..] => Some(Kind::Eager),
-        [b'a', ..] => Some(Kind::AllAck),
-        [b'm', ..] => Some(Kind::Majority),
-        [b'f', b'b', ..] => Some(Kind::FifoBeb),
-        [b'f', b'l', ..] => Some(Kind::FifoLazy),
-        [b'f', b'e', ..] => Some(Kind::FifoEager),
-        [b'f', b'a', ..] => Some(Kind::FifoAllAck),
-        [b'f', b'm', ..] => Some(Kind::FifoMajority),
-        _ => None,
+        [b'b', ..] => Module::BestEffort,
+        [b'l', ..] => Module::Lazy,
+        [b'e', ..] => Module::Eager,
+        [b'a', ..] => Module::AllAck,
+        _ => Module::Majority,
     }
 }
 
@@ -46,8 +40,14 @@ fn kind_like(word: &[u8]) -> Option<Kind>
 pub fn read_kind(word: &[u8]) -> Option<Kind>
     ensures { (k : Kind) → (result ≡ Some k) ↔ (word.now ≡ kind_word k) }
 {
-    match kind_like(word) {
-        Some(kind) if word == word_of(kind) => Some(kind),
-        _ => None,
+    let (order, rest) = match word {
+        [b'f', rest @ ..] => (Order::Fifo, rest),
+        _ => (Order::Any, word),
+    };
+    let module = module_like(rest);
+    if word == word_of(Kind { module, order }) {
+        Some(Kind { module, order })
+    } else {
+        None
     }
 }

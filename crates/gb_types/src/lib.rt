@@ -4,6 +4,7 @@
 #![tactic(auto)]
 
 pub mod address;
+pub mod command_words;
 pub mod entry;
 pub mod kind;
 pub mod kind_word;
@@ -32,8 +33,9 @@ pub mod version;
 pub mod words;
 
 pub use address::{Addr, TenantId};
+pub use command_words::CommandHead;
 pub use entry::{Entries, Entry};
-pub use kind::Kind;
+pub use kind::{Kind, Module, Order};
 pub use memory::OutOfMemory;
 pub use message::MsgId;
 pub use new_message::NewMessage;
@@ -42,6 +44,6 @@ pub use payload::Payload;
 pub use plan::{Bounds, Plan};
 pub use refusal::Refusal;
 pub use reply::Reply;
-pub use request::Request;
+pub use request::{Action, GroupCommand, Request};
 pub use spec::{Spec, TenantRow};
 pub use version::Version;

@@ -1,37 +1,77 @@
 //! The requests that a caller may make at a node.
+ghost use Rattle.std.specs.Prelude.{◌≡◌};
+
 use crate::address::Addr;
 use crate::new_message::NewMessage;
 use crate::spec::{Spec, TenantRow};
 
 /// A request at a node, with the token that authorises it.
-pub enum Request {
-    /// Adds a tenant.
-    AddTenant([u8; 32], TenantRow),
-    /// Makes a group, in which nothing can be said yet.
-    Make([u8; 32], Addr, Spec),
-    /// Opens a group, so that its member may say messages.
-    OpenGroup([u8; 32], Addr),
-    /// Shuts an open group: this member says nothing more in it.
-    ShutGroup([u8; 32], Addr),
-    /// Drops a group for good: its log and its waiting items are discarded here.
-    DropGroup([u8; 32], Addr),
-    /// Broadcasts a message to the group.
-    Say([u8; 32], Addr, NewMessage),
-    /// Reads the group's log from a place (the first number) on, up to a number of entries (the second).
-    Fetch([u8; 32], Addr, u32, u32),
+pub struct Request {
+    pub token: [u8; 32],
+    pub what: Action,
 }
 
-// Not derived: what is derived is proved anew in each crate that ends one.
+/// What a request asks of a node.
+pub enum Action {
+    /// Adds a tenant.
+    AddTenant(TenantRow),
+    /// Does something in the group with this address.
+    Group(Addr, GroupCommand),
+}
+
+/// What a request asks of a group.
+pub enum GroupCommand {
+    /// Makes the group, in which nothing can be said yet.
+    Make(Spec),
+    /// Opens the group, so that its member may say messages.
+    Open,
+    /// Shuts the open group: this member says nothing more in it.
+    Shut,
+    /// Drops the group for good: its log and its waiting items are discarded here.
+    Drop,
+    /// Broadcasts a message to the group.
+    Say(NewMessage),
+    /// Reads the group's log from a place (the first number) on, up to a number of entries (the second).
+    Fetch(u32, u32),
+}
+
+impl Request {
+    /// Returns a request for a command in the group with this address.
+    pub fn of_group(token: [u8; 32], addr: Addr, command: GroupCommand) -> Request
+        ensures { result ≡ record { token = token; what = Action.Group addr command } }
+    {
+        Request {
+            token,
+            what: Action::Group(addr, command),
+        }
+    }
+}
+
+// These are not derived: what is derived is proved anew in each crate that ends one.
 impl Drop for Request {
     fn drop(self) {
+        let Request { token: _, what: _ } = self;
+    }
+}
+
+impl Drop for Action {
+    fn drop(self) {
         match self {
-            Request::AddTenant(_, _) => {}
-            Request::Make(_, _, _) => {}
-            Request::OpenGroup(_, _) => {}
-            Request::ShutGroup(_, _) => {}
-            Request::DropGroup(_, _) => {}
-            Request::Say(_, _, _) => {}
-            Request::Fetch(_, _, _, _) => {}
+            Action::AddTenant(_) => {}
+            Action::Group(_, _) => {}
+        }
+    }
+}
+
+impl Drop for GroupCommand {
+    fn drop(self) {
+        match self {
+            GroupCommand::Make(_) => {}
+            GroupCommand::Open => {}
+            GroupCommand::Shut => {}
+            GroupCommand::Drop => {}
+            GroupCommand::Say(_) => {}
+            GroupCommand::Fetch(_, _) => {}
         }
     }
 }

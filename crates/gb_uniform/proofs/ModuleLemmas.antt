@@ -1,5 +1,5 @@
 -- Relays by these rules are the modules.
-use Rattle.gb_layer.specs.declared.broadcast_module.BroadcastModule.TheVariants.{AllAck, MajorityAck}
+use Rattle.gb_types.specs.declared.kind.Module.TheVariants.{AllAck, Majority}
 use Rattle.gb_layer.proofs.RelayModuleLemmas.{IsModule, is_module}
 use Rattle.gb_uniform.specs.Rules.{all_ack_rules, majority_ack_rules}
 use Rattle.gb_uniform.specs.AllAckLemmas.{all_ack_more, all_ack_delivers_more, all_ack_own, all_ack_broadcasts_as, all_ack_delivers_as}
@@ -8,6 +8,6 @@ use Rattle.gb_uniform.specs.MajorityAckLemmas.{majority_ack_more, majority_ack_d
 pub all_ack_is_module : IsModule all_ack_rules AllAck
 all_ack_is_module = is_module all_ack_rules all_ack_more all_ack_delivers_more all_ack_own AllAck all_ack_broadcasts_as all_ack_delivers_as
 
-pub majority_ack_is_module : IsModule majority_ack_rules MajorityAck
+pub majority_ack_is_module : IsModule majority_ack_rules Majority
 majority_ack_is_module =
-    is_module majority_ack_rules majority_ack_more majority_ack_delivers_more majority_ack_own MajorityAck majority_ack_broadcasts_as majority_ack_delivers_as
+    is_module majority_ack_rules majority_ack_more majority_ack_delivers_more majority_ack_own Majority majority_ack_broadcasts_as majority_ack_delivers_as

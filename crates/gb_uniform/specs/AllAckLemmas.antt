@@ -2,7 +2,7 @@
 use Rattle.std.proofs.Common.{◌≡◌, ℕ, Bool, ◌||◌, ◌&&◌, List, [], ◌∷◌, refl, ap}
 use Rattle.std.specs.List.{list_all}
 use Rattle.std.specs.FinSet as set
-use Rattle.gb_layer.specs.declared.broadcast_module.BroadcastModule.TheVariants.{AllAck}
+use Rattle.gb_types.specs.declared.kind.Module.TheVariants.{AllAck}
 use Rattle.gb_types.proofs.BoolLemmas.{or_more}
 use Rattle.gb_layer.specs.Lists.{list_all_weaker}
 use Rattle.gb_layer.specs.Machine.{mentions, was_noticed}

@@ -1,7 +1,7 @@
 -- The laws of the rule of majority-ack uniform reliable broadcast, and its equality with the module's tests.
 use Rattle.std.proofs.Common.{◌&&◌, refl, sym}
 use Rattle.std.specs.FinSet as set
-use Rattle.gb_layer.specs.declared.broadcast_module.BroadcastModule.TheVariants.{MajorityAck}
+use Rattle.gb_types.specs.declared.kind.Module.TheVariants.{Majority}
 use Rattle.gb_types.specs.Places.{has_majority}
 use Rattle.gb_types.proofs.MajorityLemmas.{listed, majority_more}
 use Rattle.gb_layer.specs.Machine.{mentions}
@@ -19,8 +19,8 @@ majority_ack_delivers_more members noticed more_noticed holders more_holders f g
 pub majority_ack_own : BroadcastsItsOwn majority_ack_rules
 majority_ack_own me noticed m h = refl
 
-pub majority_ack_broadcasts_as : BroadcastsAs majority_ack_rules MajorityAck
+pub majority_ack_broadcasts_as : BroadcastsAs majority_ack_rules Majority
 majority_ack_broadcasts_as me past m = refl
 
-pub majority_ack_delivers_as : DeliversAs majority_ack_rules MajorityAck
+pub majority_ack_delivers_as : DeliversAs majority_ack_rules Majority
 majority_ack_delivers_as me members past m = λ i. mentions past m && has_majority (λ p. sym (listed members p) i) (λ p. holders_is me past p m i)

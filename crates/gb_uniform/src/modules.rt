@@ -1,5 +1,5 @@
 //! Laws: which rules are which module of broadcast.
-ghost use Rattle.gb_layer.specs.declared.broadcast_module.BroadcastModule.TheVariants.{AllAck, MajorityAck};
+ghost use Rattle.gb_types.specs.declared.kind.Module.TheVariants.{AllAck, Majority};
 ghost use Rattle.gb_layer.specs.Rule.{BroadcastsAs, DeliversAs};
 
 use crate::all_ack::AllAcked;
@@ -18,6 +18,6 @@ pub fn all_ack()
 /// broadcast broadcasts and delivers. So a relay by this rule over `Beb` is that module (`modules::relays` of gb_sinks). The function
 /// does nothing when it runs; its contract is the law.
 pub fn majority_ack()
-    ensures broadcasts { BroadcastsAs ⟦<MajorityAcked as Rule>⟧.rules MajorityAck }
-    ensures delivers { DeliversAs ⟦<MajorityAcked as Rule>⟧.rules MajorityAck }
+    ensures broadcasts { BroadcastsAs ⟦<MajorityAcked as Rule>⟧.rules Majority }
+    ensures delivers { DeliversAs ⟦<MajorityAcked as Rule>⟧.rules Majority }
 {}

@@ -12,7 +12,7 @@ use gb_client_words::Plan;
 use gb_client_words::words::{command, plan_of};
 use gb_session::Head;
 use gb_types::words::split_words;
-use gb_types::{NodeId, OutOfMemory};
+use gb_types::{CommandHead, NodeId, OutOfMemory};
 use std::alloc::Global;
 use std::test::Fail;
 
@@ -341,49 +341,49 @@ fn a_port_and_a_node_are_needed_where_one_is_asked(rt: HostRuntime) -> Result<()
 // What is told of the wrong word of a request.
 const BLAMED: &[(Head, &str, bool, &str)] = &[
     (
-        Head::Open,
+        Head::Group(CommandHead::Open),
         "65536 1",
         false,
         "T is '65536', and takes a number from 0 to 65535 without leading zeros",
     ),
     (
-        Head::Open,
+        Head::Group(CommandHead::Open),
         "7 01",
         false,
         "G is '01', and takes a number from 0 to 65535, and for a later generation a dot and its number, as 1 or 1.2",
     ),
     (
-        Head::Say,
+        Head::Group(CommandHead::Say),
         "7 1 hello",
         false,
         "PAYLOAD is 'hello', and takes hexadecimal digits, two for each byte, or - for no bytes; with --text it takes text",
     ),
     (
-        Head::Say,
+        Head::Group(CommandHead::Say),
         "7 1 6a6",
         false,
         "PAYLOAD is '6a6', and takes hexadecimal digits, two for each byte, or - for no bytes; with --text it takes text",
     ),
     (
-        Head::Say,
+        Head::Group(CommandHead::Say),
         "7 1 hello x",
         true,
         "SEQ is 'x', and takes a number from 0 to 4294967295 without leading zeros",
     ),
     (
-        Head::Say,
+        Head::Group(CommandHead::Say),
         "7 1 hello",
         true,
         "PAYLOAD is too long: a message has at most 4096 bytes, and 1024 with packets of version 1",
     ),
     (
-        Head::Make,
+        Head::Group(CommandHead::Make),
         "7 1 bob 0,1 8 4096 4",
         false,
         "KIND is 'bob', and takes one of beb, lazy, eager, allack, majority, fbeb, flazy, feager, fallack and fmajority",
     ),
     (
-        Head::Make,
+        Head::Group(CommandHead::Make),
         "7 1 beb 1,0 8 4096 4",
         false,
         "MEMBERS is '1,0', and takes numbers of nodes from 0 to 31, rising, with commas between them, as 0,1,2",
@@ -395,7 +395,7 @@ const BLAMED: &[(Head, &str, bool, &str)] = &[
         "BYTES is '-1', and takes a number from 0 to 4294967295 without leading zeros",
     ),
     (
-        Head::Fetch,
+        Head::Group(CommandHead::Fetch),
         "7 1 0 x",
         false,
         "MAX is 'x', and takes a number from 0 to 4294967295 without leading zeros",

@@ -5,7 +5,8 @@ use gb_cap::{Key, Need};
 use gb_host::{Gate, Host, HostFault, Open, Seat, Tapes};
 use gb_node::{NodeAnswer, NodeEvent, Sent};
 use gb_types::{
-    Addr, Kind, NewMessage, NodeId, NodeSet, Payload, Refusal, Reply, Request, Spec, TenantRow,
+    Action, Addr, GroupCommand, Kind, Module, NewMessage, NodeId, NodeSet, Order, Payload,
+    Refusal, Reply, Request, Spec, TenantRow,
 };
 use std::alloc::Global;
 use std::sync::Wait;
@@ -148,13 +149,17 @@ pub fn add_tenant() -> Request {
         bytes: 16_384,
         window: 4,
     };
-    Request::AddTenant(token(&ADMIN_KEY, Need::Admin), row)
+    Request {
+        token: token(&ADMIN_KEY, Need::Admin),
+        what: Action::AddTenant(row),
+    }
 }
 
 // Returns the request that makes a group at a node.
 fn make(node: NodeId, addr: Addr) -> Request {
+    let (module, order) = (Module::AllAck, Order::Any);
     let mut spec = Spec {
-        kind: Kind::AllAck,
+        kind: Kind { module, order },
         members: NodeSet::new(),
         msgs: 8,
         bytes: 16_384,
@@ -162,11 +167,12 @@ fn make(node: NodeId, addr: Addr) -> Request {
     };
     spec.members.insert(node);
     if addr.group == BOTH.group {
-        spec.kind = Kind::Beb;
+        spec.kind.module = Module::BestEffort;
         spec.members.insert(FIRST);
         spec.members.insert(SECOND);
     }
-    Request::Make(token(&TENANT_KEY, Need::Tenant(7)), addr, spec)
+    let owner = token(&TENANT_KEY, Need::Tenant(7));
+    Request::of_group(owner, addr, GroupCommand::Make(spec))
 }
 
 /// Makes three requests at a node of a host, from a seat: adds tenant 7, makes its group `addr`, and opens it. `addr` is `ALONE`, an
@@ -182,7 +188,8 @@ pub fn prepare<L: Tapes, R: Wait + Clock>(
     let owner = token(&TENANT_KEY, Need::Tenant(7));
     tell(rt, alloc, host, seat, node, add_tenant());
     tell(rt, alloc, host, seat, node, make(node, addr));
-    tell(rt, alloc, host, seat, node, Request::OpenGroup(owner, addr));
+    let open = Request::of_group(owner, addr, GroupCommand::Open);
+    tell(rt, alloc, host, seat, node, open);
 }
 
 /// Makes and opens the group `BOTH` at each of the two nodes of a host, from the last seat, as `prepare` does. Does nothing without a
@@ -220,7 +227,8 @@ pub fn say<L: Tapes, R: Wait + Clock>(
 ) -> Option<u16> {
     let member = token(&TENANT_KEY, Need::Member(7, addr.group, node));
     let payload = Payload::from_slice(alloc, words).ok()?;
-    let request = Request::Say(member, addr, NewMessage::new(payload));
+    let say = GroupCommand::Say(NewMessage::new(payload));
+    let request = Request::of_group(member, addr, say);
     said(&answer(rt, alloc, host, seat, node, request))
 }
 
@@ -235,7 +243,7 @@ pub fn log<L: Tapes, R: Wait + Clock>(
     addr: Addr,
 ) -> Option<NodeAnswer> {
     let member = token(&TENANT_KEY, Need::Member(7, addr.group, node));
-    let request = Request::Fetch(member, addr, 0, 16);
+    let request = Request::of_group(member, addr, GroupCommand::Fetch(0, 16));
     answer(rt, alloc, host, seat, node, request)
 }
 

@@ -1,6 +1,7 @@
 use Rattle.std.proofs.Common.{◌≡◌, get_or, ap, sym, ◌∙◌, arith}
 use Rattle.gb_types.specs.Words.{words_of}
-use Rattle.gb_schedule.specs.declared.head.Head.TheVariants.{Pack, Fetch, Tick, Stop}
+use Rattle.gb_types.specs.declared.command_words.CommandHead.TheVariants.{Fetch}
+use Rattle.gb_schedule.specs.declared.head.Head.TheVariants.{Pack, Group, Tick, Stop}
 use Rattle.gb_schedule.proofs.HeadLemmas.{step_found, no_step}
 use Rattle.gb_schedule.proofs.grammar.find_step.Goals as goal
 
@@ -8,7 +9,7 @@ pub returns-in_ok-behind-in-Some-eq112 : goal.returns-in_ok-behind-in-Some-eq112
 returns-in_ok-behind-in-Some-eq112 c = step_found c.args.nodes c.args.line.now Pack _ c.read_pack.result (ap words_of c.in_ok-behind-in-Some-eq112.ensures.some) c.read_pack.ensures
 
 pub returns-in_ok-behind-in-Some-eq102 : goal.returns-in_ok-behind-in-Some-eq102
-returns-in_ok-behind-in-Some-eq102 c = step_found c.args.nodes c.args.line.now Fetch _ c.read_fetch.result (ap words_of c.in_ok-behind-in-Some-eq102.ensures.some) c.read_fetch.ensures
+returns-in_ok-behind-in-Some-eq102 c = step_found c.args.nodes c.args.line.now (Group Fetch) _ c.read_fetch.result (ap words_of c.in_ok-behind-in-Some-eq102.ensures.some) c.read_fetch.ensures
 
 pub returns-in_ok-behind-in-Some-eq116 : goal.returns-in_ok-behind-in-Some-eq116
 returns-in_ok-behind-in-Some-eq116 c = step_found c.args.nodes c.args.line.now Tick _ c.read_tick.result (ap words_of c.in_ok-behind-in-Some-eq116.ensures.some) c.read_tick.ensures

@@ -19,13 +19,13 @@ returns-in_err-silence c = grind (arith, common_steps)
 
 pub returns-in_err-versions : goal.returns-in_err-versions
 returns-in_err-versions c command = (
-  λ is. cc (is, c.from_residual-in_err-versions.ensures),
+  λ is. cc (rw c.from_residual-in_err-versions.ensures at is),
   λ spelt. absurd (no_versions _ _ _ _ _ _ command (words_and_rest c.args.words.now _ 3 (omega arith)) c.in_ok-nodes.ensures c.in_err-versions.ensures spelt),
 )
 
 pub returns-in_err-room : goal.returns-in_err-room
 returns-in_err-room c command = (
-  λ is. cc (is, c.from_residual-in_err-room.ensures),
+  λ is. cc (rw c.from_residual-in_err-room.ensures at is),
   λ spelt. absurd (no_room _ _ _ _ _ _ command (words_and_rest c.args.words.now _ 3 (omega arith)) c.in_ok-nodes.ensures c.in_err-room.ensures spelt),
 )
 

@@ -1,5 +1,5 @@
 use Rattle.std.proofs.Common.{refl, arith}
-use Rattle.gb_schedule.proofs.StepLemmas.{fetch_within, first_fetch}
+use Rattle.gb_schedule.proofs.GroupLemmas.{fetch_within, first_fetch}
 use Rattle.gb_schedule.proofs.grammar.read_first_fetch.Goals as goal
 
 pub overflow_cast-address : goal.overflow_cast-address

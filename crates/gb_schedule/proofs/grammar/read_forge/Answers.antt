@@ -5,7 +5,9 @@ use Rattle.gb_schedule.proofs.RowLemmas.{forge_reads, no_group}
 use Rattle.gb_schedule.proofs.grammar.read_forge.Goals as goal
 
 pub returns : goal.returns
-returns c = forge_reads _ _ _ _ _ _ _ (words_are c.args.words.now _ 3 (omega arith)) c.in_ok-node.ensures (c.new-message.ensures ∙ ap (λ payload. record { payload = payload; seq = None }) c.new-nothing.ensures)
+returns c =
+    rw c.of_group-request.ensures
+    (forge_reads _ _ _ _ _ _ _ (words_are c.args.words.now _ 3 (omega arith)) c.in_ok-node.ensures (c.new-message.ensures ∙ ap (λ payload. record { payload = payload; seq = None }) c.new-nothing.ensures))
 
 pub returns-in_err-node : goal.returns-in_err-node
 returns-in_err-node c command = (

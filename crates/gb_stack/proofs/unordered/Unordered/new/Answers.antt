@@ -24,8 +24,8 @@ returns-in-AllAck-clause-meaning c = λ ms. rw c.in-AllAck.is (ap all_ack (c.new
 pub returns-in-AllAck-clause-known : goal.returns-in-AllAck-clause-known
 returns-in-AllAck-clause-known c = λ ms. c.new-in-AllAck.ensures.known ms tt
 
-pub returns-in-MajorityAck-clause-meaning : goal.returns-in-MajorityAck-clause-meaning
-returns-in-MajorityAck-clause-meaning c = λ ms. rw c.in-MajorityAck.is (ap majority_ack (c.new-in-MajorityAck.ensures.meaning ms ∙ ap (λ me. at_start me c.args.members) (c.new-lower.ensures ms)))
+pub returns-in-Majority-clause-meaning : goal.returns-in-Majority-clause-meaning
+returns-in-Majority-clause-meaning c = λ ms. rw c.in-Majority.is (ap majority_ack (c.new-in-Majority.ensures.meaning ms ∙ ap (λ me. at_start me c.args.members) (c.new-lower.ensures ms)))
 
-pub returns-in-MajorityAck-clause-known : goal.returns-in-MajorityAck-clause-known
-returns-in-MajorityAck-clause-known c = λ ms. c.new-in-MajorityAck.ensures.known ms tt
+pub returns-in-Majority-clause-known : goal.returns-in-Majority-clause-known
+returns-in-Majority-clause-known c = λ ms. c.new-in-Majority.ensures.known ms tt

@@ -24,8 +24,8 @@ returns-in-AllAck-clause-sends c = rw c.in-AllAck.is (λ ms n w call k. c.most-i
 pub returns-in-AllAck-clause-ups : goal.returns-in-AllAck-clause-ups
 returns-in-AllAck-clause-ups c = rw c.in-AllAck.is (λ ms n w call k. c.most-in-AllAck.ensures.ups ms n w call k)
 
-pub returns-in-MajorityAck-clause-sends : goal.returns-in-MajorityAck-clause-sends
-returns-in-MajorityAck-clause-sends c = rw c.in-MajorityAck.is (λ ms n w call k. c.most-in-MajorityAck.ensures.sends ms n w call k)
+pub returns-in-Majority-clause-sends : goal.returns-in-Majority-clause-sends
+returns-in-Majority-clause-sends c = rw c.in-Majority.is (λ ms n w call k. c.most-in-Majority.ensures.sends ms n w call k)
 
-pub returns-in-MajorityAck-clause-ups : goal.returns-in-MajorityAck-clause-ups
-returns-in-MajorityAck-clause-ups c = rw c.in-MajorityAck.is (λ ms n w call k. c.most-in-MajorityAck.ensures.ups ms n w call k)
+pub returns-in-Majority-clause-ups : goal.returns-in-Majority-clause-ups
+returns-in-Majority-clause-ups c = rw c.in-Majority.is (λ ms n w call k. c.most-in-Majority.ensures.ups ms n w call k)

@@ -12,5 +12,5 @@ returns-in-Eager c = λ ms. rw c.in-Eager.is (c.me-in-Eager.ensures ms)
 pub returns-in-AllAck : goal.returns-in-AllAck
 returns-in-AllAck c = λ ms. rw c.in-AllAck.is (c.me-in-AllAck.ensures ms)
 
-pub returns-in-MajorityAck : goal.returns-in-MajorityAck
-returns-in-MajorityAck c = λ ms. rw c.in-MajorityAck.is (c.me-in-MajorityAck.ensures ms)
+pub returns-in-Majority : goal.returns-in-Majority
+returns-in-Majority c = λ ms. rw c.in-Majority.is (c.me-in-Majority.ensures ms)

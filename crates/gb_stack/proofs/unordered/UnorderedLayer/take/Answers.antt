@@ -9,5 +9,5 @@ returns-in-Eager-clause-known g c = rw c.in-Eager.is (λ n w k next. c.take-in-E
 pub returns-in-AllAck-clause-known : goal.returns-in-AllAck-clause-known
 returns-in-AllAck-clause-known g c = rw c.in-AllAck.is (λ n w k next. c.take-in-AllAck.ensures.known n w k next)
 
-pub returns-in-MajorityAck-clause-known : goal.returns-in-MajorityAck-clause-known
-returns-in-MajorityAck-clause-known g c = rw c.in-MajorityAck.is (λ n w k next. c.take-in-MajorityAck.ensures.known n w k next)
+pub returns-in-Majority-clause-known : goal.returns-in-Majority-clause-known
+returns-in-Majority-clause-known g c = rw c.in-Majority.is (λ n w k next. c.take-in-Majority.ensures.known n w k next)

@@ -23,8 +23,8 @@ returns-in-AllAck-clause-kept c = rw c.in-AllAck.is c.whole-in-AllAck.ensures.ke
 pub returns-in-AllAck-clause-memory : goal.returns-in-AllAck-clause-memory
 returns-in-AllAck-clause-memory c = rw c.in-AllAck.is c.whole-in-AllAck.ensures.memory
 
-pub returns-in-MajorityAck-clause-kept : goal.returns-in-MajorityAck-clause-kept
-returns-in-MajorityAck-clause-kept c = rw c.in-MajorityAck.is c.whole-in-MajorityAck.ensures.kept
+pub returns-in-Majority-clause-kept : goal.returns-in-Majority-clause-kept
+returns-in-Majority-clause-kept c = rw c.in-Majority.is c.whole-in-Majority.ensures.kept
 
-pub returns-in-MajorityAck-clause-memory : goal.returns-in-MajorityAck-clause-memory
-returns-in-MajorityAck-clause-memory c = rw c.in-MajorityAck.is c.whole-in-MajorityAck.ensures.memory
+pub returns-in-Majority-clause-memory : goal.returns-in-Majority-clause-memory
+returns-in-Majority-clause-memory c = rw c.in-Majority.is c.whole-in-Majority.ensures.memory

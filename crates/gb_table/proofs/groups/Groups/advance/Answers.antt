@@ -110,7 +110,7 @@ returns-else-count-eq0-clause-cursor c =
     let vs = walk c.args.from (queues c.args.dest.number c.args.self.now.rows) in
     let n = length c.args.self.now.rows in
     let e : c.loop-step._step ≡ c.args.count = omega arith in
-    let size : c.len.result ≡ n = c.len.ensures.len ∙ c.loop-step.invariant.size in
+    let size : c.len.result ≡ n = c.len.ensures ∙ c.loop-step.invariant.size in
     c.room_after.ensures ∙ (ap (λ m. room_after m (c.loop-step.at - 1)) size
     ∙ sym (ap (λ k. new_cursor n c.args.from k vs) (sym e)
     ∙ cursor_last n c.args.from c.loop-step._step c.loop-step.at vs (sym c.in-None.is ∙ next_is c.next_place-2.result (walk c.loop-step.at (queues c.args.dest.number c.loop-step.self.rows)) vs c.loop-step._step c.next_place-2.ensures.place c.loop-step.invariant.rest) (omega (arith, c.requires.there)) (omega arith) c.loop-step.invariant.last))

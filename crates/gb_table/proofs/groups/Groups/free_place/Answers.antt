@@ -23,4 +23,4 @@ returns-in-Some c =
 pub returns-in-None : goal.returns-in-None
 returns-in-None c =
     let rank = sym (rank_is _ c.args.addr c.self.inside.rooms.entries (λ a. ap (λ (n : Addr). is_addr n a) c.name_of.ensures)) ∙ (sym c.get_index_of.ensures.index ∙ c.in-None.is) in
-    c.len.ensures.len ∙ ap (λ o. free_place o c.args.self.now.rows) (sym rank ∙ ap (λ (v : GroupsValue). rank_of c.args.addr v.rooms) c.self.view_is)
+    c.len.ensures ∙ ap (λ o. free_place o c.args.self.now.rows) (sym rank ∙ ap (λ (v : GroupsValue). rank_of c.args.addr v.rooms) c.self.view_is)

@@ -24,7 +24,7 @@ returns-in_default-answer_make c =
     let T : TableValue = record { me = c.self.inside.me; nodes = c.self.inside.nodes; version = c.self.inside.version; places = c.self.inside.places; admin_key = c.self.inside.admin_key; tenants = c.self.inside.tenants; groups = c.self.inside.groups } in
     record {
       reply = inr (make_should T c.args.self.now c.args.addr c.args.spec.now c.in-Some.row.now c.from-nodes.result c.was_made-made.result c.others_living-living.result c.of-reserve.result c.answer_make.result c.self.view_is c.in-Some.ensures c.from-nodes.ensures c.was_made-made.ensures c.others_living-living.ensures c.of-reserve.ensures c.answer_make.ensures);
-      state = λ token. not_made c.args.noticed.now token c.args.addr c.args.spec.now c.answer_make.result c.args.self.now c.in_default-answer_make.not-Done;
+      state = not_made c.args.noticed.now c.args.addr c.args.spec.now c.answer_make.result c.args.self.now c.in_default-answer_make.not-Done;
     }
 
 pub make-requires : goal.make-requires
