@@ -173,18 +173,14 @@ fn read_group(nodes: u8, node: &[u8], tenant: &[u8], group: &[u8]) -> Option<(No
 fn asked_at(keys: &mut Keys, node: NodeId, address: Addr, command: GroupCommand) -> Command
     ensures { result ≡ asked_at node address command }
 {
-    match command {
-        GroupCommand::Fetch(from, most) => Command::Step(Step::Fetch(node, address, from, most)),
-        GroupCommand::Say(message) => {
-            let token = keys.member(address, node);
-            let command = GroupCommand::Say(message);
-            Command::Request(node, Request::of_group(token, address, command))
+    let token = match &command {
+        GroupCommand::Fetch(from, most) => {
+            return Command::Step(Step::Fetch(node, address, *from, *most));
         }
-        _ => {
-            let token = keys.tenant(address.tenant);
-            Command::Request(node, Request::of_group(token, address, command))
-        }
-    }
+        GroupCommand::Say(_) => keys.member(address, node),
+        _ => keys.tenant(address.tenant),
+    };
+    Command::Request(node, Request::of_group(token, address, command))
 }
 
 // A T G, and the words of a command
