@@ -578,16 +578,31 @@ fn errand<'a>(
     Ok(match subcommand.purpose {
         Purpose::Ask(head) => Errand::Ask(node, asked(alloc, head, matches, subcommand.args)?),
         Purpose::Follow => {
-            let asked = asked(alloc, Head::Group(CommandHead::Fetch), matches, subcommand.args)?;
+            let asked = asked(
+                alloc,
+                Head::Group(CommandHead::Fetch),
+                matches,
+                subcommand.args,
+            )?;
             let from = number(matches, "from").unwrap_or(0);
             Errand::Follow(node, asked, from, number(matches, "times"))
         }
         Purpose::Export => Errand::Export(
             node,
-            asked(alloc, Head::Group(CommandHead::Fetch), matches, subcommand.args)?,
+            asked(
+                alloc,
+                Head::Group(CommandHead::Fetch),
+                matches,
+                subcommand.args,
+            )?,
         ),
         Purpose::Import => {
-            let asked = asked(alloc, Head::Group(CommandHead::Say), matches, subcommand.args)?;
+            let asked = asked(
+                alloc,
+                Head::Group(CommandHead::Say),
+                matches,
+                subcommand.args,
+            )?;
             let choice = Choice {
                 is_all: matches.get_flag("all"),
                 from: number(matches, "from").unwrap_or(0),

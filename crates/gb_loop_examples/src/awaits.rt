@@ -26,9 +26,17 @@ static WORDS: [&str; 7] = [
 // Two groups, each with a member at both nodes.
 static PREPARATIONS: [(Head, &str, &str); 5] = [
     (Head::Tenant, "7 4 100 4096 100", "ok"),
-    (Head::Group(CommandHead::Make), "7 1 beb 0,1 100 4096 100", "ok"),
+    (
+        Head::Group(CommandHead::Make),
+        "7 1 beb 0,1 100 4096 100",
+        "ok",
+    ),
     (Head::Group(CommandHead::Open), "7 1", "ok"),
-    (Head::Group(CommandHead::Make), "7 2 beb 0,1 100 4096 100", "ok"),
+    (
+        Head::Group(CommandHead::Make),
+        "7 2 beb 0,1 100 4096 100",
+        "ok",
+    ),
     (Head::Group(CommandHead::Open), "7 2", "ok"),
 ];
 
@@ -233,9 +241,17 @@ static SIXTEEN: [&str; 3] = ["gb_serve", "--nodes=1", "--base-port=26800"];
 // Two groups of a node alone. The second one has a message.
 static LONE: [(Head, &str, &str); 6] = [
     (Head::Tenant, "7 4 100 4096 100", "ok"),
-    (Head::Group(CommandHead::Make), "7 1 beb 0 100 4096 100", "ok"),
+    (
+        Head::Group(CommandHead::Make),
+        "7 1 beb 0 100 4096 100",
+        "ok",
+    ),
     (Head::Group(CommandHead::Open), "7 1", "ok"),
-    (Head::Group(CommandHead::Make), "7 2 beb 0 100 4096 100", "ok"),
+    (
+        Head::Group(CommandHead::Make),
+        "7 2 beb 0 100 4096 100",
+        "ok",
+    ),
     (Head::Group(CommandHead::Open), "7 2", "ok"),
     (Head::Group(CommandHead::Say), "7 2 hi", "said 1"),
 ];

@@ -151,7 +151,11 @@ static PATIENT: [&str; 6] = [
 // A group of one member.
 static ALONE: [(Head, &str, &str); 3] = [
     (Head::Tenant, "7 4 100 65536 100", "ok"),
-    (Head::Group(CommandHead::Make), "7 1 beb 0 100 65536 100", "ok"),
+    (
+        Head::Group(CommandHead::Make),
+        "7 1 beb 0 100 65536 100",
+        "ok",
+    ),
     (Head::Group(CommandHead::Open), "7 1", "ok"),
 ];
 

@@ -26,7 +26,11 @@ const SECRETS: Secrets = Secrets {
 // The requests at each node before the first message, and their replies.
 static PREPARATIONS: [(Head, &str, &str); 3] = [
     (Head::Tenant, "7 4 100 4096 100", "ok"),
-    (Head::Group(CommandHead::Make), "7 1 fallack 0,1,2 100 4096 100", "ok"),
+    (
+        Head::Group(CommandHead::Make),
+        "7 1 fallack 0,1,2 100 4096 100",
+        "ok",
+    ),
     (Head::Group(CommandHead::Open), "7 1", "ok"),
 ];
 
@@ -39,7 +43,11 @@ static SAYS: [[(Head, &str, &str); 1]; 3] = [
 
 static END: [(Head, &str, &str); 2] = [
     (Head::Group(CommandHead::Shut), "7 1", "ok"),
-    (Head::Group(CommandHead::Say), "7 1 more", "refused 6 WrongPhase"),
+    (
+        Head::Group(CommandHead::Say),
+        "7 1 more",
+        "refused 6 WrongPhase",
+    ),
 ];
 
 // The entries of each member's log: origin, number, payload.

@@ -31,15 +31,31 @@ fn has(text: &[u8], part: &[u8]) -> bool {
 // What a member asks at node 0, and its replies: two of the six requests are refused.
 static TRAFFIC: [(Head, &str, &str); 6] = [
     (Head::Tenant, "7 24 100 4096 100", "ok"),
-    (Head::Group(CommandHead::Make), "7 1 allack 0 100 4096 100", "ok"),
-    (Head::Group(CommandHead::Say), "7 1 early", "refused 6 WrongPhase"),
+    (
+        Head::Group(CommandHead::Make),
+        "7 1 allack 0 100 4096 100",
+        "ok",
+    ),
+    (
+        Head::Group(CommandHead::Say),
+        "7 1 early",
+        "refused 6 WrongPhase",
+    ),
     (Head::Group(CommandHead::Open), "7 1", "ok"),
     (Head::Group(CommandHead::Say), "7 1 hello", "said 1"),
-    (Head::Group(CommandHead::Say), "7 2 hello", "refused 2 NoGroup"),
+    (
+        Head::Group(CommandHead::Say),
+        "7 2 hello",
+        "refused 2 NoGroup",
+    ),
 ];
 
 // What a member asks at node 1, which knows no tenant.
-static DENIED_OPEN: [(Head, &str, &str); 1] = [(Head::Group(CommandHead::Open), "8 1", "refused 1 Denied")];
+static DENIED_OPEN: [(Head, &str, &str); 1] = [(
+    Head::Group(CommandHead::Open),
+    "8 1",
+    "refused 1 Denied",
+)];
 
 // Lines of the text of figures after this traffic, and after three bytes that are no packet came to node 1.
 static FIGURES: [&[u8]; 13] = [

@@ -13,7 +13,11 @@ use std::time::Clock;
 // The requests before the first message, and their replies.
 static PREPARATIONS: [(Head, &str, &str); 3] = [
     (Head::Tenant, "7 2 1 4096 1", "ok"),
-    (Head::Group(CommandHead::Make), "7 1 allack 0 1 4096 1", "ok"),
+    (
+        Head::Group(CommandHead::Make),
+        "7 1 allack 0 1 4096 1",
+        "ok",
+    ),
     (Head::Group(CommandHead::Open), "7 1", "ok"),
 ];
 
@@ -42,7 +46,11 @@ fn is_answered<H: Net<Stream = TcpStream> + Clock>(
     let mut member = joined(rt, base_port, NodeId::new(0))?;
     let is_prepared = gives(alloc, &mut member, &PREPARATIONS)?;
     let line = say_line(alloc, bytes)?;
-    let is_told = gives(alloc, &mut member, &[(Head::Group(CommandHead::Say), &line, want)])?;
+    let is_told = gives(
+        alloc,
+        &mut member,
+        &[(Head::Group(CommandHead::Say), &line, want)],
+    )?;
     Ok(is_prepared && is_told)
 }
 

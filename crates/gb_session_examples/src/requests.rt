@@ -2,8 +2,8 @@
 use gb_session::grammar::parse_request;
 use gb_types::token_word::read_token;
 use gb_types::{
-    Action, Addr, GroupCommand, Kind, Module, NodeId, Order, OutOfMemory, Refusal, Request,
-    Spec, TenantRow,
+    Action, Addr, GroupCommand, Kind, Module, NodeId, Order, OutOfMemory, Refusal, Request, Spec,
+    TenantRow,
 };
 use std::alloc::Global;
 use std::test::Fail;

@@ -185,10 +185,8 @@ impl Table {
         ensures { result ≡ is_command_token self.now.me self.now.tenants token.now addr command.now }
     {
         match command {
-            GroupCommand::Make(_)
-            | GroupCommand::Open
-            | GroupCommand::Shut
-            | GroupCommand::Drop => self.is_tenant(token, addr),
+            GroupCommand::Make(_) | GroupCommand::Open | GroupCommand::Shut | GroupCommand::Drop =>
+                self.is_tenant(token, addr),
             GroupCommand::Say(_) | GroupCommand::Fetch(_, _) => self.is_member(token, addr, place),
         }
     }

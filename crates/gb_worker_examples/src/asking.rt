@@ -5,8 +5,8 @@ use gb_cap::{Key, Need};
 use gb_host::{Gate, Host, HostFault, Open, Seat, Tapes};
 use gb_node::{NodeAnswer, NodeEvent, Sent};
 use gb_types::{
-    Action, Addr, GroupCommand, Kind, Module, NewMessage, NodeId, NodeSet, Order, Payload,
-    Refusal, Reply, Request, Spec, TenantRow,
+    Action, Addr, GroupCommand, Kind, Module, NewMessage, NodeId, NodeSet, Order, Payload, Refusal,
+    Reply, Request, Spec, TenantRow,
 };
 use std::alloc::Global;
 use std::sync::Wait;
