@@ -7,9 +7,7 @@ use Rattle.gb_types.specs.Words.{words_of}
 use Rattle.gb_types.specs.declared.address.Addr.{Addr}
 use Rattle.gb_types.specs.declared.command_words.CommandHead.{CommandHead}
 use Rattle.gb_types.specs.declared.command_words.CommandHead.TheVariants as heads
-use Rattle.gb_types.specs.declared.new_message.NewMessage.{NewMessage}
 use Rattle.gb_types.specs.declared.node.NodeId.{NodeId}
-use Rattle.gb_types.specs.declared.request.Action.TheVariants.{Group}
 use Rattle.gb_types.specs.declared.request.GroupCommand.{GroupCommand}
 use Rattle.gb_types.specs.declared.request.GroupCommand.TheVariants as commands
 use Rattle.gb_types.proofs.CommandLemmas.{fetch_reads as own_fetch}
@@ -17,25 +15,14 @@ use Rattle.gb_types.proofs.GroupWordLemmas.{one_address}
 use Rattle.gb_types.proofs.ReadLemmas.{Reads, found, only, reads_one, made_reads, some_same}
 use Rattle.gb_types.proofs.RequestWordLemmas.{IsLongWord}
 use Rattle.gb_schedule.specs.declared.command.Command.{Command}
-use Rattle.gb_schedule.specs.declared.command.Command.TheVariants.{Request, Step}
+use Rattle.gb_schedule.specs.declared.command.Command.TheVariants.{Step}
 use Rattle.gb_schedule.specs.declared.command.Step.{Step as AnyStep}
 use Rattle.gb_schedule.specs.declared.command.Step.TheVariants as steps
 use Rattle.gb_schedule.specs.Grammar.{asked_at, SpellsGroup}
-use Rattle.gb_schedule.specs.Keys.{tenant_token}
 use Rattle.gb_schedule.specs.Numbers.{AreNumbers}
 use Rattle.gb_schedule.proofs.NumbersLemmas.{within}
 use Rattle.gb_schedule.proofs.RowLemmas.{AreGroupWords}
 use Rattle.gb_schedule.proofs.StepLemmas.{same_node, step_is}
-
--- what is neither fetched nor said is asked with the tenant's token
-pub asked_by_tenant : (node : NodeId) (address : Addr) (asked : GroupCommand) → ((from most : ℕ) → asked ≡ commands.Fetch from most → ⊥) → ((message : NewMessage) → asked ≡ commands.Say message → ⊥)
-    → Request node (record { token = tenant_token address.tenant; what = Group address asked }) ≡ asked_at node address asked
-asked_by_tenant node address (commands.Make spec) no_fetch no_say = refl
-asked_by_tenant node address commands.Open no_fetch no_say = refl
-asked_by_tenant node address commands.Shut no_fetch no_say = refl
-asked_by_tenant node address commands.Drop no_fetch no_say = refl
-asked_by_tenant node address (commands.Say message) no_fetch no_say = absurd (no_say message refl)
-asked_by_tenant node address (commands.Fetch from most) no_fetch no_say = absurd (no_fetch from most refl)
 
 -- a node's and a group's own words name them
 pub own_group : (nodes : ℕ) (node : NodeId) (address : Addr) → node.number < nodes → IsShort address.tenant → IsGroup address

@@ -12,7 +12,9 @@ use denote.Ref.{Bor}
 use Rattle.gb_types.specs.Words.{words_of}
 use Rattle.gb_types.proofs.WordLemmas.{each_line_is_its_words}
 use Rattle.gb_types.proofs.ReadLemmas.{Reads, found}
+use Rattle.gb_schedule.specs.declared.command.Command.{Command}
 use Rattle.gb_schedule.specs.declared.command.Command.TheVariants.{Step as StepCommand}
+use Rattle.gb_schedule.specs.declared.command.Step.TheVariants as steps
 use Rattle.gb_schedule.specs.declared.command.Step.{Step}
 use Rattle.gb_types.specs.declared.command_words.CommandHead.{CommandHead}
 use Rattle.gb_types.specs.declared.command_words.CommandHead.TheVariants as commands

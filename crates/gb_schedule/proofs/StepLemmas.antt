@@ -1,5 +1,5 @@
 -- The steps that the words behind a head spell, from the numbers that the words write.
-use Rattle.std.proofs.Common.{◌≡◌, ◌↔◌, ℕ, ◌+◌, ◌<◌, ◌≤◌, ◌^◌, List, [], ◌∷◌, Some, None, drop, get_or, refl, sym, ◌∙◌, decimal, arith, length, ap}
+use Rattle.std.proofs.Common.{◌≡◌, ◌↔◌, ℕ, ◌+◌, ◌<◌, ◌≤◌, ◌^◌, List, [], ◌∷◌, Some, None, drop, get_or, refl, sym, ◌∙◌, decimal, arith}
 use Rattle.std.proofs.lemmas.Fmt.{decimal_injective}
 use Rattle.gb_types.specs.Words.{words_of}
 use Rattle.gb_types.specs.declared.limits.TheConstants.{NODES}

@@ -1,4 +1,4 @@
-use Rattle.std.proofs.Common.{arith}
+use Rattle.std.proofs.Common.{[], arith}
 use Rattle.gb_types.specs.CommandWords.{SpellsFetch}
 use Rattle.gb_types.specs.declared.request.GroupCommand.TheVariants.{Fetch}
 use Rattle.gb_types.proofs.ReadLemmas.{words_and_rest, none_made}
@@ -18,5 +18,5 @@ returns-in_err-node c step = (
 pub returns-in_err-from : goal.returns-in_err-from
 returns-in_err-from c step = (
   λ is. cc (c.from_residual-in_err-from.ensures, is),
-  λ spelt. absurd (nothing_asked _ _ _ _ _ _ _ (words_and_rest c.args.words.now _ 3 (omega arith)) (none_made (λ n. Fetch n.0 n.1) (λ n. SpellsFetch n _) c.in_err-from.ensures) _ spelt),
+  λ spelt. absurd (nothing_asked _ _ _ _ _ _ _ (words_and_rest c.args.words.now (record { ref_ptr = (0, 0); now = [] }) 3 (omega arith)) (none_made (λ n. Fetch n.0 n.1) (λ n. SpellsFetch n _) c.in_err-from.ensures) _ spelt),
 )
