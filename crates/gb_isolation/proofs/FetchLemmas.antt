@@ -1,6 +1,5 @@
 -- A request to fetch a log may come next in any run, and the node answers what the group alone answers.
-use Rattle.std.proofs.Common.{◌≡◌, ℕ, ◌<◌, Bool, true, false, List, [], ◌∷◌, ◌++◌, length, refl, sym, ap, subst, ◌∙◌, inr, arith}
-use Rattle.std.specs.Prelude.{if◌then◌else◌}
+use Rattle.std.proofs.Common.{◌≡◌, ℕ, ◌<◌, true, false, List, [], ◌∷◌, ◌++◌, length, refl, sym, ap, subst, ◌∙◌, inr, arith}
 use Rattle.std.proofs.lemmas.Bool.{and_parts}
 use Rattle.std.proofs.lemmas.List.{append-nil, set-get_or}
 use Rattle.gb_types.specs.declared.address.Addr.{Addr}
@@ -9,10 +8,9 @@ use Rattle.gb_types.specs.declared.plan.Plan.{Plan}
 use Rattle.gb_types.specs.declared.reply.Reply.{Reply}
 use Rattle.gb_types.specs.declared.request.Request.{Request}
 use Rattle.gb_rules.specs.Group.{fetch_answer}
-use Rattle.gb_node.specs.NodeStep.{Turn, running_turn, stopped_answer, turn, IsTurn}
+use Rattle.gb_node.specs.NodeStep.{turn, IsTurn}
 use Rattle.gb_node.specs.NodeValue.{NodeValue, new_node}
 use Rattle.gb_node.specs.Past.{Happened, ComesTo as NodeComesTo, is_stopped, tenants_in}
-use Rattle.gb_node.specs.PastLaw.{PastsSay}
 use Rattle.gb_node.specs.StepLaw.{has_group_token, is_admitted_by, admitted_answer, past_answer}
 use Rattle.gb_node.specs.declared.answer.NodeAnswer.TheVariants.{Reply as Replied}
 use Rattle.gb_node.specs.declared.event.NodeEvent.{NodeEvent}
@@ -22,6 +20,7 @@ use Rattle.gb_cluster.specs.ClusterStep.{NodeActs}
 use Rattle.gb_cluster.specs.ClusterValue.{ClusterValue, cluster, node_at, node_plan}
 use Rattle.gb_cluster.specs.Run.{Did, ComesTo, IsSent, past_at}
 use Rattle.gb_cluster.proofs.NodesLemmas.{have_pasts, stays}
+use Rattle.gb_node.proofs.ReadLemmas.{reads}
 use Rattle.gb_isolation.specs.Isolation.{alone_in}
 use Rattle.gb_isolation.specs.Project.{is_named, is_own_request}
 use Rattle.gb_isolation.specs.RunLaws.{LogsMayBeFetched, fetched_alone, to_fetch}
@@ -29,24 +28,20 @@ use Rattle.gb_isolation.proofs.CommandLemmas.{answers_alike, group_token_is}
 use Rattle.gb_isolation.proofs.RunLemmas.{Laws, behaves}
 use Rattle.gb_isolation.proofs.View.{BehavesAlone, frames_for}
 
--- what a running node makes of a request to fetch: it stays as it is
-fetch_turn : (old : NodeValue) (token : List ℕ) (g : Addr) (from most : ℕ) (reply : Reply) → old.stopped ≡ false → (turn old (Asked (to_fetch token g from most))).answer ≡ Replied reply
-    → IsTurn old (Asked (to_fetch token g from most)) (Replied reply) old
-fetch_turn old token g from most reply runs due = inr (sym due, sym (ap (λ b. (after b).value) runs))
+-- what a node makes of a request to fetch: it stays as it is
+fetch_turn : (old : NodeValue) (token : List ℕ) (g : Addr) (from most : ℕ) (reply : Reply) → (turn old (Asked (to_fetch token g from most))).answer ≡ Replied reply → IsTurn old (Asked (to_fetch token g from most)) (Replied reply) old
+fetch_turn old token g from most reply due = inr (sym due, sym (reads old (turn old event).value event (turn old event).answer (inr (refl, refl)) refl))
   where
     event : NodeEvent
     event = Asked (to_fetch token g from most)
 
-    after : Bool → Turn
-    after b = if b then record { value = old; answer = stopped_answer event } else running_turn old event
-
 -- it may happen in the cluster, which stays as it is
-fetch_acts : (v : ClusterValue) (a : NodeId) (token : List ℕ) (g : Addr) (from most : ℕ) (reply : Reply) → a.number < length v.nodes → (node_at v a).stopped ≡ false
+fetch_acts : (v : ClusterValue) (a : NodeId) (token : List ℕ) (g : Addr) (from most : ℕ) (reply : Reply) → a.number < length v.nodes
     → (turn (node_at v a) (Asked (to_fetch token g from most))).answer ≡ Replied reply → NodeActs v a (Asked (to_fetch token g from most)) (Replied reply) v
-fetch_acts v a token g from most reply placed runs due = record {
+fetch_acts v a token g from most reply placed due = record {
   placed = placed;
   node = node_at v a;
-  turn = fetch_turn (node_at v a) token g from most reply runs due;
+  turn = fetch_turn (node_at v a) token g from most reply due;
   spelt = tt;
   reason = tt;
   after =
@@ -75,20 +70,17 @@ own_answered plan past g request running own = by
     by : past_answer plan past request ≡ admitted_answer plan past request.what
     by = rw (running, admitted) refl
 
-pub may_be_fetched : PastsSay → Laws → LogsMayBeFetched
-may_be_fetched pasts laws plan run v comes g fed a token from most within running own =
+pub may_be_fetched : Laws → LogsMayBeFetched
+may_be_fetched laws plan run v comes g fed a token from most within running own =
     subst (λ (r : Reply). ComesTo plan (record { node = a; event = Asked (to_fetch token g from most); answer = Replied r } ∷ run) v) same
     (goes_on plan run v v (record { node = a; event = Asked (to_fetch token g from most); answer = Replied reply }) comes (request_sent v a (to_fetch token g from most))
-    (fetch_acts v a token g from most reply placed runs (laws.answers.due (node_plan plan a) (past_at a run) (node_at v a) (to_fetch token g from most) there)))
+    (fetch_acts v a token g from most reply placed (laws.answers.due (node_plan plan a) (past_at a run) (node_at v a) (to_fetch token g from most) there)))
   where
     reply : Reply
     reply = past_answer (node_plan plan a) (past_at a run) (to_fetch token g from most)
 
     there : NodeComesTo (node_plan plan a) (past_at a run) (node_at v a)
     there = have_pasts plan run v a comes within
-
-    runs : (node_at v a).stopped ≡ false
-    runs = (pasts (node_plan plan a) (past_at a run) (node_at v a) there).beside.stopped ∙ running
 
     alike : BehavesAlone plan g run
     alike = behaves laws plan g run v comes fed

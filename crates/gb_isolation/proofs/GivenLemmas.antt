@@ -256,7 +256,7 @@ module _ (bounds : Bounds) (plan : NodePlan) (g : Addr) (past : List Happened) (
   own_due request reply named made = by request.what reply named made
     where
       given_by : Reply → Action → List GroupStep
-      given_by reply what = tenant_given g plan.me reply what ++ command_for plan.me what ++ ticked plan.me (is_noticed_after plan past) (if_done reply (makes g what) None)
+      given_by reply what = tenant_given g plan.me reply what ++ (command_for plan.me what ++ ticked plan.me (is_noticed_after plan past) (if_done reply (makes g what) None))
 
       by : (what : Action) (reply : Reply) → is_named g what ≡ true → (alone_from bounds g group (given_by reply what) plan.me.number).spec ≡ option_or (if_done reply (makes g what) None) (made_with g past) → AreDue bounds g group (given_by reply what)
       by (AddTenant row) reply named made = absurd (cc)
