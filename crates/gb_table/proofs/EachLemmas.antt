@@ -1,5 +1,5 @@
 -- What holds of each place holds after each step that keeps it.
-use Rattle.std.proofs.Common.{◌≡◌, ℕ, zero, suc, ◌+◌, List, [], ◌∷◌, ◌++◌, length, map, sym, subst, true, false, inl, inr}
+use Rattle.std.proofs.Common.{◌≡◌, ℕ, zero, suc, List, [], ◌∷◌, ◌++◌, length, map, sym, subst, true, false, inl, inr}
 use Rattle.std.specs.Prelude.{◌&&◌, not, nat_lt, Option, Some, None, if◌then◌else◌}
 use Rattle.std.proofs.Math.ListN.{set}
 use Rattle.std.proofs.lemmas.Bool.{cases_Bool, not-true}
