@@ -1,6 +1,6 @@
 -- How each line moves a schedule on.
 use Rattle.std.proofs.Common.{ℕ, ◌+◌, ◌-◌, ◌≡◌, ◌≢◌, ◌≤◌, ◌<◌, List, [], ◌∷◌, ◌++◌, Option, Some, None, length, reverse, take, refl, sym, ap, ◌∙◌, subst, inl, inr, arith}
-use Rattle.std.specs.Prelude.{Result, Ok, Err, IfOk, IfErr, IsErrAnd, ⊤}
+use Rattle.std.specs.Prelude.{Result, Ok, Err, IfOk, IfErr, IsErrAnd}
 use Rattle.std.specs.Io.KnownBytes.{prepend_known}
 use Rattle.std.specs.Option.{IfSome}
 use Rattle.std.proofs.Math.Seq.{take-append-add}
@@ -50,10 +50,6 @@ next_is P line None left' given p = tt
 next_is P line (Some text) None given p = absurd given
 next_is P line (Some text) (Some rest) given p = (line, lines_of rest, given.first, p)
 
-pub is_left : (P : List ℕ → Type 0) (left : Option (List ℕ)) → IsNext P left → IsNext (λ line. ⊤) left
-is_left P None next = tt
-is_left P (Some text) next = (next.0, next.1, next.2, tt)
-
 -- ---- one line more, and what is handed over
 
 pub at_on : (i b : List ℕ) (n : ℕ) (w after : Option ClusterValue) (left left' now : Option (List ℕ)) (g g' : List ℕ) → IsAt i b n w left now g → TakesLine n w after left left' g g' → IsAt i b (n + 1) after left' now g'
@@ -91,22 +87,17 @@ at_handed i b n w left (Some xs) (Some ys) g g' at (front, grows, is) =
 at_start : (i b : List ℕ) → IsAt i b 1 None (Some i) (Some b) []
 at_start i b = record { written = []; rest = i; left_is = refl; now_is = ap Some (sym (append-nil b)); reaches = reaches_start i }
 
--- nothing is handed over
-pub none_handed : (now : Option (List ℕ)) (g : List ℕ) → HandsOver now now g g
-none_handed None g = ([], tt, refl)
-none_handed (Some xs) g = ([], sym (append-nil xs), refl)
-
 -- ---- the end
 
 -- the schedule ends here
-pub at_end : (i b : List ℕ) (n : ℕ) (w : Option ClusterValue) (left unread unread' now : Option (List ℕ)) (g g' : List ℕ) (end : SimEnd)
-    → IsAt i b n w left now g → Stops (Ok (Some end)) n w left unread g g' → IsOver (Ok end) i b unread' now g'
-at_end i b n w None unread unread' now g g' end at ends = absurd (cc (at.left_is))
-at_end i b n w (Some xs) unread unread' now g g' All at ends =
+pub at_end : (i b : List ℕ) (n : ℕ) (w : Option ClusterValue) (left unread now : Option (List ℕ)) (g g' : List ℕ) (end : SimEnd)
+    → IsAt i b n w left now g → Stops (Ok (Some end)) n w left unread g g' → IsOver (Ok end) i b unread now g'
+at_end i b n w None unread now g g' end at ends = absurd (cc (at.left_is))
+at_end i b n w (Some xs) unread now g g' All at ends =
     let none : at.rest ≡ [] = sym (some_same xs at.rest at.left_is) ∙ ends.0 in
     let r : Reaches i (at.written ++ g) w n [] = reaches_same i (at.written ++ g) w n (lines_of at.rest) [] (ap lines_of none) at.reaches in
     (at.written, at.now_is, (w, n, subst (λ q. Reaches i (at.written ++ q) w n []) (sym ends.1) r))
-at_end i b n w (Some xs) unread unread' now g g' (BadLine k why) at ends =
+at_end i b n w (Some xs) unread now g g' (BadLine k why) at ends =
     let bad = ends.0 in
     let lines_are : lines_of at.rest ≡ bad.0 ∷ bad.1 = ap lines_of (sym (some_same xs at.rest at.left_is)) ∙ bad.2 in
     let text_is : at.written ++ g' ≡ (at.written ++ g) ++ bad_line n = ap (λ q. at.written ++ q) ends.1 ∙ sym (append_assoc at.written g (bad_line n)) in
@@ -242,6 +233,10 @@ over_handed (Err Write) i b unread now now' g over other handed = absurd (other 
 over_handed (Err Read) i b unread now now' g (written, was, off) other handed = (written ++ g, all_handed b written now now' g was handed, off)
 over_handed (Err OutOfMemory) i b unread now now' g (written, was, off) other handed = (written ++ g, all_handed b written now now' g was handed, off)
 
+-- a failed write ended the schedule, so nothing more is written
+pub over_left : (outcome : Result SimEnd SimFault) (i b : List ℕ) (unread now : Option (List ℕ)) (g : List ℕ) → IsOver outcome i b unread now g → outcome ≡ Err Write → IsWrittenTo outcome i b unread now
+over_left outcome i b unread now g over is = rw is (rw is at over)
+
 -- what is known of a schedule from its start on, where its text and what was written before are known
 pub text_so : (outcome : Result SimEnd SimFault) (input before unread now : Option (List ℕ)) → ((i b : List ℕ) → IsAt i b 1 None (prepend_known [] input) before [] → IsWrittenTo outcome i b unread now)
     → IfOk outcome (λ end. IfSome input (λ i. IfSome before (λ b. IsWritten end i b now)))
@@ -256,3 +251,9 @@ fault_so (Ok end) input before unread now so = tt
 fault_so (Err why) None before unread now so = tt
 fault_so (Err why) (Some i) None unread now so = tt
 fault_so (Err why) (Some i) (Some b) unread now so = so i b (at_start i b)
+
+pub cut_so : (outcome : Result SimEnd SimFault) (why : SimFault) (input before unread now now' : Option (List ℕ)) (g : List ℕ) → ((i b : List ℕ) → IsAt i b 1 None (prepend_known [] input) before [] → IsOver outcome i b unread now g)
+    → outcome ≢ Err Write → (why ≡ Write) × IsCutShort now now' g → IfSome input (λ i. IfSome before (λ b. IsWrittenUpTo why i b unread now'))
+cut_so outcome why None before unread now now' g so other cut = tt
+cut_so outcome why (Some i) None unread now now' g so other cut = tt
+cut_so outcome why (Some i) (Some b) unread now now' g so other cut = rw cut.0 (over_cut outcome i b unread now now' g (so i b (at_start i b)) other cut.1)

@@ -10,7 +10,7 @@ loop-run-preserved g c = record {
 
 pub returns-in-Some : goal.returns-in-Some
 returns-in-Some g c = λ input before start.
-    at_end input before _ _ _ _ _ _ _ _ _ (at_handed input before _ _ _ _ _ _ _ (c.loop-run.invariant.at input before start) c.in_ok-hand_over_in_time.ensures.ok) (rw c.in-Some.is at c.in_ok-end.ensures.stops)
+    at_end input before _ _ _ _ _ _ _ _ (at_handed input before _ _ _ _ _ _ _ (c.loop-run.invariant.at input before start) c.in_ok-hand_over_in_time.ensures.ok) (rw c.in-Some.is at c.in_ok-end.ensures.stops)
 
 pub returns-in_err-end : goal.returns-in_err-end
 returns-in_err-end g c = λ input before start.

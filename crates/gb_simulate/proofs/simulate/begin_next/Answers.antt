@@ -32,6 +32,6 @@ returns-in_ok-begin-in-Some-read_start-clause-goes_on g c =
       given = rw c.line-line.ensures (c.in_ok-end.ensures.given ok);
       short = rw c.line-line.ensures (c.in_ok-end.ensures.short ok);
       few = c.in_ok-end.ensures.few ok;
-      goes = inr (start, (c.in-Some-read_start.ensures.spelt start).0 refl, ap Some c.in_ok-begin-in-Some-read_start.ensures.started, refl);
+      goes = inr (start, (c.in-Some-read_start.ensures.spelt start).0 refl, (ap Some c.in_ok-begin-in-Some-read_start.ensures.started, refl));
       answered = c.in_ok-begin-in-Some-read_start.ensures.ok ∙ ap (λ q. q ++ ended (codes "ok")) (c.in_ok-end.ensures.gathered ok);
     }
