@@ -1,7 +1,7 @@
 // The text of a list of as many groups as a list may have, at a node that has one more.
 use crate::clients::{Member, end_server, gives, joined, reply, reply_to, serves};
 use gb_session::Head;
-use gb_types::NodeId;
+use gb_types::{CommandHead, NodeId};
 use std::alloc::Global;
 use std::net::{Net, TcpStream};
 use std::rt::HostRuntime;
@@ -14,11 +14,11 @@ static TENANT: [(Head, &str, &str); 1] = [(Head::Tenant, "7 256 1 5 1", "ok")];
 
 // What is done in three of the groups, and the replies.
 static DEEDS: [(Head, &str, &str); 5] = [
-    (Head::Open, "7 3", "ok"),
-    (Head::Say, "7 3 hello", "said 1"),
-    (Head::Open, "7 5", "ok"),
-    (Head::Shut, "7 5", "ok"),
-    (Head::Drop, "7 6", "ok"),
+    (Head::Group(CommandHead::Open), "7 3", "ok"),
+    (Head::Group(CommandHead::Say), "7 3 hello", "said 1"),
+    (Head::Group(CommandHead::Open), "7 5", "ok"),
+    (Head::Group(CommandHead::Shut), "7 5", "ok"),
+    (Head::Group(CommandHead::Drop), "7 6", "ok"),
 ];
 
 // Makes groups 0 to 64 of a tenant, and does something in three of them. Returns true if each reply was right.
@@ -26,7 +26,7 @@ fn makes(alloc: Global, member: &mut Member) -> Option<bool> {
     let mut are_made = gives(alloc, member, &TENANT).ok()?;
     for group in 0..65u16 {
         let line = format!(in alloc; "7 {group} beb 0 1 5 1").ok()?;
-        let made = reply(alloc, member, Head::Make, &line).ok()?;
+        let made = reply(alloc, member, Head::Group(CommandHead::Make), &line).ok()?;
         are_made = made.as_slice() == b"ok".as_slice() && are_made;
     }
     Some(gives(alloc, member, &DEEDS).ok()? && are_made)
