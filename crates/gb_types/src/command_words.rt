@@ -1,5 +1,5 @@
 //! The words of commands in groups: what a command begins with, and the words that spell what it asks.
-ghost use Rattle.std.specs.Prelude.{◌≡◌, ◌↔◌, ℕ, [], Some, IfOk, map};
+ghost use Rattle.std.specs.Prelude.{◌≡◌, ◌↔◌, ℕ, [], Some, IfOk, IfErr, map};
 ghost use Rattle.gb_types.specs.CommandWords.{head_word, SpellsFetch, SpellsCommand};
 ghost use Rattle.gb_types.specs.declared.command_words.CommandHead.{CommandHead};
 ghost use Rattle.gb_types.specs.declared.command_words.CommandHead.TheVariants.{Make as MakeHead, Say as SayHead, Fetch as FetchHead};
@@ -115,14 +115,15 @@ fn read_alone(alone: GroupCommand, words: &[&[u8]]) -> Option<GroupCommand>
 
 /// Returns the command that a head and the words behind the group's address spell: the five words of a group's parameters for
 /// `make`, no word for `open`, `shut` and `drop`, the one or two words of a message for `say`, and two numbers for `fetch`, the place of
-/// the first entry and the most entries. `Ok(None)` if they spell none. `Err` if there is no memory for a payload.
+/// the first entry and the most entries. `Ok(None)` if they spell none. `Err` if there is no memory for the payload of a message.
 pub fn read_command(
     alloc: Global,
     head: CommandHead,
     words: &[&[u8]],
 ) -> Result<Option<GroupCommand>, OutOfMemory>
-    ensures { IfOk result (λ found. (command : TheCommand) → (found ≡ Some command)
+    ensures spelt { IfOk result (λ found. (command : TheCommand) → (found ≡ Some command)
         ↔ SpellsCommand head command (map (λ word. word.now) words.now)) }
+    ensures memory { IfErr result (λ _. head ≡ SayHead) }
 {
     match head {
         CommandHead::Make => Ok(read_make(words)),

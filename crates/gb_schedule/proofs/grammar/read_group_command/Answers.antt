@@ -7,7 +7,7 @@ use Rattle.gb_schedule.proofs.grammar.read_group_command.Goals as goal
 
 pub returns : goal.returns
 returns c =
-    let reads = rw c.in-Some-2.is at c.in_ok-command.ensures in
+    let reads = rw c.in-Some-2.is at c.in_ok-command.ensures.spelt in
     rw c.asked_at.ensures (asked_reads _ _ _ _ _ _ _ _ _ _ (words_and_rest c.args.words.now _ 3 (omega arith)) c.in-Some.ensures reads)
 
 pub returns-in_default : goal.returns-in_default
@@ -21,7 +21,7 @@ returns-in_default-read_group c command = (
 
 pub returns-in_default-2 : goal.returns-in_default-2
 returns-in_default-2 c command =
-    let reads = rw c.in_default-2.is at c.in_ok-command.ensures in (
+    let reads = rw c.in_default-2.is at c.in_ok-command.ensures.spelt in (
       λ is. cc is,
       λ spelt. absurd (nothing_asked _ _ _ _ _ _ _ (words_and_rest c.args.words.now (record { ref_ptr = (0, 0); now = [] }) 3 (omega arith)) reads command spelt),
     )

@@ -6,7 +6,7 @@ use Rattle.gb_session.proofs.grammar.read_group.Goals as goal
 
 pub returns : goal.returns
 returns c =
-    let read = rw (c.in-Some-2.is) at c.in_ok-command.ensures in
+    let read = rw (c.in-Some-2.is) at c.in_ok-command.ensures.spelt in
     rw (c.of_group.ensures) (group_reads _ _ _ _ _ _ _ _ (words_and_rest c.args.words.now _ 2 (omega arith)) c.in-Some.ensures read)
 
 pub returns-in_default : goal.returns-in_default
@@ -17,5 +17,5 @@ returns-in_default-read_address c = grind (arith, common_steps)
 
 pub returns-in_default-2 : goal.returns-in_default-2
 returns-in_default-2 c =
-    let reads = rw (c.in_default-2.is) at c.in_ok-command.ensures in
+    let reads = rw (c.in_default-2.is) at c.in_ok-command.ensures.spelt in
     no_command _ _ _ _ _ _ (words_and_rest c.args.words.now (record { ref_ptr = (0, 0); now = [] }) 2 (omega arith)) reads
