@@ -58,8 +58,8 @@ class Source:
 
 
 def read_use(text, uses):
-    """Notes what a line `use Rattle.crate.specs.File.{a, b as c}` brings in: its names with the path that each stands for."""
-    found = re.match(r"(?:pub )?(?:ghost )?use Rattle\.(.*?)(?:\.\{(.*)\})?(?: as (\S+?))?;?$", text.strip())
+    """Notes what a line `use Rattle.crate.specs.File.{a, b as c, Inner.d}` brings in: its names with the path that each stands for."""
+    found = re.match(r"(?:unfoldable )?(?:pub )?(?:ghost )?use Rattle\.(.*?)(?:\.\{(.*)\})?(?: as (\S+?))?;?$", text.strip())
     if not found:
         return
     path, names, alias = found.groups()
@@ -67,8 +67,9 @@ def read_use(text, uses):
         uses[alias or path.split(".")[-1]] = (path, None)
         return
     for part in names.split(","):
-        words = part.split(" as ")
-        uses[words[-1].strip()] = (path, words[0].strip())
+        words = part.strip().split(" as ")
+        inner, _, name = words[0].rpartition(".")
+        uses[words[-1] if len(words) > 1 else name] = (f"{path}.{inner}" if inner else path, name)
 
 
 def read_specs(file):
@@ -78,7 +79,7 @@ def read_specs(file):
             text = line.rstrip("\n")
             if in_module and text.startswith("  "):
                 text = text[2:]
-            if text.startswith(("use ", "pub use ")):
+            if text.startswith(("use ", "pub use ", "unfoldable pub use ")):
                 read_use(text, uses)
                 current = None
             elif text.startswith("module "):
@@ -202,7 +203,7 @@ class Walk:
         crate = parts[0]
         if not os.path.isdir(f"{CRATES}/{crate}"):
             if name is not None:
-                self.library.add((path, name))
+                self.library.add(name)
             return
         if len(parts) < 2 or parts[1] != "specs":
             return
