@@ -1,13 +1,13 @@
 //! What stands for a key, for a token, and for a request with both.
 ghost use Rattle.std.specs.Prelude.{◌≡◌};
 ghost use Rattle.std.specs.Option.{option_copied};
-ghost use Rattle.gb_table.specs.Admission.{command_need};
 ghost use Rattle.gb_redact.specs.Redacted.{redacted_key, redacted_token, key_in, token_for, redacted_request};
 
 use gb_cap::hmac::hmac;
 use gb_cap::token::{admits, token as token_for};
 use gb_cap::{Key, Need, Token};
-use gb_types::{Action, Addr, GroupCommand, NodeId, Request, TenantId, TenantRow};
+use gb_table::need::command_need;
+use gb_types::{Action, NodeId, Request, TenantId, TenantRow};
 
 /// Returns the key that stands for `key`: HMAC-SHA-256 of the word `redacted` under it. Nobody who has it alone can compute the other.
 pub fn redacted_key(key: &Key) -> Key
@@ -37,19 +37,6 @@ fn key_in(rows: &[TenantRow], tenant: TenantId) -> Option<&Key>
     }
 }
 
-/// Returns what the token of a command in the group with this address is for, at the node `me`.
-fn need_of(me: NodeId, addr: Addr, command: &GroupCommand) -> Need
-    ensures { result ≡ command_need me addr command.now }
-{
-    match command {
-        GroupCommand::Make(_) | GroupCommand::Open | GroupCommand::Shut | GroupCommand::Drop =>
-            Need::Tenant(addr.tenant),
-        GroupCommand::Say(_) | GroupCommand::Fetch(_, _) => {
-            Need::Member(addr.tenant, addr.group, me)
-        }
-    }
-}
-
 /// Returns what stands for the token of a request for this.
 fn token_of(admin: &Key, me: NodeId, rows: &[TenantRow], what: &Action, token: &Token) -> Token
     ensures { result ≡ token_for admin.now me rows.now what.now token.now }
@@ -57,7 +44,7 @@ fn token_of(admin: &Key, me: NodeId, rows: &[TenantRow], what: &Action, token: &
     match what {
         Action::AddTenant(_) => redacted_token(Need::Admin, Some(admin), token),
         Action::Group(addr, command) => {
-            let need = need_of(me, *addr, command);
+            let need = command_need(me, *addr, command);
             redacted_token(need, key_in(rows, addr.tenant), token)
         }
     }

@@ -12,6 +12,7 @@ pub mod groups;
 mod index;
 pub mod listing;
 mod lookup;
+pub mod need;
 mod packing;
 pub mod place_set;
 mod places;

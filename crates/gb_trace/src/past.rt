@@ -4,7 +4,7 @@ ghost use Rattle.std.specs.Option.{option_copied};
 ghost use Rattle.gb_rules.specs.Tenant.{row_of};
 ghost use Rattle.gb_node.specs.Past.{added, tenants_in};
 ghost use Rattle.gb_node.specs.Past as occurred;
-ghost use Rattle.gb_table.specs.Admission.{command_need, has_group_token, is_by_row};
+ghost use Rattle.gb_table.specs.Admission.{has_group_token, is_by_row};
 ghost use Rattle.gb_types.specs.declared.spec.TenantRow.{TenantRow as RowValue};
 ghost use Rattle.gb_node.specs.declared.answer.NodeAnswer.TheVariants.{Reply as Replied};
 ghost use Rattle.gb_node.specs.declared.event.NodeEvent.TheVariants.{Request as Asked};
@@ -18,6 +18,7 @@ use gb_cap::token::admits;
 use gb_cap::{Need, Token};
 use gb_node::{Halted, NodeAnswer, NodeEvent};
 use gb_rules::address::is_same;
+use gb_table::need::command_need;
 use gb_types::{Action, Addr, GroupCommand, NodeId, Plan, Reply, Request, Spec, TenantRow};
 
 /// Returns the row of the tenant, if the request with its reply added it.
@@ -60,19 +61,6 @@ fn is_token(need: Need, token: &Token, row: Option<&TenantRow>) -> bool
     }
 }
 
-/// Returns what the token of a command in the group with this address is for, at the node `a`.
-fn need_of(a: NodeId, addr: Addr, command: &GroupCommand) -> Need
-    ensures { result ≡ command_need a addr command.now }
-{
-    match command {
-        GroupCommand::Make(_) | GroupCommand::Open | GroupCommand::Shut | GroupCommand::Drop =>
-            Need::Tenant(addr.tenant),
-        GroupCommand::Say(_) | GroupCommand::Fetch(_, _) => {
-            Need::Member(addr.tenant, addr.group, a)
-        }
-    }
-}
-
 /// Returns true if the request names the group and has the token that it needs at the node `a`. `row` is the row of the group's
 /// tenant at the node.
 pub(crate) fn is_own_by(addr: Addr, a: NodeId, row: Option<&TenantRow>, request: &Request) -> bool
@@ -81,7 +69,7 @@ pub(crate) fn is_own_by(addr: Addr, a: NodeId, row: Option<&TenantRow>, request:
     match &request.what {
         Action::AddTenant(_) => false,
         Action::Group(named, command) => {
-            is_same(addr, *named) && is_token(need_of(a, *named, command), &request.token, row)
+            is_same(addr, *named) && is_token(command_need(a, *named, command), &request.token, row)
         }
     }
 }

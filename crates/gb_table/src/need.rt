@@ -1,0 +1,19 @@
+//! What the tokens of commands are for.
+ghost use Rattle.std.specs.Prelude.{◌≡◌};
+ghost use Rattle.gb_table.specs.Admission.{command_need};
+
+use gb_cap::Need;
+use gb_types::{Addr, GroupCommand, NodeId};
+
+/// Returns what the token of a command in the group with this address is for, at the node `me`.
+pub fn command_need(me: NodeId, addr: Addr, command: &GroupCommand) -> Need
+    ensures { result ≡ command_need me addr command.now }
+{
+    match command {
+        GroupCommand::Make(_) | GroupCommand::Open | GroupCommand::Shut | GroupCommand::Drop =>
+            Need::Tenant(addr.tenant),
+        GroupCommand::Say(_) | GroupCommand::Fetch(_, _) => {
+            Need::Member(addr.tenant, addr.group, me)
+        }
+    }
+}
