@@ -1,6 +1,6 @@
 //! The rooms of groups. A room is a tenant's number for a group; the groups that are made under it are its generations.
 ghost use Rattle.std.specs.Prelude.{◌≡◌};
-ghost use Rattle.gb_rules.specs.Room.{name_of, is_same_room, is_reached_by, is_other_generation, can_name};
+ghost use Rattle.gb_rules.specs.Room.{name_of, is_same_room, is_other_generation, can_name};
 
 use crate::address::is_same;
 use gb_types::limits::PLACES;
@@ -31,13 +31,6 @@ pub fn is_same_room(addr: Addr, other: Addr) -> bool
     ensures { result ≡ is_same_room addr other }
 {
     addr.tenant == other.tenant && addr.group == other.group
-}
-
-/// Returns true if `other` is in the room of `addr`, and its generation is that of `addr` or a later one.
-pub fn is_reached_by(addr: Addr, other: Addr) -> bool
-    ensures { result ≡ is_reached_by addr other }
-{
-    is_same_room(addr, other) && addr.generation <= other.generation
 }
 
 /// Returns true if `other` is in the room of `addr`, with another generation.
