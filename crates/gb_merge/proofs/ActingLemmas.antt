@@ -55,7 +55,7 @@ record HasText (packets : List Posted) (k : ℕ) (bytes : List ℕ) : Type 0 whe
   there : packet_numbered packets k ≡ Some packet
   text : packet.text ≡ bytes
 
-text_got : (packets : List Posted) (k : ℕ) (bytes : List ℕ) → slice_get (texts packets) k ≡ Some bytes → (p : Posted) × (slice_get packets k ≡ Some p) × (p.text ≡ bytes)
+pub text_got : (packets : List Posted) (k : ℕ) (bytes : List ℕ) → slice_get (texts packets) k ≡ Some bytes → (p : Posted) × (slice_get packets k ≡ Some p) × (p.text ≡ bytes)
 text_got [] k bytes at = absurd (cc)
 text_got (q ∷ packets) zero bytes at = (q, refl, let e : q.text ≡ bytes = cc in e)
 text_got (q ∷ packets) (suc k) bytes at = text_got packets k bytes at
@@ -78,7 +78,7 @@ good_is pasts plan run v a bytes comes within =
     by was (Ok c) = λ i. is_ok (if nat_eq c.to (was.beside.me i).number && nat_lt c.from (was.beside.nodes i) then Ok c else Err Node)
 
 -- a good packet says for which node it is
-goal_is : (plan : Plan) (a : NodeId) (bytes : List ℕ) (c : Content) → read plan.cluster_key bytes ≡ c ∷ [] → is_good plan a bytes ≡ true → c.to ≡ a.number
+pub goal_is : (plan : Plan) (a : NodeId) (bytes : List ℕ) (c : Content) → read plan.cluster_key bytes ≡ c ∷ [] → is_good plan a bytes ≡ true → c.to ≡ a.number
 unfolding is_good
 goal_is plan a bytes c says good = by (reading plan.cluster_key bytes) (sym (read_in plan.cluster_key bytes) ∙ says) good
   where

@@ -1,19 +1,12 @@
 -- A cluster that is given merged events again, and refuses nothing for lack of memory, gives the entries' answers.
-use Rattle.std.proofs.Common.{◌≡◌, ℕ, zero, suc, ◌+◌, ◌<◌, List, [], ◌∷◌, ◌++◌, length, map, Bool, true, false, Option, Some, None, inl, inr, refl, sym, ◌∙◌, ap, ap₂, subst, arith, append_assoc}
-use Rattle.std.specs.Prelude.{slice_get, slice_set, nat_eq, nat_lt, ◌&&◌, if◌then◌else◌, is_ok, option_map, Result, Ok, Err}
-use Rattle.std.proofs.lemmas.Bool.{eqb-true}
+use Rattle.std.proofs.Common.{◌≡◌, ℕ, zero, suc, ◌+◌, ◌<◌, List, [], ◌∷◌, ◌++◌, length, map, true, false, Option, Some, None, inl, inr, refl, sym, ◌∙◌, ap, ap₂, subst, append_assoc}
+use Rattle.std.specs.Prelude.{slice_get, slice_set, option_map}
 use Rattle.std.proofs.lemmas.List.{append-nil, map-append, reverse-append, length-append, length-map}
 use Rattle.gb_types.specs.declared.node.NodeId.{NodeId}
 use Rattle.gb_types.specs.declared.plan.Plan.{Plan}
 use Rattle.gb_types.proofs.SameLemmas.{same_number}
-use Rattle.gb_frame.specs.declared.fault.PacketFault.{PacketFault}
-use Rattle.gb_frame.specs.declared.fault.PacketFault.TheVariants.{Node}
-use Rattle.gb_frame.specs.Packet.{Content}
-use Rattle.gb_frame.specs.Reading.{reading}
-use Rattle.gb_node.specs.NodeStep.{if_here}
-use Rattle.gb_node.specs.NodeValue.{NodeValue, new_node}
+use Rattle.gb_node.specs.NodeValue.{NodeValue}
 use Rattle.gb_node.specs.Past.{read}
-use Rattle.gb_node.proofs.PacketLemmas.{packet_in, read_in}
 use Rattle.gb_node.specs.PastLaw.{PastsSay}
 use Rattle.gb_node.specs.SendLaw.{SendersRun, StarvedSays}
 use Rattle.gb_node.specs.declared.answer.NodeAnswer.{NodeAnswer}
@@ -24,7 +17,7 @@ use Rattle.gb_node.specs.declared.event.NodeEvent.TheVariants.{Request as Asked,
 use Rattle.gb_node.specs.declared.tape.TapeEntry.{TapeEntry}
 use Rattle.gb_cluster.specs.Links.{PacketsAreHonest}
 use Rattle.gb_cluster.specs.ClusterStep.{NodeActs, posted, answer_of, packet_numbered, IsStep}
-use Rattle.gb_cluster.specs.ClusterValue.{ClusterValue, cluster, new_cluster, node_plan, node_at}
+use Rattle.gb_cluster.specs.ClusterValue.{ClusterValue, cluster, new_cluster, node_at}
 use Rattle.gb_cluster.specs.Run.{Did, ComesTo, IsOf, IsSent}
 use Rattle.gb_cluster.specs.declared.answer.Answer.{Answer}
 use Rattle.gb_cluster.specs.declared.answer.Answer.TheVariants.{Reply as AnswerReply, Taken as AnswerTaken, Sent as AnswerSent, Ticked as AnswerTicked, Halted as AnswerHalted, NoPacket, NotNoise}
@@ -34,12 +27,13 @@ use Rattle.gb_cluster.specs.declared.event.Event.TheVariants.{At, Arrive}
 use Rattle.gb_cluster.specs.declared.posted.Posted.{Posted}
 use Rattle.gb_cluster.proofs.NodesLemmas.{stays}
 use Rattle.gb_isolation.specs.Isolation.{wants_memory}
+use Rattle.gb_isolation.proofs.MomentLemmas.{back, placed}
 use Rattle.gb_merge.specs.Front.{IsMergedFront}
 use Rattle.gb_merge.specs.Interleaving.{Pick, is_good, sent_by, text_numbered, IsEventOf, AreEvents}
 use Rattle.gb_merge.specs.Merged.{told, did, run_of, Replays, AreFed}
 use Rattle.gb_merge.specs.Rerun.{Leads, AreTold, answers_to, IsRerun}
 use Rattle.gb_merge.specs.Woven.{is_refused, ArePlaced}
-use Rattle.gb_merge.proofs.ActingLemmas.{text_of, texts, acts, turned, fed_is, posted_is, told_own}
+use Rattle.gb_merge.proofs.ActingLemmas.{text_of, texts, text_got, goal_is, acts, turned, fed_is, posted_is, told_own}
 
 -- Packets that stay where they are.
 
@@ -73,33 +67,13 @@ told_more packets more NotNoise g is = absurd (cc)
 
 -- A packet that arrives.
 
-text_got : (packets : List Posted) (k : ℕ) (bytes : List ℕ) → slice_get (texts packets) k ≡ Some bytes → (p : Posted) × (slice_get packets k ≡ Some p) × (p.text ≡ bytes)
-text_got [] k bytes at = absurd (cc)
-text_got (q ∷ packets) zero bytes at = (q, refl, let e : q.text ≡ bytes = cc in e)
-text_got (q ∷ packets) (suc k) bytes at = text_got packets k bytes at
-
--- a packet that a node takes for its own says so
-says_goal : (plan : Plan) (a : NodeId) (bytes : List ℕ) (c : Content) → read plan.cluster_key bytes ≡ c ∷ [] → is_good plan a bytes ≡ true → c.to ≡ a.number
-unfolding is_good
-says_goal plan a bytes c says good = by (reading plan.cluster_key bytes) (sym (read_in plan.cluster_key bytes) ∙ says) good
-  where
-    right : (d : Content) (t u : Bool) → nat_eq d.to a.number ≡ t → is_ok (if t && u then Ok d else Err Node) ≡ true → d.to ≡ a.number
-    right d true u is so = eqb-true d.to a.number is
-    right d false u is so = absurd (cc)
-
-    by : (r : Result Content PacketFault) → packet_in r ≡ c ∷ [] → is_ok (if_here (new_node (node_plan plan a)) r) ≡ true → c.to ≡ a.number
-    by (Err fault) is so = absurd (cc)
-    by (Ok d) is so =
-        let same : d ≡ c = cc in
-        ap (λ (x : Content). x.to) (sym same) ∙ right d (nat_eq d.to a.number) (nat_lt d.from plan.nodes) refl so
-
 arrives : PacketsAreHonest → (plan : Plan) (run : List Did) (w : ClusterValue) (a : NodeId) (k : ℕ) (bytes : List ℕ) → ComesTo plan run w → text_numbered (texts w.packets) k ≡ Some bytes → is_good plan a bytes ≡ true → (p : Posted) × (packet_numbered w.packets k ≡ Some p) × (a ≡ p.to) × (Came bytes ≡ Came p.text)
 arrives honest plan run w a zero bytes comes at good = absurd (cc)
 arrives honest plan run w a (suc k) bytes comes at good =
     let got = text_got w.packets k bytes at in
     let h = honest plan run w comes k got.0 got.1 in
     let reads : read plan.cluster_key bytes ≡ h.content ∷ [] = ap (read plan.cluster_key) (sym got.2) ∙ h.text in
-    (got.0, got.1, sym (same_number got.0.to a (sym h.goal ∙ says_goal plan a bytes h.content reads good)), ap (λ (b : List ℕ). Came b) (sym got.2))
+    (got.0, got.1, sym (same_number got.0.to a (sym h.goal ∙ goal_is plan a bytes h.content reads good)), ap (λ (b : List ℕ). Came b) (sym got.2))
 
 -- an entry's event as the cluster's
 abbrev OfEvent : ClusterValue → NodeId → NodeEvent → NodeAnswer → Event → Type 0
@@ -211,15 +185,6 @@ these laws honest plan run w v last (e ∷ events) (y ∷ answers) (p ∷ picks)
     }
 
 -- Each entry was merged at one of the nodes.
-
-pub back : (plan : Plan) (later earlier : List Did) (v : ClusterValue) → ComesTo plan (later ++ earlier) v → (w : ClusterValue) × ComesTo plan earlier w
-unfolding ComesTo
-back plan [] earlier v comes = (v, comes)
-back plan (d ∷ later) earlier v comes = back plan later earlier comes.0 comes.1
-
-pub placed : (plan : Plan) (d : Did) (run : List Did) (v : ClusterValue) → ComesTo plan (d ∷ run) v → d.node.number < plan.nodes
-unfolding ComesTo
-placed plan d run v comes = let at = comes.3.placed in let count = (stays plan run comes.0 comes.1).count in omega (arith, at, count)
 
 placed_in : (plan : Plan) (picks : List Pick) (behind : List Did) (v : ClusterValue) → ComesTo plan (run_of picks ++ behind) v → ArePlaced plan.nodes picks
 unfolding ArePlaced
