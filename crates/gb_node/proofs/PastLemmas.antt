@@ -69,7 +69,7 @@ beyond test new bound n (f ∷ fs) far none =
 -- Links.
 
 -- no frame is acknowledged before it is packed
-none_later : (key : List ℕ) (b n : ℕ) (past : List Happened) → length (frames_to key b past) < n → is_acked key b n past ≡ false
+pub none_later : (key : List ℕ) (b n : ℕ) (past : List Happened) → length (frames_to key b past) < n → is_acked key b n past ≡ false
 unfolding is_acked frames_to
 none_later key b n [] far = refl
 none_later key b n (h ∷ past) far =

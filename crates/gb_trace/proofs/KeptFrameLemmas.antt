@@ -4,7 +4,6 @@ use Rattle.std.specs.Prelude.{sum}
 use Rattle.std.specs.List.{list_any}
 use Rattle.std.proofs.Math.Bool.{or-false, and-false, or-true}
 use Rattle.std.proofs.lemmas.Bool.{eqb-true, eqb-false, ltb-true, ltb-false, lt-ltb, le-ltb, le-leb}
-use Rattle.std.proofs.lemmas.Bool.Decides.{nat_tests}
 use Rattle.std.proofs.lemmas.List.{append-nil, map-append, take_all, take-append-le, get_or_append_left, length-map, length-set, get_or-set_same, get_or-set_other}
 use Rattle.std.proofs.lemmas.List.Sums.{sum_by-append}
 use Rattle.std.proofs.Math.Seq.{get_or-append_seam}
@@ -15,6 +14,7 @@ use Rattle.gb_frame.specs.declared.item.Item.{Item}
 use Rattle.gb_frame.specs.Packet.{Content}
 use Rattle.gb_link.specs.Ack.{covers}
 use Rattle.gb_node.specs.Past.{Happened, came, packed_for, frames_to, is_ack, is_acked, is_frame}
+use Rattle.gb_node.proofs.PastLemmas.{none_later}
 use Rattle.gb_isolation.specs.Project.{group_items, has_come}
 use Rattle.gb_trace.specs.declared.frames.Frames.{Frames}
 use Rattle.gb_trace.specs.Kept.{AreCovered, ArePlaces, HasNoFrames, IsFront, KeepsFrames}
@@ -68,18 +68,6 @@ unfolding is_acked
 acked_took key b n h past c one from le =
     ap (λ t. is_acked key b n past || (nat_le n (length (frames_to key b past)) && t)) (said b n (came key h.event h.answer) c one from)
     ∙ ap (λ t. is_acked key b n past || (t && covers c.base c.mask n)) (le-leb n (length (frames_to key b past)) le)
-
-pub unacked_beyond : (key : List ℕ) (b n : ℕ) (past : List Happened) → length (frames_to key b past) < n → is_acked key b n past ≡ false
-unfolding is_acked frames_to
-unacked_beyond key b n [] lt = refl
-unacked_beyond key b n (h ∷ past) lt =
-    let sizes : length (frames_to key b past ++ packed_for key b h.event h.answer) ≡ length (frames_to key b past) + length (packed_for key b h.event h.answer) = length-append (frames_to key b past) (packed_for key b h.event h.answer) in
-    let less : length (frames_to key b past) < n = omega (arith, lt, sizes) in
-    ap (λ t. t || (nat_le n (length (frames_to key b past)) && list_any (is_ack b n) (came key h.event h.answer))) (unacked_beyond key b n past less)
-    ∙ ap (λ t. t && list_any (is_ack b n) (came key h.event h.answer)) (beyond n (length (frames_to key b past)) less)
-  where
-    beyond : (m k : ℕ) → k < m → nat_le m k ≡ false
-    beyond m k less = grind (arith, nat_tests)
 
 -- Frames that came.
 
@@ -268,4 +256,4 @@ frames_pack plan g b h past x k old new packed unheard is counts places total ac
         ap (λ marks. get_or marks (length old.counts.items) false) acked
         ∙ (ap (λ n. get_or (old.acked.items ++ false ∷ []) n false) (sym was.many)
         ∙ (get_or-append_seam old.acked.items false [] false
-        ∙ sym (acked_same plan.cluster_key b (length old.counts.items + 1) h past unheard ∙ unacked_beyond plan.cluster_key b (length old.counts.items + 1) past (omega (arith, many)))))
+        ∙ sym (acked_same plan.cluster_key b (length old.counts.items + 1) h past unheard ∙ none_later plan.cluster_key b (length old.counts.items + 1) past (omega (arith, many)))))
