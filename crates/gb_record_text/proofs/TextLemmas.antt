@@ -4,7 +4,7 @@ use Rattle.std.proofs.lemmas.List.{append_assoc, append-nil}
 use Rattle.std.specs.FinSet as set
 use Rattle.std.specs.List.{join_with_byte}
 use Rattle.std.specs.Ordering.{nat_cmp}
-use Rattle.std.specs.Prelude.{codes, decimal, map, Result, Ok, Err, OnOk}
+use Rattle.std.specs.Prelude.{codes, decimal, map}
 use Rattle.gb_types.specs.MembersWord.{members_word}
 use Rattle.gb_types.specs.Rising.{rising, rising_from}
 use Rattle.gb_record_text.specs.RecordText.{each_after_comma}
@@ -22,10 +22,6 @@ members_none s is = ap (λ ns. join_with_byte 44 (map decimal ns)) (rising_all s
 
 pub members_some : (s : set.FinSet nat_cmp) (n : ℕ) (rest : List ℕ) → rising_from s 0 ≡ n ∷ rest → members_word s ≡ decimal n ++ each_after_comma rest
 members_some s n rest is = ap (λ ns. join_with_byte 44 (map decimal ns)) (rising_all s ∙ is) ∙ joined_by_commas n rest
-
-pub on_ok : {T E : Type 0} {A B : Type 0} (r : Result T E) → (A → B) → OnOk r A → OnOk r B
-on_ok (Ok v) f h = f h
-on_ok (Err e) f h = h
 
 -- one text behind another
 pub joined : (old mid new a b all : List ℕ) → mid ≡ old ++ a → new ≡ mid ++ b → all ≡ a ++ b → new ≡ old ++ all

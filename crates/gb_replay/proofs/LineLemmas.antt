@@ -11,7 +11,7 @@ use Rattle.gb_types.specs.declared.request.Action.{Action}
 use Rattle.gb_types.specs.declared.request.Action.TheVariants.{AddTenant, Group}
 use Rattle.gb_types.specs.declared.request.Request.{Request}
 use Rattle.gb_types.specs.declared.version.Version.{Version}
-use Rattle.gb_record_text.proofs.TextLemmas.{on_ok}
+use Rattle.gb_simulate.proofs.AnswerLemmas.{on_ok}
 use Rattle.gb_record_text.specs.RecordText.{after_space, limits_text, each_after_comma, action_text, request_text, token_text}
 use Rattle.gb_schedule.specs.Versions.{versions_word}
 use Rattle.gb_replay.specs.ScheduleText.{action_line, key_text, key_behind, secret_text, version_byte}

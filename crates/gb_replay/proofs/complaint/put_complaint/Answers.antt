@@ -1,6 +1,7 @@
 use Rattle.std.proofs.Common.{◌++◌, ◌∷◌, [], ◌∙◌, sym, ap}
 use Rattle.std.specs.Prelude.{codes, decimal}
-use Rattle.gb_record_text.proofs.TextLemmas.{on_ok, joined3}
+use Rattle.gb_record_text.proofs.TextLemmas.{joined3}
+use Rattle.gb_simulate.proofs.AnswerLemmas.{on_ok}
 use Rattle.gb_replay.specs.Complaint.{complaint}
 use Rattle.gb_replay.proofs.complaint.put_complaint.Goals as goal
 
