@@ -5,6 +5,7 @@ pub mod InsideLemmas
 pub mod IntegrityLemmas
 pub mod ItemLemmas
 pub mod KnownLemmas
+pub mod MarkLemmas
 pub mod UsageLemmas
 pub mod MemberListLemmas
 pub mod ObservationLemmas

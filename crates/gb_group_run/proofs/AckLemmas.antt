@@ -27,8 +27,9 @@ use Rattle.gb_slot.specs.Slot.{slot_done, with_acknowledgement, waiting, taken_f
 use Rattle.gb_slot.specs.SlotState.{SlotState}
 use Rattle.gb_slot.specs.StandsFor.{StandsFor}
 use Rattle.gb_alone.specs.Alone.{is_marked, is_message, is_acknowledged}
+use Rattle.gb_alone.proofs.MarkLemmas.{unknown_acknowledged}
 use Rattle.gb_group_run.specs.SlotMember.{slot_marked}
-use Rattle.gb_group_run.proofs.MarkLemmas.{acknowledged_front, unknown_acknowledged, acknowledged_with}
+use Rattle.gb_group_run.proofs.MarkLemmas.{acknowledged_front, acknowledged_with}
 use Rattle.gb_group_run.proofs.Stands.{AcksAgree}
 
 abbrev Acks : Type 0

@@ -39,6 +39,7 @@ use Rattle.gb_alone.specs.declared.event.GroupEvent.{GroupEvent}
 use Rattle.gb_alone.specs.declared.event.GroupEvent.TheVariants.{Open as AskOpen, Shut as AskShut, Drop as AskDrop, Say as AskSay, Fetch as AskFetch}
 use Rattle.gb_alone.specs.Alone.{Member, Group, called, commanded, did, is_acknowledged, member_after, on_group, reply_to, running_reply, MayHappen}
 use Rattle.gb_alone.specs.Alone as alone
+use Rattle.gb_alone.proofs.MarkLemmas.{unknown_acknowledged}
 use Rattle.gb_rules.specs.Lifetime.{stepped, where_so}
 use Rattle.gb_rules.specs.Lifetime as life
 use Rattle.gb_node.specs.Past.{Happened, added, added_by, is_stopped, tenants_in}
@@ -52,7 +53,7 @@ use Rattle.gb_isolation.specs.Project.{command_for, is_named, is_own_request, ma
 use Rattle.gb_isolation.specs.RunLaws.{drops, is_dropped, is_dropped_by}
 use Rattle.gb_node.proofs.AskedLemmas.{if_same}
 use Rattle.gb_isolation.proofs.AskLemmas.{MemberFits, asking, carried_in, commands, member_fits, view_own}
-use Rattle.gb_isolation.proofs.FinishedLemmas.{counts_fit, unknown_acknowledged}
+use Rattle.gb_isolation.proofs.FinishedLemmas.{counts_fit}
 use Rattle.gb_isolation.proofs.MemberLemmas.{answered-is, called_there, called_put}
 use Rattle.gb_isolation.proofs.PastLemmas.{running_unmet}
 use Rattle.gb_isolation.proofs.RoomLemmas.{own_given}

@@ -24,6 +24,7 @@ use Rattle.gb_rules.specs.Group.{is_gone, is_member}
 use Rattle.gb_alone.specs.declared.event.GroupEvent.TheVariants.{Done as Acknowledged}
 use Rattle.gb_alone.specs.declared.event.GroupStep.{GroupStep}
 use Rattle.gb_alone.specs.Alone.{Member, Group, after, alone_from, is_marked, is_message, is_acknowledged, IsLegalFrom}
+use Rattle.gb_alone.proofs.MarkLemmas.{is_own_at, acknowledged_more, own_at-append, own_at-same}
 use Rattle.gb_frame.specs.Items.{entry_of, names, items_for}
 use Rattle.gb_rules.specs.Lifetime.{stepped, where_so}
 use Rattle.gb_node.specs.Past.{numbered}
@@ -191,55 +192,10 @@ acks_taken nodes me from xs o carried done next fits more others kept = record {
 
 -- Places and items.
 
--- of these items, with the places from this one on, the message stands at a place that passes the test
-abbrev is_own_at : ℕ → ℕ → (ℕ → Bool) → ℕ → List Entry → Bool
-is_own_at me k test place [] = false
-is_own_at me k test place (x ∷ xs) = (is_message me k x && test place) || is_own_at me k test (place + 1) xs
-
 -- among these frames, numbered from n on, one whose number passes the test has the message
 abbrev is_in_acked : Addr → ℕ → ℕ → (ℕ → Bool) → ℕ → List (List Item) → Bool
 is_in_acked g me k acked n [] = false
 is_in_acked g me k acked n (f ∷ fs) = (acked n && list_any (is_message me k) (group_items g f)) || is_in_acked g me k acked (n + 1) fs
-
--- more places are marked
-acknowledged_more : (me k : ℕ) (marks next : List ℕ) (added : ℕ → Bool) (place : ℕ) (xs : List Entry) → ((p : ℕ) → is_marked p next ≡ (added p || is_marked p marks))
-    → is_acknowledged me k next place xs ≡ (is_acknowledged me k marks place xs || is_own_at me k added place xs)
-acknowledged_more me k marks next added place [] more = refl
-acknowledged_more me k marks next added place (x ∷ xs) more =
-    (λ i. (is_message me k x && more place i) || acknowledged_more me k marks next added (place + 1) xs more i)
-    ∙ by (is_message me k x) (added place) (is_marked place marks) (is_acknowledged me k marks (place + 1) xs) (is_own_at me k added (place + 1) xs)
-  where
-    by : (o a m x y : Bool) → ((o && (a || m)) || (x || y)) ≡ (((o && m) || x) || ((o && a) || y))
-    by true true true x y = refl
-    by true true false true y = refl
-    by true true false false y = refl
-    by true false true x y = refl
-    by true false false x y = refl
-    by false a m x y = refl
-
-own_at-append : (me k : ℕ) (test : ℕ → Bool) (place : ℕ) (xs ys : List Entry) → is_own_at me k test place (xs ++ ys) ≡ (is_own_at me k test place xs || is_own_at me k test (place + length xs) ys)
-own_at-append me k test place [] ys = ap (λ p. is_own_at me k test p ys) (omega arith)
-own_at-append me k test place (x ∷ xs) ys =
-    ap (λ b. (is_message me k x && test place) || b) (own_at-append me k test (place + 1) xs ys)
-    ∙ (sym (or_assoc (is_message me k x && test place) (is_own_at me k test (place + 1) xs) (is_own_at me k test (place + 1 + length xs) ys))
-    ∙ ap (λ p. ((is_message me k x && test place) || is_own_at me k test (place + 1) xs) || is_own_at me k test p ys) (plus place (length xs)))
-  where
-    plus : (a b : ℕ) → a + 1 + b ≡ a + suc b
-    plus a b = omega arith
-
--- items whose places all pass, or none of them
-own_at-same : (me k : ℕ) (test : ℕ → Bool) (t : Bool) (place : ℕ) (xs : List Entry) → ((p : ℕ) → place ≤ p → p < place + length xs → test p ≡ t) → is_own_at me k test place xs ≡ (t && list_any (is_message me k) xs)
-own_at-same me k test true place [] marked = refl
-own_at-same me k test false place [] marked = refl
-own_at-same me k test t place (x ∷ xs) marked =
-    (λ i. (is_message me k x && marked place (omega arith) (omega arith) i) || own_at-same me k test t (place + 1) xs (λ p low high. marked p (omega (arith, low)) (omega (arith, high))) i)
-    ∙ by t (is_message me k x) (list_any (is_message me k) xs)
-  where
-    by : (t a b : Bool) → ((a && t) || (t && b)) ≡ (t && (a || b))
-    by true true b = refl
-    by true false b = refl
-    by false true b = refl
-    by false false b = refl
 
 -- the places of some of the frames
 own_at-frames : (g : Addr) (me k : ℕ) (passes test : ℕ → Bool) (n before : ℕ) (fs : List (List Item))

@@ -1,16 +1,14 @@
 -- Which of a node's own messages of a group are finished: the past's acknowledgements say the same as the acknowledged places of the group alone.
-use Rattle.std.proofs.Common.{◌≡◌, ℕ, zero, suc, ◌+◌, ◌<◌, ◌≤◌, List, [], ◌∷◌, length, Bool, true, false, not, ◌&&◌, ◌||◌, cond, nat_eq, refl, sym, ◌∙◌, ap, subst, arith}
+use Rattle.std.proofs.Common.{◌≡◌, ℕ, zero, suc, ◌+◌, ◌<◌, ◌≤◌, List, ◌∷◌, length, Bool, true, false, not, ◌||◌, cond, nat_eq, refl, sym, ◌∙◌, ap, subst, arith}
 use Rattle.std.specs.Prelude.{filter, if◌then◌else◌}
-use Rattle.std.specs.List.{list_any, range_with_len}
+use Rattle.std.specs.List.{range_with_len}
 use Rattle.gb_types.specs.Rising.{AreNodes}
-use Rattle.gb_types.specs.declared.entry.Entry.{Entry}
 use Rattle.gb_types.specs.declared.address.Addr.{Addr}
 use Rattle.gb_types.specs.declared.limits.TheConstants.{NODES}
 use Rattle.gb_types.proofs.AllMemberLemmas.{all_rising}
-use Rattle.gb_types.proofs.BoolLemmas.{or_sides}
 use Rattle.gb_frame.specs.declared.item.Item.{Item}
 use Rattle.gb_rules.specs.History.{said_in, has_noticed}
-use Rattle.gb_alone.specs.Alone.{Member, is_marked, is_message, is_acknowledged, is_finished_alone, count_unfinished}
+use Rattle.gb_alone.specs.Alone.{Member, is_acknowledged, is_finished_alone, count_unfinished}
 use Rattle.gb_alone.proofs.UsageLemmas.{all_alike}
 use Rattle.gb_node.specs.PastGroups.{waiting_of}
 use Rattle.gb_node.specs.PastGroups as past
@@ -18,13 +16,6 @@ use Rattle.gb_isolation.specs.Project.{group_items_of}
 use Rattle.gb_isolation.proofs.MemberLemmas.{CountsAlike}
 use Rattle.gb_isolation.proofs.PackLemmas.{acknowledged_more}
 use Rattle.gb_isolation.proofs.View.{View, Fits, said_of, acknowledged_of}
-
--- a message that is none of these is not acknowledged
-pub unknown_acknowledged : (me k : ℕ) (done : List ℕ) (place : ℕ) (xs : List Entry) → list_any (is_message me k) xs ≡ false → is_acknowledged me k done place xs ≡ false
-unknown_acknowledged me k done place [] none = refl
-unknown_acknowledged me k done place (x ∷ xs) none =
-    let parts = or_sides (is_message me k x) (list_any (is_message me k) xs) none in
-    ap (λ b. (b && is_marked place done) || is_acknowledged me k done (place + 1) xs) parts.0 ∙ unknown_acknowledged me k done (place + 1) xs parts.1
 
 -- numbers that do not pass are counted one by one, or listed
 counts : (p q : ℕ → Bool) (first n : ℕ) → ((k : ℕ) → k < n → p (first + k) ≡ q (first + k)) → count_unfinished p first n ≡ length (filter (λ k. not (q k)) (range_with_len first n))

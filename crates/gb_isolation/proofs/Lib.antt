@@ -4,7 +4,6 @@ pub mod MemberLemmas
 pub mod NoticeLemmas
 pub mod FreshLemmas
 pub mod MarkLemmas
-pub mod AcknowledgedLemmas
 pub mod PastLemmas
 pub mod PackLemmas
 pub mod TickLemmas

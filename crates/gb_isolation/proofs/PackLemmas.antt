@@ -19,6 +19,7 @@ use Rattle.gb_rules.specs.Group.{is_member}
 use Rattle.gb_rules.specs.Tenant.{reserve_of, row_of}
 use Rattle.gb_alone.specs.Alone.{Member, Group, is_acknowledged, is_marked, MayHappen}
 use Rattle.gb_alone.specs.declared.event.GroupEvent.TheVariants.{Took}
+use Rattle.gb_alone.proofs.MarkLemmas.{none_acknowledged, acknowledged-append}
 use Rattle.gb_frame.specs.Items.{entry_of, items_for}
 use Rattle.gb_rules.specs.Lifetime.{stepped}
 use Rattle.gb_node.specs.Past.{Happened, read, frames_to, is_acked, is_taken, watched, tenants_in}
@@ -31,7 +32,6 @@ use Rattle.gb_node.specs.declared.plan.NodePlan.{NodePlan}
 use Rattle.gb_isolation.specs.Project.{group_items, group_items_of, made_with, replies_in, is_met, if_any}
 use Rattle.gb_isolation.specs.RunLaws.{is_dropped}
 use Rattle.gb_isolation.proofs.View.{View, view_of, Fits, Goes, MemberIs, AreMarked, KeepsAcks, IsInside, said_of, acknowledged_of, bounds_with}
-use Rattle.gb_isolation.proofs.AcknowledgedLemmas.{none_acknowledged, acknowledged-append}
 use Rattle.gb_isolation.proofs.GoesLemmas.{goes_none, goes_one}
 use Rattle.gb_isolation.proofs.MarkLemmas.{group_items_of-append, group_items_of-none, group_items_of-one, marks_more}
 use Rattle.gb_isolation.proofs.PastLemmas.{running_unmet, acked_within, entries_back}
