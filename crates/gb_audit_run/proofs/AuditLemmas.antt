@@ -1,10 +1,9 @@
 -- Records, one after another, and the tapes that they make.
-use Rattle.std.proofs.Common.{◌≡◌, ◌≢◌, ℕ, zero, suc, ◌+◌, ◌<◌, ◌≤◌, List, [], ◌∷◌, ◌++◌, length, map, take, get_or, All, ◌↔◌, refl, sym, ap, ◌∙◌, subst, arith, inl, inr, append_assoc}
+use Rattle.std.proofs.Common.{◌≡◌, ◌≢◌, ℕ, zero, suc, ◌+◌, ◌<◌, ◌≤◌, List, [], ◌∷◌, ◌++◌, length, map, take, get_or, All, ◌↔◌, refl, sym, ap, ◌∙◌, subst, arith}
 use Rattle.std.specs.Prelude.{Option, Some, None, IsSome, Vec, vec_len, AllPairs, sum, slice_get}
 use Rattle.std.specs.List.{range_with_len, AllZip}
 use Rattle.std.proofs.Math.ListN.{set, get_or-map}
-use Rattle.std.proofs.lemmas.Bool.{cases_eq, eq-eqb, ne_eqb}
-use Rattle.std.proofs.lemmas.List.{take_more, take_all, take-map, get_or-take, length-take-le, map-append, get_or-set_same, get_or-set_other, length-set, length-map, same_lists, get_or_default, append-nil}
+use Rattle.std.proofs.lemmas.List.{take_more, take_all, take-map, get_or-take, length-take-le, map-append, get_or-set_same, get_or-set_other, length-map, same_lists, get_or_default, append-nil}
 use Rattle.std.proofs.lemmas.List.Elements.{All-append, All-get_or, All-head, All-tail}
 use Rattle.std.proofs.lemmas.Slice.Zip.{all_zipped_more}
 use Rattle.std.proofs.lemmas.List.FromFn.{length-map-range_with_len, get_or-map-range_with_len}
@@ -69,26 +68,6 @@ are_tapes nodes records tapes made =
     same_lists tapes (map (entries_of records) (range_with_len 0 nodes)) (made.0 ∙ sym len)
     (λ k d lt. get_or_default tapes k d [] lt ∙ (made.1 k (omega (arith, made.0)) ∙ sym (get_or-map-range_with_len (entries_of records) 0 nodes k k d (omega (arith, made.0)) (omega arith))))
 
--- one record more, which stands before the others
-tape_set : (nodes : ℕ) (done : List Record) (tapes : List (List TapeEntry)) (r : Record) → r.head.node.number < nodes → AreTapes nodes done tapes → AreTapes nodes (r ∷ done) (set tapes r.head.node.number r.entries.items)
-tape_set nodes done tapes r within made = (
-  length-set tapes r.head.node.number r.entries.items ∙ made.0,
-  λ b below. elim (cases_eq b r.head.node.number) [
-    | inl e ↦ ap (λ n. get_or (set tapes r.head.node.number r.entries.items) n []) e ∙ (get_or-set_same tapes r.head.node.number r.entries.items [] (omega (arith, made.0)) ∙ sym (mine b e))
-    | inr ne ↦ get_or-set_other tapes r.head.node.number b r.entries.items [] ne ∙ (made.1 b below ∙ sym (others b ne))
-  ],
-)
-  where
-    mine : (b : ℕ) → b ≡ r.head.node.number → entries_of (r ∷ done) b ≡ r.entries.items
-    mine b e = rw (eq-eqb r.head.node.number b (sym e)) refl
-
-    others : (b : ℕ) → b ≢ r.head.node.number → entries_of (r ∷ done) b ≡ entries_of done b
-    others b ne = rw (ne_eqb r.head.node.number b (λ e. ne (sym e))) refl
-
-all_behind : {X : Type 0} (P : X → Type 0) (xs ys : List X) → All P (xs ++ ys) → All P ys
-all_behind P [] ys all = all
-all_behind P (x ∷ xs) ys all = all_behind P xs ys (λ k d lt. all (suc k) d (omega (arith, lt)))
-
 -- these records are left, and of the others, which stand behind them, the tapes are made
 pub record AreMade (nodes : ℕ) (all left : List Record) (tapes : List (List TapeEntry)) : Type 0 where
   pub done : List Record
@@ -97,16 +76,6 @@ pub record AreMade (nodes : ℕ) (all left : List Record) (tapes : List (List Ta
 
 pub made_none : (nodes : ℕ) (all : List Record) (tapes : List (List TapeEntry)) → length tapes ≡ nodes → All (λ (t : List TapeEntry). t ≡ []) tapes → AreMade nodes all all tapes
 made_none nodes all tapes len blank = record { done = []; parts = sym (append-nil all); made = (len, λ b below. blank b [] (omega (arith, len))) }
-
-pub made_more : (nodes : ℕ) (all left rest : List Record) (tapes : List (List TapeEntry)) (r : Record) → All (λ (x : Record). x.head.node.number < nodes) all → left ≡ rest ++ r ∷ [] → AreMade nodes all left tapes
-    → AreMade nodes all rest (set tapes r.head.node.number r.entries.items)
-made_more nodes all left rest tapes r here popped made = record { done = r ∷ made.done; parts = parts; made = tape_set nodes made.done tapes r (within 0 r (omega arith)) made.made }
-  where
-    parts : all ≡ rest ++ r ∷ made.done
-    parts = made.parts ∙ (ap (λ xs. xs ++ made.done) popped ∙ append_assoc rest (r ∷ []) made.done)
-
-    within : All (λ (x : Record). x.head.node.number < nodes) (r ∷ made.done)
-    within = all_behind (λ (x : Record). x.head.node.number < nodes) rest (r ∷ made.done) (subst (All (λ (x : Record). x.head.node.number < nodes)) parts here)
 
 pub all_made : (nodes : ℕ) (all left : List Record) (tapes : List (List TapeEntry)) → left ≡ [] → AreMade nodes all left tapes → tapes ≡ map (entries_of all) (range_with_len 0 nodes)
 all_made nodes all left tapes none made =

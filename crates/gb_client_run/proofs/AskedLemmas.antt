@@ -1,5 +1,5 @@
 -- What was asked, one after the other.
-use Rattle.std.proofs.Common.{◌≡◌, ◌⊎◌, inl, inr, ℕ, List, [], ◌∷◌, ◌++◌, ◌+◌, ◌<◌, ◌∙◌, ap, take, length, get_or, subst, sym, refl}
+use Rattle.std.proofs.Common.{◌≡◌, ◌⊎◌, inl, inr, ℕ, List, [], ◌∷◌, ◌++◌, ◌+◌, ◌<◌, ◌∙◌, ap, take, length, get_or, subst, sym}
 use Rattle.std.proofs.lemmas.List.{take_more}
 use Rattle.std.proofs.lemmas.List.Elements.{All-nil, All-cons, All-append, All-weaker}
 use Rattle.gb_types.specs.declared.node.NodeId.{NodeId}
@@ -24,15 +24,6 @@ pub Has-front : (P : Exchange → Type 0) (xs ys : List Exchange) → Has P xs �
 Has-front P [] ys here = elim here [ ]
 Has-front P (x ∷ xs) ys (inl here) = inl here
 Has-front P (x ∷ xs) ys (inr there) = inr (Has-front P xs ys there)
-
--- a request was made at no node yet
-pub done_at_none : {S : Type 0} (asks : S → ℕ → List ℕ → List ℕ → S → Type 0) (secrets : Secrets) (base : ℕ) (asked : Asked) (words : List (List ℕ)) (state : S)
-    → HasDoneAll asks secrets base asked words [] state state
-done_at_none asks secrets base asked words state = record {
-  told = [];
-  has_asked = refl;
-  are_done = All-nil (λ node. Has (IsDone secrets base asked words node) []);
-}
 
 -- and then at one more
 pub done_at_one_more : {S : Type 0} (asks : S → ℕ → List ℕ → List ℕ → S → Type 0) (secrets : Secrets) (base : ℕ) (asked : Asked) (words : List (List ℕ)) (nodes : List NodeId) (node : NodeId) (old mid new : S)

@@ -1,19 +1,16 @@
 -- A log that is exported: what was fetched and printed so far.
-use Rattle.std.proofs.Common.{◌≡◌, ℕ, ◌+◌, List, [], ◌∷◌, ◌++◌, length, ◌==◌, true, refl, sym, ap, subst, ◌∙◌, length-append}
-use Rattle.std.specs.Prelude.{Option, Some, None}
+use Rattle.std.proofs.Common.{◌≡◌, ℕ, ◌+◌, List, [], ◌∷◌, ◌++◌, length, refl, sym, ap, subst, ◌∙◌, length-append}
+use Rattle.std.specs.Prelude.{Option, Some}
 use Rattle.std.specs.Io.KnownBytes.{Appends}
-use Rattle.std.proofs.lemmas.Bool.{eqb-true}
-use Rattle.std.proofs.lemmas.List.{nil_from_length}
 use Rattle.std.proofs.lemmas.Grind.{flat_map-append}
 use Rattle.gb_types.specs.declared.entry.Entry.{Entry}
 use Rattle.gb_types.specs.declared.node.NodeId.{NodeId}
 use Rattle.gb_types.specs.declared.refusal.Refusal.{Refusal}
 use Rattle.gb_types.specs.declared.reply.Reply.TheVariants.{Log, Refused}
 use Rattle.gb_types.specs.ReplyText.{entry_text, reply_spelling}
-use Rattle.gb_session.proofs.RunLemmas.{Appends-none, Appends-join}
+use Rattle.gb_session.proofs.RunLemmas.{Appends-join}
 use Rattle.gb_client.specs.declared.secrets.Secrets.{Secrets}
 use Rattle.gb_client.specs.Answers.{lines_of}
-use Rattle.gb_client_run.specs.ExportText.{end_line}
 use Rattle.gb_client_run.specs.Exporting.{HasFetched, HasRead, HasExported, entries_of}
 
 -- logs were fetched from the beginning on, and their entries counted and printed
@@ -22,10 +19,6 @@ pub record Exports {S : Type 0} (asks : S → ℕ → List ℕ → List ℕ → 
   pub read : HasRead asks secrets base node words old logs new
   pub count_is : count ≡ length (entries_of logs)
   pub printed : Appends before after (lines_of (entries_of logs))
-
-pub exports_none : {S : Type 0} (asks : S → ℕ → List ℕ → List ℕ → S → Type 0) (secrets : Secrets) (base : ℕ) (node : NodeId) (words : List (List ℕ)) (state : S) (before : Option (List ℕ))
-    → Exports asks secrets base node words state state before before 0
-exports_none asks secrets base node words state before = record { logs = []; read = refl; count_is = refl; printed = Appends-none before }
 
 -- the entries of one more log
 pub exports_more : {S : Type 0} (asks : S → ℕ → List ℕ → List ℕ → S → Type 0) (secrets : Secrets) (base : ℕ) (node : NodeId) (words : List (List ℕ)) (old mid new : S) (before after after' : Option (List ℕ)) (count count' : ℕ) (entries : List Entry)
@@ -36,20 +29,6 @@ exports_more asks secrets base node words old mid new before after after' count 
   read = (mid, so_far.read, subst (λ n. HasFetched asks secrets base node words n mid new (Log entries)) so_far.count_is fetched);
   count_is = more ∙ (ap (λ n. n + length entries) so_far.count_is ∙ sym (length-append (entries_of so_far.logs) entries));
   printed = subst (Appends before after') (sym (flat_map-append (λ e. entry_text e ++ 10 ∷ []) (entries_of so_far.logs) entries)) (Appends-join before after after' (lines_of (entries_of so_far.logs)) (lines_of entries) so_far.printed printed);
-}
-
--- nothing more came
-pub exports_whole : {S : Type 0} (asks : S → ℕ → List ℕ → List ℕ → S → Type 0) (secrets : Secrets) (base : ℕ) (node : NodeId) (words : List (List ℕ)) (old mid new : S) (before after after' : Option (List ℕ)) (count : ℕ)
-    → Exports asks secrets base node words old mid before after count → HasFetched asks secrets base node words count mid new (Log []) → Appends after after' (end_line count)
-    → HasExported asks secrets base node words old new before after' 0
-exports_whole asks secrets base node words old mid new before after after' count so_far fetched printed = record {
-  logs = so_far.logs;
-  refusal = None;
-  between = mid;
-  read = so_far.read;
-  ended = subst (λ n. HasFetched asks secrets base node words n mid new (Log [])) so_far.count_is fetched;
-  printed = Appends-join before after after' (lines_of (entries_of so_far.logs)) (end_line (length (entries_of so_far.logs))) so_far.printed (subst (λ n. Appends after after' (end_line n)) so_far.count_is printed);
-  status_is = refl;
 }
 
 -- the node refused
@@ -65,7 +44,3 @@ exports_refused asks secrets base node words old mid new before after after' cou
   printed = Appends-join before after after' (lines_of (entries_of so_far.logs)) (reply_spelling (Refused why) ++ 10 ∷ []) so_far.printed printed;
   status_is = refl;
 }
-
--- a log that is empty has no entries
-pub no_entries : (entries : List Entry) → (length entries == 0) ≡ true → entries ≡ []
-no_entries entries empty = nil_from_length entries (eqb-true (length entries) 0 empty)

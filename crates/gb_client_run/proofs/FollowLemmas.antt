@@ -1,6 +1,6 @@
 -- A log that is followed: what was read and printed so far.
 use Rattle.std.proofs.Common.{◌≡◌, ℕ, List, [], ◌∷◌, ◌++◌, Bool, false, refl, sym, ap, subst, ◌∙◌, append-nil}
-use Rattle.std.specs.Prelude.{Option, Some, None}
+use Rattle.std.specs.Prelude.{Option, Some}
 use Rattle.std.specs.Io.KnownBytes.{Appends, Consumes}
 use Rattle.std.specs.List.{flat_map}
 use Rattle.std.proofs.lemmas.Grind.{flat_map-append}
@@ -9,7 +9,7 @@ use Rattle.gb_types.specs.declared.refusal.Refusal.{Refusal}
 use Rattle.gb_types.specs.declared.reply.Reply.TheVariants.{Log, Refused}
 use Rattle.gb_types.specs.ReplyText.{reply_spelling}
 use Rattle.gb_session.specs.Streams.{framed}
-use Rattle.gb_session.proofs.RunLemmas.{Consumes-none, Consumes-join, Appends-none, Appends-join}
+use Rattle.gb_session.proofs.RunLemmas.{Consumes-join, Appends-join}
 use Rattle.gb_client.specs.Answers.{lines_of}
 use Rattle.gb_client_run.specs.Following.{log_messages, log_lines, HasFollowed}
 
@@ -18,9 +18,6 @@ pub record Follows (is_text : Bool) (input rest before after : Option (List ℕ)
   pub logs : List (List Entry)
   pub read : Consumes input rest (log_messages logs)
   pub printed : is_text ≡ false → Appends before after (log_lines logs)
-
-pub follows_none : (is_text : Bool) (input before : Option (List ℕ)) → Follows is_text input input before before
-follows_none is_text input before = record { logs = []; read = Consumes-none input; printed = λ plain. Appends-none before }
 
 one_more : {X : Type 0} (f : X → List ℕ) (xs : List X) (x : X) → flat_map f xs ++ f x ≡ flat_map f (xs ++ x ∷ [])
 one_more f xs x = sym (flat_map-append f xs (x ∷ []) ∙ ap (λ behind. flat_map f xs ++ behind) (append-nil (f x)))
@@ -40,14 +37,5 @@ ends_refused is_text input rest rest' before after after' why so_far read printe
   refusal = Some why;
   read = Consumes-join input rest rest' (log_messages so_far.logs) (framed (reply_spelling (Refused why))) so_far.read read;
   printed = λ plain. Appends-join before after after' (log_lines so_far.logs) (reply_spelling (Refused why) ++ 10 ∷ []) (so_far.printed plain) printed;
-  status_is = refl;
-}
-
-pub ends_at_limit : (is_text : Bool) (input rest before after : Option (List ℕ)) → Follows is_text input rest before after → HasFollowed is_text input rest before after 0
-ends_at_limit is_text input rest before after so_far = record {
-  logs = so_far.logs;
-  refusal = None;
-  read = subst (Consumes input rest) (sym (append-nil (log_messages so_far.logs))) so_far.read;
-  printed = λ plain. subst (Appends before after) (sym (append-nil (log_lines so_far.logs))) (so_far.printed plain);
   status_is = refl;
 }

@@ -1,18 +1,16 @@
 -- A log that is imported: what was said and printed so far.
-use Rattle.std.proofs.Common.{◌≡◌, ℕ, true, ◌+◌, ◌<◌, List, [], ◌∷◌, ◌++◌, length, take, drop, get_or, refl, sym, ap, subst, ◌∙◌, arith, append_assoc, append-nil}
+use Rattle.std.proofs.Common.{◌≡◌, ℕ, true, ◌+◌, ◌<◌, List, [], ◌∷◌, ◌++◌, length, take, drop, get_or, sym, ap, subst, ◌∙◌, arith, append_assoc, append-nil}
 use Rattle.std.specs.Prelude.{Option, Some, None}
 use Rattle.std.specs.Io.KnownBytes.{Appends}
 use Rattle.std.proofs.lemmas.List.{take_more, take-append-drop}
-use Rattle.std.proofs.Math.Seq.{take-length}
 use Rattle.gb_types.specs.declared.entry.Entry.{Entry}
 use Rattle.gb_types.specs.declared.node.NodeId.{NodeId}
 use Rattle.gb_types.specs.declared.refusal.Refusal.{Refusal}
 use Rattle.gb_types.specs.declared.reply.Reply.TheVariants as replies
 use Rattle.gb_types.specs.ReplyText.{reply_spelling}
-use Rattle.gb_session.proofs.RunLemmas.{Appends-none, Appends-join}
+use Rattle.gb_session.proofs.RunLemmas.{Appends-join}
 use Rattle.gb_client.specs.declared.fault.ClientFault.{ClientFault}
 use Rattle.gb_client.specs.declared.secrets.Secrets.{Secrets}
-use Rattle.gb_client_run.specs.declared.importing.Told.{Told}
 use Rattle.gb_client_run.specs.declared.importing.Told.TheVariants.{Said, Refused}
 use Rattle.gb_client_run.specs.declared.importing.End.TheVariants as ends
 use Rattle.gb_client_run.specs.Importing.{Again, HasTold, HasTried, may_pass, HasSaid, HasSaidAll, HasSaidOn, entries_said, said_line, said_lines}
@@ -23,12 +21,6 @@ pub tried_more : {S : Type 0} (asks : S → ℕ → List ℕ → List ℕ → S 
     → (refusals : List Refusal) × HasTried asks secrets base node words payload old refusals new
 tried_more asks secrets base node words payload old mid new why before told passes = (why ∷ before.0, (mid, before.1, told, passes))
 
--- and then it was answered otherwise, or for the last time
-pub said_at_last : {S : Type 0} (asks : S → ℕ → List ℕ → List ℕ → S → Type 0) (secrets : Secrets) (base : ℕ) (node : NodeId) (words : List (List ℕ)) (payload : List ℕ) (old mid new : S) (told : Told)
-    → (refusals : List Refusal) × HasTried asks secrets base node words payload old refusals mid → HasTold asks secrets base node words payload mid new told
-    → HasSaid asks secrets base node words payload old new told
-said_at_last asks secrets base node words payload old mid new told before last = record { refusals = before.0; between = mid; tried = before.1; last = last }
-
 -- the first of some entries were said, and printed
 pub record Says {S : Type 0} (asks : S → ℕ → List ℕ → List ℕ → S → Type 0) (secrets : Secrets) (base : ℕ) (node : NodeId) (words : List (List ℕ)) (entries : List Entry) (place : ℕ) (old new : S) (before after : Option (List ℕ)) : Type 0 where
   pub said : List Again
@@ -36,10 +28,6 @@ pub record Says {S : Type 0} (asks : S → ℕ → List ℕ → List ℕ → S �
   pub place_is : place ≡ length said
   pub entries_are : entries_said said ≡ take place entries
   pub printed : Appends before after (said_lines said)
-
-pub says_none : {S : Type 0} (asks : S → ℕ → List ℕ → List ℕ → S → Type 0) (secrets : Secrets) (base : ℕ) (node : NodeId) (words : List (List ℕ)) (entries : List Entry) (state : S) (before : Option (List ℕ))
-    → Says asks secrets base node words entries 0 state state before before
-says_none asks secrets base node words entries state before = record { said = []; says = refl; place_is = refl; entries_are = refl; printed = Appends-none before }
 
 -- and the next one
 pub says_more : {S : Type 0} (asks : S → ℕ → List ℕ → List ℕ → S → Type 0) (secrets : Secrets) (base : ℕ) (node : NodeId) (words : List (List ℕ)) (entries : List Entry) (i : ℕ) (d entry : Entry) (seq : ℕ) (old mid new : S) (before after after' : Option (List ℕ))
@@ -68,18 +56,6 @@ said_then : {S : Type 0} (asks : S → ℕ → List ℕ → List ℕ → S → T
     → entries_said so_far.said ++ entry ∷ drop (i + 1) entries ≡ entries
 said_then asks secrets base node words entries i d entry old mid before after lt is so_far =
     ap (λ es. es ++ entry ∷ drop (i + 1) entries) so_far.entries_are ∙ (ap (λ e. take i entries ++ e ∷ drop (i + 1) entries) is ∙ parted entries i d lt)
-
--- all were said
-pub says_all : {S : Type 0} (asks : S → ℕ → List ℕ → List ℕ → S → Type 0) (secrets : Secrets) (base : ℕ) (node : NodeId) (words : List (List ℕ)) (entries : List Entry) (old new : S) (before after : Option (List ℕ))
-    → Says asks secrets base node words entries (length entries) old new before after → HasSaidOn asks secrets base node words entries old new before after (length entries) ends.Whole
-says_all asks secrets base node words entries old new before after so_far = record {
-  said = so_far.said;
-  between = new;
-  says = so_far.says;
-  count_is = so_far.place_is;
-  ends_so = (so_far.entries_are ∙ take-length entries, refl);
-  printed = subst (Appends before after) (sym (append-nil (said_lines so_far.said))) so_far.printed;
-}
 
 -- the next one was refused
 pub says_refused : {S : Type 0} (asks : S → ℕ → List ℕ → List ℕ → S → Type 0) (secrets : Secrets) (base : ℕ) (node : NodeId) (words : List (List ℕ)) (entries : List Entry) (i : ℕ) (d entry : Entry) (why : Refusal) (old mid new : S) (before after after' : Option (List ℕ))

@@ -1,16 +1,16 @@
 -- What the values of a file are seen as.
-use Rattle.std.proofs.Common.{codes, ◌≡◌, ℕ, ℤ, pos, IfSome, IfNone, zero, suc, ◌+◌, ◌<◌, ◌≤◌, Bool, true, false, ◌&&◌, List, [], ◌∷◌, ◌++◌, length, take, get_or, Option, Some, None, option_map, Bor, inl, inr, subst, string_bytes, refl, sym, ap, ap₂, ◌∙◌, arith}
+use Rattle.std.proofs.Common.{codes, ◌≡◌, ℕ, zero, suc, ◌+◌, ◌<◌, ◌≤◌, Bool, true, false, ◌&&◌, List, [], ◌∷◌, ◌++◌, length, take, get_or, Option, Some, None, option_map, Bor, inl, inr, subst, string_bytes, refl, sym, ap, ap₂, ◌∙◌, arith}
 use Rattle.std.specs.List.{All}
 use Rattle.std.specs.Option.{is_some, IsSome}
 use Rattle.std.proofs.lemmas.List.Elements.{All-nil, All-cons}
 use Rattle.std.proofs.lemmas.Bool.{and_parts, cases_lt}
 use Rattle.std.proofs.lemmas.List.{take_more}
 use Rattle.std.proofs.lemmas.Option.{same_Some, none-some}
-use Rattle.toml.specs.Data.{Data, Items, Members, no_items, item, string, integer, float, boolean, datetime, array, table, get_item, get_member, as_str, as_integer, as_array, as_table}
+use Rattle.toml.specs.Data.{Data, Items, Members, no_items, item, string, integer, float, boolean, datetime, array, table, get_item, get_member, as_str, as_array, as_table}
 use Rattle.toml.specs.View.{view, items_view, members_view}
 use Rattle.toml.specs.declared.value.Value.{Value}
 use Rattle.toml.proofs.Views.{Entry, get_item_within}
-use Rattle.gb_cluster_file.specs.Cluster.{all_keys, item_count, text_at, AreNodes, IsNode, IsPlaceOf, IsSame}
+use Rattle.gb_cluster_file.specs.Cluster.{all_keys, item_count, AreNodes, IsNode, IsPlaceOf, IsSame}
 use Rattle.gb_cluster_file.specs.Fields.{is_place_name}
 use Rattle.gb_cluster_file.specs.Places.{IsPlaceText}
 use Rattle.gb_cluster_file.specs.declared.field.PlaceField.{PlaceField}
@@ -32,15 +32,6 @@ keys_refused test [] e rest unknown = ap (λ b. b && all_keys test (members_view
 keys_refused test (x ∷ es) e rest unknown = ap (λ b. test (string_bytes x.0) && b) (keys_refused test es e rest unknown) ∙ and_false (test (string_bytes x.0))
 
 -- what an accessor finds is all that the value is
-pub integer_is : (d : Data) (z : ℤ) → Some z ≡ as_integer d → d ≡ integer z
-integer_is (string s) z e = absurd (none-some z (sym e))
-integer_is (integer y) z e = ap integer (sym (same_Some z y e))
-integer_is (float x) z e = absurd (none-some z (sym e))
-integer_is (boolean b) z e = absurd (none-some z (sym e))
-integer_is (datetime t) z e = absurd (none-some z (sym e))
-integer_is (array ds) z e = absurd (none-some z (sym e))
-integer_is (table ms) z e = absurd (none-some z (sym e))
-
 pub string_is : (d : Data) (z : List ℕ) → Some z ≡ as_str d → d ≡ string z
 string_is (string s) z e = ap string (sym (same_Some z s e))
 string_is (integer y) z e = absurd (none-some z (sym e))
@@ -106,31 +97,6 @@ nodes_ports (item d ds) (n ∷ ns) h = All-cons HasPorts n ns (h.0.packets.2.por
 pub place_same : (value : Option Data) (host host' : List ℕ) (port port' : ℕ) → host' ≡ host → port' ≡ port → IsPlaceOf value host port → IsPlaceOf value host' port'
 place_same value host host' port port' same_host same_port h = rw (same_host, same_port) h
 
--- the number of a value, where it is in range
-pub some_number : (d : Data) (z : ℤ) (least most : ℕ) (r : Option ℕ) → Some z ≡ as_integer d → IfSome r (λ n. (z ≡ pos n) × (least ≤ n) × (n ≤ most)) → IfSome r (λ n. (d ≡ integer (pos n)) × (least ≤ n) × (n ≤ most))
-some_number d z least most None e h = h
-some_number d z least most (Some n) e h = (integer_is d z e ∙ ap integer h.0, h.1, h.2)
-
-pub out_of_range : (d : Data) (z : ℤ) (least most : ℕ) (r : Option ℕ) → Some z ≡ as_integer d → IfNone r ((n : ℕ) → z ≡ pos n → least ≤ n → n ≤ most → ⊥) → IfNone r ((n : ℕ) → d ≡ integer (pos n) → least ≤ n → n ≤ most → ⊥)
-out_of_range d z least most None e h = λ n is. h n (same_Some _ _ (e ∙ ap as_integer is))
-out_of_range d z least most (Some n) e h = h
-
-pub no_integer : (d : Data) (n : ℕ) → None ≡ as_integer d → d ≡ integer (pos n) → ⊥
-no_integer d n e is = none-some _ (e ∙ ap as_integer is)
-
--- the same text twice, and what is not the same
-pub same_texts : (field : PlaceField) (d e : Data) (s t : List ℕ) → Some s ≡ text_at field d → Some t ≡ text_at field e → s ≡ t → IsSame field d e
-same_texts field d e s t here there same = (s, sym here, sym there ∙ ap (λ x. Some x) (sym same))
-
-pub other_texts : (field : PlaceField) (d e : Data) (s t : List ℕ) → Some s ≡ text_at field d → Some t ≡ text_at field e → (s ≡ t → ⊥) → IsSame field d e → ⊥
-other_texts field d e s t here there differ is = differ (same_Some s is.0 (here ∙ is.1) ∙ sym (same_Some t is.0 (there ∙ is.2)))
-
-pub no_text_here : (field : PlaceField) (d e : Data) → None ≡ text_at field d → IsSame field d e → ⊥
-no_text_here field d e none is = none-some is.0 (none ∙ is.1)
-
-pub no_text_there : (field : PlaceField) (d e : Data) → None ≡ text_at field e → IsSame field d e → ⊥
-no_text_there field d e none is = none-some is.0 (none ∙ is.2)
-
 -- what the map of a table finds under a name
 pub find_none : (r : Option (Bor Value)) (key name : List ℕ) (ms : Members) → option_map (λ x. view x.now) r ≡ get_member key ms → key ≡ name → r ≡ None → get_member name ms ≡ None
 find_none r key name ms found same is = ap (λ k. get_member k ms) (sym same) ∙ (sym found ∙ ap (option_map (λ x. view x.now)) is)
@@ -141,10 +107,6 @@ find_some r key name ms v found same is = ap (λ k. get_member k ms) (sym same) 
 -- the item at a place
 pub item_at : (vs : List Value) (k : ℕ) (v : Value) → k < length vs → v ≡ get_or vs k v → get_item k (items_view vs) ≡ Some (view v)
 item_at vs k v lt is = sym (get_item_within vs k v lt) ∙ ap (λ x. Some (view x)) (sym is)
-
-pub no_items-view : (vs : List Value) → length vs ≡ 0 → items_view vs ≡ no_items
-no_items-view [] e = refl
-no_items-view (v ∷ vs) e = absurd (omega (arith, e))
 
 -- one value more that is not the same
 pub none_more : (vs : List Value) (field : PlaceField) (last : Data) (first : ℕ) (v : Value) → first < length vs → v ≡ get_or vs first v → (IsSame field (view v) last → ⊥)

@@ -156,9 +156,6 @@ replays_more p here me n nodes tapes node tape a b number h i other d under =
           rw (get_or_append_left nodes (node ∷ []) d k (omega (arith, t.1)), get_or_append_left tapes (tape ∷ []) [] k (omega (arith, t.1))) (h other d (omega (arith, t.1)))
     ]
 
-pub replays_none : (p : HostPlan) (here : set.FinSet nat_cmp) (nodes : List (Option NodeValue)) (tapes : List (List TapeEntry)) (n : ℕ) → n ≡ 0 → AreReplays p here n nodes tapes
-replays_none p here nodes tapes n none b d under = absurd (omega (arith, none, under))
-
 pub replays_step : (p : HostPlan) (here : set.FinSet nat_cmp) (me : NodeId) (n most : ℕ) (nodes less : List (Option NodeValue)) (tapes fewer : List (List TapeEntry)) (node : Option NodeValue) (tape : List TapeEntry) → length less ≡ n → length fewer ≡ n
     → AreReplays p here n less fewer → IsClosed p (set.contains here me.number) me node tape → me.number ≡ n → most ≡ n + 1 → nodes ≡ less ++ node ∷ [] → tapes ≡ fewer ++ tape ∷ [] → AreReplays p here most nodes tapes
 replays_step p here me n most nodes less tapes fewer node tape a b h i number up one_node one_tape =

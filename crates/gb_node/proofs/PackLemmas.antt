@@ -1,9 +1,8 @@
 -- A batch that is written is a frame.
 use Rattle.std.proofs.lemmas.Bool.Decides.{nat_tests}
-use Rattle.std.specs.Prelude.{find, map, option_map}
+use Rattle.std.specs.Prelude.{find, option_map}
 use Rattle.std.specs.declared.vec.Vec.{Vec}
 use Rattle.std.specs.declared.alloc.Global.{Global}
-use Rattle.std.proofs.lemmas.List.{map-append}
 use Rattle.gb_node.specs.Frames.{frame_of, window_of}
 use Rattle.gb_node.proofs.FrameLemmas.{again_frame}
 use Rattle.gb_link.specs.SendWindow.{SendWindow, IsWindow, AreRecent, pushed, frame_again}
@@ -50,9 +49,3 @@ pushed_frame version w x out n items h is number batch =
 -- what was written are the texts of these items
 pub batch_is : TextsTellItems → (version : Version) (bytes before : List ℕ) (items : List Item) → before ≡ [] → bytes ≡ before ++ items_text version items → All (IsItem version) items → batch_in version bytes ≡ items
 batch_is tell version bytes before items empty written fit = tell version bytes items (record { parts = written ∙ ap (λ b. b ++ items_text version items) empty; fit = fit })
-
--- the window with the texts that were pushed has their items
-pub pushed_whole : (version : Version) (w : SendWindow (Vec ℕ Global)) (out : Vec ℕ Global) (items : List Item) → batch_in version out.items ≡ items
-    → window_of version (pushed w out) ≡ pushed (window_of version w) items
-pushed_whole version w out items batch =
-    ap (λ us. record { next = w.next + 1; undone = us }) (map-append (frame_of version) w.undone ((w.next, out) ∷ []) ∙ ap (λ is. map (frame_of version) w.undone ++ (w.next, is) ∷ []) batch)

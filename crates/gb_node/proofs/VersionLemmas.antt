@@ -1,26 +1,20 @@
 -- A node's version can name all nodes, and each unacknowledged frame fits a packet of it, whatever happens.
-use Rattle.std.proofs.Common.{◌≡◌, ℕ, zero, suc, ◌≤◌, ◌<◌, Bool, true, false, cond, List, [], ◌∷◌, ◌++◌, Some, None, nat_eq, get_or, Bor, refl, sym, ap, subst, ◌∙◌, arith}
+use Rattle.std.proofs.Common.{◌≡◌, ℕ, zero, suc, ◌≤◌, ◌<◌, Bool, true, false, cond, List, [], ◌∷◌, Some, None, nat_eq, get_or, Bor, refl, sym, ap, subst, ◌∙◌, arith}
 use Rattle.std.specs.Prelude.{Option, MatchOption, filter, find, fold, replicate, slice_get, slice_index_or}
-use Rattle.std.specs.FinSet as set
-use Rattle.std.specs.Ordering.{nat_cmp}
 use Rattle.std.proofs.Math.ListN.{set as set_at}
 use Rattle.gb_types.specs.Version.{limits_of}
 use Rattle.gb_types.specs.declared.limits.TheConstants.{NODES}
 use Rattle.gb_types.specs.declared.node.NodeId.{NodeId}
-use Rattle.gb_types.specs.declared.reply.Reply.{Reply}
-use Rattle.gb_types.specs.declared.request.Action.{Action}
 use Rattle.gb_types.specs.declared.version.Version.{Version}
 use Rattle.gb_frame.specs.Batch.{batch_in, IsBatch, FitPacket}
 use Rattle.gb_frame.specs.declared.item.Item.{Item}
 use Rattle.gb_link.specs.Received.{Received}
-use Rattle.gb_link.specs.SendWindow.{SendWindow, pushed, frame_again}
-use Rattle.gb_table.specs.Requests.{table_did}
+use Rattle.gb_link.specs.SendWindow.{SendWindow, frame_again}
 use Rattle.gb_table.specs.TableValue.{TableValue}
 use Rattle.gb_node.specs.Frames.{FrameWindow, new_frames, AreFitting, IsOfVersion, KeepsVersion}
 use Rattle.gb_node.specs.NodeStep.{without_done, frame_done, frame_comes, notice_each}
 use Rattle.gb_node.specs.NodeValue.{new_node}
 use Rattle.gb_node.specs.declared.plan.NodePlan.{NodePlan}
-use Rattle.gb_node.proofs.EventLemmas.{did_same}
 use Rattle.gb_node.proofs.LinkLemmas.{keeps_all, keeps_frame, keeps_arrived, keeps_notices}
 
 -- Frames.
@@ -43,10 +37,6 @@ find_fits version test (v ∷ us) u fit found = elim (test v) as (λ b. cond b (
 first_fits : (version : Version) (us : List (ℕ × List Item)) (u : ℕ × List Item) → AreFitting version us → slice_get us 0 ≡ Some u → FitPacket version u.1
 first_fits version [] u fit found = absurd cc
 first_fits version (v ∷ us) u fit found = (let same : v ≡ u = cc in subst (λ (x : ℕ × List Item). FitPacket version x.1) same fit.0)
-
-push_fits : (version : Version) (us : List (ℕ × List Item)) (n : ℕ) (items : List Item) → AreFitting version us → FitPacket version items → AreFitting version (us ++ (n, items) ∷ [])
-push_fits version [] n items all fit = (fit, tt)
-push_fits version (u ∷ us) n items all fit = (all.0, push_fits version us n items all.1 fit)
 
 -- a frame that is sent again fits
 pub again_fits : (version : Version) (w : SendWindow (List Item)) (n : ℕ) (u : ℕ × List Item) → AreFitting version w.undone → frame_again w n ≡ Some u → FitPacket version u.1
@@ -74,24 +64,8 @@ same_table t u ws me nodes version k = record {
   frames = λ b. subst (λ (v : Version). IsOfVersion v (slice_index_or ws b (new_frames v))) (sym version) (k.frames b);
 }
 
-pub did_keeps : (noticed : set.FinSet nat_cmp) (reply : Reply) (what : Action) (t : TableValue) (ws : List FrameWindow) → KeepsVersion t ws → KeepsVersion (table_did noticed reply what t) ws
-did_keeps noticed reply what t ws k = let same = did_same noticed reply what t in same_table t (table_did noticed reply what t) ws same.me same.nodes same.version k
-
 pub noticed_keeps : (t : TableValue) (found : List ℕ) (ws : List FrameWindow) → KeepsVersion t ws → KeepsVersion (notice_each t found) ws
 noticed_keeps t found ws k = let same = keeps_notices t found in same_table t (notice_each t found) ws same.me same.nodes same.version k
-
--- a batch is packed
-pub packed_keeps : (t u : TableValue) (ws : List FrameWindow) (k : ℕ) (old w : FrameWindow) (items : List Item)
-    → u.me ≡ t.me → u.nodes ≡ t.nodes → u.version ≡ t.version → w ≡ record { version = old.version; window = pushed old.window items } → old ≡ get_or ws k (new_frames t.version) → FitPacket t.version items → KeepsVersion t ws
-    → KeepsVersion u (set_at ws k w)
-packed_keeps t u ws k old w items me nodes version pushed here fit keeps =
-    let was : IsOfVersion t.version old = subst (IsOfVersion t.version) (sym here) (keeps.frames k) in
-    same_table t u (set_at ws k w) me nodes version (record {
-      nodes = keeps.nodes;
-      me = keeps.me;
-      frames = set_fits t.version (new_frames t.version) ws k w keeps.frames
-          (subst (IsOfVersion t.version) (sym pushed) (record { same = was.same; fitting = push_fits t.version old.window.undone old.window.next items was.fitting fit }));
-    })
 
 -- a packet is taken: the frames that it acknowledges are done, then its own frame comes
 pub taken_keeps : (t mid u : TableValue) (ws : List FrameWindow) (k : ℕ) (old w : FrameWindow) (from : NodeId) (us : List (ℕ × List Item)) (n : ℕ) (items : List Item) (r : Received) (base mask : ℕ)

@@ -12,9 +12,7 @@ use denote.Ref.{Bor}
 use Rattle.gb_types.specs.Words.{words_of}
 use Rattle.gb_types.proofs.WordLemmas.{each_line_is_its_words}
 use Rattle.gb_types.proofs.ReadLemmas.{Reads, found}
-use Rattle.gb_schedule.specs.declared.command.Command.{Command}
 use Rattle.gb_schedule.specs.declared.command.Command.TheVariants.{Step as StepCommand}
-use Rattle.gb_schedule.specs.declared.command.Step.TheVariants as steps
 use Rattle.gb_schedule.specs.declared.command.Step.{Step}
 use Rattle.gb_types.specs.declared.command_words.CommandHead.{CommandHead}
 use Rattle.gb_types.specs.declared.command_words.CommandHead.TheVariants as commands
@@ -112,11 +110,6 @@ step_fetches commands.Shut nodes step words s = let is = s.command_is ∙ ap (as
 step_fetches commands.Drop nodes step words s = let is = s.command_is ∙ ap (asked_at s.node s.address) s.asked_spelt.0 in cc is
 step_fetches commands.Say nodes step words s = let is = s.command_is ∙ ap (asked_at s.node s.address) s.asked_spelt.1 in cc is
 step_fetches commands.Fetch nodes step words s = refl
-
--- and a fetch is a step
-fetch_step : (nodes : ℕ) (command : Command) (words : List (List ℕ)) → SpellsGroup commands.Fetch nodes command words → (t : Step) × (command ≡ StepCommand t)
-fetch_step nodes command words s =
-    (steps.Fetch s.node s.address s.asked_spelt.0.0 s.asked_spelt.0.1, s.command_is ∙ ap (asked_at s.node s.address) s.asked_spelt.1)
 
 -- a line that begins with no step's head spells none. Where the first byte is another head's, nothing more is asked
 pub no_step : (nodes : ℕ) (line : List ℕ) (step : Step) (head : Head) (words : List (List ℕ)) → words_of line ≡ head_word head ∷ words → Spells head (Some nodes) (StepCommand step) words

@@ -1,8 +1,7 @@
 -- How the nodes that are noticed are written.
-use Rattle.std.proofs.Common.{◌≡◌, ℕ, List, [], ◌∷◌, ◌++◌, length, refl, sym, ◌∙◌, ap}
-use Rattle.std.proofs.lemmas.List.{append_assoc, append-nil, take-append-drop}
+use Rattle.std.proofs.Common.{◌≡◌, ℕ, List, [], ◌∷◌, ◌++◌, refl, sym, ◌∙◌, ap}
+use Rattle.std.proofs.lemmas.List.{append_assoc, append-nil}
 use Rattle.std.proofs.lemmas.List.Prefix.{front_rest}
-use Rattle.std.specs.Io.{StartsWith}
 use Rattle.std.specs.FinSet as set
 use Rattle.std.specs.Ordering.{nat_cmp}
 use Rattle.std.specs.Prelude.{codes, Result, Ok, Err, OnOk}
@@ -27,10 +26,6 @@ joined old now more all written is = ap (λ xs. xs ++ more) written ∙ (append_
 pub on_ok : {T E : Type 0} {A B : Type 0} (r : Result T E) → (A → B) → OnOk r A → OnOk r B
 on_ok (Ok v) f h = f h
 on_ok (Err e) f h = h
-
--- a text that begins with the old one is that and what was added
-pub added_behind : (old new : List ℕ) → StartsWith new old → new ≡ old ++ added old new
-added_behind old new front = sym (take-append-drop (length old) new) ∙ ap (λ xs. xs ++ added old new) front
 
 -- nothing was added where nothing changed
 pub nothing_added : (old new : List ℕ) → new ≡ old → added old new ≡ []

@@ -1,8 +1,8 @@
 -- A request is asked by a call, and what the client is told.
-use Rattle.std.proofs.Common.{◌≡◌, ◌≢◌, ◌⊎◌, ◌+◌, ◌∙◌, ℕ, inl, inr, ◌&&◌, ◌||◌, not, Bool, true, false, true≢false, List, [], ◌∷◌, ◌++◌, ap, arith, cond, refl, subst, sym, Result, Ok, Err}
+use Rattle.std.proofs.Common.{◌≡◌, ◌⊎◌, ◌+◌, ◌∙◌, ℕ, inl, inr, ◌&&◌, ◌||◌, not, Bool, true, false, List, [], ◌∷◌, ◌++◌, ap, arith, cond, refl, subst, Result, Ok, Err}
 use Rattle.std.specs.FinSet as set
 use Rattle.std.specs.Ordering.{nat_cmp}
-use Rattle.std.specs.Prelude.{IfOk, IfErr, OnErr, slice_index}
+use Rattle.std.specs.Prelude.{IfOk, IfErr, OnErr}
 use Rattle.gb_types.specs.declared.node.NodeId.{NodeId}
 use Rattle.gb_types.specs.declared.refusal.Refusal.TheVariants.{Stopped, OutOfMemory}
 use Rattle.gb_types.specs.declared.reply.Reply.{Reply}
@@ -19,7 +19,6 @@ use Rattle.gb_host.specs.declared.plan.HostPlan.{HostPlan}
 use Rattle.gb_host.specs.declared.fault.HostFault.{HostFault}
 use Rattle.gb_host.specs.declared.fault.HostFault.TheVariants.{NoNode, ForeignSeat, Differs, OutOfMemory as NoMemory, Full, Behind}
 use Rattle.gb_worker.specs.Answered.{is_stopped, stops_in}
-use Rattle.gb_worker.specs.Ended.{IsLost, IsPassing, IsUncounted}
 use Rattle.gb_worker.specs.Asked.{AnswersAt, reply_at, reply_of}
 
 -- what goes to a recorder is kept
@@ -43,28 +42,6 @@ pub told : {reply : Reply} (p : HostPlan) (here : set.FinSet nat_cmp) (s t : Sea
     → AnswersAt p node s.calls request reply t.calls
 told p here s t node request (Ok a) calls err why answered fault = inl (a, calls, answered)
 told p here s t node request (Err e) calls err why answered fault = inr (ap (λ (x : SeatValue). x.calls) err, told_at p here s node e why fault)
-
--- What a fault is to a worker.
-
--- a call is not kept only where calls are kept, at a node that is here
-pub not_uncounted : (p : HostPlan) (here : set.FinSet nat_cmp) (seat : SeatValue) (node : NodeId) (why : HostFault) → IsRefused p here seat node why → IsPassing why → IsUncounted p here node → ⊥
-not_uncounted p here seat node NoMemory refused passing (inl off) = true≢false (sym refused.1 ∙ off)
-not_uncounted p here seat node NoMemory refused passing (inr away) = true≢false (sym refused.0 ∙ away)
-not_uncounted p here seat node Behind refused passing (inl off) = true≢false (sym (kept_by_ring p.tape p.ring refused.1) ∙ off)
-not_uncounted p here seat node Behind refused passing (inr away) = true≢false (sym refused.0 ∙ away)
-not_uncounted p here seat node NoNode refused passing at = absurd passing
-not_uncounted p here seat node ForeignSeat refused passing at = absurd passing
-not_uncounted p here seat node (Differs difference) refused passing at = absurd passing
-not_uncounted p here seat node Full refused passing at = absurd passing
-
--- any other fault is that the host does not take the seat's calls there
-pub lost_by : (p : HostPlan) (here : set.FinSet nat_cmp) (old new : SeatValue) (node : NodeId) (why : HostFault) → IsRefused p here old node why → (IsPassing why → ⊥) → new ≡ old → IsLost here node new
-lost_by p here old new node NoNode refused not same = inl refused
-lost_by p here old new node ForeignSeat refused not same = absurd refused
-lost_by p here old new node (Differs difference) refused not same = absurd refused
-lost_by p here old new node NoMemory refused not same = absurd (not tt)
-lost_by p here old new node Behind refused not same = absurd (not tt)
-lost_by p here old new node Full refused not same = inr (ap (λ (s : SeatValue). slice_index s.counts node.number) same ∙ refused.1)
 
 -- Answers Stopped.
 

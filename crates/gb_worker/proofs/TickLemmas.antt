@@ -1,27 +1,17 @@
 -- What ticks add to a list.
-use Rattle.std.proofs.Common.{◌≡◌, ℕ, ◌+◌, true, false, List, [], ◌∷◌, ◌++◌, cond, refl, sym, ap, ◌∙◌, append_assoc, add-one}
+use Rattle.std.proofs.Common.{◌≡◌, ℕ, ◌+◌, List, [], ◌∷◌, ◌++◌, refl, sym, ap, ◌∙◌, append_assoc, add-one}
 use Rattle.std.specs.FinSet as set
 use Rattle.std.specs.Ordering.{nat_cmp}
 use Rattle.gb_types.specs.declared.node.NodeId.{NodeId}
-use Rattle.gb_node.specs.declared.answer.NodeAnswer.{NodeAnswer}
 use Rattle.gb_node.specs.declared.event.NodeEvent.{NodeEvent}
-use Rattle.gb_node.specs.declared.event.NodeEvent.TheVariants.{Tick}
 use Rattle.gb_host.specs.declared.entry.SeatEntry.{SeatEntry}
-use Rattle.gb_worker.specs.Gained.{Gains, noted}
+use Rattle.gb_worker.specs.Gained.{Gains}
 use Rattle.gb_worker.specs.Ticks.{events_of, tick_at, ticks_to, tick_turns, AreTicks, IsTick}
-use Rattle.gb_worker.proofs.GainLemmas.{append_nil, joined}
+use Rattle.gb_worker.proofs.GainLemmas.{joined}
 
 events_append : (xs ys : List SeatEntry) → events_of (xs ++ ys) ≡ events_of xs ++ events_of ys
 events_append [] ys = refl
 events_append (x ∷ xs) ys = ap (λ zs. (x.node.number, x.event) ∷ zs) (events_append xs ys)
-
--- no tick, at a node that is not here
-pub ticked_none : (here : set.FinSet nat_cmp) (node : NodeId) (list : List SeatEntry) → set.contains here node.number ≡ false → Gains (IsTick here node) list list
-ticked_none here node list not = ([], sym (append_nil list), sym (ap (λ b. cond b ((node.number, Tick) ∷ []) []) not))
-
--- a tick
-pub ticked_one : (here : set.FinSet nat_cmp) (node : NodeId) (a : NodeAnswer) (old new : List SeatEntry) → set.contains here node.number ≡ true → new ≡ old ++ noted node Tick a ∷ [] → Gains (IsTick here node) old new
-ticked_one here node a old new is h = (noted node Tick a ∷ [], h, sym (ap (λ b. cond b ((node.number, Tick) ∷ []) []) is))
 
 -- what a node more adds
 pub ticked_more : (here : set.FinSet nat_cmp) (nodes t k : ℕ) (node : NodeId) (old now new : List SeatEntry) → node.number ≡ k → Gains (AreTicks here nodes t k) old now → Gains (IsTick here node) now new → Gains (AreTicks here nodes t (k + 1)) old new
