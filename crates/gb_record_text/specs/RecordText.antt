@@ -1,10 +1,12 @@
 -- The text of a node's record: a line for each entry of its tape, in the words of a schedule and its answers, with tokens, keys and packets in full.
 use Rattle.std.specs.Prelude.{ℕ, List, [], ◌∷◌, ◌++◌, Option, Some, None, codes, decimal}
 use Rattle.hex.specs.Hex.{encode_lower}
+use Rattle.gb_types.specs.CommandWords.{head_word}
 use Rattle.gb_types.specs.KindWord.{kind_word}
 use Rattle.gb_types.specs.PayloadWord.{payload_word}
 use Rattle.gb_types.specs.ReplyText.{reply_spelling}
 use Rattle.gb_types.specs.declared.address.Addr.{Addr}
+use Rattle.gb_types.specs.declared.command_words.CommandHead.TheVariants as heads
 use Rattle.gb_types.specs.declared.node.NodeId.{NodeId}
 use Rattle.gb_types.specs.declared.reply.Reply.TheVariants.{Refused}
 use Rattle.gb_types.specs.declared.request.Action.{Action}
@@ -68,12 +70,12 @@ message_text message = after_space (payload_word message.payload) ++ seq_text me
 
 -- the word that a command begins with
 abbrev pub command_head : GroupCommand → List ℕ
-command_head (Make spec) = codes "make"
-command_head Open = codes "open"
-command_head Shut = codes "shut"
-command_head Drop = codes "drop"
-command_head (Say message) = codes "say"
-command_head (Fetch from most) = codes "fetch"
+command_head (Make spec) = head_word heads.Make
+command_head Open = head_word heads.Open
+command_head Shut = head_word heads.Shut
+command_head Drop = head_word heads.Drop
+command_head (Say message) = head_word heads.Say
+command_head (Fetch from most) = head_word heads.Fetch
 
 -- what a command has behind the group's address
 abbrev pub command_text : GroupCommand → List ℕ

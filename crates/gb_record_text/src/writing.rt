@@ -1,6 +1,7 @@
 //! How an entry of a tape is written. If there is no memory, a part of it may have been appended.
 ghost use Rattle.std.specs.Prelude.{◌≡◌, ◌++◌, [], ◌∷◌, codes, decimal, OnOk, OnErr};
 ghost use Rattle.hex.specs.Hex.{encode_lower};
+ghost use Rattle.gb_types.specs.CommandWords.{head_word};
 ghost use Rattle.gb_types.specs.MembersWord.{members_word};
 ghost use Rattle.gb_types.specs.RequestWords.{group_word};
 ghost use Rattle.gb_types.specs.Rising.{rising, rising_from};
@@ -10,11 +11,13 @@ use crate::digits::{put_digits, put_payload};
 use crate::log::put_reply;
 use gb_node::{NodeAnswer, NodeEvent, PacketAnswer, Sent, TapeEntry};
 use gb_simulate::answer_text::{put_halted, put_packet, put_refusal, put_ticked};
+use gb_types::command_words::head_word;
 use gb_types::kind_word::word_of;
 use gb_types::memory::put_bytes;
 use gb_types::number::put_number;
 use gb_types::{
-    Action, Addr, GroupCommand, NewMessage, NodeId, NodeSet, OutOfMemory, Request, Spec, TenantRow,
+    Action, Addr, CommandHead, GroupCommand, NewMessage, NodeId, NodeSet, OutOfMemory, Request,
+    Spec, TenantRow,
 };
 
 /// Appends bytes.
@@ -139,17 +142,17 @@ fn put_message(out: &mut Vec<u8>, message: &NewMessage) -> Result<(), OutOfMemor
     }
 }
 
-/// Returns the word that a command begins with.
-fn head_of(command: &GroupCommand) -> &'static [u8]
-    ensures { result.now ≡ command_head command.now }
+/// Returns the head of a command.
+fn head_of(command: &GroupCommand) -> CommandHead
+    ensures { head_word result ≡ command_head command.now }
 {
     match command {
-        GroupCommand::Make(_) => b"make",
-        GroupCommand::Open => b"open",
-        GroupCommand::Shut => b"shut",
-        GroupCommand::Drop => b"drop",
-        GroupCommand::Say(_) => b"say",
-        GroupCommand::Fetch(_, _) => b"fetch",
+        GroupCommand::Make(_) => CommandHead::Make,
+        GroupCommand::Open => CommandHead::Open,
+        GroupCommand::Shut => CommandHead::Shut,
+        GroupCommand::Drop => CommandHead::Drop,
+        GroupCommand::Say(_) => CommandHead::Say,
+        GroupCommand::Fetch(_, _) => CommandHead::Fetch,
     }
 }
 
@@ -178,7 +181,7 @@ fn put_action(out: &mut Vec<u8>, node: NodeId, what: &Action) -> Result<(), OutO
             put_row(out, node, row)
         }
         Action::Group(addr, command) => {
-            put_bytes(out, head_of(command))?;
+            put_bytes(out, head_word(head_of(command)))?;
             put_address(out, node, addr)?;
             put_command(out, command)
         }
