@@ -1,14 +1,14 @@
 -- Which nodes have each own message for good: the slot keeps what the acknowledged places of carried items say.
-use Rattle.std.proofs.Common.{◌≡◌, ◌≢◌, ℕ, zero, suc, ◌+◌, ◌-◌, ◌<◌, ◌≤◌, List, [], ◌∷◌, ◌++◌, length, take, get_or, Bool, true, false, ◌&&◌, ◌||◌, ◌⊎◌, inl, inr, refl, sym, ◌∙◌, ap, arith, nat_eq, nat_le, slice_set, slice_index_or, length-append}
+use Rattle.std.proofs.Common.{◌≡◌, ◌≢◌, ℕ, zero, suc, ◌+◌, ◌-◌, ◌<◌, ◌≤◌, List, [], ◌∷◌, ◌++◌, length, take, get_or, Bool, true, false, ◌&&◌, ◌||◌, ◌⊎◌, inl, inr, refl, sym, ◌∙◌, ap, arith, nat_eq, length-append}
 use Rattle.std.specs.Prelude.{map, drop, not, if◌then◌else◌}
 use Rattle.std.specs.List.{list_any, range_with_len, AllByRecursion}
 use Rattle.std.specs.Ordering.{nat_cmp}
 use Rattle.std.specs.FinSet as set
 use Rattle.std.proofs.Math.Seq.{get_or-append_seam}
 use Rattle.std.proofs.Math.Bool.{and-false, or-false, or_assoc}
-use Rattle.std.proofs.lemmas.Bool.{cases_Bool, cases_eq, cases_lt, eqb-true, or_parts}
+use Rattle.std.proofs.lemmas.Bool.{cases_eq, cases_lt, eqb-true, or_parts}
 use Rattle.std.proofs.lemmas.Bool.Decides.{nat_tests}
-use Rattle.std.proofs.lemmas.List.{get_or-set_same, get_or-set_other, get_or_append_left, length-set}
+use Rattle.std.proofs.lemmas.List.{get_or_append_left}
 use Rattle.std.proofs.lemmas.List.Folds.{list_any-append}
 use Rattle.gb_types.specs.Entry.{message_of}
 use Rattle.gb_types.specs.declared.entry.Entry.{Entry}
@@ -26,6 +26,7 @@ use Rattle.gb_slot.specs.HistoryLaws.{DoneStands}
 use Rattle.gb_slot.specs.Slot.{slot_done, with_acknowledgement, waiting, taken_for}
 use Rattle.gb_slot.specs.SlotState.{SlotState}
 use Rattle.gb_slot.specs.StandsFor.{StandsFor}
+use Rattle.gb_slot.proofs.AcknowledgedLemmas.{length-done, with_one}
 use Rattle.gb_alone.specs.Alone.{is_marked, is_message, is_acknowledged}
 use Rattle.gb_alone.proofs.MarkLemmas.{unknown_acknowledged}
 use Rattle.gb_group_run.specs.SlotMember.{slot_marked}
@@ -114,60 +115,6 @@ acks_took s told b count rows next done h here others beyond was = record {
         ∙ (λ i. (ap (λ d. list_any (is_message s.me.number (k + 1)) (rows d)) (sym is) ∙ was.unsaid k c node far) i || any_first (is_message s.me.number (k + 1)) count (waiting s b) (own_waiting s told k b h few) i))
 
 -- Messages are acknowledged by a node.
-
-length-with : (seq : ℕ) (b : NodeId) (acks : Acks) → length (with_acknowledgement seq b acks) ≡ length acks
-length-with seq b acks =
-    elim (nat_le 1 seq && nat_le seq (length acks)) as (λ t. length (if t then slice_set acks (seq - 1) (set.insert (slice_index_or acks (seq - 1) set.empty) b.number) else acks) ≡ length acks) [
-      | true ↦ length-set acks (seq - 1) (set.insert (slice_index_or acks (seq - 1) set.empty) b.number)
-      | false ↦ refl
-    ]
-
-length-done : (b : NodeId) (m : MsgId) (s : SlotState) → length (slot_done b m s).acknowledged ≡ length s.acknowledged
-length-done b m s = elim (nat_eq m.origin.number s.me.number) as (λ t. length (if t then with_acknowledgement m.seq b s.acknowledged else s.acknowledged) ≡ length s.acknowledged) [
-  | true ↦ length-with m.seq b s.acknowledged
-  | false ↦ refl
-]
-
-with_one : (seq : ℕ) (b : NodeId) (acks : Acks) (k c : ℕ) → k < length acks
-    → set.contains (get_or (with_acknowledgement seq b acks) k set.empty) c ≡ (set.contains (get_or acks k set.empty) c || (nat_eq c b.number && nat_eq seq (k + 1)))
-with_one seq b acks k c low = go (cases_eq seq (k + 1))
-  where
-    old : set.FinSet nat_cmp
-    old = get_or acks (seq - 1) set.empty
-
-    swap : nat_eq b.number c ≡ nat_eq c b.number
-    swap = grind (arith, nat_tests)
-
-    or_swap : (x y : Bool) → (x || y) ≡ (y || (x && true))
-    or_swap true true = refl
-    or_swap true false = refl
-    or_swap false true = refl
-    or_swap false false = refl
-
-    go : ((seq ≡ k + 1) ⊎ (seq ≡ k + 1 → ⊥)) → set.contains (get_or (with_acknowledgement seq b acks) k set.empty) c ≡ (set.contains (get_or acks k set.empty) c || (nat_eq c b.number && nat_eq seq (k + 1)))
-    go (inl same) =
-        let inside : (nat_le 1 seq && nat_le seq (length acks)) ≡ true = grind (arith, nat_tests, same, low) in
-        let place : seq - 1 ≡ k = omega (arith, same) in
-        let equal : nat_eq seq (k + 1) ≡ true = grind (arith, nat_tests, same) in
-        ap (λ t. set.contains (get_or (if t then slice_set acks (seq - 1) (set.insert old b.number) else acks) k set.empty) c) inside
-        ∙ (ap (λ n. set.contains (get_or (slice_set acks n (set.insert (get_or acks n set.empty) b.number)) k set.empty) c) place
-        ∙ (ap (λ (x : set.FinSet nat_cmp). set.contains x c) (get_or-set_same acks k (set.insert (get_or acks k set.empty) b.number) set.empty low)
-        ∙ (contains-inserted (get_or acks k set.empty) b.number c
-        ∙ (ap (λ t. t || set.contains (get_or acks k set.empty) c) swap
-        ∙ (or_swap (nat_eq c b.number) (set.contains (get_or acks k set.empty) c)
-        ∙ ap (λ t. set.contains (get_or acks k set.empty) c || (nat_eq c b.number && t)) (sym equal))))))
-    go (inr other) =
-        let apart : nat_eq seq (k + 1) ≡ false = grind (arith, nat_tests, other) in
-        kept (cases_Bool (nat_le 1 seq && nat_le seq (length acks)))
-        ∙ (sym (or-false (set.contains (get_or acks k set.empty) c)) ∙ ap (λ t. set.contains (get_or acks k set.empty) c || t) (sym (ap (λ t. nat_eq c b.number && t) apart ∙ and-false (nat_eq c b.number))))
-      where
-        kept : (((nat_le 1 seq && nat_le seq (length acks)) ≡ true) ⊎ ((nat_le 1 seq && nat_le seq (length acks)) ≡ false)) → set.contains (get_or (with_acknowledgement seq b acks) k set.empty) c ≡ set.contains (get_or acks k set.empty) c
-        kept (inl inside) =
-            let some : 1 ≤ seq = grind (arith, nat_tests, inside) in
-            let away : k ≢ seq - 1 = λ e. other (omega (arith, e, some)) in
-            ap (λ t. set.contains (get_or (if t then slice_set acks (seq - 1) (set.insert old b.number) else acks) k set.empty) c) inside
-            ∙ ap (λ (x : set.FinSet nat_cmp). set.contains x c) (get_or-set_other acks (seq - 1) k (set.insert old b.number) set.empty away)
-        kept (inr outside) = ap (λ t. set.contains (get_or (if t then slice_set acks (seq - 1) (set.insert old b.number) else acks) k set.empty) c) outside
 
 done_one : (b : NodeId) (x : Entry) (s : SlotState) (k c : ℕ) → k < length s.acknowledged
     → set.contains (get_or (slot_done b (message_of x) s).acknowledged k set.empty) c ≡ (set.contains (get_or s.acknowledged k set.empty) c || (nat_eq c b.number && is_message s.me.number (k + 1) x))

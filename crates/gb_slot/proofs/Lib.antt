@@ -1,3 +1,4 @@
+pub mod AcknowledgedLemmas
 pub mod ArrivalLemmas
 pub mod CalledLemmas
 pub mod CountedLemmas
