@@ -4,6 +4,7 @@ use Rattle.std.specs.List.{between}
 use Rattle.std.proofs.lemmas.Bool.{cases_lt, eqb-true, eq-eqb}
 use Rattle.std.proofs.lemmas.List.{take-append-drop, take-take, drop-take, drop-drop, drop_more, take_at, take-append-le, length-append, length-drop, length-take-le}
 use Rattle.std.proofs.lemmas.List.Edits.{length-between, get_or-between}
+use Rattle.std.proofs.Math.Seq.{take-append-add}
 use Rattle.std.proofs.lemmas.Slice.{between_from_start}
 use Rattle.std.proofs.lemmas.List.Elements.{All-from_get_or, All-get_or}
 use Rattle.std.specs.List.{copy_within}
@@ -91,13 +92,7 @@ feed_none xs i j within none k a b is =
 
 -- the front of two lists, past the first
 take-past : (xs ys : List ℕ) (n k : ℕ) → length xs ≡ n → take (n + k) (xs ++ ys) ≡ xs ++ take k ys
-take-past xs ys n k count = rw (← count) (take-past-length xs ys k)
-  where
-    take-past-length : (xs ys : List ℕ) (k : ℕ) → take (length xs + k) (xs ++ ys) ≡ xs ++ take k ys
-    take-past-length [] ys k = ap (λ q. take q ys) (omega arith)
-    take-past-length (x ∷ xs) ys k =
-        let count : suc (length xs) + k ≡ suc (length xs + k) = omega arith in
-        rw (count, take-past-length xs ys k)
+take-past xs ys n k count = ap (λ m. take m (xs ++ ys)) (omega arith) ∙ take-append-add xs ys k
 
 length-behind : (xs buf : List ℕ) (n k : ℕ) → length xs ≡ n + k → length buf ≡ k → length (put_mid n k xs buf) ≡ n + k
 length-behind xs buf n k whole part =
