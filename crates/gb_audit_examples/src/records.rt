@@ -7,10 +7,11 @@ use crate::steps::{At, Step, Taped, hand_over, start, take_all};
 use gb_audit_run::audit::audit;
 use gb_audit_run::verdict::status_of;
 use gb_audit_run::{ClusterKeys, Source};
-use gb_node::Tape;
+use gb_node::{Tape, TapeEntry};
 use gb_record_text::RecordHead;
+use gb_record_text::head::put_head;
 use gb_record_text::laws::same_lines_same_entries;
-use gb_record_text::record::write_record;
+use gb_record_text::writing::put_entry;
 use gb_types::memory::put_bytes;
 use gb_types::{NodeId, OutOfMemory, Plan};
 use std::alloc::Global;
@@ -102,6 +103,21 @@ pub fn changed(alloc: Global, text: &[u8], change: Change) -> Result<Vec<u8>, Ou
     Ok(out)
 }
 
+// Appends the record of a whole tape.
+fn put_record(
+    out: &mut Vec<u8>,
+    head: &RecordHead,
+    entries: &[TapeEntry],
+) -> Result<(), OutOfMemory> {
+    put_head(out, head)?;
+    put_bytes(out, b"\n")?;
+    for entry in entries {
+        put_entry(out, head.node, entry)?;
+        put_bytes(out, b"\n")?;
+    }
+    put_bytes(out, b"end\n")
+}
+
 /// Returns the records of the two nodes of a cluster of `plan` after `steps`, as texts. `Err` if memory is refused.
 pub fn records_of(alloc: Global, plan: &Plan, steps: &[At]) -> Result<Vec<Vec<u8>>, OutOfMemory>
     requires { IsClusterPlan plan.now }
@@ -123,9 +139,7 @@ pub fn records_of(alloc: Global, plan: &Plan, steps: &[At]) -> Result<Vec<Vec<u8
             room: plan.room,
         };
         let mut text = Vec::new(alloc);
-        if write_record(alloc, &mut text, &head, tapes[number].as_slice()).is_err() {
-            return Err(OutOfMemory);
-        }
+        put_record(&mut text, &head, tapes[number].as_slice())?;
         texts.push(text)?;
     }
     Ok(texts)

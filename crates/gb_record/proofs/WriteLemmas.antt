@@ -1,16 +1,15 @@
 -- What is written, and what is known of it.
-use Rattle.std.proofs.Common.{◌≡◌, ℕ, Bool, true, false, ◌||◌, ◌≤◌, ◌-◌, length, take, drop, arith, List, [], ◌∷◌, ◌++◌, ◌⊎◌, inl, inr, Option, Some, None, refl, sym, ap, subst, ◌∙◌, cond, true≢false}
+use Rattle.std.proofs.Common.{◌≡◌, ℕ, Bool, true, false, ◌||◌, ◌≤◌, ◌-◌, length, take, drop, arith, List, [], ◌∷◌, ◌++◌, ◌⊎◌, inl, inr, Option, Some, None, refl, sym, ap, subst, ◌∙◌, cond, true≢false, append_assoc}
 use Rattle.std.specs.Prelude.{filter}
 use Rattle.std.specs.Io.KnownBytes.{Appends, Keeps}
 use Rattle.std.specs.List.{list_any}
 use Rattle.std.proofs.Math.Logic.{∥∥₁_map}
-use Rattle.std.proofs.lemmas.List.{drop_at, length-append, length-drop}
+use Rattle.std.proofs.lemmas.List.{append-nil, drop_at, length-append, length-drop}
 use Rattle.std.proofs.Math.Seq.{take-length}
 use Rattle.std.proofs.lemmas.List.Folds.{list_any-append}
 use Rattle.gb_types.proofs.BoolLemmas.{or_first, or_second}
 use Rattle.gb_node.specs.declared.tape.TapeEntry.{TapeEntry}
 use Rattle.gb_host.specs.RingValues.{RecorderValue}
-use Rattle.gb_record_text.proofs.LineLemmas.{appends_both, appends_none}
 use Rattle.gb_record_text.specs.RecordText.{entry_lines}
 use Rattle.gb_record_text.specs.declared.record.WriteFault.{WriteFault}
 use Rattle.gb_record.specs.Gathered.{IsGathered, IsWritten}
@@ -22,6 +21,17 @@ appends_kept None b c text first next = tt
 appends_kept (Some xs) None c text first next = absurd first
 appends_kept (Some xs) (Some ys) None text first next = absurd next
 appends_kept (Some xs) (Some ys) (Some zs) text first next = next ∙ first
+
+appends_both : (old mid new : Option (List ℕ)) (a b : List ℕ) → Appends old mid a → Appends mid new b → Appends old new (a ++ b)
+appends_both None mid new a b first next = tt
+appends_both (Some xs) None new a b first next = absurd first
+appends_both (Some xs) (Some ys) None a b first next = absurd next
+appends_both (Some xs) (Some ys) (Some zs) a b first next = next ∙ (ap (λ q. q ++ b) first ∙ append_assoc xs a b)
+
+-- nothing written
+appends_none : (old : Option (List ℕ)) → Appends old old []
+appends_none None = tt
+appends_none (Some xs) = sym (append-nil xs)
 
 or_either : (a b : Bool) → (a || b) ≡ true → (a ≡ true) ⊎ (b ≡ true)
 or_either true b h = inl refl

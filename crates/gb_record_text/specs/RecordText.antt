@@ -139,7 +139,3 @@ head_line h = codes "tape 1" ++ after_space (decimal h.node.number) ++ after_spa
 -- the line behind a tape that is whole
 abbrev pub last_line : List ℕ
 last_line = codes "end\n"
-
--- the record of a whole tape
-abbrev pub record_text : RecordHead → List TapeEntry → List ℕ
-record_text h entries = head_line h ++ 10 ∷ (entry_lines h.node entries ++ last_line)

@@ -1,6 +1,5 @@
 //! The text of a node's record: a first line, and a line for each entry of its tape, written exactly and read back exactly. Read
-//! `writing::put_entry` and `reading::read_entry`, then `record::write_record` and `reader::read_record`; specs/RecordText.antt has
-//! the text.
+//! `writing::put_entry` and `reading::read_entry`, then `reader::read_record`; specs/RecordText.antt has the text.
 #![tactic(auto)]
 
 mod digits;

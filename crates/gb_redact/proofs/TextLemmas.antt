@@ -1,16 +1,13 @@
 -- The lines of a redacted record, one after another.
-use Rattle.std.proofs.Common.{◌≡◌, ℕ, ◌+◌, ◌<◌, Bool, true, false, List, [], ◌∷◌, ◌++◌, length, take, drop, get_or, refl, sym, ap, ◌∙◌, append_assoc}
+use Rattle.std.proofs.Common.{◌≡◌, ℕ, ◌+◌, ◌<◌, Bool, true, false, List, [], ◌∷◌, ◌++◌, length, take, drop, get_or, ap, ◌∙◌, append_assoc}
 use Rattle.std.specs.Prelude.{codes, if◌then◌else◌}
 use Rattle.std.proofs.lemmas.List.{take_more}
 use Rattle.gb_types.specs.declared.node.NodeId.{NodeId}
 use Rattle.gb_node.specs.declared.tape.TapeEntry.{TapeEntry}
+use Rattle.gb_record_text.proofs.LineLemmas.{lines_more as behind_lines}
 use Rattle.gb_record_text.specs.RecordText.{head_line, entry_line, entry_lines, last_line}
 use Rattle.gb_record_text.specs.declared.head.RecordHead.{RecordHead}
 use Rattle.gb_redact.specs.RedactedText.{marked}
-
-behind_lines : (b : NodeId) (es : List TapeEntry) (e : TapeEntry) → entry_lines b (es ++ e ∷ []) ≡ entry_lines b es ++ (entry_line b e ++ 10 ∷ [])
-behind_lines b [] e = refl
-behind_lines b (x ∷ es) e = ap (λ t. entry_line b x ++ 10 ∷ t) (behind_lines b es e) ∙ sym (append_assoc (entry_line b x) (10 ∷ entry_lines b es) (entry_line b e ++ 10 ∷ []))
 
 -- one line more
 pub lines_more : (b : NodeId) (es : List TapeEntry) (i : ℕ) (d : TapeEntry) → i < length es → entry_lines b (take (i + 1) es) ≡ entry_lines b (take i es) ++ (entry_line b (get_or es i d) ++ 10 ∷ [])
