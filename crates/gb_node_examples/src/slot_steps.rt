@@ -51,12 +51,12 @@ pub enum Step {
 fn waits(slot: &Slot, dest: NodeId, count: usize, want: Message) -> bool {
     let (number, seq, payload) = want;
     let origin = node(number);
-    match slot.peek(dest) {
-        Some((m, found)) => {
-            slot.waiting_for(dest) == count && m == MsgId { origin, seq } && found == payload
-        }
-        None => false,
+    let waiting = slot.waiting_for(dest);
+    if waiting == 0 {
+        return false;
     }
+    let (m, found) = slot.peek_at(dest, 0);
+    waiting == count && m == MsgId { origin, seq } && found == payload
 }
 
 fn has_log(slot: &Slot, want: &[Message]) -> bool {
@@ -130,10 +130,7 @@ fn holds(version: Version, slot: &mut Slot, step: Step) -> bool {
             true
         }
         Step::Waits(dest, count, want) => waits(slot, node(dest), count, want),
-        Step::Idle(dest) => {
-            let dest = node(dest);
-            slot.waiting_for(dest) == 0 && slot.peek(dest).is_none()
-        }
+        Step::Idle(dest) => slot.waiting_for(node(dest)) == 0,
         Step::Log(want) => has_log(slot, want),
         Step::Fetch(from, most, want) => fetches(slot, from, most, want),
         Step::Said(count) => slot.acknowledged().len() == count,

@@ -1,5 +1,5 @@
 -- The messages that were put out, by their places in the store.
-use Rattle.std.proofs.Common.{◌≡◌, ℕ, zero, suc, ◌+◌, ◌<◌, true, false, List, [], ◌∷◌, ◌++◌, length, map, slice_get, Some, None, refl, sym, ◌∙◌, ap, subst, arith, append-nil, length-append}
+use Rattle.std.proofs.Common.{◌≡◌, ℕ, zero, suc, ◌+◌, ◌<◌, true, false, List, [], ◌∷◌, ◌++◌, length, map, slice_get, Some, refl, sym, ◌∙◌, ap, subst, arith, append-nil, length-append}
 use Rattle.std.specs.Prelude.{nat_lt, if◌then◌else◌}
 use Rattle.std.proofs.lemmas.Bool.{ltb-true, lt-ltb}
 use Rattle.std.proofs.lemmas.List.{map-append, length-map, get_or_append_left}
@@ -38,12 +38,6 @@ pub message_read : (store : List Entry) (places : List ℕ) (i place : ℕ) (m :
 message_read store [] i place m is there = cc
 message_read store (p ∷ places) zero place m is there = let e : p ≡ place = cc in ap (λ k. Some (message_at (map message_of store) k)) e ∙ ap Some (message_there store place m there)
 message_read store (p ∷ places) (suc i) place m is there = message_read store places i place m is there
-
--- none stands behind the last
-pub message_none : (store : List Entry) (places : List ℕ) (i : ℕ) → slice_get places i ≡ None → slice_get (messages_at store places) i ≡ None
-message_none store [] i is = refl
-message_none store (p ∷ places) zero is = cc
-message_none store (p ∷ places) (suc i) is = message_none store places i is
 
 -- the messages stay as the store grows
 pub messages_stay : (store more later : List Entry) (places : List ℕ) → later ≡ store ++ more → AreInStore store places → messages_at later places ≡ messages_at store places

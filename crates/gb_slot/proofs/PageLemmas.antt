@@ -1,25 +1,13 @@
 -- Parts of lists.
-use Rattle.std.proofs.Common.{◌≡◌, ℕ, zero, suc, ◌+◌, ◌-◌, ◌<◌, Bool, true, false, length, List, [], ◌∷◌, take, drop, Some, None, refl, sym, ◌∙◌, ap, arith}
-use Rattle.std.specs.Prelude.{map, slice_get, if◌then◌else◌}
-use Rattle.std.proofs.lemmas.List.{take-map, drop-map, drop_more, length-map, length-drop}
-use Rattle.std.proofs.lemmas.Option.{slice_get_within, get_or_from_slice_get}
+use Rattle.std.proofs.Common.{◌≡◌, ℕ, ◌-◌, ◌<◌, Bool, true, false, length, List, [], take, drop, refl, sym, ◌∙◌, ap, arith}
+use Rattle.std.specs.Prelude.{map, if◌then◌else◌}
+use Rattle.std.proofs.lemmas.List.{take-map, drop-map, length-map, length-drop}
 use Rattle.gb_types.specs.declared.message.MsgId.{MsgId}
 use Rattle.gb_types.specs.declared.entry.Entry.{Entry}
 
 -- the same part of a list of messages
 pub page-map : (f : MsgId → Entry) (ms : List MsgId) (from most : ℕ) → map f (take most (drop from ms)) ≡ take most (drop from (map f ms))
 page-map f ms from most = sym (take-map f most (drop from ms)) ∙ ap (take most) (sym (drop-map f from ms))
-
--- the rest of a list from the place of an item
-pub drop-at : {X : Type 0} (xs : List X) (i : ℕ) (x : X) → slice_get xs i ≡ Some x → drop i xs ≡ x ∷ drop (i + 1) xs
-drop-at xs i x is = drop_more xs i x (slice_get_within xs i x is) ∙ ap (λ y. y ∷ drop (i + 1) xs) (get_or_from_slice_get xs i x x is)
-
--- nothing is left from a place at which there is no item
-pub drop-none : {X : Type 0} (xs : List X) (i : ℕ) → slice_get xs i ≡ None → drop i xs ≡ []
-drop-none [] zero is = refl
-drop-none [] (suc i) is = refl
-drop-none (x ∷ xs) zero is = cc
-drop-none (x ∷ xs) (suc i) is = drop-none xs i is
 
 -- the rest of a list from a place is as long as that of one as long
 pub same_rest : (f g : MsgId → Entry) (b : Bool) (n : ℕ) (ms ns : List MsgId) → length ms ≡ length ns → length (if b then map f (drop n ms) else []) ≡ length (if b then map g (drop n ns) else [])

@@ -1,5 +1,5 @@
 -- The answers of a slot, and the part of it that the rules read.
-use Rattle.std.proofs.Common.{◌≡◌, ℕ, zero, suc, ◌+◌, ◌≤◌, ◌<◌, ◌||◌, ◌&&◌, not, true, false, List, [], ◌∷◌, length, take, drop, Some, None, refl, sym, ◌∙◌, ap, arith}
+use Rattle.std.proofs.Common.{◌≡◌, ℕ, zero, suc, ◌+◌, ◌≤◌, ◌<◌, ◌||◌, ◌&&◌, not, true, false, List, [], ◌∷◌, length, take, drop, Some, refl, sym, ◌∙◌, ap, arith}
 use Rattle.std.specs.Prelude.{map, slice_get, option_map, nat_lt, if◌then◌else◌}
 use Rattle.std.proofs.lemmas.Option.{slice_get-map}
 use Rattle.std.specs.FinSet as set
@@ -17,8 +17,8 @@ use Rattle.gb_rules.specs.Group.{Shown, is_other, fetch_answer}
 use Rattle.gb_slot.specs.Outgoing.{messages_at}
 use Rattle.gb_slot.specs.Slot.{shown, waiting, taken_for}
 use Rattle.gb_slot.specs.SlotState.{SlotState}
-use Rattle.gb_slot.proofs.OutgoingLemmas.{message_read, message_none}
-use Rattle.gb_slot.proofs.PageLemmas.{page-map, drop-at, drop-none}
+use Rattle.gb_slot.proofs.OutgoingLemmas.{message_read}
+use Rattle.gb_slot.proofs.PageLemmas.{page-map}
 
 -- the entries from a place on are what a fetch gives
 page_fetched : (s : Shown) (from most : ℕ) (entries : List Entry) → from ≤ length s.log → most ≤ FETCH → entries ≡ take most (drop from s.log) → Log entries ≡ fetch_answer s from most
@@ -48,24 +48,6 @@ fetched_some s log from most is within few some =
 -- the message that was put out, from what is read there
 pub put-at : (s : SlotState) (store : List Entry) (outgoing read : List ℕ) (i place : ℕ) (m : MsgId) → messages_at store outgoing ≡ s.outgoing → read ≡ outgoing → slice_get read i ≡ Some place → slice_get (map message_of store) place ≡ Some m → slice_get s.outgoing i ≡ Some m
 put-at s store outgoing read i place m is same at there = ap (λ ms. slice_get ms i) (sym is) ∙ message_read store outgoing i place m (ap (λ ps. slice_get ps i) (sym same) ∙ at) there
-
-pub put-none : (s : SlotState) (store : List Entry) (outgoing read : List ℕ) (i : ℕ) → messages_at store outgoing ≡ s.outgoing → read ≡ outgoing → slice_get read i ≡ None → slice_get s.outgoing i ≡ None
-put-none s store outgoing read i is same none = ap (λ ms. slice_get ms i) (sym is) ∙ message_none store outgoing i (ap (λ ps. slice_get ps i) (sym same) ∙ none)
-
--- the item that waits first
-pub waiting-at : (s : SlotState) (b i : ℕ) (m : MsgId) (payload : List ℕ) → (is_other s.spec s.me.number b && not (set.contains s.noticed b)) ≡ true → taken_for s b ≡ i → slice_get s.outgoing i ≡ Some m → payload ≡ payload_in s.store m
-    → waiting s b ≡ record { origin = m.origin; seq = m.seq; payload = payload } ∷ map (entry_in s.store) (drop (i + 1) s.outgoing)
-waiting-at s b i m payload reached place there is =
-    (λ j. if reached j then map (entry_in s.store) (drop (taken_for s b) s.outgoing) else [])
-    ∙ (ap (λ k. map (entry_in s.store) (drop k s.outgoing)) place
-    ∙ (ap (map (entry_in s.store)) (drop-at s.outgoing i m there)
-    ∙ (λ j. record { origin = m.origin; seq = m.seq; payload = sym is j } ∷ map (entry_in s.store) (drop (i + 1) s.outgoing))))
-
--- none waits where all were taken
-pub waiting-none : (s : SlotState) (b i : ℕ) → (is_other s.spec s.me.number b && not (set.contains s.noticed b)) ≡ true → taken_for s b ≡ i → slice_get s.outgoing i ≡ None → waiting s b ≡ []
-waiting-none s b i reached place there =
-    (λ j. if reached j then map (entry_in s.store) (drop (taken_for s b) s.outgoing) else [])
-    ∙ (ap (λ k. map (entry_in s.store) (drop k s.outgoing)) place ∙ ap (map (entry_in s.store)) (drop-none s.outgoing i there))
 
 get-drop : {X : Type 0} (xs : List X) (n k : ℕ) → slice_get (drop n xs) k ≡ slice_get xs (n + k)
 get-drop [] zero k = refl

@@ -1,7 +1,6 @@
 //! One group at one node.
-ghost use Rattle.std.specs.Prelude.{◌≡◌, ℕ, false, ◌≢◌, OnErr, OnOk, ◌≤◌, ◌<◌, ◌&&◌, not, List, [], ◌∷◌, Some, take, drop, map, slice_get, length, IfOk, MatchOption, true, IsOkUnless, vec_capacity};
+ghost use Rattle.std.specs.Prelude.{◌≡◌, ℕ, false, ◌≢◌, OnErr, OnOk, ◌≤◌, ◌<◌, ◌&&◌, not, [], Some, take, drop, map, slice_get, length, IfOk, true, IsOkUnless, vec_capacity};
 ghost use Rattle.std.specs.FinSet as set;
-ghost use Rattle.gb_types.specs.declared.entry.Entry.{Entry as EntryValue};
 ghost use Rattle.gb_stack.specs.StackState.{new_stack};
 ghost use Rattle.gb_stack.specs.Stands.{HasStarted};
 ghost use Rattle.gb_rules.specs.Messages.{entry_in};
@@ -362,20 +361,6 @@ impl Slot {
         self.spec.members.contains(dest) && dest != self.me && !self.noticed.contains(dest)
     }
 
-    /// Returns the first message that waits to be sent to node `dest`, with its payload. `None` if nothing waits for it. Changes
-    /// nothing.
-    pub fn peek(&self, dest: NodeId) -> Option<(MsgId, &[u8])>
-        ensures { MatchOption result (waiting self.now dest.number ≡ []) (λ r. (rest : List EntryValue) × (waiting self.now dest.number ≡ record { origin = r.0.origin; seq = r.0.seq; payload = r.1.now } ∷ rest)) }
-    {
-        if !self.is_reached(dest) {
-            return None;
-        }
-        match place_at(&self.outgoing, self.taken[dest.index()] as usize) {
-            Some(place) => Some(self.store.at(usize::from(place))),
-            None => None,
-        }
-    }
-
     /// Returns the message at a place among those that wait to be sent to node `dest`, with its payload. Places count from 0, and
     /// `place` is below their number. Changes nothing.
     #[inline(always)]
@@ -477,13 +462,6 @@ fn lists(
     let outgoing = Vec::with_capacity(alloc, messages)?;
     let acknowledged = Vec::with_capacity(alloc, own)?;
     Ok((log, outgoing, acknowledged))
-}
-
-/// Returns the place at an index, if there is one.
-fn place_at(places: &[u16], at: usize) -> Option<u16>
-    ensures { result ≡ slice_get places.now at }
-{
-    places.get(at).copied()
 }
 
 /// Returns up to `most` messages, from index `from` on.
