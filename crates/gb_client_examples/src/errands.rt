@@ -1,22 +1,20 @@
 //! Worked errands of the client: what its words ask of nodes that reply by a table, and what is printed of it.
 use clap::ArgMatches;
-use gb_client::fault::fault_status;
-use gb_client::{ClientFault, Errand, Secrets, Task};
-use gb_client_run::importing::import;
-use gb_client_run::obey::obey;
-use gb_client_run::{Nodes, Pauses, Target};
+use gb_client::{ClientFault, Secrets};
+use gb_client_run::running::run_task;
+use gb_client_run::{Nodes, Pauses};
 use gb_client_words::words::{command, plan_of};
 use std::alloc::Global;
 use std::test::Fail;
 
 /// What is asked at a port, how its body begins and ends, and the reply; `!` for none in time, `?` for no connection.
-type Turn = (u16, &'static str, &'static str, &'static str);
+pub type Turn = (u16, &'static str, &'static str, &'static str);
 
 /// Nodes that reply by a table, as long as they are asked by it.
 #[derive(Drop)]
-struct Script {
-    turns: &'static [Turn],
-    at: usize,
+pub struct Script {
+    pub turns: &'static [Turn],
+    pub at: usize,
 }
 
 impl Nodes for Script {
@@ -448,44 +446,45 @@ impl Pauses for AtOnce {
     fn pause(&self) {}
 }
 
-// Does what a plan says at nodes. The exit status.
-fn obeyed<N: Nodes>(
+// Runs what a plan says at nodes, with these secrets and a text on standard input. The exit status.
+fn run_plan<N: Nodes>(
     alloc: Global,
     matches: &ArgMatches<'_>,
+    secrets: &Secrets,
     text: &[u8],
     nodes: &mut N,
     out: &mut Vec<u8>,
+    told: &mut Vec<u8>,
 ) -> Result<u8, ClientFault> {
     let Ok(plan) = plan_of(alloc, matches) else {
         return Err(ClientFault::Words);
     };
-    let secrets = SECRETS;
-    match &plan.task {
-        Task::At(server, errand) => {
-            let target = Target {
-                server: *server,
-                secrets: &secrets,
-            };
-            if let Errand::Import(node, asked, choice) = errand {
-                return import(
-                    alloc, nodes, &AtOnce, target, *node, asked, *choice, text, out,
-                );
-            }
-            obey(alloc, nodes, target, errand, out)
-        }
-        Task::Token(_) => Err(ClientFault::Words),
-    }
+    Ok(run_task(
+        alloc,
+        nodes,
+        &AtOnce,
+        &mut b"".as_slice(),
+        &mut Vec::new(alloc),
+        text,
+        secrets,
+        &plan.task,
+        out,
+        told,
+    ))
 }
 
 const FIRST_WORDS: &[&str] = &["gb_ctl", "--port", "42000"];
 
-// Reads the words of a line, and does what they say at nodes. The exit status.
-fn status_of<N: Nodes>(
+/// Reads the words of a line, and runs what they say at nodes, with these secrets and a text on standard input. Returns the exit status;
+/// `Err` if the words are no plan.
+pub fn run_line<N: Nodes>(
     alloc: Global,
     line: &str,
+    secrets: &Secrets,
     text: &[u8],
     nodes: &mut N,
     out: &mut Vec<u8>,
+    told: &mut Vec<u8>,
 ) -> Result<u8, ClientFault> {
     let mut words: Vec<&str> = Vec::new(alloc);
     words.extend_from_slice(FIRST_WORDS)?;
@@ -493,9 +492,21 @@ fn status_of<N: Nodes>(
         words.push(word)?;
     }
     match command(alloc)?.try_get_matches_from(&words) {
-        Ok(matches) => obeyed(alloc, &matches, text, nodes, out),
+        Ok(matches) => run_plan(alloc, &matches, secrets, text, nodes, out, told),
         Err(_) => Err(ClientFault::Words),
     }
+}
+
+// Runs the words of a line with both keys. The exit status.
+fn status_of<N: Nodes>(
+    alloc: Global,
+    line: &str,
+    text: &[u8],
+    nodes: &mut N,
+    out: &mut Vec<u8>,
+) -> Result<u8, ClientFault> {
+    let mut told = Vec::new(alloc);
+    run_line(alloc, line, &SECRETS, text, nodes, out, &mut told)
 }
 
 // Whether words come out so, with a text on standard input: all nodes are asked, this is printed, and the status is this.
@@ -506,11 +517,8 @@ fn comes_out(alloc: Global, case: &ImportCase) -> bool {
     };
     let mut out = Vec::new(alloc);
     let text = case.text.as_bytes();
-    let status = match status_of(alloc, case.words, text, &mut nodes, &mut out) {
-        Ok(status) => status,
-        Err(fault) => fault_status(fault),
-    };
-    status == case.status
+    let status = status_of(alloc, case.words, text, &mut nodes, &mut out);
+    status == Ok(case.status)
         && nodes.at == case.turns.len()
         && out.as_slice() == case.printed.as_bytes()
 }

@@ -1,4 +1,4 @@
-//! The client, as tests: what it asks of nodes and what it prints of their replies, logs that are followed, and directory files. This crate has
+//! The client, as tests: what it asks of nodes and what it prints of their replies, how its runs end, logs that are followed, and directory files. This crate has
 //! tests only.
 #![tactic(auto)]
 
@@ -10,3 +10,5 @@ mod errands;
 mod followed;
 #[cfg(test)]
 mod replies;
+#[cfg(test)]
+mod runs;

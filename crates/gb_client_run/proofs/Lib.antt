@@ -3,3 +3,4 @@ pub mod FollowLemmas
 pub mod ExportLemmas
 pub mod ImportLemmas
 mod ListingLemmas
+mod RunningLemmas

@@ -5,3 +5,4 @@ pub mod Following
 pub mod Groups
 pub mod Importing
 pub mod Listing
+pub mod Running

@@ -1,8 +1,9 @@
 //! What a client does at a server: it asks nodes, by any connections, and prints what comes of it, by any writer. Read
-//! `nodes::Nodes` first, then `once::ask_once`, `following::follow`, `exporting::export` and `groups::make_group`.
+//! `nodes::Nodes` first, then `running::run_task`, `once::ask_once`, `following::follow`, `exporting::export` and `groups::make_group`.
 #![tactic(auto)]
 
 pub mod checking;
+pub mod ending;
 pub mod exported;
 pub mod exporting;
 pub mod following;
@@ -15,6 +16,7 @@ pub mod obey;
 pub mod once;
 pub mod printing;
 pub mod rows;
+pub mod running;
 pub mod sockets;
 pub mod target;
 

@@ -1,4 +1,7 @@
 //! One errand at a server: what a client is told to do there is done, and what comes of it is printed.
+ghost use Rattle.std.specs.Prelude.{IfOk};
+ghost use Rattle.gb_client_run.specs.Running.{HasObeyed};
+
 use crate::checking::check_group;
 use crate::exporting::export;
 use crate::groups::{drop_group, make_group};
@@ -50,7 +53,10 @@ pub fn obey<N: Nodes, W: Write>(
     target: Target<'_>,
     errand: &Errand<'_>,
     writer: &mut W,
-) -> Result<u8, ClientFault> {
+) -> Result<u8, ClientFault>
+    ensures { IfOk result (HasObeyed N.asks target.entry.secrets.now target.entry.server.port errand.now nodes.old nodes.new
+        (W.contents writer.old) (W.contents writer.new)) }
+{
     match errand {
         Errand::Ask(node, asked) => ask_once(alloc, nodes, target, *node, asked, writer),
         Errand::Follow(_, _, _, _) | Errand::Import(_, _, _) => Err(ClientFault::Words),

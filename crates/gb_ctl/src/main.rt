@@ -2,18 +2,14 @@
 #![tactic(auto)]
 
 use clap::error::ErrorKind;
-use gb_client::blame::blame;
-use gb_client::fault::fault_status;
 use gb_client::secrets::read_secrets;
-use gb_client::show::token_line;
-use gb_client::{Asked, ClientFault, Errand, Secrets, Server, Task};
-use gb_client_run::following::{WAIT, follow};
-use gb_client_run::importing::import;
+use gb_client::{ClientFault, Errand, Secrets, Task};
+use gb_client_run::ending::{end_run, refuse_file};
+use gb_client_run::following::WAIT;
 use gb_client_run::listed::list;
-use gb_client_run::obey::obey;
-use gb_client_run::printing::print;
+use gb_client_run::running::run_task;
 use gb_client_run::sockets::connect;
-use gb_client_run::{ListFault, Listed, Pausing, Sockets, Target};
+use gb_client_run::{ListFault, Listed, Pausing, Sockets};
 use gb_client_words::fault::plan_status;
 use gb_client_words::words::{command, plan_of};
 use gb_client_words::{Lookup, Plan};
@@ -71,51 +67,54 @@ fn secrets_of(rt: &HostRuntime, path: Option<&str>) -> Result<Secrets, ClientFau
     }
 }
 
-// Does what is to be done at a server. The exit status.
+// Runs a task over sockets, with the connection on which a log is followed and the text that is imported. The exit status.
+fn run_on<R: Read, S: Write>(
+    rt: &HostRuntime,
+    listed: Option<&[Listed<'_>]>,
+    secrets: &Secrets,
+    task: &Task<'_>,
+    reader: &mut R,
+    sender: &mut S,
+    log: &[u8],
+) -> u8 {
+    let seconds = match task {
+        Task::At(server, _) => u64::from(server.wait),
+        Task::Token(_) => 0,
+    };
+    run_task(
+        rt.alloc(),
+        &mut Sockets::new(rt, listed, seconds),
+        &Pausing::new(rt),
+        reader,
+        sender,
+        log,
+        secrets,
+        task,
+        &mut io::writer(rt),
+        &mut rt.stderr(),
+    )
+}
+
+// Opens what a task takes, and runs it. The exit status, or the fault that came before it.
 fn go(
     rt: &HostRuntime,
     listed: Option<&[Listed<'_>]>,
-    server: Server,
     secrets: &Secrets,
-    errand: &Errand<'_>,
+    task: &Task<'_>,
 ) -> Result<u8, ClientFault> {
     let alloc = rt.alloc();
-    let mut writer = io::writer(rt);
-    let seconds = u64::from(server.wait);
-    if let Errand::Follow(node, asked, from, times) = errand {
-        let wait = u64::from(WAIT) / 1_000 + seconds;
+    if let Task::At(server, Errand::Follow(node, _, _, _)) = task {
+        let wait = u64::from(WAIT) / 1_000 + u64::from(server.wait);
         let stream = connect(rt, listed, server.sessions_port(*node), wait)?;
         let (mut reader, mut sender) = (&stream, &stream);
-        return follow(
-            alloc,
-            &mut reader,
-            &mut sender,
-            secrets,
-            *node,
-            asked,
-            *from,
-            *times,
-            &mut writer,
-        );
+        return Ok(run_on(rt, listed, secrets, task, &mut reader, &mut sender, &[]));
     }
-    let mut nodes = Sockets::new(rt, listed, seconds);
-    let target = Target { server, secrets };
-    if let Errand::Import(node, asked, choice) = errand {
-        let text = read_log(alloc, rt.reader())?;
-        let pauses = Pausing::new(rt);
-        return import(
-            alloc,
-            &mut nodes,
-            &pauses,
-            target,
-            *node,
-            asked,
-            *choice,
-            &text,
-            &mut writer,
-        );
-    }
-    obey(alloc, &mut nodes, target, errand, &mut writer)
+    let log = match task {
+        Task::At(_, Errand::Import(_, _, _)) => read_log(alloc, rt.reader())?,
+        _ => Vec::new(alloc),
+    };
+    let (mut reader, mut sender) = (b"".as_slice(), Vec::new(alloc));
+    Ok(run_on(rt, listed, secrets, task, &mut reader, &mut sender, &log))
 }
 
 // What may be read of a directory file.
@@ -128,100 +127,59 @@ fn directory_text(rt: &HostRuntime, name: &str) -> Option<Vec<u8>> {
     }
 }
 
-// Tells on standard error what is wrong with a directory file. The exit status.
-fn refuse(rt: &HostRuntime, name: &str, why: &str) -> u8 {
-    let _ = writeln!(rt.stderr(), "gb_ctl: {name}: {why}");
-    2
-}
-
-// Does what is to be done where a directory says that the nodes are. The exit status.
+// Runs a task where a directory says that the nodes are. The exit status, or the fault that came before it.
 fn go_there(
     rt: &HostRuntime,
     lookup: Lookup<'_>,
     directory: &Value,
-    server: Server,
     secrets: &Secrets,
+    task: &Task<'_>,
     errand: &Errand<'_>,
 ) -> Result<u8, ClientFault> {
     let alloc = rt.alloc();
     let nodes = errand.nodes(alloc)?;
     match list(alloc, directory, lookup.tenant, &nodes) {
-        Ok(listed) => go(rt, Some(listed.as_slice()), server, secrets, errand),
+        Ok(listed) => go(rt, Some(listed.as_slice()), secrets, task),
         Err(ListFault::OutOfMemory) => Err(ClientFault::OutOfMemory),
         Err(ListFault::Node(node, fault)) => {
             let why = fault_text(alloc, directory, lookup.tenant, node, fault)?;
-            Ok(refuse(rt, lookup.file, &why))
+            Ok(refuse_file(lookup.file, &why, &mut rt.stderr()))
         }
     }
 }
 
-// Does what is to be done by a directory file. The exit status.
+// Runs a task by a directory file. The exit status, or the fault that came before it.
 fn go_by(
     rt: &HostRuntime,
     lookup: Lookup<'_>,
-    server: Server,
     secrets: &Secrets,
+    task: &Task<'_>,
     errand: &Errand<'_>,
 ) -> Result<u8, ClientFault> {
     let alloc = rt.alloc();
     let Some(bytes) = directory_text(rt, lookup.file) else {
-        return Ok(refuse(rt, lookup.file, "it cannot be read"));
+        return Ok(refuse_file(lookup.file, "it cannot be read", &mut rt.stderr()));
     };
     let Ok(text) = str::from_utf8(&bytes) else {
-        return Ok(refuse(rt, lookup.file, "it is no UTF-8 text"));
+        return Ok(refuse_file(lookup.file, "it is no UTF-8 text", &mut rt.stderr()));
     };
     match read_directory(alloc, text) {
-        Ok(directory) => go_there(rt, lookup, &directory, server, secrets, errand),
+        Ok(directory) => go_there(rt, lookup, &directory, secrets, task, errand),
         Err(TextFault::OutOfMemory) => Err(ClientFault::OutOfMemory),
         Err(fault) => {
             let why = text_fault_text(alloc, text, fault)?;
-            Ok(refuse(rt, lookup.file, &why))
+            Ok(refuse_file(lookup.file, &why, &mut rt.stderr()))
         }
     }
 }
 
-// Does what the plan says. The exit status.
+// Does what the plan says. The exit status, or the fault that came before it.
 fn obey_plan(rt: &HostRuntime, plan: &Plan<'_>) -> Result<u8, ClientFault> {
     let secrets = secrets_of(rt, plan.secrets)?;
-    match &plan.task {
-        Task::Token(need) => {
-            let token = secrets.token_for(*need)?;
-            let line = token_line(rt.alloc(), &token)?;
-            print(&mut io::writer(rt), &line)?;
-            Ok(0)
-        }
-        Task::At(server, errand) => match plan.lookup {
-            Some(lookup) => go_by(rt, lookup, *server, &secrets, errand),
-            None => go(rt, None, *server, &secrets, errand),
-        },
+    match (&plan.task, plan.lookup) {
+        (Task::At(_, errand), Some(lookup)) => go_by(rt, lookup, &secrets, &plan.task, errand),
+        _ => go(rt, None, &secrets, &plan.task),
     }
-}
-
-// The request of a plan whose words may be wrong.
-fn asked_of<'a, 'b>(plan: &'a Plan<'b>) -> Option<&'a Asked<'b>> {
-    match &plan.task {
-        Task::At(_, Errand::Ask(_, asked)) => Some(asked),
-        Task::At(_, Errand::Follow(_, asked, _, _)) => Some(asked),
-        Task::At(_, Errand::Export(_, asked)) => Some(asked),
-        Task::At(_, Errand::Import(_, asked, _)) => Some(asked),
-        Task::At(_, Errand::Group(_, asked)) => Some(asked),
-        Task::At(_, Errand::Drop(_, asked)) => Some(asked),
-        _ => None,
-    }
-}
-
-// Tells on standard error why nothing came of a plan. The exit status.
-fn complain(rt: &HostRuntime, plan: &Plan<'_>, fault: ClientFault) -> u8 {
-    if let (ClientFault::Words, Some(asked)) = (fault, asked_of(plan)) {
-        if let Ok(text) = blame(rt.alloc(), asked) {
-            let _ = rt.stderr().write_all(b"gb_ctl: ");
-            let _ = rt.stderr().write_all(&text);
-            let _ = rt.stderr().write_all(b"\n");
-        }
-    } else {
-        let _ = writeln!(rt.stderr(), "gb_ctl: {fault}");
-    }
-    fault_status(fault)
 }
 
 // Reads the words and obeys them. The exit status.
@@ -245,10 +203,8 @@ fn run(rt: &HostRuntime, words: &[&str]) -> Result<u8, ClientFault> {
             return Ok(plan_status(fault));
         }
     };
-    match obey_plan(rt, &plan) {
-        Ok(status) => Ok(status),
-        Err(fault) => Ok(complain(rt, &plan, fault)),
-    }
+    let outcome = obey_plan(rt, &plan);
+    Ok(end_run(alloc, Some(&plan.task), outcome, &mut rt.stderr()))
 }
 
 // The words of the command line.
@@ -275,12 +231,6 @@ fn answer(rt: &HostRuntime) -> Result<u8, ClientFault> {
 /// Status 0: a reply that is no refusal, or help; 1: a refusal; 2: wrong words or secrets; 3: there is no connection, or no such reply;
 /// 4: no reply came, and the outcome is unknown.
 fn main(rt: HostRuntime) -> ExitCode {
-    let status = match answer(&rt) {
-        Ok(status) => status,
-        Err(fault) => {
-            let _ = writeln!(rt.stderr(), "gb_ctl: {fault}");
-            fault_status(fault)
-        }
-    };
-    ExitCode::from(status)
+    let outcome = answer(&rt);
+    ExitCode::from(end_run(rt.alloc(), None, outcome, &mut rt.stderr()))
 }
