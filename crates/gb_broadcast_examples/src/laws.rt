@@ -1,8 +1,8 @@
 //! The laws of layers, of each layer and of each rule.
-use gb_layer::Rule;
+use gb_fifo::{Fifo, laws};
+use gb_layer::laws::each_once;
+use gb_layer::{Beb, Broadcast, Direct, Relay, Rule};
 use gb_reliable::{Eagerly, Lazily};
-use gb_sinks::laws::each_once;
-use gb_sinks::{Beb, Broadcast, Direct, Fifo, Relay, order};
 use gb_stack::{Stack, Unordered};
 use gb_uniform::{AllAcked, MajorityAcked};
 use std::rt::HostRuntime;
@@ -12,21 +12,21 @@ use std::test::Fail;
 fn hold<L: Broadcast>() {
     each_once::<L>();
     each_once::<Fifo<L>>();
-    order::one_two_three::<L>();
-    order::in_origin_order::<L>();
-    order::integrity::<L>();
+    laws::one_two_three::<L>();
+    laws::in_origin_order::<L>();
+    laws::integrity::<L>();
 }
 
 /// Calls the laws of a relay by a rule.
 fn relay_holds<R: Rule>() {
-    gb_sinks::modules::relays::<R>();
+    gb_layer::modules::relays::<R>();
     hold::<Relay<Beb, R>>();
 }
 
 /// Calls the laws that say which layers and which rules are which module of broadcast.
 fn modules_hold() {
     gb_layer::rule::noticed_and_holders();
-    gb_sinks::modules::best_effort();
+    gb_layer::modules::best_effort();
     gb_reliable::modules::lazy();
     gb_reliable::modules::eager();
     gb_uniform::modules::all_ack();

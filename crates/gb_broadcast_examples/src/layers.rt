@@ -1,8 +1,7 @@
 //! The lowest layer, and the plain program on a history worked out by hand.
 use crate::names::{FIRST, ME, MEMBERS, ORIGIN, OTHER, OWN, SECOND};
 use crate::placed::{Outcome, effects};
-use gb_layer::{Call, Up, plain};
-use gb_sinks::{Beb, Layer};
+use gb_layer::{Beb, Call, Layer, Up, plain};
 use gb_types::{Module, MsgId, OutOfMemory};
 use std::alloc::Global;
 use std::process::Abort;

@@ -3,7 +3,11 @@
 #![tactic(auto)]
 
 #[cfg(test)]
+mod fifo_examples;
+#[cfg(test)]
 mod laws;
+#[cfg(test)]
+mod layer_examples;
 #[cfg(test)]
 mod layers;
 #[cfg(test)]

@@ -3,9 +3,8 @@ ghost use Rattle.std.specs.Prelude.{List};
 ghost use Rattle.gb_types.specs.declared.message.MsgId.{MsgId};
 
 use crate::placed::{Outcome, effects};
-use gb_fifo::plain;
-use gb_layer::Call;
-use gb_sinks::{Beb, Bounded, Direct, Fifo, Layer};
+use gb_fifo::{Fifo, plain};
+use gb_layer::{Beb, Bounded, Call, Direct, Layer};
 use gb_types::{MsgId, NodeId, OutOfMemory};
 use std::alloc::Global;
 use std::process::Abort;

@@ -1,12 +1,11 @@
 //! The calls of a layer that is told places, by the messages that they name. An index has the messages.
 ghost use Rattle.std.specs.Prelude.{◌≡◌, List, true, length, OnOk};
 ghost use Rattle.gb_types.specs.declared.message.MsgId.{MsgId};
-ghost use Rattle.gb_sinks.specs.Places.{Names, IsNext, reached, told_after};
+ghost use Rattle.gb_layer.specs.PlacedCalls.{Names, IsNext, reached, told_after};
 
 use crate::names::{ME, MEMBERS, set};
-use gb_layer::{Call, Up};
-use gb_sinks::calls::make_call;
-use gb_sinks::{Bounded, Index, Layer, Lists, PlacedCall};
+use gb_layer::calls::make_call;
+use gb_layer::{Bounded, Call, Index, Layer, Lists, PlacedCall, Up};
 use gb_stack::Stack;
 use gb_types::{Kind, MsgId, NodeSet, OutOfMemory, Spec};
 use std::alloc::Global;
@@ -104,7 +103,7 @@ fn told_after(told: usize, call: PlacedCall) -> usize
 
 /// Makes one call, and appends its effects to `out`. `told` is the number of places that were told. Returns false, with no call made,
 /// if the call names a place too early.
-fn make_next<L: Bounded>(
+pub fn make_next<L: Bounded>(
     layer: &mut L,
     index: &Index,
     call: PlacedCall,

@@ -1,8 +1,7 @@
 //! The memory that a stack takes.
 use crate::names::OWN;
 use crate::placed::{effects, stack};
-use gb_layer::Call;
-use gb_sinks::Layer;
+use gb_layer::{Call, Layer};
 use gb_types::{Kind, Module, NodeSet, Order};
 use std::test::Fail;
 

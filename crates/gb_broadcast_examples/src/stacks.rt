@@ -2,8 +2,7 @@
 //! check that fails aborts the test with a message.
 use crate::names::{FIRST, ME, MEMBERS, ORIGIN, OTHER, OWN, SECOND, set};
 use crate::placed::{Outcome, run, stack};
-use gb_layer::Call;
-use gb_sinks::Layer;
+use gb_layer::{Call, Layer};
 use gb_stack::{plain, stands};
 use gb_types::kind::MODULES;
 use gb_types::{Kind, Module, MsgId, NodeId, NodeSet, Order, OutOfMemory};

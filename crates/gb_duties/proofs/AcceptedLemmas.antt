@@ -17,7 +17,7 @@ use Rattle.gb_types.proofs.SameLemmas.{same_number, same_itself}
 use Rattle.gb_types.proofs.BoolLemmas.{or_first}
 use Rattle.gb_layer.specs.Lists.{all_weaker, all_append}
 use Rattle.gb_layer.specs.Machine.{was_said}
-use Rattle.gb_fifo.specs.Order.{numbered}
+use Rattle.gb_layer.specs.Numbered.{numbered}
 use Rattle.gb_rules.specs.Group.{is_other, is_too_long}
 use Rattle.gb_rules.specs.History.{calls_of}
 use Rattle.gb_rules.specs.declared.call.GroupCall.{GroupCall}

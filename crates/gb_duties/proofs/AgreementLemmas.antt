@@ -19,7 +19,8 @@ use Rattle.gb_layer.specs.Machine.{mentions, was_said, was_noticed, came_from}
 use Rattle.gb_layer.specs.Modules.{holds, is_delivered, is_broadcast, now_delivered, now_broadcast}
 use Rattle.gb_types.specs.declared.kind.Module.{Module}
 use Rattle.gb_types.specs.declared.kind.Module.TheVariants.{BestEffort, Lazy, Eager, AllAck, Majority}
-use Rattle.gb_fifo.specs.Order.{is_in, numbered, upto, top, numbers_of, in_order}
+use Rattle.gb_layer.specs.Numbered.{is_in, numbered}
+use Rattle.gb_fifo.specs.Order.{upto, top, numbers_of, in_order}
 use Rattle.gb_stack.specs.Kinds.{kind_log}
 use Rattle.gb_stack.specs.LogLaws.{ModuleLogHasDelivered}
 use Rattle.gb_rules.specs.Group.{is_gone, is_member}

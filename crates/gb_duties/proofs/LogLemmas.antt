@@ -11,7 +11,8 @@ use Rattle.gb_types.specs.declared.message.MsgId.{MsgId}
 use Rattle.gb_types.specs.declared.spec.Spec.{Spec}
 use Rattle.gb_layer.specs.Modules.{now_delivered, log}
 use Rattle.gb_layer.specs.declared.call.Call.{Call}
-use Rattle.gb_fifo.specs.Order.{is_in, in_order}
+use Rattle.gb_layer.specs.Numbered.{is_in}
+use Rattle.gb_fifo.specs.Order.{in_order}
 use Rattle.gb_fifo.specs.OrderLaws.{AllIn}
 use Rattle.gb_stack.specs.Kinds.{released, kind_log}
 use Rattle.gb_stack.specs.LogLaws.{ModuleLogHasDelivered}

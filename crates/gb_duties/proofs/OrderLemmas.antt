@@ -12,7 +12,8 @@ use Rattle.gb_types.specs.declared.spec.Spec.{Spec}
 use Rattle.gb_types.proofs.BoolLemmas.{or_cases, or_first, or_second}
 use Rattle.gb_layer.specs.Modules.{now_delivered, log}
 use Rattle.gb_layer.specs.declared.call.Call.{Call}
-use Rattle.gb_fifo.specs.Order.{is_in, numbered, upto, top, numbers_of, in_order}
+use Rattle.gb_layer.specs.Numbered.{is_in, numbered}
+use Rattle.gb_fifo.specs.Order.{upto, top, numbers_of, in_order}
 use Rattle.gb_stack.specs.Kinds.{released, kind_log}
 use Rattle.gb_stack.specs.LogLaws.{ModuleLogHasDelivered}
 use Rattle.gb_duties.proofs.LogLemmas.{in_log}

@@ -8,7 +8,7 @@ use Rattle.gb_types.specs.declared.spec.Spec.{Spec}
 use Rattle.gb_types.proofs.BoolLemmas.{and_both, and_left, and_right}
 use Rattle.gb_types.specs.declared.kind.Module.{Module}
 use Rattle.gb_types.specs.declared.kind.Module.TheVariants.{BestEffort, Lazy, Eager, AllAck, Majority}
-use Rattle.gb_fifo.specs.Order.{numbered}
+use Rattle.gb_layer.specs.Numbered.{numbered}
 use Rattle.gb_rules.specs.Group.{is_gone, is_member, is_other}
 use Rattle.gb_rules.specs.Messages.{has}
 use Rattle.gb_alone.specs.Alone.{Member, is_marked}

@@ -14,7 +14,7 @@ use Rattle.gb_layer.specs.Machine.{mentions, was_said, came_from}
 use Rattle.gb_layer.specs.Modules.{first_mentions, newly}
 use Rattle.gb_layer.specs.declared.call.Call.{Call}
 use Rattle.gb_layer.specs.declared.call.Call.TheVariants.{Say, Came, Notice}
-use Rattle.gb_fifo.specs.Order.{is_in}
+use Rattle.gb_layer.specs.Numbered.{is_in}
 use Rattle.gb_rules.specs.Messages.{has, entry_in}
 
 -- Lists.

@@ -13,7 +13,7 @@ use Rattle.gb_types.specs.Places.{has_majority}
 use Rattle.gb_layer.specs.Machine.{was_noticed}
 use Rattle.gb_types.specs.declared.kind.Module.{Module}
 use Rattle.gb_types.specs.declared.kind.Module.TheVariants.{BestEffort, Lazy, Eager, AllAck, Majority}
-use Rattle.gb_fifo.specs.Order.{numbered}
+use Rattle.gb_layer.specs.Numbered.{numbered}
 use Rattle.gb_rules.specs.Group.{is_gone, is_member}
 use Rattle.gb_rules.specs.History.{calls_of}
 use Rattle.gb_rules.specs.Messages.{has}

@@ -12,7 +12,7 @@ use Rattle.gb_layer.specs.Machine.{mentions, was_noticed}
 use Rattle.gb_layer.specs.Modules.{log}
 use Rattle.gb_types.specs.declared.kind.Module.{Module}
 use Rattle.gb_types.specs.declared.kind.Module.TheVariants.{BestEffort, Lazy, Eager, AllAck, Majority}
-use Rattle.gb_fifo.specs.Order.{is_in}
+use Rattle.gb_layer.specs.Numbered.{is_in}
 use Rattle.gb_rules.specs.Group.{is_gone, is_member, is_other}
 use Rattle.gb_rules.specs.History.{calls_of}
 use Rattle.gb_rules.specs.Messages.{has}

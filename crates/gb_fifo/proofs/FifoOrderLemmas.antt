@@ -20,12 +20,13 @@ use Rattle.gb_layer.specs.Laws.{HandsUpWhatWasHandedIn}
 use Rattle.gb_layer.specs.Counts.{count_by-cons, count_by-append, count_by-map, count_by-grown}
 use Rattle.gb_layer.specs.EntryListLemmas.{any_keys, has_mentioned, any_marked}
 use Rattle.gb_layer.specs.Lists.{all_append, any_weaker, any_push}
+use Rattle.gb_layer.specs.Numbered.{is_in, numbered}
 use Rattle.gb_fifo.specs.declared.entry.Entry.{Entry}
 use Rattle.gb_fifo.specs.Entries.{is_for, blank, noted, noted_by, brought, brought_entry, given_entry, up_of, is_ungiven, is_next, next_of, is_given_of, given_of, pick, give, released, released_ups, taken_one, taken_one_ups, taken, taken_ups}
 use Rattle.gb_fifo.specs.EntryLemmas.{keys, keys_taken_one, keys_noted_by, brought_same, next_new}
 use Rattle.gb_fifo.specs.FifoMachine.{FifoState, IsNew, fifo_next, fifo_gives}
 use Rattle.gb_fifo.specs.FifoLemmas.{keys_after, lower_after}
-use Rattle.gb_fifo.specs.Order.{is_in, numbered, upto, given_at, ordered_after, in_order, numbers_of}
+use Rattle.gb_fifo.specs.Order.{upto, given_at, ordered_after, in_order, numbers_of}
 use Rattle.gb_fifo.proofs.PlacedLemmas.{none_given, stays}
 use Rattle.gb_fifo.proofs.OrderLemmas.{drop_upto, top_is, ordered_append}
 use Rattle.gb_fifo.proofs.NumberLemmas.{messages-append, next_origin, next_seq, more_given, given_brought, taken_one_numbers}

@@ -10,7 +10,8 @@ use Rattle.gb_types.specs.declared.node.NodeId.{NodeId}
 use Rattle.gb_types.specs.declared.message.MsgId.{MsgId}
 use Rattle.gb_types.specs.Message.{same}
 use Rattle.gb_types.proofs.SameLemmas.{same_number}
-use Rattle.gb_fifo.specs.Order.{upto, numbered, is_in, top, given_at, ordered_after, in_order, numbers_of, RunsFromOne}
+use Rattle.gb_layer.specs.Numbered.{numbered, is_in}
+use Rattle.gb_fifo.specs.Order.{upto, top, given_at, ordered_after, in_order, numbers_of, RunsFromOne}
 use Rattle.gb_fifo.specs.OrderLaws.{AllIn, NoneTwice}
 use Rattle.gb_fifo.proofs.NumberLemmas.{numbers-append}
 use Rattle.gb_fifo.proofs.OrderLemmas.{upto_more, length_upto, drop_short, top_is, stands, ends}

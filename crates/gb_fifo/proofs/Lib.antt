@@ -3,3 +3,7 @@ pub mod OrderLemmas
 pub mod NumberLemmas
 pub mod FifoOrderLemmas
 pub mod InOrderLemmas
+pub mod MarksLemmas
+pub mod ReleaseLemmas
+pub mod FifoKnowsLemmas
+pub mod FifoBoundLemmas

@@ -10,7 +10,8 @@ use Rattle.gb_types.specs.declared.node.NodeId.{NodeId}
 use Rattle.gb_types.specs.declared.message.MsgId.{MsgId}
 use Rattle.gb_types.specs.Message.{same}
 use Rattle.gb_types.proofs.SameLemmas.{same-true}
-use Rattle.gb_fifo.specs.Order.{is_in, numbered, upto, greatest, top, given_at, ordered_after, in_order}
+use Rattle.gb_layer.specs.Numbered.{is_in, numbered}
+use Rattle.gb_fifo.specs.Order.{upto, greatest, top, given_at, ordered_after, in_order}
 
 range_more : (a n : ℕ) → range_with_len a n ++ (a + n) ∷ [] ≡ range_with_len a (suc n)
 range_more a zero = ap (λ j. j ∷ []) (let e : a + 0 ≡ a = omega arith in e)

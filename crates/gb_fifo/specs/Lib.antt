@@ -4,3 +4,6 @@ pub mod FifoMachine
 pub mod OrderLaws
 pub mod EntryLemmas
 pub mod FifoLemmas
+pub mod Marks
+pub mod Ordered
+pub mod FifoMarks

@@ -1,21 +1,13 @@
 -- The order of each origin's messages: first in, first out (Hadzilacos, Toueg 1994; Cachin, Guerraoui, Rodrigues 2011, Broadcast with Sequence Number).
-use Rattle.std.specs.Prelude.{◌≡◌, ℕ, max, Bool, nat_eq, List, [], ◌∷◌, ◌++◌, map, filter, drop, length}
-use Rattle.std.specs.List.{list_any, prefix_len, range_with_len}
+use Rattle.std.specs.Prelude.{◌≡◌, ℕ, max, nat_eq, List, [], ◌∷◌, ◌++◌, map, filter, drop, length}
+use Rattle.std.specs.List.{prefix_len, range_with_len}
 use Rattle.gb_types.specs.declared.node.NodeId.{NodeId}
 use Rattle.gb_types.specs.declared.message.MsgId.{MsgId}
-use Rattle.gb_types.specs.Message.{same}
+use Rattle.gb_layer.specs.Numbered.{is_in, numbered}
 
 -- the numbers 1 to n
 abbrev pub upto : ℕ → List ℕ
 upto n = range_with_len 1 n
-
--- the message of an origin with a number
-abbrev pub numbered : NodeId → ℕ → MsgId
-numbered origin seq = record { origin = origin; seq = seq }
-
--- m is in a list of messages
-abbrev pub is_in : List MsgId → MsgId → Bool
-is_in delivered m = list_any (λ x. same x m) delivered
 
 -- the greatest number in a list of messages, 0 if it is empty
 abbrev pub greatest : List MsgId → ℕ

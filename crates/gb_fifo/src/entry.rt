@@ -2,7 +2,7 @@
 use gb_types::MsgId;
 
 /// A message, whether the layer below brought it up, and whether it was handed up from here. specs/Entries.antt has the entries that a
-/// fifo makes; gb_sinks keeps them as a column.
+/// fifo makes; `marks` keeps them.
 #[derive(Drop)]
 pub struct Entry {
     pub m: MsgId,

@@ -2,7 +2,8 @@
 //! run.
 ghost use Rattle.std.specs.Prelude.{◌≡◌, [], ◌∷◌};
 ghost use Rattle.gb_layer.specs.Examples.{origin, other, first, second};
-ghost use Rattle.gb_fifo.specs.Order.{in_order, numbered};
+ghost use Rattle.gb_layer.specs.Numbered.{numbered};
+ghost use Rattle.gb_fifo.specs.Order.{in_order};
 
 /// A worked example, with nothing to run: message 2 of an origin is held back until message 1 is delivered, and is handed up right behind
 /// it. Message 4 stays held back, since message 3 is missing.

@@ -1,14 +1,22 @@
-//! First in, first out: what it means to hand up each origin's messages in the order of their numbers, 1, 2, 3, .., over any broadcast.
+//! First in, first out: what it means to hand up each origin's messages in the order of their numbers, 1, 2, 3, .., over any broadcast,
+//! and the layer that does so.
 //!
 //! A fifo holds a message back until those before it have come. It sends nothing of its own, and uses a message's own number as its
-//! position in the order. It knows no stack of layers and no group. specs/Order.antt defines the order. `order` has its laws, and `plain`
-//! computes it slowly, straight from its definition. specs/FifoMachine.antt has the states, steps and effects of the layer, which runs in
-//! gb_sinks: `order` there says that each fifo keeps the order.
+//! position in the order. It knows no stack of layers and no group.
+//!
+//! Read specs/Order.antt first: it defines the order. `order` has its laws, and `plain` computes it slowly, straight from its definition.
+//! specs/FifoMachine.antt has the states, steps and effects of the layer. `fifo::Fifo` runs it, over any layer of gb_layer, and keeps its
+//! `marks::Marks` of the messages by place. `laws` says that each fifo keeps the order.
 #![tactic(auto)]
 
 pub mod entry;
 pub mod examples;
+pub mod fifo;
+pub mod laws;
+pub mod marks;
 pub mod order;
+mod ordered;
 pub mod plain;
 
 pub use entry::Entry;
+pub use fifo::Fifo;

@@ -2,7 +2,8 @@
 ghost use Rattle.std.specs.Prelude.{◌≡◌, ℕ, ◌+◌, ◌≤◌, true, false, List, ◌++◌};
 ghost use Rattle.gb_types.specs.declared.node.NodeId.{NodeId};
 ghost use Rattle.gb_types.specs.declared.message.MsgId.{MsgId};
-ghost use Rattle.gb_fifo.specs.Order.{is_in, numbered, upto, top, numbers_of, RunsFromOne, ordered_after, in_order};
+ghost use Rattle.gb_layer.specs.Numbered.{is_in, numbered};
+ghost use Rattle.gb_fifo.specs.Order.{upto, top, numbers_of, RunsFromOne, ordered_after, in_order};
 ghost use Rattle.gb_fifo.specs.OrderLaws.{AllIn, NoneTwice};
 
 /// A law, with nothing to run: the top of an origin in a list of messages (`top`) is the greatest number up to which all its messages are

@@ -1,14 +1,15 @@
 //! First-in first-out order of messages, computed straight from its definition: slow, for short lists, to compare layers with.
 ghost use Rattle.std.specs.Prelude.{◌≡◌, ◌++◌, drop, map, IfOk, OnOk};
+ghost use Rattle.gb_layer.specs.Numbered.{is_in, numbered};
 ghost use Rattle.gb_fifo.specs.Order as order;
-ghost use Rattle.gb_fifo.specs.Order.{numbered, upto};
+ghost use Rattle.gb_fifo.specs.Order.{upto};
 
 use gb_types::{MsgId, NodeId, OutOfMemory};
 use std::alloc::Global;
 
 /// Returns true if `m` is in the list.
 fn is_in(delivered: &[MsgId], m: MsgId) -> bool
-    ensures { result ≡ order.is_in delivered.now m }
+    ensures { result ≡ is_in delivered.now m }
 {
     delivered.iter().any(|x| *x == m)
 }

@@ -21,3 +21,17 @@ pub mod TraceLemmas
 pub mod RelayOnceLemmas
 pub mod FirstMentionLemmas
 pub mod EntryListLemmas
+pub mod Numbered
+pub mod PlacedCalls
+pub mod Sinks
+pub mod Single
+pub mod Focused
+pub mod Last
+pub mod Paired
+pub mod PairedLemmas
+pub mod Own
+pub mod ListSink
+pub mod Column
+pub mod Due
+pub mod Below
+pub mod RelayColumn

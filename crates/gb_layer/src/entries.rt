@@ -2,7 +2,7 @@
 use gb_types::{MsgId, NodeSet};
 
 /// A message, the nodes that hold it as far as this node knows, and whether it was sent and handed up from here. specs/Relay.antt has
-/// the entries that a relay makes; gb_sinks keeps them as a column.
+/// the entries that a relay makes; `column` keeps them.
 #[derive(Drop)]
 pub struct Entry {
     pub m: MsgId,

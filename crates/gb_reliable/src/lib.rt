@@ -1,4 +1,4 @@
-//! Reliable broadcast, lazy and eager: two rules for the layer that relays, which is gb_sinks' `relay::Relay`. Each broadcasts and
+//! Reliable broadcast, lazy and eager: two rules for the layer that relays, which is gb_layer's `relay::Relay`. Each broadcasts and
 //! delivers what its module in gb_layer's specs/Modules.antt defines; `modules` says so. Read `lazy::Lazily` and `eager::Eagerly` first.
 #![tactic(auto)]
 

@@ -7,7 +7,7 @@ use crate::lazy::Lazily;
 use gb_layer::Rule;
 
 /// A law: over every history, the rule `Lazily` broadcasts and delivers the messages that lazy reliable broadcast broadcasts and
-/// delivers. So a relay by this rule over `Beb` is that module (`modules::relays` of gb_sinks). The function does nothing when it
+/// delivers. So a relay by this rule over `Beb` is that module (`modules::relays` of gb_layer). The function does nothing when it
 /// runs; its contract is the law.
 pub fn lazy()
     ensures broadcasts { BroadcastsAs ⟦<Lazily as Rule>⟧.rules Lazy }
@@ -15,7 +15,7 @@ pub fn lazy()
 {}
 
 /// A law: over every history, the rule `Eagerly` broadcasts and delivers the messages that eager reliable broadcast broadcasts and
-/// delivers. So a relay by this rule over `Beb` is that module (`modules::relays` of gb_sinks). The function does nothing when it
+/// delivers. So a relay by this rule over `Beb` is that module (`modules::relays` of gb_layer). The function does nothing when it
 /// runs; its contract is the law.
 pub fn eager()
     ensures broadcasts { BroadcastsAs ⟦<Eagerly as Rule>⟧.rules Eager }

@@ -15,7 +15,7 @@ use Rattle.gb_types.specs.declared.node.NodeId.{NodeId}
 use Rattle.gb_types.specs.declared.reply.Reply.TheVariants.{Said}
 use Rattle.gb_layer.specs.Machine.{messages}
 use Rattle.gb_layer.specs.declared.effects.Up.{Up}
-use Rattle.gb_sinks.specs.Places.{IsNext}
+use Rattle.gb_layer.specs.PlacedCalls.{IsNext}
 use Rattle.gb_stack.specs.declared.stack.Stack.{Stack}
 use Rattle.gb_stack.specs.Layers.{stack_of, StackKnows, stack_grows}
 use Rattle.gb_rules.specs.Messages.{has, with_new, bytes_of}

@@ -10,7 +10,7 @@ use Rattle.gb_types.specs.declared.entry.Entry.{Entry}
 use Rattle.gb_types.specs.declared.message.MsgId.{MsgId}
 use Rattle.gb_layer.specs.Lists.{list_all_weaker}
 use Rattle.gb_rules.specs.Messages.{has, with_new}
-use Rattle.gb_sinks.specs.Places.{message_at, no_message}
+use Rattle.gb_layer.specs.PlacedCalls.{message_at, no_message}
 use Rattle.gb_slot.specs.Outgoing.{messages_at, are_below, AreInStore}
 
 -- there are as many messages as places

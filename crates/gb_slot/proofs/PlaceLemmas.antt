@@ -16,8 +16,8 @@ use Rattle.gb_types.specs.Message.{same}
 use Rattle.gb_types.proofs.SameLemmas.{same_itself}
 use Rattle.gb_types.proofs.BoolLemmas.{and_right, or_left, or_right}
 use Rattle.gb_layer.specs.EntryListLemmas.{any_keys}
-use Rattle.gb_sinks.specs.Places.{no_message, message_at, all_differ}
-use Rattle.gb_sinks.specs.PairedLemmas.{alone, apart}
+use Rattle.gb_layer.specs.PlacedCalls.{no_message, message_at, all_differ}
+use Rattle.gb_layer.specs.PairedLemmas.{alone, apart}
 use Rattle.gb_rules.specs.Messages.{has, payload_in, bytes_of}
 use Rattle.gb_slot.specs.Arrivals.{Arrival, has_arrival, nodes_of, with_node}
 use Rattle.gb_slot.specs.declared.store.Kept.{Kept}

@@ -3,7 +3,7 @@ use Rattle.std.specs.Prelude.{ℕ, ◌≡◌, ◌≤◌, ◌<◌, List, [], ◌�
 use Rattle.gb_types.specs.declared.entry.Entry.{Entry}
 use Rattle.gb_types.specs.declared.limits.TheConstants.{NODES, BYTES}
 use Rattle.gb_types.specs.declared.message.MsgId.{MsgId}
-use Rattle.gb_sinks.specs.Paired.{paired}
+use Rattle.gb_layer.specs.Paired.{paired}
 use Rattle.gb_slot.specs.Arrivals.{Arrival}
 use Rattle.gb_rules.specs.Messages.{bytes_of}
 use Rattle.gb_slot.specs.declared.store.Kept.{Kept}

@@ -4,7 +4,7 @@ use Rattle.std.specs.List.{list_all}
 use Rattle.gb_types.specs.Entry.{message_of}
 use Rattle.gb_types.specs.declared.entry.Entry.{Entry}
 use Rattle.gb_types.specs.declared.message.MsgId.{MsgId}
-use Rattle.gb_sinks.specs.Places.{message_at}
+use Rattle.gb_layer.specs.PlacedCalls.{message_at}
 
 -- the messages at these places of the store, in order
 abbrev pub messages_at : List Entry → List ℕ → List MsgId

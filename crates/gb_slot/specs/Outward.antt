@@ -3,7 +3,7 @@ use Rattle.std.proofs.Common.{◌≡◌, ℕ, ◌+◌, ◌≤◌, Bool, List, []
 use Rattle.gb_types.specs.declared.message.MsgId.{MsgId}
 use Rattle.gb_layer.specs.declared.effects.Up.{Up}
 use Rattle.gb_layer.specs.Machine.{Gives, messages}
-use Rattle.gb_sinks.specs.Sinks.{folded, SplitsRoom}
+use Rattle.gb_layer.specs.Sinks.{folded, SplitsRoom}
 
 -- which lists are borrowed, the messages that they have, their memory, and whether each outgoing place is one of the index
 pub record OutwardState : Type 0 where

@@ -6,13 +6,13 @@ ghost use Rattle.gb_types.specs.declared.entry.Entry.{Entry as EntryValue};
 ghost use Rattle.gb_types.specs.declared.limits.TheConstants.{BYTES};
 ghost use Rattle.gb_types.specs.declared.message.MsgId.{MsgId as Message};
 ghost use Rattle.gb_types.specs.declared.payload.TheConstants.{INLINE};
-ghost use Rattle.gb_sinks.specs.Places.{message_at, all_differ, reached};
+ghost use Rattle.gb_layer.specs.PlacedCalls.{message_at, all_differ, reached};
 ghost use Rattle.gb_rules.specs.Messages.{has, payload_in, entry_in, with_new, bytes_of};
 ghost use Rattle.gb_slot.specs.Arrivals.{has_arrival, with_message, nodes_of, with_node, with_arrived};
 ghost use Rattle.gb_slot.specs.StoreValue.{total_bytes};
 ghost use Rattle.gb_slot.specs.Kept.{start_of, entries_of, arrivals_of, AreInside, AreCounted};
 
-use gb_sinks::Index;
+use gb_layer::Index;
 use gb_types::limits::NODES;
 use gb_types::payload::INLINE;
 use gb_types::{Entry, MsgId, NodeId, NodeSet, OutOfMemory, Payload};

@@ -20,7 +20,8 @@ use Rattle.gb_types.specs.declared.kind.Module.{Module}
 use Rattle.gb_types.specs.declared.kind.Module.TheVariants.{BestEffort, Lazy, Eager, AllAck, Majority}
 use Rattle.gb_layer.specs.declared.call.Call.{Call}
 use Rattle.gb_layer.specs.declared.call.Call.TheVariants.{Say, Came, Notice}
-use Rattle.gb_fifo.specs.Order.{is_in, in_order, RunsFromOne}
+use Rattle.gb_layer.specs.Numbered.{is_in}
+use Rattle.gb_fifo.specs.Order.{in_order, RunsFromOne}
 use Rattle.gb_fifo.specs.OrderLaws.{AllIn}
 use Rattle.gb_fifo.proofs.InOrderLemmas.{order_runs, order_delivered, order_once}
 use Rattle.gb_stack.specs.Kinds.{released, kind_broadcasts, kind_log}

@@ -5,12 +5,12 @@ use Rattle.gb_types.specs.declared.node.NodeId.{NodeId}
 use Rattle.gb_layer.specs.Rule.{Rules}
 use Rattle.gb_reliable.specs.Rules.{lazy_rules, eager_rules}
 use Rattle.gb_uniform.specs.Rules.{all_ack_rules, majority_ack_rules}
-use Rattle.gb_sinks.specs.declared.beb.Beb.{Beb}
-use Rattle.gb_sinks.specs.declared.relay.Relay.{Relay}
-use Rattle.gb_sinks.specs.FifoMarks as fifo_marks
-use Rattle.gb_sinks.specs.FifoMarks.{FifoKnows, fifo_grows}
-use Rattle.gb_sinks.specs.RelayColumn as column
-use Rattle.gb_sinks.specs.RelayColumn.{RelayKnows, relay_grows}
+use Rattle.gb_layer.specs.declared.beb.Beb.{Beb}
+use Rattle.gb_layer.specs.declared.relay.Relay.{Relay}
+use Rattle.gb_fifo.specs.FifoMarks as fifo_marks
+use Rattle.gb_fifo.specs.FifoMarks.{FifoKnows, fifo_grows}
+use Rattle.gb_layer.specs.RelayColumn as column
+use Rattle.gb_layer.specs.RelayColumn.{RelayKnows, relay_grows}
 use Rattle.gb_stack.specs.declared.stack.Stack.{Stack}
 use Rattle.gb_stack.specs.declared.stack.Stack.TheVariants.{Plain, Ordered}
 use Rattle.gb_stack.specs.declared.unordered.Unordered.{Unordered}

@@ -1,7 +1,7 @@
 //! A sink that discards what it takes.
 ghost use Rattle.std.proofs.Common.{refl};
 
-use gb_sinks::{Index, Sink};
+use gb_layer::{Index, Sink};
 use gb_types::NodeId;
 
 /// Discards each message and each pair. It has room for all.

@@ -8,8 +8,8 @@ ghost use Rattle.gb_stack.specs.StackState.{untold_stack, new_stack};
 
 use crate::Unordered;
 use crate::nothing::Nothing;
-use gb_layer::Room;
-use gb_sinks::{Bounded, Broadcast, Fifo, Index, Lawful, Layer, PlacedCall, Sink};
+use gb_fifo::Fifo;
+use gb_layer::{Bounded, Broadcast, Index, Lawful, Layer, PlacedCall, Room, Sink};
 use gb_types::limits::NODES;
 use gb_types::{Kind, NodeId, NodeSet, Order, OutOfMemory, Spec};
 use std::alloc::Global;

@@ -4,9 +4,10 @@ ghost use Rattle.gb_types.specs.declared.message.MsgId.{MsgId};
 ghost use Rattle.gb_stack.specs.StackState.{unordered_noticing};
 ghost use Rattle.std.specs.FinSet as set;
 
-use gb_layer::Room;
+use gb_layer::{
+    Beb, Bounded, Broadcast, Direct, Index, Lawful, Layer, PlacedCall, Relay, Room, Sink,
+};
 use gb_reliable::{Eagerly, Lazily};
-use gb_sinks::{Beb, Bounded, Broadcast, Direct, Index, Lawful, Layer, PlacedCall, Relay, Sink};
 use gb_types::{Module, NodeId, NodeSet, OutOfMemory};
 use gb_uniform::{AllAcked, MajorityAcked};
 use std::alloc::Global;

@@ -1,4 +1,4 @@
-//! Uniform reliable broadcast: two rules for the layer that relays, which is gb_sinks' `relay::Relay`. All-ack and majority-ack broadcast
+//! Uniform reliable broadcast: two rules for the layer that relays, which is gb_layer's `relay::Relay`. All-ack and majority-ack broadcast
 //! and deliver what their modules in gb_layer's specs/Modules.antt define; `modules` says so. Read `all_ack::AllAcked` first.
 #![tactic(auto)]
 

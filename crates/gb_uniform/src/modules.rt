@@ -7,7 +7,7 @@ use crate::majority_ack::MajorityAcked;
 use gb_layer::Rule;
 
 /// A law: over every history, the rule `AllAcked` broadcasts and delivers the messages that all-ack uniform reliable broadcast
-/// broadcasts and delivers. So a relay by this rule over `Beb` is that module (`modules::relays` of gb_sinks). The function does
+/// broadcasts and delivers. So a relay by this rule over `Beb` is that module (`modules::relays` of gb_layer). The function does
 /// nothing when it runs; its contract is the law.
 pub fn all_ack()
     ensures broadcasts { BroadcastsAs ⟦<AllAcked as Rule>⟧.rules AllAck }
@@ -15,7 +15,7 @@ pub fn all_ack()
 {}
 
 /// A law: over every history, the rule `MajorityAcked` broadcasts and delivers the messages that majority-ack uniform reliable
-/// broadcast broadcasts and delivers. So a relay by this rule over `Beb` is that module (`modules::relays` of gb_sinks). The function
+/// broadcast broadcasts and delivers. So a relay by this rule over `Beb` is that module (`modules::relays` of gb_layer). The function
 /// does nothing when it runs; its contract is the law.
 pub fn majority_ack()
     ensures broadcasts { BroadcastsAs ⟦<MajorityAcked as Rule>⟧.rules Majority }

@@ -1,6 +1,6 @@
 use Rattle.std.proofs.Common.{◌≡◌, ℕ, ◌<◌, length, sym, subst, arith}
-use Rattle.gb_sinks.specs.Places.{Names, IsNext}
-use Rattle.gb_broadcast_examples.proofs.NamesLemmas.{names_more}
+use Rattle.gb_layer.specs.PlacedCalls.{Names, IsNext}
+use Rattle.gb_layer.proofs.KnowsLemmas.{names_more}
 use Rattle.gb_broadcast_examples.proofs.placed.make_next.Goals as goal
 
 pub make_call-requires-clause-there : goal.make_call-requires-clause-there

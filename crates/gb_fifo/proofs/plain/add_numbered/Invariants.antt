@@ -1,5 +1,6 @@
 use Rattle.std.proofs.Common.{◌≡◌, ◌≤◌, ◌++◌, map, drop, max}
-use Rattle.gb_fifo.specs.Order.{numbered, upto}
+use Rattle.gb_layer.specs.Numbered.{numbered}
+use Rattle.gb_fifo.specs.Order.{upto}
 use Rattle.gb_fifo.proofs.plain.add_numbered.Given as goal
 
 abbrev pub invariant-loop-k : goal.invariant-loop-k

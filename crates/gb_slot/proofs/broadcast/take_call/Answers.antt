@@ -3,7 +3,7 @@ use Rattle.std.proofs.lemmas.List.{length-map}
 use Rattle.gb_types.specs.Entry.{message_of}
 use Rattle.gb_types.specs.declared.message.MsgId.{MsgId}
 use Rattle.gb_layer.specs.Machine.{messages}
-use Rattle.gb_sinks.specs.Places.{told, Names, MayTake, IsNext, told_after, message_at}
+use Rattle.gb_layer.specs.PlacedCalls.{told, Names, MayTake, IsNext, told_after, message_at}
 use Rattle.gb_stack.specs.Layers.{stack_of, StackKnows}
 use Rattle.gb_stack.specs.StackState.{stack_next, stack_gives}
 use Rattle.gb_slot.specs.Outgoing.{are_below}

@@ -5,8 +5,8 @@ use Rattle.gb_types.specs.Entry.{message_of}
 use Rattle.gb_types.specs.declared.entry.Entry.{Entry}
 use Rattle.gb_layer.specs.Machine.{Gives, messages}
 use Rattle.gb_layer.specs.declared.call.Call.TheVariants.{Came}
-use Rattle.gb_sinks.specs.Places.{told}
-use Rattle.gb_sinks.specs.declared.call.PlacedCall.TheVariants as placed
+use Rattle.gb_layer.specs.PlacedCalls.{told}
+use Rattle.gb_layer.specs.declared.placed_call.PlacedCall.TheVariants as placed
 use Rattle.gb_stack.specs.Layers.{stack_of, StackKnows}
 use Rattle.gb_stack.specs.StackState.{stack_next, stack_gives}
 use Rattle.gb_rules.specs.Messages.{with_new, entry_in}

@@ -1,0 +1,14 @@
+-- Messages by origin and number, and whether a list has one.
+use Rattle.std.specs.Prelude.{ℕ, Bool, List}
+use Rattle.std.specs.List.{list_any}
+use Rattle.gb_types.specs.declared.node.NodeId.{NodeId}
+use Rattle.gb_types.specs.declared.message.MsgId.{MsgId}
+use Rattle.gb_types.specs.Message.{same}
+
+-- the message of an origin with a number
+abbrev pub numbered : NodeId → ℕ → MsgId
+numbered origin seq = record { origin = origin; seq = seq }
+
+-- m is in a list of messages
+abbrev pub is_in : List MsgId → MsgId → Bool
+is_in delivered m = list_any (λ x. same x m) delivered

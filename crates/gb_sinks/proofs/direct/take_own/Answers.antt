@@ -1,6 +1,0 @@
-use Rattle.std.proofs.Common.{rules}
-use Rattle.gb_sinks.specs.Own.{own_name, own_inner}
-use Rattle.gb_sinks.proofs.direct.take_own.Goals as goal
-
-pub returns-clause-out : goal.returns-clause-out
-returns-clause-out g c = search (rules, own_name, own_inner)

@@ -1,9 +1,0 @@
-use Rattle.std.proofs.Common.{◌≡◌, ◌<◌, ◌≤◌, ℕ, false}
-use Rattle.gb_types.specs.Message.{same}
-use Rattle.gb_sinks.specs.Places.{message_at}
-use Rattle.gb_sinks.proofs.index.Index.look_up.Given as goal
-
-abbrev pub invariant-loop-i : goal.invariant-loop-i
-invariant-loop-i l = record {
-  none : (k : ℕ) → l.initial.i ≤ k → k < l.i → same (message_at l.self.list.items k) l.m ≡ false;
-}

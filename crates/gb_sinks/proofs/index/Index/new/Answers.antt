@@ -1,8 +1,0 @@
-use Rattle.std.proofs.Common.{ap, sym, ◌∙◌}
-use Rattle.std.proofs.lemmas.List.{get_or-replicate}
-use Rattle.gb_types.specs.declared.limits.TheConstants.{NODES}
-use Rattle.gb_sinks.specs.Last.{last_of}
-use Rattle.gb_sinks.proofs.index.Index.new.Goals as goal
-
-pub invariant_of-result-clause-greatest : goal.invariant_of-result-clause-greatest
-invariant_of-result-clause-greatest c = λ origin h. get_or-replicate NODES origin 0 0 h ∙ ap (last_of origin) (sym c.new.ensures.items)

@@ -1,5 +1,0 @@
-use Rattle.std.proofs.Common.{length}
-use Rattle.gb_sinks.proofs.tests.last_effects.Given as goal
-
-abbrev pub invariant-loop-call : goal.invariant-loop-call
-invariant-loop-call g l = g.L.Layer.knows l.index.list.items l.layer l.told (length l.index.list.items)
