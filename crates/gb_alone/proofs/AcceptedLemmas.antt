@@ -1,32 +1,16 @@
 -- The messages that a node was told to say are those that were accepted there.
-use Rattle.std.proofs.Common.{◌≡◌, ℕ, ◌+◌, ◌-◌, Bool, true, false, nat_eq, ◌||◌, List, [], ◌∷◌, ◌++◌, length, Option, Some, None, refl, sym, ap, ◌∙◌, subst, length-append}
-use Rattle.std.specs.Prelude.{slice_get, if◌then◌else◌}
-use Rattle.std.proofs.lemmas.Bool.{eqb-true}
-use Rattle.std.proofs.lemmas.List.{append-nil, append_assoc}
-use Rattle.gb_types.specs.declared.entry.Entry.{Entry}
-use Rattle.gb_types.specs.declared.node.NodeId.{NodeId}
-use Rattle.gb_types.specs.declared.plan.Bounds.{Bounds}
-use Rattle.gb_types.specs.declared.refusal.Refusal.TheVariants.{Spent, Stopped}
-use Rattle.gb_types.specs.declared.reply.Reply.{Reply}
+use Rattle.gb_types.specs.Common.{◌≡◌, ℕ, ◌+◌, ◌-◌, Bool, true, false, nat_eq, ◌||◌, List, [], ◌∷◌, ◌++◌, length, Option, Some, None, refl, sym, ap, ◌∙◌, subst, length-append, slice_get, if◌then◌else◌, eqb-true, append-nil, append_assoc, version_at}
+use Rattle.gb_types.specs.declared.{entry.Entry.Entry, node.NodeId.NodeId, plan.Bounds.Bounds, refusal.Refusal.TheVariants.Spent, refusal.Refusal.TheVariants.Stopped, reply.Reply.Reply, spec.Spec.Spec, version.Version.Version, new_message.NewMessage.NewMessage, address.Addr.Addr}
 use Rattle.gb_types.specs.declared.reply.Reply.TheVariants.{Done, Said, Refused}
-use Rattle.gb_types.specs.declared.spec.Spec.{Spec}
-use Rattle.gb_types.specs.declared.version.Version.{Version}
-use Rattle.gb_types.specs.Version.{version_at}
-use Rattle.gb_rules.specs.History.{said_in}
-use Rattle.gb_rules.specs.Group.{Shown, is_gone, is_other, is_too_long, say_answer, on_made}
-use Rattle.gb_rules.specs.declared.call.GroupCall.{GroupCall}
+use Rattle.gb_rules.specs.Common.{said_in, Shown, is_gone, is_other, is_too_long, say_answer, on_made, by_tenant}
+use Rattle.gb_rules.specs.declared.{call.GroupCall.GroupCall, reserve.Reserve.Reserve}
 use Rattle.gb_rules.specs.declared.call.GroupCall.TheVariants.{Own, Other, Crashed}
 use Rattle.gb_alone.specs.Alone.{Member, Group, reply_to, held_spec, shown_in, called, did, falls, taken_in, cut, took_notice, member_after, after, nobody, alone_from, alone}
 use Rattle.gb_alone.specs.Laws.{Accepted, accepted_in, accepted_at, accepted_from, accepted}
-use Rattle.gb_rules.specs.Tenant.{by_tenant}
-use Rattle.gb_alone.specs.declared.event.GroupEvent.{GroupEvent}
+use Rattle.gb_alone.specs.declared.{event.GroupEvent.GroupEvent, event.GroupStep.GroupStep}
 use Rattle.gb_alone.specs.declared.event.GroupEvent.TheVariants.{Tenant, Make as AskMake, Open as AskOpen, Shut as AskShut, Drop as AskDrop, Say as AskSay, OtherMade, OtherDropped, Took, Came, Done as Acknowledged, Notice, Stop}
-use Rattle.gb_alone.specs.declared.event.GroupStep.{GroupStep}
 use Rattle.gb_alone.proofs.UsageLemmas.{shown_of}
-use Rattle.gb_rules.specs.declared.reserve.Reserve.{Reserve}
-use Rattle.gb_types.specs.declared.new_message.NewMessage.{NewMessage}
 use Rattle.gb_rules.proofs.SayLemmas.{said_is}
-use Rattle.gb_types.specs.declared.address.Addr.{Addr}
 
 -- what was said here, in order
 unfoldable pub own_said : List GroupCall → List Accepted

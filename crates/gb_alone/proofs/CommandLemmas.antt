@@ -1,23 +1,12 @@
 -- The commands of a group alone, with their replies.
-use Rattle.std.proofs.Common.{◌≡◌, ℕ, ◌+◌, ◌-◌, Bool, true, false, nat_eq, ◌||◌, List, [], ◌∷◌, ◌++◌, length, Option, Some, None, refl, sym, ap, ◌∙◌, subst, arith, length-append}
-use Rattle.std.specs.Prelude.{slice_get, if◌then◌else◌}
-use Rattle.std.proofs.lemmas.Bool.{eqb-true}
-use Rattle.std.proofs.lemmas.List.{append-nil, append_assoc}
-use Rattle.gb_types.specs.declared.entry.Entry.{Entry}
-use Rattle.gb_types.specs.declared.node.NodeId.{NodeId}
-use Rattle.gb_types.specs.declared.plan.Bounds.{Bounds}
-use Rattle.gb_types.specs.declared.reply.Reply.{Reply}
-use Rattle.gb_types.specs.declared.spec.Spec.{Spec}
-use Rattle.gb_types.specs.declared.version.Version.{Version}
-use Rattle.gb_types.specs.Version.{version_at}
-use Rattle.gb_rules.specs.Group.{is_other, is_too_long}
+use Rattle.gb_types.specs.Common.{◌≡◌, ℕ, ◌+◌, ◌-◌, Bool, true, false, nat_eq, ◌||◌, List, [], ◌∷◌, ◌++◌, length, Option, Some, None, refl, sym, ap, ◌∙◌, subst, arith, length-append, slice_get, if◌then◌else◌, eqb-true, append-nil, append_assoc, version_at}
+use Rattle.gb_types.specs.declared.{entry.Entry.Entry, node.NodeId.NodeId, plan.Bounds.Bounds, reply.Reply.Reply, spec.Spec.Spec, version.Version.Version, address.Addr.Addr}
+use Rattle.gb_rules.specs.Common.{is_other, is_too_long}
 use Rattle.gb_rules.specs.declared.call.GroupCall.TheVariants.{Other, Crashed}
 use Rattle.gb_alone.specs.Alone.{Member, Group, reply_to, held_spec, called, falls, taken_in, cut, took_notice, member_after, after, alone_from}
 use Rattle.gb_alone.specs.Laws.{Accepted, accepted_in, accepted_at, accepted_from}
-use Rattle.gb_alone.specs.declared.event.GroupEvent.{GroupEvent}
+use Rattle.gb_alone.specs.declared.{event.GroupEvent.GroupEvent, event.GroupStep.GroupStep}
 use Rattle.gb_alone.specs.declared.event.GroupEvent.TheVariants.{Tenant, OtherMade, OtherDropped, Took, Came, Done as Acknowledged, Notice, Stop}
-use Rattle.gb_alone.specs.declared.event.GroupStep.{GroupStep}
-use Rattle.gb_types.specs.declared.address.Addr.{Addr}
 
 abbrev pub command_in : GroupEvent → List GroupEvent
 command_in (Tenant reserve) = []

@@ -1,27 +1,14 @@
 -- A property of each message that a node is told of holds of each message that it knows or puts out.
-use Rattle.std.proofs.Common.{◌≡◌, ℕ, zero, suc, ◌-◌, Bool, true, false, not, ◌&&◌, ◌||◌, nat_eq, take, List, [], ◌∷◌, ◌++◌, Option, Some, None, refl, sym, subst}
-use Rattle.std.specs.Prelude.{All, slice_get, if◌then◌else◌}
-use Rattle.std.proofs.lemmas.List.Elements.{All-nil, All-cons, All-head, All-tail, All-append}
-use Rattle.std.proofs.Math.Seq.{take-nil}
-use Rattle.gb_types.specs.declared.entry.Entry.{Entry}
-use Rattle.gb_types.specs.declared.node.NodeId.{NodeId}
-use Rattle.gb_types.specs.declared.plan.Bounds.{Bounds}
-use Rattle.gb_types.specs.declared.reply.Reply.{Reply}
-use Rattle.gb_types.specs.declared.reply.Reply.TheVariants.{Done, Said}
-use Rattle.gb_types.specs.declared.spec.Spec.{Spec}
-use Rattle.gb_types.specs.declared.version.Version.{Version}
-use Rattle.gb_types.specs.Version.{version_at}
-use Rattle.gb_rules.specs.History.{calls_of, known, puts_of}
-use Rattle.gb_layer.specs.Machine.{was_noticed}
-use Rattle.gb_rules.specs.Group.{is_other, is_too_long}
+use Rattle.gb_types.specs.Common.{◌≡◌, ℕ, zero, suc, ◌-◌, Bool, true, false, not, ◌&&◌, ◌||◌, nat_eq, take, List, [], ◌∷◌, ◌++◌, Option, Some, None, refl, sym, subst, All, slice_get, if◌then◌else◌, All-nil, All-cons, All-head, All-tail, All-append, take-nil, version_at}
+use Rattle.gb_types.specs.declared.{entry.Entry.Entry, node.NodeId.NodeId, plan.Bounds.Bounds, reply.Reply.Reply, reply.Reply.TheVariants.Done, reply.Reply.TheVariants.Said, spec.Spec.Spec, version.Version.Version, new_message.NewMessage.NewMessage, address.Addr.Addr}
+use Rattle.gb_rules.specs.Common.{calls_of, known, puts_of, is_other, is_too_long}
+use Rattle.gb_layer.specs.Common.{was_noticed}
 use Rattle.gb_rules.specs.declared.call.GroupCall.{GroupCall}
 use Rattle.gb_rules.specs.declared.call.GroupCall.TheVariants.{Own, Other, Crashed}
 use Rattle.gb_alone.specs.Alone.{held_spec, Member, Group, reply_to, put_to, called, did, falls, item_came, taken_in, cut, took_notice, member_after}
 use Rattle.gb_alone.specs.declared.event.GroupEvent.{GroupEvent}
 use Rattle.gb_alone.specs.declared.event.GroupEvent.TheVariants.{Tenant, Make as AskMake, Open as AskOpen, Shut as AskShut, Drop as AskDrop, Say as AskSay, OtherMade, OtherDropped, Took, Came, Done as Acknowledged, Notice, Stop}
 use Rattle.gb_alone.proofs.KnownLemmas.{HoldsOfTold, all_known, all_puts}
-use Rattle.gb_types.specs.declared.new_message.NewMessage.{NewMessage}
-use Rattle.gb_types.specs.declared.address.Addr.{Addr}
 
 -- it holds of all that is known at the node, and of all that is put out there
 pub record HoldsAt (P : Entry → Type 0) (m : Member) : Type 0 where

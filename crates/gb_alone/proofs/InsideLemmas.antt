@@ -1,34 +1,18 @@
 -- Only nodes of the cluster make groups, and so only they say messages.
-use Rattle.std.proofs.Common.{◌≡◌, ℕ, ◌-◌, ◌≤◌, ◌<◌, Bool, true, false, not, ◌||◌, nat_eq, List, [], ◌∷◌, ◌++◌, Option, Some, None, refl, sym, ap, ◌∙◌, subst, arith}
-use Rattle.std.specs.Prelude.{slice_get, is_some, nat_lt, nat_le, if◌then◌else◌}
-use Rattle.std.specs.List.{list_all}
+use Rattle.gb_types.specs.Common.{◌≡◌, ℕ, ◌-◌, ◌≤◌, ◌<◌, Bool, true, false, not, ◌||◌, nat_eq, List, [], ◌∷◌, ◌++◌, Option, Some, None, refl, sym, ap, ◌∙◌, subst, arith, slice_get, is_some, nat_lt, nat_le, if◌then◌else◌, list_all, eqb-true, nat_tests, version_at}
 use Rattle.std.specs.FinSet as set
-use Rattle.std.proofs.lemmas.Bool.{eqb-true}
-use Rattle.std.proofs.lemmas.Bool.Decides.{nat_tests}
-use Rattle.gb_types.specs.declared.entry.Entry.{Entry}
-use Rattle.gb_types.specs.declared.node.NodeId.{NodeId}
-use Rattle.gb_types.specs.declared.plan.Bounds.{Bounds}
+use Rattle.gb_types.specs.declared.{entry.Entry.Entry, node.NodeId.NodeId, plan.Bounds.Bounds, reply.Reply.Reply, spec.Spec.Spec, version.Version.Version, address.Addr.Addr}
 use Rattle.gb_types.specs.declared.refusal.Refusal.TheVariants.{NoGroup, Spent, NoRoom, BadMembers, OverReserve, Stopped}
-use Rattle.gb_types.specs.declared.reply.Reply.{Reply}
 use Rattle.gb_types.specs.declared.reply.Reply.TheVariants.{Done, Said, Refused}
-use Rattle.gb_types.specs.declared.spec.Spec.{Spec}
-use Rattle.gb_types.specs.declared.version.Version.{Version}
-use Rattle.gb_types.specs.Version.{version_at}
 use Rattle.gb_types.proofs.CoverLemmas.{not_all_members}
 use Rattle.gb_types.proofs.ReadLemmas.{some_same}
-use Rattle.gb_rules.specs.Group.{say_answer, is_member, is_other, is_too_long, on_made}
-use Rattle.gb_rules.specs.declared.call.GroupCall.TheVariants.{Other, Crashed}
+use Rattle.gb_rules.specs.Common.{say_answer, is_member, is_other, is_too_long, on_made, can_name, is_bad, is_over, make_answer, by_tenant}
+use Rattle.gb_rules.specs.declared.{call.GroupCall.TheVariants.Other, call.GroupCall.TheVariants.Crashed, room.TheConstants.GENERATIONS, reserve.Reserve.Reserve}
 use Rattle.gb_alone.specs.Alone.{held_spec, Member, Group, reply_to, called, did, falls, taken_in, cut, took_notice, member_after, after, alone_from}
 use Rattle.gb_alone.specs.Laws.{accepted_in, accepted_at, accepted_from}
-use Rattle.gb_rules.specs.Room.{can_name}
-use Rattle.gb_rules.specs.declared.room.TheConstants.{GENERATIONS}
-use Rattle.gb_rules.specs.Tenant.{is_bad, is_over, make_answer, by_tenant}
-use Rattle.gb_alone.specs.declared.event.GroupEvent.{GroupEvent}
+use Rattle.gb_alone.specs.declared.{event.GroupEvent.GroupEvent, event.GroupStep.GroupStep}
 use Rattle.gb_alone.specs.declared.event.GroupEvent.TheVariants.{Tenant, Make as AskMake, Open as AskOpen, Shut as AskShut, Drop as AskDrop, Say as AskSay, OtherMade, OtherDropped, Took, Came, Done as Acknowledged, Notice, Stop}
-use Rattle.gb_alone.specs.declared.event.GroupStep.{GroupStep}
 use Rattle.gb_alone.proofs.UsageLemmas.{shown_of}
-use Rattle.gb_rules.specs.declared.reserve.Reserve.{Reserve}
-use Rattle.gb_types.specs.declared.address.Addr.{Addr}
 
 -- the node and the members are nodes of a cluster of so many
 abbrev pub IsWithin : ℕ → ℕ → Spec → Type 0

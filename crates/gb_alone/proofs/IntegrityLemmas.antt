@@ -1,23 +1,14 @@
 -- Every message that a node knows or puts out was accepted at its origin.
-use Rattle.std.proofs.Common.{◌≡◌, ℕ, zero, suc, ◌+◌, ◌-◌, ◌≤◌, Bool, true, false, nat_eq, List, [], ◌∷◌, ◌++◌, length, Option, Some, None, refl, sym, ap, ◌∙◌, arith}
-use Rattle.std.specs.Prelude.{All, slice_get, if◌then◌else◌}
-use Rattle.std.proofs.lemmas.Bool.{eq-eqb}
-use Rattle.std.proofs.lemmas.List.Elements.{All-nil, All-weaker}
-use Rattle.gb_types.specs.declared.entry.Entry.{Entry}
-use Rattle.gb_types.specs.declared.message.MsgId.{MsgId}
-use Rattle.gb_types.specs.declared.node.NodeId.{NodeId}
-use Rattle.gb_types.specs.declared.plan.Bounds.{Bounds}
-use Rattle.gb_types.specs.declared.spec.Spec.{Spec}
-use Rattle.gb_rules.specs.History.{known, said_in}
+use Rattle.gb_types.specs.Common.{◌≡◌, ℕ, zero, suc, ◌+◌, ◌-◌, ◌≤◌, Bool, true, false, nat_eq, List, [], ◌∷◌, ◌++◌, length, Option, Some, None, refl, sym, ap, ◌∙◌, arith, All, slice_get, if◌then◌else◌, eq-eqb, All-nil, All-weaker}
+use Rattle.gb_types.specs.declared.{entry.Entry.Entry, message.MsgId.MsgId, node.NodeId.NodeId, plan.Bounds.Bounds, spec.Spec.Spec, address.Addr.Addr}
+use Rattle.gb_rules.specs.Common.{known, said_in}
 use Rattle.gb_rules.specs.declared.call.GroupCall.{GroupCall}
 use Rattle.gb_alone.specs.Alone.{held_spec, Member, Group, reply_to, member_after, after, nobody, alone_from, alone, log_at}
 use Rattle.gb_alone.specs.Laws.{Accepted, accepted_in, accepted_at, accepted, IsAccepted, copies, IsIntegral}
-use Rattle.gb_alone.specs.declared.event.GroupEvent.{GroupEvent}
-use Rattle.gb_alone.specs.declared.event.GroupStep.{GroupStep}
+use Rattle.gb_alone.specs.declared.{event.GroupEvent.GroupEvent, event.GroupStep.GroupStep}
 use Rattle.gb_alone.proofs.AcceptedLemmas.{own_said, length-own_said, next_said, step_said, alone_said}
 use Rattle.gb_alone.proofs.EntryLemmas.{HoldsAt, holds_after}
 use Rattle.gb_alone.proofs.KnownLemmas.{all_at, all_log, copies-log}
-use Rattle.gb_types.specs.declared.address.Addr.{Addr}
 
 -- what holds of a node, where these are the payloads of what each node said
 abbrev pub Fits : (ℕ → List Accepted) → Member → Type 0

@@ -1,7 +1,5 @@
 -- Which item a row put out to a node has at a place.
-use Rattle.std.proofs.Common.{ℕ, ◌≡◌, ◌-◌, ◌≤◌, ◌<◌, List, [], length, get_or, refl}
-use Rattle.std.specs.Prelude.{Some, None, slice_get}
-use Rattle.std.proofs.lemmas.Option.{slice_get_past, slice_get_read}
+use Rattle.gb_types.specs.Common.{ℕ, ◌≡◌, ◌-◌, ◌≤◌, ◌<◌, List, [], length, get_or, refl, Some, None, slice_get, slice_get_past, slice_get_read}
 use Rattle.gb_types.specs.declared.entry.Entry.{Entry}
 
 module _ (puts : List (List Entry)) (b place : ℕ) where

@@ -1,21 +1,11 @@
 -- Messages with the payloads that they have in a history.
-use Rattle.std.proofs.Common.{◌≡◌, ℕ, suc, ◌≤◌, Bool, true, false, cond, ◌||◌, List, [], ◌∷◌, ◌++◌, length, Some, filter, refl, sym, ap, ◌∙◌, subst}
-use Rattle.std.specs.Prelude.{map, All, slice_get, if◌then◌else◌}
-use Rattle.std.specs.List.{AllByRecursion}
+use Rattle.gb_types.specs.Common.{◌≡◌, ℕ, suc, ◌≤◌, Bool, true, false, cond, ◌||◌, List, [], ◌∷◌, ◌++◌, length, Some, filter, refl, sym, ap, ◌∙◌, subst, map, All, slice_get, if◌then◌else◌, AllByRecursion, All-from_recursion, All-head, All-tail, All-push, All-get_or, length-filter, slice_get_within, get_or_from_slice_get, message_of, same}
 use Rattle.std.specs.FinSet as set
-use Rattle.std.proofs.lemmas.List.Elements.{All-from_recursion, All-head, All-tail, All-push, All-get_or}
-use Rattle.std.proofs.lemmas.List.Sums.{length-filter}
-use Rattle.std.proofs.lemmas.Option.{slice_get_within, get_or_from_slice_get}
-use Rattle.gb_types.specs.Entry.{message_of}
-use Rattle.gb_types.specs.Message.{same}
-use Rattle.gb_types.specs.declared.entry.Entry.{Entry}
-use Rattle.gb_types.specs.declared.message.MsgId.{MsgId}
-use Rattle.gb_types.specs.declared.spec.Spec.{Spec}
+use Rattle.gb_types.specs.declared.{entry.Entry.Entry, message.MsgId.MsgId, spec.Spec.Spec}
 use Rattle.gb_types.proofs.SameLemmas.{same-true}
-use Rattle.gb_layer.specs.Machine.{mentions}
+use Rattle.gb_layer.specs.Common.{mentions}
 use Rattle.gb_rules.proofs.MentionLemmas.{has-known}
-use Rattle.gb_rules.specs.History.{call_of, calls_of, known, delivered, log_of, puts_of}
-use Rattle.gb_rules.specs.Messages.{has, payload_in, entry_in, with_new}
+use Rattle.gb_rules.specs.Common.{call_of, calls_of, known, delivered, log_of, puts_of, has, payload_in, entry_in, with_new}
 use Rattle.gb_rules.specs.declared.call.GroupCall.{GroupCall}
 use Rattle.gb_rules.specs.declared.call.GroupCall.TheVariants.{Own, Other, Crashed}
 use Rattle.gb_alone.specs.Laws.{copies}

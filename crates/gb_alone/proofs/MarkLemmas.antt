@@ -1,8 +1,5 @@
 -- Which items of a list are acknowledged, by their places.
-use Rattle.std.proofs.Common.{◌≡◌, ℕ, suc, ◌+◌, ◌≤◌, ◌<◌, List, [], ◌∷◌, ◌++◌, length, Bool, true, false, ◌&&◌, ◌||◌, refl, sym, ◌∙◌, ap, arith}
-use Rattle.std.specs.List.{list_any}
-use Rattle.std.proofs.Math.Bool.{or_assoc}
-use Rattle.std.proofs.lemmas.Bool.{or_parts}
+use Rattle.gb_types.specs.Common.{◌≡◌, ℕ, suc, ◌+◌, ◌≤◌, ◌<◌, List, [], ◌∷◌, ◌++◌, length, Bool, true, false, ◌&&◌, ◌||◌, refl, sym, ◌∙◌, ap, arith, list_any, or_assoc, or_parts}
 use Rattle.gb_types.specs.declared.entry.Entry.{Entry}
 use Rattle.gb_alone.specs.Alone.{is_marked, is_message, is_acknowledged}
 

@@ -1,9 +1,6 @@
 -- Numbers below a bound, and what is seen at each node.
-use Rattle.std.proofs.Common.{◌≡◌, ℕ, zero, suc, ◌+◌, ◌<◌, ◌≤◌, List, [], ◌∷◌, ◌++◌, length, take, get_or, ◌∙◌, ap, sym, refl, arith, add-one}
-use Rattle.std.specs.Prelude.{map, replicate}
-use Rattle.std.proofs.lemmas.List.{map-append}
-use Rattle.gb_types.specs.declared.entry.Entry.{Entry}
-use Rattle.gb_types.specs.declared.reply.Reply.{Reply}
+use Rattle.gb_types.specs.Common.{◌≡◌, ℕ, zero, suc, ◌+◌, ◌<◌, ◌≤◌, List, [], ◌∷◌, ◌++◌, length, take, get_or, ◌∙◌, ap, sym, refl, arith, add-one, map, replicate, map-append}
+use Rattle.gb_types.specs.declared.{entry.Entry.Entry, reply.Reply.Reply}
 use Rattle.gb_alone.specs.Observation.{numbers_below, seen_at, seen_by}
 
 pub take_short : {X : Type 0} (n : ℕ) (xs : List X) → length xs ≤ n → take n xs ≡ xs

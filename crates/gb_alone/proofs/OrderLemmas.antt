@@ -1,13 +1,11 @@
 -- The order of each origin's messages in the logs of a group.
-use Rattle.std.proofs.Common.{ℕ, Bool, true, false, List, [], Option, Some, None, refl, sym, subst}
+use Rattle.gb_types.specs.Common.{ℕ, Bool, true, false, List, [], Option, Some, None, refl, sym, subst, if◌then◌else◌}
 use Rattle.std.specs.FinSet as set
-use Rattle.std.specs.Prelude.{if◌then◌else◌}
 use Rattle.gb_types.specs.declared.spec.Spec.{Spec}
 use Rattle.gb_fifo.specs.Order.{RunsFromOne}
 use Rattle.gb_stack.proofs.DeliveryLemmas.{kind_log_in_order}
-use Rattle.gb_rules.specs.History.{calls_of}
+use Rattle.gb_rules.specs.Common.{calls_of, is_gone}
 use Rattle.gb_rules.specs.declared.call.GroupCall.{GroupCall}
-use Rattle.gb_rules.specs.Group.{is_gone}
 use Rattle.gb_alone.specs.Alone.{alone, log_at}
 use Rattle.gb_alone.specs.Laws.{KeepsOrder, IsInOrder}
 use Rattle.gb_alone.proofs.KnownLemmas.{messages-log}

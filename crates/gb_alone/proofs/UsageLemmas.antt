@@ -1,19 +1,11 @@
 -- How much of its spec's limits a node has used, read only from the nodes of the cluster.
-use Rattle.std.proofs.Common.{◌≡◌, ℕ, zero, suc, ◌+◌, ◌<◌, Bool, true, false, ◌&&◌, ◌||◌, nat_eq, List, ◌∷◌, Option, Some, None, refl, sym, ap, ◌∙◌, cond, arith}
-use Rattle.std.specs.Prelude.{option_map, if◌then◌else◌}
-use Rattle.std.specs.List.{list_all}
-use Rattle.std.specs.Ordering.{nat_cmp}
+use Rattle.gb_types.specs.Common.{◌≡◌, ℕ, zero, suc, ◌+◌, ◌<◌, Bool, true, false, ◌&&◌, ◌||◌, nat_eq, List, ◌∷◌, Option, Some, None, refl, sym, ap, ◌∙◌, cond, arith, option_map, if◌then◌else◌, list_all, nat_cmp, rising, rising_from}
 use Rattle.std.specs.FinSet as set
-use Rattle.gb_types.specs.declared.entry.Entry.{Entry}
-use Rattle.gb_types.specs.declared.limits.TheConstants.{NODES}
-use Rattle.gb_types.specs.declared.spec.Spec.{Spec}
-use Rattle.gb_types.specs.Rising.{rising, rising_from}
+use Rattle.gb_types.specs.declared.{entry.Entry.Entry, limits.TheConstants.NODES, spec.Spec.Spec}
 use Rattle.gb_types.proofs.RisingLemmas.{rising_from-step, rising_from-end, rising_from-start}
-use Rattle.gb_rules.specs.History.{calls_of, said_in, bytes_in, log_of}
-use Rattle.gb_rules.specs.declared.call.GroupCall.{GroupCall}
-use Rattle.gb_layer.specs.Machine.{was_noticed}
-use Rattle.gb_rules.specs.Group.{Shown}
-use Rattle.gb_rules.specs.declared.phase.Phase.{Phase}
+use Rattle.gb_rules.specs.Common.{calls_of, said_in, bytes_in, log_of, Shown}
+use Rattle.gb_rules.specs.declared.{call.GroupCall.GroupCall, phase.Phase.Phase}
+use Rattle.gb_layer.specs.Common.{was_noticed}
 use Rattle.gb_alone.specs.Alone.{is_acknowledged, is_finished_alone, count_unfinished, shown_in}
 
 -- tests that agree on the nodes agree on the nodes of a set

@@ -1,21 +1,11 @@
 -- What holds of every group alone, and so of each group in a cluster. A law speaks of every legal list of events. Each beginning of a legal list is
 -- legal too, so what a law says of the whole list it says at every moment: a message was accepted before it stands in any log.
 use Rattle.std.specs.Prelude.{ℕ, ◌-◌, ◌≡◌, ◌≤◌, ◌<◌, List, [], ◌∷◌, ◌++◌, All, count_by, map, Option, Some, None, slice_get, nat_eq, if◌then◌else◌}
-use Rattle.gb_types.specs.Entry.{message_of}
-use Rattle.gb_types.specs.Message.{same}
-use Rattle.gb_types.specs.declared.entry.Entry.{Entry}
-use Rattle.gb_types.specs.declared.kind.Order.TheVariants.{Fifo}
-use Rattle.gb_types.specs.declared.message.MsgId.{MsgId}
-use Rattle.gb_types.specs.declared.plan.Bounds.{Bounds}
-use Rattle.gb_types.specs.declared.reply.Reply.{Reply}
-use Rattle.gb_types.specs.declared.reply.Reply.TheVariants.{Said}
-use Rattle.gb_types.specs.declared.spec.Spec.{Spec}
+use Rattle.gb_types.specs.Common.{message_of, same}
+use Rattle.gb_types.specs.declared.{entry.Entry.Entry, kind.Order.TheVariants.Fifo, message.MsgId.MsgId, plan.Bounds.Bounds, reply.Reply.Reply, reply.Reply.TheVariants.Said, spec.Spec.Spec, address.Addr.Addr}
 use Rattle.gb_fifo.specs.Order.{RunsFromOne}
 use Rattle.gb_alone.specs.Alone.{Group, Member, reply_to, after, nobody, alone, log_at, held_spec, IsLegal}
-use Rattle.gb_alone.specs.declared.event.GroupEvent.{GroupEvent}
-use Rattle.gb_alone.specs.declared.event.GroupEvent.TheVariants.{Say as AskSay}
-use Rattle.gb_alone.specs.declared.event.GroupStep.{GroupStep}
-use Rattle.gb_types.specs.declared.address.Addr.{Addr}
+use Rattle.gb_alone.specs.declared.{event.GroupEvent.GroupEvent, event.GroupEvent.TheVariants.Say as AskSay, event.GroupStep.GroupStep}
 
 -- a message that was accepted, with the number that its origin answered
 pub record Accepted : Type 0 where

@@ -2,3 +2,4 @@ pub mod Alone
 pub mod Laws
 pub mod MemberLists
 pub mod Observation
+pub mod Common

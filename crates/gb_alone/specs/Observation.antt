@@ -1,7 +1,6 @@
 -- What is seen of a group at its nodes: the replies to its commands, and its items that are carried.
 use Rattle.std.specs.Prelude.{ℕ, zero, suc, List, [], ◌∷◌, ◌++◌, map, take}
-use Rattle.gb_types.specs.declared.entry.Entry.{Entry}
-use Rattle.gb_types.specs.declared.reply.Reply.{Reply}
+use Rattle.gb_types.specs.declared.{entry.Entry.Entry, reply.Reply.Reply}
 use Rattle.gb_alone.specs.Alone.{Group}
 
 -- at a node: the replies to the group's commands, and for each node the items that are carried to it

@@ -2,7 +2,7 @@
 //! meant for short lists of steps.
 ghost use Rattle.std.specs.Prelude.{◌≡◌, ◌≤◌, ◌-◌, [], IfOk, OnOk, length, map, take, replicate, slice_get, slice_index_or, slice_set};
 ghost use Rattle.gb_types.specs.declared.limits.TheConstants.{NODES as MOST};
-ghost use Rattle.gb_types.specs.Version.{bounds_of};
+ghost use Rattle.gb_types.specs.Common.{bounds_of};
 ghost use Rattle.gb_alone.specs.Alone as one_group;
 ghost use Rattle.gb_alone.specs.Alone.{Member as Prior, Group};
 ghost use Rattle.gb_alone.specs.MemberLists.{member_of, new_member, value_at, value_commanded, value_taken_in, values_after, StandsForMember, StandForMembers};

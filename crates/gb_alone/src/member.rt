@@ -1,14 +1,11 @@
 //! A group at one node, as the plain program keeps it.
 ghost use Rattle.std.specs.Prelude.{ℕ, ◌≡◌, ◌||◌, nat_eq, nat_lt, ◌+◌, ◌-◌, ◌<◌, ◌≤◌, [], IfOk, OnOk, true, None, Some, MatchOption, MatchResult, length, replicate, take, drop, slice_get, slice_index_or};
-ghost use Rattle.gb_types.specs.declared.limits.TheConstants.{NODES as MOST};
+ghost use Rattle.gb_types.specs.declared.{limits.TheConstants.NODES as MOST, address.Addr.Addr as AnyAddress, reply.Reply.Reply as Answer};
 ghost use Rattle.gb_alone.specs.Alone as one_group;
-ghost use Rattle.gb_layer.specs.Machine.{was_noticed};
+ghost use Rattle.gb_layer.specs.Common.{was_noticed};
 ghost use Rattle.gb_alone.specs.Alone.{Member as Prior, held_spec, is_acknowledged, is_finished_alone, count_unfinished, usage_of, shown_in};
 ghost use Rattle.gb_alone.specs.MemberLists.{member_of, StandsForMember};
-ghost use Rattle.gb_rules.specs.History.{calls_of};
-ghost use Rattle.gb_rules.specs.Group.{Shown, absent_answer, fetch_answer};
-ghost use Rattle.gb_types.specs.declared.address.Addr.{Addr as AnyAddress};
-ghost use Rattle.gb_types.specs.declared.reply.Reply.{Reply as Answer};
+ghost use Rattle.gb_rules.specs.Common.{calls_of, Shown, absent_answer, fetch_answer};
 
 use crate::event::GroupEvent;
 use crate::marks::Marks;

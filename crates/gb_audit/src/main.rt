@@ -3,8 +3,8 @@
 //! alone, and writes the run as a schedule for gb_sim.
 #![tactic(auto)]
 
-ghost use Rattle.gb_cluster.specs.ClusterValue.{IsClusterPlan};
-ghost use Rattle.gb_merge.specs.Front.{IsMergedFront};
+ghost use Rattle.gb_cluster.specs.Common.{IsClusterPlan};
+ghost use Rattle.gb_merge.specs.Common.{IsMergedFront};
 
 use clap::error::ErrorKind;
 use clap::{Arg, ArgAction, Command};

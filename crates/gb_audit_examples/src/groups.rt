@@ -1,6 +1,6 @@
 // What an audited run shows of the groups of two tenants, beside what they are alone.
-ghost use Rattle.gb_cluster.specs.ClusterValue.{IsClusterPlan};
-ghost use Rattle.gb_merge.specs.Front.{IsMergedFront};
+ghost use Rattle.gb_cluster.specs.Common.{IsClusterPlan};
+ghost use Rattle.gb_merge.specs.Common.{IsMergedFront};
 
 use crate::merged::plan_with;
 use crate::records::records_of;

@@ -1,6 +1,6 @@
 //! A long tape: the ticks of a node alone, as many as a test has time for.
 ghost use Rattle.std.specs.Prelude.{◌≡◌, IfOk, vec_len};
-ghost use Rattle.gb_cluster.specs.ClusterValue.{IsClusterPlan};
+ghost use Rattle.gb_cluster.specs.Common.{IsClusterPlan};
 
 use crate::requests::ADMIN_KEY;
 use gb_merge::AuditFault;

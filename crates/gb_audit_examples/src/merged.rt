@@ -1,6 +1,6 @@
 //! What merging the tapes of worked steps at nodes returns, compared with tables, as tests.
 ghost use Rattle.std.specs.Prelude.{◌≤◌};
-ghost use Rattle.gb_cluster.specs.ClusterValue.{IsClusterPlan};
+ghost use Rattle.gb_cluster.specs.Common.{IsClusterPlan};
 
 use crate::requests::ADMIN_KEY;
 use crate::steps::{At, Taped, hand_over, lose, start, take_all};

@@ -1,5 +1,5 @@
 // Records of two nodes that did things together, and what an audit says of them, and of records that were changed afterwards.
-ghost use Rattle.gb_cluster.specs.ClusterValue.{IsClusterPlan};
+ghost use Rattle.gb_cluster.specs.Common.{IsClusterPlan};
 
 use crate::merged::{plan, plan_under};
 use crate::requests::{ADMIN_KEY, Asked};

@@ -1,5 +1,5 @@
 // A run of two nodes as a schedule for gb_sim, and its answers there.
-ghost use Rattle.gb_cluster.specs.ClusterValue.{IsClusterPlan};
+ghost use Rattle.gb_cluster.specs.Common.{IsClusterPlan};
 
 use crate::merged::{plan, plan_with};
 use crate::requests::Asked;

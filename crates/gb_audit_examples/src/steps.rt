@@ -1,5 +1,5 @@
 //! Worked steps at nodes, and the tapes that they leave, for the tests of merging.
-ghost use Rattle.gb_cluster.specs.ClusterValue.{IsClusterPlan};
+ghost use Rattle.gb_cluster.specs.Common.{IsClusterPlan};
 
 use crate::requests::{Asked, node, request};
 use gb_cluster::plan::node_plan;

@@ -1,9 +1,9 @@
 //! Tests in which a node stops: worked schedules are read, and a node stops after each of their events in turn. Each group is still seen
 //! as it is alone, and the stopped node refuses each later event.
 ghost use Rattle.std.specs.Prelude.{◌≡◌, ℕ, ◌<◌, ◌≤◌, IsTrue};
-ghost use Rattle.gb_cluster.specs.ClusterValue.{IsClusterPlan};
+ghost use Rattle.gb_cluster.specs.Common.{IsClusterPlan};
 ghost use Rattle.gb_types.specs.declared.limits.TheConstants.{NODES as MOST};
-ghost use Rattle.gb_types.specs.Version.{limits_of, version_at};
+ghost use Rattle.gb_types.specs.Common.{limits_of, version_at};
 
 use crate::projected::projection;
 use crate::worked::{

@@ -1,17 +1,10 @@
 -- Merged events are at nodes of the cluster.
-use Rattle.std.proofs.Common.{◌≡◌, List, [], ◌∷◌, ◌++◌, map, ap, sym, subst, ◌∙◌, append_assoc}
-use Rattle.std.specs.Prelude.{ℕ, All}
-use Rattle.std.proofs.lemmas.List.{append-nil, reverse-append}
-use Rattle.std.proofs.lemmas.List.Elements.{All-cons, All-nil}
+use Rattle.gb_types.specs.Common.{◌≡◌, List, [], ◌∷◌, ◌++◌, map, ap, sym, subst, ◌∙◌, append_assoc, ℕ, All, append-nil, reverse-append, All-cons, All-nil}
 use Rattle.gb_types.specs.declared.plan.Plan.{Plan}
 use Rattle.gb_node.specs.declared.tape.TapeEntry.{TapeEntry}
-use Rattle.gb_cluster.specs.ClusterStep.{IsPlaced}
-use Rattle.gb_cluster.specs.ClusterValue.{ClusterValue}
-use Rattle.gb_cluster.specs.Run.{Did, ComesTo}
+use Rattle.gb_cluster.specs.Common.{IsPlaced, ClusterValue, Did, ComesTo}
 use Rattle.gb_cluster.specs.declared.event.Event.{Event}
-use Rattle.gb_merge.specs.Front.{IsMergedFront}
-use Rattle.gb_merge.specs.Interleaving.{Pick, sent_by, AreEvents}
-use Rattle.gb_merge.specs.Merged.{did, run_of}
+use Rattle.gb_merge.specs.Common.{IsMergedFront, Pick, sent_by, AreEvents, did, run_of}
 use Rattle.gb_merge.proofs.ActingLemmas.{placed_so}
 use Rattle.gb_merge.proofs.RerunLemmas.{back, placed}
 

@@ -1,32 +1,13 @@
 -- A run of merged events without a refusal is the run of the entries.
-use Rattle.std.proofs.Common.{◌≡◌, List, [], ◌∷◌, ◌++◌, map, reverse, Bool, true, false, Option, Some, None, refl, ◌∙◌, ap, ap₂, subst}
-use Rattle.std.specs.Prelude.{option_map}
-use Rattle.std.specs.List.{list_any}
-use Rattle.std.specs.Option.{option_map_or}
-use Rattle.gb_types.specs.declared.plan.Plan.{Plan}
-use Rattle.gb_node.specs.declared.answer.NodeAnswer.{NodeAnswer}
-use Rattle.gb_node.specs.declared.answer.NodeAnswer.TheVariants.{Sent}
-use Rattle.gb_node.specs.declared.answer.Sent.TheVariants.{Packet as SentPacket}
-use Rattle.gb_node.specs.declared.event.NodeEvent.{NodeEvent}
-use Rattle.gb_node.specs.declared.event.NodeEvent.TheVariants.{Packet as Came}
-use Rattle.gb_types.specs.declared.node.NodeId.{NodeId}
-use Rattle.gb_node.specs.declared.tape.TapeEntry.{TapeEntry}
-use Rattle.gb_cluster.specs.ClusterStep.{packet_numbered}
-use Rattle.gb_cluster.specs.ClusterValue.{ClusterValue, new_cluster}
-use Rattle.gb_cluster.specs.Links.{PacketsAreHonest}
-use Rattle.gb_cluster.specs.Run.{Did, IsOf}
-use Rattle.gb_cluster.specs.declared.answer.Answer.{Answer}
+use Rattle.gb_types.specs.Common.{◌≡◌, List, [], ◌∷◌, ◌++◌, map, reverse, Bool, true, false, Option, Some, None, refl, ◌∙◌, ap, ap₂, subst, option_map, list_any, option_map_or}
+use Rattle.gb_types.specs.declared.{plan.Plan.Plan, node.NodeId.NodeId}
+use Rattle.gb_node.specs.declared.{answer.NodeAnswer.NodeAnswer, answer.NodeAnswer.TheVariants.Sent, answer.Sent.TheVariants.Packet as SentPacket, event.NodeEvent.NodeEvent, event.NodeEvent.TheVariants.Packet as Came, tape.TapeEntry.TapeEntry}
+use Rattle.gb_cluster.specs.Common.{packet_numbered, ClusterValue, new_cluster, PacketsAreHonest, Did, IsOf}
+use Rattle.gb_cluster.specs.declared.{answer.Answer.Answer, event.Event.Event, event.Event.TheVariants.At, event.Event.TheVariants.Arrive, posted.Posted.Posted}
 use Rattle.gb_cluster.specs.declared.answer.Answer.TheVariants.{Reply as AnswerReply, Taken as AnswerTaken, Sent as AnswerSent, Ticked as AnswerTicked, Halted as AnswerHalted, NoPacket, NotNoise}
 use Rattle.gb_cluster.specs.declared.answer.Sending.TheVariants.{Packet as SendingPacket, Nothing as SendingNothing, Refused as SendingRefused}
-use Rattle.gb_cluster.specs.declared.event.Event.{Event}
-use Rattle.gb_cluster.specs.declared.event.Event.TheVariants.{At, Arrive}
-use Rattle.gb_cluster.specs.declared.posted.Posted.{Posted}
-use Rattle.gb_merge.specs.Front.{IsMergedFront}
-use Rattle.gb_merge.specs.Interleaving.{Pick}
-use Rattle.gb_merge.specs.Merged.{told, did}
+use Rattle.gb_merge.specs.Common.{IsMergedFront, Pick, told, did, Leads, AreTold, is_refused}
 use Rattle.gb_merge.specs.Merged as merged
-use Rattle.gb_merge.specs.Rerun.{Leads, AreTold}
-use Rattle.gb_merge.specs.Woven.{is_refused}
 use Rattle.gb_merge.proofs.RerunLemmas.{NodeLaws, rerun}
 use Rattle.gb_trace.specs.Run.{tells_want}
 use Rattle.gb_trace.specs.Trace.{own_answer, did_with, did_in, all_did, run_of, AreSteps, IsRun}

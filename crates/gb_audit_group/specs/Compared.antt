@@ -1,17 +1,14 @@
 -- What a recorded run shows of a group, beside what the group is alone.
 use Rattle.std.specs.Prelude.{◌≡◌, ◌↔◌, true, List, IsTrue}
-use Rattle.gb_types.specs.declared.address.Addr.{Addr}
-use Rattle.gb_types.specs.declared.plan.Plan.{Plan}
-use Rattle.gb_types.specs.Version.{bounds_of}
+use Rattle.gb_types.specs.declared.{address.Addr.Addr, plan.Plan.Plan}
+use Rattle.gb_types.specs.Common.{bounds_of}
 use Rattle.gb_node.specs.declared.tape.TapeEntry.{TapeEntry}
-use Rattle.gb_alone.specs.Alone.{IsLegal}
-use Rattle.gb_alone.specs.Observation.{observed_alone}
-use Rattle.gb_cluster.specs.Run.{Did}
+use Rattle.gb_alone.specs.Common.{IsLegal, observed_alone}
+use Rattle.gb_cluster.specs.Common.{Did}
 use Rattle.gb_cluster.specs.declared.event.Event.{Event}
 use Rattle.gb_isolation.specs.Isolation.{alone_in}
 use Rattle.gb_isolation.specs.Project.{project}
-use Rattle.gb_merge.specs.Front.{IsMergedFront}
-use Rattle.gb_merge.specs.Merged.{run_of}
+use Rattle.gb_merge.specs.Common.{IsMergedFront, run_of}
 use Rattle.gb_trace.specs.Observed.{observed}
 use Rattle.gb_audit_group.specs.declared.compare.GroupSeen.{GroupSeen}
 

@@ -1,9 +1,8 @@
 -- The lines that tell what an audited run shows of a group.
 use Rattle.std.specs.Prelude.{ℕ, ◌+◌, List, [], ◌∷◌, ◌++◌, codes, decimal, length, map, if◌then◌else◌}
-use Rattle.gb_types.specs.RequestWords.{group_word}
-use Rattle.gb_types.specs.declared.address.Addr.{Addr}
-use Rattle.gb_types.specs.declared.entry.Entry.{Entry}
-use Rattle.gb_alone.specs.Observation.{SeenAt}
+use Rattle.gb_types.specs.Common.{group_word}
+use Rattle.gb_types.specs.declared.{address.Addr.Addr, entry.Entry.Entry}
+use Rattle.gb_alone.specs.Common.{SeenAt}
 use Rattle.gb_record_text.specs.RecordText.{after_space, each_after_comma}
 use Rattle.gb_audit_group.specs.declared.compare.GroupSeen.{GroupSeen}
 

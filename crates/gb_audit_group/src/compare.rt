@@ -1,7 +1,7 @@
 //! What an audited run shows of a group, compared with what the group is alone.
 ghost use Rattle.std.specs.Prelude.{List, IfOk};
-ghost use Rattle.gb_cluster.specs.ClusterValue.{IsClusterPlan};
-ghost use Rattle.gb_merge.specs.Front.{IsMergedFront};
+ghost use Rattle.gb_cluster.specs.Common.{IsClusterPlan};
+ghost use Rattle.gb_merge.specs.Common.{IsMergedFront};
 ghost use Rattle.gb_node.specs.declared.tape.TapeEntry.{TapeEntry};
 ghost use Rattle.gb_audit_group.specs.Compared.{IsCompared};
 

@@ -1,6 +1,6 @@
 //! The lines that tell what an audited run shows of a group. If there is no memory, a part of them may have been appended.
 ghost use Rattle.std.specs.Prelude.{◌≡◌, ◌++◌, codes, decimal, length, map, OnOk};
-ghost use Rattle.gb_types.specs.RequestWords.{group_word};
+ghost use Rattle.gb_types.specs.Common.{group_word};
 ghost use Rattle.gb_record_text.specs.RecordText.{after_space, each_after_comma};
 ghost use Rattle.gb_audit_group.specs.GroupText.{counts_text, fact_text, group_head, group_text, node_line, node_lines, seen_text, verdict_text};
 

@@ -1,6 +1,5 @@
 -- Counting the entries of each seat.
-use Rattle.std.proofs.Common.{ℕ, nat_eq, List, take}
-use Rattle.std.specs.Prelude.{count_by}
+use Rattle.gb_types.specs.Common.{ℕ, nat_eq, List, take, count_by}
 use Rattle.gb_node.specs.declared.tape.TapeEntry.{TapeEntry}
 
 -- the entries of a seat among the first ones

@@ -1,19 +1,11 @@
 -- Replaying a node's entries one by one.
-use Rattle.std.proofs.Common.{◌≡◌, ℕ, ◌+◌, ◌<◌, Bool, false, List, length, take, get_or, sym, ap, subst, ◌∙◌, arith, inl, inr}
-use Rattle.std.specs.Prelude.{if◌then◌else◌}
-use Rattle.std.proofs.lemmas.Bool.{cases_eq}
-use Rattle.std.proofs.lemmas.List.{get_or_default}
-use Rattle.std.proofs.lemmas.List.Sums.{fold_more}
-use Rattle.gb_types.specs.declared.node.NodeId.{NodeId}
-use Rattle.gb_types.specs.declared.plan.Plan.{Plan}
-use Rattle.gb_node.specs.NodeStep.{IsTurn}
-use Rattle.gb_node.specs.NodeValue.{NodeValue, new_node}
-use Rattle.gb_node.specs.SendLaw.{StarvedSays}
-use Rattle.gb_node.specs.declared.answer.NodeAnswer.{NodeAnswer}
-use Rattle.gb_node.specs.declared.tape.TapeEntry.{TapeEntry}
-use Rattle.gb_cluster.specs.ClusterValue.{node_plan}
+use Rattle.gb_types.specs.Common.{◌≡◌, ℕ, ◌+◌, ◌<◌, Bool, false, List, length, take, get_or, sym, ap, subst, ◌∙◌, arith, inl, inr, if◌then◌else◌, cases_eq, get_or_default, fold_more}
+use Rattle.gb_types.specs.declared.{node.NodeId.NodeId, plan.Plan.Plan}
+use Rattle.gb_node.specs.Common.{IsTurn, NodeValue, new_node, StarvedSays}
+use Rattle.gb_node.specs.declared.{answer.NodeAnswer.NodeAnswer, tape.TapeEntry.TapeEntry}
+use Rattle.gb_cluster.specs.Common.{node_plan}
 use Rattle.gb_isolation.specs.Isolation.{wants_memory}
-use Rattle.gb_merge.specs.Faults.{node_after, after_entry, replay}
+use Rattle.gb_merge.specs.Common.{node_after, after_entry, replay}
 use Rattle.gb_merge.proofs.ActingLemmas.{turned}
 use Rattle.gb_audit_run.specs.Replayed.{AreReplayedTo, IsGiven, IsUnfed, IsStarvedAt}
 

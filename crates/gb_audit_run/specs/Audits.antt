@@ -2,21 +2,17 @@
 use Rattle.std.specs.Prelude.{◌≡◌, ◌≢◌, ◌↔◌, ℕ, ◌<◌, List, [], length, map, sum, find, nat_eq, All, AllPairs, Bool}
 use Rattle.std.specs.List.{AllZip, range_with_len}
 use Rattle.std.specs.Option.{option_map_or}
-use Rattle.gb_types.specs.Version.{version_at}
+use Rattle.gb_types.specs.Common.{version_at}
 use Rattle.gb_types.specs.declared.plan.Plan.{Plan}
 use Rattle.gb_node.specs.declared.tape.TapeEntry.{TapeEntry}
-use Rattle.gb_cluster.specs.ClusterValue.{IsClusterPlan}
-use Rattle.gb_merge.specs.Front.{IsMergedFront}
+use Rattle.gb_cluster.specs.Common.{IsClusterPlan}
+use Rattle.gb_merge.specs.Common.{IsMergedFront}
 use Rattle.gb_record_text.specs.Fits.{FitsRecord}
 use Rattle.gb_record_text.specs.Laws.{IsAnswered, AreSame}
 use Rattle.gb_record_text.specs.Records.{IsRecord}
-use Rattle.gb_record_text.specs.declared.head.RecordHead.{RecordHead}
-use Rattle.gb_record_text.specs.declared.reader.Record.{Record}
+use Rattle.gb_record_text.specs.declared.{head.RecordHead.RecordHead, reader.Record.Record}
 use Rattle.gb_audit_run.specs.Counts.{AreCounted}
-use Rattle.gb_audit_run.specs.declared.audit.Audited.{Audited}
-use Rattle.gb_audit_run.specs.declared.audit.Source.{Source}
-use Rattle.gb_audit_run.specs.declared.audit.Verdict.TheVariants.{Whole}
-use Rattle.gb_audit_run.specs.declared.cluster.ClusterKeys.{ClusterKeys}
+use Rattle.gb_audit_run.specs.declared.{audit.Audited.Audited, audit.Source.Source, audit.Verdict.TheVariants.Whole, cluster.ClusterKeys.ClusterKeys}
 
 -- two first lines that may be of two nodes of one cluster
 pub record AreOfOne (first other : RecordHead) : Type 0 where

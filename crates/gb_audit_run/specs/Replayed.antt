@@ -1,13 +1,10 @@
 -- The replay of one node's entries by itself: a node that is started and takes their events in order.
 use Rattle.std.specs.Prelude.{◌≡◌, ℕ, ◌<◌, true, false, List, length, take, get_or}
-use Rattle.gb_types.specs.declared.node.NodeId.{NodeId}
-use Rattle.gb_types.specs.declared.plan.Plan.{Plan}
-use Rattle.gb_node.specs.NodeStep.{IsTurn}
-use Rattle.gb_node.specs.NodeValue.{NodeValue}
-use Rattle.gb_node.specs.declared.answer.NodeAnswer.{NodeAnswer}
-use Rattle.gb_node.specs.declared.tape.TapeEntry.{TapeEntry}
+use Rattle.gb_types.specs.declared.{node.NodeId.NodeId, plan.Plan.Plan}
+use Rattle.gb_node.specs.Common.{IsTurn, NodeValue}
+use Rattle.gb_node.specs.declared.{answer.NodeAnswer.NodeAnswer, tape.TapeEntry.TapeEntry}
 use Rattle.gb_isolation.specs.Isolation.{wants_memory}
-use Rattle.gb_merge.specs.Faults.{node_answer, replay}
+use Rattle.gb_merge.specs.Common.{node_answer, replay}
 
 -- the entry's answer is what the node answers that has memory, and no refusal for lack of memory
 abbrev pub IsGiven : NodeValue → TapeEntry → Type 0

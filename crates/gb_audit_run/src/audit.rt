@@ -1,7 +1,7 @@
 //! The audit of the records of a cluster's nodes: whether what they recorded is one run of the cluster.
 ghost use Rattle.std.specs.Prelude.{◌≡◌, ◌≢◌, ◌<◌, ◌↔◌, length, map, sum, AllPairs, All, IfOk, IfSome, IfNone, IsTrue};
 ghost use Rattle.std.specs.List.{range_with_len};
-ghost use Rattle.gb_cluster.specs.ClusterValue.{IsClusterPlan};
+ghost use Rattle.gb_cluster.specs.Common.{IsClusterPlan};
 ghost use Rattle.gb_record_text.specs.Fits.{FitsRecord};
 ghost use Rattle.gb_record_text.specs.Laws.{IsAnswered};
 ghost use Rattle.gb_audit_run.specs.Counts.{AreCounted};

@@ -1,8 +1,8 @@
 //! The cluster that records speak of: whether records may be of one cluster, and the plan of that cluster.
 ghost use Rattle.std.specs.Prelude.{◌≡◌, ◌≢◌, ◌<◌, ◌≤◌, ◌↔◌, ℕ, length, All, AllPairs, IfSome, IsTrue};
-ghost use Rattle.gb_types.specs.Version.{limits_of, version_at};
+ghost use Rattle.gb_types.specs.Common.{limits_of, version_at};
 ghost use Rattle.gb_types.specs.declared.limits.TheConstants.{NODES as MOST};
-ghost use Rattle.gb_cluster.specs.ClusterValue.{IsClusterPlan};
+ghost use Rattle.gb_cluster.specs.Common.{IsClusterPlan};
 ghost use Rattle.gb_audit_run.specs.Audits.{AreOfOne, IsOfPlan};
 
 use gb_record_text::RecordHead;

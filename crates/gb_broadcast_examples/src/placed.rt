@@ -1,7 +1,7 @@
 //! The calls of a layer that is told places, by the messages that they name. An index has the messages.
 ghost use Rattle.std.specs.Prelude.{◌≡◌, List, true, length, OnOk};
 ghost use Rattle.gb_types.specs.declared.message.MsgId.{MsgId};
-ghost use Rattle.gb_layer.specs.PlacedCalls.{Names, IsNext, reached, told_after};
+ghost use Rattle.gb_layer.specs.Common.{Names, IsNext, reached, told_after};
 
 use crate::names::{ME, MEMBERS, set};
 use gb_layer::calls::make_call;

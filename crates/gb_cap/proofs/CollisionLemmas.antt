@@ -1,7 +1,5 @@
 -- Equal tags of two texts come with a collision of the hash.
-use Rattle.std.proofs.Common.{◌≡◌, ◌≢◌, ℕ, List, [], ◌∷◌, ◌⊎◌, refl, inl, inr}
-use Rattle.std.proofs.lemmas.Bool.Decides.{eqb_tells}
-use Rattle.std.proofs.lemmas.List.{append_cancel_left}
+use Rattle.gb_types.specs.Common.{◌≡◌, ◌≢◌, ℕ, List, [], ◌∷◌, ◌⊎◌, refl, inl, inr, eqb_tells, append_cancel_left}
 use Rattle.sha2.specs.Sha256.{sha256}
 use Rattle.gb_cap.specs.Hmac.{padded, hmac_of, inner_text, outer_text}
 use Rattle.gb_cap.specs.Token.{text_of, Collide, SharedTokensCollide}

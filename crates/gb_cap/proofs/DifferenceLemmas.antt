@@ -1,8 +1,5 @@
 -- The number of places where two texts differ.
-use Rattle.std.proofs.Common.{◌≡◌, ℕ, ◌+◌, ◌<◌, true, false, cond, nat_eq, List, [], ◌∷◌, length, take, get_or, ◌↔◌, refl, sym, ap, ◌∙◌, arith}
-use Rattle.std.specs.Prelude.{not, zip, count_by}
-use Rattle.std.proofs.lemmas.Bool.{eqb-true, eq-eqb}
-use Rattle.std.proofs.lemmas.List.Sums.{sum_by-cons, count_by_more_no, count_by_more_yes}
+use Rattle.gb_types.specs.Common.{◌≡◌, ℕ, ◌+◌, ◌<◌, true, false, cond, nat_eq, List, [], ◌∷◌, length, take, get_or, ◌↔◌, refl, sym, ap, ◌∙◌, arith, not, zip, count_by, eqb-true, eq-eqb, sum_by-cons, count_by_more_no, count_by_more_yes}
 use Rattle.std.proofs.lemmas.Slice.Zip.{get_or-zip, length-zip}
 use mir.Val.{bool_byte}
 use Rattle.gb_cap.specs.Compare.{are_unlike}

@@ -1,8 +1,6 @@
 -- Tokens and keys that are kept in maps, as they were made once: what holds of each entry.
-use Rattle.std.proofs.Common.{◌≡◌, zero, suc, List, [], ◌∷◌, refl, sym, subst, true, false, arith}
-use Rattle.std.specs.Prelude.{Bool, cond, Some, All, Result, Ok, Err, OnOk, OnErr}
+use Rattle.gb_types.specs.Common.{◌≡◌, zero, suc, List, [], ◌∷◌, refl, sym, subst, true, false, arith, Bool, cond, Some, All, Result, Ok, Err, OnOk, OnErr, All-cons, All-nil}
 use Rattle.std.specs.Map.{lookup}
-use Rattle.std.proofs.lemmas.List.Elements.{All-cons, All-nil}
 use Rattle.indexmap.specs.IndexMap.{insert_entry}
 
 -- what is found by a key holds of it

@@ -1,15 +1,11 @@
 -- What the words of a request need, and what a reader of words answers.
-use Rattle.std.proofs.Common.{◌≡◌, ℕ, List, ◌∷◌, ◌∙◌, decimal, refl, sym, ap}
+use Rattle.gb_types.specs.Common.{◌≡◌, ℕ, List, ◌∷◌, ◌∙◌, decimal, refl, sym, ap, IsShort, group_word}
 use Rattle.gb_types.proofs.ReadLemmas.{Reads, found, only, reads_one}
-use Rattle.gb_types.specs.RequestWords.{IsShort, group_word}
-use Rattle.gb_types.specs.declared.command_words.CommandHead.{CommandHead}
+use Rattle.gb_types.specs.declared.{command_words.CommandHead.CommandHead, node.NodeId.NodeId, address.Addr.Addr}
 use Rattle.gb_types.specs.declared.command_words.CommandHead.TheVariants.{Make, Open, Shut, Drop, Say, Fetch}
-use Rattle.gb_types.specs.declared.node.NodeId.{NodeId}
-use Rattle.gb_cap.specs.declared.token.Need.{Need}
-use Rattle.gb_cap.specs.declared.token.Need.TheVariants.{Tenant, Member}
+use Rattle.gb_cap.specs.declared.{token.Need.Need, token.Need.TheVariants.Tenant, token.Need.TheVariants.Member}
 use Rattle.gb_session.specs.declared.head.Head.TheVariants.{Group}
 use Rattle.gb_client.specs.Requests.{NeedsTenant, NeedsMember, Needs}
-use Rattle.gb_types.specs.declared.address.Addr.{Addr}
 use Rattle.gb_types.proofs.RequestWordLemmas.{AreAddressWords}
 
 -- a word of a number of two bytes

@@ -1,20 +1,8 @@
 -- What the text of a log is, word for word.
-use Rattle.std.proofs.Common.{◌≡◌, ℕ, zero, suc, ◌+◌, ◌^◌, ◌<◌, get_or, take, List, [], ◌∷◌, ◌++◌, false, eqb, length, map, codes, refl, ap, sym, ◌∙◌, arith, decimal, append_assoc, append-nil}
-use Rattle.std.specs.Prelude.{Option, Some, None, IfSome, IfNone}
-use Rattle.std.specs.List.{All, flat_map, slice_split, join_with_byte}
-use Rattle.std.proofs.lemmas.Bool.{ne_eqb}
-use Rattle.std.proofs.lemmas.List.{map-append}
+use Rattle.gb_types.specs.Common.{◌≡◌, ℕ, zero, suc, ◌+◌, ◌^◌, ◌<◌, get_or, take, List, [], ◌∷◌, ◌++◌, false, eqb, length, map, codes, refl, ap, sym, ◌∙◌, arith, decimal, append_assoc, append-nil, Option, Some, None, IfSome, IfNone, All, flat_map, slice_split, join_with_byte, ne_eqb, map-append, All-nil, All-cons, All-head, All-tail, refusal_number, refusal_name, FitsEntry, FitsReply, payload_word, entry_text, reply_spelling, words_of}
 use Rattle.std.proofs.lemmas.List.Splits.{slice_split_none, slice_split_at, join_with_byte-slice_split}
-use Rattle.std.proofs.lemmas.List.Elements.{All-nil, All-cons, All-head, All-tail}
-use Rattle.gb_types.specs.declared.entry.Entry.{Entry}
-use Rattle.gb_types.specs.declared.refusal.Refusal.{Refusal}
+use Rattle.gb_types.specs.declared.{entry.Entry.Entry, refusal.Refusal.Refusal, reply.Reply.TheVariants.Log, reply.Reply.TheVariants.Refused}
 use Rattle.gb_types.specs.declared.refusal.Refusal.TheVariants as refusals
-use Rattle.gb_types.specs.declared.reply.Reply.TheVariants.{Log, Refused}
-use Rattle.gb_types.specs.Refusal.{refusal_number, refusal_name}
-use Rattle.gb_types.specs.Laws.{FitsEntry, FitsReply}
-use Rattle.gb_types.specs.PayloadWord.{payload_word}
-use Rattle.gb_types.specs.ReplyText.{entry_text, reply_spelling}
-use Rattle.gb_types.specs.Words.{words_of}
 use Rattle.gb_types.proofs.CutLemmas.{Without, without-append, without-decimal}
 use Rattle.gb_types.proofs.PayloadLemmas.{without-payload_word}
 use Rattle.gb_client.specs.Answers.{parts_of, log_words, refusal_words}

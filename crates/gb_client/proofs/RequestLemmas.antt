@@ -1,7 +1,5 @@
 -- Words behind references, each after a space.
-use Rattle.std.proofs.Common.{◌≡◌, ℕ, suc, ◌+◌, ◌<◌, List, ◌++◌, length, map, drop, get_or, codes, ap, sym, ◌∙◌, arith, append_assoc, drop-cons}
-use Rattle.std.specs.List.{flat_map}
-use Rattle.std.proofs.lemmas.List.Folds.{flat_map-map}
+use Rattle.gb_types.specs.Common.{◌≡◌, ℕ, suc, ◌+◌, ◌<◌, List, ◌++◌, length, map, drop, get_or, codes, ap, sym, ◌∙◌, arith, append_assoc, drop-cons, flat_map, flat_map-map}
 use denote.Ref.{Bor}
 
 pub words_behind : (words : List (Bor (List ℕ))) → flat_map (λ word. codes " " ++ word) (map (λ word. word.now) words) ≡ flat_map (λ word. codes " " ++ word.now) words

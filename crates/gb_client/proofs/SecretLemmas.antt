@@ -1,6 +1,5 @@
 -- Lines, one by one.
-use Rattle.std.proofs.Common.{◌≡◌, ℕ, suc, ◌+◌, ◌<◌, List, length, map, drop, get_or, ap, sym, ◌∙◌, arith, drop-cons}
-use Rattle.std.specs.Prelude.{fold}
+use Rattle.gb_types.specs.Common.{◌≡◌, ℕ, suc, ◌+◌, ◌<◌, List, length, map, drop, get_or, ap, sym, ◌∙◌, arith, drop-cons, fold}
 use denote.Ref.{Bor}
 
 -- the next line of a text that is read line by line

@@ -1,15 +1,10 @@
 -- What a reply comes to.
 use Rattle.std.specs.Prelude.{ℕ, List, [], ◌∷◌, ◌++◌, codes, decimal, length, map}
 use Rattle.std.specs.List.{flat_map}
-use Rattle.gb_types.specs.declared.entry.Entry.{Entry}
-use Rattle.gb_types.specs.declared.refusal.Refusal.{Refusal}
-use Rattle.gb_types.specs.Refusal.{refusal_number, refusal_name}
-use Rattle.gb_types.specs.PayloadWord.{payload_word}
-use Rattle.gb_types.specs.ReplyText.{entry_text}
+use Rattle.gb_types.specs.declared.{entry.Entry.Entry, refusal.Refusal.Refusal, reply.Reply.Reply, reply.Reply.TheVariants.Refused}
+use Rattle.gb_types.specs.Common.{refusal_number, refusal_name, payload_word, entry_text}
 use Rattle.gb_client.specs.declared.fault.ClientFault.{ClientFault}
 use Rattle.gb_client.specs.declared.fault.ClientFault.TheVariants.{Words, Secrets, Missing, NoExport, Connection, Lost, Late, NoReply, Output, OutOfMemory}
-use Rattle.gb_types.specs.declared.reply.Reply.{Reply}
-use Rattle.gb_types.specs.declared.reply.Reply.TheVariants.{Refused}
 
 -- the exit status for a reply: 1 for a refusal, else 0
 abbrev pub reply_status : Reply → ℕ

@@ -1,16 +1,10 @@
 //! Replies of a node, as a client reads them: which reply a text is, and the exit status for it.
 ghost use Rattle.std.specs.Prelude.{◌≡◌, ◌==◌, ◌<◌, ◌^◌, ℕ, List, true, false, decimal, All, IfOk, IfSome, IfNone, map};
 ghost use Rattle.std.specs.List.{slice_split};
-ghost use Rattle.gb_types.specs.declared.limits.TheConstants.{NODES};
-ghost use Rattle.gb_types.specs.declared.entry.Entry.{Entry as TheEntry};
-ghost use Rattle.gb_types.specs.declared.refusal.Refusal.{Refusal as TheRefusal};
-ghost use Rattle.gb_types.specs.declared.reply.Reply.{Reply as TheReply};
-ghost use Rattle.gb_types.specs.Laws.{FitsEntry, FitsReply};
-ghost use Rattle.gb_types.specs.PayloadWord.{payload_word};
-ghost use Rattle.gb_types.specs.ReplyText.{entry_text, reply_spelling};
+ghost use Rattle.gb_types.specs.declared.{limits.TheConstants.NODES, entry.Entry.Entry as TheEntry, refusal.Refusal.Refusal as TheRefusal, reply.Reply.Reply as TheReply};
+ghost use Rattle.gb_types.specs.Common.{FitsEntry, FitsReply, payload_word, entry_text, reply_spelling, refusal_number};
 ghost use Rattle.hex.specs.Hex.{IsBytes};
 ghost use Rattle.gb_client.specs.Answers.{reply_status, parts_of, log_words, refusal_words};
-ghost use Rattle.gb_types.specs.Refusal.{refusal_number};
 
 use gb_types::limits::NODES;
 use gb_types::number::read_number;

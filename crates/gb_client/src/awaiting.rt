@@ -1,8 +1,7 @@
 //! The text of a fetch that waits.
 ghost use Rattle.std.specs.Prelude.{◌≡◌, ◌⊎◌, ◌++◌, ◌≤◌, vec_len, IfOk, IfErr, IfSome};
 ghost use Rattle.gb_session.specs.Asks.{IsAwaitText};
-ghost use Rattle.gb_session.specs.declared.ask.Awaited.{Awaited as TheAwaited};
-ghost use Rattle.gb_session.specs.declared.grammar.TheConstants.{BODY};
+ghost use Rattle.gb_session.specs.declared.{ask.Awaited.Awaited as TheAwaited, grammar.TheConstants.BODY};
 ghost use Rattle.gb_client.specs.Requests.{await_of};
 
 use crate::fault::ClientFault;

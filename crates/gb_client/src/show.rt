@@ -1,8 +1,7 @@
 //! Replies, log entries and tokens as text that people read.
 ghost use Rattle.std.specs.Prelude.{◌≡◌, ◌++◌, [], ◌∷◌, false, IfOk, OnOk};
 ghost use Rattle.hex.specs.Hex.{encode_lower};
-ghost use Rattle.gb_types.specs.PayloadWord.{payload_word};
-ghost use Rattle.gb_types.specs.ReplyText.{entry_text, reply_spelling};
+ghost use Rattle.gb_types.specs.Common.{payload_word, entry_text, reply_spelling};
 ghost use Rattle.gb_client.specs.Answers.{lines_of};
 
 use gb_types::number::put_number;

@@ -1,12 +1,11 @@
 //! What a client is told to do, and the bodies of the requests that this takes.
 ghost use Rattle.std.specs.Prelude.{◌≡◌, ◌≤◌, ◌<◌, ◌+◌, ℕ, List, [], ◌∷◌, Some, codes, decimal, map, vec_len, IfOk, IfSome, IfNone};
 ghost use Rattle.hex.specs.Hex.{encode_lower};
-ghost use Rattle.gb_types.specs.PayloadWord.{payload_word};
+ghost use Rattle.gb_types.specs.Common.{payload_word};
 ghost use Rattle.gb_client.specs.Errands.{nodes_named};
 ghost use Rattle.gb_client.specs.Asking.{Asks, IsAsked, with_key, with_payload, words_told};
-ghost use Rattle.gb_session.specs.declared.grammar.TheConstants.{BODY};
+ghost use Rattle.gb_session.specs.declared.{grammar.TheConstants.BODY, head.Head.Head};
 ghost use Rattle.gb_types.specs.declared.command_words.CommandHead.{CommandHead};
-ghost use Rattle.gb_session.specs.declared.head.Head.{Head};
 
 use crate::fault::ClientFault;
 use crate::need::need_of;

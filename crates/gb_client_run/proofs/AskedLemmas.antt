@@ -1,10 +1,7 @@
 -- What was asked, one after the other.
-use Rattle.std.proofs.Common.{◌≡◌, ◌⊎◌, inl, inr, ℕ, List, [], ◌∷◌, ◌++◌, ◌+◌, ◌<◌, ◌∙◌, ap, take, length, get_or, subst, sym}
-use Rattle.std.proofs.lemmas.List.{take_more}
-use Rattle.std.proofs.lemmas.List.Elements.{All-nil, All-cons, All-append, All-weaker}
+use Rattle.gb_types.specs.Common.{◌≡◌, ◌⊎◌, inl, inr, ℕ, List, [], ◌∷◌, ◌++◌, ◌+◌, ◌<◌, ◌∙◌, ap, take, length, get_or, subst, sym, take_more, All-nil, All-cons, All-append, All-weaker}
 use Rattle.gb_types.specs.declared.node.NodeId.{NodeId}
-use Rattle.gb_client.specs.declared.secrets.Secrets.{Secrets}
-use Rattle.gb_client.specs.declared.task.Asked.{Asked}
+use Rattle.gb_client.specs.declared.{secrets.Secrets.Secrets, task.Asked.Asked}
 use Rattle.gb_client_run.specs.Asked.{Exchange, HasAsked}
 use Rattle.gb_client_run.specs.Groups.{Has, IsDone, HasDoneAt, HasDoneAll}
 

@@ -1,13 +1,7 @@
 -- A log that is followed: what was read and printed so far.
-use Rattle.std.proofs.Common.{◌≡◌, ℕ, List, [], ◌∷◌, ◌++◌, Bool, false, refl, sym, ap, subst, ◌∙◌, append-nil}
-use Rattle.std.specs.Prelude.{Option, Some}
+use Rattle.gb_types.specs.Common.{◌≡◌, ℕ, List, [], ◌∷◌, ◌++◌, Bool, false, refl, sym, ap, subst, ◌∙◌, append-nil, Option, Some, flat_map, flat_map-append, reply_spelling}
 use Rattle.std.specs.Io.KnownBytes.{Appends, Consumes}
-use Rattle.std.specs.List.{flat_map}
-use Rattle.std.proofs.lemmas.Grind.{flat_map-append}
-use Rattle.gb_types.specs.declared.entry.Entry.{Entry}
-use Rattle.gb_types.specs.declared.refusal.Refusal.{Refusal}
-use Rattle.gb_types.specs.declared.reply.Reply.TheVariants.{Log, Refused}
-use Rattle.gb_types.specs.ReplyText.{reply_spelling}
+use Rattle.gb_types.specs.declared.{entry.Entry.Entry, refusal.Refusal.Refusal, reply.Reply.TheVariants.Log, reply.Reply.TheVariants.Refused}
 use Rattle.gb_session.specs.Streams.{framed}
 use Rattle.gb_session.proofs.RunLemmas.{Consumes-join, Appends-join}
 use Rattle.gb_client.specs.Answers.{lines_of}

@@ -1,16 +1,10 @@
 -- A log that is imported: what was said and printed so far.
-use Rattle.std.proofs.Common.{◌≡◌, ℕ, true, ◌+◌, ◌<◌, List, [], ◌∷◌, ◌++◌, length, take, drop, get_or, sym, ap, subst, ◌∙◌, arith, append_assoc, append-nil}
-use Rattle.std.specs.Prelude.{Option, Some, None}
+use Rattle.gb_types.specs.Common.{◌≡◌, ℕ, true, ◌+◌, ◌<◌, List, [], ◌∷◌, ◌++◌, length, take, drop, get_or, sym, ap, subst, ◌∙◌, arith, append_assoc, append-nil, Option, take_more, take-append-drop, reply_spelling}
 use Rattle.std.specs.Io.KnownBytes.{Appends}
-use Rattle.std.proofs.lemmas.List.{take_more, take-append-drop}
-use Rattle.gb_types.specs.declared.entry.Entry.{Entry}
-use Rattle.gb_types.specs.declared.node.NodeId.{NodeId}
-use Rattle.gb_types.specs.declared.refusal.Refusal.{Refusal}
+use Rattle.gb_types.specs.declared.{entry.Entry.Entry, node.NodeId.NodeId, refusal.Refusal.Refusal}
 use Rattle.gb_types.specs.declared.reply.Reply.TheVariants as replies
-use Rattle.gb_types.specs.ReplyText.{reply_spelling}
 use Rattle.gb_session.proofs.RunLemmas.{Appends-join}
-use Rattle.gb_client.specs.declared.fault.ClientFault.{ClientFault}
-use Rattle.gb_client.specs.declared.secrets.Secrets.{Secrets}
+use Rattle.gb_client.specs.declared.{fault.ClientFault.ClientFault, secrets.Secrets.Secrets}
 use Rattle.gb_client_run.specs.declared.importing.Told.TheVariants.{Said, Refused}
 use Rattle.gb_client_run.specs.declared.importing.End.TheVariants as ends
 use Rattle.gb_client_run.specs.Importing.{Again, HasTold, HasTried, may_pass, HasSaid, HasSaidAll, HasSaidOn, entries_said, said_line, said_lines}

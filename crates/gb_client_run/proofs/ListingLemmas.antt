@@ -1,8 +1,5 @@
 -- Where nodes are, one after another.
-use Rattle.std.proofs.Common.{◌≡◌, ℕ, ◌+◌, ◌<◌, List, [], ◌∷◌, ◌++◌, length, take, map, get_or, sym, ap, subst, ◌∙◌}
-use Rattle.std.specs.List.{All, Contains}
-use Rattle.std.proofs.lemmas.List.{map-append, take_more}
-use Rattle.std.proofs.lemmas.List.Elements.{All-nil, All-cons, All-append, Contains-get_or}
+use Rattle.gb_types.specs.Common.{◌≡◌, ℕ, ◌+◌, ◌<◌, List, [], ◌∷◌, ◌++◌, length, take, map, get_or, sym, ap, subst, ◌∙◌, All, Contains, map-append, take_more, All-nil, All-cons, All-append, Contains-get_or}
 use Rattle.toml.specs.Data.{Data}
 use Rattle.gb_types.specs.declared.node.NodeId.{NodeId}
 use Rattle.gb_client_run.specs.Listing.{IsPlaceOf}

@@ -1,7 +1,6 @@
 -- What is done over nodes is done.
-use Rattle.std.proofs.Common.{ℕ, List, Option}
-use Rattle.gb_client.specs.declared.secrets.Secrets.{Secrets}
-use Rattle.gb_client.specs.declared.task.Errand.{Errand}
+use Rattle.gb_types.specs.Common.{ℕ, List, Option}
+use Rattle.gb_client.specs.declared.{secrets.Secrets.Secrets, task.Errand.Errand}
 use Rattle.gb_client.specs.declared.task.Errand.TheVariants as errands
 use Rattle.gb_client_run.specs.Running.{HasObeyed, HasDoneErrand}
 

@@ -1,14 +1,11 @@
 -- What was asked of nodes, and what came back.
 use Rattle.std.specs.Prelude.{◌≡◌, ℕ, ◌+◌, Bool, true, false, List, [], ◌∷◌}
-use Rattle.gb_types.specs.declared.command_words.CommandHead.TheVariants.{Say, Fetch}
-use Rattle.gb_types.specs.declared.node.NodeId.{NodeId}
-use Rattle.gb_types.specs.declared.reply.Reply.{Reply}
+use Rattle.gb_types.specs.declared.{command_words.CommandHead.TheVariants.Say, command_words.CommandHead.TheVariants.Fetch, node.NodeId.NodeId, reply.Reply.Reply}
 use Rattle.gb_types.specs.declared.reply.Reply.TheVariants.{Done, Said, Log, Refused}
-use Rattle.gb_types.specs.ReplyText.{reply_spelling}
+use Rattle.gb_types.specs.Common.{reply_spelling}
 use Rattle.gb_session.specs.declared.head.Head.{Head}
 use Rattle.gb_session.specs.declared.head.Head.TheVariants as heads
-use Rattle.gb_client.specs.declared.secrets.Secrets.{Secrets}
-use Rattle.gb_client.specs.declared.task.Asked.{Asked}
+use Rattle.gb_client.specs.declared.{secrets.Secrets.Secrets, task.Asked.Asked}
 use Rattle.gb_client.specs.Asking.{IsAsked, words_told}
 
 -- the heads whose requests are answered `ok`, `said SEQ` and `log COUNT ..`

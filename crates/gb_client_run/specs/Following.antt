@@ -2,10 +2,8 @@
 use Rattle.std.specs.Prelude.{◌≡◌, ℕ, Bool, false, List, [], ◌∷◌, ◌++◌, Option, Some, None}
 use Rattle.std.specs.Io.KnownBytes.{Appends, Consumes}
 use Rattle.std.specs.List.{flat_map}
-use Rattle.gb_types.specs.declared.entry.Entry.{Entry}
-use Rattle.gb_types.specs.declared.refusal.Refusal.{Refusal}
-use Rattle.gb_types.specs.declared.reply.Reply.TheVariants.{Log, Refused}
-use Rattle.gb_types.specs.ReplyText.{reply_spelling}
+use Rattle.gb_types.specs.declared.{entry.Entry.Entry, refusal.Refusal.Refusal, reply.Reply.TheVariants.Log, reply.Reply.TheVariants.Refused}
+use Rattle.gb_types.specs.Common.{reply_spelling}
 use Rattle.gb_session.specs.Streams.{framed}
 use Rattle.gb_client.specs.Answers.{lines_of}
 

@@ -2,19 +2,13 @@
 use Rattle.std.specs.Prelude.{◌≡◌, ℕ, false, List, [], ◌∷◌, ◌++◌, map, Option, Some, Result, Ok, Err}
 use Rattle.std.specs.Io.KnownBytes.{Appends}
 use Rattle.hex.specs.Hex.{encode_lower}
-use Rattle.gb_types.specs.declared.reply.Reply.{Reply}
-use Rattle.gb_types.specs.ReplyText.{reply_spelling}
+use Rattle.gb_types.specs.declared.{reply.Reply.Reply, node.NodeId.NodeId}
+use Rattle.gb_types.specs.Common.{reply_spelling}
 use Rattle.gb_cap.specs.declared.token.Need.{Need}
-use Rattle.gb_client.specs.declared.fault.ClientFault.{ClientFault}
-use Rattle.gb_client.specs.declared.secrets.Secrets.{Secrets}
-use Rattle.gb_client.specs.declared.task.Asked.{Asked}
-use Rattle.gb_client.specs.declared.task.Errand.{Errand}
+use Rattle.gb_client.specs.declared.{fault.ClientFault.ClientFault, secrets.Secrets.Secrets, task.Asked.Asked, task.Errand.Errand, task.Task.Task, task.Task.TheVariants.Token, task.Task.TheVariants.At}
 use Rattle.gb_client.specs.declared.task.Errand.TheVariants as errands
-use Rattle.gb_client.specs.declared.task.Task.{Task}
-use Rattle.gb_client.specs.declared.task.Task.TheVariants.{Token, At}
 use Rattle.gb_client.specs.Answers.{reply_status, status_of_fault}
 use Rattle.gb_client.specs.Secrets.{token_for}
-use Rattle.gb_types.specs.declared.node.NodeId.{NodeId}
 use Rattle.gb_client_run.specs.Asked.{HasReplied}
 use Rattle.gb_client_run.specs.Exporting.{HasExported}
 use Rattle.gb_client_run.specs.Following.{HasFollowed}

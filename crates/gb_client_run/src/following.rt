@@ -2,7 +2,7 @@
 ghost use Rattle.std.specs.Prelude.{◌≡◌, false, IfOk};
 ghost use Rattle.std.specs.Io.KnownBytes.{Consumes};
 ghost use Rattle.gb_session.specs.Streams.{framed};
-ghost use Rattle.gb_types.specs.ReplyText.{reply_spelling};
+ghost use Rattle.gb_types.specs.Common.{reply_spelling};
 ghost use Rattle.gb_client_run.specs.Following.{HasFollowed};
 
 use crate::printing::print;

@@ -2,7 +2,7 @@
 ghost use Rattle.std.specs.Prelude.{◌≡◌, ◌++◌, ◌∷◌, [], false, map, IfOk};
 ghost use Rattle.std.specs.Io.KnownBytes.{Appends};
 ghost use Rattle.gb_types.specs.declared.reply.Reply.{Reply as TheReply};
-ghost use Rattle.gb_types.specs.ReplyText.{reply_spelling};
+ghost use Rattle.gb_types.specs.Common.{reply_spelling};
 ghost use Rattle.gb_client.specs.Answers.{reply_status};
 ghost use Rattle.gb_client_run.specs.Asked.{HasReplied, answers};
 

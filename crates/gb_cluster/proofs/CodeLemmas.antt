@@ -1,26 +1,13 @@
 -- What the parts of the code yield together.
-use Rattle.std.proofs.Common.{◌≡◌, ℕ, zero, suc, ◌-◌, ◌<◌, ◌≤◌, inl, inr, true, false, Bool, List, [], ◌∷◌, length, map, get_or, Option, Some, None, refl, sym, ap, subst, ◌∙◌, arith}
-use Rattle.std.specs.Prelude.{slice_get, slice_set, Contains, IsSome, MatchBool, if◌then◌else◌}
-use Rattle.std.specs.List.{range_with_len}
-use Rattle.std.proofs.lemmas.Bool.{cases_Bool}
-use Rattle.std.proofs.lemmas.List.{get_or_default}
-use Rattle.std.proofs.lemmas.Option.{slice_get_past}
-use Rattle.gb_types.specs.declared.node.NodeId.{NodeId}
-use Rattle.gb_node.specs.NodeStep.{node_numbered, running_turn, stopped_answer, IsStarved, IsTurn}
-use Rattle.gb_node.specs.NodeValue.{NodeValue, new_node}
-use Rattle.gb_node.specs.declared.answer.NodeAnswer.TheVariants.{Sent}
-use Rattle.gb_node.specs.declared.answer.Sent.{Sent as SentValue}
-use Rattle.gb_node.specs.declared.event.NodeEvent.{NodeEvent}
+use Rattle.gb_types.specs.Common.{◌≡◌, ℕ, zero, suc, ◌-◌, ◌<◌, ◌≤◌, inl, inr, true, false, Bool, List, [], ◌∷◌, length, map, get_or, Option, Some, None, refl, sym, ap, subst, ◌∙◌, arith, slice_get, slice_set, Contains, IsSome, MatchBool, if◌then◌else◌, range_with_len, cases_Bool, get_or_default, slice_get_past}
+use Rattle.gb_types.specs.declared.{node.NodeId.NodeId, plan.Plan.Plan}
+use Rattle.gb_node.specs.Common.{node_numbered, running_turn, stopped_answer, IsStarved, IsTurn, NodeValue, new_node}
+use Rattle.gb_node.specs.declared.{answer.NodeAnswer.TheVariants.Sent, answer.Sent.Sent as SentValue, event.NodeEvent.NodeEvent}
 use Rattle.gb_node.specs.declared.event.NodeEvent.TheVariants.{Request as Asked, Packet as Came, Pack, Again, Ack, Tick, Stop}
 use Rattle.gb_cluster.specs.ClusterValue.{ClusterValue, cluster, node_plan, node_at, new_cluster, IsClusterPlan}
 use Rattle.gb_cluster.specs.ClusterStep.{IsNodeTurn, IsAt, IsArrival, IsStep, receiver_of, is_packet_for, packet_numbered, AreForNodes}
 use Rattle.gb_cluster.specs.Run.{Did, ComesTo, RunGoesOn, Happens, IsReached}
-use Rattle.gb_cluster.specs.declared.answer.Answer.{Answer}
-use Rattle.gb_cluster.specs.declared.answer.Answer.TheVariants.{NoPacket, NotNoise}
-use Rattle.gb_cluster.specs.declared.event.Event.{Event}
-use Rattle.gb_cluster.specs.declared.event.Event.TheVariants.{At, Arrive}
-use Rattle.gb_types.specs.declared.plan.Plan.{Plan}
-use Rattle.gb_cluster.specs.declared.posted.Posted.{Posted}
+use Rattle.gb_cluster.specs.declared.{answer.Answer.Answer, answer.Answer.TheVariants.NoPacket, answer.Answer.TheVariants.NotNoise, event.Event.Event, event.Event.TheVariants.At, event.Event.TheVariants.Arrive, posted.Posted.Posted}
 use Rattle.gb_cluster.specs.Links.{PacketsAreHonest}
 use Rattle.gb_cluster.proofs.NodesLemmas.{stays}
 

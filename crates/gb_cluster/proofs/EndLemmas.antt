@@ -1,16 +1,9 @@
 -- A run leads to one value: an event with its answer determines the next value of a node.
-use Rattle.std.proofs.Common.{◌≡◌, List, [], ◌∷◌, ◌++◌, sym, ap, subst, ◌∙◌, inl, inr}
-use Rattle.std.specs.Prelude.{slice_set}
-use Rattle.gb_types.specs.declared.refusal.Refusal.TheVariants.{OutOfMemory}
-use Rattle.gb_types.specs.declared.reply.Reply.TheVariants.{Refused}
-use Rattle.gb_types.specs.declared.plan.Plan.{Plan}
-use Rattle.gb_rules.specs.Replied.{takes_memory}
-use Rattle.gb_node.specs.NodeStep.{IsStarved, IsTurn}
-use Rattle.gb_node.specs.NodeValue.{NodeValue}
-use Rattle.gb_node.specs.declared.answer.NodeAnswer.{NodeAnswer}
-use Rattle.gb_node.specs.declared.answer.NodeAnswer.TheVariants.{Reply as Replied, Sent}
-use Rattle.gb_node.specs.declared.answer.Sent.TheVariants.{Packet as SentPacket}
-use Rattle.gb_node.specs.declared.event.NodeEvent.{NodeEvent}
+use Rattle.gb_types.specs.Common.{◌≡◌, List, [], ◌∷◌, ◌++◌, sym, ap, subst, ◌∙◌, inl, inr, slice_set}
+use Rattle.gb_types.specs.declared.{refusal.Refusal.TheVariants.OutOfMemory, reply.Reply.TheVariants.Refused, plan.Plan.Plan}
+use Rattle.gb_rules.specs.Common.{takes_memory}
+use Rattle.gb_node.specs.Common.{IsStarved, IsTurn, NodeValue}
+use Rattle.gb_node.specs.declared.{answer.NodeAnswer.NodeAnswer, answer.NodeAnswer.TheVariants.Reply as Replied, answer.NodeAnswer.TheVariants.Sent, answer.Sent.TheVariants.Packet as SentPacket, event.NodeEvent.NodeEvent}
 use Rattle.gb_node.specs.declared.event.NodeEvent.TheVariants.{Request as Asked, Packet as Came, Pack, Again, Ack, Tick, Stop}
 use Rattle.gb_cluster.specs.ClusterStep.{NodeActs, posted}
 use Rattle.gb_cluster.specs.ClusterValue.{ClusterValue, cluster, node_at}

@@ -1,32 +1,19 @@
 -- Packets say what their senders did.
-use Rattle.std.proofs.Common.{◌≡◌, ◌≢◌, ℕ, zero, suc, ◌+◌, ◌-◌, ◌<◌, ◌≤◌, inl, inr, true, false, Bool, List, [], ◌∷◌, ◌++◌, length, map, Option, Some, None, refl, sym, ap, subst, ◌∙◌, arith}
-use Rattle.std.specs.Prelude.{◌⊎◌, not, cond, filter, find, nat_eq, option_map, slice_get, slice_index_or, if◌then◌else◌}
-use Rattle.std.specs.List.{AllByRecursion}
-use Rattle.std.proofs.lemmas.Bool.{cases_Bool, cases_eq, eq-eqb}
-use Rattle.std.proofs.lemmas.List.{append_assoc, length-append}
-use Rattle.gb_types.specs.declared.node.NodeId.{NodeId}
+use Rattle.gb_types.specs.Common.{◌≡◌, ◌≢◌, ℕ, zero, suc, ◌+◌, ◌-◌, ◌<◌, ◌≤◌, inl, inr, true, false, Bool, List, [], ◌∷◌, ◌++◌, length, map, Option, Some, None, refl, sym, ap, subst, ◌∙◌, arith, ◌⊎◌, not, cond, filter, find, nat_eq, option_map, slice_get, slice_index_or, if◌then◌else◌, AllByRecursion, cases_Bool, cases_eq, eq-eqb, append_assoc, length-append}
+use Rattle.gb_types.specs.declared.{node.NodeId.NodeId, plan.Plan.Plan}
 use Rattle.gb_frame.specs.declared.item.Item.{Item}
-use Rattle.gb_frame.specs.Packet.{Content}
-use Rattle.gb_frame.specs.Spelling.{packet_text, IsPacket}
-use Rattle.gb_link.specs.SendWindow.{SendWindow, frame_again}
-use Rattle.gb_link.specs.Ack.{covers}
+use Rattle.gb_frame.specs.Common.{Content, packet_text, IsPacket}
+use Rattle.gb_link.specs.Common.{SendWindow, frame_again, covers}
 use Rattle.gb_link.proofs.LinkLemmas.{covered_received}
-use Rattle.gb_node.specs.NodeValue.{NodeValue}
-use Rattle.gb_node.specs.SendLaw.{Says, PacketsSay, ReachedAreOthers, BatchesAreForOthers, OthersAreInside, PacketsAreReadBack}
-use Rattle.gb_node.specs.NodeStep.{window_to, receiver_from, is_reached, is_another, next_batch, content_to, IsTurn, IsSpelt}
-use Rattle.gb_node.specs.Past.{Happened, read, packed_for, frames_to, numbered, is_taken, is_taken_by, is_acked}
-use Rattle.gb_node.specs.PastLaw.{IsOfPast, PastsSay}
-use Rattle.gb_node.specs.declared.answer.NodeAnswer.{NodeAnswer}
+use Rattle.gb_node.specs.Common.{NodeValue, Says, PacketsSay, ReachedAreOthers, BatchesAreForOthers, OthersAreInside, PacketsAreReadBack, window_to, receiver_from, is_reached, is_another, next_batch, content_to, IsTurn, IsSpelt, Happened, read, packed_for, frames_to, numbered, is_taken, is_taken_by, is_acked, IsOfPast, PastsSay}
+use Rattle.gb_node.specs.declared.{answer.NodeAnswer.NodeAnswer, answer.Sent.Sent as SentValue, event.NodeEvent.NodeEvent}
 use Rattle.gb_node.specs.declared.answer.NodeAnswer.TheVariants.{Reply as Replied, Taken, Sent, Ticked, Halted}
-use Rattle.gb_node.specs.declared.answer.Sent.{Sent as SentValue}
 use Rattle.gb_node.specs.declared.answer.Sent.TheVariants.{Packet as SentPacket, Nothing, Refused as SentRefused}
-use Rattle.gb_node.specs.declared.event.NodeEvent.{NodeEvent}
 use Rattle.gb_node.specs.declared.event.NodeEvent.TheVariants.{Request as Asked, Packet as Came, Pack, Again, Ack, Tick, Stop}
 use Rattle.gb_cluster.specs.ClusterValue.{ClusterValue, node_plan, node_at}
 use Rattle.gb_cluster.specs.ClusterStep.{posted, posted_to}
 use Rattle.gb_cluster.specs.Run.{Did, ComesTo, past_at}
 use Rattle.gb_cluster.specs.Links.{IsHonest, PacketsAreHonest}
-use Rattle.gb_types.specs.declared.plan.Plan.{Plan}
 use Rattle.gb_types.proofs.BoolLemmas.{or_second}
 use Rattle.gb_cluster.specs.declared.posted.Posted.{Posted}
 use Rattle.gb_cluster.proofs.NodesLemmas.{stays, past_same, past_other, have_pasts}

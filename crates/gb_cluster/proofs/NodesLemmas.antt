@@ -1,19 +1,14 @@
 -- Each node of a cluster came to its state by its own past.
-use Rattle.std.proofs.Common.{◌≡◌, ◌≢◌, ℕ, inl, inr, List, [], ◌∷◌, length, get_or, sym, ap, subst, ◌∙◌, arith}
-use Rattle.std.specs.Prelude.{slice_set, if◌then◌else◌}
-use Rattle.std.proofs.lemmas.Bool.{cases_eq, eq-eqb, ne_eqb}
-use Rattle.std.proofs.lemmas.List.{length-set, get_or-set_same, get_or-set_other}
+use Rattle.gb_types.specs.Common.{◌≡◌, ◌≢◌, ℕ, inl, inr, List, [], ◌∷◌, length, get_or, sym, ap, subst, ◌∙◌, arith, slice_set, if◌then◌else◌, cases_eq, eq-eqb, ne_eqb, length-set, get_or-set_same, get_or-set_other}
 use Rattle.std.proofs.lemmas.List.FromFn.{get_or-map-range_with_len, length-map-range_with_len}
-use Rattle.gb_types.specs.declared.node.NodeId.{NodeId}
+use Rattle.gb_types.specs.declared.{node.NodeId.NodeId, plan.Plan.Plan}
 use Rattle.gb_types.proofs.SameLemmas.{same_number}
-use Rattle.gb_node.specs.NodeStep.{node_numbered, IsTurn, IsSpelt}
-use Rattle.gb_node.specs.NodeValue.{NodeValue, new_node}
+use Rattle.gb_node.specs.Common.{node_numbered, IsTurn, IsSpelt, NodeValue, new_node}
 use Rattle.gb_node.specs.Past.{ComesTo as NodeComesTo}
 use Rattle.gb_node.proofs.TookLemmas.{numbered_is}
 use Rattle.gb_cluster.specs.ClusterValue.{ClusterValue, node_plan, node_at, IsClusterPlan}
 use Rattle.gb_cluster.specs.ClusterStep.{NodeActs}
 use Rattle.gb_cluster.specs.Run.{Did, ComesTo, past_at, NodesHavePasts}
-use Rattle.gb_types.specs.declared.plan.Plan.{Plan}
 
 -- what a run leaves as it is
 pub record Stays (plan : Plan) (v : ClusterValue) : Type 0 where

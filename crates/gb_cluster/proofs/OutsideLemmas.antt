@@ -1,42 +1,23 @@
 -- The frame of each packet that is taken is inside its receiver's window.
-use Rattle.std.proofs.Common.{◌≡◌, ◌≢◌, ℕ, ◌+◌, ◌-◌, ◌<◌, ◌≤◌, inl, inr, true, false, Bool, List, [], ◌∷◌, ◌++◌, length, map, None, Result, Ok, Err, refl, sym, ap, subst, ◌∙◌, arith}
-use Rattle.std.specs.Prelude.{◌⊎◌, ◌&&◌, not, filter, nat_eq, nat_lt, nat_le, option_map, if◌then◌else◌}
+use Rattle.gb_types.specs.Common.{◌≡◌, ◌≢◌, ℕ, ◌+◌, ◌-◌, ◌<◌, ◌≤◌, inl, inr, true, false, Bool, List, [], ◌∷◌, ◌++◌, length, map, None, refl, sym, ap, subst, ◌∙◌, arith, ◌⊎◌, ◌&&◌, not, filter, nat_eq, nat_lt, nat_le, option_map, if◌then◌else◌, list_any, cases_eq, cases_lt, eqb-true, true≢false, nat_tests, length-append, slice_get_within}
 use Rattle.std.specs.FinSet as set
-use Rattle.std.specs.List.{list_any}
-use Rattle.std.proofs.lemmas.Bool.{cases_eq, cases_lt, eqb-true, true≢false}
-use Rattle.std.proofs.lemmas.Bool.Decides.{nat_tests}
-use Rattle.std.proofs.lemmas.List.{length-append}
-use Rattle.gb_types.specs.declared.limits.TheConstants.{LAST_FRAME}
-use Rattle.gb_types.specs.declared.node.NodeId.{NodeId}
-use Rattle.gb_frame.specs.declared.fault.PacketFault.{PacketFault}
-use Rattle.gb_frame.specs.declared.item.Item.{Item}
-use Rattle.gb_frame.specs.Packet.{Content}
-use Rattle.gb_frame.specs.Reading.{is_packet, content_in}
-use Rattle.gb_link.specs.Received.{Received, base_of, admission, is_awaited}
-use Rattle.gb_link.specs.SendWindow.{SendWindow, has_room, is_in_window}
+use Rattle.gb_types.specs.declared.{limits.TheConstants.LAST_FRAME, node.NodeId.NodeId, plan.Plan.Plan}
+use Rattle.gb_frame.specs.declared.{item.Item.Item}
+use Rattle.gb_frame.specs.Common.{Content, is_packet, content_in}
+use Rattle.gb_link.specs.Common.{Received, base_of, admission, is_awaited, SendWindow, has_room, is_in_window}
 use Rattle.gb_link.specs.declared.receiver.Admission.TheVariants.{First, Seen, Outside}
 use Rattle.gb_link.proofs.BaseLemmas.{base_of_from, base_of_below, base_of_lacks}
-use Rattle.gb_node.specs.NodeValue.{NodeValue}
-use Rattle.gb_node.specs.NodeStep.{window_to, receiver_from, is_reached, batch_to, room_to, unless_empty, content_to, pack_content, sent, fate, kind_of, IsTurn}
-use Rattle.gb_node.specs.Past.{Happened, ComesTo as NodeComesTo, read, came, packed_for, frames_to, numbered, is_taken, is_acked, is_ack}
-use Rattle.gb_node.specs.PastLaw.{PastsSay}
-use Rattle.gb_node.specs.SendLaw.{SendersRun}
-use Rattle.gb_node.specs.declared.answer.NodeAnswer.{NodeAnswer}
+use Rattle.gb_node.specs.Common.{NodeValue, window_to, receiver_from, is_reached, batch_to, room_to, unless_empty, content_to, pack_content, sent, fate, kind_of, IsTurn, Happened, read, came, packed_for, frames_to, numbered, is_taken, is_acked, is_ack, PastsSay, SendersRun}
+use Rattle.gb_node.specs.Past.{ComesTo as NodeComesTo}
+use Rattle.gb_node.specs.declared.{answer.NodeAnswer.NodeAnswer, answer.PacketAnswer.TheVariants.Good as TakenGood, answer.Good.Good, answer.Frame.TheVariants.Nothing as NoFrame, answer.Frame.TheVariants.Outside as Beyond, event.NodeEvent.NodeEvent, plan.NodePlan.NodePlan}
 use Rattle.gb_node.specs.declared.answer.NodeAnswer.TheVariants.{Reply as Replied, Taken, Sent, Ticked, Halted}
-use Rattle.gb_node.specs.declared.answer.PacketAnswer.TheVariants.{Good as TakenGood}
-use Rattle.gb_node.specs.declared.answer.Good.{Good}
-use Rattle.gb_node.specs.declared.answer.Frame.TheVariants.{Nothing as NoFrame, Outside as Beyond}
 use Rattle.gb_node.specs.declared.answer.Sent.TheVariants.{Packet as SentPacket, Nothing, Refused as SentRefused}
-use Rattle.gb_node.specs.declared.event.NodeEvent.{NodeEvent}
 use Rattle.gb_node.specs.declared.event.NodeEvent.TheVariants.{Request as Asked, Packet as Came, Pack, Again, Ack, Tick, Stop}
-use Rattle.gb_node.specs.declared.plan.NodePlan.{NodePlan}
 use Rattle.gb_cluster.specs.ClusterValue.{ClusterValue, node_plan, node_at}
 use Rattle.gb_cluster.specs.Run.{Did, ComesTo, past_at, IsSent}
 use Rattle.gb_cluster.specs.Links.{PacketsAreHonest, LinksHold, NothingIsOutside}
-use Rattle.gb_types.specs.declared.plan.Plan.{Plan}
 use Rattle.gb_types.proofs.BoolLemmas.{and_sides, or_left, refuted_by}
 use Rattle.gb_cluster.proofs.NodesLemmas.{stays, have_pasts}
-use Rattle.std.proofs.lemmas.Option.{slice_get_within}
 use Rattle.gb_cluster.proofs.LinkLemmas.{arrives_honestly, one_content}
 
 -- A frame is packed where the link has room.

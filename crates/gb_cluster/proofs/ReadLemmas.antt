@@ -1,17 +1,9 @@
 -- The node that a packet was sent to reads it.
-use Rattle.std.proofs.Common.{◌≡◌, ℕ, ◌<◌, true, List, [], ◌∷◌, length, Some, Ok, Err, sym, ap, subst, ◌∙◌, arith}
-use Rattle.std.specs.Prelude.{Result, ◌&&◌, is_ok, nat_lt, if◌then◌else◌}
-use Rattle.std.proofs.lemmas.Bool.{eq-eqb, lt-ltb}
-use Rattle.std.proofs.lemmas.Option.{slice_get-get_or}
-use Rattle.gb_frame.specs.declared.fault.PacketFault.{PacketFault}
-use Rattle.gb_frame.specs.declared.fault.PacketFault.TheVariants.{Node}
-use Rattle.gb_frame.specs.Packet.{Content}
-use Rattle.gb_frame.specs.Reading.{reading}
-use Rattle.gb_node.specs.NodeValue.{NodeValue, new_node}
-use Rattle.gb_node.specs.NodeStep.{is_here, if_here, read_at}
-use Rattle.gb_node.specs.Past.{read}
+use Rattle.gb_types.specs.Common.{◌≡◌, ℕ, ◌<◌, true, List, [], ◌∷◌, length, Some, Ok, Err, sym, ap, subst, ◌∙◌, arith, Result, ◌&&◌, is_ok, nat_lt, if◌then◌else◌, eq-eqb, lt-ltb, slice_get-get_or}
+use Rattle.gb_frame.specs.declared.{fault.PacketFault.PacketFault, fault.PacketFault.TheVariants.Node}
+use Rattle.gb_frame.specs.Common.{Content, reading}
+use Rattle.gb_node.specs.Common.{NodeValue, new_node, is_here, if_here, read_at, read, PastsSay}
 use Rattle.gb_node.proofs.PacketLemmas.{packet_in, read_in}
-use Rattle.gb_node.specs.PastLaw.{PastsSay}
 use Rattle.gb_cluster.specs.ClusterValue.{node_plan, node_at}
 use Rattle.gb_cluster.specs.Run.{past_at}
 use Rattle.gb_cluster.specs.Links.{PacketsAreHonest, PacketsAreRead}

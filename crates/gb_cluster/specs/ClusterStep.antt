@@ -1,22 +1,15 @@
 -- What each event changes in a cluster.
 use Rattle.std.specs.Prelude.{ℕ, zero, suc, ◌≡◌, ◌<◌, ◌+◌, Bool, true, false, List, [], ◌∷◌, ◌++◌, length, Option, Some, None, is_ok, slice_get, slice_set, MatchBool}
 use Rattle.gb_types.specs.declared.node.NodeId.{NodeId}
-use Rattle.gb_node.specs.NodeValue.{NodeValue}
-use Rattle.gb_node.specs.NodeStep.{read_at, IsTurn, IsSpelt, IsForReason}
-use Rattle.gb_node.specs.declared.answer.NodeAnswer.{NodeAnswer}
+use Rattle.gb_node.specs.Common.{NodeValue, read_at, IsTurn, IsSpelt, IsForReason}
+use Rattle.gb_node.specs.declared.{answer.NodeAnswer.NodeAnswer, answer.Sent.Sent as SentValue, event.NodeEvent.NodeEvent}
 use Rattle.gb_node.specs.declared.answer.NodeAnswer.TheVariants.{Reply as Replied, Taken, Sent, Ticked, Halted}
-use Rattle.gb_node.specs.declared.answer.Sent.{Sent as SentValue}
 use Rattle.gb_node.specs.declared.answer.Sent.TheVariants.{Packet as SentPacket, Nothing, Refused}
-use Rattle.gb_node.specs.declared.event.NodeEvent.{NodeEvent}
 use Rattle.gb_node.specs.declared.event.NodeEvent.TheVariants.{Packet as Came, Pack, Again, Ack}
 use Rattle.gb_cluster.specs.ClusterValue.{ClusterValue, cluster, node_at}
-use Rattle.gb_cluster.specs.declared.answer.Answer.{Answer}
+use Rattle.gb_cluster.specs.declared.{answer.Answer.Answer, answer.Sending.Sending, event.Event.Event, event.Event.TheVariants.At, event.Event.TheVariants.Arrive, posted.Posted.Posted}
 use Rattle.gb_cluster.specs.declared.answer.Answer.TheVariants.{Reply as AnswerReply, Taken as AnswerTaken, Sent as AnswerSent, Ticked as AnswerTicked, Halted as AnswerHalted, NoPacket, NotNoise}
-use Rattle.gb_cluster.specs.declared.answer.Sending.{Sending}
 use Rattle.gb_cluster.specs.declared.answer.Sending.TheVariants.{Packet as SendingPacket, Nothing as SendingNothing, Refused as SendingRefused}
-use Rattle.gb_cluster.specs.declared.event.Event.{Event}
-use Rattle.gb_cluster.specs.declared.event.Event.TheVariants.{At, Arrive}
-use Rattle.gb_cluster.specs.declared.posted.Posted.{Posted}
 
 -- the node to which an event sends, if it sends
 abbrev pub receiver_of : NodeEvent → Option NodeId

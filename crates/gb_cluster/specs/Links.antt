@@ -1,22 +1,13 @@
 -- Laws of the links between the nodes in every run, whichever packets arrive, whenever and however often.
 use Rattle.std.specs.Prelude.{ℕ, ◌≡◌, ◌≢◌, ◌<◌, ◌≤◌, ◌-◌, true, false, List, [], ◌∷◌, length, Some, slice_get, if◌then◌else◌}
-use Rattle.gb_types.specs.declared.limits.TheConstants.{NODES}
-use Rattle.gb_types.specs.declared.node.NodeId.{NodeId}
-use Rattle.gb_frame.specs.Packet.{Content}
-use Rattle.gb_link.specs.Ack.{covers}
-use Rattle.gb_node.specs.NodeStep.{node_numbered}
-use Rattle.gb_node.specs.Past.{read, came, frames_to, is_first, is_taken, is_acked}
-use Rattle.gb_node.specs.declared.answer.Frame.TheVariants.{Outside as Beyond}
-use Rattle.gb_node.specs.declared.answer.Good.{Good}
-use Rattle.gb_node.specs.declared.answer.NodeAnswer.{NodeAnswer}
-use Rattle.gb_node.specs.declared.answer.NodeAnswer.TheVariants.{Taken}
-use Rattle.gb_node.specs.declared.answer.PacketAnswer.TheVariants.{Good as TakenGood}
-use Rattle.gb_node.specs.declared.event.NodeEvent.{NodeEvent}
-use Rattle.gb_node.specs.declared.event.NodeEvent.TheVariants.{Packet as Came}
+use Rattle.gb_types.specs.declared.{limits.TheConstants.NODES, node.NodeId.NodeId, plan.Plan.Plan}
+use Rattle.gb_frame.specs.Common.{Content}
+use Rattle.gb_link.specs.Common.{covers}
+use Rattle.gb_node.specs.Common.{node_numbered, read, came, frames_to, is_first, is_taken, is_acked}
+use Rattle.gb_node.specs.declared.{answer.Frame.TheVariants.Outside as Beyond, answer.Good.Good, answer.NodeAnswer.NodeAnswer, answer.NodeAnswer.TheVariants.Taken, answer.PacketAnswer.TheVariants.Good as TakenGood, event.NodeEvent.NodeEvent, event.NodeEvent.TheVariants.Packet as Came}
 use Rattle.gb_cluster.specs.ClusterValue.{ClusterValue}
 use Rattle.gb_cluster.specs.ClusterStep.{AreRead}
 use Rattle.gb_cluster.specs.Run.{Did, ComesTo, past_at}
-use Rattle.gb_types.specs.declared.plan.Plan.{Plan}
 use Rattle.gb_cluster.specs.declared.posted.Posted.{Posted}
 
 -- A packet that was sent goes from one node of the cluster to another, and says what its sender did: its frame is the one that was packed under its number, and it acknowledges only

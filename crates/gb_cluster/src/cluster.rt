@@ -1,7 +1,7 @@
 //! A cluster as a value: its nodes and every packet that they sent, and one event at a time.
 ghost use Rattle.std.specs.Prelude.{◌≡◌, ◌<◌, ◌↔◌, ◌++◌, [], List, IsTrue, IsSome, true, is_ok, length, vec_len, vec_capacity, IfOk, OnErr};
 ghost use Rattle.gb_cluster.specs.ClusterStep.{receiver_of, posted, sending, is_packet_for, AreForNodes, AreRead, IsNodeTurn, IsPlaced, IsStep};
-ghost use Rattle.gb_node.specs.NodeStep.{read_at};
+ghost use Rattle.gb_node.specs.Common.{read_at};
 ghost use Rattle.gb_cluster.specs.ClusterValue.{cluster, new_cluster, IsClusterPlan};
 ghost use Rattle.gb_cluster.specs.Run.{ComesTo, RunGoesOn};
 ghost use Rattle.gb_cluster.specs.declared.event.Event.TheVariants as Events;

@@ -1,23 +1,15 @@
 -- What a fault rules out.
-use Rattle.std.proofs.Common.{Result, Ok, Err, IfErr, ◌≡◌, ◌≢◌, ℕ, ℤ, pos, zero, suc, ◌<◌, ◌≤◌, inl, inr, true, false, List, [], ◌∷◌, length, Option, Some, None, codes, refl, sym, ap, ◌∙◌, subst, arith}
-use Rattle.std.specs.Option.{is_some}
-use Rattle.std.proofs.lemmas.Bool.{false≢true, cases_eq, ne_eqb}
-use Rattle.std.proofs.lemmas.Option.{same_Some, none-some}
+use Rattle.gb_types.specs.Common.{Result, Ok, Err, IfErr, ◌≡◌, ◌≢◌, ℕ, ℤ, pos, zero, suc, ◌<◌, ◌≤◌, inl, inr, true, false, List, [], ◌∷◌, length, Option, Some, None, codes, refl, sym, ap, ◌∙◌, subst, arith, is_some, false≢true, cases_eq, ne_eqb, same_Some, none-some, limits_of, version_named}
 use Rattle.toml.specs.Data.{Data, Items, Members, no_items, item, integer, array, table, get_item, get_member, as_integer, as_array, as_table}
 use Rattle.toml.specs.Parse.{parse_document}
-use Rattle.gb_types.specs.Version.{limits_of, version_named}
 use Rattle.gb_types.specs.declared.version.Version.{Version}
 use Rattle.gb_cluster_file.specs.Cluster.{all_keys, item_count, usual_silence, AreNodes, IsNode, IsNumber, IsVersion, IsClusterOf, IsFileOf, IsWithin}
 use Rattle.gb_cluster_file.specs.Fields.{is_place_name, name_of, least_of, most_of}
 use Rattle.gb_cluster_file.specs.Faults.{IsTaken, IsNodeFault, IsItemsFault, IsDocumentFault, IsFault}
-use Rattle.gb_cluster_file.specs.declared.file.ClusterFile.{ClusterFile}
-use Rattle.gb_cluster_file.specs.declared.file.NodePlaces.{NodePlaces}
-use Rattle.gb_cluster_file.specs.declared.field.Field.{Field}
+use Rattle.gb_cluster_file.specs.declared.{file.ClusterFile.ClusterFile, file.NodePlaces.NodePlaces, field.Field.Field, fault.NodeFault.NodeFault, fault.FileFault.FileFault}
 use Rattle.gb_cluster_file.specs.declared.field.Field.TheVariants as number
 use Rattle.gb_cluster_file.specs.declared.field.PlaceField.TheVariants as place
-use Rattle.gb_cluster_file.specs.declared.fault.NodeFault.{NodeFault}
 use Rattle.gb_cluster_file.specs.declared.fault.NodeFault.TheVariants as item_fault
-use Rattle.gb_cluster_file.specs.declared.fault.FileFault.{FileFault}
 use Rattle.gb_cluster_file.specs.declared.fault.FileFault.TheVariants.{OutOfMemory, TooLong, NoDocument, UnknownField, MissingRun, NoNumber, NoArray, NoNodes, TooManyNodes, Node, SamePlace}
 use Rattle.gb_cluster_file.proofs.ViewLemmas.{nodes_count}
 

@@ -1,11 +1,5 @@
 -- What the values of a file are seen as.
-use Rattle.std.proofs.Common.{codes, ◌≡◌, ℕ, zero, suc, ◌+◌, ◌<◌, ◌≤◌, Bool, true, false, ◌&&◌, List, [], ◌∷◌, ◌++◌, length, take, get_or, Option, Some, None, option_map, Bor, inl, inr, subst, string_bytes, refl, sym, ap, ap₂, ◌∙◌, arith}
-use Rattle.std.specs.List.{All}
-use Rattle.std.specs.Option.{is_some, IsSome}
-use Rattle.std.proofs.lemmas.List.Elements.{All-nil, All-cons}
-use Rattle.std.proofs.lemmas.Bool.{and_parts, cases_lt}
-use Rattle.std.proofs.lemmas.List.{take_more}
-use Rattle.std.proofs.lemmas.Option.{same_Some, none-some}
+use Rattle.gb_types.specs.Common.{codes, ◌≡◌, ℕ, zero, suc, ◌+◌, ◌<◌, ◌≤◌, Bool, true, false, ◌&&◌, List, [], ◌∷◌, ◌++◌, length, take, get_or, Option, Some, None, option_map, Bor, inl, inr, subst, string_bytes, refl, sym, ap, ap₂, ◌∙◌, arith, All, is_some, IsSome, All-nil, All-cons, and_parts, cases_lt, take_more, same_Some, none-some}
 use Rattle.toml.specs.Data.{Data, Items, Members, no_items, item, string, integer, float, boolean, datetime, array, table, get_item, get_member, as_str, as_array, as_table}
 use Rattle.toml.specs.View.{view, items_view, members_view}
 use Rattle.toml.specs.declared.value.Value.{Value}
@@ -13,8 +7,7 @@ use Rattle.toml.proofs.Views.{Entry, get_item_within}
 use Rattle.gb_cluster_file.specs.Cluster.{all_keys, item_count, AreNodes, IsNode, IsPlaceOf, IsSame}
 use Rattle.gb_cluster_file.specs.Fields.{is_place_name}
 use Rattle.gb_cluster_file.specs.Places.{IsPlaceText}
-use Rattle.gb_cluster_file.specs.declared.field.PlaceField.{PlaceField}
-use Rattle.gb_cluster_file.specs.declared.file.NodePlaces.{NodePlaces}
+use Rattle.gb_cluster_file.specs.declared.{field.PlaceField.PlaceField, file.NodePlaces.NodePlaces}
 
 -- keys that pass, one more of them, and one that does not
 pub keys_more : (test : List ℕ → Bool) (es : List Entry) (e : Entry) → all_keys test (members_view es) ≡ true → test (string_bytes e.0) ≡ true → all_keys test (members_view (es ++ e ∷ [])) ≡ true

@@ -2,14 +2,11 @@
 use Rattle.std.specs.Prelude.{◌≡◌, ◌≤◌, ◌<◌, ◌+◌, ◌-◌, ◌/◌, ◌&&◌, ℕ, pos, List, [], ◌∷◌, Bool, true, min, max, All, Option, Some, None, length, option_and_then, codes, string_bytes}
 use Rattle.toml.specs.Data.{Data, Items, Members, no_items, item, no_members, member, integer, string, array, table, get, get_item, get_member, as_str}
 use Rattle.toml.specs.Parse.{parse_document}
-use Rattle.gb_types.specs.Version.{limits_of, version_named}
+use Rattle.gb_types.specs.Common.{limits_of, version_named}
 use Rattle.gb_cluster_file.specs.Fields.{is_name, is_place_name, place_name_of}
 use Rattle.gb_cluster_file.specs.Places.{IsPlaceText}
 use Rattle.gb_types.specs.declared.version.Version.{Version}
-use Rattle.gb_cluster_file.specs.declared.file.ClusterFile.{ClusterFile}
-use Rattle.gb_cluster_file.specs.declared.file.NodePlaces.{NodePlaces}
-use Rattle.gb_cluster_file.specs.declared.file.Place.{Place}
-use Rattle.gb_cluster_file.specs.declared.field.PlaceField.{PlaceField}
+use Rattle.gb_cluster_file.specs.declared.{file.ClusterFile.ClusterFile, file.NodePlaces.NodePlaces, file.Place.Place, field.PlaceField.PlaceField}
 
 -- whether each key of a table passes a test
 abbrev pub all_keys : (List ℕ → Bool) → Members → Bool

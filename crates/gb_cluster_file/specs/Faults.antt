@@ -2,14 +2,11 @@
 use Rattle.std.specs.Prelude.{◌≡◌, ◌≢◌, ◌≤◌, ◌<◌, ◌⊎◌, ℕ, List, false, Some, None, IsSome, length, codes, pos}
 use Rattle.toml.specs.Data.{Data, Items, Members, no_items, integer, array, table, get_item, get_member, as_array, as_table}
 use Rattle.toml.specs.Parse.{parse_document}
-use Rattle.gb_types.specs.Version.{limits_of, version_named}
+use Rattle.gb_types.specs.Common.{limits_of, version_named}
 use Rattle.gb_cluster_file.specs.Cluster.{all_keys, item_count, IsPlaceOf, IsSame, IsVersion}
 use Rattle.gb_cluster_file.specs.Fields.{is_name, is_place_name, name_of, place_name_of, least_of, most_of}
-use Rattle.gb_cluster_file.specs.declared.field.Field.{Field}
-use Rattle.gb_cluster_file.specs.declared.field.Field.TheVariants.{Version}
-use Rattle.gb_cluster_file.specs.declared.fault.NodeFault.{NodeFault}
+use Rattle.gb_cluster_file.specs.declared.{field.Field.Field, field.Field.TheVariants.Version, fault.NodeFault.NodeFault, fault.FileFault.FileFault}
 use Rattle.gb_cluster_file.specs.declared.fault.NodeFault.TheVariants as item_fault
-use Rattle.gb_cluster_file.specs.declared.fault.FileFault.{FileFault}
 use Rattle.gb_cluster_file.specs.declared.fault.FileFault.TheVariants.{OutOfMemory, TooLong, NoDocument, UnknownField, MissingRun, NoNumber, NoArray, NoNodes, TooManyNodes, Node, SamePlace}
 
 -- why a table under `node` is no node

@@ -1,10 +1,8 @@
 -- The fields of the file: their names, and the numbers that they take.
 use Rattle.std.specs.Prelude.{ℕ, List, Bool, ◌||◌, codes}
 use Rattle.std.specs.Str.{bytes_eq}
-use Rattle.gb_cluster_file.specs.declared.field.Field.{Field}
+use Rattle.gb_cluster_file.specs.declared.{field.Field.Field, field.PlaceField.PlaceField, field.PlaceField.TheVariants.Packets, field.PlaceField.TheVariants.Sessions}
 use Rattle.gb_cluster_file.specs.declared.field.Field.TheVariants.{Run, Tick, Silence, Version, Room}
-use Rattle.gb_cluster_file.specs.declared.field.PlaceField.{PlaceField}
-use Rattle.gb_cluster_file.specs.declared.field.PlaceField.TheVariants.{Packets, Sessions}
 
 -- the name of a field of the file that holds a number
 abbrev pub name_of : Field → List ℕ

@@ -2,7 +2,7 @@
 ghost use Rattle.std.specs.Prelude.{◌≡◌, ◌≤◌, ◌<◌, ℕ, pos, true, false, codes, length, MatchOption, IfSome, IfNone, IfOk, IfErr, OnOk, None, option_copied, option_map};
 ghost use Rattle.toml.specs.Data.{Data, Members, integer, array, table, get_item, get_member, as_array};
 ghost use Rattle.toml.specs.View.{view, table_view, items_view};
-ghost use Rattle.gb_types.specs.Version.{limits_of};
+ghost use Rattle.gb_types.specs.Common.{limits_of};
 ghost use Rattle.gb_cluster_file.specs.Fields.{is_name, is_place_name, name_of, place_name_of, least_of, most_of};
 ghost use Rattle.gb_cluster_file.specs.Cluster.{all_keys, usual_silence, text_at, IsNumber, IsPlaceOf, IsSame, IsVersion, Differ};
 ghost use Rattle.gb_cluster_file.specs.Faults.{IsNodeFault, IsTableFault, IsItemsFault, IsDocumentFault};

@@ -4,8 +4,7 @@ ghost use Rattle.toml.specs.Data.{Items, get_item};
 ghost use Rattle.toml.specs.Errors.{IsMemory, IsWithin as IsSpanWithin};
 ghost use Rattle.toml.specs.Parse.{parse_document};
 ghost use Rattle.toml.specs.View.{view, table_view, items_view};
-ghost use Rattle.gb_cluster_file.specs.declared.file.ClusterFile.{ClusterFile};
-ghost use Rattle.gb_cluster_file.specs.declared.file.NodePlaces.{NodePlaces};
+ghost use Rattle.gb_cluster_file.specs.declared.{file.ClusterFile.ClusterFile, file.NodePlaces.NodePlaces};
 ghost use Rattle.gb_cluster_file.specs.Cluster.{AreNodes, IsClusterOf, IsFileOf, IsNode, IsWithin};
 ghost use Rattle.gb_cluster_file.specs.Faults.{IsFault, IsDocumentFault, IsItemsFault};
 

@@ -1,10 +1,7 @@
 -- The state of a detector after any calls.
-use Rattle.std.proofs.Common.{◌≡◌, ℕ, ◌+◌, ◌<◌, ◌≤◌, Bool, true, false, not, ◌&&◌, ◌||◌, nat_eq, nat_lt, nat_le, min, length, get_or, set, List, [], ◌∷◌, refl, ap, sym, ◌∙◌, subst, arith, get_or-set_same, get_or-set_other, ◌≢◌}
-use Rattle.std.proofs.lemmas.Bool.Decides.{nat_tests}
-use Rattle.std.proofs.lemmas.List.{length-map, length-set, get_or-map, get_or-replicate, length-replicate}
-use Rattle.std.specs.Ordering.{nat_cmp}
+use Rattle.gb_types.specs.Common.{◌≡◌, ℕ, ◌+◌, ◌<◌, ◌≤◌, Bool, true, false, not, ◌&&◌, ◌||◌, nat_eq, nat_lt, nat_le, min, length, get_or, set, List, [], ◌∷◌, refl, ap, sym, ◌∙◌, subst, arith, get_or-set_same, get_or-set_other, ◌≢◌, nat_tests, length-map, length-set, get_or-replicate, length-replicate, nat_cmp, and-false}
+use Rattle.std.proofs.lemmas.List.{get_or-map}
 use Rattle.std.specs.FinSet as fin
-use Rattle.std.proofs.Math.Bool.{and-false}
 use Rattle.gb_types.specs.declared.limits.TheConstants.{NODES, SILENCE_MIN}
 use Rattle.gb_detect.specs.Silence.{Call, Heard, Tick, is_silent, is_noticed}
 use Rattle.gb_detect.specs.Watch.{Watch, start, is_due, due, after_heard, after_tick, replay, StandsFor, AreNoticed, AreNew}

@@ -1,12 +1,8 @@
 -- Sets of the nodes that pass a test.
-use Rattle.std.proofs.Common.{◌≡◌, ℕ, ◌+◌, ◌<◌, Bool, true, false, ◌&&◌, ◌||◌, nat_eq, nat_lt, refl, ap, sym, ◌∙◌, arith, not, nat_le, get_or, List}
-use Rattle.std.specs.Ordering.{nat_cmp}
+use Rattle.gb_types.specs.Common.{◌≡◌, ℕ, ◌+◌, ◌<◌, Bool, true, false, ◌&&◌, ◌||◌, nat_eq, nat_lt, refl, ap, sym, ◌∙◌, arith, not, nat_le, get_or, List, nat_cmp, nat_tests, and-false, or-false, below}
 use Rattle.std.specs.FinSet as set
 use Rattle.std.specs.FinSet.{nat_cmp-IsAntisymmetric}
 use Rattle.std.specs.Cmp.{nat_cmp_total}
-use Rattle.std.proofs.lemmas.Bool.Decides.{nat_tests}
-use Rattle.std.proofs.Math.Bool.{and-false, or-false}
-use Rattle.gb_types.specs.Places.{below}
 use Rattle.gb_types.proofs.InsertedLemmas.{contains-insert}
 use Rattle.gb_types.proofs.PlaceLemmas.{any-below}
 use Rattle.gb_types.proofs.BoolLemmas.{or_swap}

@@ -1,8 +1,5 @@
 -- A node is noticed if and only if it has a silent stretch.
-use Rattle.std.proofs.Common.{◌≡◌, ◌↔◌, ℕ, ◌≤◌, true, false, ◌||◌, nat_eq, List, [], ◌∷◌, ◌++◌, count_by, refl, ap, ◌∙◌, arith, zero, suc, IsTrue}
-use Rattle.std.specs.List.{list_any}
-use Rattle.std.proofs.lemmas.Bool.Decides.{nat_tests}
-use Rattle.std.proofs.Math.Bool.{or-true}
+use Rattle.gb_types.specs.Common.{◌≡◌, ◌↔◌, ℕ, ◌≤◌, true, false, ◌||◌, nat_eq, List, [], ◌∷◌, ◌++◌, count_by, refl, ap, ◌∙◌, arith, zero, suc, IsTrue, list_any, nat_tests, or-true}
 use Rattle.gb_detect.specs.Silence.{Call, Heard, Tick, is_heard, is_tick, is_silent, is_noticed, SilentStretch}
 use Rattle.gb_detect.proofs.TickLemmas.{ticks_since, ticks_since-tick, ticks_since-other, ticks_since-heard, count-cons, silent-noticed}
 use Rattle.gb_types.proofs.BoolLemmas.{or_left, or_right}

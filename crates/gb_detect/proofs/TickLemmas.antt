@@ -1,7 +1,5 @@
 -- The number of ticks since a node was heard.
-use Rattle.std.proofs.Common.{◌≡◌, ℕ, ◌+◌, ◌<◌, true, false, cond, not, ◌||◌, nat_eq, nat_le, List, [], ◌∷◌, count_by, refl, ap, sym, ◌∙◌, arith}
-use Rattle.std.proofs.lemmas.Bool.Decides.{nat_tests}
-use Rattle.std.proofs.lemmas.List.Sums.{sum_by-cons, take_while-cons}
+use Rattle.gb_types.specs.Common.{◌≡◌, ℕ, ◌+◌, ◌<◌, true, false, cond, not, ◌||◌, nat_eq, nat_le, List, [], ◌∷◌, count_by, refl, ap, sym, ◌∙◌, arith, nat_tests, sum_by-cons, take_while-cons}
 use Rattle.gb_detect.specs.Silence.{Call, Heard, Tick, is_heard, is_tick, since_heard, is_silent, is_noticed}
 
 abbrev pub ticks_since : ℕ → List Call → ℕ

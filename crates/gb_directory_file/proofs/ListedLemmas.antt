@@ -1,7 +1,5 @@
 -- What a fault of a directory rules out.
-use Rattle.std.proofs.Common.{◌≡◌, ℕ, List, Option, Some, None, String, BTreeMap, Global, codes, decimal, option_and_then, refl, sym, ap, subst, ◌∙◌}
-use Rattle.std.specs.Option.{is_some}
-use Rattle.std.proofs.lemmas.Option.{same_Some, none-some}
+use Rattle.gb_types.specs.Common.{◌≡◌, ℕ, List, Option, Some, None, String, BTreeMap, Global, codes, decimal, option_and_then, refl, sym, ap, subst, ◌∙◌, is_some, same_Some, none-some}
 use Rattle.toml.specs.Data.{Data, string, integer, float, boolean, datetime, array, table, get, at, as_str, as_table, as_array}
 use Rattle.toml.specs.Parse.{parse_document}
 use Rattle.toml.specs.View.{view, members_view}

@@ -1,6 +1,5 @@
 -- What is read of an address's entry that is there, and of origins.
-use Rattle.std.proofs.Common.{◌≡◌, ◌∙◌, ap, sym, true, false, List, ℕ, Option, Some, None, is_some, IfSome, IfNone, map, [], true≢false}
-use Rattle.std.specs.Prelude.{option_map, unwrap_or}
+use Rattle.gb_types.specs.Common.{◌≡◌, ◌∙◌, ap, sym, true, List, Option, Some, None, is_some, IfSome, IfNone, map, [], true≢false, option_map, unwrap_or}
 use Rattle.std.specs.Borrow.{Bor}
 use Rattle.std.specs.declared.net.socket_addr.SocketAddr.{SocketAddr}
 use Rattle.clap.specs.Words.{Text}

@@ -1,8 +1,7 @@
 -- What a parse by gb_web's command leaves of its options.
-use Rattle.std.proofs.Common.{◌≡◌, true, refl, codes, arith}
+use Rattle.gb_types.specs.Common.{◌≡◌, true, refl, codes, arith}
 use Rattle.clap.specs.Words.{IsParsedFrom, app_of, found_of, rows_of}
-use Rattle.clap.specs.declared.builder.command.Command.{Command}
-use Rattle.clap.specs.declared.parser.matches.ArgMatches.{ArgMatches}
+use Rattle.clap.specs.declared.{builder.command.Command.Command, parser.matches.ArgMatches.ArgMatches}
 use Rattle.gb_serve_words.specs.Options.{text_rule}
 use Rattle.gb_serve_words.specs.declared.options.TheConstants.{MOST_CONNECTIONS, MOST_SESSIONS}
 use Rattle.gb_serve_words.proofs.OptionLemmas.{has_own_options, number_at, some_at}

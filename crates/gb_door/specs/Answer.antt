@@ -1,12 +1,9 @@
 -- How a request by HTTP is answered. Source: RFC 9112 (messages) and RFC 9110 (status codes).
 use Rattle.std.specs.Prelude.{ℕ, List, [], ◌++◌, ◌∷◌, codes, decimal, length}
-use Rattle.gb_door.specs.declared.answer.Code.{Code}
+use Rattle.gb_door.specs.declared.{answer.Code.Code, answer.Kind.Kind, asked.Asked.Asked, page.Page.Page as PageFiles}
 use Rattle.gb_door.specs.declared.answer.Code.TheVariants.{Fine, BadRequest, Forbidden, NotFound, NotAllowed}
-use Rattle.gb_door.specs.declared.answer.Kind.{Kind}
 use Rattle.gb_door.specs.declared.answer.Kind.TheVariants as K
-use Rattle.gb_door.specs.declared.asked.Asked.{Asked}
 use Rattle.gb_door.specs.declared.asked.Asked.TheVariants.{Page, Script, Style, Session, Foreign, OtherPlace, OtherMethod, More, NoRequest}
-use Rattle.gb_door.specs.declared.page.Page.{Page as PageFiles}
 
 -- a line ends with a carriage return and a line feed
 abbrev pub line_end : List ℕ

@@ -1,13 +1,10 @@
 -- The words of gb_web's command line: the command, as `clap` reads it, and what it makes of the words.
 use Rattle.std.specs.Prelude.{◌≡◌, ◌≤◌, true, false, List, [], Some, is_some, map, option_map, unwrap_or, codes}
 use Rattle.clap.specs.Words.{App, Row, Rule, Text, all_of, first_of, new_app, new_rule, one_of, with_rule}
-use Rattle.clap.specs.declared.builder.action.ArgAction.TheVariants.{Append}
-use Rattle.clap.specs.declared.builder.value_parser.ValueParser.TheVariants.{String as AnyText}
+use Rattle.clap.specs.declared.{builder.action.ArgAction.TheVariants.Append, builder.value_parser.ValueParser.TheVariants.String as AnyText}
 use Rattle.gb_serve_words.specs.Options.{HasAddress, HasNumber, IsAddressOf, given, named_rule, text_rule}
 use Rattle.gb_serve_words.specs.declared.options.TheConstants.{MOST_CONNECTIONS, MOST_SESSIONS}
-use Rattle.gb_door.specs.declared.plan.WebPlan.{WebPlan}
-use Rattle.gb_door.specs.declared.plan.WebWords.{WebWords}
-use Rattle.gb_door.specs.declared.words.TheConstants.{CONNECTIONS}
+use Rattle.gb_door.specs.declared.{plan.WebPlan.WebPlan, plan.WebWords.WebWords, words.TheConstants.CONNECTIONS}
 
 -- an option `--name` with an address that must be given
 abbrev pub address_rule : Text → Rule

@@ -1,35 +1,16 @@
 -- The messages that a node has said are exactly those that were accepted there.
-use Rattle.std.proofs.Common.{◌≡◌, ℕ, ◌-◌, Bool, true, false, nat_eq, ◌||◌, List, [], ◌∷◌, ◌++◌, Option, Some, None, refl, sym, subst}
-use Rattle.std.specs.Prelude.{slice_get, if◌then◌else◌}
-use Rattle.std.specs.List.{AllByRecursion}
-use Rattle.std.proofs.lemmas.Bool.{eqb-true}
-use Rattle.gb_types.specs.Message.{same}
-use Rattle.gb_types.specs.declared.entry.Entry.{Entry}
-use Rattle.gb_types.specs.declared.message.MsgId.{MsgId}
-use Rattle.gb_types.specs.declared.node.NodeId.{NodeId}
-use Rattle.gb_types.specs.declared.plan.Bounds.{Bounds}
-use Rattle.gb_types.specs.declared.reply.Reply.{Reply}
-use Rattle.gb_types.specs.declared.reply.Reply.TheVariants.{Done, Said}
-use Rattle.gb_types.specs.declared.spec.Spec.{Spec}
-use Rattle.gb_types.specs.declared.version.Version.{Version}
-use Rattle.gb_types.specs.Version.{version_at}
+use Rattle.gb_types.specs.Common.{◌≡◌, ℕ, ◌-◌, Bool, true, false, nat_eq, ◌||◌, List, [], ◌∷◌, ◌++◌, Option, Some, None, refl, sym, subst, slice_get, if◌then◌else◌, AllByRecursion, eqb-true, same, version_at}
+use Rattle.gb_types.specs.declared.{entry.Entry.Entry, message.MsgId.MsgId, node.NodeId.NodeId, plan.Bounds.Bounds, reply.Reply.Reply, reply.Reply.TheVariants.Done, reply.Reply.TheVariants.Said, spec.Spec.Spec, version.Version.Version, address.Addr.Addr}
 use Rattle.gb_types.proofs.SameLemmas.{same_number, same_itself}
 use Rattle.gb_types.proofs.BoolLemmas.{or_first}
-use Rattle.gb_layer.specs.Lists.{all_weaker, all_append}
-use Rattle.gb_layer.specs.Machine.{was_said}
-use Rattle.gb_layer.specs.Numbered.{numbered}
-use Rattle.gb_rules.specs.Group.{is_other, is_too_long}
-use Rattle.gb_rules.specs.History.{calls_of}
-use Rattle.gb_rules.specs.declared.call.GroupCall.{GroupCall}
-use Rattle.gb_rules.specs.declared.call.GroupCall.TheVariants.{Other, Crashed}
-use Rattle.gb_alone.specs.Alone.{Member, Group, held_spec, reply_to, called, did, falls, taken_in, cut, took_notice, member_after, after, nobody, alone_from, alone}
-use Rattle.gb_alone.specs.Laws.{Accepted, accepted_in, accepted_at, accepted_from, accepted}
-use Rattle.gb_alone.specs.declared.event.GroupEvent.{GroupEvent}
+use Rattle.gb_layer.specs.Common.{all_weaker, all_append, was_said, numbered}
+use Rattle.gb_rules.specs.Common.{is_other, is_too_long, calls_of}
+use Rattle.gb_rules.specs.declared.{call.GroupCall.GroupCall, call.GroupCall.TheVariants.Other, call.GroupCall.TheVariants.Crashed}
+use Rattle.gb_alone.specs.Common.{Member, Group, held_spec, reply_to, called, did, falls, taken_in, cut, took_notice, member_after, after, nobody, alone_from, alone, Accepted, accepted_in, accepted_at, accepted_from, accepted}
+use Rattle.gb_alone.specs.declared.{event.GroupEvent.GroupEvent, event.GroupStep.GroupStep}
 use Rattle.gb_alone.specs.declared.event.GroupEvent.TheVariants.{Tenant, Make as AskMake, Open as AskOpen, Shut as AskShut, Drop as AskDrop, Say as AskSay, OtherMade, OtherDropped, Took, Came, Done as Acknowledged, Notice, Stop}
-use Rattle.gb_alone.specs.declared.event.GroupStep.{GroupStep}
 use Rattle.gb_duties.proofs.InvariantLemmas.{Later}
 use Rattle.gb_duties.proofs.StepLemmas.{calls_in, AllFit, step_fits, nobody_fits}
-use Rattle.gb_types.specs.declared.address.Addr.{Addr}
 
 -- What was accepted was said.
 

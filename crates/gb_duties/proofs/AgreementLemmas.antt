@@ -1,33 +1,17 @@
 -- If a group is settled, the logs of its running members agree.
-use Rattle.std.proofs.Common.{◌≡◌, ◌≢◌, ℕ, ◌+◌, ◌-◌, ◌<◌, ◌≤◌, Bool, true, false, ◌&&◌, ◌||◌, ◌⊎◌, inl, inr, nat_eq, List, ◌++◌, length, None, refl, sym, ap, ◌∙◌, subst, arith}
-use Rattle.std.specs.Prelude.{slice_get, if◌then◌else◌}
+use Rattle.gb_types.specs.Common.{◌≡◌, ◌≢◌, ℕ, ◌+◌, ◌-◌, ◌<◌, ◌≤◌, Bool, true, false, ◌&&◌, ◌||◌, ◌⊎◌, inl, inr, nat_eq, List, ◌++◌, length, None, refl, sym, ap, ◌∙◌, subst, arith, slice_get, if◌then◌else◌, eqb-true, eq-eqb, not_from_false, All-from_recursion, fold-append, has_majority}
 use Rattle.std.specs.FinSet as set
-use Rattle.std.proofs.lemmas.Bool.{eqb-true, eq-eqb, not_from_false}
-use Rattle.std.proofs.lemmas.List.Elements.{All-from_recursion}
-use Rattle.std.proofs.lemmas.List.Sums.{fold-append}
-use Rattle.gb_types.specs.declared.message.MsgId.{MsgId}
-use Rattle.gb_types.specs.declared.node.NodeId.{NodeId}
-use Rattle.gb_types.specs.declared.plan.Bounds.{Bounds}
-use Rattle.gb_types.specs.declared.spec.Spec.{Spec}
-use Rattle.gb_types.specs.Places.{has_majority}
+use Rattle.gb_types.specs.declared.{message.MsgId.MsgId, node.NodeId.NodeId, plan.Bounds.Bounds, spec.Spec.Spec, kind.Module.Module, address.Addr.Addr}
 use Rattle.gb_types.proofs.CoverLemmas.{all_members}
 use Rattle.gb_types.proofs.MajorityLemmas.{listed, majorities_meet, majority_more}
 use Rattle.gb_types.proofs.BoolLemmas.{and_both, and_left, and_right, both_ways, or_cases, or_first, or_second, refuted}
-use Rattle.gb_layer.specs.Histories.{said_mentioned, came_mentioned}
-use Rattle.gb_layer.specs.Lists.{all_weaker}
-use Rattle.gb_layer.specs.Machine.{mentions, was_said, was_noticed, came_from}
-use Rattle.gb_layer.specs.Modules.{holds, is_delivered, is_broadcast, now_delivered, now_broadcast}
-use Rattle.gb_types.specs.declared.kind.Module.{Module}
+use Rattle.gb_layer.specs.Common.{said_mentioned, came_mentioned, all_weaker, mentions, was_said, was_noticed, came_from, holds, is_delivered, is_broadcast, now_delivered, now_broadcast, is_in, numbered}
 use Rattle.gb_types.specs.declared.kind.Module.TheVariants.{BestEffort, Lazy, Eager, AllAck, Majority}
-use Rattle.gb_layer.specs.Numbered.{is_in, numbered}
 use Rattle.gb_fifo.specs.Order.{upto, top, numbers_of, in_order}
 use Rattle.gb_stack.specs.Kinds.{kind_log}
 use Rattle.gb_stack.specs.LogLaws.{ModuleLogHasDelivered}
-use Rattle.gb_rules.specs.Group.{is_gone, is_member}
-use Rattle.gb_rules.specs.History.{calls_of}
-use Rattle.gb_rules.specs.Messages.{has}
-use Rattle.gb_alone.specs.Alone.{Group, held_spec, log_at, after, nobody, alone_from, alone, is_marked, IsLegal, IsLegalFrom}
-use Rattle.gb_alone.specs.Laws.{Accepted, accepted}
+use Rattle.gb_rules.specs.Common.{is_gone, is_member, calls_of, has}
+use Rattle.gb_alone.specs.Common.{Group, held_spec, log_at, after, nobody, alone_from, alone, is_marked, IsLegal, IsLegalFrom, Accepted, accepted}
 use Rattle.gb_alone.specs.declared.event.GroupStep.{GroupStep}
 use Rattle.gb_alone.proofs.IntegrityLemmas.{alone_fits}
 use Rattle.gb_duties.specs.Agreement.{IsRunning, AreEnough, is_uniform, KeepsAgreement, logs_of, IsAgreed}
@@ -38,7 +22,6 @@ use Rattle.gb_duties.proofs.DutyLemmas.{of_member}
 use Rattle.gb_duties.proofs.FlowLemmas.{Flow, IsSound, Taking, nobody_flows, run_flows, legal_parts, run_takes, first_taking}
 use Rattle.gb_duties.proofs.AcceptedLemmas.{accepted_said, none_said}
 use Rattle.gb_duties.proofs.OrderLemmas.{log_more, log_has}
-use Rattle.gb_types.specs.declared.address.Addr.{Addr}
 
 -- a settled group, as it is
 record Calm (runs : ℕ → Bool) (spec : Spec) (group : Group) : Type 0 where

@@ -1,20 +1,13 @@
 -- The bytes of different messages of one origin are at most those of a list that has all these messages.
-use Rattle.std.proofs.Common.{◌≡◌, ℕ, zero, suc, ◌+◌, ◌-◌, ◌≤◌, Bool, true, false, ◌||◌, ◌⊎◌, inl, inr, nat_eq, List, [], ◌∷◌, ◌++◌, length, Some, refl, sym, ap, ◌∙◌, subst, arith}
-use Rattle.std.specs.Prelude.{All, slice_get, if◌then◌else◌}
-use Rattle.std.proofs.lemmas.Bool.{eqb-true}
-use Rattle.std.proofs.lemmas.List.Elements.{All-head, All-tail}
-use Rattle.gb_types.specs.Entry.{message_of}
-use Rattle.gb_types.specs.Message.{same}
-use Rattle.gb_types.specs.declared.entry.Entry.{Entry}
-use Rattle.gb_types.specs.declared.message.MsgId.{MsgId}
+use Rattle.gb_types.specs.Common.{◌≡◌, ℕ, zero, suc, ◌+◌, ◌-◌, ◌≤◌, Bool, true, false, ◌||◌, ◌⊎◌, inl, inr, nat_eq, List, [], ◌∷◌, ◌++◌, length, Some, refl, sym, ap, ◌∙◌, subst, arith, All, slice_get, if◌then◌else◌, eqb-true, All-head, All-tail, message_of, same}
+use Rattle.gb_types.specs.declared.{entry.Entry.Entry, message.MsgId.MsgId}
 use Rattle.gb_types.proofs.SameLemmas.{same-true, same_itself}
 use Rattle.gb_types.proofs.BoolLemmas.{or_first, or_left, or_right, or_second, refuted}
-use Rattle.gb_rules.specs.History.{known}
-use Rattle.gb_rules.specs.Messages.{has, with_new, bytes_of}
+use Rattle.gb_rules.specs.Common.{known, has, with_new, bytes_of}
 use Rattle.gb_rules.specs.declared.call.GroupCall.{GroupCall}
 use Rattle.gb_rules.specs.declared.call.GroupCall.TheVariants.{Own, Other, Crashed}
 use Rattle.gb_rules.proofs.MentionLemmas.{has-append}
-use Rattle.gb_alone.specs.Laws.{Accepted, IsAccepted}
+use Rattle.gb_alone.specs.Common.{Accepted, IsAccepted}
 use Rattle.gb_alone.proofs.KnownLemmas.{all_at}
 use Rattle.gb_duties.proofs.WordLemmas.{Found, found, find}
 

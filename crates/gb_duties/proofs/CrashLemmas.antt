@@ -1,20 +1,13 @@
 -- A group that settles after a crash.
-use Rattle.std.proofs.Common.{◌≡◌, ◌≢◌, ℕ, ◌<◌, ◌≤◌, ◌⊎◌, inl, inr, not, nat_eq, Bool, true, false, arith, List, [], ◌∷◌, ◌++◌, length, Some, refl, sym, ap, ◌∙◌, subst}
-use Rattle.std.specs.Prelude.{slice_get, if◌then◌else◌}
+use Rattle.gb_types.specs.Common.{◌≡◌, ◌≢◌, ℕ, ◌<◌, ◌≤◌, ◌⊎◌, inl, inr, not, nat_eq, Bool, true, false, arith, List, [], ◌∷◌, ◌++◌, length, Some, refl, sym, ap, ◌∙◌, subst, slice_get, if◌then◌else◌, eqb-true, has_majority, version_at}
 use Rattle.std.specs.FinSet as set
-use Rattle.std.proofs.lemmas.Bool.{eqb-true}
-use Rattle.gb_types.specs.Places.{has_majority}
-use Rattle.gb_types.specs.declared.kind.Kind.{Kind}
+use Rattle.gb_types.specs.declared.{kind.Kind.Kind, reply.Reply.Reply}
 use Rattle.gb_types.specs.declared.kind.Module.TheVariants.{BestEffort, Lazy, Majority}
-use Rattle.gb_types.specs.declared.reply.Reply.{Reply}
 use Rattle.gb_types.specs.declared.version.Version.TheVariants as texts
-use Rattle.gb_types.specs.Version.{version_at}
-use Rattle.gb_layer.specs.Machine.{was_noticed}
-use Rattle.gb_rules.specs.History.{calls_of, known, said_in}
+use Rattle.gb_layer.specs.Common.{was_noticed}
+use Rattle.gb_rules.specs.Common.{calls_of, known, said_in, is_gone, is_member}
 use Rattle.gb_rules.specs.declared.call.GroupCall.TheVariants.{Other}
-use Rattle.gb_alone.specs.Alone.{Member, Group, reply_to, called, after, nobody, alone, is_marked, count_unfinished, IsLegal}
-use Rattle.gb_rules.specs.Group.{is_gone, is_member}
-use Rattle.gb_alone.specs.Laws.{accepted_in, accepted_from, accepted, log_of_member}
+use Rattle.gb_alone.specs.Common.{Member, Group, reply_to, called, after, nobody, alone, is_marked, count_unfinished, IsLegal, accepted_in, accepted_from, accepted, log_of_member}
 use Rattle.gb_alone.specs.declared.event.GroupEvent.TheVariants.{Say, Took, Came, Notice, Stop}
 use Rattle.gb_alone.specs.declared.event.GroupStep.{GroupStep}
 use Rattle.gb_duties.specs.Agreement.{IsRunning, IsSettled, AreEnough}

@@ -1,35 +1,24 @@
 -- Each node does its duties.
-use Rattle.std.proofs.Common.{◌≡◌, ℕ, Bool, true, false, ◌&&◌, ◌||◌, ◌⊎◌, inl, inr, nat_eq, List, Some, None, refl, sym, ap, ◌∙◌}
-use Rattle.std.specs.Prelude.{if◌then◌else◌}
+use Rattle.gb_types.specs.Common.{◌≡◌, ℕ, Bool, true, false, ◌&&◌, ◌||◌, ◌⊎◌, inl, inr, nat_eq, List, Some, None, refl, sym, ap, ◌∙◌, if◌then◌else◌, list_all, eqb-true, eq-eqb, cases_Bool, has_majority}
 use Rattle.std.specs.FinSet as set
-use Rattle.std.specs.List.{list_all}
-use Rattle.std.proofs.lemmas.Bool.{eqb-true, eq-eqb, cases_Bool}
-use Rattle.gb_types.specs.declared.message.MsgId.{MsgId}
-use Rattle.gb_types.specs.declared.plan.Bounds.{Bounds}
-use Rattle.gb_types.specs.declared.spec.Spec.{Spec}
-use Rattle.gb_types.specs.Places.{has_majority}
+use Rattle.gb_types.specs.declared.{message.MsgId.MsgId, plan.Bounds.Bounds, spec.Spec.Spec, kind.Module.Module, address.Addr.Addr}
 use Rattle.gb_types.proofs.CoverLemmas.{not_all_members}
 use Rattle.gb_types.proofs.MajorityLemmas.{listed}
 use Rattle.gb_types.proofs.BoolLemmas.{and_both, and_left, and_right, or_cases, or_first, or_second}
-use Rattle.gb_layer.specs.Machine.{mentions, was_noticed, came_from}
-use Rattle.gb_layer.specs.Modules.{holds, now_delivered, now_broadcast}
-use Rattle.gb_types.specs.declared.kind.Module.{Module}
+use Rattle.gb_layer.specs.Common.{mentions, was_noticed, came_from, holds, now_delivered, now_broadcast}
 use Rattle.gb_types.specs.declared.kind.Module.TheVariants.{BestEffort, Lazy, Eager, AllAck, Majority}
 use Rattle.gb_layer.specs.declared.call.Call.{Call}
 use Rattle.gb_fifo.specs.Order.{in_order}
 use Rattle.gb_fifo.specs.OrderLaws.{AllIn}
 use Rattle.gb_stack.specs.LogLaws.{ModuleLogHasDelivered}
-use Rattle.gb_rules.specs.Group.{is_gone, is_member, is_other}
-use Rattle.gb_rules.specs.History.{calls_of}
-use Rattle.gb_alone.specs.Alone.{Member, Group, alone, held_spec, log_at}
+use Rattle.gb_rules.specs.Common.{is_gone, is_member, is_other, calls_of, has}
+use Rattle.gb_alone.specs.Common.{Member, Group, alone, held_spec, log_at}
 use Rattle.gb_alone.specs.declared.event.GroupStep.{GroupStep}
-use Rattle.gb_rules.specs.Messages.{has}
 use Rattle.gb_duties.specs.Duties.{IsPutOut, HasHad, IsHadByMajority, Duty, KeepsDuties, noticed_at, delivered_at, logged_at, IsDutiful}
 use Rattle.gb_duties.proofs.ReplyLemmas.{held_made}
 use Rattle.gb_duties.proofs.InvariantLemmas.{FitsAt}
 use Rattle.gb_duties.proofs.LogLemmas.{in_log, logged-is, kind_delivered}
 use Rattle.gb_duties.proofs.StepLemmas.{calls_in, alone_fits}
-use Rattle.gb_types.specs.declared.address.Addr.{Addr}
 
 -- a member passes what all members pass
 pub of_member : (p : ℕ → Bool) (spec : Spec) (b : ℕ) → list_all p (set.items spec.members) ≡ true → is_member spec b ≡ true → p b ≡ true

@@ -1,34 +1,17 @@
 -- What the worked examples compute.
-use Rattle.std.proofs.Common.{◌≡◌, ℕ, ◌+◌, ◌-◌, not, Option, Some, ◌⊎◌, inl, inr, Bool, true, false, nat_eq, arith, List, [], ◌∷◌, ◌++◌, ◌||◌, ◌&&◌, ◌≤◌, length, take, refl, sym, ap, ◌∙◌, subst}
-use Rattle.std.specs.Prelude.{slice_get, if◌then◌else◌}
+use Rattle.gb_types.specs.Common.{◌≡◌, ℕ, ◌+◌, ◌-◌, not, Option, Some, ◌⊎◌, inl, inr, Bool, true, false, nat_eq, arith, List, [], ◌∷◌, ◌++◌, ◌||◌, ◌&&◌, ◌≤◌, length, take, refl, sym, ap, ◌∙◌, subst, slice_get, if◌then◌else◌, list_all, list_any, eqb-true, eq-eqb, fold-append, message_of, version_at, has_majority}
 use Rattle.std.specs.FinSet as set
-use Rattle.std.specs.List.{list_all, list_any}
-use Rattle.std.proofs.lemmas.Bool.{eqb-true, eq-eqb}
-use Rattle.std.proofs.lemmas.List.Sums.{fold-append}
-use Rattle.gb_types.specs.Entry.{message_of}
-use Rattle.gb_types.specs.declared.entry.Entry.{Entry}
-use Rattle.gb_types.specs.declared.kind.Kind.{Kind}
-use Rattle.gb_types.specs.declared.kind.Module.{Module}
+use Rattle.gb_types.specs.declared.{entry.Entry.Entry, kind.Kind.Kind, kind.Module.Module, node.NodeId.NodeId, reply.Reply.TheVariants.Done, reply.Reply.TheVariants.Said, spec.Spec.Spec, version.Version.Version}
 use Rattle.gb_types.specs.declared.kind.Module.TheVariants.{BestEffort, Lazy, Eager, AllAck, Majority}
-use Rattle.gb_types.specs.declared.node.NodeId.{NodeId}
-use Rattle.gb_types.specs.declared.reply.Reply.TheVariants.{Done, Said}
-use Rattle.gb_types.specs.declared.spec.Spec.{Spec}
-use Rattle.gb_types.specs.declared.version.Version.{Version}
 use Rattle.gb_types.specs.declared.version.Version.TheVariants as texts
-use Rattle.gb_types.specs.Version.{version_at}
-use Rattle.gb_types.specs.Places.{has_majority}
 use Rattle.gb_types.proofs.CoverLemmas.{all_members, not_all_members}
 use Rattle.gb_types.proofs.MajorityLemmas.{listed}
 use Rattle.gb_types.proofs.BoolLemmas.{and_both, and_left, and_right, both_ways, or_cases}
-use Rattle.gb_layer.specs.Machine.{mentions, was_noticed}
-use Rattle.gb_rules.specs.Group.{is_other}
-use Rattle.gb_rules.specs.Room.{can_name}
-use Rattle.gb_rules.specs.declared.phase.Phase.TheVariants.{Opened}
-use Rattle.gb_rules.specs.declared.reserve.Reserve.{Reserve}
-use Rattle.gb_rules.specs.History.{calls_of, known, said_in, puts_of, falls_after}
+use Rattle.gb_layer.specs.Common.{mentions, was_noticed}
+use Rattle.gb_rules.specs.Common.{is_other, can_name, calls_of, known, said_in, puts_of, falls_after}
+use Rattle.gb_rules.specs.declared.{phase.Phase.TheVariants.Opened, reserve.Reserve.Reserve}
 use Rattle.gb_rules.specs.declared.call.GroupCall.TheVariants.{Own, Other, Crashed}
-use Rattle.gb_alone.specs.Alone.{Member, Group, called, cut, falls, taken_in, took_notice, node_noticed, member_after, after, nobody, alone_from, alone, is_marked, held_spec, did, count_unfinished, MayHappen, IsLegalFrom}
-use Rattle.gb_alone.specs.Laws.{log_of_member}
+use Rattle.gb_alone.specs.Common.{Member, Group, called, cut, falls, taken_in, took_notice, node_noticed, member_after, after, nobody, alone_from, alone, is_marked, held_spec, did, count_unfinished, MayHappen, IsLegalFrom, log_of_member}
 use Rattle.gb_alone.specs.declared.event.GroupEvent.TheVariants.{Tenant, Make, Open, Drop, Say, Took, Came, Notice}
 use Rattle.gb_alone.specs.declared.event.GroupStep.{GroupStep}
 use Rattle.gb_duties.specs.Duties.{HasHad, noticed_at}

@@ -1,42 +1,24 @@
 -- An invariant of the whole group through every event that may happen: between members, each item that came was taken in.
-use Rattle.std.proofs.Common.{◌≡◌, ℕ, ◌+◌, ◌-◌, ◌<◌, ◌≤◌, Bool, true, false, ◌&&◌, ◌||◌, ◌⊎◌, inl, inr, nat_eq, List, [], ◌∷◌, ◌++◌, length, Option, Some, None, refl, sym, ap, ◌∙◌, subst, arith}
-use Rattle.std.specs.Prelude.{slice_get, if◌then◌else◌}
-use Rattle.std.proofs.lemmas.Bool.{eqb-true, eq-eqb}
-use Rattle.gb_types.specs.Entry.{message_of}
-use Rattle.gb_types.specs.Message.{same}
-use Rattle.gb_types.specs.declared.entry.Entry.{Entry}
-use Rattle.gb_types.specs.declared.message.MsgId.{MsgId}
-use Rattle.gb_types.specs.declared.node.NodeId.{NodeId}
-use Rattle.gb_types.specs.declared.plan.Bounds.{Bounds}
-use Rattle.gb_types.specs.declared.reply.Reply.{Reply}
-use Rattle.gb_types.specs.declared.reply.Reply.TheVariants.{Done, Said}
-use Rattle.gb_types.specs.declared.spec.Spec.{Spec}
-use Rattle.gb_types.specs.declared.version.Version.{Version}
-use Rattle.gb_types.specs.Version.{version_at}
+use Rattle.gb_types.specs.Common.{◌≡◌, ℕ, ◌+◌, ◌-◌, ◌<◌, ◌≤◌, Bool, true, false, ◌&&◌, ◌||◌, ◌⊎◌, inl, inr, nat_eq, List, [], ◌∷◌, ◌++◌, length, Option, Some, None, refl, sym, ap, ◌∙◌, subst, arith, slice_get, if◌then◌else◌, eqb-true, eq-eqb, message_of, same, version_at}
+use Rattle.gb_types.specs.declared.{entry.Entry.Entry, message.MsgId.MsgId, node.NodeId.NodeId, plan.Bounds.Bounds, reply.Reply.Reply, reply.Reply.TheVariants.Done, reply.Reply.TheVariants.Said, spec.Spec.Spec, version.Version.Version, address.Addr.Addr}
 use Rattle.gb_types.proofs.SameLemmas.{same_itself}
 use Rattle.gb_types.proofs.BoolLemmas.{and_both, or_cases, or_first}
-use Rattle.gb_layer.specs.Histories.{said_mentioned}
-use Rattle.gb_layer.specs.Machine.{mentions, was_said, came_from}
-use Rattle.gb_rules.specs.Group.{is_gone, is_member, is_other, is_too_long}
-use Rattle.gb_rules.specs.History.{calls_of, known, bytes_in, falls_after}
-use Rattle.gb_rules.specs.Messages.{bytes_of}
+use Rattle.gb_layer.specs.Common.{said_mentioned, mentions, was_said, came_from}
+use Rattle.gb_rules.specs.Common.{is_gone, is_member, is_other, is_too_long, calls_of, known, bytes_in, falls_after, bytes_of}
 use Rattle.gb_rules.proofs.MentionLemmas.{has-known}
-use Rattle.gb_alone.specs.Laws.{Accepted, IsAccepted}
+use Rattle.gb_alone.specs.Common.{Accepted, IsAccepted, Member, Group, held_spec, reply_to, called, did, falls, item_came, taken_in, cut, took_notice, member_after, after, nobody, alone_from, is_marked, MayHappen, IsLegalFrom}
 use Rattle.gb_alone.proofs.AcceptedLemmas.{own_said}
 use Rattle.gb_alone.proofs.IntegrityLemmas.{Fits}
 use Rattle.gb_alone.proofs.KnownLemmas.{all_at}
 use Rattle.gb_duties.proofs.BytesLemmas.{In, in_has, of_in, bytes_most, once_known, stands}
 use Rattle.gb_rules.specs.declared.call.GroupCall.TheVariants.{Other, Crashed}
-use Rattle.gb_alone.specs.Alone.{Member, Group, held_spec, reply_to, called, did, falls, item_came, taken_in, cut, took_notice, member_after, after, nobody, alone_from, is_marked, MayHappen, IsLegalFrom}
-use Rattle.gb_alone.specs.declared.event.GroupEvent.{GroupEvent}
+use Rattle.gb_alone.specs.declared.{event.GroupEvent.GroupEvent, event.GroupStep.GroupStep}
 use Rattle.gb_alone.specs.declared.event.GroupEvent.TheVariants.{Tenant, Make as AskMake, Open as AskOpen, Shut as AskShut, Drop as AskDrop, Say as AskSay, OtherMade, OtherDropped, Took, Came, Done as Acknowledged, Notice, Stop}
-use Rattle.gb_alone.specs.declared.event.GroupStep.{GroupStep}
 use Rattle.gb_duties.proofs.WordLemmas.{has-get}
 use Rattle.gb_duties.proofs.ReplyLemmas.{IsFair, fall_why}
 use Rattle.gb_duties.proofs.ShortLemmas.{IsShort, AllShort, step_short}
 use Rattle.gb_duties.proofs.StepLemmas.{calls_in, AllFit, step_fits, nobody_fits}
 use Rattle.gb_duties.proofs.MoveLemmas.{Bounded, Goes, event_moves}
-use Rattle.gb_types.specs.declared.address.Addr.{Addr}
 
 pub record Flow (group : Group) : Type 0 where
   pub fits : AllFit group

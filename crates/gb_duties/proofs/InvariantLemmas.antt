@@ -1,25 +1,15 @@
 -- Invariants of every node of a group alone, and of what all nodes were told.
-use Rattle.std.proofs.Common.{◌≡◌, ℕ, ◌+◌, ◌<◌, ◌≤◌, Bool, true, false, not, ◌&&◌, ◌||◌, ◌⊎◌, inl, inr, nat_eq, List, [], ◌∷◌, ◌++◌, length, Option, Some, None, refl, sym, ap, ◌∙◌, subst, arith}
-use Rattle.std.specs.Prelude.{if◌then◌else◌}
-use Rattle.std.proofs.lemmas.Bool.{eqb-true, eq-eqb, cases_Bool, cases_lt, not_from_false}
-use Rattle.gb_types.specs.Entry.{message_of}
-use Rattle.gb_types.specs.Message.{same}
-use Rattle.gb_types.specs.declared.entry.Entry.{Entry}
-use Rattle.gb_types.specs.declared.message.MsgId.{MsgId}
-use Rattle.gb_types.specs.declared.spec.Spec.{Spec}
+use Rattle.gb_types.specs.Common.{◌≡◌, ℕ, ◌+◌, ◌<◌, ◌≤◌, Bool, true, false, not, ◌&&◌, ◌||◌, ◌⊎◌, inl, inr, nat_eq, List, [], ◌∷◌, ◌++◌, length, Option, Some, None, refl, sym, ap, ◌∙◌, subst, arith, if◌then◌else◌, eqb-true, eq-eqb, cases_Bool, cases_lt, not_from_false, message_of, same}
+use Rattle.gb_types.specs.declared.{entry.Entry.Entry, message.MsgId.MsgId, spec.Spec.Spec}
 use Rattle.gb_types.proofs.SameLemmas.{same-true, same_itself}
 use Rattle.gb_types.proofs.BoolLemmas.{and_both, and_left, and_right, or_cases, or_first, or_second}
-use Rattle.gb_layer.specs.Histories.{mentions_stays}
-use Rattle.gb_layer.specs.Machine.{mentions, was_said, was_noticed, came_from}
-use Rattle.gb_layer.specs.Modules.{now_broadcast}
+use Rattle.gb_layer.specs.Common.{mentions_stays, mentions, was_said, was_noticed, came_from, now_broadcast}
 use Rattle.gb_layer.specs.declared.call.Call.{Call}
-use Rattle.gb_rules.specs.Group.{is_gone, is_member, is_other}
-use Rattle.gb_rules.specs.History.{call_of, calls_of, known, bytes_in, said_in, puts_of}
-use Rattle.gb_rules.specs.Messages.{has, bytes_of}
+use Rattle.gb_rules.specs.Common.{is_gone, is_member, is_other, call_of, calls_of, known, bytes_in, said_in, puts_of, has, bytes_of}
 use Rattle.gb_rules.specs.declared.call.GroupCall.{GroupCall}
 use Rattle.gb_rules.specs.declared.call.GroupCall.TheVariants.{Own, Other, Crashed}
 use Rattle.gb_rules.proofs.MentionLemmas.{bytes_of-append, has-known}
-use Rattle.gb_alone.specs.Alone.{Member, put_to}
+use Rattle.gb_alone.specs.Common.{Member, put_to}
 use Rattle.gb_duties.proofs.WordLemmas.{has-append, has-entries, in_newly}
 use Rattle.gb_duties.proofs.ReplyLemmas.{IsFair}
 

@@ -1,26 +1,17 @@
 -- Which messages stand in a log, given what is delivered.
-use Rattle.std.proofs.Common.{◌≡◌, ℕ, Bool, true, false, cond, ◌||◌, List, [], ◌∷◌, Option, Some, refl, ap, ◌∙◌}
-use Rattle.std.specs.Prelude.{filter, if◌then◌else◌}
+use Rattle.gb_types.specs.Common.{◌≡◌, ℕ, Bool, true, false, cond, ◌||◌, List, [], ◌∷◌, Option, Some, refl, ap, ◌∙◌, filter, if◌then◌else◌, list_any, same}
 use Rattle.std.specs.FinSet as set
-use Rattle.std.specs.List.{list_any}
-use Rattle.gb_types.specs.Message.{same}
-use Rattle.gb_types.specs.declared.kind.Module.{Module}
-use Rattle.gb_types.specs.declared.kind.Order.{Order}
-use Rattle.gb_types.specs.declared.kind.Order.TheVariants.{Any, Fifo}
-use Rattle.gb_types.specs.declared.message.MsgId.{MsgId}
-use Rattle.gb_types.specs.declared.spec.Spec.{Spec}
-use Rattle.gb_layer.specs.Modules.{now_delivered, log}
+use Rattle.gb_types.specs.declared.{kind.Module.Module, kind.Order.Order, kind.Order.TheVariants.Any, kind.Order.TheVariants.Fifo, message.MsgId.MsgId, spec.Spec.Spec}
+use Rattle.gb_layer.specs.Common.{now_delivered, log, is_in}
 use Rattle.gb_layer.specs.declared.call.Call.{Call}
-use Rattle.gb_layer.specs.Numbered.{is_in}
 use Rattle.gb_fifo.specs.Order.{in_order}
 use Rattle.gb_fifo.specs.OrderLaws.{AllIn}
 use Rattle.gb_stack.specs.Kinds.{released, kind_log}
 use Rattle.gb_stack.specs.LogLaws.{ModuleLogHasDelivered}
 use Rattle.gb_stack.proofs.DeliveryLemmas.{holds_of}
-use Rattle.gb_rules.specs.History.{calls_of, known, delivered}
-use Rattle.gb_rules.specs.Messages.{has}
+use Rattle.gb_rules.specs.Common.{calls_of, known, delivered, has}
 use Rattle.gb_rules.specs.declared.call.GroupCall.{GroupCall}
-use Rattle.gb_alone.specs.Alone.{log_at}
+use Rattle.gb_alone.specs.Common.{log_at}
 use Rattle.gb_duties.proofs.WordLemmas.{has-entries}
 
 -- what a filter leaves is what a test finds

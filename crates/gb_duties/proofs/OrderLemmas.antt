@@ -1,18 +1,10 @@
 -- Which messages an order has: those of each origin from number 1 to the origin's top.
-use Rattle.std.proofs.Common.{◌≡◌, ℕ, zero, suc, ◌+◌, ◌<◌, ◌≤◌, Bool, true, false, cond, ◌&&◌, ◌||◌, ◌⊎◌, inl, inr, nat_eq, List, [], ◌∷◌, refl, sym, ap, ◌∙◌, arith}
-use Rattle.std.specs.Prelude.{map, filter}
+use Rattle.gb_types.specs.Common.{◌≡◌, ℕ, zero, suc, ◌+◌, ◌<◌, ◌≤◌, Bool, true, false, cond, ◌&&◌, ◌||◌, ◌⊎◌, inl, inr, nat_eq, List, [], ◌∷◌, refl, sym, ap, ◌∙◌, arith, map, filter, list_any, range_with_len, eqb-true, eq-eqb, cases_lt}
 use Rattle.std.specs.FinSet as set
-use Rattle.std.specs.List.{list_any, range_with_len}
-use Rattle.std.proofs.lemmas.Bool.{eqb-true, eq-eqb, cases_lt}
-use Rattle.gb_types.specs.declared.kind.Order.{Order}
-use Rattle.gb_types.specs.declared.kind.Order.TheVariants.{Any, Fifo}
-use Rattle.gb_types.specs.declared.message.MsgId.{MsgId}
-use Rattle.gb_types.specs.declared.node.NodeId.{NodeId}
-use Rattle.gb_types.specs.declared.spec.Spec.{Spec}
+use Rattle.gb_types.specs.declared.{kind.Order.Order, kind.Order.TheVariants.Any, kind.Order.TheVariants.Fifo, message.MsgId.MsgId, node.NodeId.NodeId, spec.Spec.Spec}
 use Rattle.gb_types.proofs.BoolLemmas.{or_cases, or_first, or_second}
-use Rattle.gb_layer.specs.Modules.{now_delivered, log}
+use Rattle.gb_layer.specs.Common.{now_delivered, log, is_in, numbered}
 use Rattle.gb_layer.specs.declared.call.Call.{Call}
-use Rattle.gb_layer.specs.Numbered.{is_in, numbered}
 use Rattle.gb_fifo.specs.Order.{upto, top, numbers_of, in_order}
 use Rattle.gb_stack.specs.Kinds.{released, kind_log}
 use Rattle.gb_stack.specs.LogLaws.{ModuleLogHasDelivered}

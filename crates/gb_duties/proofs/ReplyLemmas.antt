@@ -1,33 +1,15 @@
 -- What follows from a make or a say that is accepted, and from an item that is not let fall.
-use Rattle.std.proofs.Common.{◌≡◌, ℕ, ◌+◌, ◌<◌, ◌≤◌, Bool, true, false, not, ◌&&◌, ◌||◌, nat_eq, List, length, Option, Some, None, refl, arith}
-use Rattle.std.specs.Prelude.{nat_lt, nat_le, is_some, if◌then◌else◌}
-use Rattle.std.proofs.lemmas.Bool.{eqb-true}
-use Rattle.std.proofs.lemmas.Bool.Decides.{nat_tests}
-use Rattle.gb_types.specs.Entry.{message_of}
-use Rattle.gb_types.specs.declared.entry.Entry.{Entry}
-use Rattle.gb_types.specs.declared.message.MsgId.{MsgId}
+use Rattle.gb_types.specs.Common.{◌≡◌, ℕ, ◌+◌, ◌<◌, ◌≤◌, Bool, true, false, not, ◌&&◌, ◌||◌, nat_eq, List, length, Option, Some, None, refl, arith, nat_lt, nat_le, is_some, if◌then◌else◌, eqb-true, nat_tests, message_of, version_at}
+use Rattle.gb_types.specs.declared.{entry.Entry.Entry, message.MsgId.MsgId, reply.Reply.Reply, plan.Bounds.Bounds, spec.Spec.Spec, version.Version.Version, new_message.NewMessage.NewMessage, address.Addr.Addr}
 use Rattle.gb_types.specs.declared.refusal.Refusal.TheVariants.{NoGroup, Spent, NoRoom, BadMembers, OverReserve, Stopped}
-use Rattle.gb_types.specs.declared.reply.Reply.{Reply}
 use Rattle.gb_types.specs.declared.reply.Reply.TheVariants.{Done, Said, Refused}
-use Rattle.gb_types.specs.declared.plan.Bounds.{Bounds}
-use Rattle.gb_types.specs.declared.spec.Spec.{Spec}
-use Rattle.gb_types.specs.declared.version.Version.{Version}
-use Rattle.gb_types.specs.Version.{version_at}
 use Rattle.gb_types.proofs.BoolLemmas.{not_false, or_left, or_right}
-use Rattle.gb_rules.specs.History.{said_in, bytes_in}
-use Rattle.gb_rules.specs.Group.{Shown, is_gone, open_answer, shut_answer, is_too_long, say_answer, is_member, on_made}
-use Rattle.gb_rules.specs.LetFall.{is_let_fall}
-use Rattle.gb_rules.specs.Room.{can_name}
-use Rattle.gb_rules.specs.declared.room.TheConstants.{GENERATIONS}
-use Rattle.gb_rules.specs.Tenant.{is_bad, is_over, make_answer, by_tenant}
-use Rattle.gb_rules.specs.declared.phase.Phase.{Phase}
-use Rattle.gb_rules.specs.declared.reserve.Reserve.{Reserve}
-use Rattle.gb_alone.specs.Alone.{Member, held_spec, reply_to, on_group, shown_in}
+use Rattle.gb_rules.specs.Common.{said_in, bytes_in, Shown, is_gone, open_answer, shut_answer, is_too_long, say_answer, is_member, on_made, is_let_fall, can_name, is_bad, is_over, make_answer, by_tenant}
+use Rattle.gb_rules.specs.declared.{room.TheConstants.GENERATIONS, phase.Phase.Phase, reserve.Reserve.Reserve}
+use Rattle.gb_alone.specs.Common.{Member, held_spec, reply_to, on_group, shown_in}
 use Rattle.gb_alone.specs.declared.event.GroupEvent.TheVariants.{Make as AskMake, Open as AskOpen, Shut as AskShut, Say as AskSay}
 use Rattle.gb_alone.proofs.UsageLemmas.{shown_of}
-use Rattle.gb_types.specs.declared.new_message.NewMessage.{NewMessage}
 use Rattle.gb_rules.proofs.SayLemmas.{said_is}
-use Rattle.gb_types.specs.declared.address.Addr.{Addr}
 
 -- a group that is held was made and not dropped
 pub held_made : (phase : Phase) (o : Option Spec) (spec : Spec) → held_spec phase o ≡ Some spec → (is_gone phase ≡ false) × (o ≡ Some spec)

@@ -1,18 +1,11 @@
 -- Duties and agreement stated with other names for what the nodes hold.
-use Rattle.std.proofs.Common.{◌≡◌, ℕ, Bool, true, false, ◌&&◌, ◌⊎◌, inl, inr, nat_eq, List, Some, refl, sym, ap, ◌∙◌, subst}
-use Rattle.std.specs.Prelude.{All}
-use Rattle.std.proofs.lemmas.Bool.{eqb-true, not_from_false}
-use Rattle.gb_types.specs.declared.entry.Entry.{Entry}
-use Rattle.gb_types.specs.declared.message.MsgId.{MsgId}
-use Rattle.gb_types.specs.declared.spec.Spec.{Spec}
+use Rattle.gb_types.specs.Common.{◌≡◌, ℕ, Bool, true, false, ◌&&◌, ◌⊎◌, inl, inr, nat_eq, List, Some, refl, sym, ap, ◌∙◌, subst, All, eqb-true, not_from_false}
+use Rattle.gb_types.specs.declared.{entry.Entry.Entry, message.MsgId.MsgId, spec.Spec.Spec, kind.Module.Module}
 use Rattle.gb_types.proofs.BoolLemmas.{and_both, and_left, and_right}
-use Rattle.gb_types.specs.declared.kind.Module.{Module}
 use Rattle.gb_types.specs.declared.kind.Module.TheVariants.{BestEffort, Lazy, Eager, AllAck, Majority}
-use Rattle.gb_layer.specs.Numbered.{numbered}
-use Rattle.gb_rules.specs.Group.{is_gone, is_member, is_other}
-use Rattle.gb_rules.specs.Messages.{has}
-use Rattle.gb_alone.specs.Alone.{Member, is_marked}
-use Rattle.gb_alone.specs.Laws.{Accepted}
+use Rattle.gb_layer.specs.Common.{numbered}
+use Rattle.gb_rules.specs.Common.{is_gone, is_member, is_other, has}
+use Rattle.gb_alone.specs.Common.{Member, is_marked, Accepted}
 use Rattle.gb_duties.specs.Agreement.{KeepsAgreement}
 use Rattle.gb_duties.specs.Duties.{IsPutOut, Duty, KeepsDuties, noticed_at}
 use Rattle.gb_duties.proofs.NoticeLemmas.{Marked}

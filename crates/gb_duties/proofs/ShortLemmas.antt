@@ -1,18 +1,11 @@
 -- Each message that a node was told of or puts out is no longer than the version that the node sends allows.
-use Rattle.std.proofs.Common.{◌≡◌, ℕ, Bool, true, false, nat_eq, List, [], ◌∷◌, refl, sym, ◌∙◌, subst}
-use Rattle.std.specs.Prelude.{if◌then◌else◌}
-use Rattle.std.proofs.lemmas.Bool.{eqb-true}
-use Rattle.std.proofs.lemmas.List.Elements.{All-nil}
-use Rattle.gb_types.specs.Version.{version_at}
-use Rattle.gb_types.specs.declared.entry.Entry.{Entry}
-use Rattle.gb_types.specs.declared.plan.Bounds.{Bounds}
-use Rattle.gb_rules.specs.Group.{is_too_long}
-use Rattle.gb_rules.specs.History.{known}
-use Rattle.gb_alone.specs.Alone.{Group, reply_to, member_after, after, nobody, alone_from}
+use Rattle.gb_types.specs.Common.{◌≡◌, ℕ, Bool, true, false, nat_eq, List, [], ◌∷◌, refl, sym, ◌∙◌, subst, if◌then◌else◌, eqb-true, All-nil, version_at}
+use Rattle.gb_types.specs.declared.{entry.Entry.Entry, plan.Bounds.Bounds, address.Addr.Addr}
+use Rattle.gb_rules.specs.Common.{is_too_long, known}
+use Rattle.gb_alone.specs.Common.{Group, reply_to, member_after, after, nobody, alone_from}
 use Rattle.gb_alone.specs.declared.event.GroupStep.{GroupStep}
 use Rattle.gb_alone.proofs.EntryLemmas.{HoldsAt, holds_after}
 use Rattle.gb_duties.proofs.ReplyLemmas.{say_accepts}
-use Rattle.gb_types.specs.declared.address.Addr.{Addr}
 
 -- the node may say it
 abbrev pub IsShort : Bounds → ℕ → Entry → Type 0

@@ -1,40 +1,21 @@
 -- Every node keeps its invariants through every event.
-use Rattle.std.proofs.Common.{◌≡◌, ℕ, ◌-◌, Bool, true, false, ◌||◌, nat_eq, take, List, [], ◌∷◌, Option, Some, None, refl, sym, ap, ◌∙◌, subst, arith}
-use Rattle.std.specs.Prelude.{slice_get, if◌then◌else◌}
-use Rattle.std.proofs.lemmas.Bool.{eqb-true, eq-eqb}
-use Rattle.gb_types.specs.Entry.{message_of}
-use Rattle.gb_types.specs.declared.entry.Entry.{Entry}
-use Rattle.gb_types.specs.declared.message.MsgId.{MsgId}
-use Rattle.gb_types.specs.declared.node.NodeId.{NodeId}
-use Rattle.gb_types.specs.declared.plan.Bounds.{Bounds}
-use Rattle.gb_types.specs.declared.reply.Reply.{Reply}
-use Rattle.gb_types.specs.declared.reply.Reply.TheVariants.{Done, Said}
-use Rattle.gb_types.specs.declared.spec.Spec.{Spec}
-use Rattle.gb_types.specs.declared.version.Version.{Version}
-use Rattle.gb_types.specs.Version.{version_at}
+use Rattle.gb_types.specs.Common.{◌≡◌, ℕ, ◌-◌, Bool, true, false, ◌||◌, nat_eq, take, List, [], ◌∷◌, Option, Some, None, refl, sym, ap, ◌∙◌, subst, arith, slice_get, if◌then◌else◌, eqb-true, eq-eqb, message_of, version_at}
+use Rattle.gb_types.specs.declared.{entry.Entry.Entry, message.MsgId.MsgId, node.NodeId.NodeId, plan.Bounds.Bounds, reply.Reply.Reply, reply.Reply.TheVariants.Done, reply.Reply.TheVariants.Said, spec.Spec.Spec, version.Version.Version, kind.Module.Module, address.Addr.Addr}
 use Rattle.gb_types.proofs.BoolLemmas.{or_left, or_right, refuted}
-use Rattle.gb_layer.specs.Histories.{mentions_stays}
-use Rattle.gb_layer.specs.Machine.{mentions, was_said, was_noticed}
-use Rattle.gb_layer.specs.Modules.{now_broadcast}
-use Rattle.gb_types.specs.declared.kind.Module.{Module}
+use Rattle.gb_layer.specs.Common.{mentions_stays, mentions, was_said, was_noticed, now_broadcast}
 use Rattle.gb_layer.specs.declared.call.Call.{Call}
 use Rattle.gb_stack.proofs.DeliveryLemmas.{noticed_stays}
-use Rattle.gb_rules.specs.Group.{is_gone, is_member, is_other, is_too_long}
-use Rattle.gb_rules.specs.declared.phase.Phase.{Phase}
+use Rattle.gb_rules.specs.Common.{is_gone, is_member, is_other, is_too_long, call_of, calls_of, known, bytes_in, said_in, has}
+use Rattle.gb_rules.specs.declared.{phase.Phase.Phase, call.GroupCall.GroupCall}
 use Rattle.gb_rules.specs.declared.phase.Phase.TheVariants.{Opened, Shut, Gone}
 use Rattle.gb_rules.proofs.LetFallLemmas.{not_fallen}
-use Rattle.gb_rules.specs.History.{call_of, calls_of, known, bytes_in, said_in}
-use Rattle.gb_rules.specs.Messages.{has}
-use Rattle.gb_rules.specs.declared.call.GroupCall.{GroupCall}
 use Rattle.gb_rules.specs.declared.call.GroupCall.TheVariants.{Own, Other, Crashed}
-use Rattle.gb_alone.specs.Alone.{Member, Group, held_spec, reply_to, put_to, called, did, falls, item_came, taken_in, cut, took_notice, node_noticed, commanded, member_after, after, nobody, alone_from, alone}
-use Rattle.gb_alone.specs.declared.event.GroupEvent.{GroupEvent}
+use Rattle.gb_alone.specs.Common.{Member, Group, held_spec, reply_to, put_to, called, did, falls, item_came, taken_in, cut, took_notice, node_noticed, commanded, member_after, after, nobody, alone_from, alone}
+use Rattle.gb_alone.specs.declared.{event.GroupEvent.GroupEvent, event.GroupStep.GroupStep}
 use Rattle.gb_alone.specs.declared.event.GroupEvent.TheVariants.{Tenant, Make as AskMake, Open as AskOpen, Shut as AskShut, Drop as AskDrop, Say as AskSay, OtherMade, OtherDropped, Took, Came, Done as Acknowledged, Notice, Stop}
-use Rattle.gb_alone.specs.declared.event.GroupStep.{GroupStep}
 use Rattle.gb_duties.proofs.WordLemmas.{has-take, has-get, said_stays}
 use Rattle.gb_duties.proofs.ReplyLemmas.{held_made, open_accepts, shut_accepts, say_accepts, Makes, make_accepts, fair_item}
 use Rattle.gb_duties.proofs.InvariantLemmas.{Fits, FitsAt, Later, fits_later, Brings, fits_called}
-use Rattle.gb_types.specs.declared.address.Addr.{Addr}
 
 -- the calls of each node
 abbrev pub calls_in : Group → ℕ → List Call

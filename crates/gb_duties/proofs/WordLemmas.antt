@@ -1,21 +1,12 @@
 -- Messages in lists of entries and in histories.
-use Rattle.std.proofs.Common.{◌≡◌, ℕ, zero, suc, ◌<◌, Bool, true, false, cond, not, ◌&&◌, ◌||◌, ◌⊎◌, inl, inr, nat_eq, take, List, [], ◌∷◌, ◌++◌, length, Some, refl, sym, ap, ◌∙◌, arith}
-use Rattle.std.specs.Prelude.{slice_get, map, filter}
-use Rattle.std.proofs.lemmas.Bool.{eq-eqb}
-use Rattle.std.proofs.Math.Bool.{and-true, and-false, or_assoc}
-use Rattle.gb_types.specs.Entry.{message_of}
-use Rattle.gb_types.specs.Message.{same}
-use Rattle.gb_types.specs.declared.entry.Entry.{Entry}
-use Rattle.gb_types.specs.declared.message.MsgId.{MsgId}
+use Rattle.gb_types.specs.Common.{◌≡◌, ℕ, zero, suc, ◌<◌, Bool, true, false, cond, not, ◌&&◌, ◌||◌, ◌⊎◌, inl, inr, nat_eq, take, List, [], ◌∷◌, ◌++◌, length, Some, refl, sym, ap, ◌∙◌, arith, slice_get, map, filter, eq-eqb, and-true, and-false, or_assoc, message_of, same}
+use Rattle.gb_types.specs.declared.{entry.Entry.Entry, message.MsgId.MsgId}
 use Rattle.gb_types.proofs.SameLemmas.{same-true, same_itself}
 use Rattle.gb_types.proofs.BoolLemmas.{or_cases, or_second}
-use Rattle.gb_layer.specs.FirstMentionLemmas.{first_mentions-any}
-use Rattle.gb_layer.specs.Machine.{mentions, was_said, came_from}
-use Rattle.gb_layer.specs.Modules.{first_mentions, newly}
+use Rattle.gb_layer.specs.Common.{first_mentions-any, mentions, was_said, came_from, first_mentions, newly, is_in}
 use Rattle.gb_layer.specs.declared.call.Call.{Call}
 use Rattle.gb_layer.specs.declared.call.Call.TheVariants.{Say, Came, Notice}
-use Rattle.gb_layer.specs.Numbered.{is_in}
-use Rattle.gb_rules.specs.Messages.{has, entry_in}
+use Rattle.gb_rules.specs.Common.{has, entry_in}
 
 -- Lists.
 

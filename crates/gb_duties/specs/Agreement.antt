@@ -2,25 +2,13 @@
 -- Validity (Module 3.1), Agreement (Module 3.2, RB4) and Uniform Agreement (Module 3.3, URB4). There they say that a message is delivered eventually. Here they
 -- are safety: they say what the logs are if the group is settled, not that it ever settles.
 use Rattle.std.specs.Prelude.{ℕ, ◌≡◌, ◌≢◌, ◌≤◌, ◌<◌, Bool, true, false, List, [], ◌++◌, All, length, Some}
-use Rattle.gb_types.specs.declared.entry.Entry.{Entry}
-use Rattle.gb_types.specs.declared.message.MsgId.{MsgId}
-use Rattle.gb_types.specs.declared.node.NodeId.{NodeId}
-use Rattle.gb_types.specs.declared.plan.Bounds.{Bounds}
-use Rattle.gb_types.specs.declared.spec.Spec.{Spec}
-use Rattle.gb_types.specs.declared.version.Version.{Version}
-use Rattle.gb_types.specs.Version.{version_at}
-use Rattle.gb_types.specs.Places.{has_majority}
-use Rattle.gb_layer.specs.Machine.{was_noticed}
-use Rattle.gb_types.specs.declared.kind.Module.{Module}
+use Rattle.gb_types.specs.declared.{entry.Entry.Entry, message.MsgId.MsgId, node.NodeId.NodeId, plan.Bounds.Bounds, spec.Spec.Spec, version.Version.Version, kind.Module.Module, address.Addr.Addr}
+use Rattle.gb_types.specs.Common.{version_at, has_majority}
+use Rattle.gb_layer.specs.Common.{was_noticed, numbered}
 use Rattle.gb_types.specs.declared.kind.Module.TheVariants.{BestEffort, Lazy, Eager, AllAck, Majority}
-use Rattle.gb_layer.specs.Numbered.{numbered}
-use Rattle.gb_rules.specs.Group.{is_gone, is_member}
-use Rattle.gb_rules.specs.History.{calls_of}
-use Rattle.gb_rules.specs.Messages.{has}
-use Rattle.gb_alone.specs.Alone.{Group, alone, is_marked, IsLegal}
-use Rattle.gb_alone.specs.Laws.{Accepted, accepted, log_of_member}
+use Rattle.gb_rules.specs.Common.{is_gone, is_member, calls_of, has}
+use Rattle.gb_alone.specs.Common.{Group, alone, is_marked, IsLegal, Accepted, accepted, log_of_member}
 use Rattle.gb_alone.specs.declared.event.GroupStep.{GroupStep}
-use Rattle.gb_types.specs.declared.address.Addr.{Addr}
 
 -- a member that runs; `runs` says which nodes run, and the others have stopped
 abbrev pub IsRunning : (ℕ → Bool) → Spec → ℕ → Type 0

@@ -3,23 +3,13 @@
 -- each holds after every event, and none says that something will happen.
 use Rattle.std.specs.Prelude.{ℕ, ◌≡◌, ◌⊎◌, Bool, true, false, List, Some}
 use Rattle.std.specs.FinSet as set
-use Rattle.gb_types.specs.declared.entry.Entry.{Entry}
-use Rattle.gb_types.specs.declared.message.MsgId.{MsgId}
-use Rattle.gb_types.specs.declared.plan.Bounds.{Bounds}
-use Rattle.gb_types.specs.declared.spec.Spec.{Spec}
-use Rattle.gb_types.specs.Places.{has_majority}
-use Rattle.gb_layer.specs.Machine.{mentions, was_noticed}
-use Rattle.gb_layer.specs.Modules.{log}
-use Rattle.gb_types.specs.declared.kind.Module.{Module}
+use Rattle.gb_types.specs.declared.{entry.Entry.Entry, message.MsgId.MsgId, plan.Bounds.Bounds, spec.Spec.Spec, kind.Module.Module, address.Addr.Addr}
+use Rattle.gb_types.specs.Common.{has_majority}
+use Rattle.gb_layer.specs.Common.{mentions, was_noticed, log, is_in}
 use Rattle.gb_types.specs.declared.kind.Module.TheVariants.{BestEffort, Lazy, Eager, AllAck, Majority}
-use Rattle.gb_layer.specs.Numbered.{is_in}
-use Rattle.gb_rules.specs.Group.{is_gone, is_member, is_other}
-use Rattle.gb_rules.specs.History.{calls_of}
-use Rattle.gb_rules.specs.Messages.{has}
-use Rattle.gb_alone.specs.Alone.{Member, Group, alone, held_spec, IsLegal}
-use Rattle.gb_alone.specs.Laws.{log_of_member}
+use Rattle.gb_rules.specs.Common.{is_gone, is_member, is_other, calls_of, has}
+use Rattle.gb_alone.specs.Common.{Member, Group, alone, held_spec, IsLegal, log_of_member}
 use Rattle.gb_alone.specs.declared.event.GroupStep.{GroupStep}
-use Rattle.gb_types.specs.declared.address.Addr.{Addr}
 
 -- the node c is noticed, or the message stands among the items put out to it
 abbrev pub IsPutOut : (ℕ → Bool) → (ℕ → List Entry) → ℕ → MsgId → Type 0

@@ -3,21 +3,10 @@ use Rattle.std.specs.Prelude.{ℕ, Bool, not, nat_eq, List, [], ◌∷◌, ◌++
 use Rattle.std.specs.Ordering.{nat_cmp}
 use Rattle.std.specs.FinSet as set
 use Rattle.std.proofs.Common.{lit<}
-use Rattle.gb_types.specs.declared.entry.Entry.{Entry}
-use Rattle.gb_types.specs.declared.kind.Kind.{Kind}
-use Rattle.gb_types.specs.declared.kind.Module.{Module}
-use Rattle.gb_types.specs.declared.kind.Order.TheVariants.{Any, Fifo}
-use Rattle.gb_types.specs.declared.node.NodeId.{NodeId}
-use Rattle.gb_types.specs.declared.plan.Bounds.{Bounds}
-use Rattle.gb_types.specs.declared.spec.Spec.{Spec}
-use Rattle.gb_types.specs.declared.version.Version.TheVariants.{One}
-use Rattle.gb_alone.specs.Alone.{alone}
-use Rattle.gb_alone.specs.Laws.{log_of_member}
-use Rattle.gb_alone.specs.declared.event.GroupEvent.{GroupEvent}
+use Rattle.gb_types.specs.declared.{entry.Entry.Entry, kind.Kind.Kind, kind.Module.Module, kind.Order.TheVariants.Any, kind.Order.TheVariants.Fifo, node.NodeId.NodeId, plan.Bounds.Bounds, spec.Spec.Spec, version.Version.TheVariants.One, new_message.NewMessage.NewMessage, address.Addr.Addr}
+use Rattle.gb_alone.specs.Common.{alone, log_of_member}
+use Rattle.gb_alone.specs.declared.{event.GroupEvent.GroupEvent, event.GroupStep.GroupStep}
 use Rattle.gb_alone.specs.declared.event.GroupEvent.TheVariants.{Tenant, Make, Open, Drop, Say, Took, Came, Notice, Stop}
-use Rattle.gb_alone.specs.declared.event.GroupStep.{GroupStep}
-use Rattle.gb_types.specs.declared.new_message.NewMessage.{NewMessage}
-use Rattle.gb_types.specs.declared.address.Addr.{Addr}
 
 abbrev pub first : NodeId
 first = record { number = 0; below = lit< tt }

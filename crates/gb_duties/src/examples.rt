@@ -1,11 +1,10 @@
 //! Worked examples of duties and of agreement in a group by itself, as laws that the prover computes; there is nothing to run. The group
 //! has the members 0, 1 and 2, and node 0 says one message. That a node holds another for crashed is called a notice.
 ghost use Rattle.std.specs.Prelude.{◌≡◌, false, ◌++◌, [], ◌∷◌};
-ghost use Rattle.gb_types.specs.Entry.{message_of};
-ghost use Rattle.gb_types.specs.Places.{has_majority};
+ghost use Rattle.gb_types.specs.Common.{message_of, has_majority};
 ghost use Rattle.gb_types.specs.declared.kind.Module.TheVariants.{BestEffort, Lazy, Eager, AllAck, Majority};
-ghost use Rattle.gb_rules.specs.Group.{is_member};
-ghost use Rattle.gb_alone.specs.Alone.{alone, IsLegal};
+ghost use Rattle.gb_rules.specs.Common.{is_member};
+ghost use Rattle.gb_alone.specs.Common.{alone, IsLegal};
 ghost use Rattle.gb_alone.specs.declared.event.GroupEvent.TheVariants.{Notice};
 ghost use Rattle.gb_duties.specs.Agreement.{AreEnough, IsSettled};
 ghost use Rattle.gb_duties.specs.Duties.{HasHad, noticed_at};

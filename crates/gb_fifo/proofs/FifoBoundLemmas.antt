@@ -1,12 +1,9 @@
 -- The greatest number of pairs of one call of a fifo.
-use Rattle.std.proofs.Common.{◌≡◌, ℕ, ◌+◌, ◌≤◌, Bool, true, false, cond, not, List, [], ◌∷◌, ◌++◌, length, map, count_by, refl, ap, arith, zero, suc, length-append}
-use Rattle.std.specs.List.{list_any}
-use Rattle.std.proofs.lemmas.List.Sums.{count_by-le-length}
+use Rattle.gb_types.specs.Common.{◌≡◌, ℕ, ◌+◌, ◌≤◌, Bool, true, false, cond, not, List, [], ◌∷◌, ◌++◌, length, map, count_by, refl, ap, arith, zero, suc, length-append, list_any, count_by-le-length}
 use Rattle.gb_types.specs.declared.message.MsgId.{MsgId}
-use Rattle.gb_layer.specs.declared.effects.Up.{Up}
-use Rattle.gb_layer.specs.declared.call.Call.{Call}
+use Rattle.gb_layer.specs.declared.{effects.Up.Up, call.Call.Call}
 use Rattle.gb_layer.specs.declared.call.Call.TheVariants.{Say, Came, Notice}
-use Rattle.gb_layer.specs.Counts.{count_by-cons, count_by-map}
+use Rattle.gb_layer.specs.Common.{count_by-cons, count_by-map}
 use Rattle.gb_layer.proofs.BoundLemmas.{length-added}
 use Rattle.gb_fifo.specs.declared.entry.Entry.{Entry}
 use Rattle.gb_fifo.specs.Entries.{is_for, blank, noted_by, brought, given_entry, is_ungiven, up_of, next_of, given_of, give, pick, released, released_ups, taken_one, taken_one_ups, taken, taken_ups}

@@ -1,10 +1,8 @@
 -- What a fifo knows after each step.
-use Rattle.std.proofs.Common.{◌≡◌, ℕ, ◌≤◌, ◌<◌, nat_eq, List, slice_index, ap, sym, ◌∙◌}
-use Rattle.std.proofs.Math.Bool.{and-false}
-use Rattle.gb_layer.specs.declared.call.Call.{Call}
-use Rattle.gb_layer.specs.declared.placed_call.PlacedCall.{PlacedCall}
+use Rattle.gb_types.specs.Common.{◌≡◌, ℕ, ◌≤◌, ◌<◌, nat_eq, List, slice_index, ap, sym, ◌∙◌, and-false}
+use Rattle.gb_layer.specs.declared.{call.Call.Call, placed_call.PlacedCall.PlacedCall}
 use Rattle.gb_layer.specs.declared.placed_call.PlacedCall.TheVariants.{Say, Came, Notice}
-use Rattle.gb_layer.specs.PlacedCalls.{Names, IsNext, told_after}
+use Rattle.gb_layer.specs.Common.{Names, IsNext, told_after}
 use Rattle.gb_layer.proofs.KnowsLemmas.{reached_most}
 use Rattle.gb_fifo.specs.declared.entry.Entry.{Entry}
 use Rattle.gb_fifo.specs.Entries.{is_given_of, given_of, noted_by}

@@ -1,26 +1,11 @@
 -- A fifo hands up, in order, the messages that the layer below brings up.
-use Rattle.std.proofs.Common.{◌≡◌, ℕ, ◌+◌, ◌<◌, ◌≤◌, Bool, true, false, cond, not, ◌&&◌, ◌||◌, nat_eq, nat_lt, List, [], ◌∷◌, ◌++◌, length, map, filter, count_by, drop, refl, ap, ◌∙◌, sym, arith, subst, zero, suc, append_assoc}
-use Rattle.std.specs.List.{list_any, AllByRecursion}
-use Rattle.std.proofs.Math.Bool.{or-true, and-false}
-use Rattle.std.proofs.lemmas.Bool.{eqb-true, eq-eqb}
-use Rattle.std.proofs.lemmas.Bool.Decides.{nat_tests}
-use Rattle.std.proofs.lemmas.List.{append-nil}
-use Rattle.std.proofs.lemmas.List.Sums.{count_by-le-length}
-use Rattle.gb_types.specs.declared.node.NodeId.{NodeId}
-use Rattle.gb_types.specs.declared.message.MsgId.{MsgId}
-use Rattle.gb_types.specs.Message.{same}
+use Rattle.gb_types.specs.Common.{◌≡◌, ℕ, ◌+◌, ◌<◌, ◌≤◌, Bool, true, false, cond, not, ◌&&◌, ◌||◌, nat_eq, nat_lt, List, [], ◌∷◌, ◌++◌, length, map, filter, count_by, drop, refl, ap, ◌∙◌, sym, arith, subst, zero, suc, append_assoc, list_any, AllByRecursion, or-true, and-false, eqb-true, eq-eqb, nat_tests, append-nil, count_by-le-length, same}
+use Rattle.gb_types.specs.declared.{node.NodeId.NodeId, message.MsgId.MsgId}
 use Rattle.gb_types.proofs.SameLemmas.{same_itself, same_number}
 use Rattle.gb_types.proofs.BoolLemmas.{and_left, and_right, refuted}
-use Rattle.gb_layer.specs.declared.effects.Up.{Up}
-use Rattle.gb_layer.specs.declared.call.Call.{Call}
+use Rattle.gb_layer.specs.declared.{effects.Up.Up, call.Call.Call}
 use Rattle.gb_layer.specs.declared.call.Call.TheVariants.{Say, Came, Notice}
-use Rattle.gb_layer.specs.Machine.{Gives, after, all_ups, mentions, is_of, messages}
-use Rattle.gb_layer.specs.Modules.{first_mentions}
-use Rattle.gb_layer.specs.Laws.{HandsUpWhatWasHandedIn}
-use Rattle.gb_layer.specs.Counts.{count_by-cons, count_by-append, count_by-map, count_by-grown}
-use Rattle.gb_layer.specs.EntryListLemmas.{any_keys, has_mentioned, any_marked}
-use Rattle.gb_layer.specs.Lists.{all_append, any_weaker, any_push}
-use Rattle.gb_layer.specs.Numbered.{is_in, numbered}
+use Rattle.gb_layer.specs.Common.{Gives, after, all_ups, mentions, is_of, messages, first_mentions, HandsUpWhatWasHandedIn, count_by-cons, count_by-append, count_by-map, count_by-grown, any_keys, has_mentioned, any_marked, all_append, any_weaker, any_push, is_in, numbered}
 use Rattle.gb_fifo.specs.declared.entry.Entry.{Entry}
 use Rattle.gb_fifo.specs.Entries.{is_for, blank, noted, noted_by, brought, brought_entry, given_entry, up_of, is_ungiven, is_next, next_of, is_given_of, given_of, pick, give, released, released_ups, taken_one, taken_one_ups, taken, taken_ups}
 use Rattle.gb_fifo.specs.EntryLemmas.{keys, keys_taken_one, keys_noted_by, brought_same, next_new}

@@ -1,16 +1,8 @@
 -- The order of any list of messages: exactly the messages of each origin from 1 to its top, each once.
-use Rattle.std.proofs.Common.{◌≡◌, ℕ, ◌+◌, ◌-◌, ◌<◌, ◌≤◌, Bool, true, false, cond, ◌&&◌, ◌||◌, nat_eq, List, [], ◌∷◌, ◌++◌, length, map, filter, drop, refl, ap, ◌∙◌, sym, arith, zero, suc, inl, inr, append_assoc, subst}
-use Rattle.std.specs.List.{range_with_len, AllByRecursion}
-use Rattle.std.proofs.lemmas.Bool.{eqb-true, cases_lt}
-use Rattle.std.proofs.lemmas.Bool.Decides.{nat_tests}
-use Rattle.std.proofs.lemmas.List.{append-nil, drop-append-le}
-use Rattle.std.proofs.lemmas.List.Folds.{list_any-append}
-use Rattle.gb_types.specs.declared.limits.TheConstants.{NODES}
-use Rattle.gb_types.specs.declared.node.NodeId.{NodeId}
-use Rattle.gb_types.specs.declared.message.MsgId.{MsgId}
-use Rattle.gb_types.specs.Message.{same}
+use Rattle.gb_types.specs.Common.{◌≡◌, ℕ, ◌+◌, ◌-◌, ◌<◌, ◌≤◌, Bool, true, false, cond, ◌&&◌, ◌||◌, nat_eq, List, [], ◌∷◌, ◌++◌, length, map, filter, drop, refl, ap, ◌∙◌, sym, arith, zero, suc, inl, inr, append_assoc, subst, range_with_len, AllByRecursion, eqb-true, cases_lt, nat_tests, append-nil, drop-append-le, list_any-append, same}
+use Rattle.gb_types.specs.declared.{limits.TheConstants.NODES, node.NodeId.NodeId, message.MsgId.MsgId}
 use Rattle.gb_types.proofs.SameLemmas.{same_number}
-use Rattle.gb_layer.specs.Numbered.{numbered, is_in}
+use Rattle.gb_layer.specs.Common.{numbered, is_in}
 use Rattle.gb_fifo.specs.Order.{upto, top, given_at, ordered_after, in_order, numbers_of, RunsFromOne}
 use Rattle.gb_fifo.specs.OrderLaws.{AllIn, NoneTwice}
 use Rattle.gb_fifo.proofs.NumberLemmas.{numbers-append}

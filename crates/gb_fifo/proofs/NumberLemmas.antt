@@ -1,16 +1,9 @@
 -- A fifo hands up each origin's messages as 1, 2, 3, ..
-use Rattle.std.proofs.Common.{◌≡◌, ℕ, ◌+◌, Bool, true, false, cond, not, ◌&&◌, ◌||◌, nat_eq, List, [], ◌∷◌, ◌++◌, length, map, filter, refl, ap, ◌∙◌, sym, arith, zero, suc, append_assoc}
-use Rattle.std.specs.List.{list_any}
-use Rattle.std.proofs.Math.Bool.{and-true, and-false}
-use Rattle.std.proofs.lemmas.Bool.{eqb-true}
-use Rattle.std.proofs.lemmas.List.{append-nil, map-append}
-use Rattle.std.proofs.lemmas.List.Elements.{filter-append}
+use Rattle.gb_types.specs.Common.{◌≡◌, ℕ, ◌+◌, Bool, true, false, cond, not, ◌&&◌, ◌||◌, nat_eq, List, [], ◌∷◌, ◌++◌, length, map, filter, refl, ap, ◌∙◌, sym, arith, zero, suc, append_assoc, list_any, and-true, and-false, eqb-true, append-nil, map-append, filter-append}
 use Rattle.gb_types.specs.declared.message.MsgId.{MsgId}
 use Rattle.gb_types.proofs.BoolLemmas.{and_left, and_right}
-use Rattle.gb_layer.specs.declared.effects.Up.{Up}
-use Rattle.gb_layer.specs.declared.call.Call.{Call}
-use Rattle.gb_layer.specs.Machine.{Gives, after, all_ups, messages}
-use Rattle.gb_layer.specs.Counts.{count_by-cons, count_by-map}
+use Rattle.gb_layer.specs.declared.{effects.Up.Up, call.Call.Call}
+use Rattle.gb_layer.specs.Common.{Gives, after, all_ups, messages, count_by-cons, count_by-map}
 use Rattle.gb_fifo.specs.declared.entry.Entry.{Entry}
 use Rattle.gb_fifo.specs.Entries.{noted_by, brought, given_entry, up_of, is_next, next_of, is_given_of, given_of, pick, give, released, released_ups, taken_one, taken_one_ups, taken, taken_ups}
 use Rattle.gb_fifo.specs.EntryLemmas.{brought_same, count_noted_by, next_new}

@@ -1,16 +1,9 @@
 -- The words of the order: numbers from 1 on, and the greatest number that stands without a gap.
-use Rattle.std.proofs.Common.{◌≡◌, ℕ, max, ◌+◌, ◌<◌, ◌≤◌, Bool, true, false, cond, ◌||◌, nat_lt, List, [], ◌∷◌, ◌++◌, length, map, take, drop, get_or, ◌-◌, refl, ap, ◌∙◌, arith, zero, suc, append_assoc, add-one, sym}
-use Rattle.std.specs.List.{prefix_len, range_with_len}
-use Rattle.std.proofs.Math.Seq.{drop-append_seam}
-use Rattle.std.proofs.lemmas.Bool.Decides.{nat_tests}
-use Rattle.std.proofs.lemmas.List.{append-nil, drop_all, drop-append-le, map-append, take_more}
+use Rattle.gb_types.specs.Common.{◌≡◌, ℕ, max, ◌+◌, ◌<◌, ◌≤◌, Bool, true, false, cond, ◌||◌, nat_lt, List, [], ◌∷◌, ◌++◌, length, map, take, drop, get_or, ◌-◌, refl, ap, ◌∙◌, arith, zero, suc, append_assoc, add-one, sym, prefix_len, range_with_len, drop-append_seam, nat_tests, append-nil, drop_all, drop-append-le, map-append, take_more, prefix_len-le-length, prefix_len_passes, prefix_len_stops, same}
 use Rattle.std.proofs.lemmas.List.FromFn.{length-range_with_len, get_or-range_with_len}
-use Rattle.std.proofs.lemmas.List.Sums.{prefix_len-le-length, prefix_len_passes, prefix_len_stops}
-use Rattle.gb_types.specs.declared.node.NodeId.{NodeId}
-use Rattle.gb_types.specs.declared.message.MsgId.{MsgId}
-use Rattle.gb_types.specs.Message.{same}
+use Rattle.gb_types.specs.declared.{node.NodeId.NodeId, message.MsgId.MsgId}
 use Rattle.gb_types.proofs.SameLemmas.{same-true}
-use Rattle.gb_layer.specs.Numbered.{is_in, numbered}
+use Rattle.gb_layer.specs.Common.{is_in, numbered}
 use Rattle.gb_fifo.specs.Order.{upto, greatest, top, given_at, ordered_after, in_order}
 
 range_more : (a n : ℕ) → range_with_len a n ++ (a + n) ∷ [] ≡ range_with_len a (suc n)

@@ -1,17 +1,9 @@
 -- The first entry that passes a test is handed up, and the next message of an origin again and again.
-use Rattle.std.proofs.Common.{◌≡◌, ℕ, ◌+◌, ◌-◌, ◌<◌, ◌&&◌, nat_eq, slice_index, ◌≢◌, Bool, true, false, cond, not, List, [], ◌∷◌, ◌++◌, take, set, get_or, length, refl, ap, sym, ◌∙◌, arith, zero, suc, append_assoc}
-use Rattle.std.specs.declared.option.Option.TheVariants.{Some}
-use Rattle.std.specs.List.{list_any}
-use Rattle.std.proofs.Math.Bool.{and-true, and-false}
-use Rattle.std.proofs.lemmas.Bool.{eqb-true, eq-eqb}
-use Rattle.std.proofs.lemmas.List.{get_or-set_other}
-use Rattle.std.proofs.lemmas.Grind.{get_or-set_at}
+use Rattle.gb_types.specs.Common.{◌≡◌, ℕ, ◌+◌, ◌-◌, ◌<◌, ◌&&◌, nat_eq, slice_index, ◌≢◌, Bool, true, false, cond, not, List, [], ◌∷◌, ◌++◌, take, set, get_or, length, refl, ap, sym, ◌∙◌, arith, zero, suc, append_assoc, Some, list_any, and-true, and-false, eqb-true, eq-eqb, get_or-set_other, get_or-set_at, list_any_at, slice_get-get_or}
 use Rattle.gb_types.specs.declared.limits.TheConstants.{NODES}
-use Rattle.std.proofs.lemmas.List.Folds.{list_any_at}
-use Rattle.std.proofs.lemmas.Option.{slice_get-get_or}
 use Rattle.gb_types.proofs.BoolLemmas.{and_left, and_right, or_left, or_right}
 use Rattle.gb_layer.specs.declared.effects.Up.{Up}
-use Rattle.gb_layer.specs.Counts.{count_by-cons, count_by-set}
+use Rattle.gb_layer.specs.Common.{count_by-cons, count_by-set}
 use Rattle.gb_fifo.specs.declared.entry.Entry.{Entry}
 use Rattle.gb_fifo.specs.Entries.{is_given_of, given_of, give, pick, given_entry, up_of, is_next, IsPlace, released, released_ups, next_of}
 use Rattle.gb_fifo.specs.EntryLemmas.{next_new}

@@ -1,11 +1,8 @@
 -- The next messages of an origin are handed up to a sink, one after the other.
-use Rattle.std.proofs.Common.{◌≡◌, ℕ, ◌+◌, ◌-◌, ◌<◌, false, List, [], ◌++◌, fold, refl, ap, sym, ◌∙◌, subst, append_assoc}
-use Rattle.std.specs.List.{list_any}
-use Rattle.std.proofs.lemmas.List.Sums.{fold-append}
+use Rattle.gb_types.specs.Common.{◌≡◌, ℕ, ◌+◌, ◌-◌, ◌<◌, false, List, [], ◌++◌, fold, refl, ap, sym, ◌∙◌, subst, append_assoc, list_any, fold-append}
 use Rattle.gb_types.specs.declared.message.MsgId.{MsgId}
 use Rattle.gb_layer.specs.declared.effects.Up.{Up}
-use Rattle.gb_layer.specs.Machine.{Gives}
-use Rattle.gb_layer.specs.Sinks.{ups_alone, SplitsRoom}
+use Rattle.gb_layer.specs.Common.{Gives, ups_alone, SplitsRoom}
 use Rattle.gb_fifo.specs.declared.entry.Entry.{Entry}
 use Rattle.gb_fifo.specs.Entries.{next_of, give, pick, released_ups}
 use Rattle.gb_fifo.proofs.PlacedLemmas.{released_ups_more, released_ups_done}

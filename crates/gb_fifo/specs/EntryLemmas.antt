@@ -3,15 +3,10 @@ use Rattle.std.proofs.Common.{◌≡◌, ℕ, ◌+◌, Bool, true, false, cond, 
 use Rattle.std.specs.List.{list_any, AllByRecursion}
 use Rattle.std.proofs.Math.Bool.{and-true, and-false}
 use Rattle.gb_types.specs.declared.message.MsgId.{MsgId}
-use Rattle.gb_types.specs.Message.{same}
-use Rattle.gb_layer.specs.declared.effects.Up.{Up}
-use Rattle.gb_layer.specs.declared.call.Call.{Call}
+use Rattle.gb_types.specs.Common.{same}
+use Rattle.gb_layer.specs.declared.{effects.Up.Up, call.Call.Call}
 use Rattle.gb_layer.specs.declared.call.Call.TheVariants.{Say, Came, Notice}
-use Rattle.gb_layer.specs.Machine.{is_of}
-use Rattle.gb_layer.specs.Modules.{first_mentions}
-use Rattle.gb_layer.specs.EntryListLemmas.{keys_noted}
-use Rattle.gb_layer.specs.Lists.{all_append, map_same}
-use Rattle.gb_layer.specs.Counts.{count_by-cons, count_by-append, count_by-map, count_by-grown}
+use Rattle.gb_layer.specs.Common.{is_of, first_mentions, keys_noted, all_append, map_same, count_by-cons, count_by-append, count_by-map, count_by-grown}
 use Rattle.gb_fifo.specs.declared.entry.Entry.{Entry}
 use Rattle.gb_fifo.specs.Entries.{is_for, blank, noted_by, brought, brought_entry, given_entry, up_of, is_next, next_of, given_of, pick, give, released, released_ups, taken_one, taken_one_ups, taken, taken_ups}
 

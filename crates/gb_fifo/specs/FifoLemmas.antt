@@ -1,16 +1,10 @@
 -- The laws of a fifo, from those of the layer below, which takes the same calls.
 use Rattle.std.proofs.Common.{◌≡◌, ℕ, ◌+◌, ◌≤◌, cond, List, [], ◌∷◌, ◌++◌, count_by, refl, ap, ◌∙◌, sym, arith, subst}
 use Rattle.std.proofs.Math.Bool.{and-false}
-use Rattle.gb_types.specs.declared.node.NodeId.{NodeId}
-use Rattle.gb_types.specs.declared.message.MsgId.{MsgId}
-use Rattle.gb_types.specs.Message.{same}
-use Rattle.gb_layer.specs.declared.call.Call.{Call}
-use Rattle.gb_layer.specs.declared.call.Call.TheVariants.{Notice}
-use Rattle.gb_layer.specs.Machine.{Gives, nothing, after, all_sends, all_ups, mentions, count_sends, is_of}
-use Rattle.gb_layer.specs.Modules.{first_mentions}
-use Rattle.gb_layer.specs.Counts.{cond_most, count_by-append, count_by-is_up}
-use Rattle.gb_layer.specs.EntryListLemmas.{mark_count}
-use Rattle.gb_layer.specs.Laws.{StaysAtItsNode, ComesFromItsOrigin, SendsWhatWasHandedIn, HandsUpWhatWasHandedIn, HandsUpOnce, SendsOnce, NoticesOnce}
+use Rattle.gb_types.specs.declared.{node.NodeId.NodeId, message.MsgId.MsgId}
+use Rattle.gb_types.specs.Common.{same}
+use Rattle.gb_layer.specs.declared.{call.Call.Call, call.Call.TheVariants.Notice}
+use Rattle.gb_layer.specs.Common.{Gives, nothing, after, all_sends, all_ups, mentions, count_sends, is_of, first_mentions, cond_most, count_by-append, count_by-is_up, mark_count, StaysAtItsNode, ComesFromItsOrigin, SendsWhatWasHandedIn, HandsUpWhatWasHandedIn, HandsUpOnce, SendsOnce, NoticesOnce}
 use Rattle.gb_fifo.specs.Entries.{noted_by, taken, taken_ups}
 use Rattle.gb_fifo.specs.EntryLemmas.{keys, keys_taken, keys_noted_by, given_for, count_noted_by, given_taken, own_taken}
 use Rattle.gb_fifo.specs.FifoMachine.{FifoState, IsNew, fifo_next, fifo_gives}

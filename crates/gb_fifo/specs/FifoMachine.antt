@@ -1,7 +1,7 @@
 -- The steps of a fifo, over any layer.
 use Rattle.std.specs.Prelude.{◌≡◌, List, []}
 use Rattle.gb_layer.specs.declared.call.Call.{Call}
-use Rattle.gb_layer.specs.Machine.{Gives}
+use Rattle.gb_layer.specs.Common.{Gives}
 use Rattle.gb_fifo.specs.declared.entry.Entry.{Entry}
 use Rattle.gb_fifo.specs.Entries.{noted_by, taken, taken_ups}
 

@@ -1,7 +1,7 @@
 -- The state of a fifo over sinks, and what it knows.
 use Rattle.std.proofs.Common.{◌≡◌, ℕ, ◌≤◌, List, ◌++◌, length, vec_capacity, length-append, subst, sym, arith}
 use Rattle.gb_types.specs.declared.message.MsgId.{MsgId}
-use Rattle.gb_layer.specs.PairedLemmas.{paired_grows}
+use Rattle.gb_layer.specs.Common.{paired_grows}
 use Rattle.gb_fifo.specs.FifoMachine.{FifoState}
 use Rattle.gb_fifo.specs.declared.fifo.Fifo.{Fifo}
 use Rattle.gb_fifo.specs.Marks.{entry_of, marked, AreCounted}

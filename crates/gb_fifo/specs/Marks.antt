@@ -1,11 +1,9 @@
 -- The marks of a fifo: what it remembers of the message at each place.
 use Rattle.std.specs.Prelude.{◌≡◌, ℕ, ◌<◌, Bool, true, false, List, slice_index}
-use Rattle.gb_types.specs.declared.limits.TheConstants.{NODES}
-use Rattle.gb_types.specs.declared.message.MsgId.{MsgId}
-use Rattle.gb_layer.specs.Paired.{paired}
-use Rattle.gb_fifo.specs.declared.entry.Entry.{Entry}
+use Rattle.gb_types.specs.declared.{limits.TheConstants.NODES, message.MsgId.MsgId}
+use Rattle.gb_layer.specs.Common.{paired}
+use Rattle.gb_fifo.specs.declared.{entry.Entry.Entry, marks.Mark.Mark}
 use Rattle.gb_fifo.specs.Entries.{given_of}
-use Rattle.gb_fifo.specs.declared.marks.Mark.{Mark}
 use Rattle.gb_fifo.specs.declared.marks.Mark.TheVariants.{Missing, Waiting, Delivered}
 
 -- the message came up from the layer below

@@ -1,9 +1,8 @@
 -- The order of each origin's messages: first in, first out (Hadzilacos, Toueg 1994; Cachin, Guerraoui, Rodrigues 2011, Broadcast with Sequence Number).
 use Rattle.std.specs.Prelude.{◌≡◌, ℕ, max, nat_eq, List, [], ◌∷◌, ◌++◌, map, filter, drop, length}
 use Rattle.std.specs.List.{prefix_len, range_with_len}
-use Rattle.gb_types.specs.declared.node.NodeId.{NodeId}
-use Rattle.gb_types.specs.declared.message.MsgId.{MsgId}
-use Rattle.gb_layer.specs.Numbered.{is_in, numbered}
+use Rattle.gb_types.specs.declared.{node.NodeId.NodeId, message.MsgId.MsgId}
+use Rattle.gb_layer.specs.Common.{is_in, numbered}
 
 -- the numbers 1 to n
 abbrev pub upto : ℕ → List ℕ

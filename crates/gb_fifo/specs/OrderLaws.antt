@@ -2,8 +2,8 @@
 use Rattle.std.specs.Prelude.{◌≡◌, ◌≤◌, true, List, filter, length}
 use Rattle.std.specs.List.{AllByRecursion}
 use Rattle.gb_types.specs.declared.message.MsgId.{MsgId}
-use Rattle.gb_types.specs.Message.{same}
-use Rattle.gb_layer.specs.Numbered.{is_in}
+use Rattle.gb_types.specs.Common.{same}
+use Rattle.gb_layer.specs.Common.{is_in}
 
 -- each of the messages is in the list of the delivered messages
 abbrev pub AllIn : List MsgId → List MsgId → Type 0

@@ -4,14 +4,11 @@ use Rattle.std.proofs.lemmas.Bool.{eqb-true, eq-eqb, le-ltb, ltb-false}
 use Rattle.std.proofs.lemmas.List.{append-nil}
 use Rattle.std.proofs.lemmas.List.Sums.{fold-append}
 use Rattle.gb_types.proofs.BoolLemmas.{and_left, and_right, and_both, not_true}
-use Rattle.gb_types.specs.declared.limits.TheConstants.{NODES}
-use Rattle.gb_types.specs.declared.message.MsgId.{MsgId}
+use Rattle.gb_types.specs.declared.{limits.TheConstants.NODES, message.MsgId.MsgId}
 use Rattle.gb_layer.specs.declared.effects.Up.{Up}
-use Rattle.gb_layer.specs.Machine.{Gives}
-use Rattle.gb_layer.specs.Sinks.{folded, ups_alone, SplitsRoom}
-use Rattle.gb_fifo.specs.declared.entry.Entry.{Entry}
+use Rattle.gb_layer.specs.Common.{Gives, folded, ups_alone, SplitsRoom}
+use Rattle.gb_fifo.specs.declared.{entry.Entry.Entry, marks.Mark.Mark}
 use Rattle.gb_fifo.specs.Entries.{given_of, taken_one, taken_one_ups, taken, taken_ups}
-use Rattle.gb_fifo.specs.declared.marks.Mark.{Mark}
 use Rattle.gb_fifo.specs.Marks.{marked, AreCounted}
 
 -- for each of the first n nodes the count is the number of its messages that were handed up

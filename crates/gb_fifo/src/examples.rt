@@ -1,8 +1,7 @@
 //! Worked examples of first-in first-out order, on messages as they are delivered, the oldest first: laws that compute, with nothing to
 //! run.
 ghost use Rattle.std.specs.Prelude.{◌≡◌, [], ◌∷◌};
-ghost use Rattle.gb_layer.specs.Examples.{origin, other, first, second};
-ghost use Rattle.gb_layer.specs.Numbered.{numbered};
+ghost use Rattle.gb_layer.specs.Common.{origin, other, first, second, numbered};
 ghost use Rattle.gb_fifo.specs.Order.{in_order};
 
 /// A worked example, with nothing to run: message 2 of an origin is held back until message 1 is delivered, and is handed up right behind

@@ -1,7 +1,7 @@
 //! The layer of first-in first-out order: it hands up the messages of each origin as 1, 2, 3, ..
 ghost use Rattle.std.specs.Prelude.{◌≡◌, ℕ, ◌≤◌, ◌<◌, [], List, length, vec_capacity};
 ghost use Rattle.gb_types.specs.declared.message.MsgId.{MsgId};
-ghost use Rattle.gb_layer.specs.PlacedCalls.{told, Names, IsNext, MayTake, told_after};
+ghost use Rattle.gb_layer.specs.Common.{told, Names, IsNext, MayTake, told_after};
 ghost use Rattle.gb_fifo.specs.Entries.{noted_by};
 ghost use Rattle.gb_fifo.specs.FifoLemmas.{fifo_me_stays, fifo_sends_handed_in, fifo_ups_handed_in, fifo_up_once, fifo_sent_once, fifo_noticed_once, fifo_own};
 ghost use Rattle.gb_fifo.specs.FifoMachine.{FifoState, IsNew, fifo_next, fifo_gives};

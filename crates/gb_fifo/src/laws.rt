@@ -2,8 +2,7 @@
 //! defines, so the lemmas on these are cited. The functions have nothing to run.
 ghost use Rattle.std.specs.Prelude.{◌≡◌, [], List};
 ghost use Rattle.gb_layer.specs.declared.call.Call.{Call};
-ghost use Rattle.gb_layer.specs.Laws.{ComesFromItsOrigin, HandsUpWhatWasHandedIn, HandsUpOnce};
-ghost use Rattle.gb_layer.specs.Machine.{after, all_ups, messages};
+ghost use Rattle.gb_layer.specs.Common.{ComesFromItsOrigin, HandsUpWhatWasHandedIn, HandsUpOnce, after, all_ups, messages};
 ghost use Rattle.gb_fifo.specs.FifoMachine.{FifoState, IsNew};
 ghost use Rattle.gb_fifo.specs.Order.{RunsFromOne, ordered_after, in_order};
 

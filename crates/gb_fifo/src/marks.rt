@@ -1,7 +1,7 @@
 //! The marks of a fifo: what it remembers of the message at each place.
 ghost use Rattle.std.specs.Prelude.{◌≡◌, ◌≤◌, ◌<◌, ◌&&◌, not, [], length, map, fold, set, get_or, vec_capacity};
 ghost use Rattle.std.specs.List.{list_any};
-ghost use Rattle.gb_layer.specs.PlacedCalls.{message_at, reached};
+ghost use Rattle.gb_layer.specs.Common.{message_at, reached};
 ghost use Rattle.gb_fifo.specs.Entries.{noted, brought, is_next, next_of, give, pick, released, released_ups, taken_one, taken_one_ups, IsPlace};
 ghost use Rattle.gb_fifo.specs.declared.marks.Mark.TheVariants.{Missing, Delivered};
 ghost use Rattle.gb_fifo.specs.Marks.{come_up, came_up, was_delivered, entry_of, marked, AreCounted};

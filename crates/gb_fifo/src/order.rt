@@ -1,8 +1,7 @@
 //! Laws of first-in first-out order, of its definition alone. The functions have nothing to run.
 ghost use Rattle.std.specs.Prelude.{◌≡◌, ℕ, ◌+◌, ◌≤◌, true, false, List, ◌++◌};
-ghost use Rattle.gb_types.specs.declared.node.NodeId.{NodeId};
-ghost use Rattle.gb_types.specs.declared.message.MsgId.{MsgId};
-ghost use Rattle.gb_layer.specs.Numbered.{is_in, numbered};
+ghost use Rattle.gb_types.specs.declared.{node.NodeId.NodeId, message.MsgId.MsgId};
+ghost use Rattle.gb_layer.specs.Common.{is_in, numbered};
 ghost use Rattle.gb_fifo.specs.Order.{upto, top, numbers_of, RunsFromOne, ordered_after, in_order};
 ghost use Rattle.gb_fifo.specs.OrderLaws.{AllIn, NoneTwice};
 

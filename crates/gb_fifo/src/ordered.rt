@@ -1,7 +1,6 @@
 //! The sink that a fifo makes for the layer below.
 ghost use Rattle.std.specs.Prelude.{◌≡◌, ℕ, ◌≤◌, ◌<◌, length, vec_capacity};
-ghost use Rattle.gb_layer.specs.PlacedCalls.{told, Names, IsNext, MayTake, told_after};
-ghost use Rattle.gb_layer.specs.Sinks.{folded};
+ghost use Rattle.gb_layer.specs.Common.{told, Names, IsNext, MayTake, told_after, folded};
 ghost use Rattle.gb_fifo.specs.Entries.{taken, taken_ups};
 ghost use Rattle.gb_fifo.specs.Marks.{marked, AreCounted};
 ghost use Rattle.gb_fifo.specs.Ordered.{OrderedState, are_sound, ordered_sent, ordered_risen, OrderedTakes, ordered_splits};

@@ -1,6 +1,6 @@
 //! First-in first-out order of messages, computed straight from its definition: slow, for short lists, to compare layers with.
 ghost use Rattle.std.specs.Prelude.{◌≡◌, ◌++◌, drop, map, IfOk, OnOk};
-ghost use Rattle.gb_layer.specs.Numbered.{is_in, numbered};
+ghost use Rattle.gb_layer.specs.Common.{is_in, numbered};
 ghost use Rattle.gb_fifo.specs.Order as order;
 ghost use Rattle.gb_fifo.specs.Order.{upto};
 

@@ -1,18 +1,9 @@
 -- The first test that holds is the first fault of the table.
-use Rattle.std.proofs.Common.{◌≡◌, ◌≢◌, ℕ, zero, suc, ◌+◌, ◌<◌, ◌≤◌, Bool, true, false, cond, List, [], ◌∷◌, length, take, codes, eqb, Option, Some, None, refl, sym, ap, subst, ◌∙◌, arith, inl, inr}
-use Rattle.std.specs.Prelude.{find, not, ◌&&◌, ◌==◌, ◌%◌, ◌↔◌, nat_lt, if◌then◌else◌, is_none, unwrap_or}
-use Rattle.std.proofs.lemmas.Bool.{eqb-true, ltb-false}
-use Rattle.std.proofs.lemmas.Bool.Decides.{nat_tests}
-use Rattle.std.proofs.lemmas.List.{nil_from_length}
-use Rattle.gb_types.specs.declared.version.Version.{Version as TextVersion}
-use Rattle.gb_types.specs.declared.version.Version.TheVariants.{One}
-use Rattle.gb_types.specs.Version.{limits_of, version_named}
+use Rattle.gb_types.specs.Common.{◌≡◌, ◌≢◌, ℕ, zero, suc, ◌+◌, ◌<◌, ◌≤◌, Bool, true, false, cond, List, [], ◌∷◌, length, take, codes, eqb, Option, Some, None, refl, sym, ap, subst, ◌∙◌, arith, inl, inr, find, not, ◌&&◌, ◌==◌, ◌%◌, ◌↔◌, nat_lt, if◌then◌else◌, is_none, unwrap_or, eqb-true, ltb-false, nat_tests, nil_from_length, limits_of, version_named, eqb_tells}
+use Rattle.gb_types.specs.declared.{version.Version.Version as TextVersion, version.Version.TheVariants.One}
 use Rattle.gb_types.proofs.BoolLemmas.{and_sides}
-use Rattle.gb_frame.specs.declared.limits.TheConstants.{SHORTEST}
-use Rattle.gb_frame.specs.declared.item.Item.{Item}
+use Rattle.gb_frame.specs.declared.{limits.TheConstants.SHORTEST, item.Item.Item, fault.PacketFault.PacketFault}
 use Rattle.gb_frame.specs.Spelling.{tag_of}
-use Rattle.std.proofs.lemmas.Bool.Decides.{eqb_tells}
-use Rattle.gb_frame.specs.declared.fault.PacketFault.{PacketFault}
 use Rattle.gb_frame.specs.declared.fault.PacketFault.TheVariants.{Short, Magic, Version, Node, Mask, Count, Length, Trailing, TooLong, Tag}
 use Rattle.gb_frame.specs.Faults.{fault_number}
 use Rattle.gb_frame.specs.Fields.{version_in, from_in, to_in, base_in, mask_in, frame_in, count_in, tag_in, tagged_in}

@@ -1,15 +1,7 @@
 -- The bytes that are read as items are their text, and their text is read as those items.
-use Rattle.std.proofs.Common.{◌≡◌, ℕ, zero, suc, ◌+◌, ◌-◌, ◌^◌, ◌≤◌, Bool, true, false, ◌||◌, cond, ltb, List, [], ◌∷◌, ◌++◌, length, get_or, take, drop, All, Option, Some, None, refl, sym, ap, subst, ◌∙◌, append_assoc, arith}
-use Rattle.std.specs.Prelude.{option_and_then}
-use Rattle.std.specs.Int.{w16, w32, to_be_bytes}
-use Rattle.std.proofs.Math.Seq.{drop-cons}
-use Rattle.std.proofs.lemmas.Bool.{ltb-false, le-ltb}
-use Rattle.std.proofs.lemmas.List.{take_at, drop_at, take-append-drop, length-append, length-take, length-drop}
-use Rattle.std.proofs.lemmas.List.Elements.{All-nil, All-cons, All-head, All-tail}
+use Rattle.gb_types.specs.Common.{◌≡◌, ℕ, zero, suc, ◌+◌, ◌-◌, ◌^◌, ◌≤◌, Bool, true, false, ◌||◌, cond, ltb, List, [], ◌∷◌, ◌++◌, length, get_or, take, drop, All, Option, Some, None, refl, sym, ap, subst, ◌∙◌, append_assoc, arith, option_and_then, w16, w32, to_be_bytes, drop-cons, ltb-false, le-ltb, take_at, drop_at, take-append-drop, length-append, length-take, length-drop, All-nil, All-cons, All-head, All-tail, limits_of, limits_are_within}
 use Rattle.std.proofs.lemmas.List.Concat.{flat_map-cons}
-use Rattle.gb_types.specs.declared.limits.TheConstants.{PAYLOAD}
-use Rattle.gb_types.specs.Version.{limits_of, limits_are_within}
-use Rattle.gb_types.specs.declared.version.Version.{Version}
+use Rattle.gb_types.specs.declared.{limits.TheConstants.PAYLOAD, version.Version.Version}
 use Rattle.gb_types.specs.declared.version.Version.TheVariants.{One, Two, Three}
 use Rattle.gb_types.proofs.VersionLemmas.{header_least}
 use Rattle.gb_types.proofs.BoolLemmas.{or_sides}

@@ -1,10 +1,6 @@
 -- Bytes are a packet if and only if they have no fault.
-use Rattle.std.proofs.Common.{◌≡◌, ℕ, Bool, true, false, List, length, Option, Some, None, refl, ap, ◌∙◌, arith}
-use Rattle.std.specs.Prelude.{not, ◌&&◌, nat_eq, nat_le, nat_lt, is_none, is_some, if◌then◌else◌}
-use Rattle.std.proofs.lemmas.Bool.Decides.{nat_tests}
-use Rattle.gb_types.specs.Version.{limits_of, version_named}
-use Rattle.gb_frame.specs.declared.limits.TheConstants.{SHORTEST}
-use Rattle.gb_frame.specs.declared.fault.PacketFault.{PacketFault}
+use Rattle.gb_types.specs.Common.{◌≡◌, ℕ, Bool, true, false, List, length, Option, Some, None, refl, ap, ◌∙◌, arith, not, ◌&&◌, nat_eq, nat_le, nat_lt, is_none, is_some, if◌then◌else◌, nat_tests, limits_of, version_named}
+use Rattle.gb_frame.specs.declared.{limits.TheConstants.SHORTEST, fault.PacketFault.PacketFault}
 use Rattle.gb_frame.specs.declared.fault.PacketFault.TheVariants.{Short, Magic, Version, Node, Mask, Count, Length, Trailing, TooLong, Tag}
 use Rattle.gb_frame.specs.Fields.{version_in}
 use Rattle.gb_frame.specs.Reading.{is_magic, is_between_nodes, is_acknowledgement, is_counted, is_tagged, version_read, parsed, left_over, fault_in, is_packet}

@@ -1,19 +1,12 @@
 -- Reading returns a packet if and only if the bytes are its text, and otherwise the first fault of the table.
-use Rattle.std.proofs.Common.{◌≡◌, ◌≢◌, ℕ, ◌-◌, ◌^◌, ◌≤◌, Bool, true, false, cond, List, [], ◌∷◌, ◌++◌, length, take, drop, codes, Option, Some, None, Ok, refl, sym, ap, subst, ◌∙◌, arith, inl, inr, ◌⊎◌}
-use Rattle.std.specs.Prelude.{find, is_ok, not, ◌&&◌, ◌==◌, ◌%◌, nat_lt, is_none, if◌then◌else◌}
+use Rattle.gb_types.specs.Common.{◌≡◌, ◌≢◌, ℕ, ◌-◌, ◌^◌, ◌≤◌, Bool, true, false, cond, List, [], ◌∷◌, ◌++◌, length, take, drop, codes, Option, Some, None, Ok, refl, sym, ap, subst, ◌∙◌, arith, inl, inr, ◌⊎◌, find, is_ok, not, ◌&&◌, ◌==◌, ◌%◌, nat_lt, is_none, if◌then◌else◌, w16, w64, to_be_bytes, drop-cons, eqb-true, eq-eqb, ltb-false, ltb-true, lt-ltb, take-append-drop, drop-append-le, take_at, length-take, length-drop, length-append, append-nil, nil_from_length, limits_of, limits_are_within}
 use Rattle.std.specs.Cmp.Lexicographic.{same_text, other_text}
-use Rattle.std.specs.Int.{w16, w64, to_be_bytes}
-use Rattle.std.proofs.Math.Seq.{drop-cons}
-use Rattle.std.proofs.lemmas.Bool.{eqb-true, eq-eqb, ltb-false, ltb-true, lt-ltb}
-use Rattle.std.proofs.lemmas.List.{take-append-drop, drop-append-le, take_at, length-take, length-drop, length-append, append-nil, nil_from_length}
 use Rattle.gb_types.specs.declared.version.Version.{Version as TextVersion}
-use Rattle.gb_types.specs.Version.{limits_of, limits_are_within}
 use Rattle.gb_types.proofs.BoolLemmas.{not_false, not_true}
 use Rattle.gb_types.proofs.ReadLemmas.{some_same}
 use Rattle.gb_frame.specs.declared.limits.TheConstants.{SHORTEST, HEADER, TAG}
-use Rattle.gb_frame.specs.declared.fault.PacketFault.{PacketFault}
+use Rattle.gb_frame.specs.declared.{fault.PacketFault.PacketFault, item.Item.Item}
 use Rattle.gb_frame.specs.declared.fault.PacketFault.TheVariants.{Short, Magic, Version, Node, Mask, Count, Length, Trailing, TooLong, Tag}
-use Rattle.gb_frame.specs.declared.item.Item.{Item}
 use Rattle.gb_frame.specs.Packet.{Content}
 use Rattle.gb_frame.specs.Spelling.{items_text, header_text, tagged_text, tag_of, packet_text, IsBytes, IsWithinLimits, IsText}
 use Rattle.gb_frame.specs.Fields.{version_in, from_in, to_in, base_in, mask_in, frame_in, count_in, items_in, tag_in, tagged_in}

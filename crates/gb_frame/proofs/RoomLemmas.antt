@@ -1,9 +1,6 @@
 -- The number of bytes that items take.
-use Rattle.std.proofs.Common.{◌≡◌, ℕ, ◌+◌, ◌-◌, ◌*◌, ◌<◌, ◌≤◌, List, [], ◌∷◌, ◌++◌, length, take, get_or, All, sym, ap, ◌∙◌, arith}
-use Rattle.std.proofs.lemmas.List.{length-append, take_more, flat_map_more}
-use Rattle.std.proofs.lemmas.List.Folds.{length-flat_map-take}
+use Rattle.gb_types.specs.Common.{◌≡◌, ℕ, ◌+◌, ◌-◌, ◌*◌, ◌<◌, ◌≤◌, List, [], ◌∷◌, ◌++◌, length, take, get_or, All, sym, ap, ◌∙◌, arith, length-append, take_more, flat_map_more, length-flat_map-take, limits_of}
 use Rattle.std.proofs.lemmas.List.Concat.{flat_map-cons}
-use Rattle.gb_types.specs.Version.{limits_of}
 use Rattle.gb_types.specs.declared.version.Version.{Version}
 use Rattle.gb_types.specs.declared.version.Version.TheVariants.{One, Two, Three}
 use Rattle.gb_types.proofs.VersionLemmas.{header_least}

@@ -1,12 +1,7 @@
 -- The position of each field in the text of a packet.
-use Rattle.std.proofs.Common.{◌≡◌, ℕ, ◌+◌, ◌-◌, ◌^◌, ◌<◌, List, [], length, take, drop, codes, Some, refl, sym, ap, ◌∙◌, arith}
-use Rattle.std.specs.Prelude.{unwrap_or}
-use Rattle.std.specs.Int.{w16, w64}
-use Rattle.std.proofs.lemmas.List.{take_at, drop_at, length-append, length-take, append-nil}
+use Rattle.gb_types.specs.Common.{◌≡◌, ℕ, ◌+◌, ◌-◌, ◌^◌, ◌<◌, List, [], length, take, drop, codes, Some, refl, sym, ap, ◌∙◌, arith, unwrap_or, w16, w64, take_at, drop_at, length-append, length-take, append-nil, limits_of, version_named}
 use Rattle.gb_cap.specs.Hmac.{hmac_of, length-hmac_of}
-use Rattle.gb_types.specs.declared.version.Version.{Version}
-use Rattle.gb_types.specs.declared.version.Version.TheVariants.{One}
-use Rattle.gb_types.specs.Version.{limits_of, version_named}
+use Rattle.gb_types.specs.declared.{version.Version.Version, version.Version.TheVariants.One}
 use Rattle.gb_frame.specs.declared.limits.TheConstants.{TAG, SHORTEST}
 use Rattle.gb_frame.specs.Packet.{Content}
 use Rattle.gb_frame.specs.Spelling.{items_text, tagged_text, tag_of, header_text, packet_text, IsPacket, IsText}

@@ -1,8 +1,7 @@
 -- The room in a packet of a version.
-use Rattle.std.proofs.Common.{◌≤◌, arith}
+use Rattle.gb_types.specs.Common.{◌≤◌, arith, limits_of, limits_are_within}
 use Rattle.gb_types.specs.declared.version.Version.{Version}
 use Rattle.gb_types.specs.declared.version.Version.TheVariants.{One, Two, Three}
-use Rattle.gb_types.specs.Version.{limits_of, limits_are_within}
 use Rattle.gb_frame.specs.declared.limits.TheConstants.{SHORTEST, ROOM}
 use Rattle.gb_frame.specs.Room.{room_of}
 

@@ -1,6 +1,5 @@
 -- Items one after the other, as loops over them go.
-use Rattle.std.proofs.Common.{◌≡◌, ℕ, suc, List, [], ◌∷◌, Option, Some, None, refl}
-use Rattle.std.specs.Prelude.{option_map, option_and_then, IsSome}
+use Rattle.gb_types.specs.Common.{◌≡◌, ℕ, suc, List, [], ◌∷◌, Option, Some, None, refl, option_map, option_and_then, IsSome}
 use Rattle.gb_types.specs.declared.version.Version.{Version}
 use Rattle.gb_frame.specs.declared.item.Item.{Item}
 use Rattle.gb_frame.specs.Reading.{item_at, items_at, left_over}

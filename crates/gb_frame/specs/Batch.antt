@@ -1,13 +1,11 @@
 -- The texts of items without a packet round them: the content of a frame.
 use Rattle.std.specs.Prelude.{◌≡◌, ℕ, zero, suc, ◌<◌, ◌≤◌, List, [], ◌∷◌, length, All, Option, Some, None}
-use Rattle.gb_types.specs.declared.limits.TheConstants.{PAYLOAD}
-use Rattle.gb_types.specs.declared.version.Version.{Version}
-use Rattle.gb_types.specs.Version.{limits_of}
-use Rattle.gb_frame.specs.declared.item.Item.{Item}
+use Rattle.gb_types.specs.declared.{limits.TheConstants.PAYLOAD, version.Version.Version}
+use Rattle.gb_types.specs.Common.{limits_of}
+use Rattle.gb_frame.specs.declared.{item.Item.Item, limits.TheConstants.ROOM}
 use Rattle.gb_frame.specs.Reading.{item_at}
 use Rattle.gb_frame.specs.Room.{room_of}
 use Rattle.gb_frame.specs.Spelling.{AreTexts, items_text}
-use Rattle.gb_frame.specs.declared.limits.TheConstants.{ROOM}
 
 abbrev pub first_and : (List ℕ → List Item) → Option (Item × List ℕ) → List Item
 first_and others None = []

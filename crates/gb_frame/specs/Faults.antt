@@ -1,11 +1,9 @@
 -- The table of faults: when each holds of bytes, and which is the first.
 use Rattle.std.specs.Prelude.{◌≡◌, ◌≢◌, ℕ, ◌<◌, ◌≤◌, ◌%◌, ◌⊎◌, List, [], ◌++◌, length, take, codes, All, None}
-use Rattle.gb_types.specs.Version.{limits_of, version_named}
+use Rattle.gb_types.specs.Common.{limits_of, version_named}
 use Rattle.gb_types.specs.declared.version.Version.{Version as TextVersion}
-use Rattle.gb_frame.specs.declared.limits.TheConstants.{SHORTEST}
-use Rattle.gb_frame.specs.declared.fault.PacketFault.{PacketFault}
+use Rattle.gb_frame.specs.declared.{limits.TheConstants.SHORTEST, fault.PacketFault.PacketFault, item.Item.Item}
 use Rattle.gb_frame.specs.declared.fault.PacketFault.TheVariants.{Short, Magic, Version, Node, Mask, Count, Length, Trailing, TooLong, Tag}
-use Rattle.gb_frame.specs.declared.item.Item.{Item}
 use Rattle.gb_frame.specs.Spelling.{items_text, IsItem, tag_of}
 use Rattle.gb_frame.specs.Fields.{version_in, from_in, to_in, base_in, mask_in, frame_in, count_in, items_in, tagged_in, tag_in}
 use Rattle.gb_frame.specs.Reading.{version_read}

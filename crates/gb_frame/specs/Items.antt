@@ -1,9 +1,7 @@
 -- The parts of an item: the group that it names, and its message.
 use Rattle.std.proofs.Common.{arith}
 use Rattle.std.specs.Prelude.{ℕ, ◌<◌, ◌%◌, ◌&&◌, Bool, List, filter, nat_eq}
-use Rattle.gb_types.specs.declared.address.Addr.{Addr}
-use Rattle.gb_types.specs.declared.entry.Entry.{Entry}
-use Rattle.gb_types.specs.declared.limits.TheConstants.{NODES}
+use Rattle.gb_types.specs.declared.{address.Addr.Addr, entry.Entry.Entry, limits.TheConstants.NODES}
 use Rattle.gb_frame.specs.declared.item.Item.{Item}
 
 pub rest_is_node : (n : ℕ) → n % NODES < NODES

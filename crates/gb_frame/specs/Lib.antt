@@ -7,3 +7,4 @@ pub mod Faults
 pub mod Laws
 pub mod Batch
 pub mod Items
+pub mod Common

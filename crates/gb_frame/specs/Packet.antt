@@ -1,10 +1,7 @@
 -- The content of a packet.
 use Rattle.std.specs.Prelude.{ℕ, List}
 use Rattle.gb_types.specs.declared.version.Version.{Version}
-use Rattle.gb_frame.specs.declared.item.Item.{Item}
-use Rattle.gb_frame.specs.declared.item.ItemView.{ItemView}
-use Rattle.gb_frame.specs.declared.packet.Head.{Head}
-use Rattle.gb_frame.specs.declared.packet.Packet.{Packet}
+use Rattle.gb_frame.specs.declared.{item.Item.Item, item.ItemView.ItemView, packet.Head.Head, packet.Packet.Packet}
 
 -- the content of a packet, without its place in memory
 pub record Content : Type 0 where

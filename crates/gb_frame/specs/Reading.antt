@@ -4,10 +4,8 @@ use Rattle.std.specs.Cmp.Lexicographic.{pointwise}
 use Rattle.std.specs.Int.{w16, w32}
 use Rattle.gb_types.specs.declared.version.Version.{Version as TextVersion}
 use Rattle.gb_types.specs.declared.version.Version.TheVariants.{One, Two, Three}
-use Rattle.gb_types.specs.Version.{limits_of, version_named}
-use Rattle.gb_frame.specs.declared.limits.TheConstants.{SHORTEST}
-use Rattle.gb_frame.specs.declared.item.Item.{Item}
-use Rattle.gb_frame.specs.declared.fault.PacketFault.{PacketFault}
+use Rattle.gb_types.specs.Common.{limits_of, version_named}
+use Rattle.gb_frame.specs.declared.{limits.TheConstants.SHORTEST, item.Item.Item, fault.PacketFault.PacketFault}
 use Rattle.gb_frame.specs.declared.fault.PacketFault.TheVariants.{Short, Magic, Version, Node, Mask, Count, Length, Trailing, TooLong, Tag}
 use Rattle.gb_frame.specs.Fields.{number_at, version_in, from_in, to_in, base_in, mask_in, frame_in, count_in, tagged_in, tag_in, items_in}
 use Rattle.gb_frame.specs.Packet.{Content}

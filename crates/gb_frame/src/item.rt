@@ -1,8 +1,8 @@
 //! Items, each a message of a group on its way to a node, and how they are written in a packet and read again.
 ghost use Rattle.std.specs.Prelude.{◌≡◌, ◌+◌, ◌≤◌, ◌++◌, List, length, MatchOption, IsSome, All, None, Some, vec_len, vec_capacity};
 ghost use Rattle.gb_types.specs.declared.limits.TheConstants.{PAYLOAD};
-ghost use Rattle.gb_types.specs.Version.{limits_of};
-ghost use Rattle.gb_frame.specs.declared.limits.TheConstants.{ROOM};
+ghost use Rattle.gb_types.specs.Common.{limits_of};
+ghost use Rattle.gb_frame.specs.declared.{limits.TheConstants.ROOM, item.Item.Item};
 
 use crate::number::{u16_at, u32_at};
 use gb_types::limits::PAYLOAD;
@@ -37,7 +37,6 @@ pub struct ItemView<'a> {
 ghost use Rattle.gb_frame.specs.Packet.{item_of};
 ghost use Rattle.gb_frame.specs.Spelling.{item_head, item_text, items_text, HasGeneration, IsItem, IsBytes, AreTexts};
 ghost use Rattle.gb_frame.specs.Reading.{generation_at, item_at, items_at, left_over};
-ghost use Rattle.gb_frame.specs.declared.item.Item.{Item};
 
 impl Item {
     ghost use Rattle.gb_frame.specs.Packet.{item_of};

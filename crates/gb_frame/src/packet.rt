@@ -1,6 +1,6 @@
 //! Packets, what one node sends another at once, as values, and which of them can be written.
 ghost use Rattle.std.specs.Prelude.{◌≡◌, ◌↔◌, ◌+◌, ◌≤◌, length, IsTrue, IsSome, IfSome, All};
-ghost use Rattle.gb_types.specs.Version.{limits_of};
+ghost use Rattle.gb_types.specs.Common.{limits_of};
 ghost use Rattle.gb_frame.specs.Room.{room_of};
 
 use crate::item::Item;

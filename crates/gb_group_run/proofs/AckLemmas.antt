@@ -1,33 +1,15 @@
 -- Which nodes have each own message for good: the slot keeps what the acknowledged places of carried items say.
-use Rattle.std.proofs.Common.{◌≡◌, ◌≢◌, ℕ, zero, suc, ◌+◌, ◌-◌, ◌<◌, ◌≤◌, List, [], ◌∷◌, ◌++◌, length, take, get_or, Bool, true, false, ◌&&◌, ◌||◌, ◌⊎◌, inl, inr, refl, sym, ◌∙◌, ap, arith, nat_eq, length-append}
-use Rattle.std.specs.Prelude.{map, drop, not, if◌then◌else◌}
-use Rattle.std.specs.List.{list_any, range_with_len, AllByRecursion}
-use Rattle.std.specs.Ordering.{nat_cmp}
+use Rattle.gb_types.specs.Common.{◌≡◌, ◌≢◌, ℕ, zero, suc, ◌+◌, ◌-◌, ◌<◌, ◌≤◌, List, [], ◌∷◌, ◌++◌, length, take, get_or, Bool, true, false, ◌&&◌, ◌||◌, ◌⊎◌, inl, inr, refl, sym, ◌∙◌, ap, arith, nat_eq, length-append, map, drop, not, if◌then◌else◌, list_any, range_with_len, AllByRecursion, nat_cmp, get_or-append_seam, and-false, or-false, or_assoc, cases_eq, cases_lt, eqb-true, or_parts, nat_tests, get_or_append_left, list_any-append, message_of}
 use Rattle.std.specs.FinSet as set
-use Rattle.std.proofs.Math.Seq.{get_or-append_seam}
-use Rattle.std.proofs.Math.Bool.{and-false, or-false, or_assoc}
-use Rattle.std.proofs.lemmas.Bool.{cases_eq, cases_lt, eqb-true, or_parts}
-use Rattle.std.proofs.lemmas.Bool.Decides.{nat_tests}
-use Rattle.std.proofs.lemmas.List.{get_or_append_left}
-use Rattle.std.proofs.lemmas.List.Folds.{list_any-append}
-use Rattle.gb_types.specs.Entry.{message_of}
-use Rattle.gb_types.specs.declared.entry.Entry.{Entry}
-use Rattle.gb_types.specs.declared.limits.TheConstants.{NODES}
-use Rattle.gb_types.specs.declared.message.MsgId.{MsgId}
-use Rattle.gb_types.specs.declared.node.NodeId.{NodeId}
+use Rattle.gb_types.specs.declared.{entry.Entry.Entry, limits.TheConstants.NODES, message.MsgId.MsgId, node.NodeId.NodeId}
 use Rattle.gb_types.proofs.InsertedLemmas.{contains-inserted}
-use Rattle.gb_layer.specs.Machine.{mentions}
-use Rattle.gb_rules.specs.Group.{is_other}
-use Rattle.gb_rules.specs.History.{calls_of}
-use Rattle.gb_rules.specs.Messages.{has, entry_in}
+use Rattle.gb_layer.specs.Common.{mentions}
+use Rattle.gb_rules.specs.Common.{is_other, calls_of, has, entry_in}
 use Rattle.gb_rules.specs.declared.call.GroupCall.{GroupCall}
 use Rattle.gb_rules.proofs.MentionLemmas.{has-known}
-use Rattle.gb_slot.specs.HistoryLaws.{DoneStands}
-use Rattle.gb_slot.specs.Slot.{slot_done, with_acknowledgement, waiting, taken_for}
-use Rattle.gb_slot.specs.SlotState.{SlotState}
-use Rattle.gb_slot.specs.StandsFor.{StandsFor}
+use Rattle.gb_slot.specs.Common.{DoneStands, slot_done, with_acknowledgement, waiting, taken_for, SlotState, StandsFor}
 use Rattle.gb_slot.proofs.AcknowledgedLemmas.{length-done, with_one}
-use Rattle.gb_alone.specs.Alone.{is_marked, is_message, is_acknowledged}
+use Rattle.gb_alone.specs.Common.{is_marked, is_message, is_acknowledged}
 use Rattle.gb_alone.proofs.MarkLemmas.{unknown_acknowledged}
 use Rattle.gb_group_run.specs.SlotMember.{slot_marked}
 use Rattle.gb_group_run.proofs.MarkLemmas.{acknowledged_front, acknowledged_with}

@@ -1,31 +1,17 @@
 -- What a call makes of a slot, and of the group alone.
-use Rattle.std.proofs.Common.{◌≡◌, ℕ, ◌+◌, ◌<◌, List, [], ◌∷◌, ◌++◌, length, take, Bool, true, false, not, ◌&&◌, ◌||◌, ◌⊎◌, inl, inr, nat_eq, Option, Some, None, refl, sym, ◌∙◌, ap, subst, arith}
-use Rattle.std.specs.Prelude.{if◌then◌else◌}
+use Rattle.gb_types.specs.Common.{◌≡◌, ℕ, ◌+◌, ◌<◌, List, [], ◌∷◌, ◌++◌, length, take, Bool, true, false, not, ◌&&◌, ◌||◌, ◌⊎◌, inl, inr, nat_eq, Option, Some, None, refl, sym, ◌∙◌, ap, subst, arith, if◌then◌else◌, cases_eq, nat_tests, append-nil, append_assoc, take_at, message_of}
 use Rattle.std.specs.FinSet as set
-use Rattle.std.proofs.lemmas.Bool.{cases_eq}
-use Rattle.std.proofs.lemmas.Bool.Decides.{nat_tests}
-use Rattle.std.proofs.lemmas.List.{append-nil, append_assoc, take_at}
-use Rattle.gb_types.specs.Entry.{message_of}
-use Rattle.gb_types.specs.declared.entry.Entry.{Entry}
-use Rattle.gb_types.specs.declared.limits.TheConstants.{NODES}
-use Rattle.gb_types.specs.declared.node.NodeId.{NodeId}
-use Rattle.gb_types.specs.declared.reply.Reply.TheVariants.{Said}
-use Rattle.gb_types.specs.declared.spec.Spec.{Spec}
+use Rattle.gb_types.specs.declared.{entry.Entry.Entry, limits.TheConstants.NODES, node.NodeId.NodeId, reply.Reply.TheVariants.Said, spec.Spec.Spec}
 use Rattle.gb_types.proofs.SameLemmas.{same_number}
 use Rattle.gb_types.proofs.InsertedLemmas.{contains-inserted}
-use Rattle.gb_layer.specs.Machine.{was_noticed}
+use Rattle.gb_layer.specs.Common.{was_noticed}
 use Rattle.gb_layer.specs.declared.call.Call.TheVariants.{Came, Notice}
-use Rattle.gb_rules.specs.History.{calls_of, puts_of, falls_after}
-use Rattle.gb_rules.specs.Group.{is_other}
-use Rattle.gb_rules.specs.Messages.{with_new}
-use Rattle.gb_rules.specs.declared.call.GroupCall.{GroupCall}
+use Rattle.gb_rules.specs.Common.{calls_of, puts_of, falls_after, is_other, with_new}
+use Rattle.gb_rules.specs.declared.{call.GroupCall.GroupCall, phase.Phase.Phase}
 use Rattle.gb_rules.specs.declared.call.GroupCall.TheVariants.{Own, Other, Crashed}
-use Rattle.gb_rules.specs.declared.phase.Phase.{Phase}
-use Rattle.gb_slot.specs.Slot.{own_entry, falls, waiting, slot_called, slot_said, slot_came, slot_noticed}
-use Rattle.gb_slot.specs.SlotState.{SlotState}
-use Rattle.gb_slot.specs.StandsFor.{StandsFor, reaches}
+use Rattle.gb_slot.specs.Common.{own_entry, falls, waiting, slot_called, slot_said, slot_came, slot_noticed, SlotState, StandsFor, reaches}
 use Rattle.gb_slot.proofs.SpecLemmas.{reaches-said}
-use Rattle.gb_alone.specs.Alone.{Member, held_spec, put_to, called, cut, took_notice}
+use Rattle.gb_alone.specs.Common.{Member, held_spec, put_to, called, cut, took_notice}
 use Rattle.gb_alone.specs.Alone as alone
 use Rattle.gb_group_run.specs.SlotMember.{waits}
 use Rattle.gb_group_run.proofs.AckLemmas.{acks_said}

@@ -1,38 +1,16 @@
 -- A command with its reply: the slot stands for the group alone after it.
-use Rattle.std.proofs.Common.{◌≡◌, ℕ, ◌+◌, ◌<◌, List, [], ◌∷◌, ◌++◌, length, take, Bool, true, false, not, ◌&&◌, ◌||◌, Option, Some, None, refl, sym, ◌∙◌, ap, subst, arith}
-use Rattle.std.specs.Prelude.{map, drop, is_some, nat_le, option_map, if◌then◌else◌}
+use Rattle.gb_types.specs.Common.{◌≡◌, ℕ, ◌+◌, ◌<◌, List, [], ◌∷◌, ◌++◌, length, take, Bool, true, false, not, ◌&&◌, ◌||◌, Option, Some, None, refl, sym, ◌∙◌, ap, subst, arith, map, drop, is_some, nat_le, option_map, if◌then◌else◌, nat_cmp, list_any, append-nil, take_at, drop_all, version_at}
 use Rattle.std.specs.FinSet as set
-use Rattle.std.specs.Ordering.{nat_cmp}
-use Rattle.std.specs.List.{list_any}
-use Rattle.std.proofs.lemmas.List.{append-nil, take_at, drop_all}
-use Rattle.gb_types.specs.Version.{version_at}
-use Rattle.gb_types.specs.declared.address.Addr.{Addr}
-use Rattle.gb_types.specs.declared.entry.Entry.{Entry}
-use Rattle.gb_types.specs.declared.limits.TheConstants.{NODES}
-use Rattle.gb_types.specs.declared.node.NodeId.{NodeId}
-use Rattle.gb_types.specs.declared.plan.Bounds.{Bounds}
+use Rattle.gb_types.specs.declared.{address.Addr.Addr, entry.Entry.Entry, limits.TheConstants.NODES, node.NodeId.NodeId, plan.Bounds.Bounds, reply.Reply.Reply, new_message.NewMessage.NewMessage, spec.Spec.Spec, version.Version.Version}
 use Rattle.gb_types.specs.declared.refusal.Refusal.TheVariants.{NoGroup, Spent, NoRoom, BadMembers, OverReserve, Stopped}
-use Rattle.gb_types.specs.declared.reply.Reply.{Reply}
 use Rattle.gb_types.specs.declared.reply.Reply.TheVariants.{Done, Said, Refused}
-use Rattle.gb_types.specs.declared.new_message.NewMessage.{NewMessage}
-use Rattle.gb_types.specs.declared.spec.Spec.{Spec}
-use Rattle.gb_types.specs.declared.version.Version.{Version}
 use Rattle.gb_types.proofs.BoolLemmas.{or_left}
-use Rattle.gb_rules.specs.Messages.{entry_in}
-use Rattle.gb_rules.specs.Group.{Shown, is_gone, is_other, open_answer, shut_answer, drop_answer, say_answer}
-use Rattle.gb_rules.specs.Room.{can_name}
-use Rattle.gb_rules.specs.Tenant.{is_bad, is_over, make_answer, by_tenant}
-use Rattle.gb_rules.specs.declared.call.GroupCall.{GroupCall}
-use Rattle.gb_rules.specs.declared.call.GroupCall.TheVariants.{Own}
-use Rattle.gb_rules.specs.declared.phase.Phase.{Phase}
+use Rattle.gb_rules.specs.Common.{entry_in, Shown, is_gone, is_other, open_answer, shut_answer, drop_answer, say_answer, can_name, is_bad, is_over, make_answer, by_tenant}
+use Rattle.gb_rules.specs.declared.{call.GroupCall.GroupCall, call.GroupCall.TheVariants.Own, phase.Phase.Phase, reserve.Reserve.Reserve, room.TheConstants.GENERATIONS}
 use Rattle.gb_rules.specs.declared.phase.Phase.TheVariants.{Opened, Shut, Gone}
-use Rattle.gb_rules.specs.declared.reserve.Reserve.{Reserve}
-use Rattle.gb_rules.specs.declared.room.TheConstants.{GENERATIONS}
 use Rattle.gb_rules.proofs.SayLemmas.{said_is}
-use Rattle.gb_slot.specs.Slot.{new_slot, shown, taken_for, waiting, slot_moved, slot_said}
-use Rattle.gb_slot.specs.SlotState.{SlotState}
-use Rattle.gb_slot.specs.StandsFor.{StandsFor}
-use Rattle.gb_alone.specs.Alone.{Member, called, did, commanded, is_message}
+use Rattle.gb_slot.specs.Common.{new_slot, shown, taken_for, waiting, slot_moved, slot_said, SlotState, StandsFor}
+use Rattle.gb_alone.specs.Common.{Member, called, did, commanded, is_message}
 use Rattle.gb_alone.specs.declared.event.GroupEvent.{GroupEvent}
 use Rattle.gb_alone.specs.declared.event.GroupEvent.TheVariants.{Make as AskMake, Open as AskOpen, Shut as AskShut, Drop as AskDrop, Say as AskSay}
 use Rattle.gb_group_run.specs.SlotMember.{SlotMember, carried_to, answer_of, reply_by, slot_did, slot_commanded}

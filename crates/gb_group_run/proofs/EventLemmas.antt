@@ -1,21 +1,10 @@
 -- Items and notices: what a node keeps stands for the group alone after them.
-use Rattle.std.proofs.Common.{◌≡◌, ◌≢◌, ℕ, ◌+◌, ◌<◌, ◌≤◌, List, [], ◌∷◌, ◌++◌, length, take, drop, get_or, Bool, true, false, ◌||◌, ◌⊎◌, inl, inr, nat_eq, Option, Some, None, refl, sym, ◌∙◌, ap, subst, arith, length-append}
-use Rattle.std.specs.Prelude.{option_map, slice_set, if◌then◌else◌}
-use Rattle.std.specs.List.{range_with_len}
-use Rattle.std.proofs.lemmas.Bool.{cases_eq}
-use Rattle.std.proofs.lemmas.Bool.Decides.{nat_tests}
-use Rattle.std.proofs.lemmas.List.{append-nil, append_assoc, take_all, take-append-drop, length-take-le, length-set, get_or-set_same, get_or-set_other}
-use Rattle.gb_types.specs.declared.entry.Entry.{Entry}
-use Rattle.gb_types.specs.declared.limits.TheConstants.{NODES}
-use Rattle.gb_types.specs.declared.node.NodeId.{NodeId}
-use Rattle.gb_types.specs.declared.spec.Spec.{Spec}
-use Rattle.gb_types.specs.declared.version.Version.{Version}
-use Rattle.gb_rules.specs.Group.{is_gone, is_other, is_too_long}
-use Rattle.gb_rules.specs.declared.call.GroupCall.TheVariants.{Other, Crashed}
-use Rattle.gb_rules.specs.declared.phase.Phase.{Phase}
-use Rattle.gb_slot.specs.Slot.{waiting, slot_came, slot_noticed, slot_took}
-use Rattle.gb_slot.specs.SlotState.{SlotState}
-use Rattle.gb_alone.specs.Alone.{Member, held_spec, called, cut, took_notice, node_noticed, item_came, item_done, is_marked}
+use Rattle.gb_types.specs.Common.{◌≡◌, ◌≢◌, ℕ, ◌+◌, ◌<◌, ◌≤◌, List, [], ◌∷◌, ◌++◌, length, take, drop, get_or, Bool, true, false, ◌||◌, ◌⊎◌, inl, inr, nat_eq, Option, Some, None, refl, sym, ◌∙◌, ap, subst, arith, length-append, option_map, slice_set, if◌then◌else◌, range_with_len, cases_eq, nat_tests, append-nil, append_assoc, take_all, take-append-drop, length-take-le, length-set, get_or-set_same, get_or-set_other}
+use Rattle.gb_types.specs.declared.{entry.Entry.Entry, limits.TheConstants.NODES, node.NodeId.NodeId, spec.Spec.Spec, version.Version.Version}
+use Rattle.gb_rules.specs.Common.{is_gone, is_other, is_too_long}
+use Rattle.gb_rules.specs.declared.{call.GroupCall.TheVariants.Other, call.GroupCall.TheVariants.Crashed, phase.Phase.Phase}
+use Rattle.gb_slot.specs.Common.{waiting, slot_came, slot_noticed, slot_took, SlotState}
+use Rattle.gb_alone.specs.Common.{Member, held_spec, called, cut, took_notice, node_noticed, item_came, item_done, is_marked}
 use Rattle.gb_alone.specs.Alone as alone
 use Rattle.gb_group_run.specs.SlotMember.{SlotMember, carried_to, waits, came_in, taken_in, took, slot_marked, items_at, marked}
 use Rattle.gb_group_run.proofs.MarkLemmas.{range_behind}

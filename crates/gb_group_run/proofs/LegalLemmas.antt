@@ -1,7 +1,7 @@
 -- A step that may happen has its items.
-use Rattle.std.proofs.Common.{◌≡◌, ℕ, ◌+◌, ◌-◌, ◌≤◌, ◌<◌, true, arith}
+use Rattle.gb_types.specs.Common.{◌≡◌, ℕ, ◌+◌, ◌-◌, ◌≤◌, ◌<◌, true, arith}
 use Rattle.gb_types.specs.declared.node.NodeId.{NodeId}
-use Rattle.gb_alone.specs.Alone.{Group, is_marked, MayHappen}
+use Rattle.gb_alone.specs.Common.{Group, is_marked, MayHappen}
 use Rattle.gb_alone.specs.declared.event.GroupEvent.{GroupEvent}
 use Rattle.gb_alone.specs.declared.event.GroupEvent.TheVariants.{Took, Came, Done as Acknowledged}
 use Rattle.gb_group_run.specs.Legal.{HasItemsAlone}

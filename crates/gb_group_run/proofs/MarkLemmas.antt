@@ -1,12 +1,7 @@
 -- Which items of a list are acknowledged, by their places.
-use Rattle.std.proofs.Common.{◌≡◌, ℕ, zero, suc, ◌+◌, ◌-◌, ◌≤◌, ◌<◌, ◌⊎◌, inl, inr, nat_eq, List, ◌++◌, length, take, drop, Bool, true, false, ◌||◌, refl, sym, ◌∙◌, ap, arith}
-use Rattle.std.specs.List.{list_any, range_with_len}
-use Rattle.std.proofs.lemmas.List.{length-take-le, length-drop, take-append-drop}
-use Rattle.std.proofs.lemmas.List.Folds.{list_any-append}
-use Rattle.std.proofs.lemmas.Bool.{cases_eq}
-use Rattle.std.proofs.lemmas.Bool.Decides.{nat_tests}
+use Rattle.gb_types.specs.Common.{◌≡◌, ℕ, zero, suc, ◌+◌, ◌-◌, ◌≤◌, ◌<◌, ◌⊎◌, inl, inr, nat_eq, List, ◌++◌, length, take, drop, Bool, true, false, ◌||◌, refl, sym, ◌∙◌, ap, arith, list_any, range_with_len, length-take-le, length-drop, take-append-drop, list_any-append, cases_eq, nat_tests}
 use Rattle.gb_types.specs.declared.entry.Entry.{Entry}
-use Rattle.gb_alone.specs.Alone.{is_marked, is_message, is_acknowledged}
+use Rattle.gb_alone.specs.Common.{is_marked, is_message, is_acknowledged}
 use Rattle.gb_alone.proofs.MarkLemmas.{none_acknowledged, acknowledged-append, is_own_at, acknowledged_more, own_at-append, own_at-same}
 
 -- items behind those that may be acknowledged change nothing

@@ -1,30 +1,13 @@
 -- A slot answers a command as the group alone does.
-use Rattle.std.proofs.Common.{◌≡◌, ℕ, suc, ◌+◌, ◌<◌, List, [], ◌∷◌, ◌++◌, length, get_or, Bool, true, false, ◌||◌, nat_eq, Option, Some, None, refl, sym, ◌∙◌, ap, arith}
-use Rattle.std.specs.Prelude.{is_some, if◌then◌else◌}
-use Rattle.std.specs.Ordering.{nat_cmp}
+use Rattle.gb_types.specs.Common.{◌≡◌, ℕ, suc, ◌+◌, ◌<◌, List, [], ◌∷◌, ◌++◌, length, get_or, Bool, true, false, ◌||◌, nat_eq, Option, Some, None, refl, sym, ◌∙◌, ap, arith, is_some, if◌then◌else◌, nat_cmp, or_right, AreNodes, version_at}
 use Rattle.std.specs.FinSet as set
-use Rattle.std.proofs.lemmas.Bool.{or_right}
-use Rattle.gb_types.specs.Rising.{AreNodes}
-use Rattle.gb_types.specs.Version.{version_at}
-use Rattle.gb_types.specs.declared.address.Addr.{Addr}
-use Rattle.gb_types.specs.declared.entry.Entry.{Entry}
-use Rattle.gb_types.specs.declared.limits.TheConstants.{NODES}
-use Rattle.gb_types.specs.declared.plan.Bounds.{Bounds}
-use Rattle.gb_types.specs.declared.refusal.Refusal.TheVariants.{Spent, Stopped}
-use Rattle.gb_types.specs.declared.reply.Reply.{Reply}
-use Rattle.gb_types.specs.declared.reply.Reply.TheVariants.{Refused}
-use Rattle.gb_types.specs.declared.spec.Spec.{Spec}
+use Rattle.gb_types.specs.declared.{address.Addr.Addr, entry.Entry.Entry, limits.TheConstants.NODES, plan.Bounds.Bounds, refusal.Refusal.TheVariants.Spent, refusal.Refusal.TheVariants.Stopped, reply.Reply.Reply, reply.Reply.TheVariants.Refused, spec.Spec.Spec}
 use Rattle.gb_types.proofs.AllMemberLemmas.{all_rising}
-use Rattle.gb_layer.specs.Machine.{was_noticed}
-use Rattle.gb_rules.specs.History.{calls_of, said_in, bytes_in, log_of}
-use Rattle.gb_rules.specs.Messages.{bytes_of}
-use Rattle.gb_rules.specs.Group.{Shown, is_member, is_other, on_made, absent_answer, open_answer, shut_answer, drop_answer, say_answer, fetch_answer}
-use Rattle.gb_rules.specs.Tenant.{make_answer, by_tenant}
-use Rattle.gb_slot.specs.HistoryLaws.{LogIs}
-use Rattle.gb_slot.specs.Slot.{unfinished_of, waiting}
+use Rattle.gb_layer.specs.Common.{was_noticed}
+use Rattle.gb_rules.specs.Common.{calls_of, said_in, bytes_in, log_of, bytes_of, Shown, is_member, is_other, on_made, absent_answer, open_answer, shut_answer, drop_answer, say_answer, fetch_answer, make_answer, by_tenant}
+use Rattle.gb_slot.specs.Common.{LogIs, unfinished_of, waiting, SlotState}
 use Rattle.gb_slot.specs.Slot as slot
-use Rattle.gb_slot.specs.SlotState.{SlotState}
-use Rattle.gb_alone.specs.Alone.{Member, is_marked, is_acknowledged, is_finished_alone, count_unfinished}
+use Rattle.gb_alone.specs.Common.{Member, is_marked, is_acknowledged, is_finished_alone, count_unfinished}
 use Rattle.gb_alone.specs.Alone as alone
 use Rattle.gb_alone.specs.declared.event.GroupEvent.{GroupEvent}
 use Rattle.gb_alone.specs.declared.event.GroupEvent.TheVariants.{Make as AskMake, Open as AskOpen, Shut as AskShut, Drop as AskDrop, Say as AskSay, Fetch as AskFetch}

@@ -1,11 +1,7 @@
 -- What is seen at each node is what is seen of the group alone.
-use Rattle.std.proofs.Common.{◌≡◌, ℕ, zero, suc, ◌<◌, ◌≤◌, List, [], ◌∷◌, ◌++◌, length, get_or, refl, sym, ◌∙◌, ap, arith, add-one}
-use Rattle.std.specs.Prelude.{map, take}
-use Rattle.std.proofs.lemmas.List.{map-append, take_at, take_more}
-use Rattle.gb_types.specs.declared.entry.Entry.{Entry}
-use Rattle.gb_types.specs.declared.limits.TheConstants.{NODES}
-use Rattle.gb_alone.specs.Alone.{Group}
-use Rattle.gb_alone.specs.Observation.{numbers_below, seen_at, observed_alone}
+use Rattle.gb_types.specs.Common.{◌≡◌, ℕ, zero, suc, ◌<◌, ◌≤◌, List, [], ◌∷◌, ◌++◌, length, get_or, refl, sym, ◌∙◌, ap, arith, add-one, map, take, map-append, take_at, take_more}
+use Rattle.gb_types.specs.declared.{entry.Entry.Entry, limits.TheConstants.NODES}
+use Rattle.gb_alone.specs.Common.{Group, numbers_below, seen_at, observed_alone}
 use Rattle.gb_alone.proofs.ObservationLemmas.{map_more, map_none, seen_same}
 use Rattle.gb_group_run.specs.SlotMember.{SlotMember, new_member, carried_to, waits, member_at, seen_of}
 use Rattle.gb_group_run.proofs.Stands.{AllStand}

@@ -1,18 +1,11 @@
 -- When what a node keeps of the group, with its slot, stands for the group alone there.
-use Rattle.std.specs.Prelude.{ℕ, ◌+◌, ◌≡◌, ◌≤◌, ◌<◌, ◌||◌, Bool, true, false, List, [], ◌++◌, length, get_or, nat_eq, Option, Some, None, is_some}
-use Rattle.std.specs.List.{list_any}
-use Rattle.std.proofs.Common.{ap, sym, subst, ◌∙◌}
+use Rattle.gb_types.specs.Common.{ℕ, ◌+◌, ◌≡◌, ◌≤◌, ◌<◌, ◌||◌, Bool, true, false, List, [], ◌++◌, length, get_or, nat_eq, Option, Some, None, is_some, list_any, ap, sym, subst, ◌∙◌, nat_cmp}
 use Rattle.std.specs.FinSet as set
-use Rattle.std.specs.Ordering.{nat_cmp}
-use Rattle.gb_types.specs.declared.entry.Entry.{Entry}
-use Rattle.gb_types.specs.declared.limits.TheConstants.{NODES}
-use Rattle.gb_rules.specs.Group.{is_gone}
-use Rattle.gb_rules.specs.declared.call.GroupCall.{GroupCall}
-use Rattle.gb_rules.specs.declared.phase.Phase.TheVariants.{Made}
-use Rattle.gb_slot.specs.HistoryLaws.{FreshStands, MovedStands, SaidStands, CameStands, NoticedStands, DoneStands, TookStands, LogIs, FallsIs, WaitingSaid, WaitingCame, WaitingNoticed, WaitingTook, WaitingElsewhere}
-use Rattle.gb_slot.specs.SlotState.{SlotState}
-use Rattle.gb_slot.specs.StandsFor.{StandsFor}
-use Rattle.gb_alone.specs.Alone.{Member, Group, is_marked, is_message, is_acknowledged}
+use Rattle.gb_types.specs.declared.{entry.Entry.Entry, limits.TheConstants.NODES}
+use Rattle.gb_rules.specs.Common.{is_gone}
+use Rattle.gb_rules.specs.declared.{call.GroupCall.GroupCall, phase.Phase.TheVariants.Made}
+use Rattle.gb_slot.specs.Common.{FreshStands, MovedStands, SaidStands, CameStands, NoticedStands, DoneStands, TookStands, LogIs, FallsIs, WaitingSaid, WaitingCame, WaitingNoticed, WaitingTook, WaitingElsewhere, SlotState, StandsFor}
+use Rattle.gb_alone.specs.Common.{Member, Group, is_marked, is_message, is_acknowledged}
 use Rattle.gb_group_run.specs.SlotMember.{SlotMember, carried_to, waits, member_at}
 
 -- what is known of slots

@@ -1,21 +1,10 @@
 -- A step of the group: what the nodes keep stands for the group alone after it.
-use Rattle.std.proofs.Common.{◌≡◌, ℕ, zero, suc, ◌+◌, ◌-◌, ◌<◌, ◌≤◌, List, [], ◌∷◌, ◌++◌, length, get_or, Bool, true, false, ◌||◌, ◌⊎◌, inl, inr, nat_eq, Option, Some, None, refl, sym, ◌∙◌, ap, subst, arith}
-use Rattle.std.specs.Prelude.{replicate, slice_get, slice_set, nat_lt, if◌then◌else◌}
-use Rattle.std.proofs.lemmas.Bool.{cases_eq}
-use Rattle.std.proofs.lemmas.Bool.Decides.{nat_tests}
-use Rattle.std.proofs.lemmas.List.{length-set, length-replicate, get_or-set_same, get_or-set_other, get_or-replicate}
-use Rattle.gb_types.specs.Version.{version_at}
-use Rattle.gb_types.specs.declared.address.Addr.{Addr}
-use Rattle.gb_types.specs.declared.entry.Entry.{Entry}
-use Rattle.gb_types.specs.declared.limits.TheConstants.{NODES}
-use Rattle.gb_types.specs.declared.node.NodeId.{NodeId}
-use Rattle.gb_types.specs.declared.plan.Bounds.{Bounds}
-use Rattle.gb_types.specs.declared.reply.Reply.{Reply}
-use Rattle.gb_slot.specs.SlotState.{SlotState}
-use Rattle.gb_alone.specs.Alone.{Member, Group, reply_to, commanded, taken_in, member_after, after, nobody, alone, is_marked}
-use Rattle.gb_alone.specs.declared.event.GroupEvent.{GroupEvent}
+use Rattle.gb_types.specs.Common.{◌≡◌, ℕ, zero, suc, ◌+◌, ◌-◌, ◌<◌, ◌≤◌, List, [], ◌∷◌, ◌++◌, length, get_or, Bool, true, false, ◌||◌, ◌⊎◌, inl, inr, nat_eq, Option, Some, None, refl, sym, ◌∙◌, ap, subst, arith, replicate, slice_get, slice_set, nat_lt, if◌then◌else◌, cases_eq, nat_tests, length-set, length-replicate, get_or-set_same, get_or-set_other, get_or-replicate, version_at}
+use Rattle.gb_types.specs.declared.{address.Addr.Addr, entry.Entry.Entry, limits.TheConstants.NODES, node.NodeId.NodeId, plan.Bounds.Bounds, reply.Reply.Reply}
+use Rattle.gb_slot.specs.Common.{SlotState}
+use Rattle.gb_alone.specs.Common.{Member, Group, reply_to, commanded, taken_in, member_after, after, nobody, alone, is_marked}
+use Rattle.gb_alone.specs.declared.{event.GroupEvent.GroupEvent, event.GroupStep.GroupStep}
 use Rattle.gb_alone.specs.declared.event.GroupEvent.TheVariants.{Tenant, OtherMade, OtherDropped, Took, Came, Done as Acknowledged, Notice, Stop}
-use Rattle.gb_alone.specs.declared.event.GroupStep.{GroupStep}
 use Rattle.gb_alone.proofs.InsideLemmas.{IsInside, AllInside, run_inside}
 use Rattle.gb_group_run.specs.SlotMember as slots
 use Rattle.gb_group_run.specs.SlotMember.{SlotMember, new_member, carried_to, waits, reply_by, slot_commanded, member_at, slot_member_after, slot_members_after, HasItems}

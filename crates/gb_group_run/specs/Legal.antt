@@ -1,12 +1,9 @@
 -- What the slots check of a step is so in each legal list of steps.
-use Rattle.std.specs.Prelude.{ℕ, ◌+◌, ◌≤◌, ◌<◌, List, ◌∷◌, ◌++◌, length}
-use Rattle.gb_types.specs.declared.address.Addr.{Addr}
-use Rattle.gb_types.specs.declared.node.NodeId.{NodeId}
-use Rattle.gb_types.specs.declared.plan.Bounds.{Bounds}
-use Rattle.gb_alone.specs.Alone.{Group, alone, IsLegal}
-use Rattle.gb_alone.specs.declared.event.GroupEvent.{GroupEvent}
+use Rattle.std.specs.Prelude.{◌+◌, ◌≤◌, ◌<◌, List, ◌∷◌, ◌++◌, length}
+use Rattle.gb_types.specs.declared.{address.Addr.Addr, node.NodeId.NodeId, plan.Bounds.Bounds}
+use Rattle.gb_alone.specs.Common.{Group, alone, IsLegal}
+use Rattle.gb_alone.specs.declared.{event.GroupEvent.GroupEvent, event.GroupStep.GroupStep}
 use Rattle.gb_alone.specs.declared.event.GroupEvent.TheVariants.{Took, Came, Done as Acknowledged}
-use Rattle.gb_alone.specs.declared.event.GroupStep.{GroupStep}
 
 -- as `HasItems`, in the words of the group alone: the items that a step carries wait, and those that come or are acknowledged were carried
 abbrev pub HasItemsAlone : NodeId → GroupEvent → Group → Type 0

@@ -1,27 +1,15 @@
 -- A group by itself, with a slot at each node that made it: what each event makes of what a node keeps of it.
 use Rattle.std.specs.Prelude.{ℕ, ◌+◌, ◌-◌, ◌≤◌, ◌<◌, ◌||◌, Bool, false, true, List, [], ◌∷◌, ◌++◌, fold, length, replicate, take, drop, slice_get, slice_index_or, slice_set, nat_lt, Option, Some, None, option_map, if◌then◌else◌}
 use Rattle.std.specs.FinSet as set
-use Rattle.gb_types.specs.Entry.{message_of}
-use Rattle.gb_types.specs.declared.address.Addr.{Addr}
-use Rattle.gb_types.specs.declared.entry.Entry.{Entry}
-use Rattle.gb_types.specs.declared.limits.TheConstants.{NODES}
-use Rattle.gb_types.specs.declared.node.NodeId.{NodeId}
-use Rattle.gb_types.specs.declared.plan.Bounds.{Bounds}
-use Rattle.gb_types.specs.declared.refusal.Refusal.TheVariants.{Stopped}
-use Rattle.gb_types.specs.declared.reply.Reply.{Reply}
+use Rattle.gb_types.specs.Common.{message_of, version_at}
+use Rattle.gb_types.specs.declared.{address.Addr.Addr, entry.Entry.Entry, limits.TheConstants.NODES, node.NodeId.NodeId, plan.Bounds.Bounds, refusal.Refusal.TheVariants.Stopped, reply.Reply.Reply, version.Version.Version}
 use Rattle.gb_types.specs.declared.reply.Reply.TheVariants.{Done, Said, Refused}
-use Rattle.gb_types.specs.declared.version.Version.{Version}
-use Rattle.gb_types.specs.Version.{version_at}
-use Rattle.gb_rules.specs.Group.{Shown, is_too_long, open_answer, shut_answer, drop_answer, say_answer, fetch_answer, absent_answer}
-use Rattle.gb_rules.specs.Tenant.{make_answer, by_tenant}
-use Rattle.gb_rules.specs.declared.phase.Phase.TheVariants.{Opened, Shut}
-use Rattle.gb_rules.specs.declared.reserve.Reserve.{Reserve}
-use Rattle.gb_slot.specs.Slot.{new_slot, shown, waiting, slot_moved, slot_said, slot_came, slot_noticed, slot_done, slot_took}
-use Rattle.gb_slot.specs.SlotState.{SlotState}
-use Rattle.gb_alone.specs.Observation.{SeenAt}
-use Rattle.gb_alone.specs.declared.event.GroupEvent.{GroupEvent}
+use Rattle.gb_rules.specs.Common.{Shown, is_too_long, open_answer, shut_answer, drop_answer, say_answer, fetch_answer, absent_answer, make_answer, by_tenant}
+use Rattle.gb_rules.specs.declared.{phase.Phase.TheVariants.Opened, phase.Phase.TheVariants.Shut, reserve.Reserve.Reserve}
+use Rattle.gb_slot.specs.Common.{new_slot, shown, waiting, slot_moved, slot_said, slot_came, slot_noticed, slot_done, slot_took, SlotState}
+use Rattle.gb_alone.specs.Common.{SeenAt}
+use Rattle.gb_alone.specs.declared.{event.GroupEvent.GroupEvent, event.GroupStep.GroupStep}
 use Rattle.gb_alone.specs.declared.event.GroupEvent.TheVariants.{Tenant, Make as AskMake, Open as AskOpen, Shut as AskShut, Drop as AskDrop, Say as AskSay, Fetch as AskFetch, OtherMade, OtherDropped, Took, Came, Done as Acknowledged, Notice, Stop}
-use Rattle.gb_alone.specs.declared.event.GroupStep.{GroupStep}
 
 -- what a node keeps of the group
 pub record SlotMember : Type 0 where

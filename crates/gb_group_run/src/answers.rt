@@ -1,8 +1,8 @@
 //! What a slot answers, as replies, and copies of the items that wait in it.
 ghost use Rattle.std.specs.Prelude.{◌≡◌, ◌≤◌, ◌<◌, ◌++◌, IfOk, OnOk, length, take, true, slice_get, Some};
 ghost use Rattle.std.specs.FinSet as set;
-ghost use Rattle.gb_rules.specs.Group.{is_member, open_answer, shut_answer, say_answer, fetch_answer};
-ghost use Rattle.gb_slot.specs.Slot.{IsWithinLimits, new_slot, shown, waiting, slot_moved, slot_said, slot_took};
+ghost use Rattle.gb_rules.specs.Common.{is_member, open_answer, shut_answer, say_answer, fetch_answer};
+ghost use Rattle.gb_slot.specs.Common.{IsWithinLimits, new_slot, shown, waiting, slot_moved, slot_said, slot_took};
 ghost use Rattle.gb_group_run.specs.SlotMember.{slot_marked};
 
 use gb_rules::Phase;

@@ -1,9 +1,8 @@
 //! A group at one node: a slot, and what a slot does not have.
 ghost use Rattle.std.specs.Prelude.{◌≡◌, ◌||◌, ◌+◌, ◌-◌, ◌<◌, ◌≤◌, [], nat_lt, IfOk, OnOk, Some, MatchOption, length, replicate, slice_get, option_map, true};
-ghost use Rattle.gb_types.specs.declared.limits.TheConstants.{NODES as MOST};
-ghost use Rattle.gb_types.specs.declared.node.NodeId.{NodeId as AnyNode};
-ghost use Rattle.gb_rules.specs.Group.{absent_answer, open_answer, shut_answer, drop_answer, say_answer, fetch_answer};
-ghost use Rattle.gb_slot.specs.Slot.{IsWithinLimits, slot_noticed};
+ghost use Rattle.gb_types.specs.declared.{limits.TheConstants.NODES as MOST, node.NodeId.NodeId as AnyNode};
+ghost use Rattle.gb_rules.specs.Common.{absent_answer, open_answer, shut_answer, drop_answer, say_answer, fetch_answer};
+ghost use Rattle.gb_slot.specs.Common.{IsWithinLimits, slot_noticed};
 ghost use Rattle.gb_group_run.specs.SlotMember as model;
 ghost use Rattle.gb_group_run.specs.SlotMember.{carried_to, waits, on_slot};
 

@@ -1,9 +1,9 @@
 //! What is seen of a group by itself, by the slots of its nodes.
 ghost use Rattle.std.specs.Prelude.{◌≡◌, ◌-◌, ◌<◌, ◌≤◌, IfOk, OnOk, length, map, replicate, take, slice_get, slice_set};
 ghost use Rattle.gb_types.specs.declared.limits.TheConstants.{NODES as MOST};
-ghost use Rattle.gb_types.specs.Version.{bounds_of};
+ghost use Rattle.gb_types.specs.Common.{bounds_of};
 ghost use Rattle.gb_alone.specs.Alone as one_group;
-ghost use Rattle.gb_alone.specs.Observation.{observed_alone};
+ghost use Rattle.gb_alone.specs.Common.{observed_alone};
 ghost use Rattle.gb_group_run.specs.SlotMember.{HasItems, new_member, carried_to, member_at, taken_in, slot_members_after, seen_of};
 
 use crate::member::Member;

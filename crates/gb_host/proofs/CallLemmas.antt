@@ -1,13 +1,10 @@
 -- The calls in a tape and in a list, with one more entry.
-use Rattle.std.proofs.Common.{◌≡◌, ◌≢◌, ℕ, zero, suc, ◌≤◌, List, [], ◌∷◌, ◌++◌, inl, inr, length, refl, sym, ap, ◌∙◌, arith, cond, Option, Some, None, IfNone, get_or}
-use Rattle.std.proofs.lemmas.Bool.{ne_eqb, eq-eqb}
-use Rattle.std.proofs.lemmas.Bool.Decides.{eqb_tells}
+use Rattle.gb_types.specs.Common.{◌≡◌, ◌≢◌, ℕ, zero, suc, ◌≤◌, List, [], ◌∷◌, ◌++◌, inl, inr, length, refl, sym, ap, ◌∙◌, arith, cond, Option, Some, None, IfNone, get_or, ne_eqb, eq-eqb, eqb_tells}
 use Rattle.gb_node.specs.declared.tape.TapeEntry.{TapeEntry}
 use Rattle.gb_host.specs.Calls.{Call, calls_of, calls_at, numbered}
 use Rattle.gb_host.specs.Closing.{list_at, IsOther}
 use Rattle.gb_host.specs.Walk.{left_of, IsWalked}
-use Rattle.gb_host.specs.declared.compare.Cursor.{Cursor}
-use Rattle.gb_host.specs.declared.entry.SeatEntry.{SeatEntry}
+use Rattle.gb_host.specs.declared.{compare.Cursor.Cursor, entry.SeatEntry.SeatEntry}
 
 pub at_hit : (node : ℕ) (e : SeatEntry) (es : List SeatEntry) → e.node.number ≡ node → calls_at node (e ∷ es) ≡ (e.event, e.answer) ∷ calls_at node es
 at_hit node e es h = ap (λ b. cond b ((e.event, e.answer) ∷ calls_at node es) (calls_at node es)) (eq-eqb e.node.number node h)

@@ -1,29 +1,16 @@
 -- What follows if each list is its entries in the tapes.
-use Rattle.std.proofs.Common.{◌≡◌, ◌≢◌, ℕ, zero, suc, ◌+◌, ◌<◌, ◌≤◌, ◌==◌, Bool, true, false, List, [], ◌∷◌, ◌++◌, length, refl, sym, ap, ap₂, ◌∙◌, arith, cond, eqb, get_or, append_assoc, sum_by, inl, inr, ◌⊎◌, subst, add_assoc, add_comm, zero-add, Option, Some, None, Result, Ok, Err, vec_len, vec_capacity}
-use Rattle.std.specs.Prelude.{OnOk}
+use Rattle.gb_types.specs.Common.{◌≡◌, ◌≢◌, ℕ, zero, suc, ◌+◌, ◌<◌, ◌≤◌, ◌==◌, Bool, true, false, List, [], ◌∷◌, ◌++◌, length, refl, sym, ap, ap₂, ◌∙◌, arith, cond, eqb, get_or, append_assoc, sum_by, inl, inr, ◌⊎◌, subst, add_assoc, add_comm, zero-add, Option, Some, None, Result, Ok, Err, vec_len, vec_capacity, OnOk, nat_cmp, eq-eqb, ne_eqb, eqb_tells, sum_by-append, get_or_append_left, append-nil, length_push, get_or-append_seam}
 use Rattle.std.specs.FinSet as set
-use Rattle.std.specs.Ordering.{nat_cmp}
-use Rattle.std.proofs.lemmas.Bool.{eq-eqb, ne_eqb}
-use Rattle.std.proofs.lemmas.Bool.Decides.{eqb_tells}
-use Rattle.std.proofs.lemmas.List.Sums.{sum_by-append}
-use Rattle.std.proofs.lemmas.List.{get_or_append_left, append-nil, length_push}
-use Rattle.std.proofs.Math.Seq.{get_or-append_seam}
 use Rattle.gb_types.proofs.SameLemmas.{same_number}
 use Rattle.gb_types.specs.declared.node.NodeId.{NodeId}
-use Rattle.gb_node.specs.NodeStep.{IsTurn}
-use Rattle.gb_node.specs.NodeValue.{NodeValue, new_node}
-use Rattle.gb_node.specs.Past.{Happened, ComesTo}
-use Rattle.gb_node.specs.declared.plan.NodePlan.{NodePlan}
-use Rattle.gb_host.specs.declared.plan.HostPlan.{HostPlan}
-use Rattle.gb_node.specs.declared.tape.TapeEntry.{TapeEntry}
-use Rattle.gb_host.specs.declared.entry.SeatEntry.{SeatEntry}
+use Rattle.gb_node.specs.Common.{IsTurn, NodeValue, Happened, ComesTo}
+use Rattle.gb_node.specs.declared.{plan.NodePlan.NodePlan, tape.TapeEntry.TapeEntry}
+use Rattle.gb_host.specs.declared.{plan.HostPlan.HostPlan, entry.SeatEntry.SeatEntry, closed.Closed.Closed, fault.HostFault.HostFault}
 use Rattle.gb_host.specs.SeatValue.{SeatValue}
 use Rattle.gb_host.specs.Placed.{AreSoFar, HasAdded}
 use Rattle.gb_host.specs.Plans.{plan_of}
-use Rattle.gb_host.specs.declared.closed.Closed.{Closed}
-use Rattle.gb_host.specs.declared.fault.HostFault.{HostFault}
 use Rattle.gb_host.specs.Calls.{Call, calls_of, calls_at, numbered}
-use Rattle.gb_host.specs.Replay.{happened, past_of, IsReplay}
+use Rattle.gb_host.specs.Replay.{happened, past_of}
 use Rattle.gb_host.specs.Closing.{tape_at, list_at, list_of, IsClosed, AreReplays, AreSame, AreFresh, tape_entries, seat_entries}
 use Rattle.gb_host.proofs.CallLemmas.{calls_at_append, call_of, past_end, at_hit, of_hit, of_miss}
 

@@ -1,9 +1,6 @@
 -- All nodes with numbers below a number.
-use Rattle.std.proofs.Common.{◌≡◌, ◌≢◌, ◌⊎◌, ◌∙◌, ℕ, ◌+◌, ◌<◌, ◌||◌, Bool, true, false, nat_eq, ap, arith, eqb, inl, inr, refl, subst, sym, true≢false}
-use Rattle.std.proofs.lemmas.Bool.{eq-eqb}
-use Rattle.std.proofs.lemmas.Bool.Decides.{eqb_tells}
+use Rattle.gb_types.specs.Common.{◌≡◌, ◌≢◌, ◌⊎◌, ◌∙◌, ℕ, ◌+◌, ◌<◌, ◌||◌, Bool, true, false, nat_eq, ap, arith, inl, inr, refl, sym, true≢false, eq-eqb, eqb_tells, nat_cmp}
 use Rattle.std.specs.FinSet as set
-use Rattle.std.specs.Ordering.{nat_cmp}
 use Rattle.gb_types.proofs.InsertedLemmas.{contains-insert}
 
 or_true : (b : Bool) → (b || true) ≡ true

@@ -1,29 +1,21 @@
 -- What is kept of a call.
-use Rattle.std.proofs.Common.{◌≡◌, ◌≢◌, ◌<◌, ◌∙◌, ◌++◌, ◌&&◌, ◌||◌, not, Bool, true, false, ℕ, List, [], ◌∷◌, ap, cond, refl, sym, subst}
+use Rattle.gb_types.specs.Common.{◌≡◌, ◌≢◌, ◌<◌, ◌∙◌, ◌++◌, ◌&&◌, ◌||◌, not, Bool, true, false, ℕ, List, [], ◌∷◌, ap, cond, refl, sym, subst}
 use Rattle.gb_past.specs.Story.{Known}
 use Rattle.gb_types.specs.declared.node.NodeId.{NodeId}
-use Rattle.gb_node.specs.NodeValue.{NodeValue}
-use Rattle.gb_node.specs.Past.{ComesTo}
-use Rattle.gb_node.specs.declared.answer.NodeAnswer.{NodeAnswer}
-use Rattle.gb_node.specs.declared.event.NodeEvent.{NodeEvent}
-use Rattle.gb_node.specs.declared.tape.TapeEntry.{TapeEntry}
+use Rattle.gb_node.specs.Common.{NodeValue, ComesTo}
+use Rattle.gb_node.specs.declared.{answer.NodeAnswer.NodeAnswer, event.NodeEvent.NodeEvent, tape.TapeEntry.TapeEntry}
 use Rattle.gb_host.specs.Copied.{AreCopies, list_copy, tape_copy}
 use Rattle.gb_host.specs.HostValue.{IsUnkept}
 use Rattle.gb_host.specs.KeptPast.{kept_entries, tape_in, way_of, AreFor, IsKeptAt, IsNoted, IsRoomless, IsSameWay}
 use Rattle.gb_host.specs.Pasts.{BookName, book_at}
-use Rattle.gb_host.specs.Plans.{is_kept, is_ringed, plan_of}
+use Rattle.gb_host.specs.Plans.{is_kept, plan_of}
 use Rattle.gb_host.specs.Replay.{past_of, IsReplay}
 use Rattle.gb_host.specs.RingValues.{OutletValue}
 use Rattle.gb_host.specs.Rings.{IsPast}
-use Rattle.gb_host.specs.declared.copies.Copies.{Copies}
+use Rattle.gb_host.specs.declared.{copies.Copies.Copies, copies.Way.TheVariants.Nowhere, fault.HostFault.HostFault, kept.Kept.Kept, plan.HostPlan.HostPlan}
 use Rattle.gb_host.specs.declared.copies.Copies.TheVariants.{No, ForMemory, ForRing}
-use Rattle.gb_host.specs.declared.copies.Way.TheVariants.{Nowhere}
-use Rattle.gb_host.specs.declared.entry.SeatEntry.{SeatEntry}
-use Rattle.gb_host.specs.declared.fault.HostFault.{HostFault}
 use Rattle.gb_host.specs.declared.fault.HostFault.TheVariants.{NoNode, ForeignSeat, Differs, OutOfMemory, Full, Behind}
-use Rattle.gb_host.specs.declared.kept.Kept.{Kept}
 use Rattle.gb_host.specs.declared.kept.Kept.TheVariants.{Nothing, Memory, Ring}
-use Rattle.gb_host.specs.declared.plan.HostPlan.{HostPlan}
 
 taped : (t r : Bool) → t ≡ true → (t || r) ≡ true
 taped true r h = refl

@@ -1,10 +1,6 @@
 -- Recorders at the places of their nodes.
-use Rattle.std.proofs.Common.{◌≡◌, ◌∙◌, ℕ, ◌+◌, ◌<◌, ◌++◌, ◌&&◌, ◌||◌, not, Bool, true, false, refl, List, [], ◌∷◌, Option, None, ap, arith, get_or, inl, inr, length, subst, sym}
+use Rattle.gb_types.specs.Common.{◌≡◌, ◌∙◌, ℕ, ◌+◌, ◌<◌, ◌++◌, ◌&&◌, ◌||◌, not, Bool, true, false, refl, List, [], ◌∷◌, Option, None, ap, arith, get_or, inl, inr, length, subst, sym, nat_cmp, eqb_tells, get_or_append_left, get_or-append_seam}
 use Rattle.std.specs.FinSet as set
-use Rattle.std.specs.Ordering.{nat_cmp}
-use Rattle.std.proofs.lemmas.Bool.Decides.{eqb_tells}
-use Rattle.std.proofs.lemmas.List.{get_or_append_left}
-use Rattle.std.proofs.Math.Seq.{get_or-append_seam}
 use Rattle.gb_host.specs.HostValue.{AreOpened, IsOpened, IsOpenedAt}
 use Rattle.gb_host.specs.RingValues.{RecorderValue}
 use Rattle.gb_host.specs.declared.plan.HostPlan.{HostPlan}

@@ -1,10 +1,6 @@
 -- Plans of nodes that all send one version.
-use Rattle.std.proofs.Common.{ℕ, ◌<◌, ◌≤◌, replicate, sym, subst, arith}
-use Rattle.std.proofs.lemmas.List.{get_or-replicate}
-use Rattle.gb_types.specs.Version.{limits_of, version_at}
-use Rattle.gb_types.specs.declared.limits.TheConstants.{NODES}
-use Rattle.gb_types.specs.declared.version.Version.{Version}
-use Rattle.gb_types.specs.declared.version.Version.TheVariants.{One}
+use Rattle.gb_types.specs.Common.{ℕ, ◌<◌, ◌≤◌, replicate, sym, subst, arith, get_or-replicate, limits_of, version_at}
+use Rattle.gb_types.specs.declared.{limits.TheConstants.NODES, version.Version.Version, version.Version.TheVariants.One}
 
 -- Where all nodes send one version, and it can name that many nodes, the version of each node can name them.
 pub all_named : (version : Version) (nodes a : ℕ) → nodes ≤ NODES → nodes ≤ (limits_of version).nodes → a < nodes → nodes ≤ (limits_of (version_at (replicate NODES version) a)).nodes

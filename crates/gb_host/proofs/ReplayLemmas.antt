@@ -1,20 +1,10 @@
 -- One more entry in a tape, and one more call in a seat's list.
-use Rattle.std.proofs.Common.{◌≡◌, ◌≢◌, ℕ, zero, suc, ◌+◌, ◌<◌, ◌≤◌, ◌==◌, Bool, true, false, List, [], ◌∷◌, ◌++◌, length, refl, sym, ap, subst, ◌∙◌, arith, cond, get_or, set, add_assoc, add_comm, replicate, inl, inr, Option, Some, None}
-use Rattle.std.proofs.lemmas.Grind.{common_steps}
-use Rattle.std.proofs.lemmas.Bool.Decides.{eqb_tells}
-use Rattle.std.proofs.lemmas.List.{append-nil, get_or-replicate, get_or-set_same, get_or-set_other, get_or_append_left, length-set, length_push}
-use Rattle.std.proofs.Math.Seq.{get_or-append_seam}
+use Rattle.gb_types.specs.Common.{◌≡◌, ◌≢◌, ℕ, zero, suc, ◌+◌, ◌<◌, ◌≤◌, ◌==◌, Bool, true, false, List, [], ◌∷◌, ◌++◌, length, refl, sym, ap, subst, ◌∙◌, arith, cond, get_or, set, add_assoc, add_comm, replicate, inl, inr, common_steps, eqb_tells, append-nil, get_or-replicate, get_or-set_same, get_or-set_other, get_or_append_left, length-set, length_push, get_or-append_seam}
 use Rattle.gb_past.specs.Story.{Known}
 use Rattle.gb_types.proofs.SameLemmas.{same_number}
-use Rattle.gb_types.specs.declared.limits.TheConstants.{NODES}
-use Rattle.gb_types.specs.declared.node.NodeId.{NodeId}
-use Rattle.gb_node.specs.NodeValue.{NodeValue, new_node, IsNodePlan}
-use Rattle.gb_node.specs.NodeStep.{IsTurn, IsSpelt}
-use Rattle.gb_node.specs.Past.{Happened, ComesTo}
-use Rattle.gb_node.specs.declared.plan.NodePlan.{NodePlan}
-use Rattle.gb_node.specs.declared.tape.TapeEntry.{TapeEntry}
-use Rattle.gb_node.specs.declared.answer.NodeAnswer.{NodeAnswer}
-use Rattle.gb_node.specs.declared.event.NodeEvent.{NodeEvent}
+use Rattle.gb_types.specs.declared.{limits.TheConstants.NODES, node.NodeId.NodeId}
+use Rattle.gb_node.specs.Common.{NodeValue, new_node, IsNodePlan, IsTurn, IsSpelt, Happened, ComesTo}
+use Rattle.gb_node.specs.declared.{plan.NodePlan.NodePlan, tape.TapeEntry.TapeEntry}
 use Rattle.gb_host.specs.Calls.{Call, calls_at}
 use Rattle.gb_host.specs.Happened.{AreAmong, GoesOn, HasHappened, HaveHappened}
 use Rattle.gb_host.specs.Pasts.{BookName, no_book, book_at, books_of, past_at, seen_at, AreOfBooks, AreUnseen}
@@ -24,8 +14,7 @@ use Rattle.gb_host.specs.HostedValue.{HostedValue}
 use Rattle.gb_host.specs.Plans.{is_kept, plan_of, IsPlan}
 use Rattle.gb_host.specs.Replay.{happened, past_of}
 use Rattle.gb_host.specs.SeatValue.{SeatValue}
-use Rattle.gb_host.specs.declared.entry.SeatEntry.{SeatEntry}
-use Rattle.gb_host.specs.declared.plan.HostPlan.{HostPlan}
+use Rattle.gb_host.specs.declared.{entry.SeatEntry.SeatEntry, plan.HostPlan.HostPlan}
 
 -- The replay of one entry more.
 

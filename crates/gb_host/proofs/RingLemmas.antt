@@ -1,18 +1,15 @@
 -- One more value goes through a ring.
-use Rattle.std.proofs.Common.{◌≡◌, ◌<◌, ◌∙◌, ◌++◌, List, [], ◌∷◌, Option, Some, None, ap, refl, sym, subst}
+use Rattle.gb_types.specs.Common.{◌≡◌, ◌<◌, ◌∙◌, ◌++◌, List, [], ◌∷◌, Option, Some, None, ap, refl, sym, subst}
 use Rattle.gb_past.specs.Story.{Known}
 use Rattle.gb_types.specs.declared.node.NodeId.{NodeId}
-use Rattle.gb_node.specs.NodeStep.{IsTurn, IsSpelt}
-use Rattle.gb_node.specs.NodeValue.{NodeValue, new_node}
-use Rattle.gb_node.specs.Past.{ComesTo}
+use Rattle.gb_node.specs.Common.{IsTurn, IsSpelt, NodeValue, new_node, ComesTo}
 use Rattle.gb_node.specs.declared.tape.TapeEntry.{TapeEntry}
 use Rattle.gb_host.specs.Pasts.{BookName, book_at}
 use Rattle.gb_host.specs.Plans.{plan_of, IsPlan}
 use Rattle.gb_host.specs.Replay.{past_of}
 use Rattle.gb_host.specs.Rings.{entries_of, AreEntries, Follows, HasBegun, HasTaken, IsPast}
-use Rattle.gb_host.specs.declared.noted.Noted.{Noted}
+use Rattle.gb_host.specs.declared.{noted.Noted.Noted, plan.HostPlan.HostPlan}
 use Rattle.gb_host.specs.declared.noted.Noted.TheVariants.{Begin, Entry, End}
-use Rattle.gb_host.specs.declared.plan.HostPlan.{HostPlan}
 use Rattle.gb_host.proofs.ReplayLemmas.{comes_new, node_plan_right, replay_more}
 
 entries_push : (xs : List Noted) (e : TapeEntry) (s : Known TapeEntry) → entries_of (xs ++ Entry e s ∷ []) ≡ entries_of xs ++ e ∷ []

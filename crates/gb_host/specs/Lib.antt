@@ -16,3 +16,4 @@ pub mod Listed
 pub mod Rings
 pub mod RingValues
 pub mod KeptPast
+pub mod Common

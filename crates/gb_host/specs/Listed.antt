@@ -1,11 +1,8 @@
 -- A list of a node's groups.
 use Rattle.std.specs.Prelude.{ℕ, List, Result}
-use Rattle.gb_types.specs.declared.node.NodeId.{NodeId}
-use Rattle.gb_types.specs.declared.refusal.Refusal.{Refusal}
+use Rattle.gb_types.specs.declared.{node.NodeId.NodeId, refusal.Refusal.Refusal}
 use Rattle.gb_table.specs.declared.listing.Listing.{Listing}
-use Rattle.gb_node.specs.Listing.{Lists}
-use Rattle.gb_node.specs.NodeValue.{NodeValue}
-use Rattle.gb_node.specs.Past.{ComesTo}
+use Rattle.gb_node.specs.Common.{Lists, NodeValue, ComesTo}
 use Rattle.gb_node.specs.declared.tape.TapeEntry.{TapeEntry}
 use Rattle.gb_host.specs.Plans.{plan_of}
 use Rattle.gb_host.specs.Replay.{past_of}

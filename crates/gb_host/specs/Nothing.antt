@@ -1,15 +1,8 @@
 -- Packs and agains that give nothing: they are no events of a node.
 use Rattle.std.specs.Prelude.{◌≡◌, ◌++◌, Bool, true, false, List}
 use Rattle.gb_types.specs.declared.node.NodeId.{NodeId}
-use Rattle.gb_node.specs.NodeStep.{IsTurn}
-use Rattle.gb_node.specs.NodeValue.{NodeValue}
-use Rattle.gb_node.specs.Past.{ComesTo}
-use Rattle.gb_node.specs.declared.answer.NodeAnswer.{NodeAnswer}
-use Rattle.gb_node.specs.declared.answer.NodeAnswer.TheVariants.{Sent}
-use Rattle.gb_node.specs.declared.answer.Sent.TheVariants.{Nothing}
-use Rattle.gb_node.specs.declared.event.NodeEvent.{NodeEvent}
-use Rattle.gb_node.specs.declared.event.NodeEvent.TheVariants.{Pack, Again}
-use Rattle.gb_node.specs.declared.tape.TapeEntry.{TapeEntry}
+use Rattle.gb_node.specs.Common.{IsTurn, NodeValue, ComesTo}
+use Rattle.gb_node.specs.declared.{answer.NodeAnswer.NodeAnswer, answer.NodeAnswer.TheVariants.Sent, answer.Sent.TheVariants.Nothing, event.NodeEvent.NodeEvent, event.NodeEvent.TheVariants.Pack, event.NodeEvent.TheVariants.Again, tape.TapeEntry.TapeEntry}
 use Rattle.gb_host.specs.Pasts.{past_at}
 use Rattle.gb_host.specs.Plans.{plan_of}
 use Rattle.gb_host.specs.Replay.{past_of}

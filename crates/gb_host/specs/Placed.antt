@@ -3,11 +3,10 @@ use Rattle.std.specs.Prelude.{◌≡◌, ◌≤◌, Bool, List, [], ◌∷◌, �
 use Rattle.std.specs.FinSet as set
 use Rattle.std.specs.Ordering.{nat_cmp}
 use Rattle.gb_types.specs.declared.node.NodeId.{NodeId}
-use Rattle.gb_node.specs.NodeValue.{NodeValue}
+use Rattle.gb_node.specs.Common.{NodeValue}
 use Rattle.gb_node.specs.declared.tape.TapeEntry.{TapeEntry}
 use Rattle.gb_host.specs.Closing.{AreReplays, IsClosed}
-use Rattle.gb_host.specs.declared.closed.Closed.{Closed}
-use Rattle.gb_host.specs.declared.plan.HostPlan.{HostPlan}
+use Rattle.gb_host.specs.declared.{closed.Closed.Closed, plan.HostPlan.HostPlan}
 
 -- one more node and its tape were added
 abbrev pub HasAdded : HostPlan → Bool → NodeId → Closed → Closed → Type 0

@@ -2,8 +2,7 @@
 use Rattle.std.specs.Prelude.{ℕ, ◌≡◌, Bool, true, false, List, [], ◌∷◌, ◌++◌}
 use Rattle.gb_types.specs.declared.node.NodeId.{NodeId}
 use Rattle.gb_node.specs.declared.tape.TapeEntry.{TapeEntry}
-use Rattle.gb_host.specs.declared.recorder.Taken.{Taken}
-use Rattle.gb_host.specs.declared.recorder.Taken.TheVariants.{Entry, End}
+use Rattle.gb_host.specs.declared.{recorder.Taken.Taken, recorder.Taken.TheVariants.Entry, recorder.Taken.TheVariants.End}
 
 pub record OutletValue : Type 0 where
   pub node : NodeId

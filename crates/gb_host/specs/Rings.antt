@@ -1,16 +1,14 @@
 -- What goes through the ring from a node to its recorder: a beginning, then what happened, in order, then an end.
-use Rattle.std.specs.Prelude.{ℕ, ◌≡◌, ◌<◌, Bool, true, false, List, [], ◌∷◌, ◌++◌, Option, Some, None}
+use Rattle.std.specs.Prelude.{◌≡◌, ◌<◌, Bool, true, false, List, [], ◌∷◌, ◌++◌, Option, Some, None}
 use Rattle.gb_past.specs.Story.{Known}
 use Rattle.gb_types.specs.declared.node.NodeId.{NodeId}
-use Rattle.gb_node.specs.NodeValue.{NodeValue}
-use Rattle.gb_node.specs.Past.{ComesTo}
+use Rattle.gb_node.specs.Common.{NodeValue, ComesTo}
 use Rattle.gb_node.specs.declared.tape.TapeEntry.{TapeEntry}
 use Rattle.gb_host.specs.Pasts.{BookName, book_at}
 use Rattle.gb_host.specs.Plans.{plan_of}
 use Rattle.gb_host.specs.Replay.{past_of}
-use Rattle.gb_host.specs.declared.noted.Noted.{Noted}
+use Rattle.gb_host.specs.declared.{noted.Noted.Noted, plan.HostPlan.HostPlan}
 use Rattle.gb_host.specs.declared.noted.Noted.TheVariants.{Begin, Entry, End}
-use Rattle.gb_host.specs.declared.plan.HostPlan.{HostPlan}
 
 -- These entries are all that is known of the past of a node of the plan, and by them the node comes to a state.
 pub record IsPast (p : HostPlan) (books : List BookName) (b : NodeId) (entries : List TapeEntry) (known : Known TapeEntry) : Type 0 where

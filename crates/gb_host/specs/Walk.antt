@@ -3,8 +3,7 @@ use Rattle.std.specs.Prelude.{ℕ, ◌≡◌, ◌≤◌, ◌↔◌, List, [], �
 use Rattle.gb_node.specs.declared.tape.TapeEntry.{TapeEntry}
 use Rattle.gb_host.specs.Calls.{Call, calls_of, calls_at, numbered}
 use Rattle.gb_host.specs.Closing.{list_at}
-use Rattle.gb_host.specs.declared.compare.Cursor.{Cursor}
-use Rattle.gb_host.specs.declared.entry.SeatEntry.{SeatEntry}
+use Rattle.gb_host.specs.declared.{compare.Cursor.Cursor, entry.SeatEntry.SeatEntry}
 
 -- how far the list with this number was walked
 abbrev pub cursor_at : List Cursor → ℕ → Cursor

@@ -1,7 +1,6 @@
 //! Copies of a call, for the memory or the ring in which it is kept.
 ghost use Rattle.std.specs.Prelude.{◌≡◌, ◌≢◌, ◌≤◌, [], true, false, vec_capacity, IfOk, IfErr, OnErr};
-ghost use Rattle.gb_node.specs.NodeStep.{IsTurn, IsSpelt};
-ghost use Rattle.gb_node.specs.Reads.{is_read, packet_room};
+ghost use Rattle.gb_node.specs.Common.{IsTurn, IsSpelt, is_read, packet_room};
 ghost use Rattle.gb_host.specs.Copied.{AreCopies};
 ghost use Rattle.gb_host.specs.declared.copies.Way.TheVariants.{Nowhere};
 

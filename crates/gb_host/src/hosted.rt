@@ -1,7 +1,6 @@
 //! A node under its lock.
 ghost use Rattle.std.specs.Prelude.{◌≡◌, ◌&&◌, ◌+◌, ◌-◌, ◌<◌, ◌≤◌, ◌^◌, ◌++◌, ◌∷◌, [], List, true, false, length, vec_len, IfOk, IfErr, IfNone, IfSome, OnOk, OnErr, OnSome, IsSome, Option, cond, slice_index, slice_set, vec_capacity};
-ghost use Rattle.gb_node.specs.NodeStep.{IsTurn, IsSpelt};
-ghost use Rattle.gb_node.specs.NodeValue.{new_node};
+ghost use Rattle.gb_node.specs.Common.{IsTurn, IsSpelt, new_node};
 ghost use Rattle.gb_host.specs.Happened.{GoesOn};
 ghost use Rattle.gb_host.specs.HostValue.{IsUnkept};
 ghost use Rattle.gb_host.specs.KeptPast.{kept_entries, IsKeptAt};

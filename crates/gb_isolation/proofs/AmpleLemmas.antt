@@ -1,17 +1,9 @@
 -- If no answer of a run refuses for lack of memory, no group's request was refused for it.
-use Rattle.std.proofs.Common.{◌≡◌, List, [], ◌∷◌, true, not, ◌&&◌, refl, ap, ◌∙◌}
-use Rattle.std.proofs.lemmas.Bool.{and_parts}
-use Rattle.gb_types.specs.declared.address.Addr.{Addr}
-use Rattle.gb_types.specs.declared.refusal.Refusal.TheVariants.{OutOfMemory}
-use Rattle.gb_types.specs.declared.reply.Reply.TheVariants.{Refused}
-use Rattle.gb_node.specs.Past.{Happened}
-use Rattle.gb_node.specs.declared.answer.NodeAnswer.{NodeAnswer}
-use Rattle.gb_node.specs.declared.answer.NodeAnswer.TheVariants.{Reply as Replied}
-use Rattle.gb_node.specs.declared.event.NodeEvent.{NodeEvent}
-use Rattle.gb_node.specs.declared.event.NodeEvent.TheVariants.{Request as Asked}
-use Rattle.gb_node.specs.declared.plan.NodePlan.{NodePlan}
-use Rattle.gb_cluster.specs.ClusterValue.{node_plan}
-use Rattle.gb_cluster.specs.Run.{past_at}
+use Rattle.gb_types.specs.Common.{◌≡◌, List, [], ◌∷◌, true, not, ◌&&◌, refl, ap, ◌∙◌, and_parts}
+use Rattle.gb_types.specs.declared.{address.Addr.Addr, refusal.Refusal.TheVariants.OutOfMemory, reply.Reply.TheVariants.Refused}
+use Rattle.gb_node.specs.Common.{Happened}
+use Rattle.gb_node.specs.declared.{answer.NodeAnswer.NodeAnswer, answer.NodeAnswer.TheVariants.Reply as Replied, event.NodeEvent.NodeEvent, event.NodeEvent.TheVariants.Request as Asked, plan.NodePlan.NodePlan}
+use Rattle.gb_cluster.specs.Common.{node_plan, past_at}
 use Rattle.gb_isolation.specs.Isolation.{wants_memory, is_ample, AmpleRunsFeedAll}
 use Rattle.gb_isolation.specs.Project.{is_fed, is_starved_by}
 

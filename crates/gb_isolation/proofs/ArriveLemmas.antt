@@ -1,37 +1,18 @@
 -- What a packet that is taken does to a group.
-use Rattle.std.proofs.Common.{◌≡◌, ◌≢◌, ℕ, ◌+◌, ◌-◌, ◌<◌, ◌≤◌, List, [], ◌∷◌, ◌++◌, length, map, fold, option_map, Some, Bool, true, false, not, ◌&&◌, ◌||◌, refl, sym, ◌∙◌, ap, subst, arith, nat_eq, nat_le, slice_get}
-use Rattle.std.specs.Prelude.{All, if◌then◌else◌}
-use Rattle.std.specs.List.{list_any, flat_map}
+use Rattle.gb_types.specs.Common.{◌≡◌, ◌≢◌, ℕ, ◌+◌, ◌-◌, ◌<◌, ◌≤◌, List, [], ◌∷◌, ◌++◌, length, map, fold, option_map, Some, Bool, true, false, not, ◌&&◌, ◌||◌, refl, sym, ◌∙◌, ap, subst, arith, nat_eq, nat_le, slice_get, All, if◌then◌else◌, list_any, flat_map, or-false, false_from_ne_true, append-nil, bounds_of, version_at}
 use Rattle.std.specs.FinSet as set
-use Rattle.std.proofs.Math.Bool.{or-false}
-use Rattle.std.proofs.lemmas.Bool.{false_from_ne_true}
-use Rattle.std.proofs.lemmas.List.{append-nil}
-use Rattle.gb_types.specs.declared.address.Addr.{Addr}
-use Rattle.gb_types.specs.declared.limits.TheConstants.{NODES}
-use Rattle.gb_types.specs.declared.node.NodeId.{NodeId}
+use Rattle.gb_types.specs.declared.{address.Addr.Addr, limits.TheConstants.NODES, node.NodeId.NodeId, plan.Plan.Plan, version.Version.Version}
 use Rattle.gb_frame.specs.declared.item.Item.{Item}
-use Rattle.gb_frame.specs.Packet.{Content}
-use Rattle.gb_link.specs.Ack.{covers}
+use Rattle.gb_frame.specs.Common.{Content, items_for}
+use Rattle.gb_link.specs.Common.{covers}
 use Rattle.gb_detect.specs.Silence.{Heard}
 use Rattle.gb_detect.specs.Watch.{start, replay}
-use Rattle.gb_rules.specs.Tenant.{reserve_of, row_of}
-use Rattle.gb_alone.specs.Alone.{Member, Group, alone_from}
-use Rattle.gb_frame.specs.Items.{items_for}
-use Rattle.gb_node.specs.NodeStep.{node_numbered}
-use Rattle.gb_node.specs.Past.{Happened, read, frames_to, is_ack, is_acked, is_frame, is_first, is_taken, is_stopped, tenants_in, watched}
-use Rattle.gb_node.specs.PastGroups.{waiting_of, came_told, taken_told, told_of, living_of}
-use Rattle.gb_node.specs.StepLaw.{IsTakenIn}
-use Rattle.gb_node.specs.declared.answer.Good.{Good}
-use Rattle.gb_node.specs.declared.answer.NodeAnswer.TheVariants.{Taken}
-use Rattle.gb_node.specs.declared.answer.PacketAnswer.TheVariants.{Good as TakenGood}
-use Rattle.gb_node.specs.declared.event.NodeEvent.TheVariants.{Packet as Brought}
-use Rattle.gb_node.specs.declared.plan.NodePlan.{NodePlan}
+use Rattle.gb_rules.specs.Common.{reserve_of, row_of}
+use Rattle.gb_alone.specs.Common.{Member, Group, alone_from}
+use Rattle.gb_node.specs.Common.{node_numbered, Happened, read, frames_to, is_ack, is_acked, is_frame, is_first, is_taken, is_stopped, tenants_in, watched, waiting_of, came_told, taken_told, told_of, living_of, IsTakenIn}
+use Rattle.gb_node.specs.declared.{answer.Good.Good, answer.NodeAnswer.TheVariants.Taken, answer.PacketAnswer.TheVariants.Good as TakenGood, event.NodeEvent.TheVariants.Packet as Brought, plan.NodePlan.NodePlan}
 use Rattle.gb_node.proofs.TookLemmas.{numbered_is}
-use Rattle.gb_cluster.specs.ClusterValue.{node_plan}
-use Rattle.gb_cluster.specs.Run.{Did, past_at}
-use Rattle.gb_types.specs.declared.plan.Plan.{Plan}
-use Rattle.gb_types.specs.declared.version.Version.{Version}
-use Rattle.gb_types.specs.Version.{bounds_of, version_at}
+use Rattle.gb_cluster.specs.Common.{node_plan, Did, past_at}
 use Rattle.gb_isolation.specs.Project.{group_items_of, group_items, offset, made_with, replies_in, is_met, comes, all_acknowledged, acknowledges, brings, arrived, is_new_frame}
 use Rattle.gb_isolation.specs.RunLaws.{is_dropped}
 use Rattle.gb_isolation.proofs.View.{View, view_of, Fits, Goes, AreMarked, frames_for, view_at, AllFit}

@@ -1,34 +1,16 @@
 -- The view of a group after a request, and what one command does to the group alone.
-use Rattle.std.proofs.Common.{◌≡◌, ℕ, ◌<◌, List, [], ◌∷◌, ◌++◌, length, Option, Some, None, Bool, true, false, ◌&&◌, ◌||◌, refl, sym, ◌∙◌, ap, subst}
-use Rattle.std.specs.Option.{option_or}
-use Rattle.std.specs.Prelude.{if◌then◌else◌, nat_le, option_map}
+use Rattle.gb_types.specs.Common.{◌≡◌, ℕ, ◌<◌, List, [], ◌∷◌, ◌++◌, length, Option, Some, None, Bool, true, false, ◌&&◌, ◌||◌, refl, sym, ◌∙◌, ap, subst, option_or, if◌then◌else◌, nat_le, option_map, and_parts, and_right, append-nil}
 use Rattle.std.specs.FinSet as set
-use Rattle.std.proofs.lemmas.Bool.{and_parts, and_right}
-use Rattle.std.proofs.lemmas.List.{append-nil}
-use Rattle.gb_types.specs.declared.address.Addr.{Addr}
-use Rattle.gb_types.specs.declared.entry.Entry.{Entry}
-use Rattle.gb_types.specs.declared.node.NodeId.{NodeId}
-use Rattle.gb_types.specs.declared.refusal.Refusal.{Refusal}
-use Rattle.gb_types.specs.declared.reply.Reply.{Reply}
+use Rattle.gb_types.specs.declared.{address.Addr.Addr, entry.Entry.Entry, node.NodeId.NodeId, refusal.Refusal.Refusal, reply.Reply.Reply, request.Request.Request, spec.Spec.Spec, plan.Bounds.Bounds, version.Version.Version}
 use Rattle.gb_types.specs.declared.reply.Reply.TheVariants.{Done, Said, Refused}
-use Rattle.gb_types.specs.declared.request.Request.{Request}
-use Rattle.gb_types.specs.declared.spec.Spec.{Spec}
-use Rattle.gb_types.specs.declared.plan.Bounds.{Bounds}
-use Rattle.gb_types.specs.declared.version.Version.{Version}
 use Rattle.gb_frame.specs.declared.item.Item.{Item}
-use Rattle.gb_rules.specs.Group.{is_gone}
-use Rattle.gb_rules.specs.Lifetime.{passed, where_so}
-use Rattle.gb_rules.specs.Tenant.{reserve_of, row_of}
+use Rattle.gb_rules.specs.Common.{is_gone, passed, where_so, reserve_of, row_of}
 use Rattle.gb_rules.specs.declared.reserve.Reserve.{Reserve}
 use Rattle.gb_alone.specs.declared.event.GroupEvent.{GroupEvent}
 use Rattle.gb_alone.specs.declared.event.GroupEvent.TheVariants.{Make as AskMake, Open as AskOpen, Shut as AskShut, Drop as AskDrop, Say as AskSay}
-use Rattle.gb_alone.specs.Alone.{Member, Group, did, commanded, member_after, is_marked, MayHappen}
-use Rattle.gb_node.specs.Past.{Happened, frames_to, is_acked, is_taken, watched, added, tenants_in, is_stopped}
-use Rattle.gb_node.specs.PastGroups.{Told, noticed_after, waiting_of, asked_told, told_of, living_after, living_done, living_of}
-use Rattle.gb_node.specs.declared.answer.NodeAnswer.TheVariants.{Reply as Replied}
-use Rattle.gb_node.specs.declared.event.NodeEvent.TheVariants.{Request as Asked}
-use Rattle.gb_node.specs.StepLaw.{has_group_token}
-use Rattle.gb_node.specs.declared.plan.NodePlan.{NodePlan}
+use Rattle.gb_alone.specs.Common.{Member, Group, did, commanded, member_after, is_marked, MayHappen}
+use Rattle.gb_node.specs.Common.{Happened, frames_to, is_acked, is_taken, watched, added, tenants_in, is_stopped, Told, noticed_after, waiting_of, asked_told, told_of, living_after, living_done, living_of, has_group_token}
+use Rattle.gb_node.specs.declared.{answer.NodeAnswer.TheVariants.Reply as Replied, event.NodeEvent.TheVariants.Request as Asked, plan.NodePlan.NodePlan}
 use Rattle.gb_isolation.specs.Project.{group_items_of, is_named, is_own_request, made_by, made_with, is_met_by, is_met, reply_in, replies_in}
 use Rattle.gb_isolation.specs.RunLaws.{is_dropped, is_dropped_by}
 use Rattle.gb_isolation.proofs.GoesLemmas.{goes_one}

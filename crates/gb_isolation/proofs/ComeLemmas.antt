@@ -1,27 +1,14 @@
 -- The items of a frame come: in the past, and for the group alone.
-use Rattle.std.proofs.Common.{◌≡◌, ◌≢◌, ℕ, zero, suc, ◌+◌, ◌-◌, ◌<◌, ◌≤◌, List, [], ◌∷◌, ◌++◌, length, map, fold, Option, Some, None, Bool, true, false, not, ◌&&◌, ◌||◌, ◌⊎◌, inl, inr, refl, sym, ◌∙◌, ap, subst, arith, nat_eq, nat_lt, slice_get, take, length-append}
-use Rattle.std.specs.Prelude.{All, if◌then◌else◌}
-use Rattle.std.proofs.lemmas.Bool.{cases_eq, cases_lt, eq-eqb, ne_eqb}
-use Rattle.std.proofs.lemmas.Bool.Decides.{nat_tests}
-use Rattle.std.proofs.lemmas.List.Elements.{All-head, All-tail}
+use Rattle.gb_types.specs.Common.{◌≡◌, ◌≢◌, ℕ, zero, suc, ◌+◌, ◌-◌, ◌<◌, ◌≤◌, List, [], ◌∷◌, ◌++◌, length, map, fold, Option, Some, None, Bool, true, false, not, ◌&&◌, ◌||◌, ◌⊎◌, inl, inr, refl, sym, ◌∙◌, ap, subst, arith, nat_eq, nat_lt, slice_get, take, length-append, All, if◌then◌else◌, cases_eq, cases_lt, eq-eqb, ne_eqb, nat_tests, All-head, All-tail, version_at}
 use Rattle.gb_types.proofs.BoolLemmas.{or_off}
-use Rattle.gb_types.specs.declared.address.Addr.{Addr}
-use Rattle.gb_types.specs.declared.entry.Entry.{Entry}
-use Rattle.gb_types.specs.declared.limits.TheConstants.{NODES}
-use Rattle.gb_types.specs.declared.node.NodeId.{NodeId}
-use Rattle.gb_types.specs.declared.plan.Bounds.{Bounds}
-use Rattle.gb_types.specs.declared.version.Version.{Version}
-use Rattle.gb_types.specs.Version.{version_at}
+use Rattle.gb_types.specs.declared.{address.Addr.Addr, entry.Entry.Entry, limits.TheConstants.NODES, node.NodeId.NodeId, plan.Bounds.Bounds, version.Version.Version}
 use Rattle.gb_frame.specs.declared.item.Item.{Item}
-use Rattle.gb_rules.specs.Group.{is_gone, is_too_long}
+use Rattle.gb_rules.specs.Common.{is_gone, is_too_long, said_in, falls_after, stepped, where_so}
 use Rattle.gb_rules.specs.declared.call.GroupCall.TheVariants.{Other}
-use Rattle.gb_rules.specs.History.{said_in, falls_after}
-use Rattle.gb_alone.specs.declared.event.GroupEvent.TheVariants.{Came}
-use Rattle.gb_alone.specs.declared.event.GroupStep.{GroupStep}
-use Rattle.gb_alone.specs.Alone.{Member, Group, after, alone_from, is_acknowledged, is_marked, item_came, taken_in, IsLegalFrom}
-use Rattle.gb_frame.specs.Items.{entry_of, items_for}
-use Rattle.gb_rules.specs.Lifetime.{stepped, where_so}
-use Rattle.gb_node.specs.PastGroups.{Told, waiting_of, with_call, unless_falls, came_told}
+use Rattle.gb_alone.specs.declared.{event.GroupEvent.TheVariants.Came, event.GroupStep.GroupStep}
+use Rattle.gb_alone.specs.Common.{Member, Group, after, alone_from, is_acknowledged, is_marked, item_came, taken_in, IsLegalFrom}
+use Rattle.gb_frame.specs.Common.{entry_of, items_for}
+use Rattle.gb_node.specs.Common.{Told, waiting_of, with_call, unless_falls, came_told}
 use Rattle.gb_isolation.specs.Project.{group_items, group_items_of, offset, comes}
 use Rattle.gb_isolation.proofs.View.{View, MemberIs, AreMarked, KeepsAcks, Fits, Goes, said_of, acknowledged_of}
 use Rattle.gb_isolation.proofs.GoesLemmas.{after_there, after_elsewhere}

@@ -1,53 +1,22 @@
 -- What opening, shutting, dropping, saying and fetching do to a group at a running node.
-use Rattle.std.proofs.Common.{◌≡◌, ◌≢◌, ℕ, ◌+◌, ◌<◌, ◌≤◌, List, [], ◌∷◌, ◌++◌, length, take, Option, Some, None, Bool, true, false, ◌||◌, ◌⊎◌, inl, inr, refl, sym, ◌∙◌, ap, subst, arith}
-use Rattle.std.specs.Option.{option_or}
-use Rattle.std.specs.Prelude.{if◌then◌else◌, is_some, option_map}
+use Rattle.gb_types.specs.Common.{◌≡◌, ◌≢◌, ℕ, ◌+◌, ◌<◌, ◌≤◌, List, [], ◌∷◌, ◌++◌, length, take, Option, Some, None, Bool, true, false, ◌||◌, ◌⊎◌, inl, inr, refl, sym, ◌∙◌, ap, subst, arith, option_or, if◌then◌else◌, is_some, option_map, list_any, nat_cmp, take-length, and_parts, cases_lt, append-nil, take-append-le, version_at}
 use Rattle.std.specs.FinSet as set
-use Rattle.std.specs.List.{list_any}
-use Rattle.std.specs.Ordering.{nat_cmp}
-use Rattle.std.proofs.Math.Seq.{take-length}
-use Rattle.std.proofs.lemmas.Bool.{and_parts, cases_lt}
-use Rattle.std.proofs.lemmas.List.{append-nil, take-append-le}
-use Rattle.gb_types.specs.declared.address.Addr.{Addr}
-use Rattle.gb_types.specs.declared.entry.Entry.{Entry}
-use Rattle.gb_types.specs.declared.limits.TheConstants.{NODES}
-use Rattle.gb_types.specs.declared.node.NodeId.{NodeId}
-use Rattle.gb_types.specs.declared.refusal.Refusal.{Refusal}
+use Rattle.gb_types.specs.declared.{address.Addr.Addr, entry.Entry.Entry, limits.TheConstants.NODES, node.NodeId.NodeId, refusal.Refusal.Refusal, reply.Reply.Reply, request.Request.Request, request.Action.Action, request.Action.TheVariants.AddTenant, request.Action.TheVariants.Group as AtGroup, request.GroupCommand.GroupCommand, spec.Spec.Spec, spec.TenantRow.TenantRow, version.Version.Version, new_message.NewMessage.NewMessage}
 use Rattle.gb_types.specs.declared.refusal.Refusal.TheVariants.{NoGroup, Spent, Stopped}
-use Rattle.gb_types.specs.declared.reply.Reply.{Reply}
 use Rattle.gb_types.specs.declared.reply.Reply.TheVariants.{Done, Said, Refused}
-use Rattle.gb_types.specs.declared.request.Request.{Request}
-use Rattle.gb_types.specs.declared.request.Action.{Action}
-use Rattle.gb_types.specs.declared.request.Action.TheVariants.{AddTenant, Group as AtGroup}
-use Rattle.gb_types.specs.declared.request.GroupCommand.{GroupCommand}
 use Rattle.gb_types.specs.declared.request.GroupCommand.TheVariants.{Open, Shut, Drop, Say, Fetch}
-use Rattle.gb_types.specs.declared.spec.Spec.{Spec}
-use Rattle.gb_types.specs.declared.spec.TenantRow.{TenantRow}
-use Rattle.gb_types.specs.declared.version.Version.{Version}
-use Rattle.gb_types.specs.Version.{version_at}
 use Rattle.gb_frame.specs.declared.item.Item.{Item}
-use Rattle.gb_rules.specs.Address.{is_addr}
-use Rattle.gb_rules.specs.Group.{Shown, is_gone, is_member, on_made, open_answer, shut_answer, drop_answer, say_answer, fetch_answer}
-use Rattle.gb_rules.specs.Tenant.{by_tenant, reserve_of, row_of}
-use Rattle.gb_rules.specs.declared.phase.Phase.{Phase}
+use Rattle.gb_rules.specs.Common.{is_addr, Shown, is_gone, is_member, on_made, open_answer, shut_answer, drop_answer, say_answer, fetch_answer, by_tenant, reserve_of, row_of, said_in, stepped, where_so}
+use Rattle.gb_rules.specs.declared.{phase.Phase.Phase, reserve.Reserve.Reserve, call.GroupCall.GroupCall, call.GroupCall.TheVariants.Own}
 use Rattle.gb_rules.specs.declared.phase.Phase.TheVariants.{Opened, Shut as Closed, Gone}
-use Rattle.gb_rules.specs.declared.reserve.Reserve.{Reserve}
-use Rattle.gb_rules.specs.History.{said_in}
-use Rattle.gb_rules.specs.declared.call.GroupCall.{GroupCall}
-use Rattle.gb_rules.specs.declared.call.GroupCall.TheVariants.{Own}
 use Rattle.gb_alone.specs.declared.event.GroupEvent.{GroupEvent}
 use Rattle.gb_alone.specs.declared.event.GroupEvent.TheVariants.{Open as AskOpen, Shut as AskShut, Drop as AskDrop, Say as AskSay, Fetch as AskFetch}
-use Rattle.gb_alone.specs.Alone.{Member, Group, called, commanded, did, is_acknowledged, member_after, on_group, reply_to, running_reply, MayHappen}
+use Rattle.gb_alone.specs.Common.{Member, Group, called, commanded, did, is_acknowledged, member_after, on_group, reply_to, running_reply, MayHappen}
 use Rattle.gb_alone.specs.Alone as alone
 use Rattle.gb_alone.proofs.MarkLemmas.{unknown_acknowledged}
-use Rattle.gb_rules.specs.Lifetime.{stepped, where_so}
 use Rattle.gb_rules.specs.Lifetime as life
-use Rattle.gb_node.specs.Past.{Happened, added, added_by, is_stopped, tenants_in}
-use Rattle.gb_node.specs.PastGroups.{Told, noticed_after, shown_of, shown_in, with_call, moved_to, asked_told, told_of}
-use Rattle.gb_node.specs.StepLaw.{group_answer, is_admitted_by, admitted_answer, has_group_token}
-use Rattle.gb_node.specs.declared.answer.NodeAnswer.TheVariants.{Reply as Replied}
-use Rattle.gb_node.specs.declared.event.NodeEvent.TheVariants.{Request as Asked}
-use Rattle.gb_node.specs.declared.plan.NodePlan.{NodePlan}
+use Rattle.gb_node.specs.Common.{Happened, added, added_by, is_stopped, tenants_in, Told, noticed_after, shown_of, shown_in, with_call, moved_to, asked_told, told_of, group_answer, is_admitted_by, admitted_answer, has_group_token}
+use Rattle.gb_node.specs.declared.{answer.NodeAnswer.TheVariants.Reply as Replied, event.NodeEvent.TheVariants.Request as Asked, plan.NodePlan.NodePlan}
 use Rattle.gb_rules.proofs.AddressLemmas.{addr_is}
 use Rattle.gb_isolation.specs.Project.{command_for, is_named, is_own_request, makes, made_by, made_with, tenant_of, tenant_given, other_given, ticked}
 use Rattle.gb_isolation.specs.RunLaws.{drops, is_dropped, is_dropped_by}
@@ -58,7 +27,6 @@ use Rattle.gb_isolation.proofs.MemberLemmas.{answered-is, called_there, called_p
 use Rattle.gb_isolation.proofs.PastLemmas.{running_unmet}
 use Rattle.gb_isolation.proofs.RoomLemmas.{own_given}
 use Rattle.gb_isolation.proofs.View.{View, view_of, MemberIs, IsThere, IsInside, Fits, Goes, bounds_with, asked_by, is_noticed_after, own_requested_by, requested_by}
-use Rattle.gb_types.specs.declared.new_message.NewMessage.{NewMessage}
 
 -- A request that names a group comes with the token that it needs where it comes with the group's.
 pub group_token_is : (plan : NodePlan) (g : Addr) (past : List Happened) (request : Request) → is_named g request.what ≡ true → has_group_token plan.me (tenants_in past) request ≡ is_admitted_by plan past request

@@ -1,34 +1,14 @@
 -- An acknowledgement is taken: in the past, and by the group alone.
-use Rattle.std.proofs.Common.{◌≡◌, ◌≢◌, ℕ, zero, suc, ◌+◌, ◌<◌, ◌≤◌, List, [], ◌∷◌, ◌++◌, length, map, fold, cond, Option, Some, None, Bool, true, false, not, ◌&&◌, ◌||◌, ◌⊎◌, inl, inr, refl, sym, ◌∙◌, ap, subst, arith, nat_eq, nat_lt, nat_le, slice_get, take, add-one, length-append}
-use Rattle.std.specs.Prelude.{All, filter, if◌then◌else◌}
-use Rattle.std.specs.List.{list_any, range_with_len}
-use Rattle.std.proofs.lemmas.Bool.{cases_Bool, cases_eq, cases_lt, or_right, or_from, eq-eqb, ne_eqb}
-use Rattle.std.proofs.lemmas.Bool.Decides.{nat_tests}
-use Rattle.std.proofs.lemmas.Option.{same_Some}
-use Rattle.std.proofs.lemmas.List.{append-nil, take_all}
-use Rattle.std.proofs.lemmas.List.Elements.{All-nil, All-cons, All-head, All-tail}
-use Rattle.std.proofs.lemmas.List.Sums.{fold-append}
-use Rattle.std.proofs.Math.Bool.{and-false, or-false, or_assoc}
+use Rattle.gb_types.specs.Common.{◌≡◌, ◌≢◌, ℕ, zero, suc, ◌+◌, ◌<◌, ◌≤◌, List, [], ◌∷◌, ◌++◌, length, map, fold, cond, Option, Some, None, Bool, true, false, not, ◌&&◌, ◌||◌, ◌⊎◌, inl, inr, refl, sym, ◌∙◌, ap, subst, arith, nat_eq, nat_lt, nat_le, slice_get, take, add-one, length-append, All, filter, if◌then◌else◌, list_any, range_with_len, cases_Bool, cases_eq, cases_lt, or_right, or_from, eq-eqb, ne_eqb, nat_tests, same_Some, append-nil, take_all, All-nil, All-cons, All-head, All-tail, fold-append, and-false, or-false, or_assoc, message_of}
 use Rattle.gb_types.proofs.BoolLemmas.{or_off}
-use Rattle.gb_types.specs.Entry.{message_of}
-use Rattle.gb_types.specs.declared.address.Addr.{Addr}
-use Rattle.gb_types.specs.declared.entry.Entry.{Entry}
-use Rattle.gb_types.specs.declared.limits.TheConstants.{NODES}
-use Rattle.gb_types.specs.declared.message.MsgId.{MsgId}
-use Rattle.gb_types.specs.declared.node.NodeId.{NodeId}
-use Rattle.gb_types.specs.declared.spec.Spec.{Spec}
-use Rattle.gb_types.specs.declared.plan.Bounds.{Bounds}
+use Rattle.gb_types.specs.declared.{address.Addr.Addr, entry.Entry.Entry, limits.TheConstants.NODES, message.MsgId.MsgId, node.NodeId.NodeId, spec.Spec.Spec, plan.Bounds.Bounds}
 use Rattle.gb_frame.specs.declared.item.Item.{Item}
-use Rattle.gb_rules.specs.History.{said_in}
-use Rattle.gb_rules.specs.Group.{is_gone, is_member}
-use Rattle.gb_alone.specs.declared.event.GroupEvent.TheVariants.{Done as Acknowledged}
-use Rattle.gb_alone.specs.declared.event.GroupStep.{GroupStep}
-use Rattle.gb_alone.specs.Alone.{Member, Group, after, alone_from, is_marked, is_message, is_acknowledged, IsLegalFrom}
+use Rattle.gb_rules.specs.Common.{said_in, is_gone, is_member, stepped, where_so}
+use Rattle.gb_alone.specs.declared.{event.GroupEvent.TheVariants.Done as Acknowledged, event.GroupStep.GroupStep}
+use Rattle.gb_alone.specs.Common.{Member, Group, after, alone_from, is_marked, is_message, is_acknowledged, IsLegalFrom}
 use Rattle.gb_alone.proofs.MarkLemmas.{is_own_at, acknowledged_more, own_at-append, own_at-same}
-use Rattle.gb_frame.specs.Items.{entry_of, names, items_for}
-use Rattle.gb_rules.specs.Lifetime.{stepped, where_so}
-use Rattle.gb_node.specs.Past.{numbered}
-use Rattle.gb_node.specs.PastGroups.{Told, waiting_of, items_freed, finished_by, done_told}
+use Rattle.gb_frame.specs.Common.{entry_of, names, items_for}
+use Rattle.gb_node.specs.Common.{numbered, Told, waiting_of, items_freed, finished_by, done_told}
 use Rattle.gb_isolation.specs.Project.{group_items, group_items_of, offset, if_any, all_acknowledged}
 use Rattle.gb_isolation.proofs.View.{View, MemberIs, AreMarked, KeepsAcks, IsInside, Fits, Goes, said_of, acknowledged_of}
 use Rattle.gb_isolation.proofs.GoesLemmas.{legal-append, after_there, after_elsewhere}

@@ -1,24 +1,11 @@
 -- A request to fetch a log may come next in any run, and the node answers what the group alone answers.
-use Rattle.std.proofs.Common.{◌≡◌, ℕ, ◌<◌, true, false, List, [], ◌∷◌, ◌++◌, length, refl, sym, ap, subst, ◌∙◌, inr, arith}
-use Rattle.std.proofs.lemmas.Bool.{and_parts}
-use Rattle.std.proofs.lemmas.List.{append-nil, set-get_or}
-use Rattle.gb_types.specs.declared.address.Addr.{Addr}
-use Rattle.gb_types.specs.declared.node.NodeId.{NodeId}
-use Rattle.gb_types.specs.declared.plan.Plan.{Plan}
-use Rattle.gb_types.specs.declared.reply.Reply.{Reply}
-use Rattle.gb_types.specs.declared.request.Request.{Request}
-use Rattle.gb_rules.specs.Group.{fetch_answer}
-use Rattle.gb_node.specs.NodeStep.{turn, IsTurn}
-use Rattle.gb_node.specs.NodeValue.{NodeValue, new_node}
-use Rattle.gb_node.specs.Past.{Happened, ComesTo as NodeComesTo, is_stopped, tenants_in}
-use Rattle.gb_node.specs.StepLaw.{has_group_token, is_admitted_by, admitted_answer, past_answer}
-use Rattle.gb_node.specs.declared.answer.NodeAnswer.TheVariants.{Reply as Replied}
-use Rattle.gb_node.specs.declared.event.NodeEvent.{NodeEvent}
-use Rattle.gb_node.specs.declared.event.NodeEvent.TheVariants.{Request as Asked, Packet as Came}
-use Rattle.gb_node.specs.declared.plan.NodePlan.{NodePlan}
-use Rattle.gb_cluster.specs.ClusterStep.{NodeActs}
-use Rattle.gb_cluster.specs.ClusterValue.{ClusterValue, cluster, node_at, node_plan}
-use Rattle.gb_cluster.specs.Run.{Did, ComesTo, IsSent, past_at}
+use Rattle.gb_types.specs.Common.{◌≡◌, ℕ, ◌<◌, true, false, List, [], ◌∷◌, ◌++◌, length, refl, sym, ap, subst, ◌∙◌, inr, arith, and_parts, append-nil, set-get_or}
+use Rattle.gb_types.specs.declared.{address.Addr.Addr, node.NodeId.NodeId, plan.Plan.Plan, reply.Reply.Reply, request.Request.Request}
+use Rattle.gb_rules.specs.Common.{fetch_answer}
+use Rattle.gb_node.specs.Common.{turn, IsTurn, NodeValue, new_node, Happened, is_stopped, tenants_in, has_group_token, is_admitted_by, admitted_answer, past_answer}
+use Rattle.gb_node.specs.Past.{ComesTo as NodeComesTo}
+use Rattle.gb_node.specs.declared.{answer.NodeAnswer.TheVariants.Reply as Replied, event.NodeEvent.NodeEvent, event.NodeEvent.TheVariants.Request as Asked, event.NodeEvent.TheVariants.Packet as Came, plan.NodePlan.NodePlan}
+use Rattle.gb_cluster.specs.Common.{NodeActs, ClusterValue, cluster, node_at, node_plan, Did, ComesTo, IsSent, past_at}
 use Rattle.gb_cluster.proofs.NodesLemmas.{have_pasts, stays}
 use Rattle.gb_node.proofs.ReadLemmas.{reads}
 use Rattle.gb_isolation.specs.Isolation.{alone_in}

@@ -1,16 +1,12 @@
 -- Which of a node's own messages of a group are finished: the past's acknowledgements say the same as the acknowledged places of the group alone.
-use Rattle.std.proofs.Common.{◌≡◌, ℕ, zero, suc, ◌+◌, ◌<◌, ◌≤◌, List, ◌∷◌, length, Bool, true, false, not, ◌||◌, cond, nat_eq, refl, sym, ◌∙◌, ap, subst, arith}
-use Rattle.std.specs.Prelude.{filter, if◌then◌else◌}
-use Rattle.std.specs.List.{range_with_len}
-use Rattle.gb_types.specs.Rising.{AreNodes}
-use Rattle.gb_types.specs.declared.address.Addr.{Addr}
-use Rattle.gb_types.specs.declared.limits.TheConstants.{NODES}
+use Rattle.gb_types.specs.Common.{◌≡◌, ℕ, zero, suc, ◌+◌, ◌<◌, ◌≤◌, List, ◌∷◌, length, Bool, true, false, not, ◌||◌, cond, nat_eq, refl, sym, ◌∙◌, ap, subst, arith, filter, if◌then◌else◌, range_with_len, AreNodes}
+use Rattle.gb_types.specs.declared.{address.Addr.Addr, limits.TheConstants.NODES}
 use Rattle.gb_types.proofs.AllMemberLemmas.{all_rising}
 use Rattle.gb_frame.specs.declared.item.Item.{Item}
-use Rattle.gb_rules.specs.History.{said_in, has_noticed}
-use Rattle.gb_alone.specs.Alone.{Member, is_acknowledged, is_finished_alone, count_unfinished}
+use Rattle.gb_rules.specs.Common.{said_in, has_noticed}
+use Rattle.gb_alone.specs.Common.{Member, is_acknowledged, is_finished_alone, count_unfinished}
 use Rattle.gb_alone.proofs.UsageLemmas.{all_alike}
-use Rattle.gb_node.specs.PastGroups.{waiting_of}
+use Rattle.gb_node.specs.Common.{waiting_of}
 use Rattle.gb_node.specs.PastGroups as past
 use Rattle.gb_isolation.specs.Project.{group_items_of}
 use Rattle.gb_isolation.proofs.MemberLemmas.{CountsAlike}

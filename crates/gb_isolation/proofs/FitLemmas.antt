@@ -1,27 +1,12 @@
 -- The items in the frames of a run come from groups, so their origins are nodes.
-use Rattle.std.proofs.Common.{◌≡◌, ◌≢◌, ℕ, zero, suc, ◌<◌, List, [], ◌∷◌, length, take, Option, Some, None, Bool, true, false, ◌⊎◌, inl, inr, sym, ◌∙◌, ap, subst}
-use Rattle.std.specs.Prelude.{All, map, nat_eq, slice_get, if◌then◌else◌}
-use Rattle.std.specs.List.{AllByRecursion}
-use Rattle.std.proofs.lemmas.Bool.{cases_eq}
-use Rattle.std.proofs.lemmas.List.Elements.{All-from_recursion}
-use Rattle.gb_types.specs.declared.address.Addr.{Addr}
-use Rattle.gb_types.specs.declared.entry.Entry.{Entry}
-use Rattle.gb_types.specs.declared.node.NodeId.{NodeId}
+use Rattle.gb_types.specs.Common.{◌≡◌, ◌≢◌, ℕ, zero, suc, ◌<◌, List, [], ◌∷◌, length, take, Option, Some, None, Bool, true, false, ◌⊎◌, inl, inr, sym, ◌∙◌, ap, subst, All, map, nat_eq, slice_get, if◌then◌else◌, AllByRecursion, cases_eq, All-from_recursion}
+use Rattle.gb_types.specs.declared.{address.Addr.Addr, entry.Entry.Entry, node.NodeId.NodeId, plan.Plan.Plan}
 use Rattle.gb_frame.specs.declared.item.Item.{Item}
-use Rattle.gb_frame.specs.Packet.{Content}
-use Rattle.gb_frame.specs.Items.{items_for, item_for}
-use Rattle.gb_node.specs.Past.{Happened, ComesTo as NodeComesTo, read, frames_to, packed_for}
-use Rattle.gb_node.specs.PastGroups.{waiting_of, told_of}
-use Rattle.gb_node.specs.StepLaw.{IsAnswered, IsPacked, AnswersSay}
-use Rattle.gb_node.specs.declared.answer.NodeAnswer.{NodeAnswer}
-use Rattle.gb_node.specs.declared.answer.NodeAnswer.TheVariants.{Sent}
-use Rattle.gb_node.specs.declared.answer.Sent.TheVariants.{Packet as SentPacket}
-use Rattle.gb_node.specs.declared.event.NodeEvent.{NodeEvent}
-use Rattle.gb_node.specs.declared.event.NodeEvent.TheVariants.{Pack}
-use Rattle.gb_node.specs.declared.plan.NodePlan.{NodePlan}
-use Rattle.gb_cluster.specs.ClusterValue.{ClusterValue, node_plan, node_at}
-use Rattle.gb_cluster.specs.Run.{Did, ComesTo, past_at}
-use Rattle.gb_types.specs.declared.plan.Plan.{Plan}
+use Rattle.gb_frame.specs.Common.{Content, items_for, item_for}
+use Rattle.gb_node.specs.Common.{Happened, read, frames_to, packed_for, waiting_of, told_of, IsAnswered, IsPacked, AnswersSay}
+use Rattle.gb_node.specs.Past.{ComesTo as NodeComesTo}
+use Rattle.gb_node.specs.declared.{answer.NodeAnswer.NodeAnswer, answer.NodeAnswer.TheVariants.Sent, answer.Sent.TheVariants.Packet as SentPacket, event.NodeEvent.NodeEvent, event.NodeEvent.TheVariants.Pack, plan.NodePlan.NodePlan}
+use Rattle.gb_cluster.specs.Common.{ClusterValue, node_plan, node_at, Did, ComesTo, past_at}
 use Rattle.gb_cluster.proofs.HonestLemmas.{get_either}
 use Rattle.gb_cluster.proofs.NodesLemmas.{have_pasts, past_same, past_other}
 use Rattle.gb_isolation.proofs.DoneLemmas.{IsOfNode}

@@ -1,23 +1,12 @@
 -- The notices of a group that was just made.
-use Rattle.std.proofs.Common.{◌≡◌, ℕ, zero, suc, ◌+◌, ◌<◌, ◌≤◌, List, [], ◌∷◌, ◌++◌, length, take, Option, Some, Bool, true, false, not, ◌&&◌, refl, sym, ◌∙◌, ap, arith, None}
-use Rattle.std.specs.Prelude.{nat_eq, map, filter, if◌then◌else◌}
-use Rattle.std.specs.List.{AllByRecursion, range_with_len}
-use Rattle.std.proofs.Math.Seq.{take-length}
-use Rattle.std.proofs.lemmas.List.{append-nil}
-use Rattle.gb_types.specs.declared.limits.TheConstants.{NODES}
-use Rattle.gb_types.specs.declared.node.NodeId.{NodeId}
-use Rattle.gb_types.specs.declared.spec.Spec.{Spec}
+use Rattle.gb_types.specs.Common.{◌≡◌, ℕ, zero, suc, ◌+◌, ◌<◌, ◌≤◌, List, [], ◌∷◌, ◌++◌, length, take, Option, Some, Bool, true, false, not, ◌&&◌, refl, sym, ◌∙◌, ap, arith, None, nat_eq, map, filter, if◌then◌else◌, AllByRecursion, range_with_len, take-length, append-nil, nat_cmp, and_parts}
+use Rattle.gb_types.specs.declared.{limits.TheConstants.NODES, node.NodeId.NodeId, spec.Spec.Spec}
 use Rattle.std.specs.FinSet as set
-use Rattle.std.specs.Ordering.{nat_cmp}
-use Rattle.std.proofs.lemmas.Bool.{and_parts}
-use Rattle.gb_rules.specs.History.{puts_of, has_noticed}
-use Rattle.gb_rules.specs.Group.{is_other, is_gone}
-use Rattle.gb_rules.specs.declared.phase.Phase.TheVariants.{Made}
-use Rattle.gb_rules.specs.declared.call.GroupCall.TheVariants.{Crashed}
+use Rattle.gb_rules.specs.Common.{puts_of, has_noticed, is_other, is_gone}
+use Rattle.gb_rules.specs.declared.{phase.Phase.TheVariants.Made, call.GroupCall.TheVariants.Crashed}
 use Rattle.gb_rules.proofs.PutLemmas.{none_put}
-use Rattle.gb_alone.specs.Alone.{Member, called, cut, took_notice, node_noticed, put_to, is_marked, held_spec}
-use Rattle.gb_node.specs.NodeStep.{node_numbered}
-use Rattle.gb_node.specs.PastGroups.{noticed_members, crashed_onto, told_first}
+use Rattle.gb_alone.specs.Common.{Member, called, cut, took_notice, node_noticed, put_to, is_marked, held_spec}
+use Rattle.gb_node.specs.Common.{node_numbered, noticed_members, crashed_onto, told_first}
 use Rattle.gb_isolation.proofs.View.{IsThere}
 use Rattle.gb_isolation.proofs.NoticeLemmas.{AreRising, numbered_is, all_noticed, notices_keep, passing_rising, passing_marked}
 

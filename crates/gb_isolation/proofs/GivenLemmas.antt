@@ -1,48 +1,21 @@
 -- What an event of a run adds to the projection on a group: the node, its commands, and its notices.
-use Rattle.std.proofs.Common.{◌≡◌, ◌≢◌, ℕ, zero, suc, ◌+◌, ◌-◌, Bool, true, false, ◌&&◌, nat_eq, List, [], ◌∷◌, ◌++◌, length, Option, Some, None, refl, sym, ap, ◌∙◌, subst, map}
-use Rattle.std.specs.Option.{option_or}
-use Rattle.std.specs.Prelude.{is_some, filter, if◌then◌else◌}
+use Rattle.gb_types.specs.Common.{◌≡◌, ◌≢◌, ℕ, zero, suc, ◌+◌, ◌-◌, Bool, true, false, ◌&&◌, nat_eq, List, [], ◌∷◌, ◌++◌, length, Option, Some, None, refl, sym, ap, ◌∙◌, subst, map, option_or, is_some, filter, if◌then◌else◌, range_with_len, flat_map, and_parts, ne_eqb, bounds_of}
 use Rattle.std.specs.FinSet as set
-use Rattle.std.specs.List.{range_with_len, flat_map}
-use Rattle.std.proofs.lemmas.Bool.{and_parts, ne_eqb}
-use Rattle.gb_types.specs.declared.address.Addr.{Addr}
-use Rattle.gb_types.specs.declared.limits.TheConstants.{NODES}
-use Rattle.gb_types.specs.declared.node.NodeId.{NodeId}
-use Rattle.gb_types.specs.declared.reply.Reply.{Reply}
-use Rattle.gb_types.specs.declared.reply.Reply.TheVariants.{Done}
-use Rattle.gb_types.specs.declared.request.Request.{Request}
-use Rattle.gb_types.specs.declared.request.Action.{Action}
-use Rattle.gb_types.specs.declared.request.Action.TheVariants.{AddTenant, Group as AtGroup}
-use Rattle.gb_types.specs.declared.request.GroupCommand.{GroupCommand}
+use Rattle.gb_types.specs.declared.{address.Addr.Addr, limits.TheConstants.NODES, node.NodeId.NodeId, reply.Reply.Reply, reply.Reply.TheVariants.Done, request.Request.Request, request.Action.Action, request.Action.TheVariants.AddTenant, request.Action.TheVariants.Group as AtGroup, request.GroupCommand.GroupCommand, spec.Spec.Spec, plan.Plan.Plan, plan.Bounds.Bounds}
 use Rattle.gb_types.specs.declared.request.GroupCommand.TheVariants.{Make, Open, Shut, Drop, Say, Fetch}
-use Rattle.gb_types.specs.declared.spec.Spec.{Spec}
 use Rattle.gb_frame.specs.declared.item.Item.{Item}
-use Rattle.gb_frame.specs.Packet.{Content}
-use Rattle.gb_rules.specs.Group.{is_other}
-use Rattle.gb_rules.specs.Room.{is_other_generation}
-use Rattle.gb_rules.specs.Tenant.{reserve_of}
-use Rattle.gb_alone.specs.Alone.{Group, after, alone_from}
-use Rattle.gb_alone.specs.declared.event.GroupEvent.{GroupEvent}
+use Rattle.gb_frame.specs.Common.{Content}
+use Rattle.gb_rules.specs.Common.{is_other, is_other_generation, reserve_of}
+use Rattle.gb_alone.specs.Common.{Group, after, alone_from}
+use Rattle.gb_alone.specs.declared.{event.GroupEvent.GroupEvent, event.GroupStep.GroupStep}
 use Rattle.gb_alone.specs.declared.event.GroupEvent.TheVariants.{Tenant, Make as AskMake, OtherMade, OtherDropped, Took, Came, Done as Acknowledged, Notice, Stop as Ends}
-use Rattle.gb_alone.specs.declared.event.GroupStep.{GroupStep}
 use Rattle.gb_alone.proofs.CommandLemmas.{command_in, commands_at, commands}
 use Rattle.gb_duties.proofs.NoticeLemmas.{IsDue, AreDue}
-use Rattle.gb_node.specs.StepLaw.{has_group_token}
-use Rattle.gb_node.specs.NodeStep.{node_numbered}
-use Rattle.gb_node.specs.Past.{if_done, Happened, frames_to, read, is_stopped, tenants_in}
-use Rattle.gb_node.specs.declared.answer.NodeAnswer.{NodeAnswer}
+use Rattle.gb_node.specs.Common.{has_group_token, node_numbered, if_done, Happened, frames_to, read, is_stopped, tenants_in}
+use Rattle.gb_node.specs.declared.{answer.NodeAnswer.NodeAnswer, answer.PacketAnswer.TheVariants.Good as TakenGood, answer.Sent.TheVariants.Packet as SentPacket, answer.Ticked.TheVariants.Noticed, event.NodeEvent.NodeEvent, plan.NodePlan.NodePlan}
 use Rattle.gb_node.specs.declared.answer.NodeAnswer.TheVariants.{Reply as Replied, Taken, Sent, Ticked}
-use Rattle.gb_node.specs.declared.answer.PacketAnswer.TheVariants.{Good as TakenGood}
-use Rattle.gb_node.specs.declared.answer.Sent.TheVariants.{Packet as SentPacket}
-use Rattle.gb_node.specs.declared.answer.Ticked.TheVariants.{Noticed}
-use Rattle.gb_node.specs.declared.event.NodeEvent.{NodeEvent}
 use Rattle.gb_node.specs.declared.event.NodeEvent.TheVariants.{Request as Asked, Packet as Brought, Pack, Tick}
-use Rattle.gb_node.specs.declared.plan.NodePlan.{NodePlan}
-use Rattle.gb_cluster.specs.ClusterValue.{node_plan}
-use Rattle.gb_cluster.specs.Run.{Did, past_at}
-use Rattle.gb_types.specs.declared.plan.Plan.{Plan}
-use Rattle.gb_types.specs.declared.plan.Bounds.{Bounds}
-use Rattle.gb_types.specs.Version.{bounds_of}
+use Rattle.gb_cluster.specs.Common.{node_plan, Did, past_at}
 use Rattle.gb_isolation.specs.Project.{group_items, group_items_of, offset, is_named, is_own_request, event_of, command_for, makes, made_by, made_with, notices, tenant_given, other_given, is_met, with_stop, if_any, comes, all_acknowledged, is_new_ack, is_new_frame, acknowledges, brings, arrived, ticked, gives}
 use Rattle.gb_isolation.proofs.NoticeLemmas.{notices_of, notices_there, notices_keep}
 use Rattle.gb_isolation.proofs.GoesLemmas.{after_there}

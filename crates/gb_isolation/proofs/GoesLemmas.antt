@@ -1,14 +1,9 @@
 -- How a group alone goes on.
-use Rattle.std.proofs.Common.{◌≡◌, ◌≢◌, ℕ, List, [], ◌∷◌, ◌++◌, refl, sym, ap, ◌∙◌, subst}
-use Rattle.std.proofs.lemmas.Bool.{eq-eqb, ne_eqb}
-use Rattle.std.proofs.lemmas.List.Sums.{fold-append}
-use Rattle.gb_types.specs.declared.address.Addr.{Addr}
-use Rattle.gb_types.specs.declared.node.NodeId.{NodeId}
-use Rattle.gb_types.specs.declared.plan.Bounds.{Bounds}
+use Rattle.gb_types.specs.Common.{◌≡◌, ◌≢◌, ℕ, List, [], ◌∷◌, ◌++◌, refl, sym, ap, ◌∙◌, subst, eq-eqb, ne_eqb, fold-append}
+use Rattle.gb_types.specs.declared.{address.Addr.Addr, node.NodeId.NodeId, plan.Bounds.Bounds}
 use Rattle.gb_frame.specs.declared.item.Item.{Item}
-use Rattle.gb_alone.specs.declared.event.GroupEvent.{GroupEvent}
-use Rattle.gb_alone.specs.declared.event.GroupStep.{GroupStep}
-use Rattle.gb_alone.specs.Alone.{Group, after, alone_from, member_after, IsLegalFrom, MayHappen}
+use Rattle.gb_alone.specs.declared.{event.GroupEvent.GroupEvent, event.GroupStep.GroupStep}
+use Rattle.gb_alone.specs.Common.{Group, after, alone_from, member_after, IsLegalFrom, MayHappen}
 use Rattle.gb_isolation.proofs.View.{View, Fits, Goes}
 
 pub legal-append : (bounds : Bounds) (addr : Addr) (group : Group) (xs ys : List GroupStep) → IsLegalFrom bounds addr group xs → IsLegalFrom bounds addr (alone_from bounds addr group xs) ys → IsLegalFrom bounds addr group (xs ++ ys)

@@ -1,11 +1,8 @@
 -- The laws of nodes and links from which all laws of groups follow.
-use Rattle.std.proofs.Common.{refl}
-use Rattle.gb_node.specs.PastLaw.{PastsSay}
-use Rattle.gb_node.specs.StepLaw.{AnswersSay}
-use Rattle.gb_node.specs.declared.answer.NodeAnswer.TheVariants.{Taken}
-use Rattle.gb_node.specs.declared.answer.PacketAnswer.TheVariants.{Good as TakenGood}
-use Rattle.gb_node.specs.declared.event.NodeEvent.TheVariants.{Packet as Brought}
-use Rattle.gb_cluster.specs.Links.{LinksHold, NothingIsOutside}
+use Rattle.gb_types.specs.Common.{refl}
+use Rattle.gb_node.specs.Common.{PastsSay, AnswersSay}
+use Rattle.gb_node.specs.declared.{answer.NodeAnswer.TheVariants.Taken, answer.PacketAnswer.TheVariants.Good as TakenGood, event.NodeEvent.TheVariants.Packet as Brought}
+use Rattle.gb_cluster.specs.Common.{LinksHold, NothingIsOutside}
 use Rattle.gb_isolation.proofs.FirstLemmas.{first_is_new}
 use Rattle.gb_isolation.proofs.RunLemmas.{Laws}
 

@@ -1,42 +1,15 @@
 -- What making a group at a running node does to it: the group learns which members were noticed before.
 use Rattle.gb_isolation.specs.Project.{notices, ticked}
-use Rattle.std.proofs.Common.{◌≡◌, ℕ, ◌<◌, List, [], ◌∷◌, ◌++◌, length, Option, Some, None, Bool, true, false, ◌&&◌, ◌||◌, refl, sym, ◌∙◌, ap, subst, arith}
-use Rattle.std.specs.Option.{option_or}
-use Rattle.std.specs.Prelude.{if◌then◌else◌, is_some, nat_le, option_map}
+use Rattle.gb_types.specs.Common.{◌≡◌, ℕ, ◌<◌, List, [], ◌∷◌, ◌++◌, length, Option, Some, None, Bool, true, false, ◌&&◌, ◌||◌, refl, sym, ◌∙◌, ap, subst, arith, option_or, if◌then◌else◌, is_some, nat_le, option_map, nat_cmp, or-false, and_parts, append-nil, version_at}
 use Rattle.std.specs.FinSet as set
-use Rattle.std.specs.Ordering.{nat_cmp}
-use Rattle.std.proofs.Math.Bool.{or-false}
-use Rattle.std.proofs.lemmas.Bool.{and_parts}
-use Rattle.std.proofs.lemmas.List.{append-nil}
-use Rattle.gb_types.specs.declared.address.Addr.{Addr}
-use Rattle.gb_types.specs.declared.limits.TheConstants.{NODES}
-use Rattle.gb_types.specs.declared.node.NodeId.{NodeId}
-use Rattle.gb_types.specs.declared.refusal.Refusal.TheVariants.{NoGroup, Spent}
-use Rattle.gb_types.specs.declared.reply.Reply.{Reply}
-use Rattle.gb_types.specs.declared.reply.Reply.TheVariants.{Done, Refused}
-use Rattle.gb_types.specs.declared.request.Action.TheVariants.{Group as AtGroup}
-use Rattle.gb_types.specs.declared.request.GroupCommand.TheVariants.{Make}
-use Rattle.gb_types.specs.declared.spec.Spec.{Spec}
-use Rattle.gb_types.specs.declared.plan.Bounds.{Bounds}
-use Rattle.gb_types.specs.declared.version.Version.{Version}
-use Rattle.gb_types.specs.Version.{version_at}
+use Rattle.gb_types.specs.declared.{address.Addr.Addr, limits.TheConstants.NODES, node.NodeId.NodeId, refusal.Refusal.TheVariants.NoGroup, refusal.Refusal.TheVariants.Spent, reply.Reply.Reply, reply.Reply.TheVariants.Done, reply.Reply.TheVariants.Refused, request.Action.TheVariants.Group as AtGroup, request.GroupCommand.TheVariants.Make, spec.Spec.Spec, plan.Bounds.Bounds, version.Version.Version}
 use Rattle.gb_frame.specs.declared.item.Item.{Item}
-use Rattle.gb_rules.specs.declared.call.GroupCall.{GroupCall}
-use Rattle.gb_rules.specs.declared.call.GroupCall.TheVariants.{Crashed}
-use Rattle.gb_rules.specs.History.{said_in}
-use Rattle.gb_rules.specs.Address.{is_addr}
-use Rattle.gb_rules.specs.Group.{is_gone, is_member}
-use Rattle.gb_rules.specs.Tenant.{make_answer, by_tenant, reserve_of, row_of}
-use Rattle.gb_rules.specs.declared.reserve.Reserve.{Reserve}
+use Rattle.gb_rules.specs.declared.{call.GroupCall.GroupCall, call.GroupCall.TheVariants.Crashed, reserve.Reserve.Reserve}
+use Rattle.gb_rules.specs.Common.{said_in, is_addr, is_gone, is_member, make_answer, by_tenant, reserve_of, row_of, or_added, passed, where_so, is_reached_by}
 use Rattle.gb_alone.proofs.InsideLemmas.{step_inside}
 use Rattle.gb_alone.specs.declared.event.GroupEvent.TheVariants.{Make as AskMake}
-use Rattle.gb_alone.specs.Alone.{Member, Group, after, commanded, is_marked, reply_to, running_reply}
-use Rattle.gb_rules.specs.Lifetime.{or_added, passed, where_so}
-use Rattle.gb_rules.specs.Room.{is_reached_by}
-use Rattle.gb_node.specs.NodeStep.{node_numbered}
-use Rattle.gb_node.specs.Past.{Happened, is_stopped, tenants_in}
-use Rattle.gb_node.specs.PastGroups.{Told, noticed_after, waiting_of, noticed_members, crashed_onto, told_first, told_of, living_of}
-use Rattle.gb_node.specs.StepLaw.{admitted_answer, has_group_token}
+use Rattle.gb_alone.specs.Common.{Member, Group, after, commanded, is_marked, reply_to, running_reply}
+use Rattle.gb_node.specs.Common.{node_numbered, Happened, is_stopped, tenants_in, Told, noticed_after, waiting_of, noticed_members, crashed_onto, told_first, told_of, living_of, admitted_answer, has_group_token}
 use Rattle.gb_node.specs.declared.plan.NodePlan.{NodePlan}
 use Rattle.gb_rules.proofs.AddressLemmas.{addr_is}
 use Rattle.gb_isolation.specs.Project.{is_met, is_own_request, made_with, replies_in}

@@ -1,15 +1,9 @@
 -- The places of a group's items in the frames of a link, and which of these places are marked.
-use Rattle.std.proofs.Common.{◌≡◌, ℕ, zero, suc, ◌+◌, ◌-◌, ◌<◌, ◌≤◌, List, [], ◌∷◌, ◌++◌, length, take, Some, Bool, true, false, ◌&&◌, ◌||◌, ◌⊎◌, inl, inr, refl, sym, ◌∙◌, ap, subst, arith, length-append, add-one, zero-add}
-use Rattle.std.specs.Prelude.{nat_lt, nat_le, slice_get}
-use Rattle.std.proofs.lemmas.Bool.{cases_Bool, cases_lt, and_parts, and_right, or_cases, or_from}
-use Rattle.std.proofs.lemmas.Bool.Decides.{nat_tests}
-use Rattle.std.proofs.Math.Seq.{take-append-add}
-use Rattle.std.proofs.lemmas.List.{append-nil, append_assoc, take-append-le}
+use Rattle.gb_types.specs.Common.{◌≡◌, ℕ, zero, suc, ◌+◌, ◌-◌, ◌<◌, ◌≤◌, List, [], ◌∷◌, ◌++◌, length, take, Some, Bool, true, false, ◌&&◌, ◌||◌, ◌⊎◌, inl, inr, refl, sym, ◌∙◌, ap, subst, arith, length-append, add-one, zero-add, nat_lt, nat_le, slice_get, cases_Bool, cases_lt, and_parts, and_right, or_cases, or_from, nat_tests, take-append-add, append-nil, append_assoc, take-append-le}
 use Rattle.gb_types.proofs.BoolLemmas.{or_off}
-use Rattle.gb_types.specs.declared.address.Addr.{Addr}
-use Rattle.gb_types.specs.declared.entry.Entry.{Entry}
+use Rattle.gb_types.specs.declared.{address.Addr.Addr, entry.Entry.Entry}
 use Rattle.gb_frame.specs.declared.item.Item.{Item}
-use Rattle.gb_alone.specs.Alone.{is_marked}
+use Rattle.gb_alone.specs.Common.{is_marked}
 use Rattle.gb_isolation.specs.Project.{group_items_of, group_items, offset}
 use Rattle.gb_isolation.proofs.View.{AreMarked}
 

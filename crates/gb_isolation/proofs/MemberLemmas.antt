@@ -1,27 +1,12 @@
 -- What the past says of a group stands for the group alone at its node, through each call.
-use Rattle.std.proofs.Common.{◌≡◌, ℕ, List, [], ◌∷◌, ◌++◌, length, Option, Some, None, Bool, true, false, not, ◌&&◌, ◌||◌, refl, sym, ◌∙◌, ap, subst, arith, take}
-use Rattle.std.specs.Prelude.{if◌then◌else◌, is_some, nat_eq}
-use Rattle.std.proofs.Math.Seq.{take-length}
-use Rattle.std.proofs.lemmas.List.{append-nil, append_assoc, take-append-le}
-use Rattle.std.proofs.Math.Bool.{or-false}
-use Rattle.gb_types.specs.declared.entry.Entry.{Entry}
-use Rattle.gb_types.specs.declared.node.NodeId.{NodeId}
-use Rattle.gb_types.specs.declared.refusal.Refusal.TheVariants.{Spent}
-use Rattle.gb_types.specs.declared.reply.Reply.{Reply}
-use Rattle.gb_types.specs.declared.reply.Reply.TheVariants.{Refused}
-use Rattle.gb_types.specs.declared.spec.Spec.{Spec}
-use Rattle.gb_types.specs.declared.version.Version.{Version}
-use Rattle.gb_rules.specs.History.{said_in, bytes_in, log_of, puts_of, falls_after, has_noticed}
-use Rattle.gb_rules.specs.declared.call.GroupCall.{GroupCall}
-use Rattle.gb_rules.specs.declared.call.GroupCall.TheVariants.{Other, Crashed}
-use Rattle.gb_rules.specs.declared.phase.Phase.{Phase}
-use Rattle.gb_rules.specs.Group.{Shown, absent_answer, is_gone, is_other, is_too_long, on_made}
-use Rattle.gb_alone.specs.Alone.{Member, held_spec, is_finished_alone, count_unfinished, called, item_came, put_to, cut, took_notice, node_noticed}
+use Rattle.gb_types.specs.Common.{◌≡◌, ℕ, List, [], ◌∷◌, ◌++◌, length, Option, Some, None, Bool, true, false, not, ◌&&◌, ◌||◌, refl, sym, ◌∙◌, ap, subst, arith, take, if◌then◌else◌, is_some, nat_eq, take-length, append-nil, append_assoc, take-append-le, or-false}
+use Rattle.gb_types.specs.declared.{entry.Entry.Entry, node.NodeId.NodeId, refusal.Refusal.TheVariants.Spent, reply.Reply.Reply, reply.Reply.TheVariants.Refused, spec.Spec.Spec, version.Version.Version}
+use Rattle.gb_rules.specs.Common.{said_in, bytes_in, log_of, puts_of, falls_after, has_noticed, Shown, absent_answer, is_gone, is_other, is_too_long, on_made, stepped, passed, where_so}
+use Rattle.gb_rules.specs.declared.{call.GroupCall.GroupCall, call.GroupCall.TheVariants.Other, call.GroupCall.TheVariants.Crashed, phase.Phase.Phase}
+use Rattle.gb_alone.specs.Common.{Member, held_spec, is_finished_alone, count_unfinished, called, item_came, put_to, cut, took_notice, node_noticed}
 use Rattle.gb_alone.specs.Alone as alone
 use Rattle.gb_alone.proofs.UsageLemmas.{shown_of}
-use Rattle.gb_rules.specs.Lifetime.{stepped, passed, where_so}
-use Rattle.gb_node.specs.PastGroups.{Told, waiting_of, unfinished_in, shown_in, with_call, cut_off, unless_falls, if_other}
-use Rattle.gb_node.specs.StepLaw.{group_answer}
+use Rattle.gb_node.specs.Common.{Told, waiting_of, unfinished_in, shown_in, with_call, cut_off, unless_falls, if_other, group_answer}
 use Rattle.gb_isolation.proofs.View.{MemberIs, IsThere, NotMade, IsSpent}
 
 -- Where the group is not there.

@@ -1,21 +1,11 @@
 -- The moments of a run: how an earlier moment stands in a later one, and which notices the group is told of at each.
-use Rattle.std.proofs.Common.{◌≡◌, ◌≢◌, ℕ, suc, ◌+◌, ◌-◌, ◌<◌, ◌≤◌, true, not, ◌⊎◌, inl, inr, List, [], ◌∷◌, ◌++◌, length, take, Some, refl, sym, ap, ◌∙◌, subst, arith, length-append, append_assoc}
-use Rattle.std.specs.Prelude.{slice_get}
-use Rattle.std.proofs.lemmas.Bool.{and_parts, cases_eq, cases_lt}
-use Rattle.std.proofs.lemmas.List.{append-nil}
-use Rattle.std.proofs.lemmas.List.Sums.{fold-append}
-use Rattle.gb_types.specs.declared.address.Addr.{Addr}
-use Rattle.gb_types.specs.declared.entry.Entry.{Entry}
-use Rattle.gb_types.specs.declared.node.NodeId.{NodeId}
-use Rattle.gb_types.specs.declared.spec.Spec.{Spec}
+use Rattle.gb_types.specs.Common.{◌≡◌, ◌≢◌, ℕ, suc, ◌+◌, ◌-◌, ◌<◌, ◌≤◌, true, not, ◌⊎◌, inl, inr, List, [], ◌∷◌, ◌++◌, length, take, Some, refl, sym, ap, ◌∙◌, subst, arith, length-append, append_assoc, slice_get, and_parts, cases_eq, cases_lt, append-nil, fold-append, bounds_of}
+use Rattle.gb_types.specs.declared.{address.Addr.Addr, entry.Entry.Entry, node.NodeId.NodeId, spec.Spec.Spec, plan.Plan.Plan}
 use Rattle.gb_frame.specs.declared.item.Item.{Item}
-use Rattle.gb_alone.specs.Alone.{Group, nobody, after, alone, alone_from}
+use Rattle.gb_alone.specs.Common.{Group, nobody, after, alone, alone_from}
 use Rattle.gb_alone.specs.declared.event.GroupStep.{GroupStep}
 use Rattle.gb_duties.proofs.NoticeLemmas.{AllMarked, run_marked, nobody_marked}
-use Rattle.gb_cluster.specs.ClusterValue.{ClusterValue}
-use Rattle.gb_cluster.specs.Run.{Did, ComesTo, past_at}
-use Rattle.gb_types.specs.declared.plan.Plan.{Plan}
-use Rattle.gb_types.specs.Version.{bounds_of}
+use Rattle.gb_cluster.specs.Common.{ClusterValue, Did, ComesTo, past_at}
 use Rattle.gb_cluster.proofs.NodesLemmas.{stays, past_same, past_other}
 use Rattle.gb_isolation.specs.Project.{group_items, group_items_of, offset, made_with, gives, project, is_starved_by, is_fed}
 use Rattle.gb_isolation.proofs.GivenLemmas.{given_due}

@@ -1,12 +1,7 @@
 -- The next message that is said has a number that no item has.
-use Rattle.std.proofs.Common.{◌≡◌, ℕ, zero, suc, ◌-◌, ◌<◌, List, [], ◌∷◌, ◌++◌, length, Bool, true, false, ◌||◌, Some, refl, ap, arith}
-use Rattle.std.specs.Prelude.{All, slice_get}
-use Rattle.std.specs.List.{list_any}
-use Rattle.std.proofs.lemmas.Bool.Decides.{nat_tests}
-use Rattle.std.proofs.lemmas.List.Elements.{All-head, All-tail}
+use Rattle.gb_types.specs.Common.{◌≡◌, ℕ, zero, suc, ◌-◌, ◌<◌, List, [], ◌∷◌, ◌++◌, length, Bool, true, false, ◌||◌, Some, refl, ap, arith, All, slice_get, list_any, nat_tests, All-head, All-tail}
 use Rattle.gb_types.specs.declared.entry.Entry.{Entry}
-use Rattle.gb_alone.specs.Alone.{is_message}
-use Rattle.gb_alone.specs.Laws.{Accepted, IsAccepted}
+use Rattle.gb_alone.specs.Common.{is_message, Accepted, IsAccepted}
 
 -- no item has a number beyond those that were accepted
 pub none_beyond_accepted : (accepted : ℕ → List Accepted) (me k : ℕ) (xs : List Entry) → length (accepted me) < k → All (IsAccepted accepted) xs → list_any (is_message me k) xs ≡ false

@@ -1,23 +1,14 @@
 -- Notices at one node, one after another.
-use Rattle.std.proofs.Common.{◌≡◌, ◌≢◌, ℕ, zero, suc, ◌+◌, ◌<◌, ◌≤◌, List, [], ◌∷◌, Some, None, Bool, true, false, ◌||◌, ◌⊎◌, inl, inr, refl, sym, ◌∙◌, ap, subst, arith}
-use Rattle.std.specs.Prelude.{Option, nat_eq, map, filter, if◌then◌else◌}
-use Rattle.std.specs.List.{range_with_len}
-use Rattle.std.proofs.lemmas.Bool.{cases_eq, cases_lt, eq-eqb}
-use Rattle.std.proofs.lemmas.Bool.Decides.{nat_tests}
-use Rattle.gb_types.specs.declared.limits.TheConstants.{NODES}
-use Rattle.gb_types.specs.declared.node.NodeId.{NodeId}
-use Rattle.gb_types.specs.declared.spec.Spec.{Spec}
+use Rattle.gb_types.specs.Common.{◌≡◌, ◌≢◌, ℕ, zero, suc, ◌+◌, ◌<◌, ◌≤◌, List, [], ◌∷◌, Some, None, Bool, true, false, ◌||◌, ◌⊎◌, inl, inr, refl, sym, ◌∙◌, ap, subst, arith, Option, nat_eq, map, filter, if◌then◌else◌, range_with_len, cases_eq, cases_lt, eq-eqb, nat_tests}
+use Rattle.gb_types.specs.declared.{limits.TheConstants.NODES, node.NodeId.NodeId, spec.Spec.Spec, plan.Bounds.Bounds, address.Addr.Addr}
 use Rattle.gb_types.proofs.BoolLemmas.{or_second, or_turned}
-use Rattle.gb_types.specs.declared.plan.Bounds.{Bounds}
-use Rattle.gb_rules.specs.Group.{is_other}
+use Rattle.gb_rules.specs.Common.{is_other}
 use Rattle.gb_rules.specs.declared.call.GroupCall.TheVariants.{Crashed}
-use Rattle.gb_alone.specs.Alone.{Member, Group, after, alone_from, called, cut, took_notice, node_noticed, is_marked, IsLegalFrom, held_spec}
-use Rattle.gb_node.specs.NodeStep.{node_numbered}
-use Rattle.gb_alone.specs.declared.event.GroupEvent.TheVariants.{Notice}
-use Rattle.gb_alone.specs.declared.event.GroupStep.{GroupStep}
+use Rattle.gb_alone.specs.Common.{Member, Group, after, alone_from, called, cut, took_notice, node_noticed, is_marked, IsLegalFrom, held_spec}
+use Rattle.gb_node.specs.Common.{node_numbered}
+use Rattle.gb_alone.specs.declared.{event.GroupEvent.TheVariants.Notice, event.GroupStep.GroupStep}
 use Rattle.gb_isolation.proofs.MemberLemmas.{KeepsRest}
 use Rattle.gb_isolation.proofs.GoesLemmas.{after_there, after_elsewhere}
-use Rattle.gb_types.specs.declared.address.Addr.{Addr}
 
 -- Numbers.
 

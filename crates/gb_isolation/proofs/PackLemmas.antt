@@ -1,34 +1,15 @@
 -- What packing a packet does to a group.
-use Rattle.std.proofs.Common.{◌≡◌, ◌≢◌, ℕ, zero, suc, ◌+◌, ◌<◌, ◌≤◌, List, [], ◌∷◌, ◌++◌, length, take, drop, Option, Some, None, Bool, true, false, ◌||◌, ◌⊎◌, inl, inr, refl, sym, ◌∙◌, ap, subst, arith, length-append}
-use Rattle.std.specs.Prelude.{nat_eq, nat_le, map, fold, option_map, if◌then◌else◌}
+use Rattle.gb_types.specs.Common.{◌≡◌, ◌≢◌, ℕ, zero, suc, ◌+◌, ◌<◌, ◌≤◌, List, [], ◌∷◌, ◌++◌, length, take, drop, Option, Some, None, Bool, true, false, ◌||◌, ◌⊎◌, inl, inr, refl, sym, ◌∙◌, ap, subst, arith, length-append, nat_eq, nat_le, map, fold, option_map, if◌then◌else◌, drop-nil, and_right, cases_eq, nat_tests, append-nil, append_assoc, length-map, take-append-drop, or-false}
 use Rattle.std.specs.FinSet as set
-use Rattle.std.proofs.Math.Seq.{drop-nil}
-use Rattle.std.proofs.lemmas.Bool.{and_right, cases_eq}
-use Rattle.std.proofs.lemmas.Bool.Decides.{nat_tests}
-use Rattle.std.proofs.lemmas.List.{append-nil, append_assoc, length-map, take-append-drop}
-use Rattle.std.proofs.Math.Bool.{or-false}
-use Rattle.gb_types.specs.declared.address.Addr.{Addr}
-use Rattle.gb_types.specs.declared.entry.Entry.{Entry}
-use Rattle.gb_types.specs.declared.limits.TheConstants.{NODES}
-use Rattle.gb_types.specs.declared.node.NodeId.{NodeId}
-use Rattle.gb_types.specs.declared.spec.Spec.{Spec}
-use Rattle.gb_types.specs.declared.version.Version.{Version}
+use Rattle.gb_types.specs.declared.{address.Addr.Addr, entry.Entry.Entry, limits.TheConstants.NODES, node.NodeId.NodeId, spec.Spec.Spec, version.Version.Version}
 use Rattle.gb_frame.specs.declared.item.Item.{Item}
-use Rattle.gb_frame.specs.Packet.{Content}
-use Rattle.gb_rules.specs.Group.{is_member}
-use Rattle.gb_rules.specs.Tenant.{reserve_of, row_of}
-use Rattle.gb_alone.specs.Alone.{Member, Group, is_acknowledged, is_marked, MayHappen}
+use Rattle.gb_frame.specs.Common.{Content, entry_of, items_for}
+use Rattle.gb_rules.specs.Common.{is_member, reserve_of, row_of, stepped}
+use Rattle.gb_alone.specs.Common.{Member, Group, is_acknowledged, is_marked, MayHappen}
 use Rattle.gb_alone.specs.declared.event.GroupEvent.TheVariants.{Took}
 use Rattle.gb_alone.proofs.MarkLemmas.{none_acknowledged, acknowledged-append}
-use Rattle.gb_frame.specs.Items.{entry_of, items_for}
-use Rattle.gb_rules.specs.Lifetime.{stepped}
-use Rattle.gb_node.specs.Past.{Happened, read, frames_to, is_acked, is_taken, watched, tenants_in}
-use Rattle.gb_node.specs.PastGroups.{Told, noticed_after, waiting_of, took_from, packed_told, told_of, living_of}
-use Rattle.gb_node.specs.StepLaw.{IsPacked}
-use Rattle.gb_node.specs.declared.answer.NodeAnswer.TheVariants.{Sent}
-use Rattle.gb_node.specs.declared.answer.Sent.TheVariants.{Packet as SentPacket}
-use Rattle.gb_node.specs.declared.event.NodeEvent.TheVariants.{Pack}
-use Rattle.gb_node.specs.declared.plan.NodePlan.{NodePlan}
+use Rattle.gb_node.specs.Common.{Happened, read, frames_to, is_acked, is_taken, watched, tenants_in, Told, noticed_after, waiting_of, took_from, packed_told, told_of, living_of, IsPacked}
+use Rattle.gb_node.specs.declared.{answer.NodeAnswer.TheVariants.Sent, answer.Sent.TheVariants.Packet as SentPacket, event.NodeEvent.TheVariants.Pack, plan.NodePlan.NodePlan}
 use Rattle.gb_isolation.specs.Project.{group_items, group_items_of, made_with, replies_in, is_met, if_any}
 use Rattle.gb_isolation.specs.RunLaws.{is_dropped}
 use Rattle.gb_isolation.proofs.View.{View, view_of, Fits, Goes, MemberIs, AreMarked, KeepsAcks, IsInside, said_of, acknowledged_of, bounds_with}

@@ -1,20 +1,10 @@
 -- What follows from a node's past alone.
-use Rattle.std.proofs.Common.{◌≡◌, ℕ, ◌%◌, ◌<◌, ◌≤◌, List, [], ◌∷◌, ◌++◌, length, true, false, ◌&&◌, ◌||◌, ◌⊎◌, inl, inr, refl, ap, arith, length-append}
-use Rattle.std.specs.Prelude.{nat_le, map}
-use Rattle.std.specs.List.{list_any}
-use Rattle.std.proofs.lemmas.Bool.{or_cases, and_parts}
-use Rattle.std.proofs.lemmas.Bool.Decides.{nat_tests}
-use Rattle.gb_types.specs.declared.address.Addr.{Addr}
-use Rattle.gb_types.specs.declared.entry.Entry.{Entry}
-use Rattle.gb_types.specs.declared.limits.TheConstants.{NODES}
+use Rattle.gb_types.specs.Common.{◌≡◌, ℕ, ◌%◌, ◌<◌, ◌≤◌, List, [], ◌∷◌, ◌++◌, length, true, false, ◌&&◌, ◌||◌, ◌⊎◌, inl, inr, refl, ap, arith, length-append, nat_le, map, list_any, or_cases, and_parts, nat_tests}
+use Rattle.gb_types.specs.declared.{address.Addr.Addr, entry.Entry.Entry, limits.TheConstants.NODES}
 use Rattle.gb_types.proofs.BoolLemmas.{or_sides}
-use Rattle.gb_frame.specs.Items.{entry_of, item_for}
-use Rattle.gb_node.specs.Past.{Happened, came, frames_to, is_ack, is_acked, is_stopped, packed_for, stops}
-use Rattle.gb_node.specs.declared.answer.NodeAnswer.{NodeAnswer}
-use Rattle.gb_node.specs.declared.answer.NodeAnswer.TheVariants.{Reply as Replied}
-use Rattle.gb_node.specs.declared.event.NodeEvent.{NodeEvent}
-use Rattle.gb_node.specs.declared.event.NodeEvent.TheVariants.{Request as Asked}
-use Rattle.gb_node.specs.declared.plan.NodePlan.{NodePlan}
+use Rattle.gb_frame.specs.Common.{entry_of, item_for}
+use Rattle.gb_node.specs.Common.{Happened, came, frames_to, is_ack, is_acked, is_stopped, packed_for, stops}
+use Rattle.gb_node.specs.declared.{answer.NodeAnswer.NodeAnswer, answer.NodeAnswer.TheVariants.Reply as Replied, event.NodeEvent.NodeEvent, event.NodeEvent.TheVariants.Request as Asked, plan.NodePlan.NodePlan}
 use Rattle.gb_node.proofs.TookLemmas.{numbered_is}
 use Rattle.gb_isolation.specs.Project.{is_met, is_met_by, is_own_request}
 

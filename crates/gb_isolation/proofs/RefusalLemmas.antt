@@ -1,21 +1,9 @@
 -- A refused request changes nothing.
-use Rattle.std.proofs.Common.{◌≡◌, true, false, Bool, List, [], ◌++◌, refl, ap, subst, ◌∙◌, inl, inr}
-use Rattle.std.specs.Prelude.{slice_set, if◌then◌else◌}
-use Rattle.std.proofs.lemmas.List.{append-nil, set-get_or}
-use Rattle.gb_types.specs.declared.refusal.Refusal.{Refusal}
-use Rattle.gb_types.specs.declared.reply.Reply.{Reply}
-use Rattle.gb_types.specs.declared.reply.Reply.TheVariants.{Refused}
-use Rattle.gb_types.specs.declared.request.Request.{Request}
-use Rattle.gb_types.specs.declared.request.Action.{Action}
-use Rattle.gb_node.specs.NodeStep.{node_did, running_turn, stopped_answer, turn, IsTurn}
-use Rattle.gb_node.specs.NodeValue.{NodeValue, new_node}
-use Rattle.gb_node.specs.declared.answer.NodeAnswer.{NodeAnswer}
-use Rattle.gb_node.specs.declared.answer.NodeAnswer.TheVariants.{Reply as Replied}
-use Rattle.gb_node.specs.declared.event.NodeEvent.{NodeEvent}
-use Rattle.gb_node.specs.declared.event.NodeEvent.TheVariants.{Request as Asked}
-use Rattle.gb_cluster.specs.ClusterStep.{NodeActs}
-use Rattle.gb_cluster.specs.ClusterValue.{ClusterValue, cluster, node_at, node_plan}
-use Rattle.gb_cluster.specs.Run.{Did, ComesTo}
+use Rattle.gb_types.specs.Common.{◌≡◌, true, false, Bool, List, [], ◌++◌, refl, ap, subst, ◌∙◌, inl, inr, slice_set, if◌then◌else◌, append-nil, set-get_or}
+use Rattle.gb_types.specs.declared.{refusal.Refusal.Refusal, reply.Reply.Reply, reply.Reply.TheVariants.Refused, request.Request.Request, request.Action.Action}
+use Rattle.gb_node.specs.Common.{node_did, running_turn, stopped_answer, turn, IsTurn, NodeValue, new_node}
+use Rattle.gb_node.specs.declared.{answer.NodeAnswer.NodeAnswer, answer.NodeAnswer.TheVariants.Reply as Replied, event.NodeEvent.NodeEvent, event.NodeEvent.TheVariants.Request as Asked}
+use Rattle.gb_cluster.specs.Common.{NodeActs, ClusterValue, cluster, node_at, node_plan, Did, ComesTo}
 use Rattle.gb_cluster.proofs.EndLemmas.{one_end}
 use Rattle.gb_isolation.specs.RunLaws.{RefusalsChangeNothing}
 

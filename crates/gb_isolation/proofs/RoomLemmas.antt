@@ -1,19 +1,9 @@
 -- Other generations of a group's room, and the group's own requests, which make and drop none of them.
-use Rattle.std.proofs.Common.{◌≡◌, ℕ, ◌+◌, ◌-◌, [], ◌∷◌, ◌++◌, true, false, not, refl, ap, ◌∙◌, arith}
-use Rattle.std.specs.Prelude.{if◌then◌else◌, nat_lt}
-use Rattle.std.proofs.lemmas.Bool.{and_right}
-use Rattle.std.proofs.lemmas.Bool.Decides.{nat_tests}
-use Rattle.std.proofs.lemmas.List.{append-nil}
-use Rattle.gb_types.specs.declared.address.Addr.{Addr}
-use Rattle.gb_types.specs.declared.node.NodeId.{NodeId}
-use Rattle.gb_types.specs.declared.reply.Reply.{Reply}
-use Rattle.gb_types.specs.declared.request.Action.{Action}
-use Rattle.gb_types.specs.declared.request.Action.TheVariants.{Group as AtGroup}
-use Rattle.gb_types.specs.declared.request.GroupCommand.TheVariants.{Make, Drop}
-use Rattle.gb_rules.specs.Address.{is_addr}
-use Rattle.gb_rules.specs.Room.{is_same_room, is_reached_by, is_other_generation}
+use Rattle.gb_types.specs.Common.{◌≡◌, ℕ, ◌+◌, ◌-◌, [], ◌∷◌, ◌++◌, true, false, not, refl, ap, ◌∙◌, arith, if◌then◌else◌, nat_lt, and_right, nat_tests, append-nil}
+use Rattle.gb_types.specs.declared.{address.Addr.Addr, node.NodeId.NodeId, reply.Reply.Reply, request.Action.Action, request.Action.TheVariants.Group as AtGroup, request.GroupCommand.TheVariants.Make, request.GroupCommand.TheVariants.Drop}
+use Rattle.gb_rules.specs.Common.{is_addr, is_same_room, is_reached_by, is_other_generation}
 use Rattle.gb_alone.specs.declared.event.GroupEvent.TheVariants.{OtherMade, OtherDropped}
-use Rattle.gb_node.specs.PastGroups.{living_done}
+use Rattle.gb_node.specs.Common.{living_done}
 use Rattle.gb_node.proofs.AskedLemmas.{if_same}
 use Rattle.gb_isolation.specs.Project.{is_named, tenant_given, other_of, other_given}
 

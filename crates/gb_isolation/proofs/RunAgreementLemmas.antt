@@ -1,34 +1,18 @@
 -- If a group is settled in a run, the logs seen at its members agree.
-use Rattle.std.proofs.Common.{◌≡◌, ◌≢◌, ℕ, ◌<◌, ◌≤◌, Bool, true, false, not, ◌&&◌, nat_eq, List, [], ◌++◌, length, Some, refl, sym, ap, ◌∙◌, subst, arith}
-use Rattle.std.specs.Prelude.{nat_lt}
-use Rattle.std.proofs.lemmas.Bool.{eqb-true}
-use Rattle.std.proofs.lemmas.Bool.Decides.{nat_tests}
-use Rattle.std.proofs.lemmas.List.{append-nil}
-use Rattle.std.proofs.lemmas.List.Sums.{fold-append}
-use Rattle.gb_types.specs.declared.address.Addr.{Addr}
-use Rattle.gb_types.specs.declared.entry.Entry.{Entry}
-use Rattle.gb_types.specs.declared.limits.TheConstants.{NODES, SILENCE_MIN}
-use Rattle.gb_types.specs.declared.spec.Spec.{Spec}
+use Rattle.gb_types.specs.Common.{◌≡◌, ◌≢◌, ℕ, ◌<◌, ◌≤◌, Bool, true, false, not, ◌&&◌, nat_eq, List, [], ◌++◌, length, Some, refl, sym, ap, ◌∙◌, subst, arith, nat_lt, eqb-true, nat_tests, append-nil, fold-append, bounds_of}
+use Rattle.gb_types.specs.declared.{address.Addr.Addr, entry.Entry.Entry, limits.TheConstants.NODES, limits.TheConstants.SILENCE_MIN, spec.Spec.Spec, plan.Plan.Plan, plan.Bounds.Bounds}
 use Rattle.gb_frame.specs.declared.item.Item.{Item}
-use Rattle.gb_rules.specs.Group.{is_gone, is_member, is_other}
-use Rattle.gb_rules.specs.History.{has_noticed}
-use Rattle.gb_alone.specs.Alone.{Group, after, nobody, alone, is_marked, IsLegal, IsLegalFrom}
-use Rattle.gb_alone.specs.Laws.{accepted}
+use Rattle.gb_rules.specs.Common.{is_gone, is_member, is_other, has_noticed}
+use Rattle.gb_alone.specs.Common.{Group, after, nobody, alone, is_marked, IsLegal, IsLegalFrom, accepted}
 use Rattle.gb_alone.specs.declared.event.GroupStep.{GroupStep}
 use Rattle.gb_alone.proofs.InsideLemmas.{none_beyond}
 use Rattle.gb_duties.specs.Agreement.{IsRunning, AreEnough, IsSettled, IsAgreed, KeepsAgreement, logs_of}
 use Rattle.gb_duties.proofs.FlowLemmas.{nobody_flows, run_flows, legal_parts, made_stays}
 use Rattle.gb_duties.proofs.NoticeLemmas.{AllMarked}
 use Rattle.gb_duties.proofs.SeenLemmas.{noticed_seen, seen_noticed, agreement_seen}
-use Rattle.gb_node.specs.NodeGroups.{waiting_at}
-use Rattle.gb_node.specs.NodeStep.{node_numbered}
-use Rattle.gb_node.specs.Past.{frames_to, is_taken}
-use Rattle.gb_cluster.specs.ClusterValue.{ClusterValue, node_at}
-use Rattle.gb_cluster.specs.Run.{Did, ComesTo, past_at}
-use Rattle.gb_types.specs.declared.plan.Plan.{Plan}
+use Rattle.gb_node.specs.Common.{waiting_at, node_numbered, frames_to, is_taken}
+use Rattle.gb_cluster.specs.Common.{ClusterValue, node_at, Did, ComesTo, past_at}
 use Rattle.gb_types.proofs.BoolLemmas.{and_both}
-use Rattle.gb_types.specs.declared.plan.Bounds.{Bounds}
-use Rattle.gb_types.specs.Version.{bounds_of}
 use Rattle.gb_cluster.proofs.NodesLemmas.{stays}
 use Rattle.gb_isolation.specs.Isolation.{Seen, IsIsolated, GroupsAreIsolated}
 use Rattle.gb_isolation.specs.Project.{project, group_items_of, is_fed}

@@ -1,44 +1,24 @@
 -- The group's commands in a run, with their replies.
-use Rattle.std.proofs.Common.{◌≡◌, ◌≢◌, ℕ, ◌⊎◌, inl, inr, Bool, true, false, List, [], ◌∷◌, ◌++◌, length, refl, sym, ap, ◌∙◌, subst, map}
-use Rattle.std.specs.Prelude.{if◌then◌else◌}
+use Rattle.gb_types.specs.Common.{◌≡◌, ◌≢◌, ℕ, ◌⊎◌, inl, inr, Bool, true, false, List, [], ◌∷◌, ◌++◌, length, refl, sym, ap, ◌∙◌, subst, map, if◌then◌else◌, flat_map, and_parts, cases_eq, eq-eqb, append-nil}
 use Rattle.std.specs.FinSet as set
-use Rattle.std.specs.List.{flat_map}
-use Rattle.std.proofs.lemmas.Bool.{and_parts, cases_eq, eq-eqb}
-use Rattle.std.proofs.lemmas.List.{append-nil}
-use Rattle.gb_types.specs.declared.address.Addr.{Addr}
-use Rattle.gb_types.specs.declared.node.NodeId.{NodeId}
-use Rattle.gb_types.specs.declared.reply.Reply.{Reply}
-use Rattle.gb_types.specs.declared.reply.Reply.TheVariants.{Said}
-use Rattle.gb_types.specs.declared.request.Request.{Request}
-use Rattle.gb_types.specs.declared.request.Action.{Action}
-use Rattle.gb_types.specs.declared.request.Action.TheVariants.{AddTenant, Group as AtGroup}
-use Rattle.gb_types.specs.declared.request.GroupCommand.{GroupCommand}
+use Rattle.gb_types.specs.declared.{address.Addr.Addr, node.NodeId.NodeId, reply.Reply.Reply, reply.Reply.TheVariants.Said, request.Request.Request, request.Action.Action, request.Action.TheVariants.AddTenant, request.Action.TheVariants.Group as AtGroup, request.GroupCommand.GroupCommand, plan.Plan.Plan}
 use Rattle.gb_types.specs.declared.request.GroupCommand.TheVariants.{Make, Open, Shut, Drop, Say, Fetch}
 use Rattle.gb_types.proofs.SameLemmas.{same_number}
-use Rattle.gb_alone.specs.Laws.{accepted_in}
-use Rattle.gb_alone.specs.declared.event.GroupEvent.{GroupEvent}
+use Rattle.gb_alone.specs.Common.{accepted_in}
+use Rattle.gb_alone.specs.declared.{event.GroupEvent.GroupEvent, event.GroupStep.GroupStep}
 use Rattle.gb_alone.specs.declared.event.GroupEvent.TheVariants.{Make as AskMake, Open as AskOpen, Shut as AskShut, Drop as AskDrop, Say as AskSay, Fetch as AskFetch, Took}
-use Rattle.gb_alone.specs.declared.event.GroupStep.{GroupStep}
 use Rattle.gb_alone.proofs.CommandLemmas.{command_in, commands, commands-append, Pairs, pairs_append, no_pairs, one_pair}
-use Rattle.gb_node.specs.StepLaw.{has_group_token}
-use Rattle.gb_node.specs.Past.{Happened, read, is_stopped, tenants_in}
-use Rattle.gb_node.specs.declared.answer.NodeAnswer.{NodeAnswer}
+use Rattle.gb_node.specs.Common.{has_group_token, Happened, read, is_stopped, tenants_in}
+use Rattle.gb_node.specs.declared.{answer.NodeAnswer.NodeAnswer, answer.PacketAnswer.TheVariants.Good as TakenGood, answer.Sent.TheVariants.Packet as SentPacket, answer.Ticked.TheVariants.Noticed, event.NodeEvent.NodeEvent, plan.NodePlan.NodePlan}
 use Rattle.gb_node.specs.declared.answer.NodeAnswer.TheVariants.{Reply as Replied, Taken, Sent, Ticked}
-use Rattle.gb_node.specs.declared.answer.PacketAnswer.TheVariants.{Good as TakenGood}
-use Rattle.gb_node.specs.declared.answer.Sent.TheVariants.{Packet as SentPacket}
-use Rattle.gb_node.specs.declared.answer.Ticked.TheVariants.{Noticed}
-use Rattle.gb_node.specs.declared.event.NodeEvent.{NodeEvent}
 use Rattle.gb_node.specs.declared.event.NodeEvent.TheVariants.{Request as Asked, Packet as Brought, Pack, Tick}
-use Rattle.gb_node.specs.declared.plan.NodePlan.{NodePlan}
-use Rattle.gb_cluster.specs.ClusterValue.{node_plan}
-use Rattle.gb_cluster.specs.Run.{Did, past_at}
-use Rattle.gb_types.specs.declared.plan.Plan.{Plan}
+use Rattle.gb_cluster.specs.Common.{node_plan, Did, past_at}
 use Rattle.gb_cluster.proofs.NodesLemmas.{past_same, past_other}
 use Rattle.gb_isolation.specs.Project.{event_of, group_items_of, is_named, is_own_request, command_for, made_by, made_with, tenant_given, other_given, is_met, with_stop, if_any, arrived, ticked, gives, project, reply_in, replies_in}
 use Rattle.gb_isolation.specs.RunLaws.{said_by, accepted_by, accepted_in_past}
 use Rattle.gb_isolation.proofs.GivenLemmas.{carried_any, carried_packets, given_at, no_commands_elsewhere, no_commands_carried, no_commands_ticked, no_commands_tenant, no_commands_other, commands_stopped}
 use Rattle.gb_isolation.proofs.View.{asked_by, is_noticed_after, own_requested_by}
-use Rattle.gb_frame.specs.Packet.{Content}
+use Rattle.gb_frame.specs.Common.{Content}
 
 -- what a request gives besides the command is no command
 commands_own : (plan : NodePlan) (g : Addr) (past : List Happened) (s : ℕ) (request : Request) (reply : Reply) → commands s (own_requested_by plan g past request reply) ≡ commands s (command_for plan.me request.what)

@@ -1,26 +1,16 @@
 -- The duties of a group's nodes in a run.
 use Rattle.std.specs.FinSet as set
-use Rattle.gb_node.specs.PastGroups.{noticed_after}
+use Rattle.gb_node.specs.Common.{noticed_after, node_numbered}
 use Rattle.gb_isolation.proofs.SilenceLemmas.{noticed_is_silent}
-use Rattle.std.proofs.Common.{◌≡◌, ℕ, ◌<◌, ◌≤◌, Bool, true, false, ◌&&◌, List, Option, Some, None, sym, ap, ◌∙◌, subst, arith}
-use Rattle.std.specs.Prelude.{if◌then◌else◌}
-use Rattle.gb_types.specs.declared.address.Addr.{Addr}
-use Rattle.gb_types.specs.declared.limits.TheConstants.{NODES, SILENCE_MIN}
-use Rattle.gb_types.specs.declared.message.MsgId.{MsgId}
-use Rattle.gb_types.specs.declared.node.NodeId.{NodeId}
-use Rattle.gb_types.specs.declared.spec.Spec.{Spec}
-use Rattle.gb_rules.specs.Group.{is_gone, is_member, is_other}
-use Rattle.gb_rules.specs.Messages.{has}
-use Rattle.gb_alone.specs.Alone.{Group, nobody, alone, is_marked}
+use Rattle.gb_types.specs.Common.{◌≡◌, ℕ, ◌<◌, ◌≤◌, Bool, true, false, ◌&&◌, List, Option, Some, None, sym, ap, ◌∙◌, subst, arith, if◌then◌else◌, bounds_of}
+use Rattle.gb_types.specs.declared.{address.Addr.Addr, limits.TheConstants.NODES, limits.TheConstants.SILENCE_MIN, message.MsgId.MsgId, node.NodeId.NodeId, spec.Spec.Spec, plan.Plan.Plan}
+use Rattle.gb_rules.specs.Common.{is_gone, is_member, is_other, has}
+use Rattle.gb_alone.specs.Common.{Group, nobody, alone, is_marked}
 use Rattle.gb_alone.proofs.InsideLemmas.{run_inside}
 use Rattle.gb_duties.specs.Duties.{HasHad, KeepsDuties, IsDutiful, DeliveredAreOfMembers, LoggedAreDelivered, noticed_at, delivered_at}
 use Rattle.gb_duties.proofs.NoticeLemmas.{AllMarked}
 use Rattle.gb_duties.proofs.SeenLemmas.{duties_seen}
-use Rattle.gb_node.specs.NodeStep.{node_numbered}
-use Rattle.gb_cluster.specs.ClusterValue.{ClusterValue, node_plan}
-use Rattle.gb_cluster.specs.Run.{Did, past_at}
-use Rattle.gb_types.specs.declared.plan.Plan.{Plan}
-use Rattle.gb_types.specs.Version.{bounds_of}
+use Rattle.gb_cluster.specs.Common.{ClusterValue, node_plan, Did, past_at}
 use Rattle.gb_cluster.proofs.NodesLemmas.{stays}
 use Rattle.gb_isolation.specs.Isolation.{Seen, seen_in, IsIsolated, GroupsAreIsolated}
 use Rattle.gb_isolation.specs.Project.{project, made_with}

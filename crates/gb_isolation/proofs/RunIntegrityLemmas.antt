@@ -1,22 +1,12 @@
 -- Integrity and order of a group in a run: what was accepted in the run is what the group alone accepted.
-use Rattle.std.proofs.Common.{◌≡◌, ℕ, ◌-◌, ◌≤◌, ◌<◌, Bool, true, false, List, [], Option, Some, None, refl, sym, ap, ◌∙◌, subst, arith}
-use Rattle.std.specs.Prelude.{All, slice_get, nat_lt}
-use Rattle.std.proofs.lemmas.Bool.Decides.{nat_tests}
-use Rattle.std.proofs.lemmas.List.Elements.{All-weaker}
-use Rattle.gb_types.specs.declared.address.Addr.{Addr}
-use Rattle.gb_types.specs.declared.entry.Entry.{Entry}
-use Rattle.gb_types.specs.declared.limits.TheConstants.{NODES}
-use Rattle.gb_types.specs.declared.node.NodeId.{NodeId}
-use Rattle.gb_alone.specs.Alone.{nobody, alone}
-use Rattle.gb_alone.specs.Laws.{Accepted, accepted, IsAccepted, KeepsIntegrity, KeepsOrder, IsIntegral, IsInOrder}
+use Rattle.gb_types.specs.Common.{◌≡◌, ℕ, ◌-◌, ◌≤◌, ◌<◌, Bool, true, false, List, [], Option, Some, None, refl, sym, ap, ◌∙◌, subst, arith, All, slice_get, nat_lt, nat_tests, All-weaker, bounds_of}
+use Rattle.gb_types.specs.declared.{address.Addr.Addr, entry.Entry.Entry, limits.TheConstants.NODES, node.NodeId.NodeId, plan.Plan.Plan}
+use Rattle.gb_alone.specs.Common.{nobody, alone, Accepted, accepted, IsAccepted, KeepsIntegrity, KeepsOrder, IsIntegral, IsInOrder}
 use Rattle.gb_alone.specs.declared.event.GroupStep.{GroupStep}
 use Rattle.gb_alone.proofs.CommandLemmas.{commands, paired, Pairs, replies_from, run_replies, alone_pairs}
 use Rattle.gb_alone.proofs.InsideLemmas.{none_beyond}
-use Rattle.gb_node.specs.NodeStep.{node_numbered}
-use Rattle.gb_cluster.specs.ClusterValue.{ClusterValue, node_plan}
-use Rattle.gb_cluster.specs.Run.{Did, past_at}
-use Rattle.gb_types.specs.declared.plan.Plan.{Plan}
-use Rattle.gb_types.specs.Version.{bounds_of}
+use Rattle.gb_node.specs.Common.{node_numbered}
+use Rattle.gb_cluster.specs.Common.{ClusterValue, node_plan, Did, past_at}
 use Rattle.gb_cluster.proofs.NodesLemmas.{stays}
 use Rattle.gb_isolation.specs.Isolation.{Seen, seen_in, IsIsolated, GroupsAreIsolated}
 use Rattle.gb_isolation.specs.Project.{project}

@@ -1,41 +1,20 @@
 -- A group behaves in every run as it does alone.
-use Rattle.std.proofs.Common.{◌≡◌, ◌≢◌, ℕ, ◌+◌, ◌-◌, ◌<◌, ◌≤◌, List, [], ◌∷◌, ◌++◌, length, Some, None, Bool, true, false, not, ◌⊎◌, inl, inr, refl, sym, ◌∙◌, ap, subst, arith}
-use Rattle.std.specs.Prelude.{map, nat_eq, slice_get, if◌then◌else◌}
-use Rattle.std.specs.List.{list_any}
-use Rattle.std.proofs.lemmas.Bool.{and_parts, cases_eq, ne_eqb}
-use Rattle.std.proofs.lemmas.Bool.Decides.{nat_tests}
-use Rattle.std.proofs.lemmas.List.{append-nil}
-use Rattle.std.proofs.lemmas.List.Sums.{fold-append}
-use Rattle.gb_types.specs.declared.address.Addr.{Addr}
-use Rattle.gb_types.specs.declared.limits.TheConstants.{NODES, SILENCE_MIN}
-use Rattle.gb_types.specs.declared.node.NodeId.{NodeId}
+use Rattle.gb_types.specs.Common.{◌≡◌, ◌≢◌, ℕ, ◌+◌, ◌-◌, ◌<◌, ◌≤◌, List, [], ◌∷◌, ◌++◌, length, Some, None, Bool, true, false, not, ◌⊎◌, inl, inr, refl, sym, ◌∙◌, ap, subst, arith, map, nat_eq, slice_get, if◌then◌else◌, list_any, and_parts, cases_eq, ne_eqb, nat_tests, append-nil, fold-append, bounds_of}
+use Rattle.gb_types.specs.declared.{address.Addr.Addr, limits.TheConstants.NODES, limits.TheConstants.SILENCE_MIN, node.NodeId.NodeId, plan.Plan.Plan, request.Request.Request}
 use Rattle.gb_types.proofs.SameLemmas.{same_number}
 use Rattle.gb_frame.specs.declared.item.Item.{Item}
-use Rattle.gb_frame.specs.Packet.{Content}
-use Rattle.gb_rules.specs.History.{said_in}
-use Rattle.gb_alone.specs.Alone.{Group, Member, nobody, after, alone, alone_from, is_message}
-use Rattle.gb_alone.specs.Laws.{accepted}
+use Rattle.gb_frame.specs.Common.{Content}
+use Rattle.gb_rules.specs.Common.{said_in}
+use Rattle.gb_alone.specs.Common.{Group, Member, nobody, after, alone, alone_from, is_message, accepted}
 use Rattle.gb_alone.proofs.AcceptedLemmas.{alone_said, length-own_said}
 use Rattle.gb_alone.proofs.IntegrityLemmas.{is_integral}
-use Rattle.gb_node.specs.NodeStep.{node_numbered}
-use Rattle.gb_node.specs.Past.{Happened, ComesTo as NodeComesTo, read, frames_to, is_acked, is_first, is_taken, is_stopped, packed_for}
-use Rattle.gb_node.specs.PastGroups.{Told, waiting_of, told_of, living_of, living_after}
-use Rattle.gb_node.specs.StepLaw.{IsAnswered, AnswersSay}
-use Rattle.gb_node.specs.declared.answer.Good.{Good}
-use Rattle.gb_node.specs.declared.answer.NodeAnswer.{NodeAnswer}
+use Rattle.gb_node.specs.Common.{node_numbered, Happened, read, frames_to, is_acked, is_first, is_taken, is_stopped, packed_for, Told, waiting_of, told_of, living_of, living_after, IsAnswered, AnswersSay, added, tenants_in}
+use Rattle.gb_node.specs.Past.{ComesTo as NodeComesTo}
+use Rattle.gb_node.specs.declared.{answer.Good.Good, answer.NodeAnswer.NodeAnswer, answer.PacketAnswer.TheVariants.Good as TakenGood, answer.Sent.TheVariants.Packet as SentPacket, answer.Ticked.TheVariants.Noticed, event.NodeEvent.NodeEvent, plan.NodePlan.NodePlan}
 use Rattle.gb_node.specs.declared.answer.NodeAnswer.TheVariants.{Reply as Replied, Taken, Sent, Ticked}
-use Rattle.gb_node.specs.declared.answer.PacketAnswer.TheVariants.{Good as TakenGood}
-use Rattle.gb_node.specs.declared.answer.Sent.TheVariants.{Packet as SentPacket}
-use Rattle.gb_node.specs.declared.answer.Ticked.TheVariants.{Noticed}
-use Rattle.gb_node.specs.declared.event.NodeEvent.{NodeEvent}
 use Rattle.gb_node.specs.declared.event.NodeEvent.TheVariants.{Request as Asked, Packet as Brought, Pack, Tick}
-use Rattle.gb_cluster.specs.ClusterValue.{ClusterValue, node_plan, node_at}
-use Rattle.gb_cluster.specs.Links.{IsAlwaysWhole, LinksHold}
-use Rattle.gb_cluster.specs.Run.{Did, ComesTo, past_at}
-use Rattle.gb_types.specs.declared.plan.Plan.{Plan}
+use Rattle.gb_cluster.specs.Common.{ClusterValue, node_plan, node_at, IsAlwaysWhole, LinksHold, Did, ComesTo, past_at}
 use Rattle.gb_cluster.proofs.NodesLemmas.{Stays, stays, have_pasts, past_same, past_other}
-use Rattle.gb_node.specs.declared.plan.NodePlan.{NodePlan}
-use Rattle.gb_node.specs.Past.{added, tenants_in}
 use Rattle.gb_isolation.specs.Project.{made_by, gives, project, group_items_of, is_fed, is_starved_by, is_new_frame, made_with, replies_in, is_met}
 use Rattle.gb_isolation.specs.RunLaws.{is_dropped, is_dropped_by}
 use Rattle.gb_isolation.proofs.View.{View, view_of, view_at, frames_for, AreMarked, MemberIs, IsThere, Fits, Goes, AllFit, BehavesAlone}
@@ -47,9 +26,7 @@ use Rattle.gb_isolation.proofs.GoesLemmas.{legal-append}
 use Rattle.gb_isolation.proofs.MarkLemmas.{marks_more, offset_none}
 use Rattle.gb_isolation.proofs.PackLemmas.{packed_goes}
 use Rattle.gb_isolation.proofs.PastLemmas.{running_unmet}
-use Rattle.gb_types.specs.declared.request.Request.{Request}
 use Rattle.gb_types.proofs.BoolLemmas.{not_true}
-use Rattle.gb_types.specs.Version.{bounds_of}
 use Rattle.gb_isolation.proofs.UnrelatedLemmas.{unrelated_goes}
 use Rattle.gb_isolation.proofs.TickLemmas.{ticked_goes}
 use Rattle.gb_isolation.proofs.SilenceLemmas.{silent_is}

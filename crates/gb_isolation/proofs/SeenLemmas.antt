@@ -1,18 +1,11 @@
 -- What a run shows of an isolated group is what the group has alone.
-use Rattle.std.proofs.Common.{◌≡◌, List, [], ◌∷◌, ◌++◌, length, map, take, refl, sym, ◌∙◌, ap, arith}
-use Rattle.std.specs.List.{AllByRecursion, flat_map}
-use Rattle.std.proofs.lemmas.List.{map-append, take_all, take-append-le}
+use Rattle.gb_types.specs.Common.{◌≡◌, List, [], ◌∷◌, ◌++◌, length, map, take, refl, sym, ◌∙◌, ap, arith, AllByRecursion, flat_map, map-append, take_all, take-append-le, recursion_from_All}
 use Rattle.std.proofs.lemmas.List.Concat.{flat_map-cons}
-use Rattle.std.proofs.lemmas.List.Elements.{recursion_from_All}
-use Rattle.gb_types.specs.declared.address.Addr.{Addr}
-use Rattle.gb_types.specs.declared.entry.Entry.{Entry}
-use Rattle.gb_types.specs.declared.plan.Plan.{Plan}
-use Rattle.gb_frame.specs.Items.{item_for, items_for}
+use Rattle.gb_types.specs.declared.{address.Addr.Addr, entry.Entry.Entry, plan.Plan.Plan}
+use Rattle.gb_frame.specs.Common.{item_for, items_for}
 use Rattle.gb_frame.specs.declared.item.Item.{Item}
-use Rattle.gb_node.specs.NodeGroups.{waiting_at}
-use Rattle.gb_node.specs.Past.{frames_to}
-use Rattle.gb_cluster.specs.ClusterValue.{ClusterValue, node_at}
-use Rattle.gb_cluster.specs.Run.{Did, past_at}
+use Rattle.gb_node.specs.Common.{waiting_at, frames_to}
+use Rattle.gb_cluster.specs.Common.{ClusterValue, node_at, Did, past_at}
 use Rattle.gb_isolation.specs.Isolation.{Seen, AreSpelt, IsIsolated, IsSeenAlone, alone_in, carried_alone}
 use Rattle.gb_isolation.specs.Project.{group_items, group_items_of}
 

@@ -1,10 +1,9 @@
 -- The nodes that a node has noticed are those that were silent for too long.
-use Rattle.std.proofs.Common.{◌≡◌, ℕ, ◌≤◌, List, sym}
+use Rattle.gb_types.specs.Common.{◌≡◌, ℕ, ◌≤◌, List, sym}
 use Rattle.std.specs.FinSet as set
 use Rattle.gb_types.specs.declared.limits.TheConstants.{NODES, SILENCE_MIN}
 use Rattle.gb_detect.proofs.ReplayLemmas.{noticed-replay}
-use Rattle.gb_node.specs.Past.{Happened, watched}
-use Rattle.gb_node.specs.PastGroups.{noticed_after}
+use Rattle.gb_node.specs.Common.{Happened, watched, noticed_after}
 use Rattle.gb_node.specs.declared.plan.NodePlan.{NodePlan}
 use Rattle.gb_isolation.proofs.View.{is_noticed_after}
 

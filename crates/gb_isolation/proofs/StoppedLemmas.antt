@@ -1,25 +1,12 @@
 -- What a request at a node that has stopped does to each group there: the group's first command meets the stop.
-use Rattle.std.proofs.Common.{◌≡◌, ℕ, List, [], ◌∷◌, ◌++◌, Bool, true, false, ◌&&◌, ◌||◌, ◌⊎◌, inl, inr, refl, sym, ◌∙◌, ap, subst}
-use Rattle.std.specs.Prelude.{if◌then◌else◌}
-use Rattle.std.proofs.lemmas.Bool.{cases_Bool, and_parts}
-use Rattle.gb_types.specs.declared.address.Addr.{Addr}
-use Rattle.gb_types.specs.declared.node.NodeId.{NodeId}
-use Rattle.gb_types.specs.declared.refusal.Refusal.TheVariants.{Stopped}
-use Rattle.gb_types.specs.declared.reply.Reply.{Reply}
-use Rattle.gb_types.specs.declared.reply.Reply.TheVariants.{Refused}
-use Rattle.gb_types.specs.declared.request.Action.{Action}
-use Rattle.gb_types.specs.declared.request.Action.TheVariants.{AddTenant, Group as AtGroup}
+use Rattle.gb_types.specs.Common.{◌≡◌, ℕ, List, [], ◌∷◌, ◌++◌, Bool, true, false, ◌&&◌, ◌||◌, ◌⊎◌, inl, inr, refl, sym, ◌∙◌, ap, subst, if◌then◌else◌, cases_Bool, and_parts}
+use Rattle.gb_types.specs.declared.{address.Addr.Addr, node.NodeId.NodeId, refusal.Refusal.TheVariants.Stopped, reply.Reply.Reply, reply.Reply.TheVariants.Refused, request.Action.Action, request.Action.TheVariants.AddTenant, request.Action.TheVariants.Group as AtGroup, request.Request.Request, plan.Bounds.Bounds, version.Version.Version}
 use Rattle.gb_types.specs.declared.request.GroupCommand.TheVariants.{Make, Open, Shut, Drop, Say, Fetch}
-use Rattle.gb_types.specs.declared.request.Request.{Request}
-use Rattle.gb_types.specs.declared.plan.Bounds.{Bounds}
-use Rattle.gb_types.specs.declared.version.Version.{Version}
 use Rattle.gb_frame.specs.declared.item.Item.{Item}
 use Rattle.gb_alone.specs.declared.event.GroupEvent.{GroupEvent}
 use Rattle.gb_alone.specs.declared.event.GroupEvent.TheVariants.{Make as AskMake, Open as AskOpen, Shut as AskShut, Drop as AskDrop, Say as AskSay, Fetch as AskFetch, Stop}
-use Rattle.gb_alone.specs.Alone.{Member, Group, alone_from, commanded, did, member_after, reply_to, running_reply, MayHappen}
-use Rattle.gb_node.specs.StepLaw.{has_group_token}
-use Rattle.gb_node.specs.Past.{Happened, is_stopped, tenants_in}
-use Rattle.gb_node.specs.PastGroups.{told_of, living_of}
+use Rattle.gb_alone.specs.Common.{Member, Group, alone_from, commanded, did, member_after, reply_to, running_reply, MayHappen}
+use Rattle.gb_node.specs.Common.{has_group_token, Happened, is_stopped, tenants_in, told_of, living_of}
 use Rattle.gb_node.specs.declared.plan.NodePlan.{NodePlan}
 use Rattle.gb_isolation.specs.Project.{is_named, is_own_request, is_met, command_for, with_stop, made_with, replies_in}
 use Rattle.gb_isolation.specs.RunLaws.{is_dropped}

@@ -1,32 +1,14 @@
 -- A group that behaves as it does alone is seen as it is alone.
-use Rattle.std.proofs.Common.{◌≡◌, ℕ, Bool, true, false, nat_eq, ◌++◌, List, [], ◌∷◌, length, map, take, Option, Some, None, sym, subst, ◌∙◌, ap}
-use Rattle.std.specs.Prelude.{if◌then◌else◌}
-use Rattle.std.specs.List.{AllByRecursion}
-use Rattle.std.proofs.lemmas.List.Elements.{All-from_recursion}
-use Rattle.gb_types.specs.declared.address.Addr.{Addr}
-use Rattle.gb_types.specs.declared.entry.Entry.{Entry}
-use Rattle.gb_types.specs.declared.spec.Spec.{Spec}
-use Rattle.gb_frame.specs.Items.{entry_of, item_for, items_for}
-use Rattle.gb_frame.specs.Packet.{Content}
+use Rattle.gb_types.specs.Common.{◌≡◌, ℕ, Bool, true, false, nat_eq, ◌++◌, List, [], ◌∷◌, length, map, take, Option, Some, None, sym, subst, ◌∙◌, ap, if◌then◌else◌, AllByRecursion, All-from_recursion}
+use Rattle.gb_types.specs.declared.{address.Addr.Addr, entry.Entry.Entry, spec.Spec.Spec, plan.Plan.Plan}
+use Rattle.gb_frame.specs.Common.{entry_of, item_for, items_for, Content}
 use Rattle.gb_frame.specs.declared.item.Item.{Item}
-use Rattle.gb_rules.specs.History.{log_of}
-use Rattle.gb_alone.specs.Alone.{Member, log_at}
-use Rattle.gb_alone.specs.Laws.{log_of_member}
-use Rattle.gb_node.specs.NodeGroups.{shown_at, waiting_at}
-use Rattle.gb_node.specs.NodeValue.{NodeValue}
-use Rattle.gb_node.specs.Past.{Happened, read, frames_to, packed_for, ComesTo as NodeComesTo}
-use Rattle.gb_node.specs.PastGroups.{Told, shown_in, told_of, waiting_of}
-use Rattle.gb_node.specs.StepLaw.{IsAnswered, AnswersSay}
-use Rattle.gb_node.specs.declared.plan.NodePlan.{NodePlan}
-use Rattle.gb_node.specs.declared.answer.NodeAnswer.{NodeAnswer}
-use Rattle.gb_node.specs.declared.answer.NodeAnswer.TheVariants.{Sent}
-use Rattle.gb_node.specs.declared.answer.Sent.TheVariants.{Packet as SentPacket}
-use Rattle.gb_node.specs.declared.event.NodeEvent.{NodeEvent}
-use Rattle.gb_node.specs.declared.event.NodeEvent.TheVariants.{Pack}
-use Rattle.gb_node.specs.PastLaw.{IsOfPast, PastsSay}
-use Rattle.gb_cluster.specs.ClusterValue.{ClusterValue, node_plan, node_at}
-use Rattle.gb_cluster.specs.Run.{Did, ComesTo, past_at}
-use Rattle.gb_types.specs.declared.plan.Plan.{Plan}
+use Rattle.gb_rules.specs.Common.{log_of}
+use Rattle.gb_alone.specs.Common.{Member, log_at, log_of_member}
+use Rattle.gb_node.specs.Common.{shown_at, waiting_at, NodeValue, Happened, read, frames_to, packed_for, Told, shown_in, told_of, waiting_of, IsAnswered, AnswersSay, IsOfPast, PastsSay}
+use Rattle.gb_node.specs.Past.{ComesTo as NodeComesTo}
+use Rattle.gb_node.specs.declared.{plan.NodePlan.NodePlan, answer.NodeAnswer.NodeAnswer, answer.NodeAnswer.TheVariants.Sent, answer.Sent.TheVariants.Packet as SentPacket, event.NodeEvent.NodeEvent, event.NodeEvent.TheVariants.Pack}
+use Rattle.gb_cluster.specs.Common.{ClusterValue, node_plan, node_at, Did, ComesTo, past_at}
 use Rattle.gb_cluster.proofs.NodesLemmas.{have_pasts}
 use Rattle.gb_isolation.specs.Isolation.{log_in, AreSpelt, IsIsolated, GroupsAreIsolated, alone_in}
 use Rattle.gb_isolation.specs.Project.{group_items, group_items_of}

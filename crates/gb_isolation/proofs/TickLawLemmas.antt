@@ -1,24 +1,12 @@
 -- A tick answers the nodes that are newly noticed.
-use Rattle.std.proofs.Common.{◌≡◌, ℕ, ◌<◌, true, false, not, ◌&&◌, ◌||◌, Bool, List, ◌∷◌, refl, sym, ap, subst, ◌∙◌, inl, inr}
-use Rattle.std.specs.Prelude.{if◌then◌else◌}
+use Rattle.gb_types.specs.Common.{◌≡◌, ℕ, ◌<◌, true, false, not, ◌&&◌, ◌||◌, Bool, List, ◌∷◌, refl, sym, ap, subst, ◌∙◌, inl, inr, if◌then◌else◌, nat_cmp}
 use Rattle.std.specs.FinSet as set
-use Rattle.std.specs.Ordering.{nat_cmp}
-use Rattle.gb_types.specs.declared.node.NodeId.{NodeId}
-use Rattle.gb_types.specs.declared.plan.Plan.{Plan}
+use Rattle.gb_types.specs.declared.{node.NodeId.NodeId, plan.Plan.Plan}
 use Rattle.gb_detect.specs.Watch.{due}
-use Rattle.gb_node.specs.NodeStep.{running_turn, stopped_answer, IsStarved, IsTurn}
-use Rattle.gb_node.specs.NodeValue.{NodeValue}
-use Rattle.gb_node.specs.Past.{Happened, ComesTo as NodeComesTo, is_stopped}
-use Rattle.gb_node.specs.PastGroups.{noticed_after}
-use Rattle.gb_node.specs.PastLaw.{PastsSay}
-use Rattle.gb_node.specs.StepLaw.{AnswersSay, IsTicked}
-use Rattle.gb_node.specs.declared.answer.NodeAnswer.{NodeAnswer}
-use Rattle.gb_node.specs.declared.answer.NodeAnswer.TheVariants.{Ticked}
-use Rattle.gb_node.specs.declared.answer.Ticked.TheVariants.{Noticed}
-use Rattle.gb_node.specs.declared.event.NodeEvent.{NodeEvent}
-use Rattle.gb_node.specs.declared.event.NodeEvent.TheVariants.{Tick}
-use Rattle.gb_cluster.specs.ClusterValue.{ClusterValue, IsClusterPlan, node_at, node_plan}
-use Rattle.gb_cluster.specs.Run.{Did, ComesTo, past_at}
+use Rattle.gb_node.specs.Common.{running_turn, stopped_answer, IsStarved, IsTurn, NodeValue, Happened, is_stopped, noticed_after, PastsSay, AnswersSay, IsTicked}
+use Rattle.gb_node.specs.Past.{ComesTo as NodeComesTo}
+use Rattle.gb_node.specs.declared.{answer.NodeAnswer.NodeAnswer, answer.NodeAnswer.TheVariants.Ticked, answer.Ticked.TheVariants.Noticed, event.NodeEvent.NodeEvent, event.NodeEvent.TheVariants.Tick}
+use Rattle.gb_cluster.specs.Common.{ClusterValue, IsClusterPlan, node_at, node_plan, Did, ComesTo, past_at}
 use Rattle.gb_cluster.proofs.NodesLemmas.{have_pasts, past_same, stays}
 use Rattle.gb_isolation.specs.RunLaws.{AnswersNewNotices, TicksAnswerNewNotices, is_noticed_in}
 use Rattle.gb_isolation.proofs.MomentLemmas.{placed}

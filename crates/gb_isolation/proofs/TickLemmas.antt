@@ -1,34 +1,13 @@
 -- What a tick that notices nodes does to a group.
-use Rattle.std.proofs.Common.{◌≡◌, ℕ, zero, suc, ◌+◌, ◌<◌, ◌≤◌, List, [], ◌∷◌, ◌++◌, length, Option, Some, None, Bool, true, false, cond, ◌&&◌, ◌||◌, refl, sym, ◌∙◌, ap, subst, arith}
-use Rattle.std.specs.Prelude.{nat_le, fold, filter, option_map, if◌then◌else◌}
+use Rattle.gb_types.specs.Common.{◌≡◌, ℕ, zero, suc, ◌+◌, ◌<◌, ◌≤◌, List, [], ◌∷◌, ◌++◌, length, Option, Some, None, Bool, true, false, cond, ◌&&◌, ◌||◌, refl, sym, ◌∙◌, ap, subst, arith, nat_le, fold, filter, option_map, if◌then◌else◌, range_with_len, nat_cmp, and_right, and_parts, or-false, append-nil, rising}
 use Rattle.std.specs.FinSet as set
-use Rattle.std.specs.List.{range_with_len}
-use Rattle.std.specs.Ordering.{nat_cmp}
-use Rattle.std.proofs.lemmas.Bool.{and_right, and_parts}
-use Rattle.std.proofs.Math.Bool.{or-false}
-use Rattle.std.proofs.lemmas.List.{append-nil}
-use Rattle.gb_types.specs.Rising.{rising}
-use Rattle.gb_types.specs.declared.address.Addr.{Addr}
-use Rattle.gb_types.specs.declared.entry.Entry.{Entry}
-use Rattle.gb_types.specs.declared.limits.TheConstants.{NODES}
-use Rattle.gb_types.specs.declared.node.NodeId.{NodeId}
-use Rattle.gb_types.specs.declared.spec.Spec.{Spec}
-use Rattle.gb_types.specs.declared.version.Version.{Version}
+use Rattle.gb_types.specs.declared.{address.Addr.Addr, entry.Entry.Entry, limits.TheConstants.NODES, node.NodeId.NodeId, spec.Spec.Spec, version.Version.Version}
 use Rattle.gb_frame.specs.declared.item.Item.{Item}
-use Rattle.gb_rules.specs.Group.{is_gone, is_other}
-use Rattle.gb_rules.specs.Tenant.{reserve_of, row_of}
+use Rattle.gb_rules.specs.Common.{is_gone, is_other, reserve_of, row_of, said_in, stepped}
 use Rattle.gb_rules.specs.declared.call.GroupCall.TheVariants.{Crashed}
-use Rattle.gb_rules.specs.History.{said_in}
-use Rattle.gb_alone.specs.Alone.{Member, Group, node_noticed, is_marked, is_acknowledged}
-use Rattle.gb_rules.specs.Lifetime.{stepped}
-use Rattle.gb_node.specs.NodeStep.{node_numbered}
-use Rattle.gb_node.specs.Past.{Happened, frames_to, is_acked, is_taken, tenants_in}
-use Rattle.gb_node.specs.PastGroups.{Told, waiting_of, with_call, cut_off, if_other, noticed_told, told_of, living_of}
-use Rattle.gb_node.specs.StepLaw.{IsTicked}
-use Rattle.gb_node.specs.declared.answer.NodeAnswer.TheVariants.{Ticked}
-use Rattle.gb_node.specs.declared.answer.Ticked.TheVariants.{Noticed}
-use Rattle.gb_node.specs.declared.event.NodeEvent.TheVariants.{Tick}
-use Rattle.gb_node.specs.declared.plan.NodePlan.{NodePlan}
+use Rattle.gb_alone.specs.Common.{Member, Group, node_noticed, is_marked, is_acknowledged}
+use Rattle.gb_node.specs.Common.{node_numbered, Happened, frames_to, is_acked, is_taken, tenants_in, Told, waiting_of, with_call, cut_off, if_other, noticed_told, told_of, living_of, IsTicked}
+use Rattle.gb_node.specs.declared.{answer.NodeAnswer.TheVariants.Ticked, answer.Ticked.TheVariants.Noticed, event.NodeEvent.TheVariants.Tick, plan.NodePlan.NodePlan}
 use Rattle.gb_isolation.specs.Project.{group_items_of, made_with, replies_in, is_met, ticked}
 use Rattle.gb_isolation.specs.RunLaws.{is_dropped}
 use Rattle.gb_isolation.proofs.View.{View, view_of, Fits, Goes, MemberIs, AreMarked, KeepsAcks, IsInside, is_concerned, said_of, acknowledged_of, bounds_with}

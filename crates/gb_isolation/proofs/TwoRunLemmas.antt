@@ -1,21 +1,11 @@
 -- Two runs in which the same happened to a group show the same of it.
-use Rattle.std.proofs.Common.{◌≡◌, ℕ, ◌<◌, List, [], ◌∷◌, nat_eq, ◌-◌, slice_get, refl, sym, ap, subst, ◌∙◌}
-use Rattle.std.specs.Prelude.{◌||◌, is_some, if◌then◌else◌}
-use Rattle.gb_types.specs.Version.{bounds_of, version_at}
-use Rattle.gb_types.specs.declared.address.Addr.{Addr}
-use Rattle.gb_types.specs.declared.node.NodeId.{NodeId}
-use Rattle.gb_types.specs.declared.plan.Bounds.{Bounds}
-use Rattle.gb_types.specs.declared.plan.Plan.{Plan}
-use Rattle.gb_types.specs.declared.refusal.Refusal.TheVariants.{Stopped}
-use Rattle.gb_types.specs.declared.reply.Reply.TheVariants.{Refused}
-use Rattle.gb_rules.specs.Group.{say_answer}
-use Rattle.gb_rules.specs.Tenant.{make_answer, by_tenant}
-use Rattle.gb_alone.specs.Alone.{Member, Group, after, alone, alone_from, commanded, member_after, nobody, on_group, running_reply, taken_in}
-use Rattle.gb_alone.specs.declared.event.GroupEvent.{GroupEvent}
+use Rattle.gb_types.specs.Common.{◌≡◌, ℕ, ◌<◌, List, [], ◌∷◌, nat_eq, ◌-◌, slice_get, refl, sym, ap, subst, ◌∙◌, ◌||◌, is_some, if◌then◌else◌, bounds_of, version_at}
+use Rattle.gb_types.specs.declared.{address.Addr.Addr, node.NodeId.NodeId, plan.Bounds.Bounds, plan.Plan.Plan, refusal.Refusal.TheVariants.Stopped, reply.Reply.TheVariants.Refused}
+use Rattle.gb_rules.specs.Common.{say_answer, make_answer, by_tenant}
+use Rattle.gb_alone.specs.Common.{Member, Group, after, alone, alone_from, commanded, member_after, nobody, on_group, running_reply, taken_in}
+use Rattle.gb_alone.specs.declared.{event.GroupEvent.GroupEvent, event.GroupStep.GroupStep}
 use Rattle.gb_alone.specs.declared.event.GroupEvent.TheVariants.{Tenant, Make as AskMake, Say as AskSay, OtherMade, OtherDropped, Took, Came, Done as Acknowledged, Notice, Stop}
-use Rattle.gb_alone.specs.declared.event.GroupStep.{GroupStep}
-use Rattle.gb_cluster.specs.ClusterValue.{ClusterValue}
-use Rattle.gb_cluster.specs.Run.{Did, ComesTo}
+use Rattle.gb_cluster.specs.Common.{ClusterValue, Did, ComesTo}
 use Rattle.gb_isolation.specs.Isolation.{seen_alone, GroupsAreIsolated}
 use Rattle.gb_isolation.specs.Project.{gives, project}
 use Rattle.gb_isolation.specs.RunLaws.{RunsAgree}

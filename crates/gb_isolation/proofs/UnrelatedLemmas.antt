@@ -1,27 +1,15 @@
 -- Events that add nothing to the projection on a group.
-use Rattle.std.proofs.Common.{◌≡◌, ℕ, List, [], ◌∷◌, ◌++◌, length, None, false, ◌&&◌, ◌||◌, refl, sym, ◌∙◌, ap, subst}
-use Rattle.std.specs.Option.{option_or}
-use Rattle.std.specs.Prelude.{nat_le, map, option_map}
+use Rattle.gb_types.specs.Common.{◌≡◌, ℕ, List, [], ◌∷◌, ◌++◌, length, None, false, ◌&&◌, ◌||◌, refl, sym, ◌∙◌, ap, subst, option_or, nat_le, map, option_map, list_any, and_right, or-false, append-nil}
 use Rattle.std.specs.FinSet as set
-use Rattle.std.specs.List.{list_any}
-use Rattle.std.proofs.lemmas.Bool.{and_right}
-use Rattle.std.proofs.Math.Bool.{or-false}
-use Rattle.std.proofs.lemmas.List.{append-nil}
-use Rattle.gb_types.specs.declared.address.Addr.{Addr}
-use Rattle.gb_types.specs.declared.spec.TenantRow.{TenantRow}
-use Rattle.gb_types.specs.declared.reply.Reply.{Reply}
-use Rattle.gb_types.specs.declared.version.Version.{Version}
+use Rattle.gb_types.specs.declared.{address.Addr.Addr, spec.TenantRow.TenantRow, reply.Reply.Reply, version.Version.Version}
 use Rattle.gb_frame.specs.declared.item.Item.{Item}
-use Rattle.gb_frame.specs.Packet.{Content}
+use Rattle.gb_frame.specs.Common.{Content}
 use Rattle.gb_detect.specs.Silence.{Heard}
 use Rattle.gb_detect.specs.Watch.{start, replay}
-use Rattle.gb_rules.specs.Tenant.{reserve_of, row_of}
-use Rattle.gb_alone.specs.Alone.{Group}
-use Rattle.gb_node.specs.Past.{Happened, added, came, frames_to, is_ack, is_acked, is_taken, is_taken_by, packed_for, tenants_in, ticks, watched}
-use Rattle.gb_node.specs.PastGroups.{told_after, told_of, living_after, living_of}
-use Rattle.gb_node.specs.declared.answer.NodeAnswer.{NodeAnswer}
-use Rattle.gb_node.specs.declared.event.NodeEvent.{NodeEvent}
-use Rattle.gb_node.specs.declared.plan.NodePlan.{NodePlan}
+use Rattle.gb_rules.specs.Common.{reserve_of, row_of}
+use Rattle.gb_alone.specs.Common.{Group}
+use Rattle.gb_node.specs.Common.{Happened, added, came, frames_to, is_ack, is_acked, is_taken, is_taken_by, packed_for, tenants_in, ticks, watched, told_after, told_of, living_after, living_of}
+use Rattle.gb_node.specs.declared.{answer.NodeAnswer.NodeAnswer, event.NodeEvent.NodeEvent, plan.NodePlan.NodePlan}
 use Rattle.gb_isolation.specs.Project.{made_with, made_by, replies_in, reply_in, is_met, is_met_by}
 use Rattle.gb_isolation.specs.RunLaws.{is_dropped, is_dropped_by}
 use Rattle.gb_isolation.proofs.View.{view_of, Fits, Goes, bounds_with}

@@ -1,33 +1,16 @@
 -- What a group has at a node, read from the node's past, and how this agrees with the group alone.
-use Rattle.std.specs.Prelude.{ℕ, ◌+◌, ◌≡◌, ◌≢◌, ◌≤◌, ◌<◌, ◌&&◌, not, nat_eq, nat_lt, Bool, true, false, ◌||◌, List, [], ◌++◌, length, Option, Some, None, is_some, option_map, if◌then◌else◌}
+use Rattle.gb_types.specs.Common.{ℕ, ◌+◌, ◌≡◌, ◌≢◌, ◌≤◌, ◌<◌, ◌&&◌, not, nat_eq, nat_lt, Bool, true, false, ◌||◌, List, [], ◌++◌, length, Option, Some, None, is_some, option_map, if◌then◌else◌, bounds_of}
 use Rattle.std.specs.FinSet as set
-use Rattle.gb_types.specs.declared.address.Addr.{Addr}
-use Rattle.gb_types.specs.declared.entry.Entry.{Entry}
-use Rattle.gb_types.specs.declared.node.NodeId.{NodeId}
-use Rattle.gb_types.specs.declared.reply.Reply.{Reply}
-use Rattle.gb_types.specs.declared.request.Request.{Request}
-use Rattle.gb_types.specs.declared.spec.Spec.{Spec}
+use Rattle.gb_types.specs.declared.{address.Addr.Addr, entry.Entry.Entry, node.NodeId.NodeId, reply.Reply.Reply, request.Request.Request, spec.Spec.Spec, plan.Plan.Plan, plan.Bounds.Bounds, version.Version.Version}
 use Rattle.gb_frame.specs.declared.item.Item.{Item}
 use Rattle.gb_detect.specs.Silence.{is_noticed}
-use Rattle.gb_rules.specs.History.{said_in}
-use Rattle.gb_rules.specs.Group.{is_gone, is_other, is_member}
-use Rattle.gb_rules.specs.Tenant.{reserve_of, row_of}
-use Rattle.gb_rules.specs.declared.phase.Phase.TheVariants.{Made}
-use Rattle.gb_rules.specs.declared.reserve.Reserve.{Reserve}
-use Rattle.gb_alone.specs.Alone.{Member, Group, alone, alone_from, held_spec, is_marked, is_acknowledged, IsLegal, IsLegalFrom}
+use Rattle.gb_rules.specs.Common.{said_in, is_gone, is_other, is_member, reserve_of, row_of}
+use Rattle.gb_rules.specs.declared.{phase.Phase.TheVariants.Made, reserve.Reserve.Reserve}
+use Rattle.gb_alone.specs.Common.{Member, Group, alone, alone_from, held_spec, is_marked, is_acknowledged, IsLegal, IsLegalFrom}
 use Rattle.gb_alone.specs.declared.event.GroupStep.{GroupStep}
-use Rattle.gb_node.specs.NodeStep.{node_numbered}
-use Rattle.gb_node.specs.Past.{Happened, frames_to, is_acked, is_taken, tenants_in, watched}
-use Rattle.gb_node.specs.declared.answer.NodeAnswer.TheVariants.{Reply as Replied}
-use Rattle.gb_node.specs.declared.event.NodeEvent.TheVariants.{Request as Asked}
-use Rattle.gb_node.specs.PastGroups.{Told, noticed_after, waiting_of, told_of, living_of}
-use Rattle.gb_node.specs.declared.plan.NodePlan.{NodePlan}
-use Rattle.gb_cluster.specs.ClusterValue.{node_plan}
-use Rattle.gb_cluster.specs.Run.{Did, past_at}
-use Rattle.gb_types.specs.declared.plan.Plan.{Plan}
-use Rattle.gb_types.specs.declared.plan.Bounds.{Bounds}
-use Rattle.gb_types.specs.declared.version.Version.{Version}
-use Rattle.gb_types.specs.Version.{bounds_of}
+use Rattle.gb_node.specs.Common.{node_numbered, Happened, frames_to, is_acked, is_taken, tenants_in, watched, Told, noticed_after, waiting_of, told_of, living_of}
+use Rattle.gb_node.specs.declared.{answer.NodeAnswer.TheVariants.Reply as Replied, event.NodeEvent.TheVariants.Request as Asked, plan.NodePlan.NodePlan}
+use Rattle.gb_cluster.specs.Common.{node_plan, Did, past_at}
 use Rattle.gb_isolation.specs.Project.{project, asked, is_own_request, command_for, tenant_given, other_given, ticked, group_items_of, offset, made_by, made_with, replies_in, is_met}
 use Rattle.gb_isolation.specs.RunLaws.{is_dropped}
 

@@ -1,29 +1,16 @@
 -- The law that each group in a run behaves as it does alone.
 use Rattle.std.specs.Prelude.{ℕ, ◌≡◌, ◌<◌, ◌++◌, ◌&&◌, not, Bool, true, false, All, List, [], ◌∷◌, length, map, take, Option, Some, None}
 use Rattle.std.specs.List.{flat_map}
-use Rattle.gb_types.specs.declared.address.Addr.{Addr}
-use Rattle.gb_types.specs.declared.entry.Entry.{Entry}
-use Rattle.gb_types.specs.Version.{bounds_of}
-use Rattle.gb_types.specs.declared.node.NodeId.{NodeId}
-use Rattle.gb_types.specs.declared.refusal.Refusal.TheVariants.{OutOfMemory}
-use Rattle.gb_types.specs.declared.reply.Reply.{Reply}
-use Rattle.gb_types.specs.declared.reply.Reply.TheVariants.{Refused}
-use Rattle.gb_frame.specs.Items.{items_for, item_for}
+use Rattle.gb_types.specs.declared.{address.Addr.Addr, entry.Entry.Entry, node.NodeId.NodeId, refusal.Refusal.TheVariants.OutOfMemory, reply.Reply.Reply, reply.Reply.TheVariants.Refused, plan.Plan.Plan}
+use Rattle.gb_types.specs.Common.{bounds_of}
+use Rattle.gb_frame.specs.Common.{items_for, item_for}
 use Rattle.gb_frame.specs.declared.item.Item.{Item}
-use Rattle.gb_rules.specs.Group.{Shown}
-use Rattle.gb_node.specs.NodeGroups.{shown_at, waiting_at}
-use Rattle.gb_node.specs.Past.{frames_to}
-use Rattle.gb_node.specs.declared.answer.Halted.TheVariants.{Refused as HaltRefused}
-use Rattle.gb_node.specs.declared.answer.NodeAnswer.{NodeAnswer}
+use Rattle.gb_rules.specs.Common.{Shown}
+use Rattle.gb_node.specs.Common.{shown_at, waiting_at, frames_to}
+use Rattle.gb_node.specs.declared.{answer.Halted.TheVariants.Refused as HaltRefused, answer.NodeAnswer.NodeAnswer, answer.PacketAnswer.TheVariants.Refused as TakenRefused, answer.Sent.TheVariants.Refused as SentRefused, answer.Ticked.TheVariants.Refused as TickRefused}
 use Rattle.gb_node.specs.declared.answer.NodeAnswer.TheVariants.{Reply as Replied, Taken, Sent, Ticked, Halted}
-use Rattle.gb_node.specs.declared.answer.PacketAnswer.TheVariants.{Refused as TakenRefused}
-use Rattle.gb_node.specs.declared.answer.Sent.TheVariants.{Refused as SentRefused}
-use Rattle.gb_node.specs.declared.answer.Ticked.TheVariants.{Refused as TickRefused}
-use Rattle.gb_alone.specs.Alone.{Group, alone, IsLegal}
-use Rattle.gb_alone.specs.Laws.{log_of_member}
-use Rattle.gb_cluster.specs.ClusterValue.{ClusterValue, node_at}
-use Rattle.gb_cluster.specs.Run.{Did, ComesTo, past_at}
-use Rattle.gb_types.specs.declared.plan.Plan.{Plan}
+use Rattle.gb_alone.specs.Common.{Group, alone, IsLegal, log_of_member}
+use Rattle.gb_cluster.specs.Common.{ClusterValue, node_at, Did, ComesTo, past_at}
 use Rattle.gb_isolation.specs.Project.{project, group_items, group_items_of, replies_in, is_fed}
 
 -- the group alone, given the projection of the run

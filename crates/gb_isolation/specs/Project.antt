@@ -3,43 +3,20 @@ use Rattle.std.specs.Prelude.{ℕ, zero, suc, ◌+◌, ◌-◌, ◌&&◌, ◌||�
 use Rattle.std.specs.FinSet as set
 use Rattle.std.specs.List.{range_with_len, list_any, flat_map}
 use Rattle.std.specs.Option.{option_or, option_map_or}
-use Rattle.gb_types.specs.declared.address.Addr.{Addr}
-use Rattle.gb_types.specs.declared.entry.Entry.{Entry}
-use Rattle.gb_types.specs.declared.limits.TheConstants.{NODES}
-use Rattle.gb_types.specs.declared.node.NodeId.{NodeId}
-use Rattle.gb_types.specs.declared.refusal.Refusal.TheVariants.{OutOfMemory}
-use Rattle.gb_types.specs.declared.reply.Reply.{Reply}
-use Rattle.gb_types.specs.declared.reply.Reply.TheVariants.{Refused}
-use Rattle.gb_types.specs.declared.request.Action.{Action}
-use Rattle.gb_types.specs.declared.request.Action.TheVariants.{AddTenant, Group as AtGroup}
-use Rattle.gb_types.specs.declared.request.GroupCommand.{GroupCommand}
+use Rattle.gb_types.specs.declared.{address.Addr.Addr, entry.Entry.Entry, limits.TheConstants.NODES, node.NodeId.NodeId, refusal.Refusal.TheVariants.OutOfMemory, reply.Reply.Reply, reply.Reply.TheVariants.Refused, request.Action.Action, request.Action.TheVariants.AddTenant, request.Action.TheVariants.Group as AtGroup, request.GroupCommand.GroupCommand, request.Request.Request, spec.Spec.Spec, plan.Plan.Plan}
 use Rattle.gb_types.specs.declared.request.GroupCommand.TheVariants.{Make, Open, Shut, Drop, Say, Fetch}
-use Rattle.gb_types.specs.declared.request.Request.{Request}
-use Rattle.gb_types.specs.declared.spec.Spec.{Spec}
 use Rattle.gb_frame.specs.declared.item.Item.{Item}
-use Rattle.gb_frame.specs.Packet.{Content}
-use Rattle.gb_link.specs.Ack.{covers}
+use Rattle.gb_frame.specs.Common.{Content, entry_of, items_for}
+use Rattle.gb_link.specs.Common.{covers}
 use Rattle.gb_detect.specs.Silence.{is_noticed}
-use Rattle.gb_rules.specs.Address.{is_addr}
-use Rattle.gb_rules.specs.Group.{is_other}
-use Rattle.gb_rules.specs.Room.{is_other_generation}
-use Rattle.gb_rules.specs.Tenant.{reserve_of}
-use Rattle.gb_alone.specs.declared.event.GroupEvent.{GroupEvent}
+use Rattle.gb_rules.specs.Common.{is_addr, is_other, is_other_generation, reserve_of}
+use Rattle.gb_alone.specs.declared.{event.GroupEvent.GroupEvent, event.GroupStep.GroupStep}
 use Rattle.gb_alone.specs.declared.event.GroupEvent.TheVariants.{Tenant, Make as AskMake, Open as AskOpen, Shut as AskShut, Drop as AskDrop, Say as AskSay, Fetch as AskFetch, OtherMade, OtherDropped, Took, Came, Done as Acknowledged, Notice, Stop as Ends}
-use Rattle.gb_alone.specs.declared.event.GroupStep.{GroupStep}
-use Rattle.gb_frame.specs.Items.{entry_of, items_for}
-use Rattle.gb_node.specs.StepLaw.{has_group_token}
-use Rattle.gb_node.specs.NodeStep.{node_numbered}
-use Rattle.gb_node.specs.Past.{if_done, Happened, read, frames_to, is_acked, is_frame, came, is_stopped, tenants_in, watched}
-use Rattle.gb_node.specs.declared.answer.NodeAnswer.{NodeAnswer}
+use Rattle.gb_node.specs.Common.{has_group_token, node_numbered, if_done, Happened, read, frames_to, is_acked, is_frame, came, is_stopped, tenants_in, watched}
+use Rattle.gb_node.specs.declared.{answer.NodeAnswer.NodeAnswer, answer.PacketAnswer.TheVariants.Good as TakenGood, answer.Sent.TheVariants.Packet as SentPacket, answer.Ticked.TheVariants.Noticed, event.NodeEvent.NodeEvent}
 use Rattle.gb_node.specs.declared.answer.NodeAnswer.TheVariants.{Reply as Replied, Taken, Sent, Ticked}
-use Rattle.gb_node.specs.declared.answer.PacketAnswer.TheVariants.{Good as TakenGood}
-use Rattle.gb_node.specs.declared.answer.Sent.TheVariants.{Packet as SentPacket}
-use Rattle.gb_node.specs.declared.answer.Ticked.TheVariants.{Noticed}
-use Rattle.gb_node.specs.declared.event.NodeEvent.{NodeEvent}
 use Rattle.gb_node.specs.declared.event.NodeEvent.TheVariants.{Request as Asked, Packet as Brought, Pack, Tick}
-use Rattle.gb_cluster.specs.Run.{Did, past_at}
-use Rattle.gb_types.specs.declared.plan.Plan.{Plan}
+use Rattle.gb_cluster.specs.Common.{Did, past_at}
 
 -- Items.
 

@@ -1,14 +1,9 @@
 -- What a change at one place of a column makes of the entries.
-use Rattle.std.proofs.Common.{◌≡◌, ℕ, ◌≤◌, ◌<◌, Bool, true, false, ◌||◌, List, [], ◌∷◌, ◌++◌, length, map, set, get_or, slice_get, refl, ap, sym, ◌∙◌, arith, zero, suc}
-use Rattle.std.specs.declared.option.Option.TheVariants.{Some}
-use Rattle.std.specs.List.{list_any}
-use Rattle.std.proofs.Math.Bool.{or-false}
+use Rattle.gb_types.specs.Common.{◌≡◌, ℕ, ◌≤◌, ◌<◌, Bool, true, false, ◌||◌, List, [], ◌∷◌, ◌++◌, length, map, set, get_or, slice_get, refl, ap, sym, ◌∙◌, arith, zero, suc, Some, list_any, or-false, same}
 use Rattle.gb_types.specs.declared.message.MsgId.{MsgId}
-use Rattle.gb_types.specs.Message.{same}
 use Rattle.gb_types.proofs.BoolLemmas.{and_right, or_left, or_right}
-use Rattle.gb_layer.specs.declared.entries.Entry.{Entry}
+use Rattle.gb_layer.specs.declared.{entries.Entry.Entry, column.Held.Held}
 use Rattle.gb_layer.specs.Relay.{is_for}
-use Rattle.gb_layer.specs.declared.column.Held.{Held}
 use Rattle.gb_layer.specs.PlacedCalls.{message_at, all_differ}
 use Rattle.gb_layer.specs.PairedLemmas.{alone, apart}
 use Rattle.gb_layer.specs.Column.{entry_of, zipped}

@@ -1,11 +1,6 @@
 -- What an index finds, and what it keeps as it grows.
-use Rattle.std.proofs.Common.{◌≡◌, ℕ, ◌≤◌, ◌<◌, true, false, not, ◌||◌, List, [], ◌∷◌, ◌++◌, refl, ap, sym, ◌∙◌}
-use Rattle.std.specs.List.{list_any}
-use Rattle.std.proofs.lemmas.List.Folds.{list_any_none}
-use Rattle.std.proofs.lemmas.List.Elements.{All-from_get_or}
-use Rattle.std.proofs.lemmas.Option.{slice_get-get_or}
+use Rattle.gb_types.specs.Common.{◌≡◌, ℕ, ◌≤◌, ◌<◌, true, false, not, ◌||◌, List, [], ◌∷◌, ◌++◌, refl, ap, sym, ◌∙◌, list_any, list_any_none, All-from_get_or, slice_get-get_or, same}
 use Rattle.gb_types.specs.declared.message.MsgId.{MsgId}
-use Rattle.gb_types.specs.Message.{same}
 use Rattle.gb_types.proofs.BoolLemmas.{and_left, and_right, and_both, or_left, or_right}
 use Rattle.gb_layer.specs.FirstMentionLemmas.{same_swap}
 use Rattle.gb_layer.specs.Lists.{any_push}

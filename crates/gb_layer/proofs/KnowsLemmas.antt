@@ -1,15 +1,10 @@
 -- What a relay knows after each step.
-use Rattle.std.proofs.Common.{◌≡◌, ℕ, ◌+◌, ◌≤◌, ◌<◌, true, false, cond, nat_eq, nat_lt, List, length, vec_capacity, get_or, refl, sym, ◌∙◌, subst, arith}
-use Rattle.std.proofs.lemmas.Bool.{eqb-true}
-use Rattle.std.proofs.lemmas.Bool.Decides.{nat_tests}
-use Rattle.std.proofs.lemmas.Option.{slice_get-get_or, get_or_from_slice_get}
+use Rattle.gb_types.specs.Common.{◌≡◌, ℕ, ◌+◌, ◌≤◌, ◌<◌, true, false, cond, nat_eq, nat_lt, List, length, vec_capacity, get_or, refl, sym, ◌∙◌, subst, arith, eqb-true, nat_tests, slice_get-get_or, get_or_from_slice_get}
 use Rattle.gb_types.specs.declared.message.MsgId.{MsgId}
 use Rattle.gb_layer.specs.Relay.{is_for, is_sent}
 use Rattle.gb_layer.specs.EntryLemmas.{sent_has}
-use Rattle.gb_layer.specs.declared.placed_call.PlacedCall.{PlacedCall}
+use Rattle.gb_layer.specs.declared.{placed_call.PlacedCall.PlacedCall, column.Held.Held, relay.Relay.Relay}
 use Rattle.gb_layer.specs.declared.placed_call.PlacedCall.TheVariants.{Say, Came, Notice}
-use Rattle.gb_layer.specs.declared.column.Held.{Held}
-use Rattle.gb_layer.specs.declared.relay.Relay.{Relay}
 use Rattle.gb_layer.specs.PlacedCalls.{message_at, all_differ, Names, reached}
 use Rattle.gb_layer.specs.Column.{zipped}
 use Rattle.gb_layer.specs.RelayColumn.{Knows}

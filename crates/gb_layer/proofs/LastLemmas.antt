@@ -1,12 +1,6 @@
 -- The greatest number of each origin's messages, as messages are added.
-use Rattle.std.proofs.Common.{◌≡◌, ◌≢◌, ℕ, max, ◌+◌, ◌≤◌, ◌<◌, Bool, true, false, cond, ◌&&◌, ◌||◌, nat_eq, List, [], ◌∷◌, ◌++◌, length, set, slice_index, refl, ap, sym, ◌∙◌, arith}
-use Rattle.std.specs.List.{list_any}
-use Rattle.std.proofs.lemmas.Bool.{eqb-true, eq-eqb}
-use Rattle.std.proofs.lemmas.List.{get_or-set_other}
-use Rattle.std.proofs.lemmas.Grind.{get_or-set_at}
-use Rattle.gb_types.specs.declared.node.NodeId.{NodeId}
-use Rattle.gb_types.specs.declared.message.MsgId.{MsgId}
-use Rattle.gb_types.specs.Message.{same}
+use Rattle.gb_types.specs.Common.{◌≡◌, ◌≢◌, ℕ, max, ◌+◌, ◌≤◌, ◌<◌, Bool, true, false, cond, ◌&&◌, ◌||◌, nat_eq, List, [], ◌∷◌, ◌++◌, length, set, slice_index, refl, ap, sym, ◌∙◌, arith, list_any, eqb-true, eq-eqb, get_or-set_other, get_or-set_at, same}
+use Rattle.gb_types.specs.declared.{node.NodeId.NodeId, message.MsgId.MsgId}
 use Rattle.gb_layer.specs.Numbered.{is_in, numbered}
 use Rattle.gb_layer.specs.Last.{last_of}
 

@@ -1,9 +1,6 @@
 -- A list of messages within a limit that grows at its end.
-use Rattle.std.proofs.Common.{◌≡◌, Bool, true, false, cond, ◌&&◌, List, [], ◌∷◌, ◌++◌, map, refl, ap, sym, ◌∙◌, subst}
-use Rattle.std.specs.List.{list_any, list_all, IsDistinct, AllByRecursion}
-use Rattle.std.proofs.lemmas.List.{map-append}
+use Rattle.gb_types.specs.Common.{◌≡◌, Bool, true, false, cond, ◌&&◌, List, [], ◌∷◌, ◌++◌, map, refl, ap, sym, ◌∙◌, subst, list_any, list_all, IsDistinct, AllByRecursion, map-append, same}
 use Rattle.gb_types.specs.declared.message.MsgId.{MsgId}
-use Rattle.gb_types.specs.Message.{same}
 use Rattle.gb_types.proofs.BoolLemmas.{and_more, or_left, or_right}
 use Rattle.gb_layer.specs.Limit.{Limit, is_counted}
 use Rattle.gb_layer.specs.EntryListLemmas as lists

@@ -1,12 +1,7 @@
 -- The numbers that a list has, and those that pass a test.
-use Rattle.std.proofs.Common.{◌≡◌, ℕ, ◌*◌, Bool, true, false, cond, ◌&&◌, ◌||◌, nat_eq, nat_lt, List, [], ◌∷◌, refl, sym, ap, ◌∙◌, count_by}
-use Rattle.std.specs.Prelude.{filter}
-use Rattle.std.specs.List.{list_any}
+use Rattle.gb_types.specs.Common.{◌≡◌, ℕ, ◌*◌, Bool, true, false, cond, ◌&&◌, ◌||◌, nat_eq, nat_lt, List, [], ◌∷◌, refl, sym, ap, ◌∙◌, count_by, filter, list_any, nat_cmp, eqb-true, below, has_majority}
 use Rattle.std.specs.FinSet as set
-use Rattle.std.specs.Ordering.{nat_cmp}
-use Rattle.std.proofs.lemmas.Bool.{eqb-true}
 use Rattle.gb_types.specs.declared.limits.TheConstants.{NODES}
-use Rattle.gb_types.specs.Places.{below, has_majority}
 
 -- a number of the list passes the test where it stands among those that pass
 listed_kept : (t : ℕ → Bool) (p : ℕ) (ks : List ℕ) → list_any (λ q. nat_eq q p) (filter t ks) ≡ (list_any (λ q. nat_eq q p) ks && t p)

@@ -1,15 +1,8 @@
 -- The places of the entries that are due, after each change, and the effect of a pass over these places alone.
-use Rattle.std.proofs.Common.{◌≡◌, ℕ, ◌+◌, ◌-◌, ◌≤◌, ◌<◌, Bool, true, false, cond, ◌&&◌, ◌||◌, nat_lt, nat_le, List, [], ◌∷◌, ◌++◌, map, slice_get, refl, ap, ◌∙◌, sym, arith, zero, suc}
-use Rattle.std.specs.declared.option.Option.{Option}
-use Rattle.std.specs.declared.option.Option.TheVariants.{None, Some}
-use Rattle.std.specs.List.{list_any}
-use Rattle.std.specs.Ordering.{nat_cmp}
+use Rattle.gb_types.specs.Common.{◌≡◌, ℕ, ◌+◌, ◌-◌, ◌≤◌, ◌<◌, Bool, true, false, cond, ◌&&◌, ◌||◌, nat_lt, nat_le, List, [], ◌∷◌, ◌++◌, map, slice_get, refl, ap, ◌∙◌, sym, arith, zero, suc, Option, None, Some, list_any, nat_cmp, nat_tests}
 use Rattle.std.specs.FinSet as set
-use Rattle.std.proofs.lemmas.Bool.Decides.{nat_tests}
-use Rattle.gb_types.specs.declared.node.NodeId.{NodeId}
-use Rattle.gb_types.specs.declared.message.MsgId.{MsgId}
-use Rattle.gb_layer.specs.declared.call.Call.{Call}
-use Rattle.gb_layer.specs.declared.entries.Entry.{Entry}
+use Rattle.gb_types.specs.declared.{node.NodeId.NodeId, message.MsgId.MsgId}
+use Rattle.gb_layer.specs.declared.{call.Call.Call, entries.Entry.Entry}
 use Rattle.gb_types.proofs.BoolLemmas.{or_first, or_second}
 use Rattle.gb_layer.specs.Machine.{Gives}
 use Rattle.gb_layer.specs.Places.{IsAmong, StandsAmong}

@@ -1,21 +1,11 @@
 -- The number of different messages within a limit is at most the limit's count.
-use Rattle.std.proofs.Common.{◌≡◌, ℕ, ◌+◌, ◌*◌, ◌≤◌, Bool, true, false, cond, ◌&&◌, ◌||◌, nat_eq, nat_le, List, [], ◌∷◌, ◌++◌, length, map, count_by, refl, ap, ◌∙◌, sym, arith, zero, suc}
-use Rattle.std.proofs.lemmas.List.{length-map}
-use Rattle.std.specs.List.{list_any, list_all, IsDistinct, AllByRecursion}
+use Rattle.gb_types.specs.Common.{◌≡◌, ℕ, ◌+◌, ◌*◌, ◌≤◌, Bool, true, false, cond, ◌&&◌, ◌||◌, nat_eq, nat_le, List, [], ◌∷◌, ◌++◌, length, map, count_by, refl, ap, ◌∙◌, sym, arith, zero, suc, length-map, list_any, list_all, IsDistinct, AllByRecursion, eqb-true, nat_tests, length-append, list_any-append, or-true, same, below}
 use Rattle.std.specs.FinSet as set
 use Rattle.std.specs.Cmp.{IsEquivalence}
 use Rattle.std.proofs.lemmas.Cmp.{nat_eq_equiv}
-use Rattle.std.proofs.lemmas.Bool.{eqb-true}
-use Rattle.std.proofs.lemmas.Bool.Decides.{nat_tests}
-use Rattle.std.proofs.lemmas.List.{length-append}
-use Rattle.std.proofs.lemmas.List.Folds.{list_any-append}
 use Rattle.std.proofs.lemmas.Map.Made.{length-le_from_is_member}
-use Rattle.std.proofs.Math.Bool.{or-true}
 use Rattle.std.proofs.Math.Nat.{suc-mul}
-use Rattle.gb_types.specs.declared.limits.TheConstants.{NODES}
-use Rattle.gb_types.specs.declared.message.MsgId.{MsgId}
-use Rattle.gb_types.specs.Message.{same}
-use Rattle.gb_types.specs.Places.{below}
+use Rattle.gb_types.specs.declared.{limits.TheConstants.NODES, message.MsgId.MsgId}
 use Rattle.gb_types.proofs.BoolLemmas.{and_left, and_right}
 use Rattle.gb_types.proofs.PlaceLemmas.{any-below}
 use Rattle.gb_layer.specs.Rule.{Nodes}

@@ -1,6 +1,5 @@
 -- The places of the elements of a list that pass a test, after each change.
-use Rattle.std.proofs.Common.{◌≡◌, ℕ, ◌<◌, Bool, true, false, List, [], ◌∷◌, ◌++◌, length, map, slice_get, refl, ap, ◌∙◌, sym, arith, zero, suc}
-use Rattle.std.specs.declared.option.Option.TheVariants.{Some}
+use Rattle.gb_types.specs.Common.{◌≡◌, ℕ, ◌<◌, Bool, true, false, List, [], ◌∷◌, ◌++◌, length, map, slice_get, refl, ap, ◌∙◌, sym, arith, zero, suc, Some}
 use Rattle.gb_layer.specs.Places.{IsAmong, StandsAmong}
 
 -- what stands at a place of a list that was changed throughout

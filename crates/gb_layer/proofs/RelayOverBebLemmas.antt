@@ -1,18 +1,10 @@
 -- A relay over `Beb` does what its rule says, over every lawful history.
-use Rattle.std.proofs.Common.{◌≡◌, ℕ, Bool, true, false, cond, not, ◌&&◌, ◌||◌, List, [], ◌∷◌, ◌++◌, map, filter, refl, ap, ◌∙◌, sym, subst}
-use Rattle.std.specs.List.{list_any}
-use Rattle.std.specs.Ordering.{nat_cmp}
+use Rattle.gb_types.specs.Common.{◌≡◌, ℕ, Bool, true, false, cond, not, ◌&&◌, ◌||◌, List, [], ◌∷◌, ◌++◌, map, filter, refl, ap, ◌∙◌, sym, subst, list_any, nat_cmp, and-not_self, map-append, same}
 use Rattle.std.specs.FinSet as set
-use Rattle.std.proofs.Math.Bool.{and-not_self}
-use Rattle.std.proofs.lemmas.List.{map-append}
-use Rattle.gb_types.specs.declared.node.NodeId.{NodeId}
-use Rattle.gb_types.specs.declared.message.MsgId.{MsgId}
-use Rattle.gb_types.specs.Message.{same}
+use Rattle.gb_types.specs.declared.{node.NodeId.NodeId, message.MsgId.MsgId}
 use Rattle.gb_types.proofs.SameLemmas.{same-true, same_itself}
-use Rattle.gb_layer.specs.declared.effects.Up.{Up}
-use Rattle.gb_layer.specs.declared.call.Call.{Call}
+use Rattle.gb_layer.specs.declared.{effects.Up.Up, call.Call.Call, entries.Entry.Entry}
 use Rattle.gb_layer.specs.declared.call.Call.TheVariants.{Say, Came, Notice}
-use Rattle.gb_layer.specs.declared.entries.Entry.{Entry}
 use Rattle.gb_types.proofs.BoolLemmas.{and_more, or_left, or_right}
 use Rattle.gb_layer.specs.Lists.{map_same, same_filter, filter-never}
 use Rattle.gb_layer.specs.FirstMentionLemmas.{picked, same_swap}

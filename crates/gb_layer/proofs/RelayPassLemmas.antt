@@ -1,22 +1,15 @@
 -- One pass over the entries relays each entry that is due, by itself, if best-effort broadcast is below.
-use Rattle.std.proofs.Common.{◌≡◌, ℕ, ◌+◌, Bool, true, false, cond, not, ◌&&◌, List, [], ◌∷◌, ◌++◌, length, map, filter, slice_get, refl, ap, ◌∙◌, sym, append_assoc, length-append}
-use Rattle.std.specs.declared.option.Option.{Option}
-use Rattle.std.specs.declared.option.Option.TheVariants.{None, Some}
-use Rattle.std.specs.List.{AllByRecursion}
+use Rattle.gb_types.specs.Common.{◌≡◌, ℕ, ◌+◌, Bool, true, false, cond, not, ◌&&◌, List, [], ◌∷◌, ◌++◌, length, map, filter, slice_get, refl, ap, ◌∙◌, sym, append_assoc, length-append, Option, None, Some, AllByRecursion, map-append, same}
 use Rattle.std.specs.FinSet as set
-use Rattle.std.proofs.lemmas.List.{map-append}
-use Rattle.gb_types.specs.declared.node.NodeId.{NodeId}
-use Rattle.gb_types.specs.declared.message.MsgId.{MsgId}
-use Rattle.gb_types.specs.Message.{same}
+use Rattle.gb_types.specs.declared.{node.NodeId.NodeId, message.MsgId.MsgId}
 use Rattle.gb_types.proofs.SameLemmas.{same-true, same_itself}
-use Rattle.gb_layer.specs.declared.call.Call.{Call}
+use Rattle.gb_layer.specs.declared.{call.Call.Call, entries.Entry.Entry}
 use Rattle.gb_layer.specs.declared.call.Call.TheVariants.{Say, Came, Notice}
 use Rattle.gb_layer.specs.Machine.{mentions}
 use Rattle.gb_layer.specs.BebMachine.{beb_gives}
 use Rattle.gb_layer.specs.Modules.{first_mentions}
 use Rattle.gb_layer.specs.FirstMentionLemmas.{first_mentions-mentioned, same_swap}
 use Rattle.gb_layer.specs.Lists.{all_weaker, all_push}
-use Rattle.gb_layer.specs.declared.entries.Entry.{Entry}
 use Rattle.gb_layer.specs.Rule.{Nodes, Rules}
 use Rattle.gb_layer.specs.Relay.{State, held_entry, sent_entry, held, marked_sent, due_to_relay, relay_any, relay_any_sends, relay_from, relay_from_sends, relayed, relayed_sends, due_message}
 use Rattle.gb_layer.proofs.NodeSetLemmas.{again, twice}

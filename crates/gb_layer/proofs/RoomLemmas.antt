@@ -1,8 +1,7 @@
 -- Room for the pairs that a relay hands up, one after the other.
-use Rattle.std.proofs.Common.{◌≡◌, Bool, true, false, cond, List, [], ◌∷◌, map, fold, refl}
+use Rattle.gb_types.specs.Common.{◌≡◌, Bool, true, false, cond, List, [], ◌∷◌, map, fold, refl}
 use Rattle.gb_types.specs.declared.message.MsgId.{MsgId}
-use Rattle.gb_layer.specs.declared.effects.Up.{Up}
-use Rattle.gb_layer.specs.declared.entries.Entry.{Entry}
+use Rattle.gb_layer.specs.declared.{effects.Up.Up, entries.Entry.Entry}
 use Rattle.gb_layer.specs.Machine.{Gives}
 use Rattle.gb_layer.specs.Relay.{up_of}
 use Rattle.gb_layer.specs.Sinks.{ups_alone, SplitsRoom}

@@ -1,18 +1,9 @@
 -- A relay settles one place, or all of them.
-use Rattle.std.proofs.Common.{◌≡◌, ℕ, ◌+◌, ◌-◌, ◌≤◌, ◌<◌, Bool, true, false, cond, not, ◌&&◌, ◌||◌, nat_lt, List, [], ◌∷◌, ◌++◌, length, map, filter, set, get_or, slice_get, refl, ap, sym, subst, ◌∙◌, arith, add-one, zero, suc}
-use Rattle.std.proofs.lemmas.Bool.Decides.{nat_tests}
-use Rattle.std.proofs.lemmas.List.{append-nil}
-use Rattle.std.specs.declared.option.Option.{Option}
-use Rattle.std.specs.declared.option.Option.TheVariants.{None, Some}
-use Rattle.gb_types.specs.declared.message.MsgId.{MsgId}
-use Rattle.gb_types.specs.declared.node.NodeId.{NodeId}
-use Rattle.gb_types.specs.Message.{same}
+use Rattle.gb_types.specs.Common.{◌≡◌, ℕ, ◌+◌, ◌-◌, ◌≤◌, ◌<◌, Bool, true, false, cond, not, ◌&&◌, ◌||◌, nat_lt, List, [], ◌∷◌, ◌++◌, length, map, filter, set, get_or, slice_get, refl, ap, sym, subst, ◌∙◌, arith, add-one, zero, suc, nat_tests, append-nil, Option, None, Some, same}
+use Rattle.gb_types.specs.declared.{message.MsgId.MsgId, node.NodeId.NodeId}
 use Rattle.gb_types.proofs.SameLemmas.{same-true, same_itself}
 use Rattle.gb_types.proofs.BoolLemmas.{and_left, and_right}
-use Rattle.gb_layer.specs.declared.call.Call.{Call}
-use Rattle.gb_layer.specs.declared.call.Call.TheVariants.{Say, Came}
-use Rattle.gb_layer.specs.declared.effects.Up.{Up}
-use Rattle.gb_layer.specs.declared.entries.Entry.{Entry}
+use Rattle.gb_layer.specs.declared.{call.Call.Call, call.Call.TheVariants.Say, call.Call.TheVariants.Came, effects.Up.Up, entries.Entry.Entry, column.Held.Held}
 use Rattle.gb_layer.specs.EntryLemmas.{held_same, marked_same, handed_same}
 use Rattle.gb_layer.specs.Laws.{StaysAtItsNode}
 use Rattle.gb_layer.specs.Machine.{Gives}
@@ -23,7 +14,6 @@ use Rattle.gb_layer.specs.Rule.{Nodes, Rules}
 use Rattle.gb_layer.proofs.MappedLemmas.{mapped_below, mapped_more, mapped_from, picked_below, picked_more, picked_from}
 use Rattle.gb_layer.proofs.PendingLemmas.{among_held, pending_noted, pending_marked, delivers_among, none_elsewhere, handed_stays, begins_at, ends_at}
 use Rattle.gb_layer.proofs.PlacesLemmas.{get_map, get_within, among_map, fails_elsewhere}
-use Rattle.gb_layer.specs.declared.column.Held.{Held}
 use Rattle.gb_layer.specs.PlacedCalls.{message_at, all_differ}
 use Rattle.gb_layer.specs.Column.{zipped, entry_of, no_entry}
 use Rattle.gb_layer.specs.Due.{NothingIsDue, OnlyDueAt}

@@ -1,9 +1,7 @@
 -- The sink that a relay makes for the layer below.
 use Rattle.std.proofs.Common.{◌≡◌, ℕ, List, [], ◌∷◌, map, fold, refl, ap, ◌∙◌, subst, sym}
-use Rattle.gb_types.specs.declared.message.MsgId.{MsgId}
-use Rattle.gb_types.specs.declared.node.NodeId.{NodeId}
-use Rattle.gb_layer.specs.declared.effects.Up.{Up}
-use Rattle.gb_layer.specs.declared.entries.Entry.{Entry}
+use Rattle.gb_types.specs.declared.{message.MsgId.MsgId, node.NodeId.NodeId}
+use Rattle.gb_layer.specs.declared.{effects.Up.Up, entries.Entry.Entry}
 use Rattle.gb_layer.specs.Machine.{Gives}
 use Rattle.gb_layer.specs.Relay.{held, taken_in}
 use Rattle.gb_layer.specs.Sinks.{folded, sends_alone, SplitsRoom}

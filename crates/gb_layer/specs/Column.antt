@@ -1,11 +1,9 @@
 -- The column of a relay: what it remembers of the message at each place.
 use Rattle.std.proofs.Common.{◌≡◌, ◌≤◌, true, false, List, [], ◌∷◌, ◌++◌, length, refl, ap, arith}
 use Rattle.std.specs.FinSet as set
-use Rattle.gb_types.specs.declared.node.NodeId.{NodeId}
-use Rattle.gb_types.specs.declared.message.MsgId.{MsgId}
-use Rattle.gb_layer.specs.declared.entries.Entry.{Entry}
+use Rattle.gb_types.specs.declared.{node.NodeId.NodeId, message.MsgId.MsgId}
+use Rattle.gb_layer.specs.declared.{entries.Entry.Entry, column.Held.Held}
 use Rattle.gb_layer.specs.Relay.{new_entry}
-use Rattle.gb_layer.specs.declared.column.Held.{Held}
 use Rattle.gb_layer.specs.PlacedCalls.{no_message}
 
 -- what a relay remembers of a message that was not mentioned before

@@ -35,3 +35,4 @@ pub mod Column
 pub mod Due
 pub mod Below
 pub mod RelayColumn
+pub mod Common

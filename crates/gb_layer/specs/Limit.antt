@@ -2,7 +2,7 @@
 use Rattle.std.specs.Prelude.{ℕ, ◌*◌, Bool, ◌&&◌, nat_le}
 use Rattle.std.specs.FinSet as set
 use Rattle.gb_types.specs.declared.message.MsgId.{MsgId}
-use Rattle.gb_types.specs.Places.{common}
+use Rattle.gb_types.specs.Common.{common}
 use Rattle.gb_layer.specs.Rule.{Nodes}
 
 -- messages of these members, numbered from 1 to `msgs`

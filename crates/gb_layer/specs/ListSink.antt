@@ -2,11 +2,9 @@
 use Rattle.std.proofs.Common.{◌≡◌, ℕ, ◌-◌, ◌≤◌, List, [], ◌∷◌, ◌++◌, map, length, fold, ap, ◌∙◌, sym, arith, append_assoc, length-append, suc, subst}
 use Rattle.std.proofs.lemmas.List.{append-nil}
 use Rattle.gb_types.specs.declared.message.MsgId.{MsgId}
-use Rattle.gb_layer.specs.declared.effects.Up.{Up}
+use Rattle.gb_layer.specs.declared.{effects.Up.Up, lists.Lists.Lists, lists.PlacedUp.PlacedUp}
 use Rattle.gb_layer.specs.Machine.{Gives}
 use Rattle.gb_layer.specs.Room.{free}
-use Rattle.gb_layer.specs.declared.lists.Lists.{Lists}
-use Rattle.gb_layer.specs.declared.lists.PlacedUp.{PlacedUp}
 use Rattle.gb_layer.specs.PlacedCalls.{message_at}
 use Rattle.gb_layer.specs.Sinks.{folded, SplitsRoom}
 

@@ -1,9 +1,8 @@
 -- Messages by origin and number, and whether a list has one.
 use Rattle.std.specs.Prelude.{ℕ, Bool, List}
 use Rattle.std.specs.List.{list_any}
-use Rattle.gb_types.specs.declared.node.NodeId.{NodeId}
-use Rattle.gb_types.specs.declared.message.MsgId.{MsgId}
-use Rattle.gb_types.specs.Message.{same}
+use Rattle.gb_types.specs.declared.{node.NodeId.NodeId, message.MsgId.MsgId}
+use Rattle.gb_types.specs.Common.{same}
 
 -- the message of an origin with a number
 abbrev pub numbered : NodeId → ℕ → MsgId

@@ -5,7 +5,7 @@ use Rattle.std.specs.List.{list_any}
 use Rattle.std.proofs.lemmas.List.Folds.{list_any_at}
 use Rattle.std.proofs.Math.Bool.{or-false}
 use Rattle.gb_types.specs.declared.message.MsgId.{MsgId}
-use Rattle.gb_types.specs.Message.{same}
+use Rattle.gb_types.specs.Common.{same}
 use Rattle.gb_types.proofs.BoolLemmas.{and_left, and_right, or_left, or_right, not_true}
 use Rattle.gb_layer.specs.FirstMentionLemmas.{same_swap}
 use Rattle.gb_layer.specs.PlacedCalls.{no_message, message_at, all_differ}

@@ -1,7 +1,6 @@
 -- The state of a relay, and what it knows.
 use Rattle.std.proofs.Common.{◌≡◌, ℕ, ◌≤◌, List, ◌++◌, length, vec_capacity, length-append, sym, subst, arith}
-use Rattle.gb_types.specs.declared.message.MsgId.{MsgId}
-use Rattle.gb_types.specs.declared.node.NodeId.{NodeId}
+use Rattle.gb_types.specs.declared.{message.MsgId.MsgId, node.NodeId.NodeId}
 use Rattle.gb_layer.specs.Relay.{State}
 use Rattle.gb_layer.specs.Rule.{Rules}
 use Rattle.gb_layer.specs.declared.relay.Relay.{Relay}

@@ -4,18 +4,16 @@ use Rattle.std.specs.declared.option.Option.{Option}
 use Rattle.std.specs.declared.option.Option.TheVariants.{None, Some}
 use Rattle.std.proofs.lemmas.Bool.{and_left, ne_eqb}
 use Rattle.std.proofs.lemmas.List.{append-nil}
-use Rattle.gb_types.specs.declared.node.NodeId.{NodeId}
-use Rattle.gb_types.specs.declared.message.MsgId.{MsgId}
-use Rattle.gb_types.specs.Message.{same}
+use Rattle.gb_types.specs.declared.{node.NodeId.NodeId, message.MsgId.MsgId}
+use Rattle.gb_types.specs.Common.{same}
 use Rattle.gb_types.proofs.SameLemmas.{same-true, same_itself}
-use Rattle.gb_layer.specs.declared.call.Call.{Call}
+use Rattle.gb_layer.specs.declared.{call.Call.Call, entries.Entry.Entry}
 use Rattle.gb_layer.specs.declared.call.Call.TheVariants.{Say, Came, Notice}
 use Rattle.gb_layer.specs.Machine.{Gives, nothing, after, all_sends, mentions, was_said, came_from, IsFair}
 use Rattle.gb_layer.specs.Modules.{first_mentions}
 use Rattle.gb_layer.specs.FirstMentionLemmas.{first_mentions-once}
 use Rattle.gb_layer.specs.EntryListLemmas.{has_mentioned}
 use Rattle.gb_types.proofs.BoolLemmas.{first_not, or_more, or_off, or_second}
-use Rattle.gb_layer.specs.declared.entries.Entry.{Entry}
 use Rattle.gb_layer.specs.Rule.{Rules}
 use Rattle.gb_layer.specs.Relay.{State, noted, marked_sent, is_sent, noting, is_repeat, relay, relay_sends, begun, begun_sends, wants_relay, wants_delivery, due_message, relay_any, relay_any_sends, relay_from, relay_from_sends, given, given_ups, relayed, relayed_sends, relay_next, relay_gives}
 use Rattle.gb_layer.specs.EntryLemmas.{keys, keys_taken_in, keys_marked, keys_handed, keys_noted, sent_taken_in, sent_handed, sent_noted, sent_marked, unsent_at, any_at, sent_has}

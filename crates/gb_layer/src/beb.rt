@@ -1,8 +1,7 @@
 //! The lowest layer.
 ghost use Rattle.std.specs.Prelude.{◌≡◌, List};
 ghost use Rattle.std.proofs.Common.{refl};
-ghost use Rattle.gb_types.specs.declared.message.MsgId.{MsgId};
-ghost use Rattle.gb_types.specs.declared.node.NodeId.{NodeId};
+ghost use Rattle.gb_types.specs.declared.{message.MsgId.MsgId, node.NodeId.NodeId};
 ghost use Rattle.gb_layer.specs.BebLemmas.{beb_sends_handed_in, beb_ups_handed_in, beb_up_once, beb_sent_once, beb_noticed_once, fair_once};
 ghost use Rattle.gb_layer.specs.BebMachine.{beb_gives};
 ghost use Rattle.gb_layer.specs.Single.{beb_sends_one};

@@ -1,7 +1,7 @@
 //! The index of a group's messages.
 ghost use Rattle.std.specs.Prelude.{◌≡◌, ℕ, ◌+◌, ◌<◌, ◌≤◌, ◌++◌, ◌∷◌, [], true, false, cond, length, slice_index, vec_len, vec_capacity, IsOk, OnOk, IfOk, OnErr, MatchOption};
 ghost use Rattle.std.specs.List.{list_any};
-ghost use Rattle.gb_types.specs.Message.{same};
+ghost use Rattle.gb_types.specs.Common.{same};
 ghost use Rattle.gb_types.specs.declared.limits.TheConstants.{NODES};
 ghost use Rattle.gb_layer.specs.Table.{leads};
 ghost use Rattle.gb_layer.specs.Numbered.{is_in, numbered};

@@ -1,7 +1,6 @@
 //! The trait of a layer that is told places.
 ghost use Rattle.std.specs.Prelude.{◌≡◌, ℕ, ◌≤◌, ◌<◌, ◌++◌, List, length, OnOk};
-ghost use Rattle.gb_types.specs.declared.message.MsgId.{MsgId};
-ghost use Rattle.gb_types.specs.declared.node.NodeId.{NodeId};
+ghost use Rattle.gb_types.specs.declared.{message.MsgId.MsgId, node.NodeId.NodeId};
 ghost use Rattle.gb_layer.specs.declared.call.Call.{Call};
 ghost use Rattle.gb_layer.specs.Laws.{StaysAtItsNode};
 ghost use Rattle.gb_layer.specs.Machine.{Gives};

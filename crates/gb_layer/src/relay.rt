@@ -1,8 +1,7 @@
 //! A layer that relays by a rule.
 ghost use Rattle.std.specs.Prelude.{◌≡◌, ℕ, ◌≤◌, ◌<◌, cond, List, length, fold, slice_get, vec_capacity};
 ghost use Rattle.std.specs.declared.option.Option.TheVariants.{None, Some};
-ghost use Rattle.gb_types.specs.declared.message.MsgId.{MsgId};
-ghost use Rattle.gb_types.specs.declared.node.NodeId.{NodeId};
+ghost use Rattle.gb_types.specs.declared.{message.MsgId.MsgId, node.NodeId.NodeId};
 ghost use Rattle.gb_layer.specs.Relay.{State, IsNew, at_start, due_message, relay_if, relay_if_sends, relayed, relayed_sends, begun, begun_sends, given, given_ups, relay_next, relay_gives};
 ghost use Rattle.gb_layer.specs.RelayLemmas.{relay_me_stays, relay_noticed_once, relay_own};
 ghost use Rattle.gb_layer.specs.RelayOnceLemmas.{relay_sends_handed_in, relay_ups_handed_in, relay_up_once, relay_sent_once};

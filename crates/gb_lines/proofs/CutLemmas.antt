@@ -1,13 +1,7 @@
 -- A cut of bytes by places, as a cut of a list.
-use Rattle.std.proofs.Common.{◌≡◌, ◌≢◌, ℕ, suc, ◌+◌, ◌-◌, ◌<◌, ◌≤◌, Bool, true, List, [], ◌∷◌, ◌++◌, length, take, drop, get_or, Some, None, refl, sym, ap, ◌∙◌, inl, inr, arith}
-use Rattle.std.specs.List.{between}
-use Rattle.std.proofs.lemmas.Bool.{cases_lt, eqb-true, eq-eqb}
-use Rattle.std.proofs.lemmas.List.{take-append-drop, take-take, drop-take, drop-drop, drop_more, take_at, take-append-le, length-append, length-drop, length-take-le}
+use Rattle.gb_types.specs.Common.{◌≡◌, ◌≢◌, ℕ, suc, ◌+◌, ◌-◌, ◌<◌, ◌≤◌, Bool, true, List, [], ◌∷◌, ◌++◌, length, take, drop, get_or, Some, None, refl, sym, ap, ◌∙◌, inl, inr, arith, between, cases_lt, eqb-true, eq-eqb, take-append-drop, take-take, drop-take, drop-drop, drop_more, take_at, take-append-le, length-append, length-drop, length-take-le, take-append-add, All-from_get_or, All-get_or, copy_within}
 use Rattle.std.proofs.lemmas.List.Edits.{length-between, get_or-between}
-use Rattle.std.proofs.Math.Seq.{take-append-add}
 use Rattle.std.proofs.lemmas.Slice.{between_from_start}
-use Rattle.std.proofs.lemmas.List.Elements.{All-from_get_or, All-get_or}
-use Rattle.std.specs.List.{copy_within}
 use borrow.Rule.Slice.PartMut.{put_mid, post_of}
 use Rattle.memchr.specs.Find.{IsFirst, Passes, is_byte}
 use Rattle.gb_lines.specs.Lines.{IsLine}

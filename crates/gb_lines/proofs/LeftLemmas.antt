@@ -1,9 +1,6 @@
 -- What is left of a text, from what a cut of the unread bytes says.
-use Rattle.std.proofs.Common.{◌≡◌, ℕ, Bool, true, false, List, ◌++◌, Option, Some, None, if◌then◌else◌, sym, ap, ◌∙◌, inl, inr}
-use Rattle.std.specs.Option.{IfSome}
+use Rattle.gb_types.specs.Common.{◌≡◌, ℕ, Bool, true, false, List, ◌++◌, Option, Some, None, if◌then◌else◌, sym, ap, ◌∙◌, inl, inr, IfSome, false≢true, append_assoc}
 use Rattle.std.specs.Io.KnownBytes.{Keeps, Consumes, prepend_known}
-use Rattle.std.proofs.lemmas.Bool.{false≢true}
-use Rattle.std.proofs.lemmas.List.{append_assoc}
 use Rattle.gb_lines.specs.Lines.{GivesLine, BeginsLonger}
 use Rattle.gb_lines.specs.Buffered.{Buffered, left, WhereKnown, CutsLine, IsTooLong}
 use Rattle.gb_lines.proofs.LineLemmas.{gives_ended, gives_last, begins_longer}

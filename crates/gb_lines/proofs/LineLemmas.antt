@@ -1,9 +1,5 @@
 -- The lines of a text, from its front.
-use Rattle.std.proofs.Common.{◌≡◌, ◌≢◌, ℕ, ◌<◌, List, [], ◌∷◌, ◌++◌, length, refl, inl, inr, arith}
-use Rattle.std.specs.List.{onto_first}
-use Rattle.std.proofs.lemmas.Bool.{ne_eqb}
-use Rattle.std.proofs.lemmas.List.{length-append}
-use Rattle.std.proofs.lemmas.List.Elements.{All-head, All-tail}
+use Rattle.gb_types.specs.Common.{◌≡◌, ◌≢◌, ℕ, ◌<◌, List, [], ◌∷◌, ◌++◌, length, refl, inl, inr, arith, onto_first, ne_eqb, length-append, All-head, All-tail}
 use Rattle.gb_lines.specs.Lines.{lines_of, IsLine, GivesLine, BeginsLonger}
 
 -- the first line ends at the first line feed

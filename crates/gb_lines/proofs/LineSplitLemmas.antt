@@ -1,9 +1,5 @@
 -- What the lines of a text are, by induction on the lines and on the text.
-use Rattle.std.proofs.Common.{◌≡◌, ◌≢◌, ℕ, ◌⊎◌, List, [], ◌∷◌, ◌++◌, length, refl, ap, ◌∙◌, inl, inr, arith}
-use Rattle.std.specs.List.{onto_first, flat_map, All}
-use Rattle.std.proofs.lemmas.Bool.{cases_eq, eq-eqb, ne_eqb}
-use Rattle.std.proofs.lemmas.List.{append_assoc, length-append}
-use Rattle.std.proofs.lemmas.List.Elements.{All-nil, All-cons, All-head, All-tail}
+use Rattle.gb_types.specs.Common.{◌≡◌, ◌≢◌, ℕ, ◌⊎◌, List, [], ◌∷◌, ◌++◌, length, refl, ap, ◌∙◌, inl, inr, arith, onto_first, flat_map, All, cases_eq, eq-eqb, ne_eqb, append_assoc, length-append, All-nil, All-cons, All-head, All-tail}
 use Rattle.gb_lines.specs.Lines.{lines_of, IsLine, ended}
 use Rattle.gb_lines.specs.LineLaws.{WrittenLinesAreRead, LastMayLackItsLineFeed, EachTextIsItsLines}
 use Rattle.gb_lines.proofs.LineLemmas.{lines_of-ended, lines_of-last}

@@ -1,7 +1,6 @@
 -- How a line buffer keeps what stands in it.
 use Rattle.std.specs.Prelude.{◌≡◌, ◌≤◌, slice_range, vec_len}
-use Rattle.gb_lines.specs.declared.lines.TheConstants.{SPACE, READS}
-use Rattle.gb_lines.specs.declared.lines.LineBuffer.TheInside.{Inside}
+use Rattle.gb_lines.specs.declared.{lines.TheConstants.SPACE, lines.TheConstants.READS, lines.LineBuffer.TheInside.Inside}
 use Rattle.gb_lines.specs.Buffered.{Buffered, NoLineFeed}
 
 abbrev pub buffered : Inside → Buffered

@@ -1,8 +1,6 @@
 -- A mask of 64 bits covers no number from base + 64 on.
-use Rattle.std.proofs.Common.{◌≡◌, ℕ, ◌-◌, ◌<◌, ◌≤◌, ◌^◌, false, arith}
-use Rattle.std.specs.Int.{bit_at}
+use Rattle.gb_types.specs.Common.{◌≡◌, ℕ, ◌-◌, ◌<◌, ◌≤◌, ◌^◌, false, arith, bit_at, nat_tests}
 use Rattle.std.proofs.lemmas.Nat.Bits.{bit_at_above}
-use Rattle.std.proofs.lemmas.Bool.Decides.{nat_tests}
 use Rattle.gb_link.specs.Ack.{covers}
 
 pub not_covered_beyond : (base mask n : ℕ) → base ≤ n → 64 ≤ n - base → mask < 2 ^ 64 → covers base mask n ≡ false

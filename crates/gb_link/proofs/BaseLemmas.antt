@@ -1,12 +1,7 @@
 -- The least number that is not in a set.
-use Rattle.std.proofs.Common.{◌≡◌, ℕ, ◌+◌, ◌*◌, ◌/◌, ◌%◌, ◌^◌, ◌<◌, ◌≤◌, Bool, true, false, ◌||◌, cond, nat_eq, nat_lt, nat_le, List, [], ◌∷◌, length, count_by, refl, ap, sym, ◌∙◌, arith, zero, suc}
-use Rattle.std.specs.Int.{bit_at}
-use Rattle.std.specs.Ordering.{nat_cmp, eq_by_cmp}
-use Rattle.std.specs.List.{list_any}
+use Rattle.gb_types.specs.Common.{◌≡◌, ℕ, ◌+◌, ◌*◌, ◌/◌, ◌%◌, ◌^◌, ◌<◌, ◌≤◌, Bool, true, false, ◌||◌, cond, nat_eq, nat_lt, nat_le, List, [], ◌∷◌, length, count_by, refl, ap, sym, ◌∙◌, arith, zero, suc, bit_at, nat_cmp, eq_by_cmp, list_any, nat_tests, sum_by-append}
 use Rattle.std.specs.Cmp.{unsigned_tied}
 use Rattle.std.specs.FinSet as set
-use Rattle.std.proofs.lemmas.Bool.Decides.{nat_tests}
-use Rattle.std.proofs.lemmas.List.Sums.{sum_by-append}
 use Rattle.std.proofs.lemmas.Nat.Bits.{bit_at_lowest, bit_at-suc, bit_at-zero}
 use Rattle.gb_link.specs.Received.{Received, first_missing, base_of, word_of}
 use Rattle.gb_link.proofs.TestLemmas.{lt_true, lt_false, eq_true, eq_false}

@@ -1,9 +1,5 @@
 -- The first element that passes a test: its place, and the list without it.
-use Rattle.std.proofs.Common.{◌≡◌, ℕ, ◌+◌, ◌<◌, ◌≤◌, nat_lt, not, true, false, cond, Bool, List, [], ◌∷◌, length, refl, ap, sym, ◌∙◌, arith, position, suc, Option, Some, None, OnSome, slice_index_or, subst, inl, inr}
-use Rattle.std.proofs.lemmas.Option.{slice_get_cases}
-use Rattle.std.specs.List.{find, position_or_len, remove, slice_get}
-use Rattle.std.proofs.lemmas.List.Folds.{find_at}
-use Rattle.std.proofs.lemmas.Bool.Decides.{nat_tests}
+use Rattle.gb_types.specs.Common.{◌≡◌, ℕ, ◌+◌, ◌<◌, ◌≤◌, nat_lt, not, true, false, cond, Bool, List, [], ◌∷◌, length, refl, ap, sym, ◌∙◌, arith, position, suc, Option, Some, None, OnSome, slice_index_or, subst, inl, inr, slice_get_cases, find, position_or_len, remove, slice_get, find_at, nat_tests}
 use Rattle.gb_link.specs.SendWindow.{without_first}
 
 module _ {F : Type 0} (test : ℕ × F → Bool) where

@@ -1,8 +1,5 @@
 -- The invariant of a sender, through each of its calls.
-use Rattle.std.proofs.Common.{◌≡◌, ℕ, zero, suc, ◌+◌, ◌-◌, ◌<◌, ◌≤◌, nat_eq, length, get_or, sym, ◌∙◌, true, false, cond, IsTrue, ◌&&◌, List, [], ◌∷◌, ◌++◌, arith, Bool, Option, None, Some, ap, refl}
-use Rattle.std.specs.Prelude.{MatchOption, OnSome, IfNone}
-use Rattle.std.specs.List.{find, filter}
-use Rattle.std.proofs.lemmas.Bool.Decides.{nat_tests}
+use Rattle.gb_types.specs.Common.{◌≡◌, ℕ, zero, suc, ◌+◌, ◌-◌, ◌<◌, ◌≤◌, nat_eq, length, get_or, sym, ◌∙◌, true, false, cond, IsTrue, ◌&&◌, List, [], ◌∷◌, ◌++◌, arith, Bool, Option, None, Some, ap, refl, MatchOption, OnSome, IfNone, find, filter, nat_tests}
 use Rattle.gb_types.specs.declared.limits.TheConstants.{LAST_FRAME}
 use Rattle.gb_link.specs.SendWindow.{SendWindow, IsWindow, AreAscending, AreRecent, without_first, pushed, has_room, is_in_window, acknowledged}
 use Rattle.gb_link.specs.Ack.{covers}

@@ -4,3 +4,4 @@ pub mod Spaced
 pub mod Received
 pub mod Words
 pub mod Link
+pub mod Common

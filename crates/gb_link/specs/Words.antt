@@ -2,7 +2,7 @@
 use Rattle.std.specs.Prelude.{◌≡◌, ℕ, ◌+◌, ◌%◌, ◌^◌, ◌<◌, ◌≤◌, true, not, ◌&&◌, nat_eq}
 use Rattle.std.specs.FinSet as set
 use Rattle.gb_types.specs.declared.limits.TheConstants.{LAST_FRAME}
-use Rattle.gb_types.specs.Places.{below}
+use Rattle.gb_types.specs.Common.{below}
 use Rattle.gb_link.specs.Ack.{covers}
 use Rattle.gb_link.specs.Received.{Received}
 

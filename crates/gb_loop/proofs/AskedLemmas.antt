@@ -1,13 +1,11 @@
 -- What was asked in a turn.
-use Rattle.std.proofs.Common.{◌≡◌, ℕ, Bool, List, [], ◌∷◌, ◌++◌, sym, ap, subst, ◌∙◌}
-use Rattle.gb_types.specs.declared.reply.Reply.{Reply}
-use Rattle.gb_types.specs.declared.request.Request.{Request}
+use Rattle.gb_types.specs.Common.{◌≡◌, ℕ, Bool, List, [], ◌∷◌, ◌++◌, sym, ap, subst, ◌∙◌}
+use Rattle.gb_types.specs.declared.{reply.Reply.Reply, request.Request.Request}
 use Rattle.gb_session.specs.Answering.{Answering}
-use Rattle.gb_session.specs.declared.operation.Operation.{Operation}
+use Rattle.gb_session.specs.declared.{operation.Operation.Operation, session.Step.Step}
 use Rattle.gb_session.specs.Runs.{IsRun, HasAsked}
 use Rattle.gb_session.specs.Takes.{Takes, StopsSo}
 use Rattle.gb_session.specs.declared.serve.SessionEnd.TheVariants.{Finished, Cut, Malformed, Limit}
-use Rattle.gb_session.specs.declared.session.Step.{Step}
 use Rattle.gb_session.specs.declared.session.Step.TheVariants.{Hungry, Full, Parked, Ended}
 use Rattle.gb_session.proofs.NextLemmas.{asked_none}
 use Rattle.gb_session.proofs.RunLemmas.{IsRun-join}

@@ -1,5 +1,5 @@
 -- What was asked and sent in a turn that failed.
-use Rattle.std.proofs.Common.{◌≡◌, ℕ, Bool, List, [], ◌++◌, Option, subst}
+use Rattle.gb_types.specs.Common.{◌≡◌, ℕ, Bool, List, [], ◌++◌, Option, subst}
 use Rattle.gb_session.specs.Answering.{Answering}
 use Rattle.gb_session.specs.SessionValue.{SessionValue}
 use Rattle.gb_session.specs.Takes.{Takes, FailsPiece}

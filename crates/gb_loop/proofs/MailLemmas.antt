@@ -1,27 +1,18 @@
 -- What a node's port carried since its loop began.
-use Rattle.std.proofs.Common.{◌≡◌, ◌⊎◌, inl, inr, ℕ, ◌==◌, Bool, false, true, List, [], ◌∷◌, ◌++◌, refl, sym, ap, ◌∙◌, Option, Some, None, Result, Ok, Err}
-use Rattle.std.specs.Prelude.{IfNone, IfOk, IfSome, OnErr}
+use Rattle.gb_types.specs.Common.{◌≡◌, ◌⊎◌, inl, inr, ℕ, ◌==◌, Bool, false, true, List, [], ◌∷◌, ◌++◌, refl, sym, ap, ◌∙◌, Option, Some, None, Result, Ok, Err, IfNone, IfOk, IfSome, OnErr, Decides-eqb, list_all-append, nat_cmp}
 use Rattle.std.proofs.Math.Logic.{∥∥₁_map}
-use Rattle.std.proofs.lemmas.Bool.Decides.{Decides-eqb}
-use Rattle.std.proofs.lemmas.List.Folds.{list_all-append}
 use Rattle.std.specs.FinSet as set
-use Rattle.std.specs.Ordering.{nat_cmp}
 use Rattle.std.specs.declared.vec.Vec.{Vec}
 use Rattle.std.specs.declared.alloc.Global.{Global}
 use Rattle.gb_types.proofs.BoolLemmas.{and_both}
 use Rattle.gb_types.specs.declared.node.NodeId.{NodeId}
-use Rattle.gb_node.specs.declared.answer.NodeAnswer.{NodeAnswer}
+use Rattle.gb_node.specs.declared.{answer.NodeAnswer.NodeAnswer, event.NodeEvent.NodeEvent}
 use Rattle.gb_node.specs.declared.answer.NodeAnswer.TheVariants as answers
 use Rattle.gb_node.specs.declared.answer.Sent.TheVariants as sents
-use Rattle.gb_node.specs.declared.event.NodeEvent.{NodeEvent}
 use Rattle.gb_node.specs.declared.event.NodeEvent.TheVariants as events
 use Rattle.gb_port.specs.declared.port.PortFault.{PortFault}
-use Rattle.gb_host.specs.HostValue.{IsRefused}
-use Rattle.gb_host.specs.Nothing.{GaveNothing}
-use Rattle.gb_host.specs.SeatValue.{SeatValue}
-use Rattle.gb_host.specs.declared.entry.SeatEntry.{SeatEntry}
-use Rattle.gb_host.specs.declared.fault.HostFault.{HostFault}
-use Rattle.gb_host.specs.declared.plan.HostPlan.{HostPlan}
+use Rattle.gb_host.specs.Common.{IsRefused, GaveNothing, SeatValue}
+use Rattle.gb_host.specs.declared.{entry.SeatEntry.SeatEntry, fault.HostFault.HostFault, plan.HostPlan.HostPlan}
 use Rattle.gb_worker.specs.Answered.{destination, gives_packet}
 use Rattle.gb_worker.specs.Carried.{HasCarried, goes_to, traffic_of}
 use Rattle.gb_worker.specs.Gained.{noted}

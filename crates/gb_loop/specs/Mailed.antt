@@ -7,14 +7,9 @@ use Rattle.std.specs.declared.vec.Vec.{Vec}
 use Rattle.std.specs.declared.alloc.Global.{Global}
 use Rattle.gb_types.specs.declared.node.NodeId.{NodeId}
 use Rattle.gb_port.specs.declared.port.PortFault.{PortFault}
-use Rattle.gb_node.specs.declared.answer.NodeAnswer.{NodeAnswer}
-use Rattle.gb_node.specs.declared.event.NodeEvent.{NodeEvent}
-use Rattle.gb_host.specs.HostValue.{IsRefused}
-use Rattle.gb_host.specs.Nothing.{GaveNothing}
-use Rattle.gb_host.specs.SeatValue.{SeatValue}
-use Rattle.gb_host.specs.declared.entry.SeatEntry.{SeatEntry}
-use Rattle.gb_host.specs.declared.fault.HostFault.{HostFault}
-use Rattle.gb_host.specs.declared.plan.HostPlan.{HostPlan}
+use Rattle.gb_node.specs.declared.{answer.NodeAnswer.NodeAnswer, event.NodeEvent.NodeEvent}
+use Rattle.gb_host.specs.Common.{IsRefused, GaveNothing, SeatValue}
+use Rattle.gb_host.specs.declared.{entry.SeatEntry.SeatEntry, fault.HostFault.HostFault, plan.HostPlan.HostPlan}
 use Rattle.gb_worker.specs.Answered.{gives_packet}
 use Rattle.gb_worker.specs.Carried.{HasCarried}
 use Rattle.gb_worker.specs.Gained.{noted}

@@ -3,12 +3,8 @@ use Rattle.std.specs.Prelude.{◌≡◌, ℕ, ◌≤◌, ◌⊎◌, Bool, true, 
 use Rattle.std.specs.Io.KnownBytes.{Appends, Consumes, Keeps}
 use Rattle.gb_session.specs.Answering.{Answering}
 use Rattle.gb_session.specs.Wholes.{ServesMore, AsksInTurn}
-use Rattle.gb_session.specs.declared.session.Step.{Step}
-use Rattle.gb_session.specs.declared.session.Step.TheVariants.{Ended}
-use Rattle.gb_loop.specs.declared.client.Client.{Client}
-use Rattle.gb_loop.specs.declared.client.Came.{Came}
-use Rattle.gb_loop.specs.declared.client.Came.TheVariants.{Bytes}
-use Rattle.gb_loop.specs.declared.client.Turn.{Turn}
+use Rattle.gb_session.specs.declared.{session.Step.Step, session.Step.TheVariants.Ended}
+use Rattle.gb_loop.specs.declared.{client.Client.Client, client.Came.Came, client.Came.TheVariants.Bytes, client.Turn.Turn}
 use Rattle.gb_loop.specs.declared.client.Turn.TheVariants.{Blocked, Dry, Again, Closed, Took, Failed}
 
 -- whether a session ended so

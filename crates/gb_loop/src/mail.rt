@@ -1,13 +1,9 @@
 //! A node with its port: all that is asked of it, comes to it and goes from it.
 ghost use Rattle.std.specs.Prelude.{◌≡◌, ◌++◌, ◌∷◌, [], true, false, Ok, Some, IfOk, IfErr, OnOk, OnErr, IfSome, IfNone};
-ghost use Rattle.gb_node.specs.declared.answer.NodeAnswer.{NodeAnswer as AnswerValue};
-ghost use Rattle.gb_node.specs.declared.answer.NodeAnswer.TheVariants.{Sent as WasSent};
-ghost use Rattle.gb_node.specs.declared.answer.Sent.TheVariants.{Nothing as SentNothing, Packet as SentPacket};
-ghost use Rattle.gb_host.specs.HostValue.{IsRefused};
-ghost use Rattle.gb_host.specs.Nothing.{GaveNothing};
+ghost use Rattle.gb_node.specs.declared.{answer.NodeAnswer.NodeAnswer as AnswerValue, answer.NodeAnswer.TheVariants.Sent as WasSent, answer.Sent.TheVariants.Nothing as SentNothing, answer.Sent.TheVariants.Packet as SentPacket, event.NodeEvent.TheVariants.Packet as PacketEvent};
+ghost use Rattle.gb_host.specs.Common.{IsRefused, GaveNothing};
 ghost use Rattle.gb_worker.specs.Answered.{destination, gives_packet};
 ghost use Rattle.gb_worker.specs.Asked.{reply_at, reply_of};
-ghost use Rattle.gb_node.specs.declared.event.NodeEvent.TheVariants.{Packet as PacketEvent};
 ghost use Rattle.gb_worker.specs.Carried.{GivesNothing, HasCarried};
 ghost use Rattle.gb_worker.specs.Gained.{noted};
 ghost use Rattle.gb_loop.specs.Mailed.{HasCalled, HasMailed, WasAskedToSend};

@@ -1,7 +1,7 @@
 //! What an administrator is told of a node, and the end that an administrator asks for.
 ghost use Rattle.std.specs.Prelude.{◌≡◌, ◌++◌, ℕ, List, OnOk, OnErr};
 ghost use Rattle.gb_cap.specs.declared.token.Need.TheVariants.{Admin};
-ghost use Rattle.gb_table.specs.Admission.{is_token};
+ghost use Rattle.gb_table.specs.Common.{is_token};
 ghost use Rattle.gb_loop.specs.Operated.{MayTell};
 
 use gb_cap::{HmacKey, Key, Need, Token};

@@ -1,7 +1,6 @@
 //! The loop of one node of a cluster whose other nodes do not run, as tests.
 ghost use Rattle.std.specs.Prelude.{◌≡◌, ◌≤◌, vec_len, IfSome};
-ghost use Rattle.gb_host.specs.Pasts.{AreBlank, books_of};
-ghost use Rattle.gb_host.specs.Plans.{IsPlan};
+ghost use Rattle.gb_host.specs.Common.{AreBlank, books_of, IsPlan};
 
 use crate::clients::{address, ask_often};
 use gb_host::close::close;

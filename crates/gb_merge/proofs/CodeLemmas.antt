@@ -1,20 +1,12 @@
 -- What the parts of the code yield together.
-use Rattle.std.proofs.Common.{◌≡◌, ℕ, ◌+◌, ◌⊎◌, ◌<◌, ◌≤◌, List, [], ◌∷◌, length, Bool, true, false, Option, Some, None, inl, inr, refl, sym, ◌∙◌, ap, subst, arith, get_or}
-use Rattle.std.specs.Prelude.{slice_get, nat_eq, nat_lt, ◌&&◌, if◌then◌else◌, is_ok, is_some, not, Result, Ok, Err}
-use Rattle.std.proofs.lemmas.Bool.{cases_lt}
-use Rattle.std.proofs.lemmas.List.{get_or_default, get_or_past}
-use Rattle.gb_types.specs.declared.limits.TheConstants.{NODES}
-use Rattle.gb_types.specs.declared.node.NodeId.{NodeId}
-use Rattle.gb_frame.specs.declared.fault.PacketFault.{PacketFault}
-use Rattle.gb_frame.specs.declared.fault.PacketFault.TheVariants.{Node}
-use Rattle.gb_frame.specs.Packet.{Content}
-use Rattle.gb_frame.specs.Reading.{reading}
-use Rattle.gb_node.specs.NodeStep.{if_here, node_numbered}
-use Rattle.gb_node.specs.NodeValue.{new_node}
+use Rattle.gb_types.specs.Common.{◌≡◌, ℕ, ◌+◌, ◌⊎◌, ◌<◌, ◌≤◌, List, [], ◌∷◌, length, Bool, true, false, Option, Some, None, inl, inr, refl, sym, ◌∙◌, ap, subst, arith, get_or, slice_get, nat_eq, nat_lt, ◌&&◌, if◌then◌else◌, is_ok, is_some, not, Result, Ok, Err, cases_lt, get_or_default, get_or_past}
+use Rattle.gb_types.specs.declared.{limits.TheConstants.NODES, node.NodeId.NodeId, plan.Plan.Plan}
+use Rattle.gb_frame.specs.declared.{fault.PacketFault.PacketFault, fault.PacketFault.TheVariants.Node}
+use Rattle.gb_frame.specs.Common.{Content, reading}
+use Rattle.gb_node.specs.Common.{if_here, node_numbered, new_node}
 use Rattle.gb_node.specs.declared.tape.TapeEntry.{TapeEntry}
 use Rattle.gb_node.proofs.TookLemmas.{numbered_is}
-use Rattle.gb_cluster.specs.ClusterValue.{node_plan}
-use Rattle.gb_types.specs.declared.plan.Plan.{Plan}
+use Rattle.gb_cluster.specs.Common.{node_plan}
 use Rattle.gb_merge.specs.Interleaving.{is_good, tape_of}
 use Rattle.gb_merge.specs.Faults.{all_sent, IsStranger}
 use Rattle.gb_merge.specs.Woven.{HasStranger}

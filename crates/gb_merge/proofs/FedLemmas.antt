@@ -1,31 +1,14 @@
 -- Tapes without the entries that were refused for lack of memory.
-use Rattle.std.proofs.Common.{◌≡◌, ℕ, zero, suc, ◌<◌, ◌⊎◌, List, [], ◌∷◌, ◌++◌, length, map, Bool, true, false, Bor, inl, inr, refl, sym, ◌∙◌, ap, subst, arith}
-use Rattle.std.specs.Prelude.{fold, not, if◌then◌else◌, ◌==◌, Option, Some, None, option_copied, slice_get, MatchOption, Result, Ok, Err}
-use Rattle.std.proofs.lemmas.Bool.{and_parts}
-use Rattle.std.proofs.lemmas.Bool.Decides.{nat_tests}
-use Rattle.std.proofs.lemmas.List.{append-nil, reverse-append}
-use Rattle.gb_types.specs.declared.address.Addr.{Addr}
-use Rattle.gb_types.specs.declared.node.NodeId.{NodeId}
-use Rattle.gb_types.specs.declared.plan.Plan.{Plan}
-use Rattle.gb_types.specs.declared.refusal.Refusal.TheVariants.{OutOfMemory}
-use Rattle.gb_types.specs.declared.reply.Reply.{Reply}
-use Rattle.gb_types.specs.declared.reply.Reply.TheVariants.{Refused}
-use Rattle.gb_types.specs.declared.spec.TenantRow.{TenantRow}
-use Rattle.gb_types.specs.declared.request.Action.{Action}
+use Rattle.gb_types.specs.Common.{◌≡◌, ℕ, zero, suc, ◌<◌, ◌⊎◌, List, [], ◌∷◌, ◌++◌, length, map, Bool, true, false, Bor, inl, inr, refl, sym, ◌∙◌, ap, subst, arith, fold, not, if◌then◌else◌, ◌==◌, Option, Some, None, option_copied, slice_get, MatchOption, Result, Ok, Err, and_parts, nat_tests, append-nil, reverse-append}
+use Rattle.gb_types.specs.declared.{address.Addr.Addr, node.NodeId.NodeId, plan.Plan.Plan, refusal.Refusal.TheVariants.OutOfMemory, reply.Reply.Reply, reply.Reply.TheVariants.Refused, spec.TenantRow.TenantRow, request.Action.Action}
 use Rattle.gb_frame.specs.declared.fault.PacketFault.{PacketFault}
-use Rattle.gb_frame.specs.Packet.{Content}
-use Rattle.gb_node.specs.NodeStep.{turn, running_turn, stopped_answer, node_did, sent, taken_answer, IsTurn}
-use Rattle.gb_node.specs.NodeValue.{NodeValue, new_node}
-use Rattle.gb_node.specs.Past.{Happened, ComesTo as NodeComesTo, added, tenants_in}
-use Rattle.gb_node.specs.SendLaw.{StarvedSays}
-use Rattle.gb_node.specs.declared.answer.NodeAnswer.{NodeAnswer}
+use Rattle.gb_frame.specs.Common.{Content}
+use Rattle.gb_node.specs.Common.{turn, running_turn, stopped_answer, node_did, sent, taken_answer, IsTurn, NodeValue, new_node, Happened, added, tenants_in, StarvedSays}
+use Rattle.gb_node.specs.Past.{ComesTo as NodeComesTo}
+use Rattle.gb_node.specs.declared.{answer.NodeAnswer.NodeAnswer, event.NodeEvent.NodeEvent, plan.NodePlan.NodePlan, tape.TapeEntry.TapeEntry}
 use Rattle.gb_node.specs.declared.answer.NodeAnswer.TheVariants.{Reply as Replied, Taken, Sent}
-use Rattle.gb_node.specs.declared.event.NodeEvent.{NodeEvent}
 use Rattle.gb_node.specs.declared.event.NodeEvent.TheVariants.{Request as Asked, Packet as Came, Pack, Again, Ack, Tick, Stop}
-use Rattle.gb_node.specs.declared.plan.NodePlan.{NodePlan}
-use Rattle.gb_node.specs.declared.tape.TapeEntry.{TapeEntry}
-use Rattle.gb_cluster.specs.ClusterValue.{ClusterValue, node_plan, node_at}
-use Rattle.gb_cluster.specs.Run.{ComesTo, past_at}
+use Rattle.gb_cluster.specs.Common.{ClusterValue, node_plan, node_at, ComesTo, past_at}
 use Rattle.gb_cluster.proofs.NodesLemmas.{have_pasts}
 use Rattle.gb_isolation.specs.Isolation.{wants_memory}
 use Rattle.gb_isolation.specs.Project.{is_starved_by, reply_in, replies_in}

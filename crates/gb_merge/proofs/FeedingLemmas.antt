@@ -1,8 +1,6 @@
 -- If no answer in the tapes refuses for lack of memory, none does in the run.
-use Rattle.std.proofs.Common.{◌≡◌, List, [], ◌∷◌, ◌++◌, map, true, false, not, ◌&&◌, refl, sym, ap, ap₂, subst}
-use Rattle.std.proofs.lemmas.Bool.{and_parts}
-use Rattle.std.proofs.lemmas.List.{reverse-append}
-use Rattle.gb_cluster.specs.Run.{Did}
+use Rattle.gb_types.specs.Common.{◌≡◌, List, [], ◌∷◌, ◌++◌, map, true, false, not, ◌&&◌, refl, sym, ap, ap₂, subst, and_parts, reverse-append}
+use Rattle.gb_cluster.specs.Common.{Did}
 use Rattle.gb_isolation.specs.Isolation.{is_ample, wants_memory}
 use Rattle.gb_merge.specs.Interleaving.{Pick}
 use Rattle.gb_merge.specs.Merged.{AreFed, did, run_of}

@@ -1,25 +1,13 @@
 -- A run of an interleaving: as long as its answers are the tapes', each node is the replay of what was taken there. So the first entry whose answer the run does not
 -- give has an answer that is not its replay's.
-use Rattle.std.proofs.Common.{◌≡◌, ℕ, zero, suc, ◌+◌, ◌⊎◌, ◌<◌, List, [], ◌∷◌, ◌++◌, length, map, take, drop, Bool, false, Some, inl, inr, refl, sym, ◌∙◌, ap, subst, arith, append_assoc, get_or}
-use Rattle.std.specs.Prelude.{slice_get, reverse, if◌then◌else◌}
-use Rattle.std.proofs.lemmas.Bool.{cases_eq}
-use Rattle.std.proofs.lemmas.List.{append-nil, map-append, reverse-append, take_more}
-use Rattle.std.proofs.lemmas.List.Sums.{fold-append}
-use Rattle.gb_types.specs.declared.node.NodeId.{NodeId}
+use Rattle.gb_types.specs.Common.{◌≡◌, ℕ, zero, suc, ◌+◌, ◌⊎◌, ◌<◌, List, [], ◌∷◌, ◌++◌, length, map, take, drop, Bool, false, Some, inl, inr, refl, sym, ◌∙◌, ap, subst, arith, append_assoc, get_or, slice_get, reverse, if◌then◌else◌, cases_eq, append-nil, map-append, reverse-append, take_more, fold-append}
+use Rattle.gb_types.specs.declared.{node.NodeId.NodeId, plan.Plan.Plan}
 use Rattle.gb_types.proofs.SameLemmas.{same_number}
-use Rattle.gb_node.specs.NodeValue.{NodeValue, new_node}
+use Rattle.gb_node.specs.Common.{NodeValue, new_node, PastsSay, SendersRun, StarvedSays}
 use Rattle.gb_node.specs.Past.{ComesTo as NodeComesTo}
-use Rattle.gb_node.specs.PastLaw.{PastsSay}
-use Rattle.gb_node.specs.SendLaw.{SendersRun, StarvedSays}
-use Rattle.gb_node.specs.declared.answer.NodeAnswer.{NodeAnswer}
-use Rattle.gb_node.specs.declared.tape.TapeEntry.{TapeEntry}
-use Rattle.gb_cluster.specs.Links.{PacketsAreHonest}
-use Rattle.gb_cluster.specs.ClusterStep.{NodeActs, posted, IsStep, IsPlaced}
-use Rattle.gb_cluster.specs.ClusterValue.{ClusterValue, new_cluster, node_plan, node_at}
-use Rattle.gb_cluster.specs.Run.{Did, ComesTo, past_at}
-use Rattle.gb_cluster.specs.declared.answer.Answer.{Answer}
-use Rattle.gb_cluster.specs.declared.event.Event.{Event}
-use Rattle.gb_types.specs.declared.plan.Plan.{Plan}
+use Rattle.gb_node.specs.declared.{answer.NodeAnswer.NodeAnswer, tape.TapeEntry.TapeEntry}
+use Rattle.gb_cluster.specs.Common.{PacketsAreHonest, NodeActs, posted, IsStep, IsPlaced, ClusterValue, new_cluster, node_plan, node_at, Did, ComesTo, past_at}
+use Rattle.gb_cluster.specs.declared.{answer.Answer.Answer, event.Event.Event}
 use Rattle.gb_cluster.proofs.NodesLemmas.{stays, have_pasts, acting_is, other_is}
 use Rattle.gb_isolation.specs.Isolation.{wants_memory}
 use Rattle.gb_merge.specs.Interleaving.{Pick, entries_at, sent_by, IsEventOf, AreEvents}

@@ -1,15 +1,11 @@
 -- Whether a packet that came in can go.
-use Rattle.std.proofs.Common.{◌≡◌, ℕ, zero, suc, ◌+◌, ◌-◌, ◌<◌, List, true, Option, Some, None, inl, refl, sym, ◌∙◌, ap, subst, arith}
-use Rattle.std.specs.Prelude.{slice_get, position}
-use Rattle.std.specs.Option.{option_map}
+use Rattle.gb_types.specs.Common.{◌≡◌, ℕ, zero, suc, ◌+◌, ◌-◌, ◌<◌, List, true, Option, Some, None, inl, refl, sym, ◌∙◌, ap, subst, arith, slice_get, position, option_map}
 use Rattle.std.specs.Str.{bytes_eq}
-use Rattle.gb_types.specs.declared.node.NodeId.{NodeId}
+use Rattle.gb_types.specs.declared.{node.NodeId.NodeId, plan.Plan.Plan}
 use Rattle.gb_types.proofs.SameLemmas.{same_number}
-use Rattle.gb_node.specs.NodeStep.{node_numbered}
-use Rattle.gb_node.specs.declared.event.NodeEvent.{NodeEvent}
-use Rattle.gb_node.specs.declared.event.NodeEvent.TheVariants.{Packet}
+use Rattle.gb_node.specs.Common.{node_numbered}
+use Rattle.gb_node.specs.declared.{event.NodeEvent.NodeEvent, event.NodeEvent.TheVariants.Packet}
 use Rattle.gb_cluster.specs.declared.event.Event.TheVariants.{Arrive}
-use Rattle.gb_types.specs.declared.plan.Plan.{Plan}
 use Rattle.gb_merge.specs.Interleaving.{is_good, text_numbered, IsEventOf}
 use Rattle.gb_merge.specs.Faults.{IsBlocked}
 use Rattle.gb_merge.proofs.MailLemmas.{absent, found}

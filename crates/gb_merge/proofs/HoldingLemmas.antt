@@ -1,14 +1,11 @@
 -- If no node can go and entries are left, no interleaving exists: an entry that can go is never held up by what goes before it.
-use Rattle.std.proofs.Common.{◌≡◌, ℕ, zero, suc, ◌⊎◌, List, [], ◌∷◌, ◌++◌, Some, inl, inr, refl, sym, ◌∙◌, subst}
-use Rattle.std.proofs.lemmas.Bool.{cases_eq}
-use Rattle.gb_types.specs.declared.node.NodeId.{NodeId}
-use Rattle.gb_node.specs.NodeStep.{node_numbered}
-use Rattle.gb_node.specs.declared.event.NodeEvent.{NodeEvent}
+use Rattle.gb_types.specs.Common.{◌≡◌, ℕ, zero, suc, ◌⊎◌, List, [], ◌∷◌, ◌++◌, Some, inl, inr, refl, sym, ◌∙◌, subst, cases_eq}
+use Rattle.gb_types.specs.declared.{node.NodeId.NodeId, plan.Plan.Plan}
+use Rattle.gb_node.specs.Common.{node_numbered}
+use Rattle.gb_node.specs.declared.{event.NodeEvent.NodeEvent, tape.TapeEntry.TapeEntry}
 use Rattle.gb_node.specs.declared.event.NodeEvent.TheVariants.{Request, Packet, Pack, Again, Ack, Tick, Stop}
-use Rattle.gb_node.specs.declared.tape.TapeEntry.{TapeEntry}
 use Rattle.gb_node.proofs.TookLemmas.{numbered_is}
 use Rattle.gb_cluster.specs.declared.event.Event.{Event}
-use Rattle.gb_types.specs.declared.plan.Plan.{Plan}
 use Rattle.gb_merge.specs.Interleaving.{Pick, entries_at, sent_by, text_numbered, IsEventOf, AreEvents, tape_of}
 use Rattle.gb_merge.specs.Faults.{IsStuck, sent_of, IsBlocked}
 use Rattle.gb_merge.specs.Woven.{sent_with, IsWoven, IsHeld, AreHeld}

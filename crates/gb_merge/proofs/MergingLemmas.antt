@@ -1,15 +1,10 @@
 -- What merging results in.
-use Rattle.std.proofs.Common.{◌≡◌, ℕ, suc, ◌⊎◌, ◌<◌, ◌≤◌, List, [], ◌∷◌, ◌++◌, length, map, take, Bool, true, false, Some, inl, inr, refl, sym, ◌∙◌, ap, subst, arith, append_assoc}
-use Rattle.std.specs.Prelude.{slice_get, if◌then◌else◌, nat_eq, ◌≢◌}
-use Rattle.std.proofs.lemmas.Bool.{cases_lt}
-use Rattle.std.proofs.lemmas.List.{append-nil, get_or_past, reverse-append}
-use Rattle.std.proofs.Math.Seq.{take-append_seam}
-use Rattle.gb_types.specs.declared.node.NodeId.{NodeId}
-use Rattle.gb_node.specs.Past.{Happened}
+use Rattle.gb_types.specs.Common.{◌≡◌, ℕ, suc, ◌⊎◌, ◌<◌, ◌≤◌, List, [], ◌∷◌, ◌++◌, length, map, take, Bool, true, false, Some, inl, inr, refl, sym, ◌∙◌, ap, subst, arith, append_assoc, slice_get, if◌then◌else◌, nat_eq, ◌≢◌, cases_lt, append-nil, get_or_past, reverse-append, take-append_seam}
+use Rattle.gb_types.specs.declared.{node.NodeId.NodeId, plan.Plan.Plan}
+use Rattle.gb_node.specs.Common.{Happened}
 use Rattle.gb_node.specs.declared.tape.TapeEntry.{TapeEntry}
-use Rattle.gb_cluster.specs.Run.{Did, past_at}
+use Rattle.gb_cluster.specs.Common.{Did, past_at}
 use Rattle.gb_cluster.specs.declared.event.Event.{Event}
-use Rattle.gb_types.specs.declared.plan.Plan.{Plan}
 use Rattle.gb_isolation.specs.Isolation.{wants_memory}
 use Rattle.gb_merge.specs.Interleaving.{Pick, entries_at, AreEvents, tape_of, sent_by}
 use Rattle.gb_merge.specs.Front.{IsFrontFault}

@@ -1,8 +1,6 @@
 -- A packet that was not sent, among the entries that are left.
-use Rattle.std.proofs.Common.{◌≡◌, ℕ, zero, suc, List, [], ◌∷◌, ◌++◌, Some, refl, ◌∙◌, ap, subst, append_assoc}
-use Rattle.std.specs.Prelude.{slice_get}
-use Rattle.gb_types.specs.declared.node.NodeId.{NodeId}
-use Rattle.gb_types.specs.declared.plan.Plan.{Plan}
+use Rattle.gb_types.specs.Common.{◌≡◌, ℕ, zero, suc, List, [], ◌∷◌, ◌++◌, Some, refl, ◌∙◌, ap, subst, append_assoc, slice_get}
+use Rattle.gb_types.specs.declared.{node.NodeId.NodeId, plan.Plan.Plan}
 use Rattle.gb_node.specs.declared.tape.TapeEntry.{TapeEntry}
 use Rattle.gb_merge.specs.Interleaving.{sent_by}
 use Rattle.gb_merge.specs.Faults.{sent_of, IsBlocked}

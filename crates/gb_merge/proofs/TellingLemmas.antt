@@ -1,6 +1,5 @@
 -- Packets gathered one by one.
-use Rattle.std.proofs.Common.{◌≡◌, ℕ, ◌+◌, ◌<◌, List, [], ◌∷◌, ◌++◌, length, take, refl, sym, ◌∙◌, ap, append_assoc, get_or}
-use Rattle.std.proofs.lemmas.List.{append-nil, take_more}
+use Rattle.gb_types.specs.Common.{◌≡◌, ℕ, ◌+◌, ◌<◌, List, [], ◌∷◌, ◌++◌, length, take, refl, sym, ◌∙◌, ap, append_assoc, get_or, append-nil, take_more}
 use Rattle.gb_node.specs.declared.tape.TapeEntry.{TapeEntry}
 use Rattle.gb_merge.specs.Interleaving.{sent_by}
 use Rattle.gb_merge.specs.Faults.{sent_of, all_sent}

@@ -1,10 +1,7 @@
 -- The steps of the loop that takes entries.
-use Rattle.std.proofs.Common.{◌≡◌, ℕ, ◌<◌, List, [], ◌∷◌, ◌++◌, length, Option, Some, None, MatchOption, refl, sym, ◌∙◌, ap, subst, get_or}
-use Rattle.std.specs.Prelude.{slice_set}
-use Rattle.std.proofs.lemmas.List.{get_or_default}
-use Rattle.gb_types.specs.declared.node.NodeId.{NodeId}
+use Rattle.gb_types.specs.Common.{◌≡◌, ℕ, ◌<◌, List, [], ◌∷◌, ◌++◌, length, Option, Some, None, MatchOption, refl, sym, ◌∙◌, ap, subst, get_or, slice_set, get_or_default}
+use Rattle.gb_types.specs.declared.{node.NodeId.NodeId, plan.Plan.Plan}
 use Rattle.gb_cluster.specs.declared.event.Event.{Event}
-use Rattle.gb_types.specs.declared.plan.Plan.{Plan}
 use Rattle.gb_node.specs.declared.tape.TapeEntry.{TapeEntry}
 use Rattle.gb_merge.specs.Interleaving.{Pick, sent_by, tape_of, IsEventOf}
 use Rattle.gb_merge.specs.Faults.{IsStuck}

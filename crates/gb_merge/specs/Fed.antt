@@ -1,16 +1,9 @@
 -- Tapes without the entries that were refused for lack of memory, and what merging them yields.
 use Rattle.std.specs.Prelude.{◌≡◌, ◌<◌, ◌&&◌, not, Bool, true, false, List, [], ◌∷◌, map, filter}
-use Rattle.gb_types.specs.declared.address.Addr.{Addr}
-use Rattle.gb_types.specs.declared.node.NodeId.{NodeId}
-use Rattle.gb_types.specs.declared.plan.Plan.{Plan}
-use Rattle.gb_node.specs.NodeStep.{IsTurn}
-use Rattle.gb_node.specs.NodeValue.{NodeValue}
-use Rattle.gb_node.specs.Past.{Happened}
-use Rattle.gb_node.specs.declared.answer.NodeAnswer.{NodeAnswer}
-use Rattle.gb_node.specs.declared.event.NodeEvent.{NodeEvent}
-use Rattle.gb_node.specs.declared.tape.TapeEntry.{TapeEntry}
-use Rattle.gb_cluster.specs.ClusterValue.{node_at}
-use Rattle.gb_cluster.specs.Run.{past_at}
+use Rattle.gb_types.specs.declared.{address.Addr.Addr, node.NodeId.NodeId, plan.Plan.Plan}
+use Rattle.gb_node.specs.Common.{IsTurn, NodeValue, Happened}
+use Rattle.gb_node.specs.declared.{answer.NodeAnswer.NodeAnswer, event.NodeEvent.NodeEvent, tape.TapeEntry.TapeEntry}
+use Rattle.gb_cluster.specs.Common.{node_at, past_at}
 use Rattle.gb_cluster.specs.declared.event.Event.{Event}
 use Rattle.gb_isolation.specs.Isolation.{IsIsolated, wants_memory}
 use Rattle.gb_isolation.specs.Project.{is_starved_by, replies_in}

@@ -1,18 +1,10 @@
 -- Interleavings of tapes: one list of events of the cluster in which each node's events are the entries of its tape.
 use Rattle.std.specs.Prelude.{ℕ, zero, suc, ◌≡◌, ◌⊎◌, Bool, true, false, List, [], ◌∷◌, ◌++◌, slice_get, slice_index_or, Option, Some, None, is_ok, nat_eq, if◌then◌else◌}
-use Rattle.gb_types.specs.declared.node.NodeId.{NodeId}
-use Rattle.gb_node.specs.NodeStep.{read_at}
-use Rattle.gb_node.specs.NodeValue.{new_node}
-use Rattle.gb_node.specs.declared.answer.NodeAnswer.{NodeAnswer}
-use Rattle.gb_node.specs.declared.answer.NodeAnswer.TheVariants.{Sent}
-use Rattle.gb_node.specs.declared.answer.Sent.TheVariants.{Packet as SentPacket}
-use Rattle.gb_node.specs.declared.event.NodeEvent.{NodeEvent}
-use Rattle.gb_node.specs.declared.event.NodeEvent.TheVariants.{Packet as Came}
-use Rattle.gb_node.specs.declared.tape.TapeEntry.{TapeEntry}
-use Rattle.gb_cluster.specs.ClusterValue.{node_plan}
-use Rattle.gb_cluster.specs.declared.event.Event.{Event}
-use Rattle.gb_cluster.specs.declared.event.Event.TheVariants.{At, Arrive}
-use Rattle.gb_types.specs.declared.plan.Plan.{Plan}
+use Rattle.gb_types.specs.declared.{node.NodeId.NodeId, plan.Plan.Plan}
+use Rattle.gb_node.specs.Common.{read_at, new_node}
+use Rattle.gb_node.specs.declared.{answer.NodeAnswer.NodeAnswer, answer.NodeAnswer.TheVariants.Sent, answer.Sent.TheVariants.Packet as SentPacket, event.NodeEvent.NodeEvent, event.NodeEvent.TheVariants.Packet as Came, tape.TapeEntry.TapeEntry}
+use Rattle.gb_cluster.specs.Common.{node_plan}
+use Rattle.gb_cluster.specs.declared.{event.Event.Event, event.Event.TheVariants.At, event.Event.TheVariants.Arrive}
 
 -- a step of the interleaving: the next entry of the node's tape is taken
 pub record Pick : Type 0 where

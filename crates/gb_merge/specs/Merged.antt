@@ -1,21 +1,14 @@
 -- What a merged list of events is: an interleaving of the tapes whose run gives the tapes' answers.
 use Rattle.std.specs.Prelude.{ℕ, ◌≡◌, false, List, [], ◌∷◌, map, reverse, Option, Some, None, option_map}
-use Rattle.gb_types.specs.declared.address.Addr.{Addr}
-use Rattle.gb_types.specs.declared.node.NodeId.{NodeId}
-use Rattle.gb_node.specs.Past.{Happened}
-use Rattle.gb_node.specs.declared.answer.NodeAnswer.{NodeAnswer}
+use Rattle.gb_types.specs.declared.{address.Addr.Addr, node.NodeId.NodeId, plan.Plan.Plan}
+use Rattle.gb_node.specs.Common.{Happened}
+use Rattle.gb_node.specs.declared.{answer.NodeAnswer.NodeAnswer, tape.TapeEntry.TapeEntry}
 use Rattle.gb_node.specs.declared.answer.NodeAnswer.TheVariants.{Reply as Replied, Taken, Sent, Ticked, Halted}
 use Rattle.gb_node.specs.declared.answer.Sent.TheVariants.{Packet as SentPacket, Nothing, Refused as SentRefused}
-use Rattle.gb_node.specs.declared.tape.TapeEntry.{TapeEntry}
-use Rattle.gb_cluster.specs.ClusterStep.{packet_numbered, IsStep}
-use Rattle.gb_cluster.specs.ClusterValue.{ClusterValue, new_cluster}
-use Rattle.gb_cluster.specs.Run.{Did, ComesTo, past_at}
-use Rattle.gb_cluster.specs.declared.answer.Answer.{Answer}
+use Rattle.gb_cluster.specs.Common.{packet_numbered, IsStep, ClusterValue, new_cluster, Did, ComesTo, past_at}
+use Rattle.gb_cluster.specs.declared.{answer.Answer.Answer, event.Event.Event, posted.Posted.Posted}
 use Rattle.gb_cluster.specs.declared.answer.Answer.TheVariants.{Reply as AnswerReply, Taken as AnswerTaken, Sent as AnswerSent, Ticked as AnswerTicked, Halted as AnswerHalted, NoPacket, NotNoise}
 use Rattle.gb_cluster.specs.declared.answer.Sending.TheVariants.{Packet as SendingPacket, Nothing as SendingNothing, Refused as SendingRefused}
-use Rattle.gb_cluster.specs.declared.event.Event.{Event}
-use Rattle.gb_types.specs.declared.plan.Plan.{Plan}
-use Rattle.gb_cluster.specs.declared.posted.Posted.{Posted}
 use Rattle.gb_isolation.specs.Isolation.{IsIsolated, wants_memory}
 use Rattle.gb_merge.specs.Interleaving.{Pick, entries_at, AreEvents, tape_of}
 

@@ -1,21 +1,12 @@
 -- Tapes on the way to an interleaving.
 use Rattle.std.specs.Prelude.{ℕ, ◌≡◌, ◌≢◌, ◌<◌, ◌⊎◌, ◌+◌, Bool, true, false, List, [], ◌∷◌, ◌++◌, length, slice_get, slice_index_or, Some}
-use Rattle.gb_types.specs.declared.node.NodeId.{NodeId}
-use Rattle.gb_node.specs.NodeStep.{node_numbered}
-use Rattle.gb_node.specs.declared.answer.NodeAnswer.{NodeAnswer}
+use Rattle.gb_types.specs.declared.{node.NodeId.NodeId, plan.Plan.Plan}
+use Rattle.gb_node.specs.Common.{node_numbered}
+use Rattle.gb_node.specs.declared.{answer.NodeAnswer.NodeAnswer, answer.Sent.TheVariants.Refused as SentRefused, event.NodeEvent.NodeEvent, event.NodeEvent.TheVariants.Packet as Came, tape.TapeEntry.TapeEntry}
 use Rattle.gb_node.specs.declared.answer.NodeAnswer.TheVariants.{Reply as Replied, Taken, Sent, Ticked, Halted}
-use Rattle.gb_node.specs.declared.answer.Sent.TheVariants.{Refused as SentRefused}
-use Rattle.gb_node.specs.declared.event.NodeEvent.{NodeEvent}
-use Rattle.gb_node.specs.declared.event.NodeEvent.TheVariants.{Packet as Came}
-use Rattle.gb_node.specs.declared.tape.TapeEntry.{TapeEntry}
-use Rattle.gb_cluster.specs.ClusterStep.{IsStep}
-use Rattle.gb_cluster.specs.ClusterValue.{ClusterValue, new_cluster}
-use Rattle.gb_cluster.specs.Run.{ComesTo}
-use Rattle.gb_cluster.specs.declared.answer.Answer.{Answer}
+use Rattle.gb_cluster.specs.Common.{IsStep, ClusterValue, new_cluster, ComesTo}
+use Rattle.gb_cluster.specs.declared.{answer.Answer.Answer, answer.Sending.TheVariants.Refused as SendingRefused, event.Event.Event}
 use Rattle.gb_cluster.specs.declared.answer.Answer.TheVariants.{Reply as AnswerReply, Taken as AnswerTaken, Sent as AnswerSent, Ticked as AnswerTicked, Halted as AnswerHalted}
-use Rattle.gb_cluster.specs.declared.answer.Sending.TheVariants.{Refused as SendingRefused}
-use Rattle.gb_cluster.specs.declared.event.Event.{Event}
-use Rattle.gb_types.specs.declared.plan.Plan.{Plan}
 use Rattle.gb_merge.specs.Interleaving.{Pick, is_good, entries_at, sent_by, tape_of, IsEventOf, AreEvents}
 use Rattle.gb_isolation.specs.Isolation.{wants_memory}
 use Rattle.gb_merge.specs.Merged.{told, run_of, Replays, AreFed}

@@ -1,6 +1,6 @@
 //! Merging tapes in which some entries were refused for lack of memory.
 ghost use Rattle.std.specs.Prelude.{◌≡◌, length, IfOk, IfErr};
-ghost use Rattle.gb_cluster.specs.ClusterValue.{IsClusterPlan};
+ghost use Rattle.gb_cluster.specs.Common.{IsClusterPlan};
 ghost use Rattle.gb_merge.specs.Fed.{IsMergedFed, IsFedFault, FedIsOneRun, RefusalsLeaveNodes};
 
 use crate::fault::AuditFault;

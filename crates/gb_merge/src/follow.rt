@@ -1,9 +1,8 @@
 //! Running the events that were taken from tapes.
 ghost use Rattle.std.specs.Prelude.{◌≡◌, ◌↔◌, [], ℕ, length, IsTrue, Some, IfErr, OnOk};
 ghost use Rattle.std.specs.Option.{option_map};
-ghost use Rattle.gb_cluster.specs.ClusterStep.{packet_numbered, IsPlaced};
+ghost use Rattle.gb_cluster.specs.Common.{packet_numbered, IsPlaced, ComesTo};
 ghost use Rattle.gb_cluster.specs.declared.posted.Posted.{Posted as PostedValue};
-ghost use Rattle.gb_cluster.specs.Run.{ComesTo};
 ghost use Rattle.gb_merge.specs.Interleaving.{AreEvents};
 ghost use Rattle.gb_merge.specs.Merged.{told};
 ghost use Rattle.gb_merge.specs.Woven.{is_refused, ArePlaced, IsTold, IsStepFault, IsFollowed, IsFollowFault};

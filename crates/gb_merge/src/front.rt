@@ -1,6 +1,6 @@
 //! Merging the part of tapes that is one run, for tapes that were cut short.
 ghost use Rattle.std.specs.Prelude.{◌≡◌, length, IfOk, IfErr};
-ghost use Rattle.gb_cluster.specs.ClusterValue.{IsClusterPlan};
+ghost use Rattle.gb_cluster.specs.Common.{IsClusterPlan};
 ghost use Rattle.gb_merge.specs.Front.{IsMergedFront, FrontIsOneRun, IsFrontFault};
 
 use crate::fault::AuditFault;

@@ -1,6 +1,6 @@
 //! Merging the tapes of a cluster's nodes (what happened at each, with its answers) into one run of the cluster.
 ghost use Rattle.std.specs.Prelude.{◌≡◌, length, IfOk, IfErr};
-ghost use Rattle.gb_cluster.specs.ClusterValue.{IsClusterPlan};
+ghost use Rattle.gb_cluster.specs.Common.{IsClusterPlan};
 ghost use Rattle.gb_merge.specs.Faults.{IsFault};
 ghost use Rattle.gb_merge.specs.Merged.{IsMerged};
 

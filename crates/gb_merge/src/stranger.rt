@@ -4,7 +4,7 @@ ghost use Rattle.gb_types.specs.declared.limits.TheConstants.{NODES};
 ghost use Rattle.gb_merge.specs.Interleaving.{tape_of};
 ghost use Rattle.gb_merge.specs.Faults.{sent_of, all_sent, IsBlocked, IsStranger};
 ghost use Rattle.gb_merge.specs.Woven.{HasStranger};
-ghost use Rattle.gb_node.specs.NodeStep.{node_numbered};
+ghost use Rattle.gb_node.specs.Common.{node_numbered};
 
 use crate::mail::Mail;
 use crate::reader::Reader;

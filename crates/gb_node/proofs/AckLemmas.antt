@@ -1,15 +1,11 @@
 -- Taking an acknowledgement, frame by frame.
-use Rattle.std.proofs.Common.{◌≡◌, ℕ, ◌+◌, ◌≤◌, Bool, true, false, cond, inl, inr, List, [], ◌∷◌, map, length, refl, sym, ap, ◌∙◌, arith}
-use Rattle.std.specs.Prelude.{filter, fold, not}
+use Rattle.gb_types.specs.Common.{◌≡◌, ℕ, ◌+◌, ◌≤◌, Bool, true, false, cond, inl, inr, List, [], ◌∷◌, map, length, refl, sym, ap, ◌∙◌, arith, filter, fold, not, cases_Bool}
 use Rattle.std.specs.declared.vec.Vec.{Vec}
 use Rattle.std.specs.declared.alloc.Global.{Global}
-use Rattle.std.proofs.lemmas.Bool.{cases_Bool}
-use Rattle.gb_types.specs.declared.node.NodeId.{NodeId}
-use Rattle.gb_types.specs.declared.version.Version.{Version}
-use Rattle.gb_table.specs.TableValue.{TableValue}
+use Rattle.gb_types.specs.declared.{node.NodeId.NodeId, version.Version.Version}
+use Rattle.gb_table.specs.Common.{TableValue}
 use Rattle.gb_frame.specs.declared.item.Item.{Item}
-use Rattle.gb_link.specs.Ack.{covers}
-use Rattle.gb_link.specs.SendWindow.{SendWindow, IsWindow, AreAscending, AreRecent, without_first, acknowledged, freed}
+use Rattle.gb_link.specs.Common.{covers, SendWindow, IsWindow, AreAscending, AreRecent, without_first, acknowledged, freed}
 use Rattle.gb_node.specs.Frames.{frame_of, window_of}
 use Rattle.gb_node.specs.NodeStep.{frame_done, without_done}
 use Rattle.gb_node.proofs.FrameLemmas.{Text}

@@ -1,19 +1,10 @@
 -- Which nodes have acknowledged each own message for good: the slot keeps what the past says of acknowledgements.
-use Rattle.std.proofs.Common.{◌≡◌, ℕ, ◌+◌, ◌-◌, ◌<◌, ◌≤◌, List, [], ◌∷◌, ◌++◌, length, get_or, Bool, true, false, ◌&&◌, ◌||◌, ◌⊎◌, inl, inr, refl, sym, ◌∙◌, ap, arith, nat_eq, nat_le, length-append}
-use Rattle.std.specs.Prelude.{if◌then◌else◌}
-use Rattle.std.specs.Ordering.{nat_cmp}
+use Rattle.gb_types.specs.Common.{◌≡◌, ℕ, ◌+◌, ◌-◌, ◌<◌, ◌≤◌, List, [], ◌∷◌, ◌++◌, length, get_or, Bool, true, false, ◌&&◌, ◌||◌, ◌⊎◌, inl, inr, refl, sym, ◌∙◌, ap, arith, nat_eq, nat_le, length-append, if◌then◌else◌, nat_cmp, get_or-append_seam, cases_lt, nat_tests, get_or_append_left, and-false, or-false}
 use Rattle.std.specs.FinSet as set
-use Rattle.std.proofs.Math.Seq.{get_or-append_seam}
-use Rattle.std.proofs.lemmas.Bool.{cases_lt}
-use Rattle.std.proofs.lemmas.Bool.Decides.{nat_tests}
-use Rattle.std.proofs.lemmas.List.{get_or_append_left}
-use Rattle.std.proofs.Math.Bool.{and-false, or-false}
-use Rattle.gb_types.specs.declared.message.MsgId.{MsgId}
-use Rattle.gb_types.specs.declared.node.NodeId.{NodeId}
+use Rattle.gb_types.specs.declared.{message.MsgId.MsgId, node.NodeId.NodeId}
 use Rattle.gb_types.proofs.InsertedLemmas.{contains-inserted}
-use Rattle.gb_rules.specs.History.{said_in}
-use Rattle.gb_slot.specs.Slot.{slot_done, with_acknowledgement}
-use Rattle.gb_slot.specs.SlotState.{SlotState}
+use Rattle.gb_rules.specs.Common.{said_in}
+use Rattle.gb_slot.specs.Common.{slot_done, with_acknowledgement, SlotState}
 use Rattle.gb_slot.proofs.AcknowledgedLemmas.{length-done, with_one}
 use Rattle.gb_node.specs.PastGroups.{Told, is_own_message, acknowledged_with}
 use Rattle.gb_node.proofs.SlotGroups.{AcksAgree, SlotTold}

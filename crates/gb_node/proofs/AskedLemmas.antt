@@ -1,22 +1,10 @@
 -- What a request that was done says of the groups and tenants of a table.
-use Rattle.std.proofs.Common.{◌≡◌, ℕ, List, Option, Some, None, true, false, refl}
-use Rattle.std.specs.Prelude.{Bool, is_some, option_map, All, if◌then◌else◌}
-use Rattle.gb_types.specs.declared.address.Addr.{Addr}
-use Rattle.gb_types.specs.declared.refusal.Refusal.TheVariants.{Denied}
-use Rattle.gb_types.specs.declared.reply.Reply.{Reply}
+use Rattle.gb_types.specs.Common.{◌≡◌, ℕ, List, Option, Some, None, true, false, refl, Bool, is_some, option_map, All, if◌then◌else◌}
+use Rattle.gb_types.specs.declared.{address.Addr.Addr, refusal.Refusal.TheVariants.Denied, reply.Reply.Reply, request.Action.TheVariants.AddTenant, request.Action.TheVariants.Group, request.GroupCommand.TheVariants.Make, request.GroupCommand.TheVariants.Drop, request.Request.Request, spec.Spec.Spec, spec.TenantRow.TenantRow}
 use Rattle.gb_types.specs.declared.reply.Reply.TheVariants.{Done, Said, Log, Refused}
-use Rattle.gb_types.specs.declared.request.Action.TheVariants.{AddTenant, Group}
-use Rattle.gb_types.specs.declared.request.GroupCommand.TheVariants.{Make, Drop}
-use Rattle.gb_types.specs.declared.request.Request.{Request}
-use Rattle.gb_types.specs.declared.spec.Spec.{Spec}
-use Rattle.gb_types.specs.declared.spec.TenantRow.{TenantRow}
-use Rattle.gb_rules.specs.Group.{drop_answer}
-use Rattle.gb_rules.specs.Tenant.{is_over_limits, row_of, reserve_of, reserved, make_answer, by_tenant}
-use Rattle.gb_slot.specs.SlotState.{SlotState}
-use Rattle.gb_table.specs.OneGroup.{group_in, answer_in, CanBeMade}
-use Rattle.gb_table.specs.Rooms.{others_living}
-use Rattle.gb_table.specs.TableValue.{TableValue}
-use Rattle.gb_table.specs.Requests.{is_admitted, admitted_reply, table_reply}
+use Rattle.gb_rules.specs.Common.{drop_answer, is_over_limits, row_of, reserve_of, reserved, make_answer, by_tenant}
+use Rattle.gb_slot.specs.Common.{SlotState}
+use Rattle.gb_table.specs.Common.{group_in, answer_in, CanBeMade, others_living, TableValue, is_admitted, admitted_reply, table_reply}
 use Rattle.gb_node.specs.Past.{if_done}
 use Rattle.gb_table.proofs.RequestLemmas.{not_some}
 use Rattle.gb_table.proofs.TenantLemmas.{tenant_done, make_done, tenant_above}

@@ -1,35 +1,22 @@
 -- What each event changes in a node, as its past will say.
-use Rattle.std.proofs.Common.{◌≡◌, ℕ, false, ◌||◌, List, [], ◌++◌, inl, inr, length, map, refl, sym, ap, subst, ◌∙◌, arith}
-use Rattle.std.specs.Prelude.{◌⊎◌, filter, not, Option}
+use Rattle.gb_types.specs.Common.{◌≡◌, ℕ, false, ◌||◌, List, [], ◌++◌, inl, inr, length, map, refl, sym, ap, subst, ◌∙◌, arith, ◌⊎◌, filter, not, Option, nat_cmp, list_any, append-nil, slice_index_or}
 use Rattle.std.specs.FinSet as set
-use Rattle.std.specs.Ordering.{nat_cmp}
-use Rattle.std.specs.List.{list_any}
-use Rattle.std.proofs.lemmas.List.{append-nil}
-use Rattle.gb_types.specs.declared.address.Addr.{Addr}
-use Rattle.gb_types.specs.declared.refusal.Refusal.TheVariants.{OutOfMemory}
-use Rattle.gb_types.specs.declared.reply.Reply.{Reply}
+use Rattle.gb_types.specs.declared.{address.Addr.Addr, refusal.Refusal.TheVariants.OutOfMemory, reply.Reply.Reply, request.Request.Request, request.Action.Action, request.Action.TheVariants.AddTenant, request.Action.TheVariants.Group}
 use Rattle.gb_types.specs.declared.reply.Reply.TheVariants.{Done, Said, Log, Refused}
-use Rattle.gb_types.specs.declared.request.Request.{Request}
-use Rattle.gb_types.specs.declared.request.Action.{Action}
-use Rattle.gb_types.specs.declared.request.Action.TheVariants.{AddTenant, Group}
 use Rattle.gb_detect.specs.Silence.{Heard}
 use Rattle.gb_detect.specs.Watch.{replay}
-use Rattle.gb_frame.specs.Packet.{Content}
-use Rattle.std.specs.Prelude.{slice_index_or}
-use Rattle.gb_link.specs.SendWindow.{new_window}
-use Rattle.gb_slot.specs.SlotState.{SlotState}
-use Rattle.gb_table.specs.TableValue.{TableValue}
-use Rattle.gb_table.specs.Requests.{request_done, table_did}
+use Rattle.gb_frame.specs.Common.{Content}
+use Rattle.gb_link.specs.Common.{new_window}
+use Rattle.gb_slot.specs.Common.{SlotState}
+use Rattle.gb_table.specs.Common.{TableValue, request_done, table_did}
 use Rattle.gb_node.specs.NodeValue.{NodeValue}
 use Rattle.gb_node.specs.NodeStep.{window_to, receiver_from, node_did, stopped_answer, IsStarved}
 use Rattle.gb_node.specs.Past.{Happened, came, packed_for, numbered, is_ack, is_taken_by, ticks, added, added_by, stops}
 use Rattle.gb_node.specs.PastGroups.{Told, told_after, living_after}
 use Rattle.gb_node.specs.SendLaw.{StarvedSays}
-use Rattle.gb_node.specs.declared.plan.NodePlan.{NodePlan}
-use Rattle.gb_node.specs.declared.answer.NodeAnswer.{NodeAnswer}
+use Rattle.gb_node.specs.declared.{plan.NodePlan.NodePlan, answer.NodeAnswer.NodeAnswer, event.NodeEvent.NodeEvent}
 use Rattle.gb_node.specs.declared.answer.NodeAnswer.TheVariants.{Reply as Replied, Taken, Sent, Ticked, Halted}
 use Rattle.gb_node.specs.declared.answer.Sent.TheVariants.{Packet as SentPacket, Nothing, Refused as SentRefused}
-use Rattle.gb_node.specs.declared.event.NodeEvent.{NodeEvent}
 use Rattle.gb_node.specs.declared.event.NodeEvent.TheVariants.{Request as Asked, Packet as Came, Pack, Again, Ack, Tick, Stop}
 use Rattle.gb_node.proofs.SlotGroups.{group_after}
 use Rattle.gb_node.proofs.PastLemmas.{Moved, filter_all}

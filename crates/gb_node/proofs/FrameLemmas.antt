@@ -1,14 +1,10 @@
 -- Frames as batches of items.
-use Rattle.std.proofs.Common.{◌≡◌, ℕ, Bool, true, false, cond, List, [], ◌∷◌, ◌++◌, map, Option, None, Some, ◌+◌, ◌<◌, ◌≤◌, refl, sym, ap, subst, nat_eq, ◌∙◌, arith}
-use Rattle.std.proofs.lemmas.Option.{same_Some}
-use Rattle.std.specs.Prelude.{MatchOption, option_map}
-use Rattle.std.specs.List.{find, filter, slice_get}
+use Rattle.gb_types.specs.Common.{◌≡◌, ℕ, Bool, true, false, cond, List, [], ◌∷◌, ◌++◌, map, Option, None, Some, ◌+◌, ◌<◌, ◌≤◌, refl, sym, ap, subst, nat_eq, ◌∙◌, arith, same_Some, MatchOption, option_map, find, filter, slice_get}
 use Rattle.std.specs.declared.vec.Vec.{Vec}
 use Rattle.std.specs.declared.alloc.Global.{Global}
-use Rattle.gb_frame.specs.Batch.{batch_in, IsBatch}
+use Rattle.gb_frame.specs.Common.{batch_in, IsBatch}
 use Rattle.gb_types.specs.declared.version.Version.{Version}
-use Rattle.gb_link.specs.SendWindow.{SendWindow, IsWindow, AreAscending, frame_again, without_first, acknowledged, freed}
-use Rattle.gb_link.specs.Ack.{covers}
+use Rattle.gb_link.specs.Common.{SendWindow, IsWindow, AreAscending, frame_again, without_first, acknowledged, freed, covers}
 use Rattle.gb_node.specs.Frames.{frame_of, window_of, AreBatches}
 
 abbrev pub Text : Type 0

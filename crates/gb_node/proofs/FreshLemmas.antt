@@ -1,21 +1,11 @@
 -- A group that was just made: its slot stands for the notices of the other members that are noticed already.
-use Rattle.std.proofs.Common.{◌≡◌, ℕ, zero, suc, ◌+◌, ◌<◌, ◌≤◌, inl, inr, List, [], ◌∷◌, map, refl, sym, ap, subst, ◌∙◌, arith}
-use Rattle.std.specs.Prelude.{◌%◌, Bool, true, false, ◌&&◌, ◌||◌, ◌⊎◌, filter, nat_eq}
+use Rattle.gb_types.specs.Common.{◌≡◌, ℕ, zero, suc, ◌+◌, ◌<◌, ◌≤◌, inl, inr, List, [], ◌∷◌, map, refl, sym, ap, subst, ◌∙◌, arith, ◌%◌, Bool, true, false, ◌&&◌, ◌||◌, ◌⊎◌, filter, nat_eq, nat_cmp, list_any, range_with_len, AllByRecursion, cases_Bool, cases_lt, cases_eq, nat_tests, or-false}
 use Rattle.std.specs.FinSet as set
-use Rattle.std.specs.Ordering.{nat_cmp}
-use Rattle.std.specs.List.{list_any, range_with_len, AllByRecursion}
-use Rattle.std.proofs.lemmas.Bool.{cases_Bool, cases_lt, cases_eq}
-use Rattle.std.proofs.lemmas.Bool.Decides.{nat_tests}
-use Rattle.std.proofs.Math.Bool.{or-false}
-use Rattle.gb_types.specs.declared.limits.TheConstants.{NODES}
-use Rattle.gb_types.specs.declared.node.NodeId.{NodeId}
-use Rattle.gb_types.specs.declared.spec.Spec.{Spec}
+use Rattle.gb_types.specs.declared.{limits.TheConstants.NODES, node.NodeId.NodeId, spec.Spec.Spec}
 use Rattle.gb_types.proofs.BoolLemmas.{or_turned}
 use Rattle.gb_rules.specs.declared.call.GroupCall.TheVariants.{Crashed}
-use Rattle.gb_rules.specs.Group.{is_other}
-use Rattle.gb_slot.specs.Slot.{new_slot}
-use Rattle.gb_slot.specs.StandsFor.{StandsFor}
-use Rattle.gb_slot.specs.HistoryLaws.{FreshStands}
+use Rattle.gb_rules.specs.Common.{is_other}
+use Rattle.gb_slot.specs.Common.{new_slot, StandsFor, FreshStands}
 use Rattle.gb_table.proofs.UnchangedLemmas.{waiting-new}
 use Rattle.gb_node.specs.NodeStep.{node_numbered}
 use Rattle.gb_node.specs.PastGroups.{noticed_members, crashed_onto, told_first}

@@ -1,63 +1,29 @@
 -- What each event changes in each group of a node.
-use Rattle.std.proofs.Common.{◌≡◌, ℕ, inl, inr, List, [], ◌∷◌, ◌++◌, length, map, take, Option, Some, None, Ok, refl, sym, ap, subst, ◌∙◌, ◌≤◌, arith}
-use Rattle.std.specs.Prelude.{Bool, true, false, not, cond, ◌&&◌, filter, fold, nat_eq, nat_lt, if◌then◌else◌}
+use Rattle.gb_types.specs.Common.{◌≡◌, ℕ, inl, inr, List, [], ◌∷◌, ◌++◌, length, map, take, Option, Some, None, Ok, refl, sym, ap, subst, ◌∙◌, ◌≤◌, arith, Bool, true, false, not, cond, ◌&&◌, filter, fold, nat_eq, nat_lt, if◌then◌else◌, nat_cmp, cases_Bool, cases_lt, nat_tests, get_or_past, length-map, length-take, filter-append, fold-append, message_of, rising}
 use Rattle.std.specs.FinSet as set
-use Rattle.std.specs.Ordering.{nat_cmp}
-use Rattle.std.proofs.lemmas.Bool.{cases_Bool, cases_lt}
-use Rattle.std.proofs.lemmas.Bool.Decides.{nat_tests}
-use Rattle.std.proofs.lemmas.List.{get_or_past, length-map, length-take}
-use Rattle.std.proofs.lemmas.List.Elements.{filter-append}
-use Rattle.std.proofs.lemmas.List.Sums.{fold-append}
-use Rattle.gb_types.specs.Entry.{message_of}
-use Rattle.gb_types.specs.Rising.{rising}
-use Rattle.gb_types.specs.declared.address.Addr.{Addr}
-use Rattle.gb_types.specs.declared.limits.TheConstants.{NODES}
-use Rattle.gb_types.specs.declared.node.NodeId.{NodeId}
-use Rattle.gb_types.specs.declared.reply.Reply.{Reply}
+use Rattle.gb_types.specs.declared.{address.Addr.Addr, limits.TheConstants.NODES, node.NodeId.NodeId, reply.Reply.Reply, request.Request.Request, request.Action.Action, request.Action.TheVariants.AddTenant, request.Action.TheVariants.Group, request.GroupCommand.GroupCommand}
 use Rattle.gb_types.specs.declared.reply.Reply.TheVariants.{Done, Said, Log, Refused}
-use Rattle.gb_types.specs.declared.request.Request.{Request}
-use Rattle.gb_types.specs.declared.request.Action.{Action}
-use Rattle.gb_types.specs.declared.request.Action.TheVariants.{AddTenant, Group}
-use Rattle.gb_types.specs.declared.request.GroupCommand.{GroupCommand}
 use Rattle.gb_types.specs.declared.request.GroupCommand.TheVariants.{Make, Open, Shut, Drop, Say, Fetch}
 use Rattle.gb_rules.specs.declared.phase.Phase.TheVariants.{Opened, Shut as Closed}
 use Rattle.gb_frame.specs.declared.item.Item.{Item}
-use Rattle.gb_frame.specs.Packet.{Content}
-use Rattle.gb_frame.specs.Reading.{reading}
-use Rattle.gb_frame.specs.Spelling.{packet_text, IsPacket}
-use Rattle.gb_frame.specs.Laws.{WhatIsWrittenIsRead}
-use Rattle.gb_link.specs.Ack.{covers}
-use Rattle.gb_link.specs.SendWindow.{SendWindow, new_window, has_room}
+use Rattle.gb_frame.specs.Common.{Content, reading, packet_text, IsPacket, WhatIsWrittenIsRead, address_of, entry_of, names, items_for, item_for}
+use Rattle.gb_link.specs.Common.{covers, SendWindow, new_window, has_room, Received, admission}
 use Rattle.gb_detect.specs.Watch.{Watch, due}
-use Rattle.gb_link.specs.Received.{Received, admission}
 use Rattle.gb_link.specs.declared.receiver.Admission.{Admission}
 use Rattle.gb_link.specs.declared.receiver.Admission.TheVariants.{First, Seen, Outside}
-use Rattle.gb_slot.specs.SlotState.{SlotState}
-use Rattle.gb_slot.specs.Slot.{new_slot, slot_moved, slot_said, slot_noticed, slot_done, slot_took}
-use Rattle.gb_table.specs.SlotsValue.{AreApart}
-use Rattle.gb_frame.specs.Items.{address_of, entry_of, names, items_for, item_for}
-use Rattle.gb_table.specs.AtAddress.{item_came}
-use Rattle.gb_table.specs.GroupsValue.{GroupsValue}
-use Rattle.gb_rules.specs.Address.{is_addr}
-use Rattle.gb_rules.specs.Lifetime.{stepped, or_added, passed, where_so}
-use Rattle.gb_rules.specs.Room.{is_reached_by}
+use Rattle.gb_slot.specs.Common.{SlotState, new_slot, slot_moved, slot_said, slot_noticed, slot_done, slot_took}
+use Rattle.gb_table.specs.Common.{AreApart, item_came, GroupsValue, group_in, waiting_in, came_for, with_rows, AreInOrder, EachGroup, TableValue, table_noticed, table_packed, admitted_reply, groups_done, groups_said, request_done, table_did, table_reply}
+use Rattle.gb_rules.specs.Common.{is_addr, stepped, or_added, passed, where_so, is_reached_by}
 use Rattle.gb_rules.proofs.AddressLemmas.{addr_is}
-use Rattle.gb_table.specs.OneGroup.{group_in, waiting_in, came_for, with_rows, AreInOrder, EachGroup}
-use Rattle.gb_table.specs.TableValue.{TableValue, table_noticed, table_packed}
-use Rattle.gb_table.specs.Requests.{admitted_reply, groups_done, groups_said, request_done, table_did, table_reply}
 use Rattle.gb_node.specs.NodeValue.{NodeValue}
 use Rattle.gb_node.specs.NodeStep.{node_numbered, window_to, receiver_from, is_reached, content_to, batch_to, room_to, unless_empty, next_batch, sent_batch, newly_done, took_ack, heard, good_of, node_took, node_ticked, node_did, item_done, frame_done, item_comes, items_come, fate, kind_of, frame_comes, notice_each}
 use Rattle.gb_node.proofs.PacketLemmas.{read_one}
 use Rattle.gb_node.specs.Past.{Happened, read, packed_for, frames_to, numbered, is_acked, is_first}
 use Rattle.gb_node.specs.PastGroups.{freed_by, items_freed}
 use Rattle.gb_node.proofs.SlotGroups.{command_slot, done_slot, said_slot, asked_for, done_for, taken_for, packed_from, noticed_for, group_after, StandsForPast}
-use Rattle.gb_node.specs.declared.plan.NodePlan.{NodePlan}
-use Rattle.gb_node.specs.declared.answer.NodeAnswer.{NodeAnswer}
+use Rattle.gb_node.specs.declared.{plan.NodePlan.NodePlan, answer.NodeAnswer.NodeAnswer, answer.PacketAnswer.TheVariants.Good as TakenGood, answer.Ticked.TheVariants.Noticed, event.NodeEvent.NodeEvent}
 use Rattle.gb_node.specs.declared.answer.NodeAnswer.TheVariants.{Reply as Replied, Taken, Sent, Ticked, Halted}
-use Rattle.gb_node.specs.declared.answer.PacketAnswer.TheVariants.{Good as TakenGood}
 use Rattle.gb_node.specs.declared.answer.Sent.TheVariants.{Packet as SentPacket, Nothing, Refused as SentRefused}
-use Rattle.gb_node.specs.declared.answer.Ticked.TheVariants.{Noticed}
-use Rattle.gb_node.specs.declared.event.NodeEvent.{NodeEvent}
 use Rattle.gb_node.specs.declared.event.NodeEvent.TheVariants.{Request as Asked, Packet as Came, Pack, Again, Ack, Tick, Stop}
 use Rattle.gb_node.proofs.LinkLemmas.{told, keeps_all, keeps_frame}
 use Rattle.gb_node.proofs.AskedLemmas.{AreWithinLimits, can_make, done_is}

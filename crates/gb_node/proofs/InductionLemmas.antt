@@ -1,39 +1,14 @@
 -- Every node is what its past says: the induction over pasts.
-use Rattle.std.proofs.Common.{◌≡◌, ℕ, inl, inr, List, [], ◌∷◌, length, arith, Option, Some, None, Result, Ok, Err, refl, sym, ap, subst, ◌∙◌}
-use Rattle.std.specs.Prelude.{Bool, true, ◌⊎◌, ◌≤◌, false, not, ◌&&◌, nat_eq, nat_lt, fold, IfSome, option_map, if◌then◌else◌}
-use Rattle.std.proofs.lemmas.Bool.Decides.{nat_tests}
+use Rattle.gb_types.specs.Common.{◌≡◌, ℕ, inl, inr, List, [], ◌∷◌, length, arith, Option, Some, None, Result, Ok, Err, refl, sym, ap, subst, ◌∙◌, Bool, true, ◌⊎◌, ◌≤◌, false, not, ◌&&◌, nat_eq, nat_lt, fold, IfSome, option_map, if◌then◌else◌, nat_tests, nat_cmp, cases_Bool, length-set, get_or-replicate, All-nil, All-cons, All-append, rising}
 use Rattle.std.specs.FinSet as set
-use Rattle.std.specs.Ordering.{nat_cmp}
-use Rattle.std.proofs.lemmas.Bool.{cases_Bool}
-use Rattle.std.proofs.lemmas.List.{length-set, get_or-replicate}
-use Rattle.std.proofs.lemmas.List.Elements.{All-nil, All-cons, All-append}
-use Rattle.gb_types.specs.Rising.{rising}
-use Rattle.gb_types.specs.declared.address.Addr.{Addr}
-use Rattle.gb_types.specs.declared.limits.TheConstants.{NODES}
-use Rattle.gb_types.specs.declared.node.NodeId.{NodeId}
-use Rattle.gb_types.specs.declared.refusal.Refusal.TheVariants.{Stopped, OutOfMemory}
-use Rattle.gb_types.specs.declared.reply.Reply.{Reply}
-use Rattle.gb_types.specs.declared.reply.Reply.TheVariants.{Done, Refused}
-use Rattle.gb_types.specs.declared.request.Request.{Request}
-use Rattle.gb_types.specs.declared.request.Action.{Action}
-use Rattle.gb_types.specs.declared.request.Action.TheVariants.{AddTenant, Group}
-use Rattle.gb_types.specs.declared.spec.TenantRow.{TenantRow}
-use Rattle.gb_rules.specs.Tenant.{is_over_limits}
-use Rattle.gb_frame.specs.declared.fault.PacketFault.{PacketFault}
-use Rattle.gb_frame.specs.declared.fault.PacketFault.TheVariants.{Node}
-use Rattle.gb_frame.specs.declared.item.Item.{Item}
-use Rattle.gb_frame.specs.Packet.{Content}
-use Rattle.gb_frame.specs.Reading.{reading}
-use Rattle.gb_frame.specs.Spelling.{packet_text, IsPacket}
-use Rattle.gb_frame.specs.Laws.{WhatIsWrittenIsRead}
-use Rattle.gb_link.specs.SendWindow.{SendWindow, new_window, pushed}
+use Rattle.gb_types.specs.declared.{address.Addr.Addr, limits.TheConstants.NODES, node.NodeId.NodeId, refusal.Refusal.TheVariants.Stopped, refusal.Refusal.TheVariants.OutOfMemory, reply.Reply.Reply, reply.Reply.TheVariants.Done, reply.Reply.TheVariants.Refused, request.Request.Request, request.Action.Action, request.Action.TheVariants.AddTenant, request.Action.TheVariants.Group, spec.TenantRow.TenantRow}
+use Rattle.gb_rules.specs.Common.{is_over_limits}
+use Rattle.gb_frame.specs.declared.{fault.PacketFault.PacketFault, fault.PacketFault.TheVariants.Node, item.Item.Item}
+use Rattle.gb_frame.specs.Common.{Content, reading, packet_text, IsPacket, WhatIsWrittenIsRead, items_for}
+use Rattle.gb_link.specs.Common.{SendWindow, new_window, pushed}
 use Rattle.gb_detect.specs.Watch.{due}
-use Rattle.gb_slot.specs.Slot.{shown}
-use Rattle.gb_frame.specs.Items.{items_for}
-use Rattle.gb_table.specs.GroupsValue.{no_groups}
-use Rattle.gb_table.specs.OneGroup.{group_in, waiting_in, AreInOrder, EachGroup, EachCount, StayInOrder}
-use Rattle.gb_table.specs.Rooms.{others_living}
-use Rattle.gb_table.specs.Requests.{admitted_reply, table_reply}
+use Rattle.gb_slot.specs.Common.{shown}
+use Rattle.gb_table.specs.Common.{no_groups, group_in, waiting_in, AreInOrder, EachGroup, EachCount, StayInOrder, others_living, admitted_reply, table_reply}
 use Rattle.gb_detect.specs.Silence.{is_noticed}
 use Rattle.gb_detect.specs.Laws.{NoticedByCalls}
 use Rattle.gb_node.specs.NodeValue.{NodeValue, new_node, IsNodePlan}
@@ -43,12 +18,8 @@ use Rattle.gb_node.specs.Past.{Happened, ComesTo, read, frames_to, numbered, is_
 use Rattle.gb_node.specs.PastGroups.{noticed_after, taken_told, packed_told, told_after, told_of, living_after, living_of}
 use Rattle.gb_node.specs.PastLaw.{IsOfPast, PastsSay}
 use Rattle.gb_node.proofs.SlotGroups.{taken_for, packed_from, group_after, group_of, IsTold, StandsForPast}
-use Rattle.gb_node.specs.declared.plan.NodePlan.{NodePlan}
-use Rattle.gb_node.specs.declared.answer.NodeAnswer.{NodeAnswer}
+use Rattle.gb_node.specs.declared.{plan.NodePlan.NodePlan, answer.NodeAnswer.NodeAnswer, answer.PacketAnswer.TheVariants.Fault, answer.Sent.TheVariants.Refused as SentRefused, event.NodeEvent.NodeEvent}
 use Rattle.gb_node.specs.declared.answer.NodeAnswer.TheVariants.{Reply as Replied, Taken, Sent}
-use Rattle.gb_node.specs.declared.answer.PacketAnswer.TheVariants.{Fault}
-use Rattle.gb_node.specs.declared.answer.Sent.TheVariants.{Refused as SentRefused}
-use Rattle.gb_node.specs.declared.event.NodeEvent.{NodeEvent}
 use Rattle.gb_node.specs.declared.event.NodeEvent.TheVariants.{Request as Asked, Packet as Came, Pack, Again, Ack, Tick, Stop}
 use Rattle.gb_node.proofs.PlanLemmas.{few_nodes}
 use Rattle.gb_node.proofs.PastLemmas.{Moved, moved_says}

@@ -1,11 +1,7 @@
 -- Packets without a frame.
-use Rattle.std.proofs.Common.{◌≡◌, ℕ, zero, suc, List, [], length, None, IfSome, arith}
-use Rattle.std.specs.Prelude.{replicate, slice_index_or}
-use Rattle.std.proofs.lemmas.List.{length-append}
-use Rattle.gb_frame.specs.declared.limits.TheConstants.{SHORTEST}
-use Rattle.gb_frame.specs.declared.packet.Head.{Head}
-use Rattle.gb_frame.specs.Packet.{packet_of}
-use Rattle.gb_frame.specs.Spelling.{tagged_text, header_text, tag_of, packet_text}
+use Rattle.gb_types.specs.Common.{◌≡◌, ℕ, zero, suc, List, [], length, None, IfSome, arith, replicate, slice_index_or, length-append}
+use Rattle.gb_frame.specs.declared.{limits.TheConstants.SHORTEST, packet.Head.Head}
+use Rattle.gb_frame.specs.Common.{packet_of, tagged_text, header_text, tag_of, packet_text}
 use Rattle.gb_frame.proofs.TextLemmas.{length-tag_of}
 use Rattle.gb_node.specs.KeptAcks.{IsKept}
 

@@ -1,10 +1,7 @@
 -- Bytes that are known to be a packet for a node.
-use Rattle.std.proofs.Common.{◌≡◌, ℕ, Bool, true, false, List, Ok, Err, refl, sym, ap, ◌∙◌}
-use Rattle.std.specs.Prelude.{Result, is_ok, if◌then◌else◌}
-use Rattle.gb_frame.specs.declared.fault.PacketFault.{PacketFault}
-use Rattle.gb_frame.specs.declared.fault.PacketFault.TheVariants.{Node}
-use Rattle.gb_frame.specs.Packet.{Content}
-use Rattle.gb_frame.specs.Reading.{reading}
+use Rattle.gb_types.specs.Common.{◌≡◌, ℕ, Bool, true, false, List, Ok, Err, refl, sym, ap, ◌∙◌, Result, is_ok, if◌then◌else◌}
+use Rattle.gb_frame.specs.declared.{fault.PacketFault.PacketFault, fault.PacketFault.TheVariants.Node}
+use Rattle.gb_frame.specs.Common.{Content, reading}
 use Rattle.gb_node.specs.NodeValue.{NodeValue}
 use Rattle.gb_node.specs.NodeStep.{is_here, if_here, read_at}
 

@@ -1,38 +1,22 @@
 -- What a packet that is taken, a batch that is packed and a tick change in a node, as its past will say.
-use Rattle.std.proofs.Common.{◌≡◌, ◌≢◌, ℕ, ◌+◌, ◌<◌, true, false, ◌&&◌, ◌||◌, ◌⊎◌, inl, inr, List, [], ◌∷◌, ◌++◌, length, map, Some, Ok, refl, sym, ap, ◌∙◌, arith, nat_eq, nat_lt, get_or}
-use Rattle.std.specs.Prelude.{filter, fold, not, slice_set}
+use Rattle.gb_types.specs.Common.{◌≡◌, ◌≢◌, ℕ, ◌+◌, ◌<◌, true, false, ◌&&◌, ◌||◌, ◌⊎◌, inl, inr, List, [], ◌∷◌, ◌++◌, length, map, Some, Ok, refl, sym, ap, ◌∙◌, arith, nat_eq, nat_lt, get_or, filter, fold, not, slice_set, list_any, cases_Bool, eqb_tells, append-nil, get_or-set_same, get_or-set_other, and-false, or-false, rising}
 use Rattle.std.specs.FinSet as set
-use Rattle.std.specs.List.{list_any}
-use Rattle.std.proofs.lemmas.Bool.{cases_Bool}
-use Rattle.std.proofs.lemmas.Bool.Decides.{eqb_tells}
-use Rattle.std.proofs.lemmas.List.{append-nil, get_or-set_same, get_or-set_other}
-use Rattle.std.proofs.Math.Bool.{and-false, or-false}
-use Rattle.gb_types.specs.declared.limits.TheConstants.{NODES}
-use Rattle.gb_types.specs.declared.node.NodeId.{NodeId}
-use Rattle.gb_types.specs.Rising.{rising}
+use Rattle.gb_types.specs.declared.{limits.TheConstants.NODES, node.NodeId.NodeId}
 use Rattle.gb_detect.specs.Silence.{Heard}
 use Rattle.gb_detect.specs.Watch.{due, replay}
 use Rattle.gb_frame.specs.declared.item.Item.{Item}
-use Rattle.gb_frame.specs.Packet.{Content}
-use Rattle.gb_frame.specs.Reading.{reading}
-use Rattle.gb_frame.specs.Spelling.{packet_text, IsPacket}
-use Rattle.gb_frame.specs.Laws.{WhatIsWrittenIsRead}
+use Rattle.gb_frame.specs.Common.{Content, reading, packet_text, IsPacket, WhatIsWrittenIsRead}
 use Rattle.gb_types.proofs.InsertedLemmas.{contains-inserted}
-use Rattle.gb_link.specs.Ack.{covers}
-use Rattle.gb_link.specs.Received.{Received, admission, taken}
-use Rattle.gb_link.specs.SendWindow.{SendWindow, new_window, pushed}
+use Rattle.gb_link.specs.Common.{covers, Received, admission, taken, SendWindow, new_window, pushed}
 use Rattle.gb_link.specs.declared.receiver.Admission.{Admission}
 use Rattle.gb_link.specs.declared.receiver.Admission.TheVariants.{First, Seen, Outside}
-use Rattle.gb_table.specs.TableValue.{TableValue, table_noticed}
+use Rattle.gb_table.specs.Common.{TableValue, table_noticed}
 use Rattle.gb_node.specs.NodeValue.{NodeValue}
 use Rattle.gb_node.specs.NodeStep.{window_to, receiver_from, node_numbered, content_to, sent_batch, without_done, newly_done, item_done, frame_done, item_comes, items_come, frame_comes, receives, fate, kind_of, took_ack, heard, node_took, node_ticked, good_of, notice_each}
 use Rattle.gb_node.proofs.PacketLemmas.{read_one}
 use Rattle.gb_node.specs.Past.{read, packed_for, numbered, is_ack, is_frame, is_first}
 use Rattle.gb_node.specs.declared.answer.NodeAnswer.TheVariants.{Taken, Sent, Ticked, Halted}
-use Rattle.gb_node.specs.declared.answer.PacketAnswer.TheVariants.{Good as TakenGood}
-use Rattle.gb_node.specs.declared.answer.Sent.TheVariants.{Packet as SentPacket}
-use Rattle.gb_node.specs.declared.answer.Ticked.TheVariants.{Noticed}
-use Rattle.gb_node.specs.declared.answer.Halted.TheVariants.{Done as HaltDone}
+use Rattle.gb_node.specs.declared.{answer.PacketAnswer.TheVariants.Good as TakenGood, answer.Sent.TheVariants.Packet as SentPacket, answer.Ticked.TheVariants.Noticed, answer.Halted.TheVariants.Done as HaltDone}
 use Rattle.gb_node.specs.declared.event.NodeEvent.TheVariants.{Packet as Came, Pack, Tick, Stop}
 use Rattle.gb_node.proofs.PastLemmas.{Moved, filter_all}
 use Rattle.gb_node.proofs.EventLemmas.{still_moved}

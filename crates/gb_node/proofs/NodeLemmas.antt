@@ -1,10 +1,8 @@
 -- The node's packets.
-use Rattle.std.proofs.Common.{◌≡◌, ℕ, List, Result, Ok, Err, ap, ◌∙◌}
-use Rattle.std.specs.Prelude.{IfOk}
+use Rattle.gb_types.specs.Common.{◌≡◌, ℕ, List, Result, Ok, Err, ap, ◌∙◌, IfOk}
 use Rattle.gb_types.specs.declared.node.NodeId.{NodeId}
 use Rattle.gb_frame.specs.declared.item.Item.{Item}
-use Rattle.gb_frame.specs.Packet.{Content}
-use Rattle.gb_frame.specs.Spelling.{packet_text}
+use Rattle.gb_frame.specs.Common.{Content, packet_text}
 use Rattle.gb_node.specs.NodeValue.{NodeValue}
 use Rattle.gb_node.specs.NodeStep.{content_to}
 

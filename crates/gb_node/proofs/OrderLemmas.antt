@@ -1,38 +1,21 @@
 -- The groups of a node stay in order, and how many of a room live changes only where one is made or dropped.
-use Rattle.std.proofs.Common.{◌≡◌, ℕ, inl, inr, List, [], ◌∷◌, refl, ap, ◌∙◌}
-use Rattle.std.specs.Prelude.{◌&&◌, not, fold, nat_eq, nat_lt}
+use Rattle.gb_types.specs.Common.{◌≡◌, ℕ, inl, inr, List, [], ◌∷◌, refl, ap, ◌∙◌, ◌&&◌, not, fold, nat_eq, nat_lt, nat_cmp, cases_Bool, message_of}
 use Rattle.std.specs.FinSet as set
-use Rattle.std.specs.Ordering.{nat_cmp}
-use Rattle.std.proofs.lemmas.Bool.{cases_Bool}
-use Rattle.gb_types.specs.Entry.{message_of}
-use Rattle.gb_types.specs.declared.address.Addr.{Addr}
-use Rattle.gb_types.specs.declared.limits.TheConstants.{NODES}
-use Rattle.gb_types.specs.declared.node.NodeId.{NodeId}
-use Rattle.gb_types.specs.declared.reply.Reply.{Reply}
+use Rattle.gb_types.specs.declared.{address.Addr.Addr, limits.TheConstants.NODES, node.NodeId.NodeId, reply.Reply.Reply, request.Request.Request, request.Action.Action, request.Action.TheVariants.AddTenant, request.Action.TheVariants.Group, request.GroupCommand.GroupCommand}
 use Rattle.gb_types.specs.declared.reply.Reply.TheVariants.{Done, Said, Log, Refused}
-use Rattle.gb_types.specs.declared.request.Request.{Request}
-use Rattle.gb_types.specs.declared.request.Action.{Action}
-use Rattle.gb_types.specs.declared.request.Action.TheVariants.{AddTenant, Group}
-use Rattle.gb_types.specs.declared.request.GroupCommand.{GroupCommand}
 use Rattle.gb_types.specs.declared.request.GroupCommand.TheVariants.{Make, Open, Shut, Drop, Say, Fetch}
-use Rattle.gb_rules.specs.Group.{is_too_long}
+use Rattle.gb_rules.specs.Common.{is_too_long}
 use Rattle.gb_rules.specs.declared.phase.Phase.TheVariants.{Opened, Shut as Closed}
 use Rattle.gb_frame.specs.declared.item.Item.{Item}
-use Rattle.gb_frame.specs.Items.{address_of, entry_of}
-use Rattle.gb_link.specs.Received.{Received, admission}
+use Rattle.gb_frame.specs.Common.{address_of, entry_of}
+use Rattle.gb_link.specs.Common.{Received, admission}
 use Rattle.gb_link.specs.declared.receiver.Admission.{Admission}
 use Rattle.gb_link.specs.declared.receiver.Admission.TheVariants.{First, Seen, Outside}
-use Rattle.gb_slot.specs.Slot.{new_slot, slot_moved, slot_said, slot_noticed, slot_came, slot_done}
-use Rattle.gb_table.specs.AtAddress.{item_came}
-use Rattle.gb_table.specs.OneGroup.{AreInOrder, StayInOrder, EachCount}
-use Rattle.gb_table.specs.GroupsValue.{GroupsValue}
-use Rattle.gb_table.specs.Rooms.{others_living}
-use Rattle.gb_table.specs.TableValue.{TableValue, table_noticed}
-use Rattle.gb_table.specs.Requests.{admitted_reply, groups_done, groups_said, request_done, table_did, table_reply}
+use Rattle.gb_slot.specs.Common.{new_slot, slot_moved, slot_said, slot_noticed, slot_came, slot_done}
+use Rattle.gb_table.specs.Common.{item_came, AreInOrder, StayInOrder, EachCount, GroupsValue, others_living, TableValue, table_noticed, admitted_reply, groups_done, groups_said, request_done, table_did, table_reply}
 use Rattle.gb_node.specs.NodeStep.{node_numbered, item_done, frame_done, item_comes, items_come, frame_comes, notice_each}
 use Rattle.gb_node.specs.PastGroups.{living_after, living_done}
-use Rattle.gb_node.specs.declared.answer.NodeAnswer.TheVariants.{Reply as Replied}
-use Rattle.gb_node.specs.declared.event.NodeEvent.TheVariants.{Request as Asked}
+use Rattle.gb_node.specs.declared.{answer.NodeAnswer.TheVariants.Reply as Replied, event.NodeEvent.TheVariants.Request as Asked}
 use Rattle.gb_node.proofs.AskedLemmas.{AreWithinLimits, can_make, done_is, dropped_there}
 
 -- No two groups have one address, and each room has its places.

@@ -1,21 +1,15 @@
 -- A batch that is written is a frame.
-use Rattle.std.proofs.lemmas.Bool.Decides.{nat_tests}
-use Rattle.std.specs.Prelude.{find, option_map}
+use Rattle.gb_types.specs.Common.{nat_tests, find, option_map, ◌≡◌, true, false, Some, nat_eq, ℕ, ◌+◌, ◌<◌, ◌≤◌, List, [], ◌∷◌, ◌++◌, length, refl, sym, ap, subst, ◌∙◌, arith, All, sum_by, sum_by-cons}
 use Rattle.std.specs.declared.vec.Vec.{Vec}
 use Rattle.std.specs.declared.alloc.Global.{Global}
 use Rattle.gb_node.specs.Frames.{frame_of, window_of}
 use Rattle.gb_node.proofs.FrameLemmas.{again_frame}
-use Rattle.gb_link.specs.SendWindow.{SendWindow, IsWindow, AreRecent, pushed, frame_again}
-use Rattle.std.proofs.Common.{◌≡◌, true, false, Some, nat_eq, ℕ, ◌+◌, ◌<◌, ◌≤◌, List, [], ◌∷◌, ◌++◌, length, refl, sym, ap, subst, ◌∙◌, arith, All}
-use Rattle.std.specs.Prelude.{sum_by}
-use Rattle.std.proofs.lemmas.List.Sums.{sum_by-cons}
-use Rattle.gb_frame.specs.declared.item.Item.{Item}
-use Rattle.gb_frame.specs.declared.limits.TheConstants.{ROOM}
+use Rattle.gb_link.specs.Common.{SendWindow, IsWindow, AreRecent, pushed, frame_again}
+use Rattle.gb_frame.specs.declared.{item.Item.Item, limits.TheConstants.ROOM}
 use Rattle.gb_types.specs.declared.version.Version.{Version}
 use Rattle.gb_types.proofs.VersionLemmas.{header_least}
-use Rattle.gb_frame.specs.Batch.{batch_in, IsBatch, TextsTellItems}
-use Rattle.gb_frame.specs.Spelling.{items_text, IsItem, AreTexts}
-use Rattle.gb_table.specs.Packing.{Visit, size}
+use Rattle.gb_frame.specs.Common.{batch_in, IsBatch, TextsTellItems, items_text, IsItem, AreTexts}
+use Rattle.gb_table.specs.Common.{Visit, size}
 
 -- some items have some bytes
 pub some_bytes : (version : Version) (vs : List Visit) → 0 < length vs → 0 < sum_by (size version) vs

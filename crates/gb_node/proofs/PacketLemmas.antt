@@ -1,9 +1,7 @@
 -- The packet that bytes are under a key, and what decoding reads from them.
-use Rattle.std.proofs.Common.{◌≡◌, ℕ, List, [], ◌∷◌, Option, Some, None, Ok, Err, refl, ap, ◌∙◌}
-use Rattle.std.specs.Prelude.{Result, is_none, if◌then◌else◌}
+use Rattle.gb_types.specs.Common.{◌≡◌, ℕ, List, [], ◌∷◌, Option, Some, None, Ok, Err, refl, ap, ◌∙◌, Result, is_none, if◌then◌else◌}
 use Rattle.gb_frame.specs.declared.fault.PacketFault.{PacketFault}
-use Rattle.gb_frame.specs.Packet.{Content}
-use Rattle.gb_frame.specs.Reading.{reading, unless, fault_in, content_in}
+use Rattle.gb_frame.specs.Common.{Content, reading, unless, fault_in, content_in}
 use Rattle.gb_frame.proofs.PacketLemmas.{no_fault}
 use Rattle.gb_node.specs.Past.{read}
 

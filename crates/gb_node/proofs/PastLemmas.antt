@@ -1,27 +1,18 @@
 -- What a step adds to a past, and what it changes in the node: the induction over pasts.
-use Rattle.std.proofs.Common.{◌≡◌, ℕ, suc, ◌+◌, ◌<◌, ◌≤◌, Bool, true, false, ◌&&◌, ◌||◌, inl, inr, List, [], ◌∷◌, ◌++◌, length, map, refl, sym, ap, ◌∙◌, arith, nat_le, length-append}
-use Rattle.std.specs.Prelude.{filter, not}
+use Rattle.gb_types.specs.Common.{◌≡◌, ℕ, suc, ◌+◌, ◌<◌, ◌≤◌, Bool, true, false, ◌&&◌, ◌||◌, inl, inr, List, [], ◌∷◌, ◌++◌, length, map, refl, sym, ap, ◌∙◌, arith, nat_le, length-append, filter, not, list_any, cases_Bool, nat_tests, filter-append}
 use Rattle.std.specs.FinSet as set
-use Rattle.std.specs.List.{list_any}
-use Rattle.std.proofs.lemmas.Bool.{cases_Bool}
-use Rattle.std.proofs.lemmas.Bool.Decides.{nat_tests}
-use Rattle.std.proofs.lemmas.List.Elements.{filter-append}
-use Rattle.gb_types.specs.declared.address.Addr.{Addr}
-use Rattle.gb_types.specs.declared.node.NodeId.{NodeId}
+use Rattle.gb_types.specs.declared.{address.Addr.Addr, node.NodeId.NodeId}
 use Rattle.gb_detect.specs.Silence.{Call, Heard}
 use Rattle.gb_detect.specs.Watch.{Watch, start, replay, after}
 use Rattle.gb_frame.specs.declared.item.Item.{Item}
-use Rattle.gb_frame.specs.Packet.{Content}
-use Rattle.gb_table.specs.OneGroup.{group_in}
-use Rattle.gb_table.specs.Rooms.{others_living}
+use Rattle.gb_frame.specs.Common.{Content}
+use Rattle.gb_table.specs.Common.{group_in, others_living}
 use Rattle.gb_node.specs.NodeValue.{NodeValue}
 use Rattle.gb_node.specs.NodeStep.{window_to, receiver_from}
 use Rattle.gb_node.specs.Past.{Happened, came, packed_for, frames_to, numbered, is_ack, is_acked, is_taken_by, is_taken, ticks, watched, added, tenants_in, stops, is_stopped}
 use Rattle.gb_node.specs.PastGroups.{told_after, told_of, living_after, living_of}
 use Rattle.gb_node.proofs.SlotGroups.{group_after, group_of, IsTold, StandsForPast}
-use Rattle.gb_node.specs.declared.plan.NodePlan.{NodePlan}
-use Rattle.gb_node.specs.declared.answer.NodeAnswer.{NodeAnswer}
-use Rattle.gb_node.specs.declared.event.NodeEvent.{NodeEvent}
+use Rattle.gb_node.specs.declared.{plan.NodePlan.NodePlan, answer.NodeAnswer.NodeAnswer, event.NodeEvent.NodeEvent}
 
 -- Lists.
 

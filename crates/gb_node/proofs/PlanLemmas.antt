@@ -1,6 +1,5 @@
 -- A node is started in a cluster of at most NODES nodes.
-use Rattle.std.proofs.Common.{◌≤◌, arith}
-use Rattle.gb_types.specs.Version.{limits_are_within}
+use Rattle.gb_types.specs.Common.{◌≤◌, arith, limits_are_within}
 use Rattle.gb_types.specs.declared.limits.TheConstants.{NODES}
 use Rattle.gb_node.specs.NodeValue.{IsNodePlan}
 use Rattle.gb_node.specs.declared.plan.NodePlan.{NodePlan}

@@ -1,50 +1,24 @@
 -- Events that only read, and how much memory the answers to other events hold.
-use Rattle.std.proofs.Common.{◌≡◌, ℕ, ◌≤◌, ◌⊎◌, inl, inr, Bool, true, false, List, length, Option, Some, None, refl, sym, ap, subst, ◌∙◌, arith}
-use Rattle.std.specs.Prelude.{◌+◌, not, is_some, nat_lt, nat_le, option_map, if◌then◌else◌, IfSome, ◌||◌}
+use Rattle.gb_types.specs.Common.{◌≡◌, ℕ, ◌≤◌, ◌⊎◌, inl, inr, Bool, true, false, List, length, Option, Some, None, refl, sym, ap, subst, ◌∙◌, arith, ◌+◌, not, is_some, nat_lt, nat_le, option_map, if◌then◌else◌, IfSome, ◌||◌, nat_cmp, true≢false, false≢true, length-append, limits_of}
 use Rattle.std.specs.FinSet as set
-use Rattle.std.specs.Ordering.{nat_cmp}
-use Rattle.std.proofs.lemmas.Bool.{true≢false, false≢true}
-use Rattle.std.proofs.lemmas.List.{length-append}
-use Rattle.gb_types.specs.declared.address.Addr.{Addr}
-use Rattle.gb_types.specs.declared.entry.Entry.{Entry}
-use Rattle.gb_types.specs.Version.{limits_of}
-use Rattle.gb_types.specs.declared.version.Version.{Version}
-use Rattle.gb_types.specs.declared.node.NodeId.{NodeId}
+use Rattle.gb_types.specs.declared.{address.Addr.Addr, entry.Entry.Entry, version.Version.Version, node.NodeId.NodeId, reply.Reply.Reply, request.Request.Request, request.Action.Action, request.Action.TheVariants.AddTenant, request.Action.TheVariants.Group, spec.Spec.Spec, spec.TenantRow.TenantRow, new_message.NewMessage.NewMessage}
 use Rattle.gb_types.specs.declared.refusal.Refusal.TheVariants.{BadPlace, Denied, NoGroup, Spent, BadMembers, OverReserve, TooLong, Budget, Bytes, Window, NoRoom, TenantThere}
-use Rattle.gb_types.specs.declared.reply.Reply.{Reply}
 use Rattle.gb_types.specs.declared.reply.Reply.TheVariants.{Done, Said, Log, Refused}
-use Rattle.gb_types.specs.declared.request.Request.{Request}
-use Rattle.gb_types.specs.declared.request.Action.{Action}
-use Rattle.gb_types.specs.declared.request.Action.TheVariants.{AddTenant, Group}
 use Rattle.gb_types.specs.declared.request.GroupCommand.TheVariants.{Make, Open, Shut, Drop, Say, Fetch}
-use Rattle.gb_types.specs.declared.spec.Spec.{Spec}
-use Rattle.gb_types.specs.declared.spec.TenantRow.{TenantRow}
-use Rattle.gb_frame.specs.Packet.{Content}
+use Rattle.gb_frame.specs.Common.{Content, tagged_text, header_text, tag_of, packet_text, IsPacket}
 use Rattle.gb_frame.specs.declared.item.Item.{Item}
 use Rattle.gb_frame.proofs.VersionLemmas.{shortest_fits}
 use Rattle.gb_frame.proofs.TextLemmas.{length-tag_of}
-use Rattle.gb_frame.specs.Spelling.{tagged_text, header_text, tag_of, packet_text, IsPacket}
-use Rattle.gb_rules.specs.Group.{is_out_of_turn, Shown, is_too_long, open_in, open_answer, shut_in, shut_answer, drop_answer, say_answer}
-use Rattle.gb_rules.specs.Room.{can_name}
-use Rattle.gb_rules.specs.declared.room.TheConstants.{GENERATIONS}
-use Rattle.gb_rules.specs.Tenant.{is_over_limits, is_bad, is_over, tenant_answer, make_answer, by_tenant}
-use Rattle.gb_rules.specs.declared.phase.Phase.{Phase}
+use Rattle.gb_rules.specs.Common.{is_out_of_turn, Shown, is_too_long, open_in, open_answer, shut_in, shut_answer, drop_answer, say_answer, can_name, is_over_limits, is_bad, is_over, tenant_answer, make_answer, by_tenant}
+use Rattle.gb_rules.specs.declared.{room.TheConstants.GENERATIONS, phase.Phase.Phase, reserve.Reserve.Reserve, usage.Usage.Usage}
 use Rattle.gb_rules.specs.declared.phase.Phase.TheVariants.{Made, Opened, Shut as Closed, Gone}
-use Rattle.gb_rules.specs.declared.reserve.Reserve.{Reserve}
-use Rattle.gb_rules.specs.declared.usage.Usage.{Usage}
-use Rattle.gb_slot.specs.SlotState.{SlotState}
-use Rattle.gb_table.specs.OneGroup.{group_in, answer_in}
-use Rattle.gb_table.specs.Rooms.{others_living}
-use Rattle.gb_table.specs.TableValue.{TableValue, reserve_for}
-use Rattle.gb_table.specs.Requests.{is_admitted, admitted_reply, table_reply, table_did}
+use Rattle.gb_slot.specs.Common.{SlotState}
+use Rattle.gb_table.specs.Common.{group_in, answer_in, others_living, TableValue, reserve_for, is_admitted, admitted_reply, table_reply, table_did}
 use Rattle.gb_node.specs.NodeValue.{NodeValue}
 use Rattle.gb_node.specs.NodeStep.{Turn, turn, running_turn, stopped_answer, sent, window_to, content_to, next_batch, pack_content, IsStarved, IsTurn, IsSpelt}
 use Rattle.gb_node.specs.Reads.{is_fetch, is_read, packet_room, IsReplyWithin, IsSentWithin, IsWithin}
-use Rattle.gb_node.specs.declared.answer.NodeAnswer.{NodeAnswer}
-use Rattle.gb_node.specs.declared.answer.NodeAnswer.TheVariants.{Sent}
-use Rattle.gb_node.specs.declared.event.NodeEvent.{NodeEvent}
+use Rattle.gb_node.specs.declared.{answer.NodeAnswer.NodeAnswer, answer.NodeAnswer.TheVariants.Sent, event.NodeEvent.NodeEvent}
 use Rattle.gb_node.specs.declared.event.NodeEvent.TheVariants.{Request as Asked, Packet as Came, Pack, Again, Ack, Tick, Stop}
-use Rattle.gb_types.specs.declared.new_message.NewMessage.{NewMessage}
 
 -- Reads.
 

@@ -1,26 +1,18 @@
 -- What a running node answers, and what it says in a packet.
-use Rattle.std.proofs.Common.{◌≡◌, ◌≢◌, ℕ, ◌<◌, inl, inr, true, false, Bool, List, Option, Some, None, refl, sym, ap, ◌∙◌, arith}
-use Rattle.std.specs.Prelude.{◌⊎◌, ◌&&◌, not, nat_eq, nat_lt, IfSome, if◌then◌else◌}
+use Rattle.gb_types.specs.Common.{◌≡◌, ◌≢◌, ℕ, ◌<◌, inl, inr, true, false, Bool, List, Option, Some, None, refl, sym, ap, ◌∙◌, arith, ◌⊎◌, ◌&&◌, not, nat_eq, nat_lt, IfSome, if◌then◌else◌, cases_Bool, nat_tests}
 use Rattle.std.specs.FinSet as set
-use Rattle.std.proofs.lemmas.Bool.{cases_Bool}
-use Rattle.std.proofs.lemmas.Bool.Decides.{nat_tests}
-use Rattle.gb_types.specs.declared.refusal.Refusal.TheVariants.{OutOfMemory}
-use Rattle.gb_types.specs.declared.reply.Reply.TheVariants.{Refused}
-use Rattle.gb_types.specs.declared.request.Request.{Request}
+use Rattle.gb_types.specs.declared.{refusal.Refusal.TheVariants.OutOfMemory, reply.Reply.TheVariants.Refused, request.Request.Request}
 use Rattle.gb_types.proofs.BoolLemmas.{and_left}
-use Rattle.gb_frame.specs.Packet.{Content}
-use Rattle.gb_frame.specs.Spelling.{IsPacket, packet_text}
-use Rattle.gb_frame.specs.Laws.{WhatIsWrittenIsRead}
-use Rattle.gb_link.specs.SendWindow.{has_room}
+use Rattle.gb_frame.specs.Common.{Content, IsPacket, packet_text, WhatIsWrittenIsRead}
+use Rattle.gb_link.specs.Common.{has_room}
 use Rattle.gb_node.specs.NodeValue.{NodeValue}
 use Rattle.gb_node.specs.NodeStep.{turn, running_turn, stopped_answer, window_to, is_reached, is_another, batch_to, room_to, unless_empty, pack_content, again_content, ack_content, sent, IsTurn}
 use Rattle.gb_node.specs.SendLaw.{Acts, Says, SendersRun, PacketsSay, ReachedAreOthers, BatchesAreForOthers, OthersAreInside, PacketsAreReadBack}
 use Rattle.gb_node.specs.Past.{read}
 use Rattle.gb_node.proofs.PacketLemmas.{read_one}
-use Rattle.gb_node.specs.declared.answer.NodeAnswer.{NodeAnswer}
+use Rattle.gb_node.specs.declared.{answer.NodeAnswer.NodeAnswer, event.NodeEvent.NodeEvent}
 use Rattle.gb_node.specs.declared.answer.NodeAnswer.TheVariants.{Reply as Replied, Taken, Sent, Ticked, Halted}
 use Rattle.gb_node.specs.declared.answer.Sent.TheVariants.{Packet as SentPacket, Nothing, Refused as SentRefused}
-use Rattle.gb_node.specs.declared.event.NodeEvent.{NodeEvent}
 use Rattle.gb_node.specs.declared.event.NodeEvent.TheVariants.{Request as Asked, Packet as Came, Pack, Again, Ack, Tick, Stop}
 use Rattle.gb_node.proofs.EventLemmas.{starved_says}
 

@@ -1,6 +1,5 @@
 -- Sets that contain each other.
-use Rattle.std.proofs.Common.{◌≡◌, true, sym, ap, ◌∙◌}
-use Rattle.std.specs.Ordering.{nat_cmp}
+use Rattle.gb_types.specs.Common.{◌≡◌, true, sym, ap, ◌∙◌, nat_cmp}
 use Rattle.std.specs.FinSet as set
 use Rattle.std.specs.Cmp.{nat_cmp_total}
 use Rattle.gb_types.proofs.BoolLemmas.{both_ways}

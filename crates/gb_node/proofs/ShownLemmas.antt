@@ -1,22 +1,12 @@
 -- What the rules read of a slot is what they read of its group, as the past has it.
-use Rattle.std.proofs.Common.{◌≡◌, ℕ, suc, ◌+◌, ◌<◌, List, [], ◌∷◌, length, get_or, Bool, true, false, not, ◌&&◌, ◌||◌, nat_eq, cond, Option, Some, None, refl, sym, ◌∙◌, ap, arith}
-use Rattle.std.specs.Prelude.{filter, if◌then◌else◌, option_map}
-use Rattle.std.specs.List.{list_all, list_any, range_with_len}
+use Rattle.gb_types.specs.Common.{◌≡◌, ℕ, suc, ◌+◌, ◌<◌, List, [], ◌∷◌, length, get_or, Bool, true, false, not, ◌&&◌, ◌||◌, nat_eq, cond, Option, Some, None, refl, sym, ◌∙◌, ap, arith, filter, if◌then◌else◌, option_map, list_all, list_any, range_with_len, nat_cmp, eq_by_cmp, or-true, eq-eqb, or_right}
 use Rattle.std.specs.Cmp.{unsigned_tied}
-use Rattle.std.specs.Ordering.{nat_cmp, eq_by_cmp}
 use Rattle.std.specs.FinSet as set
-use Rattle.std.proofs.Math.Bool.{or-true}
-use Rattle.std.proofs.lemmas.Bool.{eq-eqb, or_right}
-use Rattle.gb_types.specs.declared.node.NodeId.{NodeId}
-use Rattle.gb_types.specs.declared.spec.Spec.{Spec}
-use Rattle.gb_rules.specs.History.{bytes_in, log_of, has_noticed}
-use Rattle.gb_rules.specs.Messages.{bytes_of}
-use Rattle.gb_rules.specs.Group.{is_member, is_other}
-use Rattle.gb_slot.specs.HistoryLaws.{LogIs}
-use Rattle.gb_slot.specs.Slot.{shown, unfinished_of}
+use Rattle.gb_types.specs.declared.{node.NodeId.NodeId, spec.Spec.Spec}
+use Rattle.gb_rules.specs.Common.{bytes_in, log_of, has_noticed, bytes_of, is_member, is_other}
+use Rattle.gb_slot.specs.Common.{LogIs, shown, unfinished_of, SlotState}
 use Rattle.gb_slot.specs.Slot as slot
-use Rattle.gb_slot.specs.SlotState.{SlotState}
-use Rattle.gb_table.specs.OneGroup.{waiting_in}
+use Rattle.gb_table.specs.Common.{waiting_in}
 use Rattle.gb_node.specs.PastGroups.{Told, is_finished_told, unfinished_in, shown_of, shown_in, waiting_of}
 use Rattle.gb_node.proofs.SlotGroups.{SlotTold, IsTold}
 

@@ -1,41 +1,19 @@
 -- Each group of a node as its slot, which stands for what the past says of the group.
-use Rattle.std.specs.Prelude.{ℕ, ◌≡◌, ◌+◌, ◌<◌, ◌||◌, false, Bool, List, [], ◌∷◌, length, fold, get_or, Option, Some, None, nat_eq, nat_lt, if◌then◌else◌}
+use Rattle.gb_types.specs.Common.{ℕ, ◌≡◌, ◌+◌, ◌<◌, ◌||◌, false, Bool, List, [], ◌∷◌, length, fold, get_or, Option, Some, None, nat_eq, nat_lt, if◌then◌else◌, nat_cmp, message_of, rising}
 use Rattle.std.specs.FinSet as set
-use Rattle.std.specs.Ordering.{nat_cmp}
-use Rattle.gb_types.specs.Entry.{message_of}
-use Rattle.gb_types.specs.Rising.{rising}
-use Rattle.gb_types.specs.declared.address.Addr.{Addr}
-use Rattle.gb_types.specs.declared.limits.TheConstants.{NODES}
-use Rattle.gb_types.specs.declared.node.NodeId.{NodeId}
-use Rattle.gb_types.specs.declared.version.Version.{Version}
-use Rattle.gb_types.specs.declared.reply.Reply.{Reply}
+use Rattle.gb_types.specs.declared.{address.Addr.Addr, limits.TheConstants.NODES, node.NodeId.NodeId, version.Version.Version, reply.Reply.Reply, request.Action.Action, request.Action.TheVariants.AddTenant, request.Action.TheVariants.Group, request.GroupCommand.GroupCommand}
 use Rattle.gb_types.specs.declared.reply.Reply.TheVariants.{Done, Said, Log, Refused}
-use Rattle.gb_types.specs.declared.request.Action.{Action}
-use Rattle.gb_types.specs.declared.request.Action.TheVariants.{AddTenant, Group}
-use Rattle.gb_types.specs.declared.request.GroupCommand.{GroupCommand}
 use Rattle.gb_types.specs.declared.request.GroupCommand.TheVariants.{Make, Open, Shut, Drop, Say}
 use Rattle.gb_frame.specs.declared.item.Item.{Item}
-use Rattle.gb_frame.specs.Packet.{Content}
-use Rattle.gb_rules.specs.Address.{is_addr}
+use Rattle.gb_frame.specs.Common.{Content, entry_of, items_for}
+use Rattle.gb_rules.specs.Common.{is_addr, stepped, dropped, or_added, passed, where_so, is_reached_by}
 use Rattle.gb_rules.specs.declared.phase.Phase.TheVariants.{Opened, Shut as Closed}
-use Rattle.gb_slot.specs.SlotState.{SlotState}
-use Rattle.gb_slot.specs.Slot.{new_slot, slot_moved, slot_said, slot_done, slot_took, slot_noticed, waiting}
-use Rattle.gb_slot.specs.StandsFor.{StandsFor}
-use Rattle.gb_frame.specs.Items.{entry_of, items_for}
-use Rattle.gb_rules.specs.Lifetime.{stepped, dropped, or_added, passed, where_so}
-use Rattle.gb_rules.specs.Room.{is_reached_by}
-use Rattle.gb_table.specs.OneGroup.{group_in, came_for}
-use Rattle.gb_table.specs.Rooms.{others_living}
+use Rattle.gb_slot.specs.Common.{SlotState, new_slot, slot_moved, slot_said, slot_done, slot_took, slot_noticed, waiting, StandsFor}
+use Rattle.gb_table.specs.Common.{group_in, came_for, others_living}
 use Rattle.gb_node.specs.NodeValue.{NodeValue}
 use Rattle.gb_node.specs.NodeStep.{node_numbered}
-use Rattle.gb_node.specs.declared.plan.NodePlan.{NodePlan}
-use Rattle.gb_node.specs.declared.answer.NodeAnswer.{NodeAnswer}
+use Rattle.gb_node.specs.declared.{plan.NodePlan.NodePlan, answer.NodeAnswer.NodeAnswer, answer.PacketAnswer.TheVariants.Good as TakenGood, answer.Frame.Frame, answer.Sent.TheVariants.Packet as SentPacket, answer.Ticked.TheVariants.Noticed, event.NodeEvent.NodeEvent}
 use Rattle.gb_node.specs.declared.answer.NodeAnswer.TheVariants.{Reply as Replied, Taken, Sent, Ticked}
-use Rattle.gb_node.specs.declared.answer.PacketAnswer.TheVariants.{Good as TakenGood}
-use Rattle.gb_node.specs.declared.answer.Frame.{Frame}
-use Rattle.gb_node.specs.declared.answer.Sent.TheVariants.{Packet as SentPacket}
-use Rattle.gb_node.specs.declared.answer.Ticked.TheVariants.{Noticed}
-use Rattle.gb_node.specs.declared.event.NodeEvent.{NodeEvent}
 use Rattle.gb_node.specs.declared.event.NodeEvent.TheVariants.{Request as Asked, Packet as Came, Pack, Tick}
 use Rattle.gb_node.specs.Past.{Happened, read, is_first}
 use Rattle.gb_node.specs.PastGroups.{Told, noticed_after, freed_by, items_freed, told_of, living_of}

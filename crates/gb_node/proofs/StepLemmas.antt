@@ -1,41 +1,20 @@
 -- Each answer of a node is what its past says.
-use Rattle.std.proofs.Common.{◌≡◌, ◌≢◌, ℕ, ◌<◌, ◌≤◌, inl, inr, true, false, Bool, List, ◌∷◌, length, map, take, Option, Some, None, Result, Ok, Err, refl, sym, ap, subst, ◌∙◌, arith}
-use Rattle.std.specs.Prelude.{◌+◌, ◌&&◌, ◌||◌, not, nat_eq, nat_lt, nat_le, is_some, option_map, slice_index, if◌then◌else◌}
+use Rattle.gb_types.specs.Common.{◌≡◌, ◌≢◌, ℕ, ◌<◌, ◌≤◌, inl, inr, true, false, Bool, List, ◌∷◌, length, map, take, Option, Some, None, Result, Ok, Err, refl, sym, ap, subst, ◌∙◌, arith, ◌+◌, ◌&&◌, ◌||◌, not, nat_eq, nat_lt, nat_le, is_some, option_map, slice_index, if◌then◌else◌, nat_cmp, nat_tests}
 use Rattle.std.specs.FinSet as set
-use Rattle.std.specs.Ordering.{nat_cmp}
-use Rattle.std.proofs.lemmas.Bool.Decides.{nat_tests}
-use Rattle.gb_types.specs.declared.address.Addr.{Addr}
-use Rattle.gb_types.specs.declared.node.NodeId.{NodeId}
-use Rattle.gb_types.specs.declared.refusal.Refusal.TheVariants.{Stopped, Denied}
-use Rattle.gb_types.specs.declared.reply.Reply.{Reply}
-use Rattle.gb_types.specs.declared.reply.Reply.TheVariants.{Refused}
-use Rattle.gb_types.specs.declared.request.Request.{Request}
-use Rattle.gb_types.specs.declared.request.Action.{Action}
-use Rattle.gb_types.specs.declared.request.Action.TheVariants.{AddTenant, Group}
+use Rattle.gb_types.specs.declared.{address.Addr.Addr, node.NodeId.NodeId, refusal.Refusal.TheVariants.Stopped, refusal.Refusal.TheVariants.Denied, reply.Reply.Reply, reply.Reply.TheVariants.Refused, request.Request.Request, request.Action.Action, request.Action.TheVariants.AddTenant, request.Action.TheVariants.Group}
 use Rattle.gb_types.specs.declared.request.GroupCommand.TheVariants.{Make, Open, Shut, Drop, Say, Fetch}
-use Rattle.gb_frame.specs.declared.fault.PacketFault.{PacketFault}
-use Rattle.gb_frame.specs.declared.fault.PacketFault.TheVariants.{Node}
-use Rattle.gb_frame.specs.declared.item.Item.{Item}
-use Rattle.gb_frame.specs.Packet.{Content}
-use Rattle.gb_frame.specs.Reading.{reading, unless, fault_in, content_in}
-use Rattle.gb_frame.specs.Laws.{WhatIsWrittenIsRead}
-use Rattle.gb_frame.specs.Spelling.{packet_text, IsPacket}
+use Rattle.gb_frame.specs.declared.{fault.PacketFault.PacketFault, fault.PacketFault.TheVariants.Node, item.Item.Item}
+use Rattle.gb_frame.specs.Common.{Content, reading, unless, fault_in, content_in, WhatIsWrittenIsRead, packet_text, IsPacket, items_for, item_for}
 use Rattle.gb_frame.proofs.ReadingLemmas.{good}
-use Rattle.gb_link.specs.Received.{Received, admission, is_awaited}
+use Rattle.gb_link.specs.Common.{Received, admission, is_awaited}
 use Rattle.gb_link.specs.declared.receiver.Admission.TheVariants.{First, Seen, Outside}
 use Rattle.gb_detect.specs.Silence.{is_noticed}
 use Rattle.gb_detect.specs.Watch.{start, replay, due, is_due}
 use Rattle.gb_detect.specs.Laws.{NoticedByCalls}
 use Rattle.gb_detect.proofs.SetLemmas.{contains-either, contains-nodes_where}
-use Rattle.gb_rules.specs.Group.{Shown, open_answer, shut_answer, drop_answer, say_answer, fetch_answer}
-use Rattle.gb_rules.specs.Tenant.{reserve_of, row_of, make_answer, by_tenant}
-use Rattle.gb_slot.specs.Slot.{shown}
-use Rattle.gb_slot.specs.SlotState.{SlotState}
-use Rattle.gb_table.specs.SlotsValue.{AreApart}
-use Rattle.gb_frame.specs.Items.{items_for, item_for}
-use Rattle.gb_table.specs.OneGroup.{group_in, group_reply, EachGroup, EachCount, StayInOrder}
-use Rattle.gb_table.specs.TableValue.{TableValue, new_table}
-use Rattle.gb_table.specs.Requests.{is_admitted, admitted_reply, table_reply}
+use Rattle.gb_rules.specs.Common.{Shown, open_answer, shut_answer, drop_answer, say_answer, fetch_answer, reserve_of, row_of, make_answer, by_tenant}
+use Rattle.gb_slot.specs.Common.{shown, SlotState}
+use Rattle.gb_table.specs.Common.{AreApart, group_in, group_reply, EachGroup, EachCount, StayInOrder, TableValue, new_table, is_admitted, admitted_reply, table_reply}
 use Rattle.gb_node.specs.NodeValue.{NodeValue, IsNodePlan}
 use Rattle.gb_node.specs.NodeStep.{turn, running_turn, window_to, receiver_from, content_to, next_batch, pack_content, is_here, if_here, taken_answer, good_of, fate, kind_of, IsTurn, IsSpelt, IsStarved}
 use Rattle.gb_node.specs.Past.{Happened, ComesTo, read, is_first, watched, tenants_in}
@@ -43,15 +22,10 @@ use Rattle.gb_node.proofs.PacketLemmas.{read_one}
 use Rattle.gb_node.specs.PastGroups.{Told, noticed_after, shown_in, told_of}
 use Rattle.gb_node.specs.PastLaw.{IsOfPast}
 use Rattle.gb_node.specs.StepLaw.{is_admitted_by, group_answer, admitted_answer, past_answer, IsAsked, IsPacked, IsTakenIn, IsTicked, IsAnswered, AnswersSay}
-use Rattle.gb_node.specs.declared.plan.NodePlan.{NodePlan}
-use Rattle.gb_node.specs.declared.answer.Good.{Good}
-use Rattle.gb_node.specs.declared.answer.Frame.TheVariants.{Nothing as NoFrame}
-use Rattle.gb_node.specs.declared.answer.NodeAnswer.{NodeAnswer}
+use Rattle.gb_node.specs.declared.{plan.NodePlan.NodePlan, answer.Good.Good, answer.Frame.TheVariants.Nothing as NoFrame, answer.NodeAnswer.NodeAnswer, answer.Ticked.TheVariants.Noticed, answer.Ticked.TheVariants.Refused as TickRefused, event.NodeEvent.NodeEvent}
 use Rattle.gb_node.specs.declared.answer.NodeAnswer.TheVariants.{Reply as Replied, Taken, Sent, Ticked, Halted}
 use Rattle.gb_node.specs.declared.answer.PacketAnswer.TheVariants.{Good as TakenGood, Fault, Refused as TakenRefused}
 use Rattle.gb_node.specs.declared.answer.Sent.TheVariants.{Packet as SentPacket, Nothing, Refused as SentRefused}
-use Rattle.gb_node.specs.declared.answer.Ticked.TheVariants.{Noticed, Refused as TickRefused}
-use Rattle.gb_node.specs.declared.event.NodeEvent.{NodeEvent}
 use Rattle.gb_node.specs.declared.event.NodeEvent.TheVariants.{Request as Asked, Packet as Came, Pack, Again, Ack, Tick, Stop}
 use Rattle.gb_node.proofs.GroupLemmas.{front_taken, waiting_enough, next_items}
 use Rattle.gb_node.proofs.InductionLemmas.{started, stands, of_past}

@@ -1,45 +1,17 @@
 -- Each slot stands for what the past told its group.
-use Rattle.std.proofs.Common.{◌≡◌, ℕ, ◌+◌, ◌≤◌, inl, inr, List, [], ◌∷◌, ◌++◌, length, drop, Option, Some, None, refl, sym, ap, subst, ◌∙◌, arith, not}
-use Rattle.std.specs.Prelude.{Bool, true, false, ◌&&◌, ◌⊎◌, fold, option_map, nat_eq, nat_lt, if◌then◌else◌}
+use Rattle.gb_types.specs.Common.{◌≡◌, ℕ, ◌+◌, ◌≤◌, inl, inr, List, [], ◌∷◌, ◌++◌, length, drop, Option, Some, None, refl, sym, ap, subst, ◌∙◌, arith, not, Bool, true, false, ◌&&◌, ◌⊎◌, fold, option_map, nat_eq, nat_lt, if◌then◌else◌, nat_cmp, cases_Bool, cases_eq, nat_tests, message_of}
 use Rattle.std.specs.FinSet as set
-use Rattle.std.specs.Ordering.{nat_cmp}
-use Rattle.std.proofs.lemmas.Bool.{cases_Bool, cases_eq}
-use Rattle.std.proofs.lemmas.Bool.Decides.{nat_tests}
-use Rattle.gb_types.specs.Entry.{message_of}
-use Rattle.gb_types.specs.declared.address.Addr.{Addr}
-use Rattle.gb_types.specs.declared.entry.Entry.{Entry}
-use Rattle.gb_types.specs.declared.limits.TheConstants.{NODES}
-use Rattle.gb_types.specs.declared.message.MsgId.{MsgId}
-use Rattle.gb_types.specs.declared.node.NodeId.{NodeId}
-use Rattle.gb_types.specs.declared.version.Version.{Version}
-use Rattle.gb_types.specs.declared.reply.Reply.{Reply}
+use Rattle.gb_types.specs.declared.{address.Addr.Addr, entry.Entry.Entry, limits.TheConstants.NODES, message.MsgId.MsgId, node.NodeId.NodeId, version.Version.Version, reply.Reply.Reply, request.Request.Request, request.Action.Action, request.Action.TheVariants.AddTenant, request.Action.TheVariants.Group, request.GroupCommand.GroupCommand, spec.Spec.Spec, new_message.NewMessage.NewMessage}
 use Rattle.gb_types.specs.declared.reply.Reply.TheVariants.{Done, Said, Log, Refused}
-use Rattle.gb_types.specs.declared.request.Request.{Request}
-use Rattle.gb_types.specs.declared.request.Action.{Action}
-use Rattle.gb_types.specs.declared.request.Action.TheVariants.{AddTenant, Group}
-use Rattle.gb_types.specs.declared.request.GroupCommand.{GroupCommand}
 use Rattle.gb_types.specs.declared.request.GroupCommand.TheVariants.{Make, Open, Shut, Drop, Say, Fetch}
-use Rattle.gb_types.specs.declared.spec.Spec.{Spec}
 use Rattle.gb_rules.proofs.AddressLemmas.{addr_is}
-use Rattle.gb_rules.specs.Address.{is_addr}
-use Rattle.gb_rules.specs.Group.{is_other, is_too_long, say_answer}
-use Rattle.gb_rules.specs.declared.phase.Phase.{Phase}
-use Rattle.gb_rules.specs.declared.phase.Phase.TheVariants.{Opened, Shut as Closed}
-use Rattle.gb_rules.specs.Group.{Shown}
+use Rattle.gb_rules.specs.Common.{is_addr, is_other, is_too_long, say_answer, Shown, falls_after, puts_of, stepped, dropped, or_added, passed, where_so, is_reached_by}
+use Rattle.gb_rules.specs.declared.{phase.Phase.Phase, phase.Phase.TheVariants.Opened, phase.Phase.TheVariants.Shut as Closed}
 use Rattle.gb_frame.specs.declared.item.Item.{Item}
-use Rattle.gb_frame.specs.Packet.{Content}
+use Rattle.gb_frame.specs.Common.{Content, entry_of, items_for}
 use Rattle.gb_rules.specs.declared.call.GroupCall.TheVariants.{Own, Other, Crashed}
-use Rattle.gb_rules.specs.History.{falls_after, puts_of}
-use Rattle.gb_slot.specs.SlotState.{SlotState}
-use Rattle.gb_slot.specs.Slot.{new_slot, slot_moved, slot_said, slot_came, slot_noticed, slot_done, slot_took, shown, falls, waiting, own_entry}
-use Rattle.gb_slot.specs.StandsFor.{StandsFor, reaches}
-use Rattle.gb_slot.specs.HistoryLaws.{FreshStands, MovedStands, SaidStands, CameStands, NoticedStands, DoneStands, TookStands, LogIs, FallsIs, WaitingSaid, WaitingCame, WaitingNoticed, WaitingTook, WaitingElsewhere}
-use Rattle.gb_frame.specs.Items.{entry_of, items_for}
-use Rattle.gb_rules.specs.Lifetime.{stepped, dropped, or_added, passed, where_so}
-use Rattle.gb_rules.specs.Room.{is_reached_by}
-use Rattle.gb_table.specs.OneGroup.{group_in, answer_in, group_reply, came_for}
-use Rattle.gb_table.specs.TableValue.{TableValue}
-use Rattle.gb_table.specs.Requests.{admitted_reply, table_reply}
+use Rattle.gb_slot.specs.Common.{SlotState, new_slot, slot_moved, slot_said, slot_came, slot_noticed, slot_done, slot_took, shown, falls, waiting, own_entry, StandsFor, reaches, FreshStands, MovedStands, SaidStands, CameStands, NoticedStands, DoneStands, TookStands, LogIs, FallsIs, WaitingSaid, WaitingCame, WaitingNoticed, WaitingTook, WaitingElsewhere}
+use Rattle.gb_table.specs.Common.{group_in, answer_in, group_reply, came_for, TableValue, admitted_reply, table_reply}
 use Rattle.gb_node.specs.NodeStep.{node_numbered}
 use Rattle.gb_node.specs.Past.{Happened, is_first}
 use Rattle.gb_node.specs.PastGroups.{Told, with_call, moved_to, cut_off, took_from, finished_by, told_first, asked_done, asked_said, asked_told, command_done, done_told, unless_falls, came_told, taken_told, if_other, noticed_told, freed_by, items_freed}
@@ -50,7 +22,6 @@ use Rattle.gb_node.proofs.WaitsLemmas.{waits_told, waits_noticed, own_unnoticed,
 use Rattle.gb_node.proofs.AcknowledgedLemmas.{acks_said, acks_done}
 use Rattle.gb_node.specs.StepLaw.{group_answer}
 use Rattle.gb_node.specs.declared.answer.Frame.{Frame}
-use Rattle.gb_types.specs.declared.new_message.NewMessage.{NewMessage}
 use Rattle.gb_rules.proofs.SayLemmas.{said_is}
 
 -- What holds of a slot for every history that it stands for.

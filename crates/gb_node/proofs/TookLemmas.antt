@@ -1,15 +1,12 @@
 -- A packet that is taken, part by part.
-use Rattle.std.proofs.Common.{◌≡◌, ℕ, List, length, sym, ap, ◌∙◌, arith}
-use Rattle.std.specs.Prelude.{fold, slice_set}
+use Rattle.gb_types.specs.Common.{◌≡◌, ℕ, List, length, sym, ap, ◌∙◌, arith, fold, slice_set}
 use Rattle.gb_types.specs.declared.node.NodeId.{NodeId}
 use Rattle.gb_types.proofs.SameLemmas.{same_number}
 use Rattle.gb_detect.specs.Watch.{Watch, after_heard}
-use Rattle.gb_frame.specs.declared.item.Item.{Item}
-use Rattle.gb_frame.specs.declared.packet.Head.{Head}
-use Rattle.gb_frame.specs.Packet.{Content, packet_of}
-use Rattle.gb_link.specs.Received.{Received}
-use Rattle.gb_link.specs.SendWindow.{SendWindow, freed}
-use Rattle.gb_table.specs.TableValue.{TableValue}
+use Rattle.gb_frame.specs.declared.{item.Item.Item, packet.Head.Head}
+use Rattle.gb_frame.specs.Common.{Content, packet_of}
+use Rattle.gb_link.specs.Common.{Received, SendWindow, freed}
+use Rattle.gb_table.specs.Common.{TableValue}
 use Rattle.gb_node.specs.NodeValue.{NodeValue}
 use Rattle.gb_node.specs.declared.answer.Frame.{Frame}
 use Rattle.gb_node.specs.NodeStep.{node_numbered, window_to, receiver_from, without_done, frame_done, fate, new_items, frame_comes, receives, node_took, good_of}

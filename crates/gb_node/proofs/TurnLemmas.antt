@@ -1,18 +1,13 @@
 -- A pack that sends is the node's turn.
-use Rattle.std.proofs.Common.{◌≡◌, ℕ, ◌<◌, List, [], ◌∷◌, length, true, false, Some, None, inr, refl, sym, ap, ◌∙◌, arith}
-use Rattle.std.specs.Prelude.{◌&&◌, if◌then◌else◌, Option, option_map}
-use Rattle.std.proofs.lemmas.List.{length-map}
+use Rattle.gb_types.specs.Common.{◌≡◌, ℕ, ◌<◌, List, [], ◌∷◌, length, true, false, Some, None, inr, refl, sym, ap, ◌∙◌, arith, ◌&&◌, if◌then◌else◌, option_map, length-map}
 use Rattle.gb_types.specs.declared.node.NodeId.{NodeId}
 use Rattle.gb_frame.specs.declared.item.Item.{Item}
-use Rattle.gb_frame.specs.Spelling.{packet_text}
-use Rattle.gb_link.specs.SendWindow.{has_room}
-use Rattle.gb_table.specs.GroupsValue.{batch}
-use Rattle.gb_table.specs.Packing.{item_at}
+use Rattle.gb_frame.specs.Common.{packet_text}
+use Rattle.gb_link.specs.Common.{has_room}
+use Rattle.gb_table.specs.Common.{batch, item_at}
 use Rattle.gb_node.specs.NodeValue.{NodeValue}
 use Rattle.gb_node.specs.NodeStep.{Turn, turn, running_turn, stopped_answer, window_to, is_reached, content_to, batch_to, room_to, unless_empty, next_batch, sent_batch, sent, IsTurn}
-use Rattle.gb_node.specs.declared.answer.NodeAnswer.TheVariants.{Sent}
-use Rattle.gb_node.specs.declared.answer.Sent.TheVariants.{Packet as SentPacket}
-use Rattle.gb_node.specs.declared.event.NodeEvent.TheVariants.{Pack}
+use Rattle.gb_node.specs.declared.{answer.NodeAnswer.TheVariants.Sent, answer.Sent.TheVariants.Packet as SentPacket, event.NodeEvent.TheVariants.Pack}
 
 some_items : (items : List Item) → 0 < length items → unless_empty items ≡ Some items
 some_items [] some = absurd (omega (arith, some))

@@ -1,16 +1,11 @@
 -- A node's version can name all nodes, and each unacknowledged frame fits a packet of it, whatever happens.
-use Rattle.std.proofs.Common.{◌≡◌, ℕ, zero, suc, ◌≤◌, ◌<◌, Bool, true, false, cond, List, [], ◌∷◌, Some, None, nat_eq, get_or, Bor, refl, sym, ap, subst, ◌∙◌, arith}
-use Rattle.std.specs.Prelude.{Option, MatchOption, filter, find, fold, replicate, slice_get, slice_index_or}
+use Rattle.gb_types.specs.Common.{◌≡◌, ℕ, zero, suc, ◌≤◌, ◌<◌, Bool, true, false, cond, List, [], ◌∷◌, Some, None, nat_eq, get_or, Bor, refl, sym, ap, subst, ◌∙◌, arith, Option, MatchOption, filter, find, fold, replicate, slice_get, slice_index_or, limits_of}
 use Rattle.std.proofs.Math.ListN.{set as set_at}
-use Rattle.gb_types.specs.Version.{limits_of}
-use Rattle.gb_types.specs.declared.limits.TheConstants.{NODES}
-use Rattle.gb_types.specs.declared.node.NodeId.{NodeId}
-use Rattle.gb_types.specs.declared.version.Version.{Version}
-use Rattle.gb_frame.specs.Batch.{batch_in, IsBatch, FitPacket}
+use Rattle.gb_types.specs.declared.{limits.TheConstants.NODES, node.NodeId.NodeId, version.Version.Version}
+use Rattle.gb_frame.specs.Common.{batch_in, IsBatch, FitPacket}
 use Rattle.gb_frame.specs.declared.item.Item.{Item}
-use Rattle.gb_link.specs.Received.{Received}
-use Rattle.gb_link.specs.SendWindow.{SendWindow, frame_again}
-use Rattle.gb_table.specs.TableValue.{TableValue}
+use Rattle.gb_link.specs.Common.{Received, SendWindow, frame_again}
+use Rattle.gb_table.specs.Common.{TableValue}
 use Rattle.gb_node.specs.Frames.{FrameWindow, new_frames, AreFitting, IsOfVersion, KeepsVersion}
 use Rattle.gb_node.specs.NodeStep.{without_done, frame_done, frame_comes, notice_each}
 use Rattle.gb_node.specs.NodeValue.{new_node}

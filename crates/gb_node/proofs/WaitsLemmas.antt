@@ -1,19 +1,11 @@
 -- What waits in a slot is what waits in its group, as the past has it, after each call.
-use Rattle.std.proofs.Common.{◌≡◌, ℕ, List, [], ◌∷◌, ◌++◌, Bool, true, false, not, ◌&&◌, refl, sym, ap, ◌∙◌, arith}
-use Rattle.std.specs.Prelude.{nat_eq, if◌then◌else◌}
+use Rattle.gb_types.specs.Common.{◌≡◌, ℕ, List, [], ◌∷◌, ◌++◌, Bool, true, false, not, ◌&&◌, refl, sym, ap, ◌∙◌, arith, nat_eq, if◌then◌else◌, nat_tests, and_right, append-nil}
 use Rattle.std.specs.FinSet as set
-use Rattle.std.proofs.lemmas.Bool.Decides.{nat_tests}
-use Rattle.std.proofs.lemmas.Bool.{and_right}
-use Rattle.std.proofs.lemmas.List.{append-nil}
-use Rattle.gb_types.specs.declared.entry.Entry.{Entry}
-use Rattle.gb_types.specs.declared.node.NodeId.{NodeId}
+use Rattle.gb_types.specs.declared.{entry.Entry.Entry, node.NodeId.NodeId}
 use Rattle.gb_rules.specs.declared.call.GroupCall.{GroupCall}
 use Rattle.gb_rules.specs.declared.call.GroupCall.TheVariants.{Own, Other, Crashed}
-use Rattle.gb_rules.specs.History.{calls_of, puts_of, has_noticed}
-use Rattle.gb_rules.specs.Group.{is_other}
-use Rattle.gb_slot.specs.Slot.{waiting}
-use Rattle.gb_slot.specs.SlotState.{SlotState}
-use Rattle.gb_slot.specs.StandsFor.{reaches}
+use Rattle.gb_rules.specs.Common.{calls_of, puts_of, has_noticed, is_other}
+use Rattle.gb_slot.specs.Common.{waiting, SlotState, reaches}
 use Rattle.gb_node.specs.PastGroups.{Told, waits_with, cut_off}
 use Rattle.gb_node.proofs.SlotGroups.{SlotTold}
 

@@ -1,10 +1,8 @@
 -- The windows of a node, with their frames' items in place of the texts.
-use Rattle.std.proofs.Common.{◌≡◌, ℕ, ◌<◌, List, length, get_or, Result, Ok, Err, Some, sym, ap, subst, ◌∙◌, arith}
-use Rattle.std.specs.Prelude.{IfOk, OnOk}
-use Rattle.std.proofs.Math.ListN.{set}
-use Rattle.std.proofs.lemmas.List.{get_or-map, get_or-set_same, length-map, map-set}
+use Rattle.gb_types.specs.Common.{◌≡◌, ℕ, ◌<◌, List, length, get_or, Result, Ok, Err, Some, sym, ap, subst, ◌∙◌, arith, IfOk, OnOk, set, get_or-set_same, length-map, map-set}
+use Rattle.std.proofs.lemmas.List.{get_or-map}
 use Rattle.gb_frame.specs.declared.item.Item.{Item}
-use Rattle.gb_link.specs.SendWindow.{SendWindow, new_window, pushed, frame_again}
+use Rattle.gb_link.specs.Common.{SendWindow, new_window, pushed, frame_again}
 use Rattle.gb_node.specs.Frames.{FrameWindow, windows_of}
 
 -- the window at a place

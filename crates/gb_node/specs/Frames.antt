@@ -3,13 +3,12 @@ use Rattle.std.specs.Prelude.{ℕ, ◌≡◌, ◌≢◌, ◌<◌, ◌≤◌, ◌
 use Rattle.std.specs.List.{AllByRecursion}
 use Rattle.std.specs.declared.vec.Vec.{Vec}
 use Rattle.std.specs.declared.alloc.Global.{Global}
-use Rattle.gb_frame.specs.declared.item.Item.{Item}
-use Rattle.gb_types.specs.Version.{limits_of}
+use Rattle.gb_frame.specs.declared.{item.Item.Item, packet.Head.Head}
+use Rattle.gb_types.specs.Common.{limits_of}
 use Rattle.gb_types.specs.declared.version.Version.{Version}
-use Rattle.gb_frame.specs.Batch.{batch_in, IsBatch, FitPacket}
-use Rattle.gb_frame.specs.declared.packet.Head.{Head}
-use Rattle.gb_link.specs.SendWindow.{SendWindow, new_window}
-use Rattle.gb_table.specs.TableValue.{TableValue}
+use Rattle.gb_frame.specs.Common.{batch_in, IsBatch, FitPacket}
+use Rattle.gb_link.specs.Common.{SendWindow, new_window}
+use Rattle.gb_table.specs.Common.{TableValue}
 
 -- a frame with its items in place of their texts, which are of the version
 abbrev pub frame_of : Version → ℕ × Vec ℕ Global → ℕ × List Item

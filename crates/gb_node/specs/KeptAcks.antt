@@ -1,7 +1,6 @@
 -- The packets without a frame that a node keeps, so that it need not make the same packet again.
 use Rattle.std.specs.Prelude.{◌≡◌, ℕ, List, [], Option, None, IfSome, slice_index_or}
-use Rattle.gb_frame.specs.Packet.{packet_of}
-use Rattle.gb_frame.specs.Spelling.{packet_text, IsPacket}
+use Rattle.gb_frame.specs.Common.{packet_of, packet_text, IsPacket}
 use Rattle.gb_node.specs.declared.packet_key.Bare.{Bare}
 
 -- the text is the packet under the key with this head and no frame

@@ -10,3 +10,4 @@ pub mod StepLaw
 pub mod SendLaw
 pub mod KeptAcks
 pub mod Listing
+pub mod Common

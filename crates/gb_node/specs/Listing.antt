@@ -1,9 +1,7 @@
 -- What a node tells its administrator about its groups.
 use Rattle.std.specs.Prelude.{◌≡◌, ℕ, ◌⊎◌, true, false, List, length, is_ok, Result, Ok, Err}
-use Rattle.gb_types.specs.declared.refusal.Refusal.{Refusal}
-use Rattle.gb_types.specs.declared.refusal.Refusal.TheVariants.{Stopped, OutOfMemory}
-use Rattle.gb_table.specs.GroupRows.{used}
-use Rattle.gb_table.specs.Listing.{list_answer}
+use Rattle.gb_types.specs.declared.{refusal.Refusal.Refusal, refusal.Refusal.TheVariants.Stopped, refusal.Refusal.TheVariants.OutOfMemory}
+use Rattle.gb_table.specs.Common.{used, list_answer}
 use Rattle.gb_table.specs.declared.listing.Listing.{Listing}
 use Rattle.gb_node.specs.NodeValue.{NodeValue}
 

@@ -1,10 +1,9 @@
 -- What a node shows of each of its groups.
 use Rattle.std.specs.Prelude.{ℕ, List, Option, option_map}
-use Rattle.gb_types.specs.declared.address.Addr.{Addr}
-use Rattle.gb_types.specs.declared.entry.Entry.{Entry}
-use Rattle.gb_rules.specs.Group.{Shown}
-use Rattle.gb_slot.specs.Slot.{shown}
-use Rattle.gb_table.specs.OneGroup.{group_in, waiting_in}
+use Rattle.gb_types.specs.declared.{address.Addr.Addr, entry.Entry.Entry}
+use Rattle.gb_rules.specs.Common.{Shown}
+use Rattle.gb_slot.specs.Common.{shown}
+use Rattle.gb_table.specs.Common.{group_in, waiting_in}
 use Rattle.gb_node.specs.NodeValue.{NodeValue}
 
 -- what the rules read of a group: None if it may still be made, Some None if it was dropped or can be made no more

@@ -1,47 +1,21 @@
 -- The state of a node after each event, and its answer.
 use Rattle.std.specs.Prelude.{ℕ, ◌≡◌, ◌%◌, min, ◌⊎◌, ◌&&◌, not, Bool, true, List, [], ◌∷◌, length, filter, fold, Option, Some, None, IfSome, option_map, Result, Ok, Err, slice_index_or, slice_set, nat_eq, nat_lt, if◌then◌else◌}
 use Rattle.std.specs.FinSet as set
-use Rattle.gb_types.specs.Entry.{message_of}
-use Rattle.gb_types.specs.Rising.{rising}
-use Rattle.gb_types.specs.declared.limits.TheConstants.{NODES}
-use Rattle.gb_types.specs.declared.node.NodeId.{NodeId}
-use Rattle.gb_types.specs.declared.refusal.Refusal.TheVariants.{Stopped, OutOfMemory}
-use Rattle.gb_types.specs.declared.reply.Reply.{Reply}
-use Rattle.gb_types.specs.declared.reply.Reply.TheVariants.{Refused}
-use Rattle.gb_types.specs.declared.request.Action.{Action}
-use Rattle.gb_types.specs.declared.version.Version.{Version}
-use Rattle.gb_frame.specs.declared.fault.PacketFault.{PacketFault}
-use Rattle.gb_frame.specs.declared.fault.PacketFault.TheVariants.{Node}
-use Rattle.gb_frame.specs.declared.item.Item.{Item}
-use Rattle.gb_frame.specs.Room.{room_of}
-use Rattle.gb_frame.specs.Packet.{Content}
-use Rattle.gb_frame.specs.Reading.{reading}
-use Rattle.gb_frame.specs.Spelling.{packet_text, IsPacket}
-use Rattle.gb_link.specs.Received.{Received, base_of, mask_of, admission, taken}
-use Rattle.gb_link.specs.SendWindow.{SendWindow, new_window, has_room, pushed, frame_again, freed}
-use Rattle.gb_link.specs.Ack.{covers}
+use Rattle.gb_types.specs.Common.{message_of, rising}
+use Rattle.gb_types.specs.declared.{limits.TheConstants.NODES, node.NodeId.NodeId, refusal.Refusal.TheVariants.Stopped, refusal.Refusal.TheVariants.OutOfMemory, reply.Reply.Reply, reply.Reply.TheVariants.Refused, request.Action.Action, version.Version.Version}
+use Rattle.gb_frame.specs.declared.{fault.PacketFault.PacketFault, fault.PacketFault.TheVariants.Node, item.Item.Item}
+use Rattle.gb_frame.specs.Common.{room_of, Content, reading, packet_text, IsPacket, address_of, entry_of, rest_is_node}
+use Rattle.gb_link.specs.Common.{Received, base_of, mask_of, admission, taken, SendWindow, new_window, has_room, pushed, frame_again, freed, covers}
 use Rattle.gb_link.specs.declared.receiver.Admission.{Admission}
 use Rattle.gb_link.specs.declared.receiver.Admission.TheVariants.{First, Seen, Outside}
 use Rattle.gb_detect.specs.Watch.{due, after_heard, after_tick}
-use Rattle.gb_frame.specs.Items.{address_of, entry_of, rest_is_node}
-use Rattle.gb_table.specs.GroupsValue.{batch}
-use Rattle.gb_table.specs.OneGroup.{longest_item, NothingWaits}
-use Rattle.gb_table.specs.Packing.{Visit, items}
-use Rattle.gb_table.specs.TableValue.{TableValue, table_came, table_done, table_noticed, table_packed}
-use Rattle.gb_table.specs.Requests.{TakesMemory, table_reply, table_did}
+use Rattle.gb_table.specs.Common.{batch, longest_item, NothingWaits, Visit, items, TableValue, table_came, table_done, table_noticed, table_packed, TakesMemory, table_reply, table_did}
 use Rattle.gb_node.specs.NodeValue.{NodeValue}
-use Rattle.gb_node.specs.declared.answer.NodeAnswer.{NodeAnswer}
+use Rattle.gb_node.specs.declared.{answer.NodeAnswer.NodeAnswer, answer.PacketAnswer.PacketAnswer, answer.Good.Good, answer.Frame.Frame, answer.Sent.Sent as SentValue, answer.Ticked.TheVariants.Noticed, answer.Ticked.TheVariants.Refused as TickRefused, answer.Halted.TheVariants.Done as HaltDone, answer.Halted.TheVariants.Refused as HaltRefused, event.NodeEvent.NodeEvent}
 use Rattle.gb_node.specs.declared.answer.NodeAnswer.TheVariants.{Reply as Replied, Taken, Sent, Ticked, Halted}
-use Rattle.gb_node.specs.declared.answer.PacketAnswer.{PacketAnswer}
 use Rattle.gb_node.specs.declared.answer.PacketAnswer.TheVariants.{Good as TakenGood, Fault, Refused as TakenRefused}
-use Rattle.gb_node.specs.declared.answer.Good.{Good}
-use Rattle.gb_node.specs.declared.answer.Frame.{Frame}
 use Rattle.gb_node.specs.declared.answer.Frame.TheVariants.{Nothing as NoFrame, First as CameFirst, Seen as CameBefore, Outside as Beyond}
-use Rattle.gb_node.specs.declared.answer.Sent.{Sent as SentValue}
 use Rattle.gb_node.specs.declared.answer.Sent.TheVariants.{Packet as SentPacket, Nothing, Refused as SentRefused}
-use Rattle.gb_node.specs.declared.answer.Ticked.TheVariants.{Noticed, Refused as TickRefused}
-use Rattle.gb_node.specs.declared.answer.Halted.TheVariants.{Done as HaltDone, Refused as HaltRefused}
-use Rattle.gb_node.specs.declared.event.NodeEvent.{NodeEvent}
 use Rattle.gb_node.specs.declared.event.NodeEvent.TheVariants.{Request as Asked, Packet as Came, Pack, Again, Ack, Tick, Stop}
 
 -- the node with this number, reduced modulo the greatest number of nodes

@@ -3,12 +3,11 @@ use Rattle.std.specs.Prelude.{ℕ, ◌<◌, ◌≤◌, Bool, false, List, replic
 use Rattle.std.specs.FinSet as set
 use Rattle.gb_types.specs.declared.limits.TheConstants.{NODES, SILENCE_MIN, SILENCE_MAX}
 use Rattle.gb_rules.specs.declared.room.TheConstants.{ROOMS}
-use Rattle.gb_types.specs.Version.{limits_of}
+use Rattle.gb_types.specs.Common.{limits_of}
 use Rattle.gb_frame.specs.declared.item.Item.{Item}
-use Rattle.gb_link.specs.Received.{Received}
-use Rattle.gb_link.specs.SendWindow.{SendWindow, new_window}
+use Rattle.gb_link.specs.Common.{Received, SendWindow, new_window}
 use Rattle.gb_detect.specs.Watch.{Watch, start}
-use Rattle.gb_table.specs.TableValue.{TableValue, new_table}
+use Rattle.gb_table.specs.Common.{TableValue, new_table}
 use Rattle.gb_node.specs.declared.plan.NodePlan.{NodePlan}
 
 pub record NodeValue : Type 0 where

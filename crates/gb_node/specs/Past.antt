@@ -1,28 +1,16 @@
 -- A node's past: its events with their answers, and all that follows from these alone. A past has the newest first.
 use Rattle.std.specs.Prelude.{ℕ, ◌≡◌, ◌+◌, ◌&&◌, ◌||◌, Bool, true, false, List, [], ◌∷◌, ◌++◌, length, map, nat_eq, nat_le, if◌then◌else◌}
 use Rattle.std.specs.List.{list_any}
-use Rattle.gb_types.specs.declared.reply.Reply.{Reply}
-use Rattle.gb_types.specs.declared.reply.Reply.TheVariants.{Done}
-use Rattle.gb_types.specs.declared.request.Action.{Action}
-use Rattle.gb_types.specs.declared.request.Action.TheVariants.{AddTenant, Group}
-use Rattle.gb_types.specs.declared.spec.TenantRow.{TenantRow}
+use Rattle.gb_types.specs.declared.{reply.Reply.Reply, reply.Reply.TheVariants.Done, request.Action.Action, request.Action.TheVariants.AddTenant, request.Action.TheVariants.Group, spec.TenantRow.TenantRow}
 use Rattle.gb_frame.specs.declared.item.Item.{Item}
-use Rattle.gb_frame.specs.Packet.{Content}
-use Rattle.gb_frame.specs.Reading.{is_packet, content_in}
-use Rattle.gb_link.specs.Ack.{covers}
+use Rattle.gb_frame.specs.Common.{Content, is_packet, content_in}
+use Rattle.gb_link.specs.Common.{covers}
 use Rattle.gb_detect.specs.Silence.{Call, Heard, Tick as Ticks}
 use Rattle.gb_node.specs.NodeValue.{NodeValue, new_node, IsNodePlan}
 use Rattle.gb_node.specs.NodeStep.{IsTurn, IsSpelt}
-use Rattle.gb_node.specs.declared.plan.NodePlan.{NodePlan}
-use Rattle.gb_node.specs.declared.answer.NodeAnswer.{NodeAnswer}
+use Rattle.gb_node.specs.declared.{plan.NodePlan.NodePlan, answer.NodeAnswer.NodeAnswer, answer.PacketAnswer.TheVariants.Good as TakenGood, answer.Frame.Frame, answer.Sent.TheVariants.Packet as SentPacket, answer.Ticked.TheVariants.Noticed, answer.Halted.TheVariants.Done as HaltDone, event.NodeEvent.NodeEvent}
 use Rattle.gb_node.specs.declared.answer.NodeAnswer.TheVariants.{Reply as Replied, Taken, Sent, Ticked, Halted}
-use Rattle.gb_node.specs.declared.answer.PacketAnswer.TheVariants.{Good as TakenGood}
-use Rattle.gb_node.specs.declared.answer.Frame.{Frame}
 use Rattle.gb_node.specs.declared.answer.Frame.TheVariants.{Nothing as NoFrame, First as CameFirst, Seen as CameBefore, Outside as Beyond}
-use Rattle.gb_node.specs.declared.answer.Sent.TheVariants.{Packet as SentPacket}
-use Rattle.gb_node.specs.declared.answer.Ticked.TheVariants.{Noticed}
-use Rattle.gb_node.specs.declared.answer.Halted.TheVariants.{Done as HaltDone}
-use Rattle.gb_node.specs.declared.event.NodeEvent.{NodeEvent}
 use Rattle.gb_node.specs.declared.event.NodeEvent.TheVariants.{Request as Asked, Packet as Came, Pack, Tick, Stop}
 
 -- an event with its answer

@@ -1,15 +1,14 @@
 -- The state of a node is determined by its past.
 use Rattle.std.specs.Prelude.{ℕ, ◌≡◌, ◌+◌, not, List, length, filter}
 use Rattle.std.specs.FinSet as set
-use Rattle.gb_types.specs.declared.address.Addr.{Addr}
-use Rattle.gb_types.specs.declared.node.NodeId.{NodeId}
+use Rattle.gb_types.specs.declared.{address.Addr.Addr, node.NodeId.NodeId}
 use Rattle.gb_detect.specs.Watch.{start, replay}
 use Rattle.gb_node.specs.NodeValue.{NodeValue}
 use Rattle.gb_node.specs.NodeStep.{window_to, receiver_from}
 use Rattle.gb_node.specs.declared.plan.NodePlan.{NodePlan}
 use Rattle.gb_node.specs.Past.{Happened, ComesTo, frames_to, numbered, is_acked, is_taken, watched, tenants_in, is_stopped}
 use Rattle.gb_node.specs.NodeGroups.{shown_at, waiting_at}
-use Rattle.gb_table.specs.Rooms.{others_living}
+use Rattle.gb_table.specs.Common.{others_living}
 use Rattle.gb_node.specs.PastGroups.{shown_in, waiting_of, told_of, living_of}
 
 -- The state of a node beside its groups is determined by its past.

@@ -1,17 +1,8 @@
 -- Which events leave a node unchanged, and how much memory the answers to other events hold.
 use Rattle.std.specs.Prelude.{ℕ, ◌≤◌, Bool, true, false, length}
-use Rattle.gb_types.specs.Version.{limits_of}
-use Rattle.gb_types.specs.declared.version.Version.{Version}
-use Rattle.gb_types.specs.declared.reply.Reply.{Reply}
-use Rattle.gb_types.specs.declared.reply.Reply.TheVariants.{Log}
-use Rattle.gb_types.specs.declared.request.Action.{Action}
-use Rattle.gb_types.specs.declared.request.Action.TheVariants.{Group}
-use Rattle.gb_types.specs.declared.request.GroupCommand.TheVariants.{Fetch}
-use Rattle.gb_node.specs.declared.answer.NodeAnswer.{NodeAnswer}
-use Rattle.gb_node.specs.declared.answer.NodeAnswer.TheVariants.{Reply as Replied, Sent}
-use Rattle.gb_node.specs.declared.answer.Sent.{Sent as SentValue}
-use Rattle.gb_node.specs.declared.answer.Sent.TheVariants.{Packet as SentPacket}
-use Rattle.gb_node.specs.declared.event.NodeEvent.{NodeEvent}
+use Rattle.gb_types.specs.Common.{limits_of}
+use Rattle.gb_types.specs.declared.{version.Version.Version, reply.Reply.Reply, reply.Reply.TheVariants.Log, request.Action.Action, request.Action.TheVariants.Group, request.GroupCommand.TheVariants.Fetch}
+use Rattle.gb_node.specs.declared.{answer.NodeAnswer.NodeAnswer, answer.NodeAnswer.TheVariants.Reply as Replied, answer.NodeAnswer.TheVariants.Sent, answer.Sent.Sent as SentValue, answer.Sent.TheVariants.Packet as SentPacket, event.NodeEvent.NodeEvent}
 use Rattle.gb_node.specs.declared.event.NodeEvent.TheVariants.{Request as Asked, Pack, Again, Ack}
 
 -- the request is a fetch of a log

@@ -1,22 +1,13 @@
 -- Which node sends a packet, what the packet says, and which answers are for lack of memory.
 use Rattle.std.specs.Prelude.{ℕ, ◌≡◌, ◌≢◌, ◌<◌, ◌⊎◌, true, false, List, [], ◌∷◌, Option, Some}
-use Rattle.gb_types.specs.declared.node.NodeId.{NodeId}
-use Rattle.gb_types.specs.declared.refusal.Refusal.TheVariants.{OutOfMemory}
-use Rattle.gb_types.specs.declared.reply.Reply.TheVariants.{Refused}
-use Rattle.gb_types.specs.declared.request.Request.{Request}
+use Rattle.gb_types.specs.declared.{node.NodeId.NodeId, refusal.Refusal.TheVariants.OutOfMemory, reply.Reply.TheVariants.Refused, request.Request.Request}
 use Rattle.gb_frame.specs.declared.item.Item.{Item}
-use Rattle.gb_frame.specs.Packet.{Content}
-use Rattle.gb_frame.specs.Spelling.{packet_text, IsPacket}
+use Rattle.gb_frame.specs.Common.{Content, packet_text, IsPacket}
 use Rattle.gb_node.specs.NodeValue.{NodeValue}
 use Rattle.gb_node.specs.NodeStep.{running_turn, is_another, is_reached, next_batch, sent_content, IsStarved, IsTurn, IsSpelt}
 use Rattle.gb_node.specs.Past.{Happened, read}
 use Rattle.gb_node.specs.PastLaw.{IsOfPast}
-use Rattle.gb_node.specs.declared.plan.NodePlan.{NodePlan}
-use Rattle.gb_node.specs.declared.answer.NodeAnswer.{NodeAnswer}
-use Rattle.gb_node.specs.declared.answer.NodeAnswer.TheVariants.{Reply as Replied, Sent}
-use Rattle.gb_node.specs.declared.answer.Sent.TheVariants.{Packet as SentPacket, Refused as SentRefused}
-use Rattle.gb_node.specs.declared.event.NodeEvent.{NodeEvent}
-use Rattle.gb_node.specs.declared.event.NodeEvent.TheVariants.{Request as Asked}
+use Rattle.gb_node.specs.declared.{plan.NodePlan.NodePlan, answer.NodeAnswer.NodeAnswer, answer.NodeAnswer.TheVariants.Reply as Replied, answer.NodeAnswer.TheVariants.Sent, answer.Sent.TheVariants.Packet as SentPacket, answer.Sent.TheVariants.Refused as SentRefused, event.NodeEvent.NodeEvent, event.NodeEvent.TheVariants.Request as Asked}
 
 -- the node runs, and the answer is the right one
 pub record Acts (v : NodeValue) (e : NodeEvent) (a : NodeAnswer) : Type 0 where

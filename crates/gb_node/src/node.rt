@@ -1,22 +1,14 @@
 //! The node: its tenants and groups, its links to the other nodes and its crash detector, and what each event does at it.
 ghost use Rattle.std.specs.Prelude.{◌≡◌, ◌≤◌, ◌<◌, ◌+◌, [], IsSome, vec_capacity, List, true, false, length, replicate, sum_by, None, Some, MatchOption, IfOk, OnOk, OnErr, Ok, is_ok};
 ghost use Rattle.std.specs.FinSet as set;
-ghost use Rattle.gb_types.specs.Version.{limits_of};
+ghost use Rattle.gb_types.specs.Common.{limits_of};
 ghost use Rattle.gb_types.specs.declared.limits.TheConstants.{NODES as MOST, SILENCE_MIN, SILENCE_MAX};
 ghost use Rattle.gb_rules.specs.declared.room.TheConstants.{ROOMS};
-ghost use Rattle.gb_frame.specs.Batch.{batch_in, IsBatch, FitPacket};
-ghost use Rattle.gb_frame.specs.Packet.{packet_of};
-ghost use Rattle.gb_frame.specs.Spelling.{items_text, packet_text, IsPacket};
-ghost use Rattle.gb_frame.specs.declared.item.Item.{Item as ItemValue};
-ghost use Rattle.gb_frame.specs.declared.limits.TheConstants.{SHORTEST};
-ghost use Rattle.gb_frame.specs.Room.{room_of};
-ghost use Rattle.gb_link.specs.SendWindow.{new_window, has_room, frame_again};
-ghost use Rattle.gb_table.specs.GroupsValue.{batch};
-ghost use Rattle.gb_table.specs.OneGroup.{NothingWaits};
-ghost use Rattle.gb_table.specs.Packing.{size};
+ghost use Rattle.gb_frame.specs.Common.{batch_in, IsBatch, FitPacket, packet_of, items_text, packet_text, IsPacket, room_of};
+ghost use Rattle.gb_frame.specs.declared.{item.Item.Item as ItemValue, limits.TheConstants.SHORTEST};
+ghost use Rattle.gb_link.specs.Common.{new_window, has_room, frame_again};
+ghost use Rattle.gb_table.specs.Common.{batch, NothingWaits, size, is_token, is_admitted};
 ghost use Rattle.gb_cap.specs.declared.token.Need.TheVariants.{Admin};
-ghost use Rattle.gb_table.specs.Admission.{is_token};
-ghost use Rattle.gb_table.specs.Requests.{is_admitted};
 ghost use Rattle.gb_node.specs.Frames.{new_frames, items_of_frame, IsHead};
 ghost use Rattle.gb_node.specs.Listing.{Lists};
 ghost use Rattle.gb_node.specs.NodeValue.{new_node};

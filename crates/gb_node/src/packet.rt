@@ -1,8 +1,6 @@
 //! The packets of a node, as bytes.
 ghost use Rattle.std.specs.Prelude.{◌≡◌, ◌+◌, ◌<◌, ◌≤◌, [], length, IfOk, OnOk, vec_capacity};
-ghost use Rattle.gb_frame.specs.Batch.{batch_in, IsBatch, FitPacket};
-ghost use Rattle.gb_frame.specs.Packet.{packet_of};
-ghost use Rattle.gb_frame.specs.Spelling.{packet_text, IsPacket};
+ghost use Rattle.gb_frame.specs.Common.{batch_in, IsBatch, FitPacket, packet_of, packet_text, IsPacket};
 ghost use Rattle.gb_frame.specs.declared.limits.TheConstants.{SHORTEST};
 ghost use Rattle.gb_node.specs.Frames.{IsHead};
 

@@ -1,8 +1,7 @@
 //! The key of a cluster's packets at a node, with the last packet without a frame for each other node.
 ghost use Rattle.std.specs.Prelude.{◌≡◌, ◌≤◌, [], length, replicate, IfOk, OnOk, IfSome, None};
 ghost use Rattle.gb_types.specs.declared.limits.TheConstants.{NODES as MOST};
-ghost use Rattle.gb_frame.specs.Packet.{packet_of};
-ghost use Rattle.gb_frame.specs.Spelling.{packet_text, IsPacket};
+ghost use Rattle.gb_frame.specs.Common.{packet_of, packet_text, IsPacket};
 ghost use Rattle.gb_node.specs.Frames.{IsHead};
 ghost use Rattle.gb_node.specs.KeptAcks.{IsKept};
 

@@ -1,9 +1,8 @@
 //! What a packet and a tick do to the groups of a node, item by item.
 ghost use Rattle.std.specs.Prelude.{◌≡◌, fold, length};
-ghost use Rattle.gb_types.specs.Rising.{rising};
-ghost use Rattle.gb_frame.specs.Batch.{batch_in, IsBatch};
-ghost use Rattle.gb_frame.specs.Packet.{item_of};
-ghost use Rattle.gb_link.specs.SendWindow.{freed};
+ghost use Rattle.gb_types.specs.Common.{rising};
+ghost use Rattle.gb_frame.specs.Common.{batch_in, IsBatch, item_of};
+ghost use Rattle.gb_link.specs.Common.{freed};
 ghost use Rattle.gb_node.specs.NodeStep.{item_done, frame_done, without_done, item_comes, fate, new_items, frame_comes, receives, notice_each};
 
 use crate::answer::Frame;

@@ -1,13 +1,9 @@
 //! The sending end of a link whose frames are batches of items, kept as their texts.
 ghost use Rattle.std.specs.Prelude.{◌≡◌, ◌<◌, ◌≤◌, ◌∷◌, [], true, length, sum_by, None, Some, MatchOption, IfOk, OnOk, OnErr};
-ghost use Rattle.gb_frame.specs.Room.{room_of};
-ghost use Rattle.gb_frame.specs.Batch.{batch_in, IsBatch, FitPacket};
-ghost use Rattle.gb_frame.specs.Spelling.{items_text};
+ghost use Rattle.gb_frame.specs.Common.{room_of, batch_in, IsBatch, FitPacket, items_text};
 ghost use Rattle.gb_node.specs.Frames.{new_frames};
-ghost use Rattle.gb_link.specs.SendWindow.{IsWindow, has_room, pushed, frame_again, freed, acknowledged};
-ghost use Rattle.gb_table.specs.GroupsValue.{batch};
-ghost use Rattle.gb_table.specs.Packing.{size};
-ghost use Rattle.gb_table.specs.TableValue.{table_packed};
+ghost use Rattle.gb_link.specs.Common.{IsWindow, has_room, pushed, frame_again, freed, acknowledged};
+ghost use Rattle.gb_table.specs.Common.{batch, size, table_packed};
 ghost use Rattle.gb_node.specs.NodeStep.{batch_to};
 
 use gb_frame::laws::texts_tell_items;

@@ -1,6 +1,6 @@
 //! Three nodes, and steps at them with what they must tell, as tests. Tables name nodes by their numbers.
 ghost use Rattle.std.specs.Prelude.{◌<◌, ◌≤◌};
-ghost use Rattle.gb_types.specs.Version.{limits_of};
+ghost use Rattle.gb_types.specs.Common.{limits_of};
 
 use crate::events::{ADMIN_KEY, event};
 use crate::texts::CLUSTER_KEY;

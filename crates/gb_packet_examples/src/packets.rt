@@ -1,7 +1,6 @@
 //! Packets: what is written and read, each fault, and each limit at its last allowed and first refused value.
 ghost use Rattle.std.specs.Prelude.{All, IsTrue};
-ghost use Rattle.gb_frame.specs.Packet.{item_of};
-ghost use Rattle.gb_frame.specs.Spelling.{HasGeneration};
+ghost use Rattle.gb_frame.specs.Common.{item_of, HasGeneration};
 
 use gb_cap::HmacKey;
 use gb_frame::item::{count_items, first_item, put_item};

@@ -5,8 +5,7 @@ use Rattle.std.proofs.lemmas.Bool.Decides.{nat_tests}
 use mathlib.Core.List.{IsPrefix}
 use prog.Atomic.{either}
 use Rattle.logbook.specs.Pages.{Cell, cell, keeps, gives, adds, no_nib, Nib, may_write, step, Moves}
-use Rattle.gb_past.specs.declared.entry.Mark.{Mark}
-use Rattle.gb_past.specs.declared.entry.Mark.TheVariants.{Begun, Added}
+use Rattle.gb_past.specs.declared.{entry.Mark.Mark, entry.Mark.TheVariants.Begun, entry.Mark.TheVariants.Added}
 use Rattle.gb_past.specs.Marks.{IsKept, last_key, entries_from, AreHome, Begins, Finds, Looks, Adds}
 use Rattle.gb_past.proofs.Lists.{prefix_trans}
 use Rattle.gb_past.proofs.Walks.{home_set, home_more, home_here, away_past_end, AreHome-kept, AreHome-append, AreHome-later, last_key-append, entries_from-append, none_at_away, last_past-snoc}

@@ -3,8 +3,7 @@ use Rattle.std.proofs.Common.{◌≡◌, ℕ, zero, suc, ◌<◌, ◌==◌, Bool
 use Rattle.std.proofs.lemmas.Bool.Decides.{nat_tests}
 use mathlib.Core.List.{IsPrefix}
 use Rattle.logbook.specs.Pages.{Cell, cell}
-use Rattle.gb_past.specs.declared.entry.Mark.{Mark}
-use Rattle.gb_past.specs.declared.entry.Mark.TheVariants.{Begun, Added}
+use Rattle.gb_past.specs.declared.{entry.Mark.Mark, entry.Mark.TheVariants.Begun, entry.Mark.TheVariants.Added}
 use Rattle.gb_past.specs.Marks.{last_key, entries_from, past_of, last_past, AreHome}
 
 abbrev IsHome : List Cell → ℕ → Type 0

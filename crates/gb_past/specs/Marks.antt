@@ -2,8 +2,7 @@
 use Rattle.std.specs.Prelude.{ℕ, ◌≡◌, ◌<◌, ◌==◌, ◌++◌, true, List, [], ◌∷◌, length, if◌then◌else◌}
 use mathlib.Core.List.{IsPrefix}
 use Rattle.logbook.specs.Pages.{Cell, cell, Step, View, Book, Named, Nib, may_write, may_make}
-use Rattle.gb_past.specs.declared.entry.Mark.{Mark}
-use Rattle.gb_past.specs.declared.entry.Mark.TheVariants.{Begun, Added}
+use Rattle.gb_past.specs.declared.{entry.Mark.Mark, entry.Mark.TheVariants.Begun, entry.Mark.TheVariants.Added}
 use Rattle.gb_past.specs.Story.{Known, IsStory}
 
 -- The key of the owner's cell after these marks, if it was k before them

@@ -1,6 +1,5 @@
 -- Which line tells a fault.
-use Rattle.std.proofs.Common.{◌≡◌, ◌++◌, ℕ, List, refl}
-use Rattle.std.specs.Prelude.{codes}
+use Rattle.gb_types.specs.Common.{◌≡◌, ◌++◌, ℕ, List, refl, codes}
 use Rattle.gb_server.specs.Told.{lined}
 use Rattle.gb_server.specs.declared.fault.ServeFault.{ServeFault}
 use Rattle.gb_peer_run.specs.Complaint.{complaint, fault_words}

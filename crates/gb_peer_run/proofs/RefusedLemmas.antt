@@ -1,7 +1,5 @@
 -- Which faults of a node have which status.
-use Rattle.std.proofs.Common.{◌≡◌, ◌∙◌, ◌⊎◌, ℕ, Result, Ok, Err, arith, inl, inr, refl, subst, sym}
-use Rattle.std.specs.Prelude.{IsErrAnd, List}
-use Rattle.std.specs.Result.{IfErr}
+use Rattle.gb_types.specs.Common.{◌≡◌, ◌∙◌, ◌⊎◌, ℕ, Result, Ok, Err, arith, inl, inr, refl, subst, sym, IsErrAnd, List, IfErr}
 use Rattle.clap.specs.Words.{Text, matches_of}
 use Rattle.gb_peer_words.specs.declared.plan.PeerWords.{PeerWords}
 use Rattle.gb_peer_words.specs.Words.{IsReadOf, peer_app}
@@ -11,8 +9,7 @@ use Rattle.gb_server.specs.Faults.{of_words}
 use Rattle.gb_server.specs.declared.fault.ServeFault.TheVariants.{RefusedWords}
 use Rattle.gb_peer_run.specs.Refused.{AreRefused, IsFileRefused, IsNodeRefused, IsRefused}
 use Rattle.gb_peer_run.specs.Told.{fault_status}
-use Rattle.gb_peer_run.specs.declared.fault.PeerFault.{PeerFault}
-use Rattle.gb_peer_run.specs.declared.fault.PeerFault.TheVariants.{RefusedFile, Serve}
+use Rattle.gb_peer_run.specs.declared.{fault.PeerFault.PeerFault, fault.PeerFault.TheVariants.RefusedFile, fault.PeerFault.TheVariants.Serve}
 
 pub same_status : (fault other : PeerFault) (n : ℕ) → fault ≡ other → fault_status other ≡ n → fault_status fault ≡ n
 same_status fault other n is e = subst (λ (f : PeerFault). fault_status f ≡ n) (sym is) e

@@ -1,7 +1,6 @@
 -- What follows where a node was served.
-use Rattle.std.proofs.Common.{◌++◌, ℕ, List, [], Option, Result, Ok, Err, ap, append-nil, length, subst}
+use Rattle.gb_types.specs.Common.{◌++◌, ℕ, List, [], Option, Result, Ok, Err, ap, append-nil, length, subst, OnOk}
 use Rattle.std.specs.Io.KnownBytes.{Appends}
-use Rattle.std.specs.Result.{OnOk}
 use Rattle.clap.specs.Words.{Text}
 use Rattle.gb_session.proofs.RunLemmas.{Appends-join}
 use Rattle.gb_peer_run.specs.Told.{HasServed, closed_line, serving_line}

@@ -1,5 +1,5 @@
 -- Why a node is not served: its words, the cluster's file, its addresses, or the mark of its start.
-use Rattle.std.specs.Prelude.{◌≡◌, ◌≢◌, ◌⊎◌, ◌≤◌, ◌<◌, ℕ, List, [], true, false, codes, length}
+use Rattle.std.specs.Prelude.{◌≡◌, ◌≢◌, ◌⊎◌, ◌≤◌, ◌<◌, ℕ, List, [], true, codes, length}
 use Rattle.std.specs.Net.Addr.{IsLoopbackV4, IsLoopbackV6, MatchIp, is_ipv4}
 use Rattle.std.specs.Net.Socket.{socket_ip}
 use Rattle.std.specs.declared.net.socket_addr.SocketAddr.{SocketAddr}
@@ -7,12 +7,11 @@ use Rattle.clap.specs.Words.{Text, fault_of, matches_of, one_of, takes}
 use Rattle.gb_cluster_file.specs.Cluster.{IsFileOf}
 use Rattle.gb_cluster_file.specs.declared.file.ClusterFile.{ClusterFile}
 use Rattle.gb_peer_words.specs.Words.{IsReadOf, peer_app}
-use Rattle.gb_peer_words.specs.declared.plan.PeerPlan.{PeerPlan}
-use Rattle.gb_peer_words.specs.declared.plan.PeerWords.{PeerWords}
+use Rattle.gb_peer_words.specs.declared.{plan.PeerPlan.PeerPlan, plan.PeerWords.PeerWords}
 use Rattle.gb_serve_words.specs.Options.{HasAddress}
 use Rattle.gb_server.specs.declared.fault.ServeFault.TheVariants.{RefusedWords, OutOfMemory}
 use Rattle.gb_peer_run.specs.declared.fault.PeerFault.{PeerFault}
-use Rattle.gb_peer_run.specs.declared.fault.PeerFault.TheVariants.{RefusedFile, NoNode, Remote, NotFound, Begun, Unmarked, Packets, Sessions, Serve}
+use Rattle.gb_peer_run.specs.declared.fault.PeerFault.TheVariants.{RefusedFile, NoNode, Remote, NotFound, Begun, Unmarked, Serve}
 
 -- words that name no node and no file: `clap` refuses them, or what they give as the address for the status is none
 abbrev pub AreRefused : List Text → Type 0

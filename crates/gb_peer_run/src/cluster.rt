@@ -2,7 +2,7 @@
 //! options of its loop.
 ghost use Rattle.std.specs.Prelude.{◌≡◌, ◌≤◌, ◌<◌, IfOk, IfErr, length};
 ghost use Rattle.gb_cluster_file.specs.Cluster.{IsWithin};
-ghost use Rattle.gb_host.specs.Plans.{IsPlan};
+ghost use Rattle.gb_host.specs.Common.{IsPlan};
 ghost use Rattle.gb_peer_run.specs.Peers.{ArePeerOptions, host_of};
 ghost use Rattle.gb_types.specs.declared.limits.TheConstants.{NODES};
 

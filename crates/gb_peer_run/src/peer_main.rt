@@ -3,8 +3,7 @@ ghost use Rattle.std.specs.Prelude.{◌≡◌, ◌≢◌, ◌≤◌, ◌<◌, �
 ghost use Rattle.std.specs.Io.KnownBytes.{Appends, Consumes};
 ghost use Rattle.gb_cluster_file.specs.Cluster.{IsWithin};
 ghost use Rattle.gb_peer_words.specs.Words.{IsWithin as IsPlanWithin};
-ghost use Rattle.gb_host.specs.Pasts.{AreBlank, books_of};
-ghost use Rattle.gb_host.specs.Plans.{IsPlan};
+ghost use Rattle.gb_host.specs.Common.{AreBlank, books_of, IsPlan};
 ghost use Rattle.gb_server.specs.Keys.{AreKeys};
 ghost use Rattle.clap.specs.Words.{matches_of};
 ghost use Rattle.gb_peer_words.specs.Words.{IsReadOf, peer_app};

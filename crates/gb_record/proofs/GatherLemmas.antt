@@ -1,9 +1,7 @@
 -- What is gathered, one after another.
-use Rattle.std.proofs.Common.{◌≡◌, ℕ, Bool, true, false, List, [], ◌∷◌, ◌++◌, sym, ap, ◌∙◌, append_assoc}
-use Rattle.std.specs.Prelude.{if◌then◌else◌}
-use Rattle.std.proofs.lemmas.List.{append-nil}
+use Rattle.gb_types.specs.Common.{◌≡◌, ℕ, Bool, true, false, List, [], ◌∷◌, ◌++◌, sym, ap, ◌∙◌, append_assoc, if◌then◌else◌, append-nil}
 use Rattle.gb_node.specs.declared.tape.TapeEntry.{TapeEntry}
-use Rattle.gb_host.specs.RingValues.{RecorderValue}
+use Rattle.gb_host.specs.Common.{RecorderValue}
 use Rattle.gb_record_text.specs.RecordText.{entry_line, entry_lines, last_line}
 use Rattle.gb_record_text.proofs.LineLemmas.{lines_more}
 use Rattle.gb_record.specs.Gathered.{IsGathered}

@@ -1,15 +1,10 @@
 -- What is written, and what is known of it.
-use Rattle.std.proofs.Common.{◌≡◌, ℕ, Bool, true, false, ◌||◌, ◌≤◌, ◌-◌, length, take, drop, arith, List, [], ◌∷◌, ◌++◌, ◌⊎◌, inl, inr, Option, Some, None, refl, sym, ap, subst, ◌∙◌, cond, true≢false, append_assoc}
-use Rattle.std.specs.Prelude.{filter}
+use Rattle.gb_types.specs.Common.{◌≡◌, ℕ, Bool, true, false, ◌||◌, ◌≤◌, ◌-◌, length, take, drop, arith, List, [], ◌∷◌, ◌++◌, ◌⊎◌, inl, inr, Option, Some, None, refl, sym, ap, subst, ◌∙◌, cond, true≢false, append_assoc, filter, list_any, append-nil, drop_at, length-append, length-drop, take-length, list_any-append}
 use Rattle.std.specs.Io.KnownBytes.{Appends, Keeps}
-use Rattle.std.specs.List.{list_any}
 use Rattle.std.proofs.Math.Logic.{∥∥₁_map}
-use Rattle.std.proofs.lemmas.List.{append-nil, drop_at, length-append, length-drop}
-use Rattle.std.proofs.Math.Seq.{take-length}
-use Rattle.std.proofs.lemmas.List.Folds.{list_any-append}
 use Rattle.gb_types.proofs.BoolLemmas.{or_first, or_second}
 use Rattle.gb_node.specs.declared.tape.TapeEntry.{TapeEntry}
-use Rattle.gb_host.specs.RingValues.{RecorderValue}
+use Rattle.gb_host.specs.Common.{RecorderValue}
 use Rattle.gb_record_text.specs.RecordText.{entry_lines}
 use Rattle.gb_record_text.specs.declared.record.WriteFault.{WriteFault}
 use Rattle.gb_record.specs.Gathered.{IsGathered, IsWritten}

@@ -2,7 +2,7 @@
 use Rattle.std.specs.Prelude.{ℕ, ◌≡◌, ◌||◌, true, List, ◌++◌, Option}
 use Rattle.std.specs.Io.KnownBytes.{Appends}
 use Rattle.gb_node.specs.declared.tape.TapeEntry.{TapeEntry}
-use Rattle.gb_host.specs.RingValues.{RecorderValue}
+use Rattle.gb_host.specs.Common.{RecorderValue}
 use Rattle.gb_record.specs.Recorded.{is_sent, record_lines}
 
 -- A text has gained the lines of what a recorder took, and a list its entries.

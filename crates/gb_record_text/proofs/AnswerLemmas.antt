@@ -1,40 +1,19 @@
 -- Two answers to one event with one text are equal, and each turn answers its event.
-use Rattle.std.proofs.Common.{◌≡◌, ℕ, ◌<◌, ◌^◌, inl, inr, Bool, true, false, List, [], ◌∷◌, ◌++◌, get_or, drop, refl, sym, ap, subst, ◌∙◌, arith, decimal, append_assoc}
-use Rattle.std.specs.Prelude.{codes, if◌then◌else◌, length}
-use Rattle.std.specs.List.{All, flat_map}
+use Rattle.gb_types.specs.Common.{◌≡◌, ℕ, ◌<◌, ◌^◌, inl, inr, Bool, true, false, List, [], ◌∷◌, ◌++◌, get_or, drop, refl, sym, ap, subst, ◌∙◌, arith, decimal, append_assoc, codes, if◌then◌else◌, length, All, flat_map, All-head, All-tail, FitsEntry, FitsReply, OneTextOneReply, IsLong, payload_word, refusal_number, refusal_name, entry_text, reply_spelling}
 use Rattle.std.proofs.lemmas.Fmt.{decimal_injective}
-use Rattle.std.proofs.lemmas.List.Elements.{All-head, All-tail}
-use Rattle.gb_types.specs.Laws.{FitsEntry, FitsReply, OneTextOneReply}
-use Rattle.gb_types.specs.RequestWords.{IsLong}
-use Rattle.gb_types.specs.PayloadWord.{payload_word}
-use Rattle.gb_types.specs.Refusal.{refusal_number, refusal_name}
-use Rattle.gb_types.specs.ReplyText.{entry_text, reply_spelling}
-use Rattle.gb_types.specs.declared.entry.Entry.{Entry}
-use Rattle.gb_types.specs.declared.refusal.Refusal.{Refusal}
-use Rattle.gb_types.specs.declared.refusal.Refusal.TheVariants.{Denied}
-use Rattle.gb_types.specs.declared.reply.Reply.{Reply}
+use Rattle.gb_types.specs.declared.{entry.Entry.Entry, refusal.Refusal.Refusal, refusal.Refusal.TheVariants.Denied, reply.Reply.Reply}
 use Rattle.gb_types.specs.declared.reply.Reply.TheVariants.{Done, Said, Log, Refused}
 use Rattle.gb_types.proofs.CutLemmas.{Without, cut, without-append, without-decimal}
 use Rattle.gb_types.proofs.PayloadLemmas.{same_payload}
-use Rattle.gb_frame.specs.Faults.{fault_number}
+use Rattle.gb_frame.specs.Common.{fault_number}
 use Rattle.gb_frame.specs.declared.fault.PacketFault.{PacketFault}
 use Rattle.gb_frame.specs.declared.fault.PacketFault.TheVariants.{Short, Magic, Version, Node, Mask, Count, Length, Trailing, TooLong, Tag}
-use Rattle.gb_node.specs.NodeStep.{IsTurn, IsStarved, stopped_answer, running_turn}
-use Rattle.gb_node.specs.NodeValue.{NodeValue}
-use Rattle.gb_node.specs.declared.answer.Frame.{Frame}
+use Rattle.gb_node.specs.Common.{IsTurn, IsStarved, stopped_answer, running_turn, NodeValue}
+use Rattle.gb_node.specs.declared.{answer.Frame.Frame, answer.Good.Good, answer.Halted.Halted, answer.Halted.TheVariants.Done as HaltDone, answer.Halted.TheVariants.Refused as HaltRefused, answer.NodeAnswer.NodeAnswer, answer.PacketAnswer.PacketAnswer, answer.Sent.Sent as SentValue, answer.Ticked.Ticked as TickedValue, answer.Ticked.TheVariants.Noticed, answer.Ticked.TheVariants.Refused as TickRefused, event.NodeEvent.NodeEvent}
 use Rattle.gb_node.specs.declared.answer.Frame.TheVariants.{Nothing as NoFrame, First, Seen, Outside}
-use Rattle.gb_node.specs.declared.answer.Good.{Good}
-use Rattle.gb_node.specs.declared.answer.Halted.{Halted}
-use Rattle.gb_node.specs.declared.answer.Halted.TheVariants.{Done as HaltDone, Refused as HaltRefused}
-use Rattle.gb_node.specs.declared.answer.NodeAnswer.{NodeAnswer}
 use Rattle.gb_node.specs.declared.answer.NodeAnswer.TheVariants.{Reply as Replied, Taken, Sent, Ticked, Halted as Halts}
-use Rattle.gb_node.specs.declared.answer.PacketAnswer.{PacketAnswer}
 use Rattle.gb_node.specs.declared.answer.PacketAnswer.TheVariants.{Good as TakenGood, Fault as TakenFault, Refused as TakenRefused}
-use Rattle.gb_node.specs.declared.answer.Sent.{Sent as SentValue}
 use Rattle.gb_node.specs.declared.answer.Sent.TheVariants.{Packet as SentPacket, Nothing, Refused as SentRefused}
-use Rattle.gb_node.specs.declared.answer.Ticked.{Ticked as TickedValue}
-use Rattle.gb_node.specs.declared.answer.Ticked.TheVariants.{Noticed, Refused as TickRefused}
-use Rattle.gb_node.specs.declared.event.NodeEvent.{NodeEvent}
 use Rattle.gb_node.specs.declared.event.NodeEvent.TheVariants.{Request as Asked, Packet as Came, Pack, Again, Ack, Tick, Stop}
 use Rattle.gb_simulate.specs.AnswerText.{frame_word, fault_name, fault_spelling, each_after_space, noticed_words, ticked_spelling, halted_spelling}
 use Rattle.gb_record_text.specs.Fits.{FitsAnswer}

@@ -1,27 +1,9 @@
 -- Two events with one line are equal.
-use Rattle.std.proofs.Common.{◌≡◌, ℕ, ◌+◌, ◌*◌, Bool, true, false, List, [], ◌∷◌, ◌++◌, get_or, drop, Option, None, Some, refl, sym, ap, subst, ◌∙◌, arith, decimal, append_assoc}
-use Rattle.std.specs.Prelude.{codes, ◌==◌, if◌then◌else◌}
-use Rattle.std.specs.Option.{ForSome}
+use Rattle.gb_types.specs.Common.{◌≡◌, ℕ, ◌+◌, ◌*◌, Bool, true, false, List, [], ◌∷◌, ◌++◌, get_or, drop, Option, None, Some, refl, sym, ap, subst, ◌∙◌, arith, decimal, append_assoc, codes, ◌==◌, if◌then◌else◌, ForSome, module_word, order_word, kind_word, OneWordOneKind, members_word, payload_word, IsShort, IsLong, IsGroup, group_word, with_dot, seq_words}
 use Rattle.std.proofs.lemmas.Fmt.{decimal_injective}
 use Rattle.hex.specs.Hex.{IsBytes, encode_lower}
-use Rattle.gb_types.specs.KindWord.{module_word, order_word, kind_word}
-use Rattle.gb_types.specs.Laws.{OneWordOneKind}
-use Rattle.gb_types.specs.MembersWord.{members_word}
-use Rattle.gb_types.specs.PayloadWord.{payload_word}
-use Rattle.gb_types.specs.RequestWords.{IsShort, IsLong, IsGroup, group_word, with_dot, seq_words}
-use Rattle.gb_types.specs.declared.address.Addr.{Addr}
-use Rattle.gb_types.specs.declared.kind.Kind.{Kind}
-use Rattle.gb_types.specs.declared.kind.Module.{Module}
-use Rattle.gb_types.specs.declared.kind.Module.TheVariants.{BestEffort}
-use Rattle.gb_types.specs.declared.kind.Order.{Order}
-use Rattle.gb_types.specs.declared.kind.Order.TheVariants.{Any, Fifo}
-use Rattle.gb_types.specs.declared.node.NodeId.{NodeId}
-use Rattle.gb_types.specs.declared.request.Action.{Action}
-use Rattle.gb_types.specs.declared.request.Action.TheVariants.{AddTenant, Group}
-use Rattle.gb_types.specs.declared.request.GroupCommand.{GroupCommand}
+use Rattle.gb_types.specs.declared.{address.Addr.Addr, kind.Kind.Kind, kind.Module.Module, kind.Module.TheVariants.BestEffort, kind.Order.Order, kind.Order.TheVariants.Any, kind.Order.TheVariants.Fifo, node.NodeId.NodeId, request.Action.Action, request.Action.TheVariants.AddTenant, request.Action.TheVariants.Group, request.GroupCommand.GroupCommand, spec.Spec.Spec, spec.TenantRow.TenantRow}
 use Rattle.gb_types.specs.declared.request.GroupCommand.TheVariants.{Make, Open, Shut, Drop, Say, Fetch}
-use Rattle.gb_types.specs.declared.spec.Spec.{Spec}
-use Rattle.gb_types.specs.declared.spec.TenantRow.{TenantRow}
 use Rattle.gb_types.proofs.CutLemmas.{Without, without-append, without-decimal}
 use Rattle.gb_types.proofs.GroupWordLemmas.{one_address}
 use Rattle.gb_types.proofs.PayloadLemmas.{same_payload}

@@ -1,14 +1,7 @@
 -- Lines and records that say the same.
-use Rattle.std.proofs.Common.{◌≡◌, ◌≢◌, ℕ, ◌<◌, ◌^◌, Bool, true, false, List, [], ◌∷◌, ◌++◌, drop, inl, inr, refl, sym, ap, subst, ◌∙◌, arith, decimal, append_assoc, append-nil}
-use Rattle.std.specs.Prelude.{codes, if◌then◌else◌, length, All}
+use Rattle.gb_types.specs.Common.{◌≡◌, ◌≢◌, ℕ, ◌<◌, ◌^◌, Bool, true, false, List, [], ◌∷◌, ◌++◌, drop, inl, inr, refl, sym, ap, subst, ◌∙◌, arith, decimal, append_assoc, append-nil, codes, if◌then◌else◌, length, All, All-head, All-tail, OneTextOneReply, OneWordOneKind, IsShort, limits_of, words_of}
 use Rattle.std.proofs.lemmas.Fmt.{decimal_injective}
-use Rattle.std.proofs.lemmas.List.Elements.{All-head, All-tail}
-use Rattle.gb_types.specs.Laws.{OneTextOneReply, OneWordOneKind}
-use Rattle.gb_types.specs.RequestWords.{IsShort}
-use Rattle.gb_types.specs.Version.{limits_of}
-use Rattle.gb_types.specs.Words.{words_of}
-use Rattle.gb_types.specs.declared.node.NodeId.{NodeId}
-use Rattle.gb_types.specs.declared.version.Version.{Version}
+use Rattle.gb_types.specs.declared.{node.NodeId.NodeId, version.Version.Version}
 use Rattle.gb_types.specs.declared.version.Version.TheVariants.{One, Two, Three}
 use Rattle.gb_types.proofs.CutLemmas.{Without, cut}
 use Rattle.gb_node.specs.declared.tape.TapeEntry.{TapeEntry}

@@ -1,6 +1,5 @@
 -- Reading a record line by line.
-use Rattle.std.proofs.Common.{◌≡◌, ℕ, Bool, true, false, List, [], ◌∷◌, ◌++◌, sym, ap, subst, ◌∙◌, append_assoc}
-use Rattle.std.specs.Prelude.{codes, if◌then◌else◌}
+use Rattle.gb_types.specs.Common.{◌≡◌, ℕ, Bool, true, false, List, [], ◌∷◌, ◌++◌, sym, ap, subst, ◌∙◌, append_assoc, codes, if◌then◌else◌}
 use Rattle.gb_types.specs.declared.node.NodeId.{NodeId}
 use Rattle.gb_types.proofs.SameLemmas.{same_number}
 use Rattle.gb_node.specs.declared.tape.TapeEntry.{TapeEntry}

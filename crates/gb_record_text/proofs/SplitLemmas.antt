@@ -1,25 +1,13 @@
 -- Lines that are cut at their blanks.
-use Rattle.std.proofs.Common.{◌≡◌, ◌≢◌, ℕ, ◌+◌, ◌<◌, ◌≤◌, ◌^◌, Bool, true, false, cond, eqb, List, [], ◌∷◌, ◌++◌, map, get_or, length, None, inl, inr, refl, sym, ap, ◌∙◌, arith, decimal, suc, zero}
-use Rattle.std.specs.Prelude.{nat_lt, ◌&&◌, nat_eq, filter}
+use Rattle.gb_types.specs.Common.{◌≡◌, ◌≢◌, ℕ, ◌+◌, ◌<◌, ◌≤◌, ◌^◌, Bool, true, false, cond, eqb, List, [], ◌∷◌, ◌++◌, map, get_or, length, None, inl, inr, refl, sym, ap, ◌∙◌, arith, decimal, suc, zero, nat_lt, ◌&&◌, nat_eq, filter, IsInRange, All, list_any, join_with_byte, range_with_len, nat_cmp, ne_eqb, nat_tests, All-nil, All-cons, members_word, payload_word, rising, AreNodes, words_of}
 use Rattle.std.specs.FinSet as fin
 use Rattle.std.specs.Cmp.{nat_cmp_total}
 use Rattle.std.specs.FinSet.{nat_cmp-IsAntisymmetric}
-use Rattle.std.specs.Int.{IsInRange}
-use Rattle.std.specs.List.{All, list_any, join_with_byte, range_with_len}
-use Rattle.std.specs.Ordering.{nat_cmp}
-use Rattle.std.proofs.lemmas.Bool.{ne_eqb}
-use Rattle.std.proofs.lemmas.Bool.Decides.{nat_tests}
 use Rattle.std.proofs.lemmas.Fmt.{decimal_injective, decimal_nonempty}
-use Rattle.std.proofs.lemmas.List.Elements.{All-nil, All-cons}
 use Rattle.std.proofs.lemmas.List.Splits.{slice_split_at, join_with_byte-slice_split}
 use Rattle.hex.specs.Hex.{IsBytes, decode_of, encode_lower, encode_with, hex_digit_value}
 use Rattle.hex.proofs.HexLemmas.{decode_of-encode_lower}
-use Rattle.gb_types.specs.MembersWord.{members_word}
-use Rattle.gb_types.specs.PayloadWord.{payload_word}
-use Rattle.gb_types.specs.Rising.{rising, AreNodes}
-use Rattle.gb_types.specs.Words.{words_of}
-use Rattle.gb_types.specs.declared.limits.TheConstants.{NODES}
-use Rattle.gb_types.specs.declared.node.NodeId.{NodeId}
+use Rattle.gb_types.specs.declared.{limits.TheConstants.NODES, node.NodeId.NodeId}
 use Rattle.gb_types.proofs.BoolLemmas.{and_left, and_right}
 use Rattle.gb_types.proofs.CutLemmas.{Without, Begins, cut, without-append, without-decimal}
 use Rattle.gb_types.proofs.PayloadLemmas.{without-payload_word}

@@ -1,12 +1,6 @@
 -- How the members of a group are written.
-use Rattle.std.proofs.Common.{◌≡◌, ℕ, List, [], ◌∷◌, ◌++◌, refl, sym, ◌∙◌, ap}
-use Rattle.std.proofs.lemmas.List.{append_assoc, append-nil}
+use Rattle.gb_types.specs.Common.{◌≡◌, ℕ, List, [], ◌∷◌, ◌++◌, refl, sym, ◌∙◌, ap, append_assoc, append-nil, join_with_byte, nat_cmp, decimal, map, members_word, rising, rising_from}
 use Rattle.std.specs.FinSet as set
-use Rattle.std.specs.List.{join_with_byte}
-use Rattle.std.specs.Ordering.{nat_cmp}
-use Rattle.std.specs.Prelude.{codes, decimal, map}
-use Rattle.gb_types.specs.MembersWord.{members_word}
-use Rattle.gb_types.specs.Rising.{rising, rising_from}
 use Rattle.gb_record_text.specs.RecordText.{each_after_comma}
 
 rising_all : (s : set.FinSet nat_cmp) → rising s ≡ rising_from s 0

@@ -2,28 +2,13 @@
 use Rattle.std.specs.Prelude.{◌<◌, ◌^◌, All}
 use Rattle.std.specs.Option.{ForSome}
 use Rattle.hex.specs.Hex.{IsBytes}
-use Rattle.gb_types.specs.Laws.{FitsReply}
-use Rattle.gb_types.specs.RequestWords.{IsShort, IsLong, IsGroup}
-use Rattle.gb_types.specs.Rising.{AreNodes}
-use Rattle.gb_types.specs.declared.address.Addr.{Addr}
-use Rattle.gb_types.specs.declared.new_message.NewMessage.{NewMessage}
-use Rattle.gb_types.specs.declared.request.Action.{Action}
-use Rattle.gb_types.specs.declared.request.Action.TheVariants.{AddTenant, Group}
-use Rattle.gb_types.specs.declared.request.GroupCommand.{GroupCommand}
+use Rattle.gb_types.specs.Common.{FitsReply, IsShort, IsLong, IsGroup, AreNodes}
+use Rattle.gb_types.specs.declared.{address.Addr.Addr, new_message.NewMessage.NewMessage, request.Action.Action, request.Action.TheVariants.AddTenant, request.Action.TheVariants.Group, request.GroupCommand.GroupCommand, request.Request.Request, spec.Spec.Spec, spec.TenantRow.TenantRow}
 use Rattle.gb_types.specs.declared.request.GroupCommand.TheVariants.{Make, Say, Fetch}
-use Rattle.gb_types.specs.declared.request.Request.{Request}
-use Rattle.gb_types.specs.declared.spec.Spec.{Spec}
-use Rattle.gb_types.specs.declared.spec.TenantRow.{TenantRow}
-use Rattle.gb_node.specs.declared.answer.NodeAnswer.{NodeAnswer}
+use Rattle.gb_node.specs.declared.{answer.NodeAnswer.NodeAnswer, answer.PacketAnswer.TheVariants.Good as TakenGood, answer.Sent.TheVariants.Packet as SentPacket, answer.Ticked.TheVariants.Noticed, event.NodeEvent.NodeEvent, tape.TapeEntry.TapeEntry}
 use Rattle.gb_node.specs.declared.answer.NodeAnswer.TheVariants.{Reply as Replied, Taken, Sent, Ticked}
-use Rattle.gb_node.specs.declared.answer.PacketAnswer.TheVariants.{Good as TakenGood}
-use Rattle.gb_node.specs.declared.answer.Sent.TheVariants.{Packet as SentPacket}
-use Rattle.gb_node.specs.declared.answer.Ticked.TheVariants.{Noticed}
-use Rattle.gb_node.specs.declared.event.NodeEvent.{NodeEvent}
 use Rattle.gb_node.specs.declared.event.NodeEvent.TheVariants.{Request as Asked, Packet as Came, Again}
-use Rattle.gb_node.specs.declared.tape.TapeEntry.{TapeEntry}
-use Rattle.gb_record_text.specs.declared.head.RecordHead.{RecordHead}
-use Rattle.gb_record_text.specs.declared.reader.Record.{Record}
+use Rattle.gb_record_text.specs.declared.{head.RecordHead.RecordHead, reader.Record.Record}
 
 abbrev pub FitsAddress : Addr → Type 0
 FitsAddress addr = IsShort addr.tenant × IsGroup addr

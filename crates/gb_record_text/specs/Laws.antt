@@ -1,13 +1,10 @@
 -- Laws of the lines of entries and of the texts of records: what is written is one thing alone.
 use Rattle.std.specs.Prelude.{◌≡◌, ℕ, List, All}
 use Rattle.gb_types.specs.declared.node.NodeId.{NodeId}
-use Rattle.gb_node.specs.NodeStep.{IsTurn}
-use Rattle.gb_node.specs.NodeValue.{NodeValue}
-use Rattle.gb_node.specs.declared.answer.NodeAnswer.{NodeAnswer}
+use Rattle.gb_node.specs.Common.{IsTurn, NodeValue}
+use Rattle.gb_node.specs.declared.{answer.NodeAnswer.NodeAnswer, event.NodeEvent.NodeEvent, tape.TapeEntry.TapeEntry}
 use Rattle.gb_node.specs.declared.answer.NodeAnswer.TheVariants.{Reply as Replied, Taken, Sent, Ticked, Halted as Halts}
-use Rattle.gb_node.specs.declared.event.NodeEvent.{NodeEvent}
 use Rattle.gb_node.specs.declared.event.NodeEvent.TheVariants.{Request as Asked, Packet as Came, Pack, Again, Ack, Tick, Stop}
-use Rattle.gb_node.specs.declared.tape.TapeEntry.{TapeEntry}
 use Rattle.gb_record_text.specs.Fits.{FitsEntry, FitsRecord}
 use Rattle.gb_record_text.specs.RecordText.{entry_line, entry_lines}
 use Rattle.gb_record_text.specs.Records.{IsRecord}

@@ -2,9 +2,8 @@
 ghost use Rattle.std.specs.Prelude.{All};
 ghost use Rattle.std.specs.Option.{ForSome};
 ghost use Rattle.hex.specs.Hex.{IsBytes};
-ghost use Rattle.gb_types.specs.Laws.{FitsEntry as FitsLogEntry, FitsReply};
-ghost use Rattle.gb_types.specs.RequestWords.{IsLong};
-ghost use Rattle.gb_types.specs.Rising.{AreNodes};
+ghost use Rattle.gb_types.specs.Common.{FitsReply, IsLong, AreNodes};
+ghost use Rattle.gb_types.specs.Laws.{FitsEntry as FitsLogEntry};
 ghost use Rattle.gb_record_text.specs.Fits.{FitsAddress, FitsRow, FitsSpec, FitsMessage, FitsCommand, FitsAction, FitsRequest, FitsEvent, FitsAnswer, FitsEntry, FitsHead};
 
 use crate::head::RecordHead;

@@ -1,7 +1,7 @@
 //! The entries of a log as text, appended one after the other, with their payloads a block of digits at a time.
 ghost use Rattle.std.specs.Prelude.{◌≡◌, ◌++◌, codes, decimal, OnOk};
 ghost use Rattle.std.specs.List.{flat_map};
-ghost use Rattle.gb_types.specs.ReplyText.{entry_text, reply_spelling};
+ghost use Rattle.gb_types.specs.Common.{entry_text, reply_spelling};
 
 use crate::digits::put_payload;
 use gb_types::memory::put_bytes;

@@ -1,10 +1,7 @@
 //! How an entry of a tape is written. If there is no memory, a part of it may have been appended.
 ghost use Rattle.std.specs.Prelude.{◌≡◌, ◌++◌, [], ◌∷◌, codes, decimal, OnOk, OnErr};
 ghost use Rattle.hex.specs.Hex.{encode_lower};
-ghost use Rattle.gb_types.specs.CommandWords.{head_word};
-ghost use Rattle.gb_types.specs.MembersWord.{members_word};
-ghost use Rattle.gb_types.specs.RequestWords.{group_word};
-ghost use Rattle.gb_types.specs.Rising.{rising, rising_from};
+ghost use Rattle.gb_types.specs.Common.{head_word, members_word, group_word, rising, rising_from};
 ghost use Rattle.gb_record_text.specs.RecordText.{after_space, address_text, token_text, limits_text, row_text, spec_text, message_text, each_after_comma, command_head, command_text, action_text, request_text, event_text, taken_text, sent_text, answer_text, entry_line};
 
 use crate::digits::{put_digits, put_payload};

@@ -1,31 +1,13 @@
 -- A node whose keys are redacted does what the node does.
-use Rattle.std.proofs.Common.{◌≡◌, ℕ, zero, suc, ◌+◌, ◌<◌, ◌≤◌, Bool, true, false, List, [], ◌∷◌, ◌++◌, length, take, get_or, Option, Some, None, Result, Ok, Err, inl, inr, refl, sym, ap, subst, ◌∙◌, arith}
-use Rattle.std.specs.Prelude.{slice_set, if◌then◌else◌}
-use Rattle.std.proofs.Math.Seq.{take-length}
-use Rattle.std.proofs.lemmas.List.{take_more}
-use Rattle.gb_types.specs.declared.node.NodeId.{NodeId}
-use Rattle.gb_types.specs.declared.reply.Reply.{Reply}
-use Rattle.gb_types.specs.declared.request.Action.{Action}
-use Rattle.gb_types.specs.declared.request.Action.TheVariants.{AddTenant, Group}
-use Rattle.gb_types.specs.declared.spec.TenantRow.{TenantRow}
-use Rattle.gb_types.specs.Rising.{rising}
-use Rattle.gb_frame.specs.declared.fault.PacketFault.{PacketFault}
-use Rattle.gb_frame.specs.declared.item.Item.{Item}
-use Rattle.gb_frame.specs.Packet.{Content}
+use Rattle.gb_types.specs.Common.{◌≡◌, ℕ, zero, suc, ◌+◌, ◌<◌, ◌≤◌, Bool, true, false, List, [], ◌∷◌, ◌++◌, length, take, get_or, Option, Some, None, Result, Ok, Err, inl, inr, refl, sym, ap, subst, ◌∙◌, arith, slice_set, if◌then◌else◌, take-length, take_more, rising}
+use Rattle.gb_types.specs.declared.{node.NodeId.NodeId, reply.Reply.Reply, request.Action.Action, request.Action.TheVariants.AddTenant, request.Action.TheVariants.Group, spec.TenantRow.TenantRow}
+use Rattle.gb_frame.specs.declared.{fault.PacketFault.PacketFault, item.Item.Item}
+use Rattle.gb_frame.specs.Common.{Content}
 use Rattle.gb_detect.specs.Watch.{due, after_tick}
-use Rattle.gb_table.specs.TableValue.{TableValue}
-use Rattle.gb_table.specs.Requests.{TakesMemory, table_reply}
-use Rattle.gb_node.specs.NodeStep.{Turn, turn, running_turn, stopped_answer, heard, took_ack, took_frame, node_took, node_read, read_at, newly_done, without_done, window_to, receiver_from, receives, node_numbered, next_batch, sent_batch, node_did, IsTurn, IsStarved, IsSpelt}
-use Rattle.gb_node.specs.NodeValue.{NodeValue}
-use Rattle.gb_node.specs.Past.{Happened, ComesTo, added, tenants_in}
-use Rattle.gb_node.specs.PastLaw.{PastsSay}
-use Rattle.gb_node.specs.declared.answer.NodeAnswer.{NodeAnswer}
-use Rattle.gb_node.specs.declared.answer.NodeAnswer.TheVariants.{Reply as Replied, Sent}
-use Rattle.gb_node.specs.declared.answer.Sent.TheVariants.{Packet as SentPacket}
-use Rattle.gb_node.specs.declared.event.NodeEvent.{NodeEvent}
+use Rattle.gb_table.specs.Common.{TableValue, TakesMemory, table_reply}
+use Rattle.gb_node.specs.Common.{Turn, turn, running_turn, stopped_answer, heard, took_ack, took_frame, node_took, node_read, read_at, newly_done, without_done, window_to, receiver_from, receives, node_numbered, next_batch, sent_batch, node_did, IsTurn, IsStarved, IsSpelt, NodeValue, Happened, ComesTo, added, tenants_in, PastsSay}
+use Rattle.gb_node.specs.declared.{answer.NodeAnswer.NodeAnswer, answer.NodeAnswer.TheVariants.Reply as Replied, answer.NodeAnswer.TheVariants.Sent, answer.Sent.TheVariants.Packet as SentPacket, event.NodeEvent.NodeEvent, plan.NodePlan.NodePlan, tape.TapeEntry.TapeEntry}
 use Rattle.gb_node.specs.declared.event.NodeEvent.TheVariants.{Request as Asked, Packet as Came, Pack, Again, Ack, Tick, Stop}
-use Rattle.gb_node.specs.declared.plan.NodePlan.{NodePlan}
-use Rattle.gb_node.specs.declared.tape.TapeEntry.{TapeEntry}
 use Rattle.gb_redact.specs.Redacted.{redacted_action, redacted_event, redacted_entry, rows_in, AreRedacted}
 use Rattle.gb_redact.specs.Pasts.{happened, past_of, redacted_node, redacted_plan, StaysDenied, StayDenied, RedactedAreATape}
 use Rattle.gb_redact.proofs.TableLemmas.{frames_done_blind, frame_blind, notice_blind, table_reply_same, did_same}

@@ -1,32 +1,17 @@
 -- What happens at a table does not depend on its keys, but for the tokens that admit.
-use Rattle.std.proofs.Common.{◌≡◌, ℕ, Bool, true, false, List, [], ◌∷◌, Option, Some, None, refl, sym, ap, ap₂, ◌∙◌}
-use Rattle.std.specs.Prelude.{◌+◌, map, fold, nat_lt, nat_eq, is_some, option_map, if◌then◌else◌}
+use Rattle.gb_types.specs.Common.{◌≡◌, ℕ, Bool, true, false, List, [], ◌∷◌, Option, Some, None, refl, sym, ap, ap₂, ◌∙◌, ◌+◌, map, fold, nat_lt, nat_eq, is_some, option_map, if◌then◌else◌, nat_cmp, map-append, message_of}
 use Rattle.std.specs.FinSet as set
-use Rattle.std.specs.Ordering.{nat_cmp}
-use Rattle.std.proofs.lemmas.List.{map-append}
-use Rattle.gb_types.specs.declared.limits.TheConstants.{NODES}
-use Rattle.gb_types.specs.declared.node.NodeId.{NodeId}
-use Rattle.gb_types.specs.declared.refusal.Refusal.TheVariants.{Denied}
-use Rattle.gb_types.specs.declared.reply.Reply.{Reply}
+use Rattle.gb_types.specs.declared.{limits.TheConstants.NODES, node.NodeId.NodeId, refusal.Refusal.TheVariants.Denied, reply.Reply.Reply, request.Action.Action, request.Action.TheVariants.AddTenant, request.Action.TheVariants.Group, request.GroupCommand.TheVariants.Make, request.Request.Request, spec.TenantRow.TenantRow}
 use Rattle.gb_types.specs.declared.reply.Reply.TheVariants.{Done, Said, Log, Refused}
-use Rattle.gb_types.specs.declared.request.Action.{Action}
-use Rattle.gb_types.specs.declared.request.Action.TheVariants.{AddTenant, Group}
-use Rattle.gb_types.specs.declared.request.GroupCommand.TheVariants.{Make}
-use Rattle.gb_types.specs.declared.request.Request.{Request}
-use Rattle.gb_types.specs.declared.spec.TenantRow.{TenantRow}
-use Rattle.gb_types.specs.Entry.{message_of}
-use Rattle.gb_frame.specs.Items.{address_of, entry_of}
+use Rattle.gb_frame.specs.Common.{address_of, entry_of}
 use Rattle.gb_frame.specs.declared.item.Item.{Item}
-use Rattle.gb_link.specs.Received.{Received, admission}
+use Rattle.gb_link.specs.Common.{Received, admission}
 use Rattle.gb_link.specs.declared.receiver.Admission.{Admission}
 use Rattle.gb_link.specs.declared.receiver.Admission.TheVariants.{First, Seen, Outside}
-use Rattle.gb_rules.specs.Tenant.{row_of, reserve_of, tenant_answer, by_tenant, make_answer}
-use Rattle.gb_table.specs.OneGroup.{group_in}
-use Rattle.gb_table.specs.Rooms.{others_living}
-use Rattle.gb_table.specs.Requests.{is_admitted, admitted_reply, table_reply, table_did}
-use Rattle.gb_table.specs.TableValue.{TableValue, reserve_for, table_done, table_noticed}
+use Rattle.gb_rules.specs.Common.{row_of, reserve_of, tenant_answer, by_tenant, make_answer}
+use Rattle.gb_table.specs.Common.{group_in, others_living, is_admitted, admitted_reply, table_reply, table_did, TableValue, reserve_for, table_done, table_noticed}
 use Rattle.gb_node.specs.declared.event.NodeEvent.TheVariants.{Request as Asked}
-use Rattle.gb_node.specs.NodeStep.{item_done, frame_done, item_comes, items_come, frame_comes, notice_each, node_numbered}
+use Rattle.gb_node.specs.Common.{item_done, frame_done, item_comes, items_come, frame_comes, notice_each, node_numbered}
 use Rattle.gb_redact.specs.Redacted.{redacted_row, redacted_action, redacted_request}
 use Rattle.gb_redact.specs.Pasts.{redacted_table, StaysDenied}
 use Rattle.gb_redact.proofs.TokenLemmas.{right_so, row_redacted}

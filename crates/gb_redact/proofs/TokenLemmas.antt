@@ -1,25 +1,14 @@
 -- Tokens that admit, and those that do not.
-use Rattle.std.proofs.Common.{◌≡◌, ℕ, zero, suc, ◌+◌, ◌<◌, Bool, true, false, List, [], ◌∷◌, ◌++◌, length, take, get_or, ◌⊎◌, Option, Some, None, refl, sym, ap, ap₂, subst, ◌∙◌, arith, inl, inr}
-use Rattle.std.specs.Prelude.{map, nat_eq, option_map, if◌then◌else◌}
+use Rattle.gb_types.specs.Common.{◌≡◌, ℕ, zero, suc, ◌+◌, ◌<◌, Bool, true, false, List, [], ◌∷◌, ◌++◌, length, take, get_or, ◌⊎◌, Option, Some, None, refl, sym, ap, ap₂, subst, ◌∙◌, arith, inl, inr, map, nat_eq, option_map, if◌then◌else◌, flat_map-append, append-nil, ext_get_or, take_more}
 use Rattle.std.proofs.lemmas.Slice.Eq.{bytes_eq-Decides}
-use Rattle.std.proofs.lemmas.Grind.{flat_map-append}
-use Rattle.std.proofs.lemmas.List.{append-nil, ext_get_or, take_more}
-use Rattle.gb_types.specs.declared.node.NodeId.{NodeId}
-use Rattle.gb_types.specs.declared.request.Action.{Action}
-use Rattle.gb_types.specs.declared.request.Action.TheVariants.{AddTenant, Group}
-use Rattle.gb_types.specs.declared.request.Request.{Request}
-use Rattle.gb_types.specs.declared.spec.TenantRow.{TenantRow}
+use Rattle.gb_types.specs.declared.{node.NodeId.NodeId, request.Action.Action, request.Action.TheVariants.AddTenant, request.Action.TheVariants.Group, request.Request.Request, spec.TenantRow.TenantRow}
 use Rattle.gb_cap.specs.Token.{token_of}
-use Rattle.gb_cap.specs.declared.token.Need.{Need}
-use Rattle.gb_cap.specs.declared.token.Need.TheVariants.{Admin}
-use Rattle.gb_rules.specs.Tenant.{row_of}
-use Rattle.gb_table.specs.Admission.{is_token, is_by_row, command_need, has_token}
-use Rattle.gb_node.specs.Past.{added}
-use Rattle.gb_node.specs.declared.answer.NodeAnswer.{NodeAnswer}
-use Rattle.gb_node.specs.declared.answer.NodeAnswer.TheVariants.{Reply as Replied}
-use Rattle.gb_node.specs.declared.event.NodeEvent.{NodeEvent}
+use Rattle.gb_cap.specs.declared.{token.Need.Need, token.Need.TheVariants.Admin}
+use Rattle.gb_rules.specs.Common.{row_of}
+use Rattle.gb_table.specs.Common.{is_token, is_by_row, command_need, has_token}
+use Rattle.gb_node.specs.Common.{added}
+use Rattle.gb_node.specs.declared.{answer.NodeAnswer.NodeAnswer, answer.NodeAnswer.TheVariants.Reply as Replied, event.NodeEvent.NodeEvent, tape.TapeEntry.TapeEntry}
 use Rattle.gb_node.specs.declared.event.NodeEvent.TheVariants.{Request as Asked, Packet as Came, Pack, Again, Ack, Tick, Stop}
-use Rattle.gb_node.specs.declared.tape.TapeEntry.{TapeEntry}
 use Rattle.gb_redact.specs.Laws.{with_token, IsDenied, event_with, AreBothDenied, AreAlike, RightStayRight, DeniedLeaveNothing}
 use Rattle.gb_redact.specs.Redacted.{redacted_key, redacted_row, no_token, redacted_token, rows_in, token_for, redacted_action, redacted_request, redacted_event, redacted_entry, AreRedacted}
 

@@ -1,14 +1,8 @@
 -- What redaction keeps of entries, and what it leaves out.
 use Rattle.std.specs.Prelude.{◌≡◌, ◌⊎◌, ℕ, ◌<◌, true, false, List, length, take, get_or, map}
-use Rattle.gb_types.specs.declared.node.NodeId.{NodeId}
-use Rattle.gb_types.specs.declared.request.Action.{Action}
-use Rattle.gb_types.specs.declared.request.Action.TheVariants.{AddTenant, Group}
-use Rattle.gb_types.specs.declared.request.Request.{Request}
-use Rattle.gb_types.specs.declared.spec.TenantRow.{TenantRow}
-use Rattle.gb_table.specs.Admission.{has_token}
-use Rattle.gb_node.specs.declared.event.NodeEvent.{NodeEvent}
-use Rattle.gb_node.specs.declared.event.NodeEvent.TheVariants.{Request as Asked}
-use Rattle.gb_node.specs.declared.tape.TapeEntry.{TapeEntry}
+use Rattle.gb_types.specs.declared.{node.NodeId.NodeId, request.Action.Action, request.Action.TheVariants.AddTenant, request.Action.TheVariants.Group, request.Request.Request, spec.TenantRow.TenantRow}
+use Rattle.gb_table.specs.Common.{has_token}
+use Rattle.gb_node.specs.declared.{event.NodeEvent.NodeEvent, event.NodeEvent.TheVariants.Request as Asked, tape.TapeEntry.TapeEntry}
 use Rattle.gb_redact.specs.Redacted.{redacted_key, redacted_row, no_token, rows_in, redacted_request, AreRedacted}
 
 -- the request with this token

@@ -1,15 +1,9 @@
 -- Redacted entries are the tape of a node: of one whose keys are those that stand for the keys of the node that did what they tell.
 use Rattle.std.specs.Prelude.{◌≡◌, ℕ, ◌<◌, false, List, [], ◌∷◌, ◌++◌, length, take, get_or, map}
-use Rattle.gb_types.specs.declared.node.NodeId.{NodeId}
-use Rattle.gb_types.specs.declared.spec.TenantRow.{TenantRow}
-use Rattle.gb_table.specs.Admission.{has_token}
-use Rattle.gb_table.specs.TableValue.{TableValue}
-use Rattle.gb_node.specs.NodeValue.{NodeValue}
-use Rattle.gb_node.specs.Past.{Happened, ComesTo}
-use Rattle.gb_node.specs.declared.event.NodeEvent.{NodeEvent}
-use Rattle.gb_node.specs.declared.event.NodeEvent.TheVariants.{Request as Asked}
-use Rattle.gb_node.specs.declared.plan.NodePlan.{NodePlan}
-use Rattle.gb_node.specs.declared.tape.TapeEntry.{TapeEntry}
+use Rattle.gb_types.specs.declared.{node.NodeId.NodeId, spec.TenantRow.TenantRow}
+use Rattle.gb_table.specs.Common.{has_token, TableValue}
+use Rattle.gb_node.specs.Common.{NodeValue, Happened, ComesTo}
+use Rattle.gb_node.specs.declared.{event.NodeEvent.NodeEvent, event.NodeEvent.TheVariants.Request as Asked, plan.NodePlan.NodePlan, tape.TapeEntry.TapeEntry}
 use Rattle.gb_redact.specs.Redacted.{redacted_key, redacted_row, rows_in, redacted_request, AreRedacted}
 
 -- an entry as an event with its answer, and the past that entries tell, the newest first

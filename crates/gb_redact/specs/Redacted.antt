@@ -1,21 +1,14 @@
 -- The entries of a node's record without what lets a reader act for others: the tenants' keys and the tokens.
 use Rattle.std.specs.Prelude.{◌≡◌, ℕ, ◌<◌, List, length, take, get_or, codes, replicate, Option, Some, None, option_map, if◌then◌else◌}
 use Rattle.std.specs.List.{flat_map}
-use Rattle.gb_types.specs.declared.node.NodeId.{NodeId}
-use Rattle.gb_types.specs.declared.request.Action.{Action}
-use Rattle.gb_types.specs.declared.request.Action.TheVariants.{AddTenant, Group}
-use Rattle.gb_types.specs.declared.request.Request.{Request}
-use Rattle.gb_types.specs.declared.spec.TenantRow.{TenantRow}
+use Rattle.gb_types.specs.declared.{node.NodeId.NodeId, request.Action.Action, request.Action.TheVariants.AddTenant, request.Action.TheVariants.Group, request.Request.Request, spec.TenantRow.TenantRow}
 use Rattle.gb_cap.specs.Hmac.{hmac_of}
 use Rattle.gb_cap.specs.Token.{token_of}
-use Rattle.gb_cap.specs.declared.token.Need.{Need}
-use Rattle.gb_cap.specs.declared.token.Need.TheVariants.{Admin}
-use Rattle.gb_rules.specs.Tenant.{row_of}
-use Rattle.gb_table.specs.Admission.{is_token, command_need}
-use Rattle.gb_node.specs.Past.{added}
-use Rattle.gb_node.specs.declared.event.NodeEvent.{NodeEvent}
-use Rattle.gb_node.specs.declared.event.NodeEvent.TheVariants.{Request as Asked}
-use Rattle.gb_node.specs.declared.tape.TapeEntry.{TapeEntry}
+use Rattle.gb_cap.specs.declared.{token.Need.Need, token.Need.TheVariants.Admin}
+use Rattle.gb_rules.specs.Common.{row_of}
+use Rattle.gb_table.specs.Common.{is_token, command_need}
+use Rattle.gb_node.specs.Common.{added}
+use Rattle.gb_node.specs.declared.{event.NodeEvent.NodeEvent, event.NodeEvent.TheVariants.Request as Asked, tape.TapeEntry.TapeEntry}
 
 -- the key that stands for a key: HMAC-SHA-256 (RFC 2104) of the word `redacted` under it
 abbrev pub redacted_key : List ℕ → List ℕ

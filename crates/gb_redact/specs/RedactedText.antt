@@ -4,8 +4,7 @@ use Rattle.hex.specs.Hex.{encode_lower}
 use Rattle.gb_node.specs.declared.tape.TapeEntry.{TapeEntry}
 use Rattle.gb_record_text.specs.RecordText.{head_line, entry_lines, last_line}
 use Rattle.gb_record_text.specs.Records.{IsRecord}
-use Rattle.gb_record_text.specs.declared.head.RecordHead.{RecordHead}
-use Rattle.gb_record_text.specs.declared.reader.Record.{Record}
+use Rattle.gb_record_text.specs.declared.{head.RecordHead.RecordHead, reader.Record.Record}
 use Rattle.gb_redact.specs.Redacted.{redacted_key, AreRedacted}
 
 -- the text of a record with this first line and these entries, and `end` if it is whole

@@ -1,6 +1,6 @@
 //! Redaction of the entries of a node's record.
 ghost use Rattle.std.specs.Prelude.{◌≡◌, ◌++◌, IfOk, OnOk};
-ghost use Rattle.gb_node.specs.Past.{added};
+ghost use Rattle.gb_node.specs.Common.{added};
 ghost use Rattle.gb_redact.specs.Laws.{AreKept};
 ghost use Rattle.gb_redact.specs.Redacted.{redacted_event, redacted_entry, AreRedacted};
 

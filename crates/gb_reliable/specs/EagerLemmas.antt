@@ -1,7 +1,7 @@
 -- The laws of the rule of eager reliable broadcast, and its equality with the module's tests.
 use Rattle.std.proofs.Common.{refl}
 use Rattle.gb_types.specs.declared.kind.Module.TheVariants.{Eager}
-use Rattle.gb_layer.specs.Rule.{BroadcastsMore, DeliversMore, BroadcastsItsOwn, BroadcastsAs, DeliversAs}
+use Rattle.gb_layer.specs.Common.{BroadcastsMore, DeliversMore, BroadcastsItsOwn, BroadcastsAs, DeliversAs}
 use Rattle.gb_reliable.specs.Rules.{eager_rules}
 
 pub eager_more : BroadcastsMore eager_rules

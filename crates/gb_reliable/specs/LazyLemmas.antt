@@ -4,8 +4,7 @@ use Rattle.std.specs.FinSet as set
 use Rattle.std.proofs.lemmas.Bool.{eq-eqb}
 use Rattle.gb_types.specs.declared.kind.Module.TheVariants.{Lazy}
 use Rattle.gb_types.proofs.BoolLemmas.{or_more}
-use Rattle.gb_layer.specs.Machine.{mentions}
-use Rattle.gb_layer.specs.Rule.{BroadcastsMore, DeliversMore, BroadcastsItsOwn, BroadcastsAs, DeliversAs}
+use Rattle.gb_layer.specs.Common.{mentions, BroadcastsMore, DeliversMore, BroadcastsItsOwn, BroadcastsAs, DeliversAs}
 use Rattle.gb_layer.proofs.RuleLemmas.{noticed_is}
 use Rattle.gb_reliable.specs.Rules.{lazy_rules}
 

@@ -1,7 +1,7 @@
 -- The rules of reliable broadcast.
 use Rattle.std.specs.Prelude.{true, ◌||◌, nat_eq}
 use Rattle.std.specs.FinSet as set
-use Rattle.gb_layer.specs.Rule.{Rules}
+use Rattle.gb_layer.specs.Common.{Rules}
 
 -- lazy reliable broadcast broadcasts own messages and those whose origin was noticed, and delivers at once (Cachin, Guerraoui, Rodrigues 2011, Algorithm 3.2)
 abbrev pub lazy_rules : Rules

@@ -1,6 +1,6 @@
 //! Laws: which rules are which module of broadcast.
 ghost use Rattle.gb_types.specs.declared.kind.Module.TheVariants.{Lazy, Eager};
-ghost use Rattle.gb_layer.specs.Rule.{BroadcastsAs, DeliversAs};
+ghost use Rattle.gb_layer.specs.Common.{BroadcastsAs, DeliversAs};
 
 use crate::eager::Eagerly;
 use crate::lazy::Lazily;

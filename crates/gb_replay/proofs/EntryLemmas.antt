@@ -1,20 +1,9 @@
 -- The steps of a replay of merged events are the entries that were merged.
-use Rattle.std.proofs.Common.{◌≡◌, ℕ, ◌+◌, List, [], ◌∷◌, ◌++◌, length, map, reverse, false, refl, sym, ◌∙◌, ap, subst}
-use Rattle.std.specs.Prelude.{All}
-use Rattle.std.proofs.lemmas.List.{map-append, reverse-append, reverse-reverse}
-use Rattle.std.proofs.lemmas.List.Elements.{All-head, All-tail}
+use Rattle.gb_types.specs.Common.{◌≡◌, ℕ, ◌+◌, List, [], ◌∷◌, ◌++◌, length, map, reverse, false, refl, sym, ◌∙◌, ap, subst, All, map-append, reverse-append, reverse-reverse, All-head, All-tail}
 use Rattle.gb_types.specs.declared.plan.Plan.{Plan}
-use Rattle.gb_cluster.specs.Links.{PacketsAreHonest}
-use Rattle.gb_cluster.specs.ClusterStep.{answer_of, IsStep}
-use Rattle.gb_cluster.specs.ClusterValue.{ClusterValue, new_cluster}
-use Rattle.gb_cluster.specs.Run.{Did}
-use Rattle.gb_cluster.specs.declared.answer.Answer.{Answer}
-use Rattle.gb_cluster.specs.declared.event.Event.{Event}
-use Rattle.gb_cluster.specs.declared.posted.Posted.{Posted}
-use Rattle.gb_merge.specs.Front.{FrontIsOneRun}
-use Rattle.gb_merge.specs.Interleaving.{Pick, sent_by}
-use Rattle.gb_merge.specs.Rerun.{Leads, AreTold, answers_to}
-use Rattle.gb_merge.specs.Woven.{is_refused}
+use Rattle.gb_cluster.specs.Common.{PacketsAreHonest, answer_of, IsStep, ClusterValue, new_cluster, Did}
+use Rattle.gb_cluster.specs.declared.{answer.Answer.Answer, event.Event.Event, posted.Posted.Posted}
+use Rattle.gb_merge.specs.Common.{FrontIsOneRun, Pick, sent_by, Leads, AreTold, answers_to, is_refused}
 use Rattle.gb_merge.proofs.RerunLemmas.{NodeLaws, rerun}
 use Rattle.gb_simulate.specs.RunTexts.{RunStep, AreRunSteps}
 use Rattle.gb_replay.specs.Entries.{AreEntries, steps_of, ReplaysAreOfEntries}

@@ -1,16 +1,8 @@
 -- How a request, and the versions of nodes, are written.
-use Rattle.std.proofs.Common.{◌≡◌, ℕ, ◌+◌, ◌-◌, ◌*◌, ◌<◌, List, [], ◌∷◌, ◌++◌, length, take, refl, sym, ap, ◌∙◌, append_assoc, arith}
-use Rattle.std.proofs.lemmas.List.{append-nil, length-append, take_more}
-use Rattle.std.proofs.Math.Seq.{take-append_seam}
-use Rattle.std.specs.List.{join_with_byte}
-use Rattle.std.specs.Prelude.{codes, decimal, map, get_or, Result, OnOk}
+use Rattle.gb_types.specs.Common.{◌≡◌, ℕ, ◌+◌, ◌-◌, ◌*◌, ◌<◌, List, [], ◌∷◌, ◌++◌, length, take, refl, sym, ap, ◌∙◌, append_assoc, arith, append-nil, length-append, take_more, take-append_seam, join_with_byte, codes, decimal, map, get_or, Result, OnOk}
 use Rattle.hex.proofs.HexLemmas.{length-encode_with}
 use Rattle.hex.specs.Hex.{encode_lower, lower_digits}
-use Rattle.gb_types.specs.declared.node.NodeId.{NodeId}
-use Rattle.gb_types.specs.declared.request.Action.{Action}
-use Rattle.gb_types.specs.declared.request.Action.TheVariants.{AddTenant, Group}
-use Rattle.gb_types.specs.declared.request.Request.{Request}
-use Rattle.gb_types.specs.declared.version.Version.{Version}
+use Rattle.gb_types.specs.declared.{node.NodeId.NodeId, request.Action.Action, request.Action.TheVariants.AddTenant, request.Action.TheVariants.Group, request.Request.Request, version.Version.Version}
 use Rattle.gb_simulate.proofs.AnswerLemmas.{on_ok}
 use Rattle.gb_record_text.specs.RecordText.{after_space, limits_text, each_after_comma, action_text, request_text, token_text}
 use Rattle.gb_schedule.specs.Versions.{versions_word}

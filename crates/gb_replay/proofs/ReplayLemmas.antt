@@ -1,15 +1,10 @@
 -- Events that were run and written, one after the other.
-use Rattle.std.proofs.Common.{◌≡◌, ℕ, ◌+◌, ◌<◌, length, take, List, [], ◌∷◌, ◌++◌, refl, sym, ap, subst, ◌∙◌, append_assoc}
-use Rattle.std.proofs.lemmas.List.{append-nil, reverse-append, take_more}
-use Rattle.std.proofs.lemmas.List.Elements.{All-cons, All-nil}
-use Rattle.std.specs.Prelude.{false, codes, get_or, Result, Ok, Err, IsErrAnd}
+use Rattle.gb_types.specs.Common.{◌≡◌, ℕ, ◌+◌, ◌<◌, length, take, List, [], ◌∷◌, ◌++◌, refl, sym, ap, subst, ◌∙◌, append_assoc, append-nil, reverse-append, take_more, All-cons, All-nil, false, codes, get_or, Result, Ok, Err, IsErrAnd}
 use Rattle.gb_types.specs.declared.plan.Plan.{Plan}
-use Rattle.gb_cluster.specs.ClusterValue.{ClusterValue, new_cluster}
-use Rattle.gb_cluster.specs.ClusterStep.{IsStep}
-use Rattle.gb_cluster.specs.Run.{Did, ComesTo, Happens}
+use Rattle.gb_cluster.specs.Common.{ClusterValue, new_cluster, IsStep, Did, ComesTo, Happens}
 use Rattle.gb_cluster.specs.declared.event.Event.{Event}
 use Rattle.gb_lines.specs.Lines.{ended}
-use Rattle.gb_merge.specs.Woven.{is_refused}
+use Rattle.gb_merge.specs.Common.{is_refused}
 use Rattle.gb_simulate.specs.RunTexts.{RunStep, AreRunSteps}
 use Rattle.gb_replay.specs.ScheduleText.{first_line, step_line, step_answer, steps_text, steps_answers}
 use Rattle.gb_replay.specs.Replay.{IsReplay, TakesStep}

@@ -1,15 +1,10 @@
 -- A replay of merged tapes: its steps are the tapes' entries, and its texts are theirs.
 use Rattle.std.specs.Prelude.{ℕ, ◌≡◌, ◌+◌, List, [], ◌∷◌, length, reverse, Some}
-use Rattle.gb_types.specs.declared.node.NodeId.{NodeId}
-use Rattle.gb_types.specs.declared.plan.Plan.{Plan}
+use Rattle.gb_types.specs.declared.{node.NodeId.NodeId, plan.Plan.Plan}
 use Rattle.gb_node.specs.declared.tape.TapeEntry.{TapeEntry}
-use Rattle.gb_cluster.specs.ClusterStep.{answer_of}
-use Rattle.gb_cluster.specs.Run.{IsOf, past_at}
-use Rattle.gb_cluster.specs.declared.event.Event.{Event}
-use Rattle.gb_cluster.specs.declared.posted.Posted.{Posted}
-use Rattle.gb_merge.specs.Front.{IsMergedFront}
-use Rattle.gb_merge.specs.Interleaving.{Pick, entries_at, sent_by}
-use Rattle.gb_merge.specs.Merged.{told, did, run_of, past_of}
+use Rattle.gb_cluster.specs.Common.{answer_of, IsOf, past_at}
+use Rattle.gb_cluster.specs.declared.{event.Event.Event, posted.Posted.Posted}
+use Rattle.gb_merge.specs.Common.{IsMergedFront, Pick, entries_at, sent_by, told, did, run_of, past_of}
 use Rattle.gb_simulate.specs.RunTexts.{RunStep}
 use Rattle.gb_replay.specs.ScheduleText.{schedule_text, answers_text}
 use Rattle.gb_replay.specs.Replay.{IsReplay}

@@ -1,18 +1,13 @@
 -- A schedule and its answers, as the texts of a run of a cluster.
 use Rattle.std.specs.Prelude.{ℕ, ◌≡◌, ◌≢◌, ◌≤◌, false, List, ◌++◌, length, map, reverse, All}
 use Rattle.gb_types.specs.declared.plan.Plan.{Plan}
-use Rattle.gb_cluster.specs.ClusterStep.{IsStep, IsPlaced}
-use Rattle.gb_cluster.specs.ClusterValue.{ClusterValue}
-use Rattle.gb_cluster.specs.Run.{Did, ComesTo, RunGoesOn}
-use Rattle.gb_cluster.specs.declared.answer.Answer.{Answer}
-use Rattle.gb_cluster.specs.declared.event.Event.{Event}
+use Rattle.gb_cluster.specs.Common.{IsStep, IsPlaced, ClusterValue, Did, ComesTo, RunGoesOn}
+use Rattle.gb_cluster.specs.declared.{answer.Answer.Answer, event.Event.Event}
 use Rattle.gb_lines.specs.Lines.{ended}
-use Rattle.gb_merge.specs.Woven.{is_refused}
+use Rattle.gb_merge.specs.Common.{is_refused}
 use Rattle.gb_simulate.specs.RunTexts.{RunStep, AreRunSteps}
 use Rattle.gb_simulate.specs.Text.{IsText}
-use Rattle.gb_simulate.specs.declared.outcome.SimEnd.{SimEnd}
-use Rattle.gb_simulate.specs.declared.outcome.SimEnd.TheVariants.{All as AllLines}
-use Rattle.gb_simulate.specs.declared.obey.TheConstants.{LINES}
+use Rattle.gb_simulate.specs.declared.{outcome.SimEnd.SimEnd, outcome.SimEnd.TheVariants.All as AllLines, obey.TheConstants.LINES}
 use Rattle.gb_replay.specs.ScheduleText.{schedule_text, answers_text, step_line, step_answer}
 use Rattle.gb_replay.specs.declared.replay.ReplayFault.{ReplayFault}
 use Rattle.gb_replay.specs.declared.replay.ReplayFault.TheVariants.{Places, TooMany, NoNode, Differs, OutOfMemory}

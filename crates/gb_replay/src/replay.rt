@@ -1,6 +1,6 @@
 //! A run as a schedule that gb_sim was seen to answer so.
 ghost use Rattle.std.specs.Prelude.{◌≡◌, IfOk, IfErr, OnOk};
-ghost use Rattle.gb_cluster.specs.ClusterValue.{IsClusterPlan};
+ghost use Rattle.gb_cluster.specs.Common.{IsClusterPlan};
 ghost use Rattle.gb_simulate.specs.Text.{IsText};
 ghost use Rattle.gb_simulate.specs.declared.outcome.SimEnd.TheVariants as Ends;
 ghost use Rattle.gb_replay.specs.Entries.{ReplaysEntries};

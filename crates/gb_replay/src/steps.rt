@@ -1,10 +1,8 @@
 //! Running the events of a cluster, and writing each as a line of a schedule with its answer.
 ghost use Rattle.std.specs.Prelude.{◌≡◌, ◌++◌, [], codes, length, All, Err, OnOk, IfOk};
 ghost use Rattle.gb_lines.specs.Lines.{ended};
-ghost use Rattle.gb_cluster.specs.ClusterStep.{IsPlaced};
-ghost use Rattle.gb_cluster.specs.ClusterValue.{IsClusterPlan, new_cluster};
-ghost use Rattle.gb_cluster.specs.Run.{ComesTo};
-ghost use Rattle.gb_merge.specs.Woven.{is_refused};
+ghost use Rattle.gb_cluster.specs.Common.{IsPlaced, IsClusterPlan, new_cluster, ComesTo};
+ghost use Rattle.gb_merge.specs.Common.{is_refused};
 ghost use Rattle.gb_replay.specs.ScheduleText.{first_line, is_left_out, step_line, step_answer};
 ghost use Rattle.gb_replay.specs.Replay.{IsReplay, TakesStep};
 

@@ -1,6 +1,5 @@
 -- Two addresses are one if their tenants, numbers and generations are equal.
-use Rattle.std.proofs.Common.{◌≡◌, true, ap, arith}
-use Rattle.std.proofs.lemmas.Bool.Decides.{nat_tests}
+use Rattle.gb_types.specs.Common.{◌≡◌, true, ap, arith, nat_tests}
 use Rattle.gb_types.specs.declared.address.Addr.{Addr}
 use Rattle.gb_rules.specs.Address.{is_addr}
 

@@ -1,9 +1,6 @@
 -- A payload that is not too long is within the limit of every version.
-use Rattle.std.proofs.Common.{◌≡◌, ◌≤◌, ℕ, List, length, false, arith}
-use Rattle.std.proofs.lemmas.Bool.{ltb-false}
-use Rattle.gb_types.specs.declared.limits.TheConstants.{PAYLOAD}
-use Rattle.gb_types.specs.declared.version.Version.{Version}
-use Rattle.gb_types.specs.Version.{limits_of, limits_are_within}
+use Rattle.gb_types.specs.Common.{◌≡◌, ◌≤◌, ℕ, List, length, false, arith, ltb-false, limits_of, limits_are_within}
+use Rattle.gb_types.specs.declared.{limits.TheConstants.PAYLOAD, version.Version.Version}
 use Rattle.gb_rules.specs.Group.{is_too_long}
 
 pub within_limit : (version : Version) (payload : List ℕ) → is_too_long version payload ≡ false → length payload ≤ (limits_of version).payload

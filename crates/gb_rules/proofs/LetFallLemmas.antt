@@ -1,9 +1,6 @@
 -- Which items are let fall.
-use Rattle.std.proofs.Common.{◌≡◌, ◌≢◌, ℕ, Bool, true, false, refl, ap, sym, ◌∙◌, arith}
-use Rattle.std.specs.Prelude.{nat_eq}
-use Rattle.std.proofs.lemmas.Bool.Decides.{nat_tests}
-use Rattle.gb_types.specs.declared.entry.Entry.{Entry}
-use Rattle.gb_types.specs.declared.spec.Spec.{Spec}
+use Rattle.gb_types.specs.Common.{◌≡◌, ◌≢◌, ℕ, Bool, true, false, refl, ap, sym, ◌∙◌, arith, nat_eq, nat_tests}
+use Rattle.gb_types.specs.declared.{entry.Entry.Entry, spec.Spec.Spec}
 use Rattle.gb_rules.specs.LetFall.{is_let_fall}
 
 -- an item that is not let fall came from another node, from which it did not come before; an own message is known

@@ -1,12 +1,8 @@
 -- The messages that a history broadcasts.
-use Rattle.std.proofs.Common.{◌≡◌, ℕ, List, [], ◌∷◌, not, ◌&&◌, Bool, refl, ap}
-use Rattle.std.specs.Prelude.{map, filter}
-use Rattle.gb_types.specs.declared.message.MsgId.{MsgId}
-use Rattle.gb_types.specs.declared.node.NodeId.{NodeId}
-use Rattle.gb_types.specs.declared.spec.Spec.{Spec}
-use Rattle.gb_layer.specs.Modules.{first_mentions, now_broadcast}
-use Rattle.gb_layer.specs.declared.call.Call.{Call}
-use Rattle.gb_layer.specs.declared.call.Call.TheVariants.{Notice}
+use Rattle.gb_types.specs.Common.{◌≡◌, ℕ, List, [], ◌∷◌, not, ◌&&◌, Bool, refl, ap, map, filter}
+use Rattle.gb_types.specs.declared.{message.MsgId.MsgId, node.NodeId.NodeId, spec.Spec.Spec}
+use Rattle.gb_layer.specs.Common.{first_mentions, now_broadcast}
+use Rattle.gb_layer.specs.declared.{call.Call.Call, call.Call.TheVariants.Notice}
 use Rattle.gb_rules.specs.History.{calls_of, known, puts_of}
 use Rattle.gb_rules.specs.Messages.{entry_in}
 use Rattle.gb_rules.specs.declared.call.GroupCall.TheVariants.{Crashed}

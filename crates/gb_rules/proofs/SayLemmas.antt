@@ -1,10 +1,7 @@
 -- The facts that hold when a message gets a number.
-use Rattle.std.proofs.Common.{◌≡◌, ℕ, ◌+◌, Bool, true, false, refl, length}
-use Rattle.std.specs.Prelude.{nat_lt, nat_le, if◌then◌else◌}
-use Rattle.gb_types.specs.declared.new_message.NewMessage.{NewMessage}
+use Rattle.gb_types.specs.Common.{◌≡◌, ℕ, ◌+◌, Bool, true, false, refl, length, nat_lt, nat_le, if◌then◌else◌}
+use Rattle.gb_types.specs.declared.{new_message.NewMessage.NewMessage, reply.Reply.TheVariants.Said, reply.Reply.TheVariants.Refused, version.Version.Version}
 use Rattle.gb_types.specs.declared.refusal.Refusal.TheVariants.{TooLong, Budget, Bytes, Window, BadPlace}
-use Rattle.gb_types.specs.declared.reply.Reply.TheVariants.{Said, Refused}
-use Rattle.gb_types.specs.declared.version.Version.{Version}
 use Rattle.gb_rules.specs.Group.{Shown, is_out_of_turn, is_too_long, say_answer}
 use Rattle.gb_rules.specs.declared.phase.Phase.{Phase}
 use Rattle.gb_rules.specs.declared.phase.Phase.TheVariants.{Made, Opened, Shut, Gone}

@@ -1,19 +1,12 @@
 -- The rules of a group at a node: the answers to its commands, and the order of the refusals.
 use Rattle.std.specs.Prelude.{ℕ, ◌+◌, ◌&&◌, ◌||◌, not, Bool, true, false, List, [], length, take, drop, nat_lt, nat_le, nat_eq, Option, Some, None, Result, Ok, Err, if◌then◌else◌}
 use Rattle.std.specs.FinSet as set
-use Rattle.gb_types.specs.declared.entry.Entry.{Entry}
-use Rattle.gb_types.specs.declared.limits.TheConstants.{FETCH}
-use Rattle.gb_types.specs.declared.new_message.NewMessage.{NewMessage}
-use Rattle.gb_types.specs.declared.refusal.Refusal.{Refusal}
+use Rattle.gb_types.specs.declared.{entry.Entry.Entry, limits.TheConstants.FETCH, new_message.NewMessage.NewMessage, refusal.Refusal.Refusal, reply.Reply.Reply, spec.Spec.Spec, version.Version.Version}
 use Rattle.gb_types.specs.declared.refusal.Refusal.TheVariants.{NoGroup, Spent, WrongPhase, TooLong, Budget, Bytes, Window, BadPlace}
-use Rattle.gb_types.specs.declared.reply.Reply.{Reply}
 use Rattle.gb_types.specs.declared.reply.Reply.TheVariants.{Done, Said, Log, Refused}
-use Rattle.gb_types.specs.declared.spec.Spec.{Spec}
-use Rattle.gb_types.specs.declared.version.Version.{Version}
-use Rattle.gb_types.specs.Version.{limits_of}
-use Rattle.gb_rules.specs.declared.phase.Phase.{Phase}
+use Rattle.gb_types.specs.Common.{limits_of}
+use Rattle.gb_rules.specs.declared.{phase.Phase.Phase, usage.Usage.Usage}
 use Rattle.gb_rules.specs.declared.phase.Phase.TheVariants.{Made, Opened, Gone}
-use Rattle.gb_rules.specs.declared.usage.Usage.{Usage}
 
 -- what the rules read of a group at a node
 pub record Shown : Type 0 where

@@ -1,13 +1,11 @@
 -- What a group delivers and broadcasts at a node, computed from all of its calls there. Histories have the newest first.
 use Rattle.std.specs.Prelude.{ℕ, Bool, ◌+◌, List, [], ◌∷◌, map}
 use Rattle.std.specs.FinSet as set
-use Rattle.gb_types.specs.Entry.{message_of}
-use Rattle.gb_types.specs.declared.entry.Entry.{Entry}
-use Rattle.gb_types.specs.declared.message.MsgId.{MsgId}
-use Rattle.gb_types.specs.declared.spec.Spec.{Spec}
+use Rattle.gb_types.specs.Common.{message_of}
+use Rattle.gb_types.specs.declared.{entry.Entry.Entry, message.MsgId.MsgId, spec.Spec.Spec}
 use Rattle.gb_layer.specs.declared.call.Call.{Call}
 use Rattle.gb_layer.specs.declared.call.Call.TheVariants.{Say, Came, Notice}
-use Rattle.gb_layer.specs.Machine.{mentions, came_from, was_noticed}
+use Rattle.gb_layer.specs.Common.{mentions, came_from, was_noticed}
 use Rattle.gb_stack.specs.Kinds.{kind_broadcasts, kind_log}
 use Rattle.gb_rules.specs.declared.call.GroupCall.{GroupCall}
 use Rattle.gb_rules.specs.declared.call.GroupCall.TheVariants.{Own, Other, Crashed}

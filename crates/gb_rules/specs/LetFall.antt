@@ -1,7 +1,6 @@
 -- Which items from other nodes are let fall.
 use Rattle.std.specs.Prelude.{ℕ, ◌+◌, ◌&&◌, ◌||◌, not, Bool, length, nat_lt, nat_eq}
-use Rattle.gb_types.specs.declared.entry.Entry.{Entry}
-use Rattle.gb_types.specs.declared.spec.Spec.{Spec}
+use Rattle.gb_types.specs.declared.{entry.Entry.Entry, spec.Spec.Spec}
 use Rattle.gb_rules.specs.Group.{is_member}
 
 -- An item that came from a node is let fall: `before` says that the same item came from that node before, `known` that the message is known here.

@@ -7,3 +7,4 @@ pub mod Tenant
 pub mod Lifetime
 pub mod Messages
 pub mod History
+pub mod Common

@@ -1,10 +1,8 @@
 -- Lists of messages with their payloads.
 use Rattle.std.specs.Prelude.{ℕ, ◌+◌, Bool, List, [], ◌∷◌, ◌++◌, length, nat_eq, if◌then◌else◌}
 use Rattle.std.specs.List.{list_any}
-use Rattle.gb_types.specs.declared.entry.Entry.{Entry}
-use Rattle.gb_types.specs.declared.message.MsgId.{MsgId}
-use Rattle.gb_types.specs.Entry.{message_of}
-use Rattle.gb_types.specs.Message.{same}
+use Rattle.gb_types.specs.declared.{entry.Entry.Entry, message.MsgId.MsgId}
+use Rattle.gb_types.specs.Common.{message_of, same}
 
 -- the list has the message
 abbrev pub has : List Entry → MsgId → Bool

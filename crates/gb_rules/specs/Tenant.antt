@@ -2,18 +2,12 @@
 use Rattle.std.specs.Prelude.{ℕ, ◌+◌, ◌||◌, not, Bool, List, find, sum_by, Option, Some, None, nat_lt, nat_le, nat_eq, if◌then◌else◌}
 use Rattle.std.specs.List.{list_all}
 use Rattle.std.specs.FinSet as set
-use Rattle.gb_types.specs.declared.address.Addr.{Addr}
+use Rattle.gb_types.specs.declared.{address.Addr.Addr, reply.Reply.Reply, reply.Reply.TheVariants.Done, reply.Reply.TheVariants.Refused, spec.Spec.Spec, spec.TenantRow.TenantRow, version.Version.Version}
 use Rattle.gb_types.specs.declared.limits.TheConstants.{GROUPS, MESSAGES, BYTES, WINDOW}
 use Rattle.gb_types.specs.declared.refusal.Refusal.TheVariants.{Denied, NoGroup, Spent, BadMembers, OverReserve, NoRoom, TenantThere}
-use Rattle.gb_types.specs.declared.reply.Reply.{Reply}
-use Rattle.gb_types.specs.declared.reply.Reply.TheVariants.{Done, Refused}
-use Rattle.gb_types.specs.declared.spec.Spec.{Spec}
-use Rattle.gb_types.specs.declared.spec.TenantRow.{TenantRow}
-use Rattle.gb_types.specs.declared.version.Version.{Version}
 use Rattle.gb_rules.specs.Group.{is_member}
 use Rattle.gb_rules.specs.Room.{can_name}
-use Rattle.gb_rules.specs.declared.room.TheConstants.{GENERATIONS}
-use Rattle.gb_rules.specs.declared.reserve.Reserve.{Reserve}
+use Rattle.gb_rules.specs.declared.{room.TheConstants.GENERATIONS, reserve.Reserve.Reserve}
 
 -- the limits that a row sets for each of its tenant's groups
 abbrev pub reserve_of : TenantRow → Reserve

@@ -1,6 +1,6 @@
 //! The messages that a group delivers, broadcasts and lets fall.
 ghost use Rattle.std.specs.Prelude.{◌≡◌, [], IfOk};
-ghost use Rattle.gb_types.specs.Rising.{rising, AreNodes};
+ghost use Rattle.gb_types.specs.Common.{rising, AreNodes};
 ghost use Rattle.gb_layer.specs.Machine as machine;
 ghost use Rattle.gb_rules.specs.History as history;
 

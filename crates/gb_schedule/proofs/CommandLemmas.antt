@@ -1,10 +1,7 @@
 -- The command of a line, from its head and what is behind it.
-use Rattle.std.proofs.Common.{◌≡◌, ◌↔◌, ℕ, List, ◌∷◌, Option, Some, Result, Ok, Err, sym, ◌∙◌, subst}
-use Rattle.std.specs.Result.{IfOk}
-use Rattle.gb_schedule.specs.declared.command.Command.{Command}
-use Rattle.gb_schedule.specs.declared.head.Head.{Head}
+use Rattle.gb_types.specs.Common.{◌≡◌, ◌↔◌, ℕ, List, ◌∷◌, Option, Some, Result, Ok, Err, sym, ◌∙◌, subst, IfOk, words_of}
+use Rattle.gb_schedule.specs.declared.{command.Command.Command, head.Head.Head}
 use Rattle.gb_schedule.specs.Head.{head_word}
-use Rattle.gb_types.specs.Words.{words_of}
 use Rattle.gb_schedule.specs.Grammar.{Spells, IsCommandLine}
 use Rattle.gb_types.proofs.ReadLemmas.{Reads, found, only}
 

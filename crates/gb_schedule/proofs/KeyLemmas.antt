@@ -1,10 +1,6 @@
 -- The keys of tenants and the tokens of members in their maps.
-use Rattle.std.proofs.Common.{◌≡◌, ℕ, [], ◌∷◌, ◌++◌, ap, true}
-use Rattle.std.specs.Prelude.{codes, ◌&&◌, nat_eq}
-use Rattle.std.specs.Int.{w16, to_be_bytes}
-use Rattle.std.proofs.lemmas.Bool.{and_parts, eqb-true}
-use Rattle.gb_types.specs.declared.address.Addr.{Addr}
-use Rattle.gb_types.specs.declared.node.NodeId.{NodeId}
+use Rattle.gb_types.specs.Common.{◌≡◌, ℕ, [], ◌∷◌, ◌++◌, ap, true, codes, ◌&&◌, nat_eq, w16, to_be_bytes, and_parts, eqb-true}
+use Rattle.gb_types.specs.declared.{address.Addr.Addr, node.NodeId.NodeId}
 use Rattle.gb_cap.specs.Hmac.{hmac_of}
 use Rattle.gb_schedule.specs.Keys.{tenant_key, member_token}
 use Rattle.gb_schedule.specs.declared.keys.GroupMember.{GroupMember}

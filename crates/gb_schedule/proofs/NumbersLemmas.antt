@@ -1,16 +1,10 @@
 -- The numbers that the words of a text write, read one after the other.
-use Rattle.std.proofs.Common.{◌≡◌, ◌↔◌, ◌==◌, ◌⊎◌, ◌*◌, ◌-◌, ◌%◌, ℕ, zero, suc, ◌+◌, ◌<◌, ◌≤◌, ◌^◌, List, [], ◌∷◌, ◌++◌, Some, None, length, take, drop, get_or, map, decimal, refl, sym, ap, ◌∙◌, subst, slice_index, inl, inr, false, length-drop, arith}
+use Rattle.gb_types.specs.Common.{◌≡◌, ◌↔◌, ◌==◌, ◌⊎◌, ◌*◌, ◌-◌, ◌%◌, ℕ, zero, suc, ◌+◌, ◌<◌, ◌≤◌, ◌^◌, List, [], ◌∷◌, ◌++◌, Some, None, length, take, drop, get_or, map, decimal, refl, sym, ap, ◌∙◌, subst, slice_index, inl, inr, false, length-drop, arith, IsInRange, join_with_byte, cases_lt, cases_eq, ne_eqb, take_all, length-take-le, get_or-take, get_or_append_left, get_or-append-add, get_or-drop, drop-drop, All-head, All-tail, All-get_or, All-from_get_or, words_of}
 use Rattle.std.specs.Str.Parse.{AllDigits, digits_value}
-use Rattle.std.specs.Int.{IsInRange}
-use Rattle.std.specs.List.{join_with_byte}
-use Rattle.std.proofs.lemmas.Bool.{cases_lt, cases_eq, ne_eqb}
 use Rattle.std.proofs.Math.Nat.{mod-eq_of_lt}
 use Rattle.std.proofs.lemmas.Str.Parse.{digit_at, digits_value_short, numerals_by_value, tells_digits}
 use Rattle.std.proofs.lemmas.Fmt.{decimal_injective, decimal_is_IsNumeral, decimal_digit}
-use Rattle.std.proofs.lemmas.List.{take_all, length-take-le, get_or-take, get_or_append_left, get_or-append-add, get_or-drop, drop-drop}
 use Rattle.std.proofs.lemmas.List.Splits.{length-slice_split}
-use Rattle.std.proofs.lemmas.List.Elements.{All-head, All-tail, All-get_or, All-from_get_or}
-use Rattle.gb_types.specs.Words.{words_of}
 use Rattle.gb_types.proofs.NumberLemmas.{BeginsBadly, not_badly, read_more, reads_back}
 use Rattle.gb_types.proofs.WordLemmas.{each_line_is_its_words}
 use Rattle.gb_types.proofs.ReadLemmas.{Reads, reads_one}

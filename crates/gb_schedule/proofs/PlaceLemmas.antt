@@ -1,20 +1,8 @@
 -- The command of a line is in its place.
-use Rattle.std.proofs.Common.{◌≡◌, ◌↔◌, ℕ, ◌<◌, List, Option, Some, None, Result, Ok, Err, refl, arith}
-use Rattle.std.specs.Result.{IfOk}
-use Rattle.std.specs.Option.{IfSome, IfNone, option_map}
-use Rattle.std.proofs.lemmas.List.{get_or-replicate}
-use Rattle.gb_types.specs.declared.limits.TheConstants.{NODES}
-use Rattle.gb_types.specs.declared.address.Addr.{Addr}
-use Rattle.gb_types.specs.declared.node.NodeId.{NodeId}
-use Rattle.gb_types.specs.declared.request.GroupCommand.{GroupCommand}
+use Rattle.gb_types.specs.Common.{◌≡◌, ◌↔◌, ℕ, ◌<◌, List, Option, Some, None, Result, Ok, Err, refl, arith, IfOk, IfSome, IfNone, option_map, get_or-replicate, version_at}
+use Rattle.gb_types.specs.declared.{limits.TheConstants.NODES, address.Addr.Addr, node.NodeId.NodeId, request.GroupCommand.GroupCommand, version.Version.TheVariants.One}
 use Rattle.gb_types.specs.declared.request.GroupCommand.TheVariants.{Make, Open, Shut, Drop, Say, Fetch}
-use Rattle.gb_types.specs.declared.version.Version.TheVariants.{One}
-use Rattle.gb_types.specs.Version.{version_at}
-use Rattle.gb_schedule.specs.declared.command.ClusterStart.{ClusterStart}
-use Rattle.gb_schedule.specs.declared.command.Command.{Command}
-use Rattle.gb_schedule.specs.declared.command.Command.TheVariants.{Cluster, Step as StepCommand}
-use Rattle.gb_schedule.specs.declared.command.Step.{Step}
-use Rattle.gb_schedule.specs.declared.head.Head.{Head}
+use Rattle.gb_schedule.specs.declared.{command.ClusterStart.ClusterStart, command.Command.Command, command.Command.TheVariants.Cluster, command.Command.TheVariants.Step as StepCommand, command.Step.Step, head.Head.Head}
 use Rattle.gb_schedule.specs.declared.head.Head.TheVariants.{Cluster as ClusterHead, Cluster2, Tenant, Group, Forge, Pack, Again, Ack, Arrive, Noise, Tick, Stop}
 use Rattle.gb_schedule.specs.Grammar.{asked_at, Spells, IsCommandLine, IsInPlace, IsStart}
 use Rattle.gb_schedule.proofs.CommandLemmas.{Finds}

@@ -1,20 +1,9 @@
 -- For each head: the command that its words spell, from what the readers of its words found.
-use Rattle.std.proofs.Common.{◌≡◌, ◌↔◌, ℕ, ◌<◌, ◌≤◌, List, [], ◌∷◌, replicate, Some, None, refl, sym, ap, ◌∙◌, subst, decimal}
+use Rattle.gb_types.specs.Common.{◌≡◌, ◌↔◌, ℕ, ◌<◌, ◌≤◌, List, [], ◌∷◌, replicate, Some, None, refl, sym, ap, ◌∙◌, subst, decimal, payload_of, limits_of, IsShort, group_word, IsGroup}
 use Rattle.gb_types.specs.declared.limits.TheConstants.{NODES, SILENCE_MIN, SILENCE_MAX}
-use Rattle.gb_types.specs.PayloadWord.{payload_of}
-use Rattle.gb_types.specs.declared.new_message.NewMessage.{NewMessage}
-use Rattle.gb_types.specs.declared.node.NodeId.{NodeId}
-use Rattle.gb_types.specs.declared.address.Addr.{Addr}
-use Rattle.gb_types.specs.declared.request.Action.TheVariants.{AddTenant, Group}
-use Rattle.gb_types.specs.declared.request.GroupCommand.TheVariants.{Say}
-use Rattle.gb_types.specs.declared.spec.TenantRow.{TenantRow}
-use Rattle.gb_types.specs.declared.version.Version.{Version}
-use Rattle.gb_types.specs.declared.version.Version.TheVariants.{One}
-use Rattle.gb_types.specs.Version.{limits_of}
-use Rattle.gb_schedule.specs.declared.command.ClusterStart.{ClusterStart}
-use Rattle.gb_schedule.specs.declared.command.Command.{Command}
+use Rattle.gb_types.specs.declared.{new_message.NewMessage.NewMessage, node.NodeId.NodeId, address.Addr.Addr, request.Action.TheVariants.AddTenant, request.Action.TheVariants.Group, request.GroupCommand.TheVariants.Say, spec.TenantRow.TenantRow, version.Version.Version, version.Version.TheVariants.One}
+use Rattle.gb_schedule.specs.declared.{command.ClusterStart.ClusterStart, command.Command.Command}
 use Rattle.gb_schedule.specs.declared.command.Command.TheVariants.{Cluster, Request, Noise}
-use Rattle.gb_types.specs.RequestWords.{IsShort, group_word, IsGroup}
 use Rattle.gb_types.proofs.RequestWordLemmas.{IsShortWord, IsLongWord, AreAddressWords, AreLimitWords}
 use Rattle.gb_schedule.specs.Grammar.{AreRoomWords, SpellsCluster, SpellsCluster2, SpellsTenant, SpellsForge, SpellsNoise}
 use Rattle.gb_schedule.specs.Versions.{AreVersions}

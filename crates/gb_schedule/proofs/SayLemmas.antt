@@ -1,14 +1,6 @@
 -- What is said behind `say `: the numbers of a member, read one after the other, and the payload behind them.
-use Rattle.std.proofs.Common.{◌≡◌, ◌↔◌, ℕ, ◌<◌, ◌≤◌, List, [], ◌∷◌, ◌++◌, Option, Some, None, Result, Ok, Err, codes, drop, decimal, refl, sym, ap, ◌∙◌, arith}
-use Rattle.std.specs.List.{join_with_byte}
-use Rattle.std.specs.Result.{IfOk}
-use Rattle.gb_types.specs.RequestWords.{IsShort, SpellsMessage}
-use Rattle.gb_types.specs.Words.{words_of}
-use Rattle.gb_types.specs.declared.address.Addr.{Addr}
-use Rattle.gb_types.specs.declared.command_words.CommandHead.TheVariants.{Say as SayHead}
-use Rattle.gb_types.specs.declared.new_message.NewMessage.{NewMessage}
-use Rattle.gb_types.specs.declared.node.NodeId.{NodeId}
-use Rattle.gb_types.specs.declared.request.GroupCommand.TheVariants.{Say}
+use Rattle.gb_types.specs.Common.{◌≡◌, ◌↔◌, ℕ, ◌<◌, ◌≤◌, List, [], ◌∷◌, ◌++◌, Option, Some, None, Result, Ok, Err, codes, drop, decimal, refl, sym, ap, ◌∙◌, arith, join_with_byte, IfOk, IsShort, SpellsMessage, words_of}
+use Rattle.gb_types.specs.declared.{address.Addr.Addr, command_words.CommandHead.TheVariants.Say as SayHead, new_message.NewMessage.NewMessage, node.NodeId.NodeId, request.GroupCommand.TheVariants.Say}
 use Rattle.gb_types.proofs.ReadLemmas.{Reads, made_reads, reads_one}
 use Rattle.gb_types.proofs.NumberLemmas.{number_is_one_word}
 use Rattle.gb_types.proofs.WordLemmas.{each_line_is_its_words}

@@ -1,14 +1,11 @@
 -- The steps that the words behind a head spell, from the numbers that the words write.
-use Rattle.std.proofs.Common.{◌≡◌, ◌↔◌, ℕ, ◌+◌, ◌<◌, ◌≤◌, ◌^◌, List, [], ◌∷◌, Some, None, drop, get_or, refl, sym, ◌∙◌, decimal, arith}
+use Rattle.gb_types.specs.Common.{◌≡◌, ◌↔◌, ℕ, ◌+◌, ◌<◌, ◌≤◌, ◌^◌, List, [], ◌∷◌, Some, None, drop, get_or, refl, sym, ◌∙◌, decimal, arith, words_of}
 use Rattle.std.proofs.lemmas.Fmt.{decimal_injective}
-use Rattle.gb_types.specs.Words.{words_of}
-use Rattle.gb_types.specs.declared.limits.TheConstants.{NODES}
-use Rattle.gb_types.specs.declared.node.NodeId.{NodeId}
+use Rattle.gb_types.specs.declared.{limits.TheConstants.NODES, node.NodeId.NodeId}
 use Rattle.gb_types.proofs.ReadLemmas.{Reads, found, reads_one}
 use Rattle.gb_types.proofs.SameLemmas.{same_number}
-use Rattle.gb_schedule.specs.declared.command.Command.TheVariants.{Step}
+use Rattle.gb_schedule.specs.declared.{command.Command.TheVariants.Step, command.Step.Step as AnyStep}
 use Rattle.gb_schedule.specs.declared.command.Step.TheVariants.{Pack, Again, Ack, Arrive, Tick, Stop}
-use Rattle.gb_schedule.specs.declared.command.Step.{Step as AnyStep}
 use Rattle.gb_schedule.specs.Grammar.{NamesTwoNodes, SpellsPack, SpellsAgain, SpellsAck, SpellsArrive, SpellsTick, SpellsStop}
 use Rattle.gb_schedule.specs.Numbers.{IsNumberAt, AreNumbers}
 use Rattle.gb_schedule.proofs.NumbersLemmas.{within}

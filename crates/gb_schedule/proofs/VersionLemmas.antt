@@ -1,14 +1,10 @@
 -- Reading the versions of a cluster's nodes from the parts of a word.
-use Rattle.std.proofs.Common.{◌≡◌, ◌↔◌, ℕ, ◌+◌, ◌<◌, ◌≤◌, false, inl, inr, eqb, List, [], ◌∷◌, ◌++◌, map, length, take, replicate, set, get_or, Option, Some, None, decimal, refl, sym, ap, subst, ◌∙◌, arith}
-use Rattle.std.specs.List.{All, join_with_byte}
-use Rattle.std.proofs.lemmas.Bool.{cases_eq, cases_lt}
+use Rattle.gb_types.specs.Common.{◌≡◌, ◌↔◌, ℕ, ◌+◌, ◌<◌, ◌≤◌, false, inl, inr, eqb, List, [], ◌∷◌, ◌++◌, map, length, take, replicate, set, get_or, Option, Some, None, decimal, refl, sym, ap, subst, ◌∙◌, arith, All, join_with_byte, cases_eq, cases_lt, take_more_set, map-append, take_all, take_more, same_lists, get_or-set_same, get_or-set_other, get_or-replicate, get_or_past, get_or_default, get_or-take, length-map, length-take-le, length-set, limits_of, version_at, version_named}
 use Rattle.std.proofs.lemmas.Fmt.{decimal_injective, decimal_is_IsNumeral}
-use Rattle.std.proofs.lemmas.List.{take_more_set, map-append, take_all, take_more, same_lists, get_or-set_same, get_or-set_other, get_or-replicate, get_or_past, get_or_default, get_or-take, get_or-map, length-map, length-take-le, length-set}
+use Rattle.std.proofs.lemmas.List.{get_or-map}
 use Rattle.std.proofs.lemmas.List.Splits.{slice_split_none, slice_split_at, join_with_byte-slice_split}
-use Rattle.gb_types.specs.declared.limits.TheConstants.{NODES}
-use Rattle.gb_types.specs.declared.version.Version.{Version}
+use Rattle.gb_types.specs.declared.{limits.TheConstants.NODES, version.Version.Version}
 use Rattle.gb_types.specs.declared.version.Version.TheVariants.{One, Two, Three}
-use Rattle.gb_types.specs.Version.{limits_of, version_at, version_named}
 use Rattle.gb_types.proofs.MembersLemmas.{parts_of, lacks}
 use Rattle.gb_types.proofs.ReadLemmas.{Reads, found, only, reads_one, some_same}
 use Rattle.gb_types.proofs.VersionLemmas.{byte_of_named, named_by_byte}

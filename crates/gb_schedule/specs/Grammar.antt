@@ -2,28 +2,17 @@
 -- without a leading zero.
 use Rattle.std.specs.Prelude.{◌≡◌, ◌⊎◌, ℕ, ◌<◌, ◌≤◌, List, [], ◌∷◌, Option, None, Some, replicate, decimal}
 use Rattle.gb_types.specs.declared.limits.TheConstants.{NODES, SILENCE_MIN, SILENCE_MAX}
-use Rattle.gb_types.specs.CommandWords.{SpellsCommand}
-use Rattle.gb_types.specs.PayloadWord.{payload_of}
-use Rattle.gb_types.specs.RequestWords.{IsShort, IsLong, group_word, IsGroup}
-use Rattle.gb_types.specs.declared.node.NodeId.{NodeId}
-use Rattle.gb_types.specs.declared.address.Addr.{Addr}
-use Rattle.gb_types.specs.declared.command_words.CommandHead.{CommandHead}
+use Rattle.gb_types.specs.Common.{SpellsCommand, payload_of, IsShort, IsLong, group_word, IsGroup, limits_of, version_at, words_of}
+use Rattle.gb_types.specs.declared.{node.NodeId.NodeId, address.Addr.Addr, command_words.CommandHead.CommandHead, request.GroupCommand.GroupCommand, spec.TenantRow.TenantRow, version.Version.TheVariants.One}
 use Rattle.gb_types.specs.declared.request.Action.TheVariants as actions
-use Rattle.gb_types.specs.declared.request.GroupCommand.{GroupCommand}
 use Rattle.gb_types.specs.declared.request.GroupCommand.TheVariants as commands
-use Rattle.gb_types.specs.declared.spec.TenantRow.{TenantRow}
-use Rattle.gb_types.specs.declared.version.Version.TheVariants.{One}
-use Rattle.gb_types.specs.Version.{limits_of, version_at}
-use Rattle.gb_schedule.specs.declared.command.ClusterStart.{ClusterStart}
-use Rattle.gb_schedule.specs.declared.command.Command.{Command}
+use Rattle.gb_schedule.specs.declared.{command.ClusterStart.ClusterStart, command.Command.Command, head.Head.Head}
 use Rattle.gb_schedule.specs.declared.command.Command.TheVariants.{Cluster, Request, Noise, Step}
 use Rattle.gb_schedule.specs.declared.command.Step.TheVariants.{Pack, Again, Ack, Arrive, Tick, Stop, Fetch}
-use Rattle.gb_schedule.specs.declared.head.Head.{Head}
 use Rattle.gb_schedule.specs.declared.head.Head.TheVariants as heads
 use Rattle.gb_schedule.specs.Head.{head_word}
 use Rattle.gb_schedule.specs.Versions.{AreVersions}
 use Rattle.gb_schedule.specs.Keys.{tenant_key, no_token, admin_token, tenant_token, member_token}
-use Rattle.gb_types.specs.Words.{words_of}
 
 -- `cluster N S`: each node sends the first version
 pub record SpellsCluster (command : Command) (words : List (List ℕ)) : Type 0 where

@@ -3,10 +3,8 @@ use Rattle.std.specs.Prelude.{◌≡◌, ℕ, List, ◌++◌, All, Option, IfSom
 use Rattle.std.specs.Int.{w16, to_be_bytes}
 use Rattle.gb_cap.specs.Token.{token_of}
 use Rattle.gb_cap.specs.declared.token.Need.TheVariants.{Admin, Tenant, Member}
-use Rattle.gb_types.specs.declared.address.Addr.{Addr}
-use Rattle.gb_types.specs.declared.node.NodeId.{NodeId}
-use Rattle.gb_schedule.specs.declared.keys.GroupMember.{GroupMember}
-use Rattle.gb_schedule.specs.declared.keys.MemberToken.{MemberToken}
+use Rattle.gb_types.specs.declared.{address.Addr.Addr, node.NodeId.NodeId}
+use Rattle.gb_schedule.specs.declared.{keys.GroupMember.GroupMember, keys.MemberToken.MemberToken}
 
 -- the key of the packets between the nodes
 abbrev pub cluster_key : List ℕ

@@ -1,10 +1,8 @@
 -- The versions of a cluster's nodes in a word.
 use Rattle.std.specs.Prelude.{◌≡◌, ℕ, ◌<◌, ◌≤◌, List, length, map, take, decimal}
 use Rattle.std.specs.List.{join_with_byte}
-use Rattle.gb_types.specs.declared.limits.TheConstants.{NODES}
-use Rattle.gb_types.specs.declared.version.Version.{Version}
-use Rattle.gb_types.specs.declared.version.Version.TheVariants.{One}
-use Rattle.gb_types.specs.Version.{limits_of, version_at}
+use Rattle.gb_types.specs.declared.{limits.TheConstants.NODES, version.Version.Version, version.Version.TheVariants.One}
+use Rattle.gb_types.specs.Common.{limits_of, version_at}
 
 -- the word for some versions: the numbers of their bytes, separated by commas (44)
 abbrev pub versions_word : List Version → List ℕ

@@ -2,15 +2,10 @@
 ghost use Rattle.std.specs.Prelude.{◌≡◌, ◌≤◌, ◌<◌, ◌↔◌, ℕ, List, [], ◌∷◌, ◌++◌, None, Some, IfOk, IfSome, IfNone, IsTrue, decimal, map, slice_index};
 ghost use Rattle.std.specs.Option.{option_map};
 ghost use Rattle.std.specs.Io.{StartsWith};
-ghost use Rattle.gb_types.specs.Words.{words_of};
-ghost use Rattle.gb_types.specs.RequestWords.{IsShort, SpellsMessage, group_word, IsGroup};
-ghost use Rattle.gb_types.specs.declared.address.Addr.{Addr as TheAddress};
-ghost use Rattle.gb_types.specs.declared.new_message.NewMessage.{NewMessage as TheMessage};
-ghost use Rattle.gb_types.specs.declared.node.NodeId.{NodeId as TheNode};
-ghost use Rattle.gb_schedule.specs.declared.command.Step.{Step as TheStep};
-ghost use Rattle.gb_schedule.specs.declared.command.Command.{Command as TheCommand};
+ghost use Rattle.gb_types.specs.Common.{words_of, IsShort, SpellsMessage, group_word, IsGroup};
+ghost use Rattle.gb_types.specs.declared.{address.Addr.Addr as TheAddress, new_message.NewMessage.NewMessage as TheMessage, node.NodeId.NodeId as TheNode, command_words.CommandHead.TheVariants.Fetch as FetchHead};
+ghost use Rattle.gb_schedule.specs.declared.{command.Step.Step as TheStep, command.Command.Command as TheCommand};
 ghost use Rattle.gb_schedule.specs.declared.command.Command.TheVariants as Commands;
-ghost use Rattle.gb_types.specs.declared.command_words.CommandHead.TheVariants.{Fetch as FetchHead};
 ghost use Rattle.gb_schedule.specs.Grammar.{NamesMember, NamesTwoNodes, AreRoomWords, SpellsCluster, SpellsCluster2, SpellsTenant, asked_at, SpellsGroup, SpellsForge, SpellsPack, SpellsAgain, SpellsAck, SpellsArrive, SpellsNoise, SpellsTick, SpellsStop, Spells, IsCommandLine, IsInPlace, IsStart, IsSilent, SilentLinesSpellNothing};
 
 use crate::command::{ClusterStart, Command, Step};

@@ -1,6 +1,6 @@
 //! The versions of a cluster's nodes in a word: the numbers of their bytes, separated by commas.
 ghost use Rattle.std.specs.Prelude.{◌≡◌, ◌≤◌, ◌↔◌, List, Some, decimal};
-ghost use Rattle.gb_types.specs.Version.{limits_of};
+ghost use Rattle.gb_types.specs.Common.{limits_of};
 ghost use Rattle.gb_types.specs.declared.version.Version.{Version as TheVersion};
 ghost use Rattle.gb_schedule.specs.Versions.{AreVersions};
 

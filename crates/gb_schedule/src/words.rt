@@ -3,7 +3,7 @@ ghost use Rattle.std.specs.Prelude.{◌≡◌, ◌≤◌, ◌<◌, ◌==◌, ◌
 ghost use Rattle.std.specs.List.{position_or_len};
 ghost use Rattle.std.specs.Char.{is_ascii_digit};
 ghost use Rattle.std.specs.Str.Parse.{AllDigits, digits_value};
-ghost use Rattle.gb_types.specs.Words.{words_of};
+ghost use Rattle.gb_types.specs.Common.{words_of};
 ghost use Rattle.gb_schedule.specs.Numbers.{IsNumberAt, BeginsWithNoNumber, AllFit, AreNumbers};
 
 use gb_types::number::read_number;

@@ -1,10 +1,8 @@
 -- The recorders of a host that was just opened.
-use Rattle.std.proofs.Common.{◌≡◌, ◌∙◌, ◌<◌, ◌++◌, ◌∷◌, ℕ, Bool, true, false, List, [], length, Option, Some, None, IfSome, ap, arith, refl, subst, sym}
+use Rattle.gb_types.specs.Common.{◌≡◌, ◌∙◌, ◌<◌, ◌++◌, ◌∷◌, ℕ, Bool, true, false, List, [], length, Option, Some, None, IfSome, ap, arith, refl, subst, nat_cmp}
 use Rattle.std.specs.FinSet as set
-use Rattle.std.specs.Ordering.{nat_cmp}
-use Rattle.gb_host.specs.HostValue.{AreOpened, IsOpened}
+use Rattle.gb_host.specs.Common.{AreOpened, IsOpened, RecorderValue}
 use Rattle.gb_node.specs.declared.tape.TapeEntry.{TapeEntry}
-use Rattle.gb_host.specs.RingValues.{RecorderValue}
 use Rattle.gb_host.specs.declared.plan.HostPlan.{HostPlan}
 use Rattle.gb_host.proofs.ReplayLemmas.{placed_next}
 

@@ -1,6 +1,6 @@
 //! The file of a node's record.
 ghost use Rattle.std.specs.Prelude.{◌≡◌, IfOk};
-ghost use Rattle.gb_types.specs.Version.{version_at};
+ghost use Rattle.gb_types.specs.Common.{version_at};
 
 use gb_host::HostPlan;
 use gb_record::RecordHead;

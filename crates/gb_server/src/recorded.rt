@@ -1,6 +1,6 @@
 //! What the loop of a node records by, which is its log (a recorder and a file), and what is left of it.
 ghost use Rattle.std.specs.Prelude.{◌≡◌, [], false, IfSome, length, vec_len};
-ghost use Rattle.gb_host.specs.HostValue.{AreOpened};
+ghost use Rattle.gb_host.specs.Common.{AreOpened};
 
 use crate::record_file::RecordFile;
 use crate::signals::Signals;

@@ -4,9 +4,7 @@ ghost use Rattle.std.specs.Io.KnownBytes.{Appends, Consumes};
 ghost use Rattle.gb_serve_words.specs.Words.{IsWithin};
 ghost use Rattle.gb_server.specs.Behaviour.{AreOptions, beat_of};
 ghost use Rattle.gb_server.specs.Told.{AreRefused, AreTaken, HasServed, end_line, host_of, lined, serving_line};
-ghost use Rattle.gb_host.specs.Pasts.{AreBlank, books_of};
-ghost use Rattle.gb_host.specs.Plans.{IsPlan};
-ghost use Rattle.gb_host.specs.SeatValue.{SeatValue};
+ghost use Rattle.gb_host.specs.Common.{AreBlank, books_of, IsPlan, SeatValue};
 ghost use Rattle.gb_server.specs.Ended.{EndsSo, has_closed};
 
 use crate::complaint::complain;

@@ -1,7 +1,6 @@
 // A node that is recorded: what its record has when a write fails, and which packets leave.
 ghost use Rattle.std.specs.Prelude.{◌≡◌, [], false, vec_len, IfSome};
-ghost use Rattle.gb_host.specs.Pasts.{AreBlank, books_of};
-ghost use Rattle.gb_host.specs.Plans.{IsPlan};
+ghost use Rattle.gb_host.specs.Common.{AreBlank, books_of, IsPlan};
 
 use crate::desk::{Desk, Pen};
 use crate::recorded_servers::folder;

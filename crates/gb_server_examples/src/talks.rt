@@ -1,7 +1,6 @@
 //! Sessions of a host of two nodes with its clients.
 ghost use Rattle.std.specs.Prelude.{◌≡◌, vec_len, IfSome};
-ghost use Rattle.gb_host.specs.Pasts.{AreBlank, books_of};
-ghost use Rattle.gb_host.specs.Plans.{IsPlan};
+ghost use Rattle.gb_host.specs.Common.{AreBlank, books_of, IsPlan};
 
 use crate::client_streams::{Asking, Held, Told};
 use gb_host::close::close;

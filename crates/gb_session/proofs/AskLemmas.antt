@@ -1,16 +1,8 @@
 -- What is asked: read from words, and found at the front of bytes.
-use Rattle.std.proofs.Common.{◌≡◌, ◌↔◌, ℕ, ◌+◌, ◌-◌, ◌<◌, ◌≤◌, List, [], ◌∷◌, ◌++◌, Option, Some, None, refl, sym, ap, ◌∙◌, subst, inr, decimal, codes, length, take, drop, arith}
-use Rattle.std.specs.Option.{IfSome, IfNone}
+use Rattle.gb_types.specs.Common.{◌≡◌, ◌↔◌, ℕ, ◌+◌, ◌-◌, ◌<◌, ◌≤◌, List, [], ◌∷◌, ◌++◌, Option, Some, None, refl, sym, ap, ◌∙◌, subst, inr, decimal, codes, length, take, drop, arith, IfSome, IfNone, append_assoc, append-nil, take-append-drop, none-some, IsLong, words_of}
 use Rattle.std.specs.declared.alloc.Global.{Global}
 use Rattle.std.specs.declared.vec.Vec.{Vec}
-use Rattle.std.proofs.lemmas.List.{append_assoc, append-nil, take-append-drop}
-use Rattle.std.proofs.lemmas.Option.{none-some}
-use Rattle.gb_types.specs.RequestWords.{IsLong}
-use Rattle.gb_types.specs.Words.{words_of}
-use Rattle.gb_session.specs.declared.ask.Ask.{Ask}
-use Rattle.gb_session.specs.declared.ask.Awaited.{Awaited}
-use Rattle.gb_session.specs.declared.ask.Place.{Place}
-use Rattle.gb_session.specs.declared.grammar.TheConstants.{BODY}
+use Rattle.gb_session.specs.declared.{ask.Ask.Ask, ask.Awaited.Awaited, ask.Place.Place, grammar.TheConstants.BODY}
 use Rattle.gb_session.specs.Asks.{IsPlace, SpellsPlaces, SpellsAwait, IsAwaitText, IsAskText, IsAskMessage, AsksNothing, SpellsAsks}
 use Rattle.gb_session.specs.Streams.{framed, said_length}
 use Rattle.gb_session.proofs.FrontLemmas.{AreBytes, front_is}

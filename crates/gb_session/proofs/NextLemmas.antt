@@ -1,18 +1,10 @@
 -- What one more message does to a session.
-use Rattle.std.proofs.Common.{◌≡◌, ℕ, ◌<◌, Bool, List, [], ◌∷◌, ◌++◌, Option, length, refl, sym, ap, ◌∙◌, subst, inl, inr, arith}
-use Rattle.std.proofs.lemmas.List.{append_assoc, append-nil, length-append}
-use Rattle.gb_types.specs.declared.reply.Reply.{Reply}
-use Rattle.gb_types.specs.declared.request.Request.{Request}
+use Rattle.gb_types.specs.Common.{◌≡◌, ℕ, ◌<◌, Bool, List, [], ◌∷◌, ◌++◌, Option, length, refl, sym, ap, ◌∙◌, subst, inl, inr, arith, append_assoc, append-nil, length-append}
+use Rattle.gb_types.specs.declared.{reply.Reply.Reply, request.Request.Request}
 use Rattle.gb_session.specs.Answering.{Answering}
-use Rattle.gb_session.specs.declared.ask.Ask.{Ask}
+use Rattle.gb_session.specs.declared.{ask.Ask.Ask, operation.Operation.Operation, serve.SessionEnd.SessionEnd, session.Next.Next, session.Next.TheVariants.Answered, session.Next.TheVariants.Ended, session.Outcome.Outcome, session.Outcome.TheVariants.Replied}
 use Rattle.gb_session.specs.declared.ask.Ask.TheVariants.{Now, Await, Operate}
-use Rattle.gb_session.specs.declared.operation.Operation.{Operation}
-use Rattle.gb_session.specs.declared.serve.SessionEnd.{SessionEnd}
 use Rattle.gb_session.specs.declared.serve.SessionEnd.TheVariants.{Finished, Cut, Malformed, Limit}
-use Rattle.gb_session.specs.declared.session.Next.{Next}
-use Rattle.gb_session.specs.declared.session.Next.TheVariants.{Answered, Ended}
-use Rattle.gb_session.specs.declared.session.Outcome.{Outcome}
-use Rattle.gb_session.specs.declared.session.Outcome.TheVariants.{Replied}
 use Rattle.gb_session.specs.declared.session.Step.TheVariants as steps
 use Rattle.gb_session.specs.SessionValue.{SessionValue}
 use Rattle.gb_session.specs.Runs.{IsRun, HasAsked, malformed_message}

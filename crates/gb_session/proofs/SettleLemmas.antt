@@ -1,14 +1,9 @@
 -- How asks are settled, one after the other.
-use Rattle.std.proofs.Common.{◌≡◌, ℕ, zero, suc, ◌+◌, ◌<◌, Bool, true, false, List, [], ◌∷◌, ◌++◌, Option, None, length, map, take, drop, get_or, All, refl, sym, ap, ◌∙◌, subst, inl, inr, add-one, arith}
-use Rattle.std.proofs.lemmas.List.{append_assoc, append-nil, length-append, take-append-drop}
-use Rattle.std.proofs.lemmas.List.Elements.{All-nil, All-append}
-use Rattle.std.proofs.Math.Seq.{take-suc, drop-cons}
-use Rattle.gb_types.specs.declared.reply.Reply.{Reply}
-use Rattle.gb_types.specs.declared.request.Request.{Request}
+use Rattle.gb_types.specs.Common.{◌≡◌, ℕ, zero, suc, ◌+◌, ◌<◌, Bool, true, false, List, [], ◌∷◌, ◌++◌, Option, None, length, map, take, drop, get_or, All, refl, sym, ap, ◌∙◌, subst, inl, inr, add-one, arith, append_assoc, append-nil, length-append, take-append-drop, All-nil, All-append, take-suc, drop-cons}
+use Rattle.gb_types.specs.declared.{reply.Reply.Reply, request.Request.Request}
 use Rattle.gb_session.specs.Answering.{Answering}
-use Rattle.gb_session.specs.declared.ask.Ask.{Ask}
+use Rattle.gb_session.specs.declared.{ask.Ask.Ask, ask.Place.Place}
 use Rattle.gb_session.specs.declared.ask.Ask.TheVariants.{Now, Await, Operate}
-use Rattle.gb_session.specs.declared.ask.Place.{Place}
 use Rattle.gb_session.specs.Settled.{fetch_of, is_empty_log, FindsNone, Finds, SettlesBy, Telling, Settles, SettlesAll}
 use Rattle.gb_session.specs.Takes.{AnswersFront}
 use Rattle.gb_session.specs.Nexts.{SettlesFront}

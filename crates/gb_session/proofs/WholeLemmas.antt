@@ -1,14 +1,9 @@
 -- Pieces joined to a whole session.
-use Rattle.std.proofs.Common.{◌≡◌, ◌⊎◌, inl, inr, ℕ, ◌-◌, ◌<◌, drop, arith, Bool, true, List, [], ◌∷◌, ◌++◌, map, refl, sym, ap, ◌∙◌, subst}
-use Rattle.std.proofs.lemmas.List.{append_assoc, append-nil}
-use Rattle.std.proofs.lemmas.List.Elements.{All-append}
-use Rattle.std.specs.Prelude.{IfOk, OnErr, Result, Ok, Err}
-use Rattle.gb_types.specs.declared.reply.Reply.{Reply}
-use Rattle.gb_types.specs.declared.request.Request.{Request}
+use Rattle.gb_types.specs.Common.{◌≡◌, ◌⊎◌, inl, inr, ℕ, ◌-◌, ◌<◌, drop, arith, Bool, true, List, [], ◌∷◌, ◌++◌, map, refl, sym, ap, ◌∙◌, subst, append_assoc, append-nil, All-append, IfOk, OnErr, Result, Ok, Err}
+use Rattle.gb_types.specs.declared.{reply.Reply.Reply, request.Request.Request}
 use Rattle.gb_session.specs.Answering.{Answering}
-use Rattle.gb_session.specs.declared.ask.Ask.{Ask}
+use Rattle.gb_session.specs.declared.{ask.Ask.Ask, session.Step.Step}
 use Rattle.gb_session.specs.declared.serve.SessionEnd.TheVariants.{Finished, Cut, Malformed, Limit}
-use Rattle.gb_session.specs.declared.session.Step.{Step}
 use Rattle.gb_session.specs.declared.session.Step.TheVariants.{Hungry, Full, Parked, Ended}
 use Rattle.gb_session.specs.Nexts.{SettlesFront}
 use Rattle.gb_session.specs.Runs.{IsRun, HasAsked, malformed_message}

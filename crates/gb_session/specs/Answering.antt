@@ -1,10 +1,7 @@
 -- What may be told to a client.
 use Rattle.std.specs.Prelude.{◌≡◌, ℕ, List}
-use Rattle.gb_types.specs.ReplyText.{reply_spelling}
-use Rattle.gb_types.specs.declared.refusal.Refusal.TheVariants.{Denied}
-use Rattle.gb_types.specs.declared.reply.Reply.TheVariants.{Refused}
-use Rattle.gb_types.specs.declared.reply.Reply.{Reply}
-use Rattle.gb_types.specs.declared.request.Request.{Request}
+use Rattle.gb_types.specs.Common.{reply_spelling}
+use Rattle.gb_types.specs.declared.{refusal.Refusal.TheVariants.Denied, reply.Reply.TheVariants.Refused, reply.Reply.Reply, request.Request.Request}
 use Rattle.gb_session.specs.declared.operation.Operation.{Operation}
 
 -- Who answers: the reply that a request may get in a state, with the state after it, and the texts that an operation may get. An

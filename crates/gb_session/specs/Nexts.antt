@@ -1,16 +1,10 @@
 -- What a session makes of the message in front.
 use Rattle.std.specs.Prelude.{◌≡◌, ℕ, ◌-◌, ◌<◌, ◌≤◌, ◌⊎◌, Bool, false, List, [], ◌++◌, drop, length}
-use Rattle.gb_types.specs.declared.reply.Reply.{Reply}
-use Rattle.gb_types.specs.declared.request.Request.{Request}
+use Rattle.gb_types.specs.declared.{reply.Reply.Reply, request.Request.Request}
 use Rattle.gb_session.specs.Answering.{Answering}
-use Rattle.gb_session.specs.declared.ask.Ask.{Ask}
-use Rattle.gb_session.specs.declared.ask.Ask.TheVariants.{Await, Operate}
-use Rattle.gb_session.specs.declared.serve.SessionEnd.TheVariants.{Malformed, Limit}
-use Rattle.gb_session.specs.declared.session.AskFront.{AskFront}
+use Rattle.gb_session.specs.declared.{ask.Ask.Ask, ask.Ask.TheVariants.Await, ask.Ask.TheVariants.Operate, serve.SessionEnd.TheVariants.Malformed, serve.SessionEnd.TheVariants.Limit, session.AskFront.AskFront, session.Next.Next, session.Outcome.Outcome}
 use Rattle.gb_session.specs.declared.session.AskFront.TheVariants.{Begun, Malformed as BadFront, Message}
-use Rattle.gb_session.specs.declared.session.Next.{Next}
 use Rattle.gb_session.specs.declared.session.Next.TheVariants.{Answered, Hungry, Parked, Ended}
-use Rattle.gb_session.specs.declared.session.Outcome.{Outcome}
 use Rattle.gb_session.specs.declared.session.Outcome.TheVariants.{Replied, Waits, Operates}
 use Rattle.gb_session.specs.Asks.{IsAskMessage, AsksNothing}
 use Rattle.gb_session.specs.Runs.{IsRun, malformed_message}

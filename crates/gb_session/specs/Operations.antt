@@ -1,12 +1,8 @@
 -- What an administrator asks, and how it is spelt.
 use Rattle.std.specs.Prelude.{◌≡◌, ℕ, ◌≤◌, List, [], ◌∷◌, length, Some, decimal, codes}
-use Rattle.gb_types.specs.RequestWords.{IsLong}
-use Rattle.gb_types.specs.TokenWord.{token_of}
-use Rattle.gb_types.specs.Words.{words_of}
-use Rattle.gb_session.specs.declared.grammar.TheConstants.{BODY}
-use Rattle.gb_session.specs.declared.operation.Operating.{Operating}
+use Rattle.gb_types.specs.Common.{IsLong, token_of, words_of}
+use Rattle.gb_session.specs.declared.{grammar.TheConstants.BODY, operation.Operating.Operating, operation.Operation.Operation}
 use Rattle.gb_session.specs.declared.operation.Operating.TheVariants.{Status, List as Listing, Stop}
-use Rattle.gb_session.specs.declared.operation.Operation.{Operation}
 
 -- the first word of an operation, and the words behind its token: `FROM MAX` behind `list`, none behind the others
 abbrev pub IsOperating : Operating → List ℕ → List (List ℕ) → Type 0

@@ -1,12 +1,8 @@
 -- What a session makes of a piece of its stream.
 use Rattle.std.specs.Prelude.{◌≡◌, ℕ, ◌+◌, ◌<◌, ◌≤◌, ◌⊎◌, Bool, false, List, [], ◌∷◌, ◌++◌, length}
-use Rattle.gb_types.specs.declared.reply.Reply.{Reply}
-use Rattle.gb_types.specs.declared.request.Request.{Request}
+use Rattle.gb_types.specs.declared.{reply.Reply.Reply, request.Request.Request}
 use Rattle.gb_session.specs.Answering.{Answering}
-use Rattle.gb_session.specs.declared.ask.Ask.TheVariants.{Await}
-use Rattle.gb_session.specs.declared.ask.Awaited.{Awaited}
-use Rattle.gb_session.specs.declared.serve.SessionEnd.TheVariants.{Malformed, Limit}
-use Rattle.gb_session.specs.declared.session.Step.{Step}
+use Rattle.gb_session.specs.declared.{ask.Ask.TheVariants.Await, ask.Awaited.Awaited, serve.SessionEnd.TheVariants.Malformed, serve.SessionEnd.TheVariants.Limit, session.Step.Step}
 use Rattle.gb_session.specs.declared.session.Step.TheVariants.{Hungry, Full, Parked, Ended}
 use Rattle.gb_session.specs.Asks.{AsksNothing, IsAskMessage}
 use Rattle.gb_session.specs.Nexts.{SettlesFront}

@@ -1,12 +1,8 @@
 -- What a session makes of its whole stream, however that is cut into pieces.
 use Rattle.std.specs.Prelude.{◌≡◌, ◌⊎◌, ℕ, true, List, [], ◌∷◌, ◌++◌}
-use Rattle.gb_types.specs.declared.reply.Reply.{Reply}
-use Rattle.gb_types.specs.declared.request.Request.{Request}
+use Rattle.gb_types.specs.declared.{reply.Reply.Reply, request.Request.Request}
 use Rattle.gb_session.specs.Answering.{Answering}
-use Rattle.gb_session.specs.declared.ask.Ask.{Ask}
-use Rattle.gb_session.specs.declared.ask.Place.{Place}
-use Rattle.gb_session.specs.declared.serve.SessionEnd.TheVariants.{Malformed}
-use Rattle.gb_session.specs.declared.session.Step.{Step}
+use Rattle.gb_session.specs.declared.{ask.Ask.Ask, ask.Place.Place, serve.SessionEnd.TheVariants.Malformed, session.Step.Step}
 use Rattle.gb_session.specs.declared.session.Step.TheVariants.{Hungry, Full, Parked, Ended}
 use Rattle.gb_session.specs.Asks.{SpellsAsks, AsksNothing}
 use Rattle.gb_session.specs.Runs.{IsRun, malformed_message}

@@ -1,8 +1,6 @@
 //! What a client asks: a request, fetches that wait until there is something to fetch, or an operation.
 ghost use Rattle.std.specs.Prelude.{◌≡◌, ◌↔◌, ◌≤◌, length, codes, IsTrue, Some, IfOk, IfSome, IfNone, map};
-ghost use Rattle.gb_session.specs.declared.ask.Ask.{Ask as TheAsk};
-ghost use Rattle.gb_session.specs.declared.ask.Awaited.{Awaited as TheAwaited};
-ghost use Rattle.gb_session.specs.declared.ask.Place.{Place as ThePlace};
+ghost use Rattle.gb_session.specs.declared.{ask.Ask.Ask as TheAsk, ask.Awaited.Awaited as TheAwaited, ask.Place.Place as ThePlace};
 ghost use Rattle.gb_session.specs.Asks.{IsPlace, IsAskText, IsAwaitText, SpellsAwait};
 
 use crate::grammar::{BODY, read_request};

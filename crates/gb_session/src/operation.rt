@@ -1,7 +1,6 @@
 //! What an administrator asks in a session, and how it is read.
 ghost use Rattle.std.specs.Prelude.{◌≡◌, ◌↔◌, [], ◌∷◌, IsTrue, IfOk, IfSome, IfNone, map};
-ghost use Rattle.gb_session.specs.declared.operation.Operating.{Operating as TheOperating};
-ghost use Rattle.gb_session.specs.declared.operation.Operation.{Operation as TheOperation};
+ghost use Rattle.gb_session.specs.declared.{operation.Operating.Operating as TheOperating, operation.Operation.Operation as TheOperation};
 ghost use Rattle.gb_session.specs.Operations.{IsOperating, IsOperationText};
 
 use crate::grammar::BODY;

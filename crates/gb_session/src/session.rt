@@ -1,8 +1,7 @@
 //! A client's session as a value: bytes in, replies out, and nothing that waits.
 ghost use Rattle.std.specs.Prelude.{◌≡◌, ◌≤◌, ◌<◌, ◌+◌, ◌++◌, [], List, ℕ, length, take, drop, true, vec_len, vec_capacity, IfOk, IfSome, IfNone, OnErr, OnOk, Option};
 ghost use Rattle.std.specs.Io.{StartsWith};
-ghost use Rattle.gb_types.specs.declared.reply.Reply.{Reply as TheReply};
-ghost use Rattle.gb_types.specs.declared.request.Request.{Request as TheRequest};
+ghost use Rattle.gb_types.specs.declared.{reply.Reply.Reply as TheReply, request.Request.Request as TheRequest};
 ghost use Rattle.gb_session.specs.Nexts.{IsAskFront, IsOutcome, IsNext, FailsNext, IsThere, session_at, behind};
 ghost use Rattle.gb_session.specs.Progress.{EndsBehind};
 ghost use Rattle.gb_session.specs.Runs.{IsRun};

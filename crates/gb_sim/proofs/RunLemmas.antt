@@ -2,8 +2,7 @@
 use Rattle.std.proofs.Common.{ℕ, List, Option, Result, Ok, Err, IfOk, IfErr}
 use Rattle.std.specs.Option.{IfSome}
 use Rattle.gb_simulate.specs.Text.{IsWritten, IsWrittenUpTo}
-use Rattle.gb_simulate.specs.declared.outcome.SimEnd.{SimEnd}
-use Rattle.gb_simulate.specs.declared.outcome.SimFault.{SimFault}
+use Rattle.gb_simulate.specs.declared.{outcome.SimEnd.SimEnd, outcome.SimFault.SimFault}
 use Rattle.gb_sim.specs.Run.{IsAnswered}
 
 pub is_answered : (outcome : Result SimEnd SimFault) (input unread before after : Option (List ℕ))

@@ -7,9 +7,7 @@ use Rattle.gb_simulate.specs.Complaint.{complaint}
 use Rattle.gb_simulate.specs.Status.{status}
 use Rattle.gb_simulate.specs.Text.{IsWritten, IsWrittenUpTo}
 use Rattle.gb_simulate.specs.Writing.{AppendsFront}
-use Rattle.gb_simulate.specs.declared.outcome.SimEnd.{SimEnd}
-use Rattle.gb_simulate.specs.declared.outcome.SimFault.{SimFault}
-use Rattle.gb_simulate.specs.declared.outcome.SimFault.TheVariants.{Write, OutOfMemory}
+use Rattle.gb_simulate.specs.declared.{outcome.SimEnd.SimEnd, outcome.SimFault.SimFault, outcome.SimFault.TheVariants.Write, outcome.SimFault.TheVariants.OutOfMemory}
 use Rattle.gb_sim.specs.declared.run.Ended.{Ended}
 
 -- the line that stands behind the answers where memory lacked

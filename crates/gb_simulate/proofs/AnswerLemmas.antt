@@ -1,11 +1,7 @@
 -- How the nodes that are noticed are written.
-use Rattle.std.proofs.Common.{◌≡◌, ℕ, List, [], ◌∷◌, ◌++◌, refl, sym, ◌∙◌, ap}
-use Rattle.std.proofs.lemmas.List.{append_assoc, append-nil}
+use Rattle.gb_types.specs.Common.{◌≡◌, ℕ, List, [], ◌∷◌, ◌++◌, refl, sym, ◌∙◌, ap, append_assoc, append-nil, nat_cmp, codes, Result, Ok, Err, OnOk, rising, rising_from}
 use Rattle.std.proofs.lemmas.List.Prefix.{front_rest}
 use Rattle.std.specs.FinSet as set
-use Rattle.std.specs.Ordering.{nat_cmp}
-use Rattle.std.specs.Prelude.{codes, Result, Ok, Err, OnOk}
-use Rattle.gb_types.specs.Rising.{rising, rising_from}
 use Rattle.gb_simulate.specs.AnswerText.{each_after_space, noticed_words}
 use Rattle.gb_simulate.specs.Schedule.{added}
 

@@ -1,12 +1,9 @@
 -- What a cluster's calls say, in the words of schedules.
-use Rattle.std.proofs.Common.{◌≡◌, ap, ◌∙◌, arith}
+use Rattle.gb_types.specs.Common.{◌≡◌, ap, ◌∙◌, arith}
 use Rattle.std.proofs.lemmas.List.FromFn.{length-map-range_with_len}
-use Rattle.gb_node.specs.NodeStep.{node_numbered}
-use Rattle.gb_node.specs.NodeValue.{new_node}
-use Rattle.gb_cluster.specs.ClusterStep.{IsStep}
-use Rattle.gb_cluster.specs.ClusterValue.{ClusterValue, new_cluster, node_plan, IsClusterPlan}
-use Rattle.gb_cluster.specs.declared.answer.Answer.{Answer}
-use Rattle.gb_cluster.specs.declared.event.Event.{Event}
+use Rattle.gb_node.specs.Common.{node_numbered, new_node}
+use Rattle.gb_cluster.specs.Common.{IsStep, ClusterValue, new_cluster, node_plan, IsClusterPlan}
+use Rattle.gb_cluster.specs.declared.{answer.Answer.Answer, event.Event.Event}
 use Rattle.gb_schedule.specs.Grammar.{IsStart}
 use Rattle.gb_schedule.specs.declared.command.ClusterStart.{ClusterStart}
 use Rattle.gb_simulate.specs.OfCluster.{plan_of, started, size, Takes}

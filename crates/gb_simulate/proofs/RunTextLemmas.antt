@@ -1,25 +1,16 @@
 -- Lines that are answered are those of a run.
-use Rattle.std.proofs.Common.{ℕ, ◌≡◌, List, [], ◌∷◌, ◌++◌, Option, Some, None, refl, sym, ap, ◌∙◌, subst, inl, inr}
-use Rattle.std.proofs.lemmas.List.{append_assoc, append-nil}
-use Rattle.std.proofs.lemmas.List.Elements.{All-cons, All-nil}
-use Rattle.std.specs.Prelude.{codes}
+use Rattle.gb_types.specs.Common.{ℕ, ◌≡◌, List, [], ◌∷◌, ◌++◌, Option, Some, None, refl, sym, ap, ◌∙◌, subst, inl, inr, append_assoc, append-nil, All-cons, All-nil, codes}
 use Rattle.gb_isolation.specs.Isolation.{AmpleRunsFeedAll}
 use Rattle.gb_isolation.specs.RunLaws.{OfGroupsInRuns, AtEachMoment, AnswersNewNotices, TicksAnswerNewNotices, RefusalsChangeNothing}
 use Rattle.gb_isolation.proofs.MomentLemmas.{back}
-use Rattle.gb_cluster.specs.Links.{PacketsAreHonest, PacketsAreRead, LinksHold, NothingIsOutside, CoversTaken, IsInside}
-use Rattle.gb_cluster.specs.ClusterStep.{IsStep}
-use Rattle.gb_cluster.specs.ClusterValue.{ClusterValue, IsClusterPlan}
-use Rattle.gb_cluster.specs.Run.{Did, ComesTo, Happens, NodesHavePasts, RunsHaveOneEnd}
-use Rattle.gb_cluster.specs.declared.answer.Answer.{Answer}
-use Rattle.gb_cluster.specs.declared.event.Event.{Event}
+use Rattle.gb_cluster.specs.Common.{PacketsAreHonest, PacketsAreRead, LinksHold, NothingIsOutside, CoversTaken, IsInside, IsStep, ClusterValue, IsClusterPlan, Did, ComesTo, Happens, NodesHavePasts, RunsHaveOneEnd}
+use Rattle.gb_cluster.specs.declared.{answer.Answer.Answer, event.Event.Event}
 use Rattle.gb_types.specs.declared.plan.Plan.{Plan}
 use Rattle.gb_cluster.proofs.NodesLemmas.{stays}
 use Rattle.gb_schedule.proofs.PlaceLemmas.{line_in_place}
 use Rattle.gb_schedule.specs.Grammar.{IsCommandLine, IsSilent}
 use Rattle.gb_lines.specs.Lines.{ended}
-use Rattle.gb_schedule.specs.declared.command.Command.{Command}
-use Rattle.gb_schedule.specs.declared.command.Command.TheVariants.{Cluster}
-use Rattle.gb_schedule.specs.declared.command.ClusterStart.{ClusterStart}
+use Rattle.gb_schedule.specs.declared.{command.Command.Command, command.Command.TheVariants.Cluster, command.ClusterStart.ClusterStart}
 use Rattle.gb_simulate.specs.OfCluster.{plan_of, started, size, Takes}
 use Rattle.gb_simulate.specs.RunTexts.{RunStep, AreRunSteps, TellsRun}
 use Rattle.gb_simulate.specs.Schedule.{Obeys, GoesOn, event_of}

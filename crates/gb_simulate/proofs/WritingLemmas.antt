@@ -1,8 +1,6 @@
 -- What writes one after another leave.
-use Rattle.std.proofs.Common.{ℕ, ◌+◌, List, ◌++◌, Option, Some, None, take, drop, sym, ap, ◌∙◌, subst}
+use Rattle.gb_types.specs.Common.{ℕ, ◌+◌, List, ◌++◌, Option, Some, None, take, drop, sym, ap, ◌∙◌, subst, append_assoc, take-add}
 use Rattle.std.specs.Io.KnownBytes.{Appends}
-use Rattle.std.proofs.lemmas.List.{append_assoc}
-use Rattle.std.proofs.Math.Seq.{take-add}
 
 appends_both : (old mid new : Option (List ℕ)) (a b : List ℕ) → Appends old mid a → Appends mid new b → Appends old new (a ++ b)
 appends_both None mid new a b first next = tt

@@ -1,23 +1,15 @@
 -- The texts of answers.
 use Rattle.std.specs.Prelude.{ℕ, List, [], ◌∷◌, ◌++◌, codes, decimal}
-use Rattle.gb_types.specs.ReplyText.{reply_spelling}
-use Rattle.gb_types.specs.Rising.{rising}
+use Rattle.gb_types.specs.Common.{reply_spelling, rising}
 use Rattle.gb_types.specs.declared.reply.Reply.TheVariants.{Refused}
-use Rattle.gb_frame.specs.Faults.{fault_number}
+use Rattle.gb_frame.specs.Common.{fault_number}
 use Rattle.gb_frame.specs.declared.fault.PacketFault.{PacketFault}
 use Rattle.gb_frame.specs.declared.fault.PacketFault.TheVariants.{Short, Magic, Version, Node, Mask, Count, Length, Trailing, TooLong, Tag}
-use Rattle.gb_node.specs.declared.answer.Frame.{Frame}
+use Rattle.gb_node.specs.declared.{answer.Frame.Frame, answer.Good.Good, answer.Halted.Halted, answer.Halted.TheVariants.Done as HaltDone, answer.Halted.TheVariants.Refused as HaltRefused, answer.PacketAnswer.PacketAnswer, answer.Ticked.Ticked, answer.Ticked.TheVariants.Noticed, answer.Ticked.TheVariants.Refused as TickRefused}
 use Rattle.gb_node.specs.declared.answer.Frame.TheVariants.{Nothing as No_frame, First, Seen, Outside}
-use Rattle.gb_node.specs.declared.answer.Good.{Good}
-use Rattle.gb_node.specs.declared.answer.Halted.{Halted}
-use Rattle.gb_node.specs.declared.answer.Halted.TheVariants.{Done as HaltDone, Refused as HaltRefused}
-use Rattle.gb_node.specs.declared.answer.PacketAnswer.{PacketAnswer}
 use Rattle.gb_node.specs.declared.answer.PacketAnswer.TheVariants.{Good as TakenGood, Fault as TakenFault, Refused as TakenRefused}
-use Rattle.gb_node.specs.declared.answer.Ticked.{Ticked}
-use Rattle.gb_node.specs.declared.answer.Ticked.TheVariants.{Noticed, Refused as TickRefused}
-use Rattle.gb_cluster.specs.declared.answer.Answer.{Answer}
+use Rattle.gb_cluster.specs.declared.{answer.Answer.Answer, answer.Sending.Sending}
 use Rattle.gb_cluster.specs.declared.answer.Answer.TheVariants.{Reply as AnswerReply, Taken as AnswerTaken, Sent as AnswerSent, Ticked as AnswerTicked, Halted as AnswerHalted, NoPacket, NotNoise}
-use Rattle.gb_cluster.specs.declared.answer.Sending.{Sending}
 use Rattle.gb_cluster.specs.declared.answer.Sending.TheVariants.{Packet as SentPacket, Nothing, Refused as SentRefused}
 use Rattle.gb_lines.specs.Lines.{ended}
 

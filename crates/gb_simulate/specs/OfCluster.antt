@@ -1,9 +1,7 @@
 -- What schedules say of a cluster: how it is started, how many nodes it has, and what it answers.
 use Rattle.std.specs.Prelude.{ℕ, length}
-use Rattle.gb_cluster.specs.ClusterStep.{IsStep}
-use Rattle.gb_cluster.specs.ClusterValue.{ClusterValue, new_cluster}
-use Rattle.gb_cluster.specs.declared.answer.Answer.{Answer}
-use Rattle.gb_cluster.specs.declared.event.Event.{Event}
+use Rattle.gb_cluster.specs.Common.{IsStep, ClusterValue, new_cluster}
+use Rattle.gb_cluster.specs.declared.{answer.Answer.Answer, event.Event.Event}
 use Rattle.gb_types.specs.declared.plan.Plan.{Plan}
 use Rattle.gb_schedule.specs.declared.command.ClusterStart.{ClusterStart}
 use Rattle.gb_schedule.specs.Keys.{cluster_key, admin_key}

@@ -6,15 +6,12 @@ use Rattle.std.specs.Io.KnownBytes.{Appends, Keeps, prepend_known}
 use Rattle.gb_lines.specs.Buffered.{WhereKnown}
 use Rattle.gb_lines.specs.Lines.{lines_of, GivesLine, IsLine}
 use Rattle.gb_lines.specs.declared.lines.TheConstants.{LINE}
-use Rattle.gb_cluster.specs.ClusterValue.{ClusterValue}
+use Rattle.gb_cluster.specs.Common.{ClusterValue}
 use Rattle.gb_simulate.specs.Schedule.{GoesOn, IsBadLine}
 use Rattle.gb_simulate.specs.AnswerText.{bad_line}
 use Rattle.gb_simulate.specs.Text.{Reaches, IsText, IsLeftOff, IsWrittenUpTo}
 use Rattle.gb_simulate.specs.Writing.{AppendsFront}
-use Rattle.gb_simulate.specs.declared.obey.TheConstants.{LINES}
-use Rattle.gb_simulate.specs.declared.outcome.SimEnd.{SimEnd}
-use Rattle.gb_simulate.specs.declared.outcome.SimEnd.TheVariants.{All, BadLine}
-use Rattle.gb_simulate.specs.declared.outcome.SimFault.{SimFault}
+use Rattle.gb_simulate.specs.declared.{obey.TheConstants.LINES, outcome.SimEnd.SimEnd, outcome.SimEnd.TheVariants.All, outcome.SimEnd.TheVariants.BadLine, outcome.SimFault.SimFault}
 use Rattle.gb_simulate.specs.declared.outcome.SimFault.TheVariants.{Read, Write, OutOfMemory}
 
 -- the next line is the n-th, it asks for nothing or is executed, and its answer is gathered

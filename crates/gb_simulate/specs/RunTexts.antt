@@ -1,16 +1,11 @@
 -- The lines of a schedule and their answers, as the steps of a run of a cluster.
 use Rattle.std.specs.Prelude.{ℕ, ◌≡◌, ◌⊎◌, List, [], ◌∷◌, ◌++◌, Option, Some, None, codes, All}
-use Rattle.gb_cluster.specs.ClusterStep.{IsStep}
-use Rattle.gb_cluster.specs.ClusterValue.{ClusterValue, new_cluster}
-use Rattle.gb_cluster.specs.Run.{Did, ComesTo, Happens}
-use Rattle.gb_cluster.specs.declared.answer.Answer.{Answer}
-use Rattle.gb_cluster.specs.declared.event.Event.{Event}
+use Rattle.gb_cluster.specs.Common.{IsStep, ClusterValue, new_cluster, Did, ComesTo, Happens}
+use Rattle.gb_cluster.specs.declared.{answer.Answer.Answer, event.Event.Event}
 use Rattle.gb_types.specs.declared.plan.Plan.{Plan}
-use Rattle.gb_schedule.specs.declared.command.ClusterStart.{ClusterStart}
+use Rattle.gb_schedule.specs.declared.{command.ClusterStart.ClusterStart, command.Command.Command, command.Command.TheVariants.Cluster}
 use Rattle.gb_schedule.specs.Grammar.{IsCommandLine, IsSilent}
 use Rattle.gb_lines.specs.Lines.{ended}
-use Rattle.gb_schedule.specs.declared.command.Command.{Command}
-use Rattle.gb_schedule.specs.declared.command.Command.TheVariants.{Cluster}
 use Rattle.gb_simulate.specs.AnswerText.{answer_spelling}
 use Rattle.gb_simulate.specs.OfCluster.{plan_of}
 use Rattle.gb_simulate.specs.Schedule.{event_of}

@@ -1,13 +1,9 @@
 -- What a schedule makes a cluster answer.
 use Rattle.std.specs.Prelude.{ℕ, ◌≡◌, ◌≢◌, ◌≤◌, ◌<◌, ◌⊎◌, List, [], drop, length, Option, Some, None, codes}
-use Rattle.gb_types.specs.declared.limits.TheConstants.{NODES}
-use Rattle.gb_types.specs.declared.request.Action.TheVariants.{Group}
-use Rattle.gb_types.specs.declared.request.GroupCommand.TheVariants.{Fetch as FetchCommand}
+use Rattle.gb_types.specs.declared.{limits.TheConstants.NODES, request.Action.TheVariants.Group, request.GroupCommand.TheVariants.Fetch as FetchCommand}
 use Rattle.gb_node.specs.declared.event.NodeEvent.TheVariants.{Request as AskEvent, Packet as CameEvent, Pack as PackEvent, Again as AgainEvent, Ack as AckEvent, Tick as TickEvent, Stop as StopEvent}
-use Rattle.gb_cluster.specs.ClusterValue.{ClusterValue}
-use Rattle.gb_cluster.specs.declared.answer.Answer.{Answer}
-use Rattle.gb_cluster.specs.declared.event.Event.{Event}
-use Rattle.gb_cluster.specs.declared.event.Event.TheVariants.{At, Arrive as ArriveEvent}
+use Rattle.gb_cluster.specs.Common.{ClusterValue}
+use Rattle.gb_cluster.specs.declared.{answer.Answer.Answer, event.Event.Event, event.Event.TheVariants.At, event.Event.TheVariants.Arrive as ArriveEvent}
 use Rattle.gb_schedule.specs.Grammar.{IsCommandLine, IsSilent}
 use Rattle.gb_schedule.specs.Keys.{member_token}
 use Rattle.gb_lines.specs.Lines.{ended}
@@ -17,9 +13,8 @@ use Rattle.gb_schedule.specs.declared.command.Step.TheVariants.{Pack, Again, Ack
 use Rattle.gb_lines.specs.declared.lines.TheConstants.{LINE}
 use Rattle.gb_simulate.specs.AnswerText.{answer_spelling}
 use Rattle.gb_simulate.specs.OfCluster.{started, size, Takes}
-use Rattle.gb_simulate.specs.declared.outcome.BadLine.{BadLine}
+use Rattle.gb_simulate.specs.declared.{outcome.BadLine.BadLine, obey.TheConstants.LINES}
 use Rattle.gb_simulate.specs.declared.outcome.BadLine.TheVariants.{TooLong, TooMany, NoCluster, NoCommand}
-use Rattle.gb_simulate.specs.declared.obey.TheConstants.{LINES}
 
 -- what was appended to the old text
 abbrev pub added : List ℕ → List ℕ → List ℕ

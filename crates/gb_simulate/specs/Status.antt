@@ -1,8 +1,6 @@
 -- The exit status of the program.
 use Rattle.std.specs.Prelude.{ℕ, Result, Ok, Err}
-use Rattle.gb_simulate.specs.declared.outcome.SimEnd.{SimEnd}
-use Rattle.gb_simulate.specs.declared.outcome.SimEnd.TheVariants.{All, BadLine}
-use Rattle.gb_simulate.specs.declared.outcome.SimFault.{SimFault}
+use Rattle.gb_simulate.specs.declared.{outcome.SimEnd.SimEnd, outcome.SimEnd.TheVariants.All, outcome.SimEnd.TheVariants.BadLine, outcome.SimFault.SimFault}
 use Rattle.gb_simulate.specs.declared.outcome.SimFault.TheVariants.{Read, Write, OutOfMemory}
 
 -- 0: all lines were read; 1: a read or a write failed; 2: a bad line; 3: no memory

@@ -2,15 +2,11 @@
 use Rattle.std.specs.Prelude.{ℕ, ◌+◌, ◌≡◌, ◌≤◌, ◌<◌, ◌⊎◌, List, [], ◌∷◌, ◌++◌, length, reverse, take, Option, Some, None}
 use Rattle.gb_lines.specs.Lines.{lines_of, IsLine}
 use Rattle.gb_lines.specs.declared.lines.TheConstants.{LINE}
-use Rattle.gb_cluster.specs.ClusterValue.{ClusterValue}
+use Rattle.gb_cluster.specs.Common.{ClusterValue}
 use Rattle.gb_simulate.specs.RunTexts.{TellsRun}
 use Rattle.gb_simulate.specs.Schedule.{GoesOn, IsBadLine}
 use Rattle.gb_simulate.specs.AnswerText.{bad_line}
-use Rattle.gb_simulate.specs.declared.obey.TheConstants.{LINES}
-use Rattle.gb_simulate.specs.declared.outcome.BadLine.{BadLine as Reason}
-use Rattle.gb_simulate.specs.declared.outcome.SimEnd.{SimEnd}
-use Rattle.gb_simulate.specs.declared.outcome.SimEnd.TheVariants.{All, BadLine}
-use Rattle.gb_simulate.specs.declared.outcome.SimFault.{SimFault}
+use Rattle.gb_simulate.specs.declared.{obey.TheConstants.LINES, outcome.BadLine.BadLine as Reason, outcome.SimEnd.SimEnd, outcome.SimEnd.TheVariants.All, outcome.SimEnd.TheVariants.BadLine, outcome.SimFault.SimFault}
 use Rattle.gb_simulate.specs.declared.outcome.SimFault.TheVariants.{Read, Write, OutOfMemory}
 
 -- these lines, the newest first, are the first of a schedule; their answers are this text, and they lead to the cluster `w`

@@ -1,8 +1,7 @@
 //! How an answer is written. If there is no memory, a part of it may have been appended.
 ghost use Rattle.std.specs.Prelude.{◌≡◌, ◌++◌, ◌∷◌, [], codes, OnOk, OnErr};
 ghost use Rattle.std.specs.Io.{StartsWith};
-ghost use Rattle.gb_types.specs.Rising.{rising, rising_from};
-ghost use Rattle.gb_types.specs.ReplyText.{reply_spelling};
+ghost use Rattle.gb_types.specs.Common.{rising, rising_from, reply_spelling};
 ghost use Rattle.gb_lines.specs.Lines.{ended};
 ghost use Rattle.gb_simulate.specs.AnswerText.{answer_spelling, bad_line, each_after_space, fault_name, fault_spelling, frame_word, good_spelling, halted_spelling, noticed_words, packet_spelling, sending_spelling, ticked_spelling};
 

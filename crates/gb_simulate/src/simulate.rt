@@ -3,7 +3,7 @@ ghost use Rattle.std.specs.Prelude.{◌≡◌, ◌≢◌, ◌≤◌, ℕ, List, 
 ghost use Rattle.gb_lines.specs.Buffered.{left, WantsRead, WhereKnown};
 ghost use Rattle.gb_lines.specs.Lines.{GivesLine};
 ghost use Rattle.gb_lines.specs.declared.lines.TheConstants.{LINE};
-ghost use Rattle.gb_cluster.specs.ClusterValue.{ClusterValue};
+ghost use Rattle.gb_cluster.specs.Common.{ClusterValue};
 ghost use Rattle.gb_simulate.specs.OfCluster.{size};
 ghost use Rattle.gb_simulate.specs.Schedule.{HasNodes, IsBadLine};
 ghost use Rattle.gb_simulate.specs.Text.{IsWritten, IsWrittenUpTo};

@@ -1,24 +1,15 @@
 -- The effect of one call of the group's broadcast on a slot.
-use Rattle.std.proofs.Common.{◌≡◌, ◌≢◌, ℕ, ◌<◌, true, false, List, zero, suc, [], ◌∷◌, ◌++◌, length, drop, refl, sym, ◌∙◌, ap, subst, arith, length-append}
-use Rattle.std.specs.Prelude.{if◌then◌else◌, map}
-use Rattle.std.specs.Ordering.{nat_cmp}
+use Rattle.gb_types.specs.Common.{◌≡◌, ◌≢◌, ℕ, ◌<◌, true, false, List, zero, suc, [], ◌∷◌, ◌++◌, length, drop, refl, sym, ◌∙◌, ap, subst, arith, length-append, if◌then◌else◌, map, nat_cmp, AllByRecursion, drop-append-le, map-append}
 use Rattle.std.specs.FinSet as set
-use Rattle.std.specs.List.{AllByRecursion}
-use Rattle.std.proofs.lemmas.List.{drop-append-le, map-append}
-use Rattle.gb_types.specs.declared.entry.Entry.{Entry}
-use Rattle.gb_types.specs.declared.message.MsgId.{MsgId}
-use Rattle.gb_layer.specs.Lists.{all_append, all_weaker}
-use Rattle.gb_layer.specs.Machine.{mentions, messages, was_noticed, came_from}
-use Rattle.gb_layer.specs.Modules.{IsLawful}
+use Rattle.gb_types.specs.declared.{entry.Entry.Entry, message.MsgId.MsgId}
+use Rattle.gb_layer.specs.Common.{all_append, all_weaker, mentions, messages, was_noticed, came_from, IsLawful}
 use Rattle.gb_stack.specs.Kinds.{kind_delivers, kind_broadcasts}
 use Rattle.gb_stack.specs.StackState.{stack_gives}
 use Rattle.gb_stack.proofs.DeliveryLemmas.{kind_broadcasts_mentioned}
 use Rattle.gb_stack.proofs.StandsLemmas as stack
 use Rattle.gb_rules.specs.declared.call.GroupCall.{GroupCall}
-use Rattle.gb_rules.specs.History.{call_of, calls_of, with_told, known, said_in, puts_of}
+use Rattle.gb_rules.specs.Common.{call_of, calls_of, with_told, known, said_in, puts_of, has, entry_in, is_other}
 use Rattle.gb_rules.proofs.MentionLemmas.{has-known}
-use Rattle.gb_rules.specs.Messages.{has, entry_in}
-use Rattle.gb_rules.specs.Group.{is_other}
 use Rattle.gb_slot.specs.Slot.{waiting, taken_for, came_before, slot_called}
 use Rattle.gb_slot.specs.SlotState.{SlotState}
 use Rattle.gb_slot.specs.StandsFor.{StandsFor, reaches}

@@ -1,12 +1,7 @@
 -- The number of payload bytes of each origin.
-use Rattle.std.proofs.Common.{◌≡◌, ◌≢◌, ℕ, ◌+◌, ◌≤◌, ◌<◌, true, false, List, [], ◌∷◌, ◌++◌, length, ◌∙◌, ap, sym, arith, refl, nat_eq, set, slice_index}
-use Rattle.std.specs.Prelude.{if◌then◌else◌}
-use Rattle.std.proofs.lemmas.Bool.{eqb-true, eq-eqb}
-use Rattle.std.proofs.lemmas.List.{get_or-set_other}
-use Rattle.std.proofs.lemmas.Grind.{get_or-set_at}
-use Rattle.gb_types.specs.declared.entry.Entry.{Entry}
-use Rattle.gb_types.specs.declared.limits.TheConstants.{NODES, BYTES}
-use Rattle.gb_rules.specs.Messages.{bytes_of}
+use Rattle.gb_types.specs.Common.{◌≡◌, ◌≢◌, ℕ, ◌+◌, ◌≤◌, ◌<◌, true, false, List, [], ◌∷◌, ◌++◌, length, ◌∙◌, ap, sym, arith, refl, nat_eq, set, slice_index, if◌then◌else◌, eqb-true, eq-eqb, get_or-set_other, get_or-set_at}
+use Rattle.gb_types.specs.declared.{entry.Entry.Entry, limits.TheConstants.NODES, limits.TheConstants.BYTES}
+use Rattle.gb_rules.specs.Common.{bytes_of}
 use Rattle.gb_rules.proofs.MentionLemmas.{bytes_of-append}
 use Rattle.gb_slot.specs.Kept.{AreCounted}
 

@@ -1,27 +1,14 @@
 -- The number of messages, and of their bytes, is at most that of the group.
-use Rattle.std.proofs.Common.{◌≡◌, ℕ, zero, suc, ◌+◌, ◌*◌, ◌≤◌, ◌<◌, Bool, true, false, cond, ◌||◌, ◌&&◌, List, [], ◌∷◌, ◌++◌, length, refl, sym, ◌∙◌, ap, subst, arith, nat_eq}
-use Rattle.std.specs.Prelude.{map, count_by, if◌then◌else◌}
+use Rattle.gb_types.specs.Common.{◌≡◌, ℕ, zero, suc, ◌+◌, ◌*◌, ◌≤◌, ◌<◌, Bool, true, false, cond, ◌||◌, ◌&&◌, List, [], ◌∷◌, ◌++◌, length, refl, sym, ◌∙◌, ap, subst, arith, nat_eq, map, count_by, if◌then◌else◌, list_any, list_all, IsDistinct, AllByRecursion, eqb-true, nat_tests, length-map, message_of, same, below}
 use Rattle.std.specs.FinSet as set
-use Rattle.std.specs.List.{list_any, list_all, IsDistinct, AllByRecursion}
 use Rattle.std.proofs.Math.Nat.{suc-mul}
-use Rattle.std.proofs.lemmas.Bool.{eqb-true}
-use Rattle.std.proofs.lemmas.Bool.Decides.{nat_tests}
-use Rattle.std.proofs.lemmas.List.{length-map}
 use Rattle.gb_types.proofs.SameLemmas.{same-true, same_itself}
-use Rattle.gb_types.specs.Entry.{message_of}
-use Rattle.gb_types.specs.Message.{same}
-use Rattle.gb_types.specs.Places.{below}
-use Rattle.gb_types.specs.declared.entry.Entry.{Entry}
-use Rattle.gb_types.specs.declared.limits.TheConstants.{NODES, BYTES}
-use Rattle.gb_types.specs.declared.message.MsgId.{MsgId}
-use Rattle.gb_types.specs.declared.spec.Spec.{Spec}
+use Rattle.gb_types.specs.declared.{entry.Entry.Entry, limits.TheConstants.NODES, limits.TheConstants.BYTES, message.MsgId.MsgId, spec.Spec.Spec}
 use Rattle.gb_types.proofs.BoolLemmas.{and_left, and_right}
-use Rattle.gb_layer.specs.Counts.{count_by-cons}
-use Rattle.gb_layer.specs.FirstMentionLemmas.{same_swap}
-use Rattle.gb_layer.specs.Limit.{Limit, is_counted, message_count}
+use Rattle.gb_layer.specs.Common.{count_by-cons, same_swap, Limit, is_counted, message_count}
 use Rattle.gb_layer.proofs.PigeonholeLemmas.{no_more_messages}
 use Rattle.gb_layer.proofs.LimitLemmas.{counted_grown, once_grown}
-use Rattle.gb_rules.specs.Messages.{has, with_new, bytes_of}
+use Rattle.gb_rules.specs.Common.{has, with_new, bytes_of}
 use Rattle.gb_slot.specs.Kept.{AreCounted}
 use Rattle.gb_slot.specs.Reached.{limit_of, most_bytes}
 use Rattle.gb_slot.specs.StoreValue.{total_bytes}

@@ -1,34 +1,17 @@
 -- A slot stands for the history of its group's calls.
-use Rattle.std.proofs.Common.{◌≡◌, ◌≢◌, ℕ, ◌+◌, ◌-◌, ◌≤◌, ◌<◌, ◌||◌, ◌&&◌, not, Bool, true, false, List, [], ◌∷◌, ◌++◌, length, drop, refl, sym, ◌∙◌, ap, subst, arith, length-append}
-use Rattle.std.specs.Prelude.{if◌then◌else◌, map, nat_eq, nat_le, slice_index_or, slice_set}
-use Rattle.std.specs.Ordering.{nat_cmp}
+use Rattle.gb_types.specs.Common.{◌≡◌, ◌≢◌, ℕ, ◌+◌, ◌-◌, ◌≤◌, ◌<◌, ◌||◌, ◌&&◌, not, Bool, true, false, List, [], ◌∷◌, ◌++◌, length, drop, refl, sym, ◌∙◌, ap, subst, arith, length-append, if◌then◌else◌, map, nat_eq, nat_le, slice_index_or, slice_set, nat_cmp, drop-nil, eqb-true, nat_tests, drop-map, length-replicate, length-set, message_of, same}
 use Rattle.std.specs.FinSet as set
-use Rattle.std.proofs.Math.Seq.{drop-nil}
-use Rattle.std.proofs.lemmas.Bool.{eqb-true}
-use Rattle.std.proofs.lemmas.Bool.Decides.{nat_tests}
-use Rattle.std.proofs.lemmas.List.{drop-map, length-replicate, length-set}
-use Rattle.gb_types.specs.Entry.{message_of}
-use Rattle.gb_types.specs.Message.{same}
 use Rattle.gb_types.proofs.SameLemmas.{same-true}
-use Rattle.gb_types.specs.declared.entry.Entry.{Entry}
-use Rattle.gb_types.specs.declared.limits.TheConstants.{NODES}
-use Rattle.gb_types.specs.declared.message.MsgId.{MsgId}
-use Rattle.gb_types.specs.declared.node.NodeId.{NodeId}
-use Rattle.gb_types.specs.declared.reply.Reply.TheVariants.{Done}
-use Rattle.gb_layer.specs.Machine.{mentions, was_said, came_from}
-use Rattle.gb_layer.specs.Modules.{IsLawful}
-use Rattle.gb_layer.specs.Histories.{said_mentioned, own_said}
+use Rattle.gb_types.specs.declared.{entry.Entry.Entry, limits.TheConstants.NODES, message.MsgId.MsgId, node.NodeId.NodeId, reply.Reply.TheVariants.Done}
+use Rattle.gb_layer.specs.Common.{mentions, was_said, came_from, IsLawful, said_mentioned, own_said}
 use Rattle.gb_layer.specs.declared.call.Call.{Call}
 use Rattle.gb_stack.specs.StackState.{new_stack}
 use Rattle.gb_stack.specs.Stands.{IsStackAfter}
 use Rattle.gb_stack.proofs.StandsLemmas as stack
 use Rattle.gb_rules.specs.declared.call.GroupCall.{GroupCall}
 use Rattle.gb_rules.specs.declared.call.GroupCall.TheVariants.{Own, Other, Crashed}
-use Rattle.gb_rules.specs.History.{call_of, calls_of, known, said_in, puts_of, bytes_in}
+use Rattle.gb_rules.specs.Common.{call_of, calls_of, known, said_in, puts_of, bytes_in, has, entry_in, with_new, bytes_of, is_other, is_let_fall}
 use Rattle.gb_slot.specs.HistoryLaws.{FreshStands, MovedStands, SaidStands, CameStands, NoticedStands, DoneStands, TookStands, LogIs, FallsIs, WaitingSaid, WaitingCame, WaitingNoticed, WaitingTook, WaitingElsewhere}
-use Rattle.gb_rules.specs.Messages.{has, entry_in, with_new, bytes_of}
-use Rattle.gb_rules.specs.Group.{is_other}
-use Rattle.gb_rules.specs.LetFall.{is_let_fall}
 use Rattle.gb_slot.specs.Slot.{waiting, taken_for, came_before, own_entry, slot_called, falls, with_acknowledgement, acknowledged_by, slot_took}
 use Rattle.gb_slot.specs.SlotState.{SlotState}
 use Rattle.gb_slot.specs.StandsFor.{StandsFor, reaches}

@@ -1,9 +1,6 @@
 -- The entries of a store stay as the bytes grow.
-use Rattle.std.proofs.Common.{◌≡◌, ℕ, ◌-◌, ◌≤◌, List, [], ◌∷◌, ◌++◌, length, take, drop, refl, sym, ◌∙◌, ap, subst, arith, length-append, length-drop}
-use Rattle.std.specs.Prelude.{slice_range}
-use Rattle.std.specs.Ordering.{nat_cmp}
+use Rattle.gb_types.specs.Common.{◌≡◌, ℕ, ◌-◌, ◌≤◌, List, [], ◌∷◌, ◌++◌, length, take, drop, refl, sym, ◌∙◌, ap, subst, arith, length-append, length-drop, slice_range, nat_cmp, take_all, take-append-le, drop-append-le}
 use Rattle.std.specs.FinSet.{FinSet}
-use Rattle.std.proofs.lemmas.List.{take_all, take-append-le, drop-append-le}
 use Rattle.std.proofs.lemmas.List.Prefix.{front_rest}
 use Rattle.gb_types.specs.declared.message.MsgId.{MsgId}
 use Rattle.gb_slot.specs.declared.store.Kept.{Kept}

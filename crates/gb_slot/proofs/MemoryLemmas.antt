@@ -1,25 +1,13 @@
 -- The memory that a slot took when it was made is enough for each call.
-use Rattle.std.proofs.Common.{◌≡◌, ℕ, Bool, false, ◌&&◌, ◌*◌, ◌+◌, ◌≤◌, ◌<◌, List, [], ◌∷◌, ◌++◌, length, refl, sym, ◌∙◌, ap, subst, arith, length-append, vec_capacity}
-use Rattle.std.specs.Prelude.{map, slice_index_or, if◌then◌else◌}
+use Rattle.gb_types.specs.Common.{◌≡◌, ℕ, Bool, false, ◌&&◌, ◌*◌, ◌+◌, ◌≤◌, ◌<◌, List, [], ◌∷◌, ◌++◌, length, refl, sym, ◌∙◌, ap, subst, arith, length-append, vec_capacity, map, slice_index_or, if◌then◌else◌, length-map, map-append, count_by-le-length, message_of, below, common}
 use Rattle.std.specs.FinSet as set
-use Rattle.std.proofs.lemmas.List.{length-map, map-append}
-use Rattle.std.proofs.lemmas.List.Sums.{count_by-le-length}
 use Rattle.std.proofs.lemmas.Nat.{mul-le}
-use Rattle.gb_types.specs.Entry.{message_of}
-use Rattle.gb_types.specs.Places.{below, common}
-use Rattle.gb_types.specs.declared.entry.Entry.{Entry}
-use Rattle.gb_types.specs.declared.limits.TheConstants.{NODES, MESSAGES}
-use Rattle.gb_layer.specs.Rule.{Nodes}
-use Rattle.gb_types.specs.declared.message.MsgId.{MsgId}
-use Rattle.gb_types.specs.declared.node.NodeId.{NodeId}
-use Rattle.gb_types.specs.declared.reply.Reply.TheVariants.{Said}
-use Rattle.gb_layer.specs.Machine.{messages}
+use Rattle.gb_types.specs.declared.{entry.Entry.Entry, limits.TheConstants.NODES, limits.TheConstants.MESSAGES, message.MsgId.MsgId, node.NodeId.NodeId, reply.Reply.TheVariants.Said}
+use Rattle.gb_layer.specs.Common.{Nodes, messages, IsNext}
 use Rattle.gb_layer.specs.declared.effects.Up.{Up}
-use Rattle.gb_layer.specs.PlacedCalls.{IsNext}
 use Rattle.gb_stack.specs.declared.stack.Stack.{Stack}
 use Rattle.gb_stack.specs.Layers.{stack_of, StackKnows, stack_grows}
-use Rattle.gb_rules.specs.Messages.{has, with_new, bytes_of}
-use Rattle.gb_rules.specs.LetFall.{is_let_fall}
+use Rattle.gb_rules.specs.Common.{has, with_new, bytes_of, is_let_fall}
 use Rattle.gb_rules.specs.declared.usage.Usage.{Usage}
 use Rattle.gb_slot.specs.Arrivals.{nodes_of}
 use Rattle.gb_slot.specs.Reached.{IsReached, limit_of, most_messages, most_bytes}

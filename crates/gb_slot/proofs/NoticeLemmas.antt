@@ -1,24 +1,10 @@
 -- Histories of notices alone, and the nodes that are noticed.
-use Rattle.std.proofs.Common.{◌≡◌, ◌≢◌, ℕ, Bool, true, false, cond, ◌&&◌, ◌||◌, not, List, [], ◌∷◌, ◌++◌, refl, sym, ◌∙◌, ap, arith}
-use Rattle.std.specs.Prelude.{map, filter, nat_eq}
-use Rattle.std.specs.Ordering.{nat_cmp}
+use Rattle.gb_types.specs.Common.{◌≡◌, ◌≢◌, ℕ, Bool, true, false, cond, ◌&&◌, ◌||◌, not, List, [], ◌∷◌, ◌++◌, refl, sym, ◌∙◌, ap, arith, map, filter, nat_eq, nat_cmp, AllByRecursion, list_any, eqb-true, nat_tests, same}
 use Rattle.std.specs.FinSet as set
-use Rattle.std.specs.List.{AllByRecursion, list_any}
-use Rattle.std.proofs.lemmas.Bool.{eqb-true}
-use Rattle.std.proofs.lemmas.Bool.Decides.{nat_tests}
-use Rattle.gb_types.specs.declared.kind.Kind.{Kind}
-use Rattle.gb_types.specs.declared.message.MsgId.{MsgId}
-use Rattle.gb_types.specs.declared.node.NodeId.{NodeId}
-use Rattle.gb_types.specs.declared.spec.Spec.{Spec}
-use Rattle.gb_types.specs.Message.{same}
+use Rattle.gb_types.specs.declared.{kind.Kind.Kind, message.MsgId.MsgId, node.NodeId.NodeId, spec.Spec.Spec, kind.Module.Module}
 use Rattle.gb_types.proofs.SameLemmas.{same_itself}
-use Rattle.gb_layer.specs.Counts.{count_by-cons}
-use Rattle.gb_layer.specs.Machine.{mentions, was_noticed, came_from, all_sends, count_sends}
-use Rattle.gb_layer.specs.Modules.{IsLawful, first_mentions, log, now_delivered}
-use Rattle.gb_layer.specs.Rule.{Nodes}
-use Rattle.gb_types.specs.declared.kind.Module.{Module}
-use Rattle.gb_layer.specs.declared.call.Call.{Call}
-use Rattle.gb_layer.specs.declared.call.Call.TheVariants.{Notice}
+use Rattle.gb_layer.specs.Common.{count_by-cons, mentions, was_noticed, came_from, all_sends, count_sends, IsLawful, first_mentions, log, now_delivered, Nodes}
+use Rattle.gb_layer.specs.declared.{call.Call.Call, call.Call.TheVariants.Notice}
 use Rattle.gb_stack.specs.Kinds.{kind_log}
 use Rattle.gb_stack.specs.StackLemmas.{stack_sends_handed_in}
 use Rattle.gb_stack.specs.StackState.{stack_next, stack_gives, untold_stack}
@@ -26,8 +12,7 @@ use Rattle.gb_stack.specs.Stands.{is_other_noticed}
 use Rattle.gb_stack.proofs.StandsLemmas as stack
 use Rattle.gb_stack.proofs.StartLemmas.{was_untold}
 use Rattle.gb_rules.specs.declared.call.GroupCall.TheVariants.{Crashed}
-use Rattle.gb_rules.specs.History.{calls_of, known, said_in}
-use Rattle.gb_rules.specs.Group.{is_other}
+use Rattle.gb_rules.specs.Common.{calls_of, known, said_in, is_other}
 
 -- another member is not this node
 pub other_differs : (spec : Spec) (me b : ℕ) → is_other spec me b ≡ true → b ≢ me

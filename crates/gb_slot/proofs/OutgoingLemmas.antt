@@ -1,16 +1,9 @@
 -- The messages that were put out, by their places in the store.
-use Rattle.std.proofs.Common.{◌≡◌, ℕ, zero, suc, ◌+◌, ◌<◌, true, false, List, [], ◌∷◌, ◌++◌, length, map, slice_get, Some, refl, sym, ◌∙◌, ap, subst, arith, append-nil, length-append}
-use Rattle.std.specs.Prelude.{nat_lt, if◌then◌else◌}
-use Rattle.std.proofs.lemmas.Bool.{ltb-true, lt-ltb}
-use Rattle.std.proofs.lemmas.List.{map-append, length-map, get_or_append_left}
-use Rattle.std.proofs.lemmas.Option.{slice_get_within, slice_get-get_or}
+use Rattle.gb_types.specs.Common.{◌≡◌, ℕ, zero, suc, ◌+◌, ◌<◌, true, false, List, [], ◌∷◌, ◌++◌, length, map, slice_get, Some, refl, sym, ◌∙◌, ap, subst, arith, append-nil, length-append, nat_lt, if◌then◌else◌, ltb-true, lt-ltb, map-append, length-map, get_or_append_left, slice_get_within, slice_get-get_or, message_of}
 use Rattle.gb_types.proofs.BoolLemmas.{and_left, and_right}
-use Rattle.gb_types.specs.Entry.{message_of}
-use Rattle.gb_types.specs.declared.entry.Entry.{Entry}
-use Rattle.gb_types.specs.declared.message.MsgId.{MsgId}
-use Rattle.gb_layer.specs.Lists.{list_all_weaker}
-use Rattle.gb_rules.specs.Messages.{has, with_new}
-use Rattle.gb_layer.specs.PlacedCalls.{message_at, no_message}
+use Rattle.gb_types.specs.declared.{entry.Entry.Entry, message.MsgId.MsgId}
+use Rattle.gb_layer.specs.Common.{list_all_weaker, message_at, no_message}
+use Rattle.gb_rules.specs.Common.{has, with_new}
 use Rattle.gb_slot.specs.Outgoing.{messages_at, are_below, AreInStore}
 
 -- there are as many messages as places

@@ -1,9 +1,6 @@
 -- Parts of lists.
-use Rattle.std.proofs.Common.{◌≡◌, ℕ, ◌-◌, ◌<◌, Bool, true, false, length, List, [], take, drop, refl, sym, ◌∙◌, ap, arith}
-use Rattle.std.specs.Prelude.{map, if◌then◌else◌}
-use Rattle.std.proofs.lemmas.List.{take-map, drop-map, length-map, length-drop}
-use Rattle.gb_types.specs.declared.message.MsgId.{MsgId}
-use Rattle.gb_types.specs.declared.entry.Entry.{Entry}
+use Rattle.gb_types.specs.Common.{◌≡◌, ℕ, ◌-◌, ◌<◌, Bool, true, false, length, List, [], take, drop, refl, sym, ◌∙◌, ap, arith, map, if◌then◌else◌, take-map, drop-map, length-map, length-drop}
+use Rattle.gb_types.specs.declared.{message.MsgId.MsgId, entry.Entry.Entry}
 
 -- the same part of a list of messages
 pub page-map : (f : MsgId → Entry) (ms : List MsgId) (from most : ℕ) → map f (take most (drop from ms)) ≡ take most (drop from (map f ms))

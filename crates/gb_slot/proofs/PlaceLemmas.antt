@@ -1,24 +1,11 @@
 -- What a store has at the place of a message.
-use Rattle.std.proofs.Common.{◌≡◌, ℕ, zero, suc, ◌+◌, ◌≤◌, ◌<◌, Bool, true, false, List, [], ◌∷◌, length, map, drop, set, get_or, slice_get, Some, refl, sym, ◌∙◌, ap, subst, arith}
-use Rattle.std.specs.Prelude.{replicate, slice_range, if◌then◌else◌}
-use Rattle.std.specs.Ordering.{nat_cmp}
+use Rattle.gb_types.specs.Common.{◌≡◌, ℕ, zero, suc, ◌+◌, ◌≤◌, ◌<◌, Bool, true, false, List, [], ◌∷◌, length, map, drop, set, get_or, slice_get, Some, refl, sym, ◌∙◌, ap, subst, arith, replicate, slice_range, if◌then◌else◌, nat_cmp, list_any, length-map, get_or-replicate, list_any_at, slice_get-get_or, message_of, same}
 use Rattle.std.specs.FinSet as nodes
-use Rattle.std.specs.List.{list_any}
-use Rattle.std.proofs.lemmas.List.{length-map, get_or-replicate}
-use Rattle.std.proofs.lemmas.List.Folds.{list_any_at}
-use Rattle.std.proofs.lemmas.Option.{slice_get-get_or}
-use Rattle.gb_types.specs.declared.entry.Entry.{Entry}
-use Rattle.gb_types.specs.declared.limits.TheConstants.{NODES, BYTES}
-use Rattle.gb_types.specs.declared.message.MsgId.{MsgId}
-use Rattle.gb_types.specs.declared.node.NodeId.{NodeId}
-use Rattle.gb_types.specs.Entry.{message_of}
-use Rattle.gb_types.specs.Message.{same}
+use Rattle.gb_types.specs.declared.{entry.Entry.Entry, limits.TheConstants.NODES, limits.TheConstants.BYTES, message.MsgId.MsgId, node.NodeId.NodeId}
 use Rattle.gb_types.proofs.SameLemmas.{same_itself}
 use Rattle.gb_types.proofs.BoolLemmas.{and_right, or_left, or_right}
-use Rattle.gb_layer.specs.EntryListLemmas.{any_keys}
-use Rattle.gb_layer.specs.PlacedCalls.{no_message, message_at, all_differ}
-use Rattle.gb_layer.specs.PairedLemmas.{alone, apart}
-use Rattle.gb_rules.specs.Messages.{has, payload_in, bytes_of}
+use Rattle.gb_layer.specs.Common.{any_keys, no_message, message_at, all_differ, alone, apart}
+use Rattle.gb_rules.specs.Common.{has, payload_in, bytes_of}
 use Rattle.gb_slot.specs.Arrivals.{Arrival, has_arrival, nodes_of, with_node}
 use Rattle.gb_slot.specs.declared.store.Kept.{Kept}
 use Rattle.gb_slot.specs.Kept.{start_of, entries_of, arrival_of, arrivals_of, AreInside, AreCounted}

@@ -1,21 +1,12 @@
 -- A message that is said is put out.
-use Rattle.std.proofs.Common.{◌≡◌, ℕ, ◌<◌, Bool, true, false, ◌&&◌, ◌||◌, not, List, [], ◌∷◌, ◌++◌, length, refl, ◌∙◌, ap, arith, cond, length-append}
-use Rattle.std.specs.Prelude.{filter, if◌then◌else◌}
-use Rattle.std.proofs.lemmas.Bool.{eq-eqb}
-use Rattle.std.proofs.lemmas.List.Elements.{filter-append}
-use Rattle.gb_types.specs.Entry.{message_of}
-use Rattle.gb_types.specs.declared.message.MsgId.{MsgId}
+use Rattle.gb_types.specs.Common.{◌≡◌, ℕ, ◌<◌, Bool, true, false, ◌&&◌, ◌||◌, not, List, [], ◌∷◌, ◌++◌, length, refl, ◌∙◌, ap, arith, cond, length-append, filter, if◌then◌else◌, eq-eqb, filter-append, message_of}
+use Rattle.gb_types.specs.declared.{message.MsgId.MsgId, kind.Module.Module, kind.Module.TheVariants.BestEffort, kind.Module.TheVariants.Lazy}
 use Rattle.gb_types.proofs.SameLemmas.{same_itself}
-use Rattle.gb_layer.specs.Machine.{mentions, was_noticed}
-use Rattle.gb_layer.specs.Modules.{first_mentions, is_broadcast, now_broadcast, broadcasts}
-use Rattle.gb_types.specs.declared.kind.Module.{Module}
-use Rattle.gb_types.specs.declared.kind.Module.TheVariants.{BestEffort, Lazy}
-use Rattle.gb_layer.specs.declared.call.Call.{Call}
-use Rattle.gb_layer.specs.declared.call.Call.TheVariants.{Say}
+use Rattle.gb_layer.specs.Common.{mentions, was_noticed, first_mentions, is_broadcast, now_broadcast, broadcasts}
+use Rattle.gb_layer.specs.declared.{call.Call.Call, call.Call.TheVariants.Say}
 use Rattle.gb_stack.specs.StackState.{stack_gives}
-use Rattle.gb_rules.specs.declared.call.GroupCall.{GroupCall}
-use Rattle.gb_rules.specs.declared.call.GroupCall.TheVariants.{Own}
-use Rattle.gb_rules.specs.History.{calls_of}
+use Rattle.gb_rules.specs.declared.{call.GroupCall.GroupCall, call.GroupCall.TheVariants.Own}
+use Rattle.gb_rules.specs.Common.{calls_of}
 use Rattle.gb_slot.specs.Slot.{own_entry}
 use Rattle.gb_slot.specs.SlotState.{SlotState}
 use Rattle.gb_slot.specs.StandsFor.{StandsFor}

@@ -1,26 +1,8 @@
 -- Each call leads to a state that the group's messages lead to, and whose lists have at most the group's messages.
-use Rattle.std.proofs.Common.{◌≡◌, ℕ, ◌+◌, ◌≤◌, ◌<◌, Bool, true, false, ◌&&◌, ◌||◌, not, List, [], ◌∷◌, ◌++◌, length, refl, sym, ◌∙◌, ap, subst, arith}
-use Rattle.std.specs.Prelude.{map, count_by, filter, nat_eq, nat_le, nat_lt, if◌then◌else◌}
-use Rattle.std.specs.Ordering.{nat_cmp}
+use Rattle.gb_types.specs.Common.{◌≡◌, ℕ, ◌+◌, ◌≤◌, ◌<◌, Bool, true, false, ◌&&◌, ◌||◌, not, List, [], ◌∷◌, ◌++◌, length, refl, sym, ◌∙◌, ap, subst, arith, map, count_by, filter, nat_eq, nat_le, nat_lt, if◌then◌else◌, nat_cmp, list_any, list_all, IsDistinct, AllByRecursion, or-true, eq-eqb, eqb-true, nat_tests, length-filter, message_of, same, AreNodes}
 use Rattle.std.specs.FinSet as set
-use Rattle.std.specs.List.{list_any, list_all, IsDistinct, AllByRecursion}
-use Rattle.std.proofs.Math.Bool.{or-true}
-use Rattle.std.proofs.lemmas.Bool.{eq-eqb, eqb-true}
-use Rattle.std.proofs.lemmas.Bool.Decides.{nat_tests}
-use Rattle.std.proofs.lemmas.List.Sums.{length-filter}
-use Rattle.gb_types.specs.Entry.{message_of}
-use Rattle.gb_types.specs.Message.{same}
-use Rattle.gb_types.specs.Rising.{AreNodes}
-use Rattle.gb_types.specs.declared.entry.Entry.{Entry}
-use Rattle.gb_types.specs.declared.limits.TheConstants.{NODES}
-use Rattle.gb_types.specs.declared.message.MsgId.{MsgId}
-use Rattle.gb_types.specs.declared.node.NodeId.{NodeId}
-use Rattle.gb_types.specs.declared.reply.Reply.TheVariants.{Said}
-use Rattle.gb_types.specs.declared.spec.Spec.{Spec}
-use Rattle.gb_layer.specs.Limit.{is_counted}
-use Rattle.gb_layer.specs.Lists.{all_weaker}
-use Rattle.gb_layer.specs.Machine.{IsFair, all_sends}
-use Rattle.gb_layer.specs.Modules.{IsLawful}
+use Rattle.gb_types.specs.declared.{entry.Entry.Entry, limits.TheConstants.NODES, message.MsgId.MsgId, node.NodeId.NodeId, reply.Reply.TheVariants.Said, spec.Spec.Spec}
+use Rattle.gb_layer.specs.Common.{is_counted, all_weaker, IsFair, all_sends, IsLawful}
 use Rattle.gb_layer.specs.declared.call.Call.{Call}
 use Rattle.gb_layer.specs.declared.call.Call.TheVariants.{Say, Came, Notice}
 use Rattle.gb_stack.proofs.DeliveryLemmas.{kind_log_once, kind_log_mentioned}
@@ -31,10 +13,7 @@ use Rattle.gb_stack.specs.Stands.{HasStarted}
 use Rattle.gb_rules.proofs.MentionLemmas.{bytes_of-append, has-known}
 use Rattle.gb_rules.specs.declared.call.GroupCall.{GroupCall}
 use Rattle.gb_rules.specs.declared.call.GroupCall.TheVariants.{Own, Other, Crashed}
-use Rattle.gb_rules.specs.History.{calls_of, delivered}
-use Rattle.gb_rules.specs.Messages.{has, with_new, bytes_of}
-use Rattle.gb_rules.specs.Group.{is_member, is_other}
-use Rattle.gb_rules.specs.LetFall.{is_let_fall}
+use Rattle.gb_rules.specs.Common.{calls_of, delivered, has, with_new, bytes_of, is_member, is_other, is_let_fall}
 use Rattle.gb_slot.specs.Reached.{IsReached, limit_of, most_messages}
 use Rattle.gb_slot.specs.Slot.{new_slot, waiting, own_entry, came_before, falls, slot_called, slot_said, slot_took}
 use Rattle.gb_slot.specs.SlotState.{SlotState}

@@ -1,19 +1,8 @@
 -- The answers of a slot, and the part of it that the rules read.
-use Rattle.std.proofs.Common.{◌≡◌, ℕ, zero, suc, ◌+◌, ◌≤◌, ◌<◌, ◌||◌, ◌&&◌, not, true, false, List, [], ◌∷◌, length, take, drop, Some, refl, sym, ◌∙◌, ap, arith}
-use Rattle.std.specs.Prelude.{map, slice_get, option_map, nat_lt, if◌then◌else◌}
-use Rattle.std.proofs.lemmas.Option.{slice_get-map}
+use Rattle.gb_types.specs.Common.{◌≡◌, ℕ, zero, suc, ◌+◌, ◌≤◌, ◌<◌, ◌||◌, ◌&&◌, not, true, false, List, [], ◌∷◌, length, take, drop, Some, refl, sym, ◌∙◌, ap, arith, map, slice_get, option_map, nat_lt, if◌then◌else◌, slice_get-map, nat_tests, length-map, message_of}
 use Rattle.std.specs.FinSet as set
-use Rattle.std.proofs.lemmas.Bool.Decides.{nat_tests}
-use Rattle.std.proofs.lemmas.List.{length-map}
-use Rattle.gb_types.specs.Entry.{message_of}
-use Rattle.gb_types.specs.declared.entry.Entry.{Entry}
-use Rattle.gb_types.specs.declared.limits.TheConstants.{FETCH}
-use Rattle.gb_types.specs.declared.message.MsgId.{MsgId}
-use Rattle.gb_types.specs.declared.refusal.Refusal.TheVariants.{BadPlace}
-use Rattle.gb_types.specs.declared.reply.Reply.TheVariants.{Log, Refused}
-use Rattle.gb_rules.specs.Messages.{entry_in, payload_in}
-use Rattle.gb_rules.specs.Replied.{takes_memory}
-use Rattle.gb_rules.specs.Group.{Shown, is_other, fetch_answer}
+use Rattle.gb_types.specs.declared.{entry.Entry.Entry, limits.TheConstants.FETCH, message.MsgId.MsgId, refusal.Refusal.TheVariants.BadPlace, reply.Reply.TheVariants.Log, reply.Reply.TheVariants.Refused}
+use Rattle.gb_rules.specs.Common.{entry_in, payload_in, takes_memory, Shown, is_other, fetch_answer}
 use Rattle.gb_slot.specs.Outgoing.{messages_at}
 use Rattle.gb_slot.specs.Slot.{shown, waiting, taken_for}
 use Rattle.gb_slot.specs.SlotState.{SlotState}

@@ -1,15 +1,10 @@
 -- Steps keep the spec of a slot; those that say and take in a message keep to whom items are put out.
-use Rattle.std.proofs.Common.{◌≡◌, true, false, List, ℕ, refl}
+use Rattle.gb_types.specs.Common.{◌≡◌, true, false, List, ℕ, refl, if◌then◌else◌, message_of}
 use Rattle.std.specs.FinSet as set
-use Rattle.std.specs.Prelude.{if◌then◌else◌}
-use Rattle.gb_types.specs.Entry.{message_of}
-use Rattle.gb_types.specs.declared.entry.Entry.{Entry}
-use Rattle.gb_types.specs.declared.node.NodeId.{NodeId}
-use Rattle.gb_types.specs.declared.reply.Reply.{Reply}
+use Rattle.gb_types.specs.declared.{entry.Entry.Entry, node.NodeId.NodeId, reply.Reply.Reply}
 use Rattle.gb_types.specs.declared.reply.Reply.TheVariants.{Done, Said, Log, Refused}
 use Rattle.gb_layer.specs.declared.call.Call.TheVariants.{Came, Notice}
-use Rattle.gb_rules.specs.Messages.{with_new}
-use Rattle.gb_rules.specs.Group.{is_other}
+use Rattle.gb_rules.specs.Common.{with_new, is_other}
 use Rattle.gb_rules.specs.declared.phase.Phase.{Phase}
 use Rattle.gb_slot.specs.Slot.{falls, slot_called, slot_moved, slot_said, slot_came, slot_noticed}
 use Rattle.gb_slot.specs.SlotState.{SlotState}

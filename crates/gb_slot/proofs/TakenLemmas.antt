@@ -1,11 +1,8 @@
 -- The items that were taken to be sent.
-use Rattle.std.proofs.Common.{◌≡◌, ◌≢◌, ℕ, zero, suc, ◌+◌, ◌≤◌, ◌<◌, true, false, List, [], ◌∷◌, length, drop, sym, ◌∙◌, ap, arith, length-drop}
-use Rattle.std.specs.Prelude.{if◌then◌else◌, map, replicate, slice_index_or}
-use Rattle.std.proofs.Math.Seq.{drop-nil}
-use Rattle.std.proofs.lemmas.List.{get_or-set_same, get_or-set_other, length-map}
+use Rattle.gb_types.specs.Common.{◌≡◌, ◌≢◌, ℕ, zero, suc, ◌+◌, ◌≤◌, ◌<◌, true, false, List, [], ◌∷◌, length, drop, sym, ◌∙◌, ap, arith, length-drop, if◌then◌else◌, map, replicate, slice_index_or, drop-nil, get_or-set_same, get_or-set_other, length-map}
 use Rattle.gb_types.specs.declared.limits.TheConstants.{NODES}
 use Rattle.gb_rules.specs.declared.call.GroupCall.{GroupCall}
-use Rattle.gb_rules.specs.Messages.{entry_in}
+use Rattle.gb_rules.specs.Common.{entry_in}
 use Rattle.gb_slot.specs.Slot.{waiting, taken_for, slot_took}
 use Rattle.gb_slot.specs.SlotState.{SlotState}
 use Rattle.gb_slot.specs.StandsFor.{StandsFor, reaches}

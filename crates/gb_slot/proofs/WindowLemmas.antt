@@ -1,7 +1,5 @@
 -- The number of own messages that are unfinished.
-use Rattle.std.proofs.Common.{◌≡◌, ℕ, zero, suc, ◌+◌, ◌≤◌, ◌<◌, true, false, List, [], ◌∷◌, ◌++◌, length, arith, set, get_or}
-use Rattle.std.specs.Prelude.{if◌then◌else◌}
-use Rattle.std.specs.Ordering.{nat_cmp}
+use Rattle.gb_types.specs.Common.{◌≡◌, ℕ, zero, suc, ◌+◌, ◌≤◌, ◌<◌, true, false, List, [], ◌∷◌, ◌++◌, length, arith, set, get_or, if◌then◌else◌, nat_cmp}
 use Rattle.std.specs.FinSet.{FinSet}
 use Rattle.gb_types.specs.declared.spec.Spec.{Spec}
 use Rattle.gb_slot.specs.Slot.{is_finished, unfinished_of}

@@ -3,9 +3,8 @@ use Rattle.std.specs.Prelude.{Bool, List, [], ◌∷◌, ◌++◌, if◌then◌e
 use Rattle.std.specs.Ordering.{nat_cmp}
 use Rattle.std.specs.FinSet as set
 use Rattle.std.specs.List.{list_any}
-use Rattle.gb_types.specs.declared.message.MsgId.{MsgId}
-use Rattle.gb_types.specs.declared.node.NodeId.{NodeId}
-use Rattle.gb_types.specs.Message.{same}
+use Rattle.gb_types.specs.declared.{message.MsgId.MsgId, node.NodeId.NodeId}
+use Rattle.gb_types.specs.Common.{same}
 
 -- a message that is known, and the nodes from which it was taken in
 pub record Arrival : Type 0 where

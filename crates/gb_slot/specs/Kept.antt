@@ -1,11 +1,9 @@
 -- What a store keeps of its messages, by their places in its index.
 use Rattle.std.specs.Prelude.{ℕ, ◌≡◌, ◌≤◌, ◌<◌, List, [], ◌∷◌, length, slice_index, slice_range}
-use Rattle.gb_types.specs.declared.entry.Entry.{Entry}
-use Rattle.gb_types.specs.declared.limits.TheConstants.{NODES, BYTES}
-use Rattle.gb_types.specs.declared.message.MsgId.{MsgId}
-use Rattle.gb_layer.specs.Paired.{paired}
+use Rattle.gb_types.specs.declared.{entry.Entry.Entry, limits.TheConstants.NODES, limits.TheConstants.BYTES, message.MsgId.MsgId}
+use Rattle.gb_layer.specs.Common.{paired}
 use Rattle.gb_slot.specs.Arrivals.{Arrival}
-use Rattle.gb_rules.specs.Messages.{bytes_of}
+use Rattle.gb_rules.specs.Common.{bytes_of}
 use Rattle.gb_slot.specs.declared.store.Kept.{Kept}
 
 -- the index at which the first of these payloads begins; the end of the bytes if there is none

@@ -10,3 +10,4 @@ pub mod Reached
 pub mod Outward
 pub mod Outgoing
 pub mod Representation
+pub mod Common

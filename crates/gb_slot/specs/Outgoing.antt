@@ -1,10 +1,9 @@
 -- The messages that were put out, by their places in the store.
 use Rattle.std.specs.Prelude.{ℕ, ◌≡◌, Bool, true, List, length, map, nat_lt}
 use Rattle.std.specs.List.{list_all}
-use Rattle.gb_types.specs.Entry.{message_of}
-use Rattle.gb_types.specs.declared.entry.Entry.{Entry}
-use Rattle.gb_types.specs.declared.message.MsgId.{MsgId}
-use Rattle.gb_layer.specs.PlacedCalls.{message_at}
+use Rattle.gb_types.specs.Common.{message_of}
+use Rattle.gb_types.specs.declared.{entry.Entry.Entry, message.MsgId.MsgId}
+use Rattle.gb_layer.specs.Common.{message_at}
 
 -- the messages at these places of the store, in order
 abbrev pub messages_at : List Entry → List ℕ → List MsgId

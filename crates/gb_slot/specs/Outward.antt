@@ -2,8 +2,7 @@
 use Rattle.std.proofs.Common.{◌≡◌, ℕ, ◌+◌, ◌≤◌, Bool, List, [], ◌∷◌, ◌++◌, length, fold, ap, ◌∙◌, sym, subst, arith, append_assoc, append-nil, length-append}
 use Rattle.gb_types.specs.declared.message.MsgId.{MsgId}
 use Rattle.gb_layer.specs.declared.effects.Up.{Up}
-use Rattle.gb_layer.specs.Machine.{Gives, messages}
-use Rattle.gb_layer.specs.Sinks.{folded, SplitsRoom}
+use Rattle.gb_layer.specs.Common.{Gives, messages, folded, SplitsRoom}
 
 -- which lists are borrowed, the messages that they have, their memory, and whether each outgoing place is one of the index
 pub record OutwardState : Type 0 where

@@ -1,14 +1,11 @@
 -- The states of a slot that its group's messages lead to.
 use Rattle.std.specs.Prelude.{ℕ, ◌≡◌, ◌≤◌, ◌*◌, true, List, map}
 use Rattle.std.specs.List.{list_all, IsDistinct}
-use Rattle.gb_types.specs.Entry.{message_of}
-use Rattle.gb_types.specs.Message.{same}
-use Rattle.gb_types.specs.Places.{common}
+use Rattle.gb_types.specs.Common.{message_of, same, common}
 use Rattle.gb_types.specs.declared.spec.Spec.{Spec}
-use Rattle.gb_layer.specs.Limit.{Limit, is_counted, message_count}
+use Rattle.gb_layer.specs.Common.{Limit, is_counted, message_count}
 use Rattle.gb_rules.specs.declared.call.GroupCall.{GroupCall}
-use Rattle.gb_rules.specs.Messages.{bytes_of}
-use Rattle.gb_rules.specs.Group.{is_member}
+use Rattle.gb_rules.specs.Common.{bytes_of, is_member}
 use Rattle.gb_slot.specs.SlotState.{SlotState}
 use Rattle.gb_slot.specs.StandsFor.{StandsFor}
 

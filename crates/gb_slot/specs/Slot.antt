@@ -2,25 +2,16 @@
 use Rattle.std.specs.Prelude.{ℕ, ◌≤◌, ◌<◌, ◌+◌, ◌-◌, ◌&&◌, ◌||◌, not, Bool, List, [], ◌∷◌, ◌++◌, length, map, drop, replicate, nat_eq, nat_le, slice_index_or, slice_set, if◌then◌else◌}
 use Rattle.std.specs.Ordering.{nat_cmp}
 use Rattle.std.specs.FinSet as set
-use Rattle.gb_types.specs.Entry.{message_of}
-use Rattle.gb_types.specs.declared.entry.Entry.{Entry}
+use Rattle.gb_types.specs.Common.{message_of}
+use Rattle.gb_types.specs.declared.{entry.Entry.Entry, message.MsgId.MsgId, node.NodeId.NodeId, reply.Reply.Reply, reply.Reply.TheVariants.Done, reply.Reply.TheVariants.Said, spec.Spec.Spec}
 use Rattle.gb_types.specs.declared.limits.TheConstants.{NODES, MESSAGES, BYTES, WINDOW}
-use Rattle.gb_types.specs.declared.message.MsgId.{MsgId}
-use Rattle.gb_types.specs.declared.node.NodeId.{NodeId}
-use Rattle.gb_types.specs.declared.reply.Reply.{Reply}
-use Rattle.gb_types.specs.declared.reply.Reply.TheVariants.{Done, Said}
-use Rattle.gb_types.specs.declared.spec.Spec.{Spec}
 use Rattle.std.specs.List.{list_all}
-use Rattle.gb_layer.specs.Machine.{messages}
+use Rattle.gb_layer.specs.Common.{messages}
 use Rattle.gb_layer.specs.declared.call.Call.{Call}
 use Rattle.gb_layer.specs.declared.call.Call.TheVariants.{Say, Came, Notice}
 use Rattle.gb_stack.specs.StackState.{new_stack, stack_next, stack_gives}
-use Rattle.gb_rules.specs.declared.phase.Phase.{Phase}
-use Rattle.gb_rules.specs.declared.phase.Phase.TheVariants.{Made}
-use Rattle.gb_rules.specs.declared.usage.Usage.{Usage}
-use Rattle.gb_rules.specs.Messages.{has, entry_in, with_new, bytes_of}
-use Rattle.gb_rules.specs.Group.{Shown, is_other}
-use Rattle.gb_rules.specs.LetFall.{is_let_fall}
+use Rattle.gb_rules.specs.declared.{phase.Phase.Phase, phase.Phase.TheVariants.Made, usage.Usage.Usage}
+use Rattle.gb_rules.specs.Common.{has, entry_in, with_new, bytes_of, Shown, is_other, is_let_fall}
 use Rattle.gb_slot.specs.Arrivals.{Arrival, with_message, nodes_of, with_arrived}
 use Rattle.gb_slot.specs.SlotState.{SlotState}
 

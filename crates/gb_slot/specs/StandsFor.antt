@@ -2,16 +2,12 @@
 use Rattle.std.specs.Prelude.{ℕ, ◌≡◌, ◌≢◌, ◌≤◌, ◌<◌, ◌&&◌, not, Bool, true, false, List, length}
 use Rattle.std.specs.List.{AllByRecursion}
 use Rattle.std.specs.FinSet as set
-use Rattle.gb_types.specs.declared.limits.TheConstants.{NODES}
-use Rattle.gb_types.specs.declared.message.MsgId.{MsgId}
-use Rattle.gb_layer.specs.Machine.{mentions, was_noticed, came_from, all_sends}
-use Rattle.gb_layer.specs.Modules.{IsLawful}
+use Rattle.gb_types.specs.declared.{limits.TheConstants.NODES, message.MsgId.MsgId}
+use Rattle.gb_layer.specs.Common.{mentions, was_noticed, came_from, all_sends, IsLawful}
 use Rattle.gb_stack.specs.StackState.{stack_next, stack_gives, untold_stack}
 use Rattle.gb_stack.specs.Stands.{IsStackAfter}
 use Rattle.gb_rules.specs.declared.call.GroupCall.{GroupCall}
-use Rattle.gb_rules.specs.History.{calls_of, known, said_in, delivered}
-use Rattle.gb_rules.specs.Messages.{has}
-use Rattle.gb_rules.specs.Group.{is_other}
+use Rattle.gb_rules.specs.Common.{calls_of, known, said_in, delivered, has, is_other}
 use Rattle.gb_slot.specs.Slot.{taken_for, came_before}
 use Rattle.gb_slot.specs.SlotState.{SlotState}
 

@@ -1,8 +1,7 @@
 //! A call of a group's broadcast, and where its effects go.
 ghost use Rattle.std.specs.Prelude.{◌≡◌, ℕ, ◌≤◌, ◌<◌, ◌+◌, ◌++◌, length, map, vec_len, vec_capacity};
-ghost use Rattle.gb_layer.specs.Machine.{messages};
-ghost use Rattle.gb_types.specs.Entry.{message_of};
-ghost use Rattle.gb_layer.specs.PlacedCalls.{told, Names, IsNext, MayTake, told_after, message_at};
+ghost use Rattle.gb_layer.specs.Common.{messages, told, Names, IsNext, MayTake, told_after, message_at};
+ghost use Rattle.gb_types.specs.Common.{message_of};
 ghost use Rattle.gb_slot.specs.Outgoing.{messages_at, are_below, AreInStore};
 ghost use Rattle.gb_slot.specs.Outward.{OutwardState, outward_sent, outward_risen, outward_takes, outward_splits};
 ghost use Rattle.gb_stack.specs.StackState.{stack_next, stack_gives};

@@ -3,9 +3,7 @@ ghost use Rattle.std.specs.Prelude.{◌≡◌, ℕ, false, ◌≢◌, OnErr, OnO
 ghost use Rattle.std.specs.FinSet as set;
 ghost use Rattle.gb_stack.specs.StackState.{new_stack};
 ghost use Rattle.gb_stack.specs.Stands.{HasStarted};
-ghost use Rattle.gb_rules.specs.Messages.{entry_in};
-ghost use Rattle.gb_rules.specs.Replied.{done_reply, said_reply, log_reply, IsReply};
-ghost use Rattle.gb_rules.specs.Group.{is_gone, is_member, is_other, open_answer, shut_answer, is_too_long, say_answer, fetch_answer};
+ghost use Rattle.gb_rules.specs.Common.{entry_in, done_reply, said_reply, log_reply, IsReply, is_gone, is_member, is_other, open_answer, shut_answer, is_too_long, say_answer, fetch_answer};
 ghost use Rattle.gb_slot.specs.Reached.{most_bytes, most_messages};
 ghost use Rattle.gb_slot.specs.Slot.{IsWithinLimits};
 ghost use Rattle.gb_slot.specs.Waiting.{WaitsForEach};
@@ -68,12 +66,12 @@ impl Drop for Slot {
 
 impl Model for Slot {
     ghost use Rattle.std.specs.Prelude.{◌≡◌, false, ◌≤◌, map, vec_len};
-    ghost use Rattle.gb_types.specs.Entry.{message_of};
+    ghost use Rattle.gb_types.specs.Common.{message_of};
     ghost use Rattle.gb_types.specs.declared.limits.TheConstants.{MESSAGES, BYTES};
     ghost use Rattle.gb_slot.specs.Slot.{unfinished_of};
     ghost use Rattle.gb_slot.specs.SlotState.{SlotState};
     ghost use Rattle.gb_slot.specs.Reached.{IsReached};
-    ghost use Rattle.gb_rules.specs.Group.{is_gone};
+    ghost use Rattle.gb_rules.specs.Common.{is_gone};
     ghost use Rattle.std.specs.Coded.{codes, coded_ℕ};
     ghost use Rattle.std.specs.Ordering.{nat_cmp};
     ghost use Rattle.std.specs.FinSet as set;

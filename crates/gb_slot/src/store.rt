@@ -1,13 +1,10 @@
 //! The messages that a slot knows, with their payloads. Each payload is stored once.
 ghost use Rattle.std.specs.Prelude.{◌≡◌, ℕ, true, false, ◌+◌, ◌^◌, ◌≤◌, ◌<◌, ◌∷◌, ◌++◌, [], List, length, map, drop, Some, slice_get, slice_index, vec_len, vec_capacity, IsOk, IfOk, OnOk, OnErr, MatchOption, IfSome, is_some};
 ghost use Rattle.std.specs.FinSet as set;
-ghost use Rattle.gb_types.specs.Entry.{message_of};
-ghost use Rattle.gb_types.specs.declared.entry.Entry.{Entry as EntryValue};
-ghost use Rattle.gb_types.specs.declared.limits.TheConstants.{BYTES};
-ghost use Rattle.gb_types.specs.declared.message.MsgId.{MsgId as Message};
-ghost use Rattle.gb_types.specs.declared.payload.TheConstants.{INLINE};
-ghost use Rattle.gb_layer.specs.PlacedCalls.{message_at, all_differ, reached};
-ghost use Rattle.gb_rules.specs.Messages.{has, payload_in, entry_in, with_new, bytes_of};
+ghost use Rattle.gb_types.specs.Common.{message_of};
+ghost use Rattle.gb_types.specs.declared.{entry.Entry.Entry as EntryValue, limits.TheConstants.BYTES, message.MsgId.MsgId as Message, payload.TheConstants.INLINE};
+ghost use Rattle.gb_layer.specs.Common.{message_at, all_differ, reached};
+ghost use Rattle.gb_rules.specs.Common.{has, payload_in, entry_in, with_new, bytes_of};
 ghost use Rattle.gb_slot.specs.Arrivals.{has_arrival, with_message, nodes_of, with_node, with_arrived};
 ghost use Rattle.gb_slot.specs.StoreValue.{total_bytes};
 ghost use Rattle.gb_slot.specs.Kept.{start_of, entries_of, arrivals_of, AreInside, AreCounted};

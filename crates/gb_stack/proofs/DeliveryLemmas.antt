@@ -1,26 +1,13 @@
 -- The messages that a history mentions, delivers and broadcasts, in every module of broadcast and in every kind.
-use Rattle.std.proofs.Common.{◌≡◌, ℕ, Bool, true, false, cond, not, ◌&&◌, ◌||◌, nat_eq, List, [], ◌∷◌, ◌++◌, filter, length, ◌≤◌, refl, sym, ap, ◌∙◌, arith, subst}
-use Rattle.std.specs.List.{AllByRecursion, list_all, list_any}
-use Rattle.std.proofs.lemmas.List.Elements.{filter-append}
-use Rattle.gb_types.specs.Message.{same}
-use Rattle.gb_types.specs.Places.{has_majority}
+use Rattle.gb_types.specs.Common.{◌≡◌, ℕ, Bool, true, false, cond, not, ◌&&◌, ◌||◌, nat_eq, List, [], ◌∷◌, ◌++◌, filter, length, ◌≤◌, refl, sym, ap, ◌∙◌, arith, subst, AllByRecursion, list_all, list_any, filter-append, same, has_majority}
 use Rattle.gb_types.proofs.MajorityLemmas.{majority_more}
-use Rattle.gb_types.specs.declared.kind.Kind.{Kind}
-use Rattle.gb_types.specs.declared.kind.Order.{Order}
-use Rattle.gb_types.specs.declared.kind.Order.TheVariants.{Any, Fifo}
-use Rattle.gb_types.specs.declared.message.MsgId.{MsgId}
+use Rattle.gb_types.specs.declared.{kind.Kind.Kind, kind.Order.Order, kind.Order.TheVariants.Any, kind.Order.TheVariants.Fifo, message.MsgId.MsgId, kind.Module.Module}
 use Rattle.gb_types.proofs.SameLemmas.{same-true}
 use Rattle.gb_types.proofs.BoolLemmas.{and_left, and_more, or_more, or_second}
-use Rattle.gb_layer.specs.Histories.{mentions_stays}
-use Rattle.gb_layer.specs.Lists.{all_append, all_weaker, list_all_weaker}
-use Rattle.gb_layer.specs.Machine.{mentions, was_noticed, came_from}
-use Rattle.gb_layer.specs.FirstMentionLemmas.{first_mentions-mentioned, first_mentions-once}
-use Rattle.gb_layer.specs.Modules.{first_mentions, holds, is_delivered, now_delivered, now_broadcast, newly, delivers, broadcasts, log}
-use Rattle.gb_types.specs.declared.kind.Module.{Module}
+use Rattle.gb_layer.specs.Common.{mentions_stays, all_append, all_weaker, list_all_weaker, mentions, was_noticed, came_from, first_mentions-mentioned, first_mentions-once, first_mentions, holds, is_delivered, now_delivered, now_broadcast, newly, delivers, broadcasts, log, is_in}
 use Rattle.gb_types.specs.declared.kind.Module.TheVariants.{BestEffort, Lazy, Eager, AllAck, Majority}
 use Rattle.gb_layer.specs.declared.call.Call.{Call}
 use Rattle.gb_layer.specs.declared.call.Call.TheVariants.{Say, Came, Notice}
-use Rattle.gb_layer.specs.Numbered.{is_in}
 use Rattle.gb_fifo.specs.Order.{in_order, RunsFromOne}
 use Rattle.gb_fifo.specs.OrderLaws.{AllIn}
 use Rattle.gb_fifo.proofs.InOrderLemmas.{order_runs, order_delivered, order_once}

@@ -1,19 +1,10 @@
 -- Over a history a stack hands up and sends what its kind delivers and broadcasts.
-use Rattle.std.proofs.Common.{◌≡◌, ℕ, List, [], ◌∷◌, ◌++◌, refl, ap, ◌∙◌}
+use Rattle.gb_types.specs.Common.{◌≡◌, ℕ, List, [], ◌∷◌, ◌++◌, refl, ap, ◌∙◌}
 use Rattle.std.specs.FinSet as set
-use Rattle.gb_types.specs.declared.kind.Kind.{Kind}
-use Rattle.gb_types.specs.declared.kind.Order.{Order}
-use Rattle.gb_types.specs.declared.kind.Order.TheVariants.{Any, Fifo}
-use Rattle.gb_types.specs.declared.message.MsgId.{MsgId}
-use Rattle.gb_types.specs.declared.node.NodeId.{NodeId}
-use Rattle.gb_types.specs.declared.kind.Module.{Module}
+use Rattle.gb_types.specs.declared.{kind.Kind.Kind, kind.Order.Order, kind.Order.TheVariants.Any, kind.Order.TheVariants.Fifo, message.MsgId.MsgId, node.NodeId.NodeId, kind.Module.Module}
 use Rattle.gb_types.specs.declared.kind.Module.TheVariants.{BestEffort, Lazy, Eager, AllAck, Majority}
 use Rattle.gb_layer.specs.declared.call.Call.{Call}
-use Rattle.gb_layer.specs.BebLemmas.{stays}
-use Rattle.gb_layer.specs.Machine.{Gives, after, all_ups, messages}
-use Rattle.gb_layer.specs.Modules.{IsLawful, delivers, broadcasts, log}
-use Rattle.gb_layer.specs.Relay.{State, at_start}
-use Rattle.gb_layer.specs.Rule.{Nodes, Rules}
+use Rattle.gb_layer.specs.Common.{stays, Gives, after, all_ups, messages, IsLawful, delivers, broadcasts, log, State, at_start, Nodes, Rules}
 use Rattle.gb_layer.proofs.BestEffortLemmas.{direct_beb, best_effort_up, best_effort_out, best_effort_log}
 use Rattle.gb_layer.proofs.RelayModuleLemmas.{IsModule}
 use Rattle.gb_reliable.proofs.ModuleLemmas.{lazy_is_module, eager_is_module}

@@ -1,26 +1,12 @@
 -- Stacks that took the notices of nodes, and no other call.
-use Rattle.std.proofs.Common.{◌≡◌, ℕ, ◌+◌, ◌<◌, Bool, true, false, cond, ◌&&◌, ◌||◌, not, nat_eq, nat_lt, List, [], ◌∷◌, map, refl, ap, ◌∙◌, sym, arith}
+use Rattle.gb_types.specs.Common.{◌≡◌, ℕ, ◌+◌, ◌<◌, Bool, true, false, cond, ◌&&◌, ◌||◌, not, nat_eq, nat_lt, List, [], ◌∷◌, map, refl, ap, ◌∙◌, sym, arith, list_any, nat_cmp, eqb-true, nat_tests, if◌then◌else◌, and-true, AreNodes}
 use Rattle.std.specs.Cmp.{nat_cmp_total, unsigned_tied}
 use Rattle.std.specs.FinSet as set
 use Rattle.std.specs.FinSet.{nat_cmp-IsAntisymmetric}
-use Rattle.std.specs.List.{list_any}
-use Rattle.std.specs.Ordering.{nat_cmp}
-use Rattle.std.proofs.lemmas.Bool.{eqb-true}
-use Rattle.std.proofs.lemmas.Bool.Decides.{nat_tests}
-use Rattle.std.specs.Prelude.{if◌then◌else◌}
-use Rattle.std.proofs.Math.Bool.{and-true}
-use Rattle.gb_types.specs.Rising.{AreNodes}
-use Rattle.gb_types.specs.declared.kind.Kind.{Kind}
-use Rattle.gb_types.specs.declared.kind.Order.TheVariants.{Any, Fifo}
-use Rattle.gb_types.specs.declared.limits.TheConstants.{NODES}
-use Rattle.gb_types.specs.declared.node.NodeId.{NodeId}
-use Rattle.gb_types.specs.declared.kind.Module.{Module}
+use Rattle.gb_types.specs.declared.{kind.Kind.Kind, kind.Order.TheVariants.Any, kind.Order.TheVariants.Fifo, limits.TheConstants.NODES, node.NodeId.NodeId, kind.Module.Module}
 use Rattle.gb_types.specs.declared.kind.Module.TheVariants.{BestEffort, Lazy, Eager, AllAck, Majority}
-use Rattle.gb_layer.specs.declared.call.Call.{Call}
-use Rattle.gb_layer.specs.declared.call.Call.TheVariants.{Notice}
-use Rattle.gb_layer.specs.Machine.{nothing, after}
-use Rattle.gb_layer.specs.Relay.{State}
-use Rattle.gb_layer.specs.Rule.{Nodes, Rules, noticed_in}
+use Rattle.gb_layer.specs.declared.{call.Call.Call, call.Call.TheVariants.Notice}
+use Rattle.gb_layer.specs.Common.{nothing, after, State, Nodes, Rules, noticed_in}
 use Rattle.gb_layer.proofs.NodeSetLemmas.{again}
 use Rattle.gb_reliable.specs.Rules.{lazy_rules, eager_rules}
 use Rattle.gb_uniform.specs.Rules.{all_ack_rules, majority_ack_rules}

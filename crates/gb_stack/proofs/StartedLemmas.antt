@@ -1,21 +1,11 @@
 -- The laws of a layer for one that started with notices.
-use Rattle.std.proofs.Common.{◌≡◌, ◌≢◌, ℕ, ◌+◌, ◌≤◌, false, ◌&&◌, ◌||◌, not, nat_eq, nat_lt, List, [], ◌∷◌, ◌++◌, map, count_by, refl, ap, ◌∙◌, sym, arith, subst, append_assoc}
+use Rattle.gb_types.specs.Common.{◌≡◌, ◌≢◌, ℕ, ◌+◌, ◌≤◌, false, ◌&&◌, ◌||◌, not, nat_eq, nat_lt, List, [], ◌∷◌, ◌++◌, map, count_by, refl, ap, ◌∙◌, sym, arith, subst, append_assoc, list_any, and-false, eq-eqb, append-nil, same}
 use Rattle.std.specs.FinSet as set
-use Rattle.std.specs.List.{list_any}
-use Rattle.std.proofs.Math.Bool.{and-false}
-use Rattle.std.proofs.lemmas.Bool.{eq-eqb}
-use Rattle.std.proofs.lemmas.List.{append-nil}
-use Rattle.gb_types.specs.Message.{same}
-use Rattle.gb_types.specs.declared.limits.TheConstants.{NODES}
-use Rattle.gb_types.specs.declared.message.MsgId.{MsgId}
-use Rattle.gb_types.specs.declared.node.NodeId.{NodeId}
+use Rattle.gb_types.specs.declared.{limits.TheConstants.NODES, message.MsgId.MsgId, node.NodeId.NodeId}
 use Rattle.gb_layer.specs.declared.call.Call.{Call}
 use Rattle.gb_layer.specs.declared.call.Call.TheVariants.{Say, Came, Notice}
 use Rattle.gb_types.proofs.BoolLemmas.{or_left, or_right}
-use Rattle.gb_layer.specs.Counts.{count_by-append}
-use Rattle.gb_layer.specs.Laws.{HandsUpEachOnce}
-use Rattle.gb_layer.specs.Machine.{Gives, after, all_ups, was_said, came_from, IsFair, is_of}
-use Rattle.gb_layer.specs.Rule.{Nodes}
+use Rattle.gb_layer.specs.Common.{count_by-append, HandsUpEachOnce, Gives, after, all_ups, was_said, came_from, IsFair, is_of, Nodes}
 use Rattle.gb_stack.specs.StackState.{stack_next, stack_gives, stack_me, IsUntoldStack}
 use Rattle.gb_stack.specs.Stands.{is_other_noticed, StartedHandsUpEachOnce}
 

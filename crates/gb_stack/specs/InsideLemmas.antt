@@ -1,12 +1,8 @@
 -- The laws of a layer hold also where its state is one case of another state.
 use Rattle.std.proofs.Common.{◌≡◌, ℕ, ◌≤◌, true, false, List, [], ◌∷◌, ◌++◌, count_by, refl, ap, ◌∙◌, sym, subst}
-use Rattle.gb_types.specs.declared.node.NodeId.{NodeId}
-use Rattle.gb_types.specs.declared.message.MsgId.{MsgId}
-use Rattle.gb_layer.specs.declared.effects.Up.{Up}
-use Rattle.gb_layer.specs.declared.call.Call.{Call}
-use Rattle.gb_layer.specs.declared.call.Call.TheVariants.{Notice}
-use Rattle.gb_layer.specs.Laws.{SendsWhatWasHandedIn, HandsUpWhatWasHandedIn, HandsUpOnce, SendsOnce, NoticesOnce}
-use Rattle.gb_layer.specs.Machine.{Gives, nothing, after, all_sends, all_ups, mentions, was_noticed, IsFair, count_sends, is_up, is_of}
+use Rattle.gb_types.specs.declared.{node.NodeId.NodeId, message.MsgId.MsgId}
+use Rattle.gb_layer.specs.declared.{effects.Up.Up, call.Call.Call, call.Call.TheVariants.Notice}
+use Rattle.gb_layer.specs.Common.{SendsWhatWasHandedIn, HandsUpWhatWasHandedIn, HandsUpOnce, SendsOnce, NoticesOnce, Gives, nothing, after, all_sends, all_ups, mentions, was_noticed, IsFair, count_sends, is_up, is_of}
 
 module _ {S T : Type 0} (next : S → Call → S) (gives : S → Call → Gives) (next' : T → Call → T) (gives' : T → Call → Gives) (into : S → T)
     (same_next : (s : S) (c : Call) → next' (into s) c ≡ into (next s c)) (same_gives : (s : S) (c : Call) → gives' (into s) c ≡ gives s c) where

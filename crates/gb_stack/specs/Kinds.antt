@@ -1,11 +1,8 @@
 -- What a kind of broadcast delivers and broadcasts at a node, over a history of calls, the newest first. `me` is this node, `members` are the group's nodes.
 use Rattle.std.specs.Prelude.{ℕ, List, []}
-use Rattle.gb_types.specs.declared.kind.Kind.{Kind}
-use Rattle.gb_types.specs.declared.kind.Order.{Order}
-use Rattle.gb_types.specs.declared.kind.Order.TheVariants.{Any, Fifo}
-use Rattle.gb_types.specs.declared.message.MsgId.{MsgId}
+use Rattle.gb_types.specs.declared.{kind.Kind.Kind, kind.Order.Order, kind.Order.TheVariants.Any, kind.Order.TheVariants.Fifo, message.MsgId.MsgId}
 use Rattle.gb_layer.specs.declared.call.Call.{Call}
-use Rattle.gb_layer.specs.Modules.{delivers, broadcasts, log}
+use Rattle.gb_layer.specs.Common.{delivers, broadcasts, log}
 use Rattle.gb_fifo.specs.Order.{ordered_after}
 
 -- the messages that come up in an order when a module delivers some after earlier ones: these themselves, or those that they release in the order of each origin: first in, first out (Cachin, Guerraoui, Rodrigues 2011, section 3.9; Hadzilacos, Toueg 1994)

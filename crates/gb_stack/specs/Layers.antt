@@ -1,19 +1,14 @@
 -- The state that a stack's layers represent, and what they know.
 use Rattle.std.proofs.Common.{◌≡◌, ℕ, List, ◌++◌, ap, refl}
-use Rattle.gb_types.specs.declared.message.MsgId.{MsgId}
-use Rattle.gb_types.specs.declared.node.NodeId.{NodeId}
-use Rattle.gb_layer.specs.Rule.{Rules}
+use Rattle.gb_types.specs.declared.{message.MsgId.MsgId, node.NodeId.NodeId}
+use Rattle.gb_layer.specs.Common.{Rules, RelayKnows, relay_grows}
 use Rattle.gb_reliable.specs.Rules.{lazy_rules, eager_rules}
 use Rattle.gb_uniform.specs.Rules.{all_ack_rules, majority_ack_rules}
-use Rattle.gb_layer.specs.declared.beb.Beb.{Beb}
-use Rattle.gb_layer.specs.declared.relay.Relay.{Relay}
+use Rattle.gb_layer.specs.declared.{beb.Beb.Beb, relay.Relay.Relay}
 use Rattle.gb_fifo.specs.FifoMarks as fifo_marks
 use Rattle.gb_fifo.specs.FifoMarks.{FifoKnows, fifo_grows}
 use Rattle.gb_layer.specs.RelayColumn as column
-use Rattle.gb_layer.specs.RelayColumn.{RelayKnows, relay_grows}
-use Rattle.gb_stack.specs.declared.stack.Stack.{Stack}
-use Rattle.gb_stack.specs.declared.stack.Stack.TheVariants.{Plain, Ordered}
-use Rattle.gb_stack.specs.declared.unordered.Unordered.{Unordered}
+use Rattle.gb_stack.specs.declared.{stack.Stack.Stack, stack.Stack.TheVariants.Plain, stack.Stack.TheVariants.Ordered, unordered.Unordered.Unordered}
 use Rattle.gb_stack.specs.declared.unordered.Unordered.TheVariants.{BestEffort, Lazy, Eager, AllAck, Majority}
 use Rattle.gb_stack.specs.StackState.{UnorderedState, best_effort, lazy, eager, all_ack, majority_ack, StackState, unordered, fifo}
 

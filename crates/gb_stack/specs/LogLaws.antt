@@ -1,13 +1,9 @@
 -- The laws of every log of a kind, whatever the history.
 use Rattle.std.specs.Prelude.{◌≡◌, ℕ, ◌≤◌, true, List, [], ◌∷◌, filter, length, if◌then◌else◌}
 use Rattle.std.specs.List.{AllByRecursion}
-use Rattle.gb_types.specs.Message.{same}
-use Rattle.gb_types.specs.declared.kind.Kind.{Kind}
-use Rattle.gb_types.specs.declared.kind.Order.TheVariants.{Fifo}
-use Rattle.gb_types.specs.declared.message.MsgId.{MsgId}
-use Rattle.gb_layer.specs.Machine.{mentions}
-use Rattle.gb_layer.specs.Modules.{now_delivered, log}
-use Rattle.gb_types.specs.declared.kind.Module.{Module}
+use Rattle.gb_types.specs.Common.{same}
+use Rattle.gb_types.specs.declared.{kind.Kind.Kind, kind.Order.TheVariants.Fifo, message.MsgId.MsgId, kind.Module.Module}
+use Rattle.gb_layer.specs.Common.{mentions, now_delivered, log}
 use Rattle.gb_layer.specs.declared.call.Call.{Call}
 use Rattle.gb_fifo.specs.Order.{RunsFromOne}
 use Rattle.gb_stack.specs.Kinds.{kind_log}

@@ -1,8 +1,5 @@
 -- A sink that discards what it takes has room for all.
-use Rattle.gb_types.specs.declared.message.MsgId.{MsgId}
-use Rattle.gb_layer.specs.declared.effects.Up.{Up}
-use Rattle.gb_layer.specs.Machine.{Gives}
-use Rattle.gb_layer.specs.Sinks.{SplitsRoom}
+use Rattle.gb_layer.specs.Common.{SplitsRoom}
 
 pub nothing_splits : SplitsRoom {S = Unit {0}} (λ _ _. tt) (λ _ _. tt) (λ _ _. Unit {0})
 nothing_splits = record {

@@ -1,18 +1,11 @@
 -- The state of a stack, the effects of a call, and the state after it.
 use Rattle.std.specs.Prelude.{[]}
 use Rattle.std.specs.FinSet as set
-use Rattle.gb_types.specs.declared.kind.Kind.{Kind}
-use Rattle.gb_types.specs.declared.kind.Module.{Module}
+use Rattle.gb_types.specs.declared.{kind.Kind.Kind, kind.Module.Module, kind.Order.Order, kind.Order.TheVariants.Any, kind.Order.TheVariants.Fifo, node.NodeId.NodeId}
 use Rattle.gb_types.specs.declared.kind.Module.TheVariants.{BestEffort, Lazy, Eager, AllAck, Majority}
-use Rattle.gb_types.specs.declared.kind.Order.{Order}
-use Rattle.gb_types.specs.declared.kind.Order.TheVariants.{Any, Fifo}
-use Rattle.gb_types.specs.declared.node.NodeId.{NodeId}
 use Rattle.gb_layer.specs.declared.call.Call.{Call}
-use Rattle.gb_layer.specs.BebMachine.{beb_gives}
-use Rattle.gb_layer.specs.Machine.{Gives, own_gives}
+use Rattle.gb_layer.specs.Common.{beb_gives, Gives, own_gives, State, relay_next, relay_gives, Nodes, Rules}
 use Rattle.gb_layer.specs.Relay as relay
-use Rattle.gb_layer.specs.Relay.{State, relay_next, relay_gives}
-use Rattle.gb_layer.specs.Rule.{Nodes, Rules}
 use Rattle.gb_reliable.specs.Rules.{lazy_rules, eager_rules}
 use Rattle.gb_uniform.specs.Rules.{all_ack_rules, majority_ack_rules}
 use Rattle.gb_fifo.specs.FifoMachine.{FifoState, IsNew, fifo_next, fifo_gives}

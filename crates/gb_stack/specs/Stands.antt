@@ -2,15 +2,9 @@
 use Rattle.std.specs.Prelude.{◌≡◌, ℕ, ◌≤◌, Bool, ◌&&◌, not, nat_eq, nat_lt, List, ◌∷◌, ◌++◌, map, count_by}
 use Rattle.std.specs.FinSet as set
 use Rattle.std.specs.List.{list_any}
-use Rattle.gb_types.specs.declared.kind.Kind.{Kind}
-use Rattle.gb_types.specs.declared.limits.TheConstants.{NODES}
-use Rattle.gb_types.specs.declared.message.MsgId.{MsgId}
-use Rattle.gb_types.specs.declared.node.NodeId.{NodeId}
-use Rattle.gb_layer.specs.declared.call.Call.{Call}
-use Rattle.gb_layer.specs.declared.call.Call.TheVariants.{Notice}
-use Rattle.gb_layer.specs.Machine.{after, all_ups, messages, IsFair, is_of}
-use Rattle.gb_layer.specs.Modules.{IsLawful}
-use Rattle.gb_layer.specs.Rule.{Nodes}
+use Rattle.gb_types.specs.declared.{kind.Kind.Kind, limits.TheConstants.NODES, message.MsgId.MsgId, node.NodeId.NodeId}
+use Rattle.gb_layer.specs.declared.{call.Call.Call, call.Call.TheVariants.Notice}
+use Rattle.gb_layer.specs.Common.{after, all_ups, messages, IsFair, is_of, IsLawful, Nodes}
 use Rattle.gb_stack.specs.Kinds.{kind_delivers, kind_broadcasts, kind_log}
 use Rattle.gb_stack.specs.StackState.{StackState, stack_next, stack_gives, stack_me, IsUntoldStack, untold_stack, new_stack}
 

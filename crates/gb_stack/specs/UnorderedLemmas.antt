@@ -2,15 +2,8 @@
 use Rattle.std.proofs.Common.{refl}
 use Rattle.gb_types.specs.declared.node.NodeId.{NodeId}
 use Rattle.gb_layer.specs.declared.call.Call.{Call}
-use Rattle.gb_layer.specs.BebLemmas.{beb_sends_handed_in, beb_ups_handed_in, beb_up_once, beb_sent_once, beb_noticed_once, fair_once}
-use Rattle.gb_layer.specs.BebMachine.{beb_gives}
-use Rattle.gb_layer.specs.DirectLemmas.{own_pairs, direct_sends_handed_in, direct_ups_handed_in, direct_up_once, direct_sent_once, direct_noticed_once}
-use Rattle.gb_layer.specs.Laws.{StaysAtItsNode, ComesFromItsOrigin, SendsWhatWasHandedIn, HandsUpWhatWasHandedIn, HandsUpOnce, SendsOnce, NoticesOnce}
-use Rattle.gb_layer.specs.Machine.{Gives, own_gives}
+use Rattle.gb_layer.specs.Common.{beb_sends_handed_in, beb_ups_handed_in, beb_up_once, beb_sent_once, beb_noticed_once, fair_once, beb_gives, own_pairs, direct_sends_handed_in, direct_ups_handed_in, direct_up_once, direct_sent_once, direct_noticed_once, StaysAtItsNode, ComesFromItsOrigin, SendsWhatWasHandedIn, HandsUpWhatWasHandedIn, HandsUpOnce, SendsOnce, NoticesOnce, Gives, own_gives, State, relay_me_stays, relay_noticed_once, relay_own, relay_sends_handed_in, relay_ups_handed_in, relay_up_once, relay_sent_once}
 use Rattle.gb_layer.specs.Relay as relay
-use Rattle.gb_layer.specs.Relay.{State}
-use Rattle.gb_layer.specs.RelayLemmas.{relay_me_stays, relay_noticed_once, relay_own}
-use Rattle.gb_layer.specs.RelayOnceLemmas.{relay_sends_handed_in, relay_ups_handed_in, relay_up_once, relay_sent_once}
 use Rattle.gb_reliable.specs.Rules.{lazy_rules, eager_rules}
 use Rattle.gb_uniform.specs.Rules.{all_ack_rules, majority_ack_rules}
 use Rattle.gb_stack.specs.InsideLemmas.{sends_handed_in_into, ups_handed_in_into, up_once_into, sent_once_into, noticed_once_into}

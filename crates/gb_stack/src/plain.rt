@@ -1,8 +1,7 @@
 //! What a kind broadcasts, and its log, computed straight from their definition: slow, for short histories, to compare stacks with.
 //! A history has the newest call first.
 ghost use Rattle.std.specs.Prelude.{◌≡◌, IfOk};
-ghost use Rattle.gb_layer.specs.Machine.{numbers};
-ghost use Rattle.gb_layer.specs.Modules.{newest};
+ghost use Rattle.gb_layer.specs.Common.{numbers, newest};
 ghost use Rattle.gb_stack.specs.Kinds.{kind_broadcasts, kind_log};
 
 use gb_fifo::plain::in_order;

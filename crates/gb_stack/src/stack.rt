@@ -1,7 +1,6 @@
 //! The broadcast of a group.
 ghost use Rattle.std.specs.Prelude.{◌≡◌, ℕ, List, [], if◌then◌else◌};
-ghost use Rattle.gb_types.specs.declared.limits.TheConstants.{NODES};
-ghost use Rattle.gb_types.specs.declared.message.MsgId.{MsgId};
+ghost use Rattle.gb_types.specs.declared.{limits.TheConstants.NODES, message.MsgId.MsgId};
 ghost use Rattle.gb_layer.specs.declared.call.Call.TheVariants.{Notice};
 ghost use Rattle.gb_stack.specs.Stands.{is_other_noticed, HasHeard, HasStarted};
 ghost use Rattle.gb_stack.specs.StackState.{untold_stack, new_stack};

@@ -1,5 +1,5 @@
 //! Laws: the histories that a stack stands for. They have no code.
-ghost use Rattle.gb_layer.specs.Laws.{StaysAtItsNode, ComesFromItsOrigin, SendsWhatWasHandedIn, HandsUpWhatWasHandedIn, HandsUpOnce, HandsUpEachOnce, SendsOnce, NoticesOnce};
+ghost use Rattle.gb_layer.specs.Common.{StaysAtItsNode, ComesFromItsOrigin, SendsWhatWasHandedIn, HandsUpWhatWasHandedIn, HandsUpOnce, HandsUpEachOnce, SendsOnce, NoticesOnce};
 ghost use Rattle.gb_stack.specs.LogLaws.{FifoLogRuns, KindLogMentioned, KindLogOnce, ModuleLogHasDelivered};
 ghost use Rattle.gb_stack.specs.StackState.{stack_next, stack_gives, stack_me, IsUntoldStack};
 ghost use Rattle.gb_stack.specs.Stands.{NewStackStands, CalledStackStands, HandsUpWhatIsDelivered, SendsWhatIsBroadcast, HandsUpTheLog, LogGrows, StartedHandsUpEachOnce};

@@ -1,10 +1,7 @@
 -- How a node's figures are written. Source: the text exposition format 0.0.4 of Prometheus.
 use Rattle.std.specs.Prelude.{ℕ, ◌-◌, ◌^◌, List, ◌++◌, codes, decimal, slice_index, min}
 use Rattle.std.specs.List.{flat_map}
-use Rattle.gb_status.specs.declared.figure.Figure.{Figure}
-use Rattle.gb_status.specs.declared.figure.TheConstants.{FIGURES}
-use Rattle.gb_status.specs.declared.figures.Figures.{Figures}
-use Rattle.gb_status.specs.declared.figures.NodeFigures.{NodeFigures}
+use Rattle.gb_status.specs.declared.{figure.Figure.Figure, figure.TheConstants.FIGURES, figures.Figures.Figures, figures.NodeFigures.NodeFigures}
 use Rattle.gb_status.specs.Names.{family_of, head_of, label_of, line_feed, place_of, quote, word_of}
 
 -- the number of a figure

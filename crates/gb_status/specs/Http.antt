@@ -6,11 +6,8 @@ use Rattle.httparse.specs.Spans.{RequestOverflows}
 use Rattle.std.specs.List.{list_all}
 use Rattle.gb_status.specs.Figures.{metrics_text, value_of}
 use Rattle.gb_status.specs.Names.{line_feed}
-use Rattle.gb_status.specs.declared.figure.Figure.TheVariants.{Running}
-use Rattle.gb_status.specs.declared.figures.NodeFigures.{NodeFigures}
-use Rattle.gb_status.specs.declared.http.Asked.{Asked}
+use Rattle.gb_status.specs.declared.{figure.Figure.TheVariants.Running, figures.NodeFigures.NodeFigures, http.Asked.Asked, http.Code.Code}
 use Rattle.gb_status.specs.declared.http.Asked.TheVariants.{Metrics, Health, OtherPlace, OtherMethod, More, NoRequest}
-use Rattle.gb_status.specs.declared.http.Code.{Code}
 use Rattle.gb_status.specs.declared.http.Code.TheVariants.{Fine, BadRequest, NotFound, NotAllowed, Unavailable}
 
 -- a line ends with a carriage return and a line feed

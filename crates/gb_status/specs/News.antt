@@ -6,8 +6,7 @@ use Rattle.std.specs.Ordering.{nat_cmp}
 use Rattle.gb_status.specs.Figures.{value_of}
 use Rattle.gb_status.specs.Names.{line_feed}
 use Rattle.gb_status.specs.declared.figure.Figure.TheVariants.{Lost, RefusedOutOfMemory, TurnedAway}
-use Rattle.gb_status.specs.declared.figures.Figures.{Figures}
-use Rattle.gb_status.specs.declared.news.Told.{Told}
+use Rattle.gb_status.specs.declared.{figures.Figures.Figures, news.Told.Told}
 
 -- the beginning of a line of the log that tells of a node: the name of the program, and the node's number
 abbrev pub front_of : List ℕ → ℕ → List ℕ

@@ -1,7 +1,7 @@
 //! What the log tells of a node, by its figures and the nodes that it noticed.
 ghost use Rattle.std.specs.Prelude.{◌≡◌, ◌++◌, ◌||◌, OnOk, decimal, false};
 ghost use Rattle.std.specs.FinSet as set;
-ghost use Rattle.gb_types.specs.Rising.{rising};
+ghost use Rattle.gb_types.specs.Common.{rising};
 ghost use Rattle.gb_status.specs.Names.{line_feed};
 ghost use Rattle.gb_status.specs.News.{front_of, full_line, is_full, is_short, line_of, news_of, notice_of, noticed_line, notices_of, once, short_line};
 

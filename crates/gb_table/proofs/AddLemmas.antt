@@ -1,17 +1,11 @@
 -- A group is made at a place.
-use Rattle.std.proofs.Common.{◌≡◌, ◌≢◌, ℕ, zero, suc, ◌<◌, ◌-◌, List, [], ◌∷◌, ◌++◌, length, map, take, get_or, refl, ap, sym, ◌∙◌, subst, true, false, arith, inl, inr, length-append}
-use Rattle.std.specs.Prelude.{◌⊎◌, Bool, cond, nat_lt, swap_remove, Option, Some, None, IsSome}
-use Rattle.std.proofs.Math.ListN.{set}
-use Rattle.std.proofs.lemmas.List.{length-map, length-set, map-append, map-set, get_or-set_same, get_or-set_other}
-use Rattle.std.proofs.lemmas.Bool.{cases_Bool, cases_eq}
+use Rattle.gb_types.specs.Common.{◌≡◌, ◌≢◌, ℕ, zero, suc, ◌<◌, ◌-◌, List, [], ◌∷◌, ◌++◌, length, map, take, get_or, refl, ap, sym, ◌∙◌, subst, true, false, arith, inl, inr, length-append, ◌⊎◌, Bool, cond, nat_lt, swap_remove, Option, Some, None, IsSome, set, length-map, length-set, map-append, map-set, get_or-set_same, get_or-set_other, cases_Bool, cases_eq}
 use Rattle.indexmap.specs.IndexMap.{insert_entry}
 use Rattle.slab.specs.Slab.{Slab, get}
-use Rattle.gb_types.specs.declared.address.Addr.{Addr}
-use Rattle.gb_types.specs.declared.limits.TheConstants.{NODES, PAYLOAD}
-use Rattle.gb_rules.specs.Address.{is_addr}
-use Rattle.gb_slot.specs.SlotState.{SlotState}
-use Rattle.gb_table.specs.declared.places.Place.{Place}
-use Rattle.gb_table.specs.declared.places.Place.TheVariants.{Key, Gone}
+use Rattle.gb_types.specs.declared.{address.Addr.Addr, limits.TheConstants.NODES, limits.TheConstants.PAYLOAD}
+use Rattle.gb_rules.specs.Common.{is_addr}
+use Rattle.gb_slot.specs.Common.{SlotState}
+use Rattle.gb_table.specs.declared.{places.Place.Place, places.Place.TheVariants.Key, places.Place.TheVariants.Gone}
 use Rattle.gb_table.specs.SlotsValue.{Row, row_at, counters, HaveCounters, IsShort, AreShort, AreApart, AreVacant, no_row, vacant, with_vacant, with_room}
 use Rattle.gb_table.specs.Places.{slot_under, row_of, place_at, addr_at, vacant_entry, with_vacant_entry, entries_with_room, AreVacantEntries, AreOthers, AreKept}
 use Rattle.gb_table.proofs.SlotsLemmas.{no_entry_at, leads_within, row_is, made_of, row_made, counters_changed, short_changed}

@@ -1,25 +1,14 @@
 -- A step at one address leaves the others alone.
-use Rattle.std.proofs.Common.{◌≡◌, ◌≢◌, ℕ, ◌<◌, true, false, List, length, refl, ap, sym, ◌∙◌, arith}
-use Rattle.std.specs.Prelude.{◌%◌, if◌then◌else◌, Bool, ◌&&◌, not, false, cond, nat_lt, Option, Some, None, option_map, position}
-use Rattle.std.specs.List.{position_or_len}
-use Rattle.std.proofs.Math.ListN.{set}
-use Rattle.std.proofs.lemmas.List.{length-set, get_or-set_other}
-use Rattle.std.proofs.lemmas.List.Folds.{position_or_len-set}
+use Rattle.gb_types.specs.Common.{◌≡◌, ◌≢◌, ℕ, ◌<◌, true, false, List, length, refl, ap, sym, ◌∙◌, arith, ◌%◌, if◌then◌else◌, Bool, ◌&&◌, not, cond, nat_lt, Option, Some, None, option_map, position, position_or_len, set, length-set, get_or-set_other, position_or_len-set, lt-ltb}
 use Rattle.std.proofs.lemmas.List.Quantifiers.{position-Some}
-use Rattle.gb_types.specs.declared.address.Addr.{Addr}
-use Rattle.gb_rules.specs.Address.{is_addr}
-use Rattle.gb_slot.specs.SlotState.{SlotState}
+use Rattle.gb_types.specs.declared.{address.Addr.Addr, limits.TheConstants.NODES, version.Version.Version, node.NodeId.NodeId}
+use Rattle.gb_rules.specs.Common.{is_addr, is_too_long}
+use Rattle.gb_slot.specs.Common.{SlotState, slot_came}
 use Rattle.gb_table.specs.SlotsValue.{Row, row_at, on_slot, no_row}
-use Rattle.gb_frame.specs.Items.{address_of, entry_of}
+use Rattle.gb_frame.specs.Common.{address_of, entry_of}
 use Rattle.gb_table.specs.AtAddress.{place_of, step_at, on_address, item_came, OthersKept}
-use Rattle.std.proofs.lemmas.Bool.{lt-ltb}
 use Rattle.gb_types.proofs.SameLemmas.{same_number}
-use Rattle.gb_types.specs.declared.limits.TheConstants.{NODES}
-use Rattle.gb_types.specs.declared.version.Version.{Version}
-use Rattle.gb_rules.specs.Group.{is_too_long}
-use Rattle.gb_types.specs.declared.node.NodeId.{NodeId}
 use Rattle.gb_frame.specs.declared.item.Item.{Item}
-use Rattle.gb_slot.specs.Slot.{slot_came}
 use Rattle.gb_rules.proofs.AddressLemmas.{addr_is, addr_same}
 
 -- the place of an address is within, and the group there has it

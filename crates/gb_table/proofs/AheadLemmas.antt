@@ -1,12 +1,6 @@
 -- The walk that takes nothing: the number of visits of each place, from the number of rounds.
-use Rattle.std.proofs.Common.{◌≡◌, ℕ, suc, zero, ◌+◌, ◌-◌, ◌≤◌, ◌<◌, min, List, [], ◌∷◌, ◌++◌, length, map, take, drop, get_or, refl, ap, sym, ◌∙◌, arith, drop-cons, inl, inr}
-use Rattle.std.proofs.Math.ListN.{set}
-use Rattle.std.proofs.lemmas.List.{drop_all}
-use Rattle.std.proofs.lemmas.Bool.{cases_lt, lt-ltb, le-ltb}
-use Rattle.std.specs.Prelude.{sum_by, if◌then◌else◌}
-use Rattle.gb_types.specs.declared.entry.Entry.{Entry}
-use Rattle.std.proofs.lemmas.List.Sums.{sum_by-cons}
-use Rattle.gb_types.specs.declared.version.Version.{Version}
+use Rattle.gb_types.specs.Common.{◌≡◌, ℕ, suc, zero, ◌+◌, ◌-◌, ◌≤◌, ◌<◌, min, List, [], ◌∷◌, ◌++◌, length, map, take, drop, get_or, refl, ap, sym, ◌∙◌, arith, drop-cons, inl, inr, set, drop_all, cases_lt, lt-ltb, le-ltb, sum_by, if◌then◌else◌, sum_by-cons}
+use Rattle.gb_types.specs.declared.{entry.Entry.Entry, version.Version.Version}
 use Rattle.gb_table.specs.SlotsValue.{Row, no_entry}
 use Rattle.gb_table.specs.Packing.{Visit, visit, walk, queue, queues, fit, size}
 use Rattle.gb_table.specs.Ahead.{visits, ahead}

@@ -1,10 +1,5 @@
 -- A packing as a whole.
-use Rattle.std.proofs.Common.{◌≡◌, ℕ, suc, zero, ◌+◌, ◌-◌, ◌≤◌, ◌<◌, List, [], ◌∷◌, length, take, get_or, refl, ap, ◌∙◌, arith, inl, inr}
-use Rattle.std.specs.Prelude.{sum_by, Bool, true, false, ltb, if◌then◌else◌}
-use Rattle.std.proofs.Math.ListN.{set}
-use Rattle.std.proofs.lemmas.List.{length-set, get_or-set_same, get_or-set_other, set_past}
-use Rattle.std.proofs.lemmas.Bool.{cases_lt, cases_eq, ltb-true, ltb-false}
-use Rattle.std.proofs.lemmas.List.Sums.{sum_by-cons}
+use Rattle.gb_types.specs.Common.{◌≡◌, ℕ, suc, zero, ◌+◌, ◌-◌, ◌≤◌, ◌<◌, List, [], ◌∷◌, length, take, get_or, refl, ap, ◌∙◌, arith, inl, inr, sum_by, Bool, true, false, ltb, if◌then◌else◌, set, length-set, get_or-set_same, get_or-set_other, set_past, cases_lt, cases_eq, ltb-true, ltb-false, sum_by-cons}
 use Rattle.gb_types.specs.declared.version.Version.{Version}
 use Rattle.gb_table.specs.SlotsValue.{Row}
 use Rattle.gb_table.specs.GroupsValue.{ArePlaces}

@@ -1,13 +1,7 @@
 -- The walk by the index of busy places.
-use Rattle.std.proofs.Common.{◌≡◌, ℕ, suc, zero, ◌+◌, ◌-◌, ◌≤◌, ◌<◌, ◌≢◌, min, List, [], length, get_or, drop, refl, ap, sym, ◌∙◌, arith, inl, inr, Some, None, subst, ◌∷◌}
-use Rattle.std.proofs.Math.ListN.{set}
-use Rattle.std.proofs.lemmas.Bool.{cases_lt, cases_eq}
-use Rattle.std.proofs.lemmas.List.{get_or_past, get_or-set_same, get_or-set_other, length-set, set-get_or, length-drop, get_or_default}
-use Rattle.gb_types.specs.declared.entry.Entry.{Entry}
-use Rattle.gb_types.specs.Version.{limits_of}
-use Rattle.gb_types.specs.declared.version.Version.{Version}
+use Rattle.gb_types.specs.Common.{◌≡◌, ℕ, suc, zero, ◌+◌, ◌-◌, ◌≤◌, ◌<◌, ◌≢◌, min, List, [], length, get_or, drop, refl, ap, sym, ◌∙◌, arith, inl, inr, Some, None, subst, ◌∷◌, set, cases_lt, cases_eq, get_or_past, get_or-set_same, get_or-set_other, length-set, set-get_or, length-drop, get_or_default, limits_of, sum_by}
+use Rattle.gb_types.specs.declared.{entry.Entry.Entry, version.Version.Version}
 use Rattle.gb_table.specs.SlotsValue.{Row, row_at, counters, no_entry, no_row}
-use Rattle.std.specs.Prelude.{sum_by}
 use Rattle.gb_table.specs.Packing.{Visit, walk, queue, queues, took, first_place, visit, size, fit}
 use Rattle.gb_table.specs.PlaceSet.{has, IsNext}
 use Rattle.gb_table.specs.Busy.{IsBusy}

@@ -1,12 +1,7 @@
 -- The number of rooms with names of tenants is at most the number that the tenants may reserve.
-use Rattle.std.proofs.Common.{◌≡◌, ℕ, zero, suc, ◌+◌, ◌≤◌, ◌<◌, List, [], ◌∷◌, length, refl, ap, sym, ◌∙◌, true, false, arith, inl, inr, eq-eqb}
-use Rattle.std.specs.Prelude.{Bool, cond, ◌&&◌, nat_lt, nat_eq, Some, find, sum_by, count_by, All}
-use Rattle.std.proofs.lemmas.Bool.{cases_lt, cases_eq, cases_Bool, lt-ltb, le-ltb, ne_eqb}
-use Rattle.std.proofs.lemmas.List.Sums.{sum_by-cons}
-use Rattle.gb_types.specs.declared.address.Addr.{Addr}
-use Rattle.gb_types.specs.declared.spec.TenantRow.{TenantRow}
-use Rattle.gb_rules.specs.Address.{is_addr}
-use Rattle.gb_rules.specs.Tenant.{row_of, reserved}
+use Rattle.gb_types.specs.Common.{◌≡◌, ℕ, zero, suc, ◌+◌, ◌≤◌, ◌<◌, List, [], ◌∷◌, length, refl, ap, sym, ◌∙◌, true, false, arith, inl, inr, eq-eqb, Bool, cond, ◌&&◌, nat_lt, nat_eq, Some, find, sum_by, count_by, All, cases_lt, cases_eq, cases_Bool, lt-ltb, le-ltb, ne_eqb, sum_by-cons}
+use Rattle.gb_types.specs.declared.{address.Addr.Addr, spec.TenantRow.TenantRow}
+use Rattle.gb_rules.specs.Common.{is_addr, row_of, reserved}
 use Rattle.gb_table.specs.Within.{IsReserved}
 
 -- each name stands at most once

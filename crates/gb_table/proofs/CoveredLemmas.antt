@@ -1,13 +1,8 @@
 -- The words that the sets of the nodes have.
-use Rattle.std.proofs.Common.{◌≡◌, ℕ, ◌<◌, ◌≤◌, ◌+◌, ◌*◌, List, [], length, get_or, refl, ap, sym, ◌∙◌, arith, inl, inr, true, false}
-use Rattle.std.specs.Prelude.{Bool, Option, Some, None, if◌then◌else◌}
+use Rattle.gb_types.specs.Common.{◌≡◌, ℕ, ◌<◌, ◌≤◌, ◌+◌, ◌*◌, List, [], length, get_or, refl, ap, sym, ◌∙◌, arith, inl, inr, true, false, Bool, Option, Some, None, if◌then◌else◌, nat_cmp, set, cases_eq, get_or_default, get_or-set_same, get_or-set_other, length-set}
 use Rattle.std.specs.FinSet as nodes
-use Rattle.std.specs.Ordering.{nat_cmp}
-use Rattle.std.proofs.Math.ListN.{set}
-use Rattle.std.proofs.lemmas.Bool.{cases_eq}
-use Rattle.std.proofs.lemmas.List.{get_or_default, get_or-set_same, get_or-set_other, length-set}
 use Rattle.gb_types.specs.declared.limits.TheConstants.{NODES}
-use Rattle.gb_slot.specs.SlotState.{SlotState}
+use Rattle.gb_slot.specs.Common.{SlotState}
 use Rattle.gb_table.specs.Covered.{HaveWord, HaveGrown, AreCovered}
 use Rattle.gb_table.specs.GroupsValue.{IsIndex}
 use Rattle.gb_table.specs.Members.{has_member, AreMemberships, IsEnrolled}

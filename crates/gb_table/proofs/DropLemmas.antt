@@ -1,18 +1,11 @@
 -- A group is dropped and keeps its place.
-use Rattle.std.proofs.Common.{◌≡◌, ◌≢◌, ℕ, zero, suc, ◌<◌, List, [], ◌∷◌, length, map, get_or, refl, ap, sym, ◌∙◌, subst, arith, inl, inr}
-use Rattle.std.specs.Prelude.{Option, Some, None, IsSome, is_some, true, false}
+use Rattle.gb_types.specs.Common.{◌≡◌, ◌≢◌, ℕ, zero, suc, ◌<◌, List, [], ◌∷◌, length, map, get_or, refl, ap, sym, ◌∙◌, subst, arith, inl, inr, Option, Some, None, IsSome, is_some, true, false, set, cases_eq, get_or-set_same, get_or-set_other, length-set}
 use Rattle.indexmap.specs.IndexMap.{set_value_at}
-use Rattle.std.proofs.Math.ListN.{set}
-use Rattle.std.proofs.lemmas.Bool.{cases_eq}
-use Rattle.std.proofs.lemmas.List.{get_or-set_same, get_or-set_other, length-set}
 use Rattle.slab.specs.Slab.{Slab, get}
-use Rattle.gb_types.specs.declared.address.Addr.{Addr}
-use Rattle.gb_types.specs.declared.reply.Reply.TheVariants.{Done}
-use Rattle.gb_rules.specs.Group.{drop_answer}
-use Rattle.gb_slot.specs.SlotState.{SlotState}
-use Rattle.gb_types.specs.declared.limits.TheConstants.{PAYLOAD}
-use Rattle.gb_table.specs.declared.places.Place.{Place}
-use Rattle.gb_table.specs.declared.places.Place.TheVariants.{Key, Gone}
+use Rattle.gb_types.specs.declared.{address.Addr.Addr, reply.Reply.TheVariants.Done, limits.TheConstants.PAYLOAD}
+use Rattle.gb_rules.specs.Common.{drop_answer}
+use Rattle.gb_slot.specs.Common.{SlotState}
+use Rattle.gb_table.specs.declared.{places.Place.Place, places.Place.TheVariants.Key, places.Place.TheVariants.Gone}
 use Rattle.gb_table.specs.SlotsValue.{Row, row_at, gone, HaveCounters, AreShort, AreApart, AreVacant, no_row}
 use Rattle.gb_table.specs.AtAddress.{living_place}
 use Rattle.gb_table.specs.GroupsValue.{GroupsValue}

@@ -1,18 +1,11 @@
 -- What holds of each place holds after each step that keeps it.
-use Rattle.std.proofs.Common.{◌≡◌, ℕ, zero, suc, List, [], ◌∷◌, ◌++◌, length, map, sym, subst, true, false, inl, inr}
-use Rattle.std.specs.Prelude.{◌&&◌, not, nat_lt, Option, Some, None, if◌then◌else◌}
-use Rattle.std.proofs.Math.ListN.{set}
-use Rattle.std.proofs.lemmas.Bool.{cases_Bool, not-true}
-use Rattle.gb_types.specs.declared.address.Addr.{Addr}
-use Rattle.gb_types.specs.declared.limits.TheConstants.{NODES}
-use Rattle.gb_types.specs.declared.node.NodeId.{NodeId}
-use Rattle.gb_types.specs.declared.version.Version.{Version}
+use Rattle.gb_types.specs.Common.{◌≡◌, ℕ, zero, suc, List, [], ◌∷◌, ◌++◌, length, map, sym, subst, true, false, inl, inr, ◌&&◌, not, nat_lt, Option, Some, None, if◌then◌else◌, set, cases_Bool, not-true}
+use Rattle.gb_types.specs.declared.{address.Addr.Addr, limits.TheConstants.NODES, node.NodeId.NodeId, version.Version.Version}
 use Rattle.gb_types.proofs.BoolLemmas.{and_right}
 use Rattle.gb_frame.specs.declared.item.Item.{Item}
-use Rattle.gb_frame.specs.Items.{address_of, entry_of}
-use Rattle.gb_rules.specs.Group.{is_too_long}
-use Rattle.gb_slot.specs.Slot.{slot_came, slot_took}
-use Rattle.gb_slot.specs.SlotState.{SlotState}
+use Rattle.gb_frame.specs.Common.{address_of, entry_of}
+use Rattle.gb_rules.specs.Common.{is_too_long}
+use Rattle.gb_slot.specs.Common.{slot_came, slot_took, SlotState}
 use Rattle.gb_table.specs.AtAddress.{place_of, step_at, on_address, gone_at, drop_at, item_came}
 use Rattle.gb_table.specs.GroupsValue.{GroupsValue, made}
 use Rattle.gb_table.specs.Packing.{Visit, gave, share}

@@ -1,14 +1,9 @@
 -- The group at a place that has an address is the one that is found under it.
-use Rattle.std.proofs.Common.{◌≡◌, ℕ, zero, suc, ◌<◌, true, false, List, [], ◌∷◌, length, map, get_or, ap, sym, ◌∙◌, inl, inr, arith}
-use Rattle.std.specs.Prelude.{Bool, cond, nat_lt, Some, None, MatchOption, slice_get, position}
-use Rattle.std.specs.List.{position_or_len}
-use Rattle.std.proofs.lemmas.Bool.{cases_Bool, lt-ltb}
-use Rattle.std.proofs.lemmas.List.{length-map}
-use Rattle.std.proofs.lemmas.List.Sums.{position_or_len_is}
+use Rattle.gb_types.specs.Common.{◌≡◌, ℕ, zero, suc, ◌<◌, true, false, List, [], ◌∷◌, length, map, get_or, ap, sym, ◌∙◌, inl, inr, arith, Bool, cond, nat_lt, Some, None, MatchOption, slice_get, position, position_or_len, cases_Bool, lt-ltb, length-map, position_or_len_is}
 use Rattle.slab.specs.Slab.{Slab}
 use Rattle.gb_types.specs.declared.address.Addr.{Addr}
-use Rattle.gb_rules.specs.Address.{is_addr}
-use Rattle.gb_slot.specs.SlotState.{SlotState}
+use Rattle.gb_rules.specs.Common.{is_addr}
+use Rattle.gb_slot.specs.Common.{SlotState}
 use Rattle.gb_table.specs.declared.places.Place.{Place}
 use Rattle.gb_table.specs.Places.{row_of, AreKept}
 use Rattle.gb_table.specs.SlotsValue.{Row, row_at, no_row, AreApart}

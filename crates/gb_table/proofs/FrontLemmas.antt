@@ -1,14 +1,7 @@
 -- The items of one place in a walk are the items that wait there.
-use Rattle.std.proofs.Common.{◌≡◌, ℕ, suc, zero, ◌+◌, ◌≤◌, ◌<◌, List, [], ◌∷◌, ◌++◌, length, map, take, drop, get_or, refl, ap, sym, ◌∙◌, arith, zero-add, inl, inr, eq-eqb}
-use Rattle.std.specs.Prelude.{Bool, true, false, cond, ltb, ◌==◌, ◌⊎◌, filter, count_by}
-use Rattle.std.proofs.lemmas.List.{take-append-drop, take_at, take-map, append-nil, take_all, get_or_default}
-use Rattle.std.proofs.lemmas.List.Elements.{filter-append}
-use Rattle.std.proofs.lemmas.List.Sums.{length-filter}
-use Rattle.std.proofs.lemmas.Bool.{cases_lt, cases_eq, ne_eqb, ltb-true, lt-ltb, cases_Bool}
-use Rattle.gb_types.specs.declared.version.Version.{Version}
+use Rattle.gb_types.specs.Common.{◌≡◌, ℕ, suc, zero, ◌+◌, ◌≤◌, ◌<◌, List, [], ◌∷◌, ◌++◌, length, map, take, drop, get_or, refl, ap, sym, ◌∙◌, arith, zero-add, inl, inr, eq-eqb, Bool, true, false, cond, ltb, ◌==◌, ◌⊎◌, filter, count_by, take-append-drop, take_at, take-map, append-nil, take_all, get_or_default, filter-append, length-filter, cases_lt, cases_eq, ne_eqb, ltb-true, lt-ltb, cases_Bool}
+use Rattle.gb_types.specs.declared.{version.Version.Version, entry.Entry.Entry, limits.TheConstants.NODES}
 use Rattle.gb_table.specs.Turns.{heads, rounds, longest, in_turns, tails}
-use Rattle.gb_types.specs.declared.entry.Entry.{Entry}
-use Rattle.gb_types.specs.declared.limits.TheConstants.{NODES}
 use Rattle.gb_table.specs.SlotsValue.{row_at, HaveCounters, AreApart, no_row}
 use Rattle.gb_table.specs.GroupsValue.{GroupsValue, walk_to, batch, packed}
 use Rattle.gb_table.specs.Packing.{Visit, visit, placed, from_place, walk, fit, is_at, share, queue, queues, items, item_at, item_of, took}
@@ -17,7 +10,7 @@ use Rattle.gb_table.proofs.WalkLemmas.{length-queues, queues_at}
 use Rattle.gb_table.proofs.TakingLemmas.{queue-took, queue-other}
 use Rattle.gb_table.proofs.BatchLemmas.{fit-front, get_or-gave}
 use Rattle.gb_rules.proofs.AddressLemmas.{addr_is, addr_same}
-use Rattle.gb_rules.specs.Address.{is_addr}
+use Rattle.gb_rules.specs.Common.{is_addr}
 
 -- ---- queues whose items all pass a test, or none
 

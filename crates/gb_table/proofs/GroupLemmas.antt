@@ -1,16 +1,10 @@
 -- The effect of each step on each group by itself.
-use Rattle.std.proofs.Common.{◌≡◌, ℕ, List, [], ◌∷◌, length, map, take, refl, ap, sym, ◌∙◌, true, false}
-use Rattle.std.specs.Prelude.{Bool, not, ◌&&◌, nat_lt, fold, Option, Some, None}
-use Rattle.gb_types.specs.declared.limits.TheConstants.{NODES}
-use Rattle.gb_types.specs.declared.node.NodeId.{NodeId}
-use Rattle.gb_types.specs.declared.version.Version.{Version}
+use Rattle.gb_types.specs.Common.{◌≡◌, ℕ, List, [], ◌∷◌, length, map, take, refl, ap, sym, ◌∙◌, true, false, Bool, not, ◌&&◌, nat_lt, fold, Option, Some, None}
+use Rattle.gb_types.specs.declared.{limits.TheConstants.NODES, node.NodeId.NodeId, version.Version.Version}
 use Rattle.gb_frame.specs.declared.item.Item.{Item}
-use Rattle.gb_frame.specs.Items.{entry_of, item_for, items_for}
-use Rattle.gb_rules.specs.Address.{is_addr}
-use Rattle.gb_rules.specs.Group.{is_too_long}
-use Rattle.gb_rules.specs.Lifetime.{stepped, dropped, where_so}
-use Rattle.gb_slot.specs.Slot.{slot_came, slot_took}
-use Rattle.gb_slot.specs.SlotState.{SlotState}
+use Rattle.gb_frame.specs.Common.{entry_of, item_for, items_for}
+use Rattle.gb_rules.specs.Common.{is_addr, is_too_long, stepped, dropped, where_so}
+use Rattle.gb_slot.specs.Common.{slot_came, slot_took, SlotState}
 use Rattle.gb_table.specs.GroupsValue.{batch}
 use Rattle.gb_table.specs.Packing.{items}
 use Rattle.gb_table.specs.AtAddress.{place_of}

@@ -1,15 +1,11 @@
 -- Each place is one of its room.
-use Rattle.std.proofs.Common.{◌≡◌, ℕ, zero, suc, ◌+◌, ◌*◌, ◌<◌, ◌≤◌, List, [], ◌∷◌, length, map, refl, ap, sym, ◌∙◌, subst, true, false, arith, inl, inr}
-use Rattle.std.specs.Prelude.{◌⊎◌, ◌/◌, ◌&&◌, Bool, count_by, take, drop, not, nat_lt, Option, Some, None, is_some, option_map, if◌then◌else◌}
-use Rattle.std.proofs.Math.ListN.{set, get_or-map}
-use Rattle.std.proofs.lemmas.Bool.{cases_Bool, cases_eq}
-use Rattle.std.proofs.lemmas.List.{get_or-drop, get_or-take, get_or-set_same, get_or-set_other, length-drop, length-take, length-set, length-map}
+use Rattle.gb_types.specs.Common.{◌≡◌, ℕ, zero, suc, ◌+◌, ◌*◌, ◌<◌, ◌≤◌, List, [], ◌∷◌, length, map, refl, ap, sym, ◌∙◌, subst, true, false, arith, inl, inr, ◌⊎◌, ◌/◌, ◌&&◌, Bool, count_by, take, drop, not, nat_lt, Option, Some, None, is_some, option_map, if◌then◌else◌, set, cases_Bool, cases_eq, get_or-drop, get_or-take, get_or-set_same, get_or-set_other, length-drop, length-take, length-set, length-map}
+use Rattle.std.proofs.Math.ListN.{get_or-map}
 use Rattle.gb_types.specs.declared.address.Addr.{Addr}
-use Rattle.gb_rules.specs.Address.{is_addr}
-use Rattle.gb_rules.specs.Room.{is_same_room, is_other_generation}
+use Rattle.gb_rules.specs.Common.{is_addr, is_same_room, is_other_generation}
 use Rattle.gb_rules.specs.declared.room.TheConstants.{GENERATIONS}
 use Rattle.gb_rules.proofs.AddressLemmas.{addr_is}
-use Rattle.gb_slot.specs.SlotState.{SlotState}
+use Rattle.gb_slot.specs.Common.{SlotState}
 use Rattle.gb_table.specs.SlotsValue.{Row, row_at, no_row, vacant, on_slot, gone}
 use Rattle.gb_table.specs.GroupsValue.{GroupsValue}
 use Rattle.gb_table.specs.Packing.{Visit, gave, share, took}

@@ -1,11 +1,6 @@
 -- The index of the groups where something waits, over all nodes.
-use Rattle.std.proofs.Common.{zero, suc, ◌∷◌, ◌++◌, refl, length-append, ◌≡◌, ◌≢◌, ℕ, ◌<◌, ◌≤◌, min, List, [], length, get_or, ap, sym, subst, ◌∙◌, arith, inl, inr}
-use Rattle.std.proofs.Math.ListN.{set}
-use Rattle.std.proofs.lemmas.Bool.{cases_eq}
-use Rattle.std.proofs.lemmas.List.{get_or_default, get_or-set_same, get_or-set_other, length-set, length-map, map-set, map-append}
-use Rattle.std.proofs.Math.Seq.{map-set_same}
-use Rattle.gb_types.specs.declared.limits.TheConstants.{NODES, PLACES}
-use Rattle.gb_types.specs.declared.entry.Entry.{Entry}
+use Rattle.gb_types.specs.Common.{zero, suc, ◌∷◌, ◌++◌, refl, length-append, ◌≡◌, ◌≢◌, ℕ, ◌<◌, ◌≤◌, min, List, [], length, get_or, ap, sym, subst, ◌∙◌, arith, inl, inr, set, cases_eq, get_or_default, get_or-set_same, get_or-set_other, length-set, length-map, map-set, map-append, map-set_same}
+use Rattle.gb_types.specs.declared.{limits.TheConstants.NODES, limits.TheConstants.PLACES, entry.Entry.Entry}
 use Rattle.gb_table.specs.SlotsValue.{Row, row_at, no_row}
 use Rattle.gb_table.specs.Packing.{queue, queues}
 use Rattle.gb_table.specs.Busy.{IsBusy}

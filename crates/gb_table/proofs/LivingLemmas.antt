@@ -1,23 +1,11 @@
 -- Groups that live at a place, and those that do not live here.
-use Rattle.std.proofs.Common.{◌≡◌, ℕ, suc, ◌+◌, List, [], ◌∷◌, length, refl, ap, sym, ◌∙◌, true, false, arith, inl, inr}
-use Rattle.std.specs.Prelude.{◌&&◌, Bool, cond, not, nat_lt, nat_le, Option, Some, None, is_some, option_map, position, if◌then◌else◌}
-use Rattle.std.specs.List.{position_or_len}
+use Rattle.gb_types.specs.Common.{◌≡◌, ℕ, suc, ◌+◌, List, [], ◌∷◌, length, refl, ap, sym, ◌∙◌, true, false, arith, inl, inr, ◌&&◌, Bool, cond, not, nat_lt, nat_le, Option, Some, None, is_some, option_map, position, if◌then◌else◌, position_or_len, set, cases_Bool, cases_lt, lt-ltb, le-ltb, set-get_or}
 use Rattle.std.specs.Map.{keys_of, lookup}
-use Rattle.std.proofs.Math.ListN.{set}
-use Rattle.std.proofs.lemmas.Bool.{cases_Bool, cases_lt, lt-ltb, le-ltb}
-use Rattle.std.proofs.lemmas.List.{set-get_or}
-use Rattle.gb_types.specs.declared.address.Addr.{Addr}
-use Rattle.gb_types.specs.declared.reply.Reply.{Reply}
-use Rattle.gb_rules.specs.Address.{is_addr}
-use Rattle.gb_rules.specs.Group.{Shown, absent_answer, is_too_long}
-use Rattle.gb_rules.specs.Room.{name_of}
-use Rattle.gb_slot.specs.SlotState.{SlotState}
-use Rattle.gb_types.specs.declared.limits.TheConstants.{NODES}
-use Rattle.gb_types.specs.declared.node.NodeId.{NodeId}
-use Rattle.gb_types.specs.declared.version.Version.{Version}
-use Rattle.gb_frame.specs.Items.{address_of, entry_of}
+use Rattle.gb_types.specs.declared.{address.Addr.Addr, reply.Reply.Reply, limits.TheConstants.NODES, node.NodeId.NodeId, version.Version.Version}
+use Rattle.gb_rules.specs.Common.{is_addr, Shown, absent_answer, is_too_long, name_of}
+use Rattle.gb_slot.specs.Common.{SlotState, shown, slot_came}
+use Rattle.gb_frame.specs.Common.{address_of, entry_of}
 use Rattle.gb_frame.specs.declared.item.Item.{Item}
-use Rattle.gb_slot.specs.Slot.{shown, slot_came}
 use Rattle.gb_table.specs.SlotsValue.{Row, row_at, no_row, on_slot}
 use Rattle.gb_table.specs.AtAddress.{place_of, if_living, living_place, step_at, on_address, gone_at, drop_at, item_came}
 use Rattle.gb_table.specs.GroupsValue.{GroupsValue}

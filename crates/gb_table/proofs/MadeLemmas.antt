@@ -1,17 +1,10 @@
 -- A group is made in a free place of its room.
-use Rattle.std.proofs.Common.{◌≡◌, ℕ, zero, suc, ◌+◌, ◌*◌, ◌<◌, ◌≤◌, List, [], ◌∷◌, ◌++◌, length, refl, ap, sym, ◌∙◌, subst, true, false, arith, inl, inr, length-append}
-use Rattle.std.specs.Prelude.{◌⊎◌, ◌/◌, ◌&&◌, Bool, not, nat_lt, nat_le, Option, Some, None, is_some, if◌then◌else◌}
-use Rattle.std.proofs.Math.ListN.{set}
-use Rattle.std.proofs.lemmas.Bool.{cases_Bool, cases_eq, cases_lt, lt-ltb, le-ltb, ltb-true}
-use Rattle.std.proofs.lemmas.Bool.Decides.{nat_tests}
-use Rattle.std.proofs.lemmas.List.{get_or-set_same, get_or-set_other, length-set}
+use Rattle.gb_types.specs.Common.{◌≡◌, ℕ, zero, suc, ◌+◌, ◌*◌, ◌<◌, ◌≤◌, List, [], ◌∷◌, ◌++◌, length, refl, ap, sym, ◌∙◌, subst, true, false, arith, inl, inr, length-append, ◌⊎◌, ◌/◌, ◌&&◌, Bool, not, nat_lt, nat_le, Option, Some, None, is_some, if◌then◌else◌, set, cases_Bool, cases_eq, cases_lt, lt-ltb, le-ltb, ltb-true, nat_tests, get_or-set_same, get_or-set_other, length-set}
 use Rattle.gb_types.specs.declared.address.Addr.{Addr}
-use Rattle.gb_rules.specs.Address.{is_addr}
-use Rattle.gb_rules.specs.Lifetime.{passed, where_so}
-use Rattle.gb_rules.specs.Room.{is_same_room, is_reached_by, is_other_generation, one_more}
+use Rattle.gb_rules.specs.Common.{is_addr, passed, where_so, is_same_room, is_reached_by, is_other_generation, one_more}
 use Rattle.gb_rules.specs.declared.room.TheConstants.{GENERATIONS}
 use Rattle.gb_rules.proofs.AddressLemmas.{addr_is}
-use Rattle.gb_slot.specs.SlotState.{SlotState}
+use Rattle.gb_slot.specs.Common.{SlotState}
 use Rattle.gb_table.specs.SlotsValue.{Row, row_at, no_row, vacant, with_vacant, with_room, AreApart}
 use Rattle.gb_table.specs.GroupsValue.{GroupsValue, made}
 use Rattle.gb_table.specs.OneGroup.{or_passed, group_in, AreInOrder, CanBeMade}

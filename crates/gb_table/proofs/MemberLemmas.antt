@@ -1,19 +1,11 @@
 -- The index of the groups that have a node among their members.
-use Rattle.std.proofs.Common.{◌≡◌, ◌≢◌, ℕ, ◌<◌, ◌≤◌, ◌+◌, List, [], length, map, get_or, refl, ap, sym, ◌∙◌, arith, inl, inr, true, false}
-use Rattle.std.specs.Prelude.{Bool, Option, Some, None, option_map, MatchOption, if◌then◌else◌, ◌&&◌, not, nat_eq}
-use Rattle.std.specs.Ordering.{nat_cmp}
+use Rattle.gb_types.specs.Common.{◌≡◌, ◌≢◌, ℕ, ◌<◌, ◌≤◌, ◌+◌, List, [], length, map, get_or, refl, ap, sym, ◌∙◌, arith, inl, inr, true, false, Bool, Option, Some, None, option_map, MatchOption, if◌then◌else◌, ◌&&◌, not, nat_eq, nat_cmp, set, map-set_same, cases_eq, cases_lt, get_or_default, get_or_past, get_or-set_same, get_or-set_other, length-map, length-set, ext_get_or}
 use Rattle.std.specs.FinSet as nodes
-use Rattle.std.proofs.Math.ListN.{set, get_or-map}
-use Rattle.std.proofs.Math.Seq.{map-set_same}
-use Rattle.std.proofs.lemmas.Bool.{cases_eq, cases_lt}
-use Rattle.std.proofs.lemmas.List.{get_or_default, get_or_past, get_or-set_same, get_or-set_other, length-map, length-set, ext_get_or}
-use Rattle.gb_types.specs.declared.limits.TheConstants.{NODES, PLACES}
-use Rattle.gb_types.specs.declared.node.NodeId.{NodeId}
-use Rattle.gb_types.specs.declared.spec.Spec.{Spec}
+use Rattle.std.proofs.Math.ListN.{get_or-map}
+use Rattle.gb_types.specs.declared.{limits.TheConstants.NODES, limits.TheConstants.PLACES, node.NodeId.NodeId, spec.Spec.Spec}
 use Rattle.gb_layer.specs.declared.call.Call.TheVariants.{Notice}
-use Rattle.gb_rules.specs.Group.{is_member}
-use Rattle.gb_slot.specs.Slot.{slot_called, slot_noticed}
-use Rattle.gb_slot.specs.SlotState.{SlotState}
+use Rattle.gb_rules.specs.Common.{is_member}
+use Rattle.gb_slot.specs.Common.{slot_called, slot_noticed, SlotState}
 use Rattle.gb_table.specs.SlotsValue.{Row, row_at, on_slot, gone, no_row}
 use Rattle.gb_table.specs.PlaceSet.{has, IsNext}
 use Rattle.gb_table.specs.Members.{has_member, AreMemberships, IsEnrolled, IsNextMember}

@@ -1,14 +1,10 @@
 -- Packets of the node's version name each group, whatever step it takes.
-use Rattle.std.proofs.Common.{◌≡◌, ℕ, List, map, true}
-use Rattle.std.specs.Prelude.{Option, Some, None, option_map}
-use Rattle.gb_types.specs.declared.address.Addr.{Addr}
-use Rattle.gb_types.specs.declared.node.NodeId.{NodeId}
-use Rattle.gb_types.specs.declared.version.Version.{Version}
+use Rattle.gb_types.specs.Common.{◌≡◌, ℕ, List, map, true, Option, Some, None, option_map}
+use Rattle.gb_types.specs.declared.{address.Addr.Addr, node.NodeId.NodeId, version.Version.Version}
 use Rattle.gb_frame.specs.declared.item.Item.{Item}
-use Rattle.gb_frame.specs.Items.{entry_of}
-use Rattle.gb_rules.specs.Room.{can_name}
-use Rattle.gb_slot.specs.Slot.{slot_came, slot_took}
-use Rattle.gb_slot.specs.SlotState.{SlotState}
+use Rattle.gb_frame.specs.Common.{entry_of}
+use Rattle.gb_rules.specs.Common.{can_name}
+use Rattle.gb_slot.specs.Common.{slot_came, slot_took, SlotState}
 use Rattle.gb_table.specs.AtAddress.{on_address, drop_at, item_came}
 use Rattle.gb_table.specs.GroupsValue.{GroupsValue, made}
 use Rattle.gb_table.specs.Packing.{Visit, gave}

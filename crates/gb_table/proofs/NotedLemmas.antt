@@ -1,22 +1,11 @@
 -- The sets of a group's members, one after the other.
-use Rattle.std.proofs.Common.{◌≡◌, ◌≢◌, ℕ, ◌<◌, ◌≤◌, ◌+◌, ◌-◌, min, List, [], ◌∷◌, length, subst, get_or, ap, sym, refl, ◌∙◌, arith, inl, inr, true, false}
-use Rattle.std.specs.Prelude.{Bool, Option, Some, None, option_map, nat_eq, ◌&&◌, ◌||◌, not, map, drop, if◌then◌else◌}
+use Rattle.gb_types.specs.Common.{◌≡◌, ◌≢◌, ℕ, ◌<◌, ◌≤◌, ◌+◌, ◌-◌, min, List, [], ◌∷◌, length, subst, get_or, ap, sym, refl, ◌∙◌, arith, inl, inr, true, false, Bool, Option, Some, None, option_map, nat_eq, ◌&&◌, ◌||◌, not, map, drop, if◌then◌else◌, nat_cmp, set, cases_eq, cases_lt, get_or_default, get_or-set_same, get_or-set_other, length-set, rising_from}
 use Rattle.std.specs.FinSet as nodes
-use Rattle.std.specs.Ordering.{nat_cmp}
-use Rattle.std.proofs.Math.ListN.{set}
-use Rattle.std.proofs.lemmas.Bool.{cases_eq, cases_lt}
-use Rattle.std.proofs.lemmas.List.{get_or_default, get_or-set_same, get_or-set_other, length-set}
-use Rattle.gb_types.specs.declared.entry.Entry.{Entry}
-use Rattle.gb_types.specs.declared.limits.TheConstants.{NODES}
-use Rattle.gb_types.specs.declared.spec.Spec.{Spec}
-use Rattle.gb_types.specs.Rising.{rising_from}
+use Rattle.gb_types.specs.declared.{entry.Entry.Entry, limits.TheConstants.NODES, spec.Spec.Spec}
 use Rattle.gb_types.proofs.InsertedLemmas.{contains-insert}
 use Rattle.gb_types.proofs.RisingLemmas.{first_or_none}
-use Rattle.gb_rules.specs.Messages.{entry_in}
-use Rattle.gb_slot.specs.Slot.{waiting, taken_for}
-use Rattle.gb_slot.specs.SlotState.{SlotState}
-use Rattle.gb_slot.specs.StandsFor.{reaches}
-use Rattle.gb_slot.specs.Waiting.{WaitsForEach}
+use Rattle.gb_rules.specs.Common.{entry_in}
+use Rattle.gb_slot.specs.Common.{waiting, taken_for, SlotState, reaches, WaitsForEach}
 use Rattle.gb_table.specs.Busy.{IsWritten, IsNoted, IsPlaced}
 use Rattle.gb_table.specs.GroupsValue.{IsIndex}
 use Rattle.gb_table.specs.Members.{IsEnrolled}

@@ -1,33 +1,22 @@
 -- The effect of each step on the slot that was last at an address.
-use Rattle.std.proofs.Common.{◌≡◌, ℕ, suc, zero, ◌+◌, ◌<◌, inl, inr, List, [], ◌∷◌, length, map, take, get_or, refl, sym, ap, ◌∙◌, arith, zero-add}
-use Rattle.std.specs.Prelude.{Bool, true, false, not, cond, ltb, ◌&&◌, nat_lt, fold, is_some, Option, Some, None, option_map, slice_set, if◌then◌else◌}
-use Rattle.std.specs.List.{position_or_len}
-use Rattle.std.proofs.lemmas.Bool.{cases_Bool, cases_lt, lt-ltb, le-ltb, ltb-true}
-use Rattle.std.proofs.lemmas.List.Sums.{length-filter}
-use Rattle.gb_types.specs.declared.address.Addr.{Addr}
-use Rattle.gb_types.specs.declared.limits.TheConstants.{NODES}
-use Rattle.gb_types.specs.declared.version.Version.{Version}
-use Rattle.gb_rules.specs.Group.{is_too_long}
-use Rattle.gb_types.specs.declared.node.NodeId.{NodeId}
+use Rattle.gb_types.specs.Common.{◌≡◌, ℕ, suc, zero, ◌+◌, ◌<◌, inl, inr, List, [], ◌∷◌, length, map, take, get_or, refl, sym, ap, ◌∙◌, arith, zero-add, Bool, true, false, not, cond, ltb, ◌&&◌, nat_lt, fold, is_some, Option, Some, None, option_map, slice_set, if◌then◌else◌, position_or_len, cases_Bool, cases_lt, lt-ltb, le-ltb, ltb-true, length-filter}
+use Rattle.gb_types.specs.declared.{address.Addr.Addr, limits.TheConstants.NODES, version.Version.Version, node.NodeId.NodeId}
+use Rattle.gb_rules.specs.Common.{is_too_long, is_addr, stepped, dropped, where_so}
 use Rattle.gb_frame.specs.declared.item.Item.{Item}
 use Rattle.gb_rules.proofs.AddressLemmas.{addr_is}
-use Rattle.gb_rules.specs.Address.{is_addr}
-use Rattle.gb_slot.specs.SlotState.{SlotState}
-use Rattle.gb_slot.specs.Slot.{slot_came, slot_took}
-use Rattle.gb_types.specs.declared.version.Version.{Version}
+use Rattle.gb_slot.specs.Common.{SlotState, slot_came, slot_took}
 use Rattle.gb_table.specs.SlotsValue.{Row, row_at, no_row, on_slot, gone, AreApart}
 use Rattle.gb_table.specs.GroupsValue.{GroupsValue, batch, packed}
 use Rattle.gb_table.specs.Packing.{Visit, visit, share, is_at, items, item_at, queue, gave}
 use Rattle.gb_table.specs.Fair.{is_of}
-use Rattle.gb_frame.specs.Items.{address_of, entry_of, names, items_for, item_for}
+use Rattle.gb_frame.specs.Common.{address_of, entry_of, names, items_for, item_for}
 use Rattle.gb_table.specs.AtAddress.{place_of, step_at, on_address, gone_at, drop_at, item_came}
-use Rattle.gb_rules.specs.Lifetime.{stepped, dropped, where_so}
 use Rattle.gb_table.specs.OneGroup.{slot_for, came_for, waiting_in}
 use Rattle.gb_table.proofs.AddressLemmas.{place_is, addr_through}
 use Rattle.gb_table.proofs.BatchLemmas.{get_or-gave}
 use Rattle.gb_table.proofs.FrontLemmas.{is_below, agree, filter-map, batch_below, batch_of, items_front}
 use Rattle.gb_table.proofs.TakingLemmas.{length-gave}
-use Rattle.gb_layer.specs.Lists.{same_filter, filter-never}
+use Rattle.gb_layer.specs.Common.{same_filter, filter-never}
 
 -- The group with an address is the first that has it.
 

@@ -1,25 +1,16 @@
 -- The number of other generations of a group's room that live.
-use Rattle.std.proofs.Common.{◌≡◌, ℕ, zero, suc, ◌+◌, ◌-◌, ◌<◌, ◌≤◌, List, [], ◌∷◌, ◌++◌, length, map, drop, take, get_or, refl, ap, sym, ◌∙◌, true, false, arith, inl, inr, zero-add}
-use Rattle.std.specs.Prelude.{◌⊎◌, ◌&&◌, Bool, not, nat_lt, fold, count_by, Option, Some, None, is_some, option_map, if◌then◌else◌}
-use Rattle.std.proofs.Math.ListN.{set}
-use Rattle.std.proofs.lemmas.Bool.{cases_Bool}
-use Rattle.gb_types.specs.declared.address.Addr.{Addr}
-use Rattle.gb_types.specs.declared.limits.TheConstants.{NODES}
-use Rattle.gb_types.specs.declared.node.NodeId.{NodeId}
-use Rattle.gb_types.specs.declared.version.Version.{Version}
+use Rattle.gb_types.specs.Common.{◌≡◌, ℕ, zero, suc, ◌+◌, ◌-◌, ◌<◌, ◌≤◌, List, [], ◌∷◌, ◌++◌, length, map, drop, take, get_or, refl, ap, sym, ◌∙◌, true, false, arith, inl, inr, zero-add, ◌⊎◌, ◌&&◌, Bool, not, nat_lt, fold, count_by, Option, Some, None, is_some, option_map, if◌then◌else◌, set, cases_Bool}
+use Rattle.gb_types.specs.declared.{address.Addr.Addr, limits.TheConstants.NODES, node.NodeId.NodeId, version.Version.Version}
 use Rattle.gb_frame.specs.declared.item.Item.{Item}
-use Rattle.gb_frame.specs.Items.{address_of, entry_of}
-use Rattle.gb_rules.specs.Address.{is_addr}
-use Rattle.gb_rules.specs.Group.{is_too_long}
-use Rattle.gb_rules.specs.Room.{is_other_generation, one_more, one_less}
+use Rattle.gb_frame.specs.Common.{address_of, entry_of}
+use Rattle.gb_rules.specs.Common.{is_addr, is_too_long, is_other_generation, one_more, one_less}
 use Rattle.gb_rules.proofs.AddressLemmas.{addr_is}
-use Rattle.gb_slot.specs.Slot.{slot_came, slot_took}
-use Rattle.gb_slot.specs.SlotState.{SlotState}
+use Rattle.gb_slot.specs.Common.{slot_came, slot_took, SlotState}
 use Rattle.gb_table.specs.SlotsValue.{Row, row_at, vacant, with_vacant, with_room, on_slot, gone}
 use Rattle.gb_table.specs.Packing.{Visit, gave, share, took}
 use Rattle.gb_table.specs.AtAddress.{place_of, on_address, drop_at, item_came}
 use Rattle.gb_table.specs.Rooms.{is_living_other, others_living}
-use Rattle.gb_layer.specs.Counts.{count_by-cons, count_by-map, count_by-grown}
+use Rattle.gb_layer.specs.Common.{count_by-cons, count_by-map, count_by-grown}
 use Rattle.gb_table.proofs.OneGroupLemmas.{first_with, changed, change_first, step_is, gone_is}
 
 abbrev flag : Bool → ℕ

@@ -1,39 +1,24 @@
 -- What steps leave unchanged: the node at which groups are, and the limit on the length of the messages that they know.
-use Rattle.std.proofs.Common.{◌≡◌, ◌≤◌, ℕ, List, map, refl, ap, sym, ◌∙◌, true, false, arith}
-use Rattle.std.specs.Prelude.{Bool, not, length, nat_eq, Option, Some, None, option_map, if◌then◌else◌}
+use Rattle.gb_types.specs.Common.{◌≡◌, ◌≤◌, ℕ, List, map, refl, ap, sym, ◌∙◌, true, false, arith, Bool, not, length, nat_eq, Option, Some, None, option_map, if◌then◌else◌, nat_cmp, set, set-get_or, message_of, limits_of}
 use Rattle.std.specs.FinSet as nodes
-use Rattle.std.specs.Ordering.{nat_cmp}
-use Rattle.std.proofs.Math.ListN.{set}
-use Rattle.std.proofs.lemmas.List.{set-get_or}
-use Rattle.gb_types.specs.Entry.{message_of}
-use Rattle.gb_types.specs.declared.address.Addr.{Addr}
-use Rattle.gb_types.specs.declared.entry.Entry.{Entry}
-use Rattle.gb_types.specs.declared.message.MsgId.{MsgId}
-use Rattle.gb_types.specs.declared.node.NodeId.{NodeId}
-use Rattle.gb_types.specs.declared.spec.Spec.{Spec}
-use Rattle.gb_types.specs.declared.version.Version.{Version}
-use Rattle.gb_types.specs.Version.{limits_of}
-use Rattle.gb_types.specs.declared.reply.Reply.{Reply}
+use Rattle.gb_types.specs.declared.{address.Addr.Addr, entry.Entry.Entry, message.MsgId.MsgId, node.NodeId.NodeId, spec.Spec.Spec, version.Version.Version, reply.Reply.Reply, new_message.NewMessage.NewMessage}
 use Rattle.gb_types.specs.declared.reply.Reply.TheVariants.{Done, Said, Log, Refused}
 use Rattle.gb_frame.specs.declared.item.Item.{Item}
 use Rattle.gb_layer.specs.declared.call.Call.TheVariants.{Came, Notice}
-use Rattle.gb_rules.specs.Messages.{with_new}
-use Rattle.gb_rules.specs.Group.{is_other, is_too_long, say_answer}
+use Rattle.gb_rules.specs.Common.{with_new, is_other, is_too_long, say_answer}
 use Rattle.gb_rules.proofs.LengthLemmas.{within_limit}
 use Rattle.gb_rules.specs.declared.phase.Phase.{Phase}
-use Rattle.gb_slot.specs.Slot.{falls, shown, slot_called, slot_moved, slot_said, slot_came, slot_noticed, slot_took, slot_done, new_slot, with_acknowledgement}
-use Rattle.gb_slot.specs.SlotState.{SlotState}
+use Rattle.gb_slot.specs.Common.{falls, shown, slot_called, slot_moved, slot_said, slot_came, slot_noticed, slot_took, slot_done, new_slot, with_acknowledgement, SlotState}
 use Rattle.gb_table.specs.SlotsValue.{Row, row_at, on_slot, no_row, IsShort, AreShort}
 use Rattle.gb_table.proofs.StepLemmas.{short-moved, short-came, short-noticed, short-done, short-took, short-own, said_fits}
 use Rattle.gb_table.specs.GroupsValue.{GroupsValue, made}
 use Rattle.gb_table.specs.Packing.{Visit, gave}
-use Rattle.gb_frame.specs.Items.{entry_of}
+use Rattle.gb_frame.specs.Common.{entry_of}
 use Rattle.gb_table.specs.AtAddress.{place_of, step_at, on_address, drop_at, item_came}
 use Rattle.gb_table.specs.OneGroup.{group_in, answer_in, group_reply}
 use Rattle.gb_table.specs.TableValue.{TableValue, with_rows, table_done}
 use Rattle.gb_table.specs.OwnNode.{IsOwn, AreOwn}
 use Rattle.gb_table.proofs.EachLemmas.{KeptBy, each_address, each_dropped, each_came, each_stepped, each_gave, each_made}
-use Rattle.gb_types.specs.declared.new_message.NewMessage.{NewMessage}
 
 -- what steps leave of a slot's node
 

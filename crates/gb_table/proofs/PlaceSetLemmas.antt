@@ -1,10 +1,5 @@
 -- Bits of words.
-use Rattle.std.proofs.Common.{◌≡◌, ℕ, zero, suc, replicate, drop, ◌+◌, ◌++◌, ◌-◌, ◌*◌, ◌/◌, ◌%◌, ◌^◌, ◌≤◌, ◌<◌, min, List, length, get_or, refl, ap, sym, ◌∙◌, arith, inl, inr, w64, bit_and}
-use Rattle.std.specs.Int.{bit_at, bit_not, trailing_zeros}
-use Rattle.std.specs.Prelude.{◌⊎◌}
-use Rattle.std.proofs.Math.ListN.{set}
-use Rattle.std.proofs.lemmas.Bool.{cases_lt, cases_eq}
-use Rattle.std.proofs.lemmas.List.{get_or_append_left, get_or-append_right, get_or-drop, get_or_past, get_or-set_same, get_or-set_other}
+use Rattle.gb_types.specs.Common.{◌≡◌, ℕ, zero, suc, replicate, drop, ◌+◌, ◌++◌, ◌-◌, ◌*◌, ◌/◌, ◌%◌, ◌^◌, ◌≤◌, ◌<◌, min, List, length, get_or, refl, ap, sym, ◌∙◌, arith, inl, inr, w64, bit_and, bit_at, bit_not, trailing_zeros, ◌⊎◌, set, cases_lt, cases_eq, get_or_append_left, get_or-append_right, get_or-drop, get_or_past, get_or-set_same, get_or-set_other}
 use Rattle.std.proofs.lemmas.Nat.{and_le_l}
 use Rattle.std.proofs.lemmas.Nat.Bits.{bit_at-zero, bit_at_and, bit_at-lt, bit_at_mask_inside, bit_at_mask_below, bit_at-trailing_zeros, bit_at_clear_same, bit_at_clear_other}
 use Rattle.gb_table.specs.PlaceSet.{has, IsNext, IsSummary}

@@ -1,20 +1,9 @@
 -- What the parts of a table's code yield together.
-use Rattle.std.proofs.Common.{◌≡◌, ℕ, List, refl, ap, sym, ◌∙◌, subst, true, false, inl, inr}
-use Rattle.std.specs.Prelude.{Bool, Option, Some, None, is_some, option_map, if◌then◌else◌}
-use Rattle.std.specs.Ordering.{nat_cmp}
+use Rattle.gb_types.specs.Common.{◌≡◌, ℕ, List, refl, ap, sym, ◌∙◌, subst, true, false, inl, inr, Bool, Option, Some, None, is_some, option_map, if◌then◌else◌, nat_cmp}
 use Rattle.std.specs.FinSet as set
-use Rattle.gb_types.specs.declared.address.Addr.{Addr}
-use Rattle.gb_types.specs.declared.refusal.Refusal.TheVariants.{Denied}
-use Rattle.gb_types.specs.declared.reply.Reply.{Reply}
+use Rattle.gb_types.specs.declared.{address.Addr.Addr, refusal.Refusal.TheVariants.Denied, reply.Reply.Reply, request.Request.Request, request.Action.Action, request.Action.TheVariants.Group, request.GroupCommand.TheVariants.Make, request.GroupCommand.TheVariants.Fetch, spec.Spec.Spec, spec.TenantRow.TenantRow}
 use Rattle.gb_types.specs.declared.reply.Reply.TheVariants.{Done, Said, Log, Refused}
-use Rattle.gb_types.specs.declared.request.Request.{Request}
-use Rattle.gb_types.specs.declared.request.Action.{Action}
-use Rattle.gb_types.specs.declared.request.Action.TheVariants.{Group}
-use Rattle.gb_types.specs.declared.request.GroupCommand.TheVariants.{Make, Fetch}
-use Rattle.gb_types.specs.declared.spec.Spec.{Spec}
-use Rattle.gb_types.specs.declared.spec.TenantRow.{TenantRow}
-use Rattle.gb_rules.specs.Replied.{IsReply}
-use Rattle.gb_rules.specs.Tenant.{row_of, reserve_of, make_answer, by_tenant}
+use Rattle.gb_rules.specs.Common.{IsReply, row_of, reserve_of, make_answer, by_tenant}
 use Rattle.gb_rules.specs.declared.reserve.Reserve.{Reserve}
 use Rattle.gb_table.specs.OneGroup.{group_in}
 use Rattle.gb_table.specs.Rooms.{others_living}

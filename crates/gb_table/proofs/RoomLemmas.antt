@@ -1,15 +1,9 @@
 -- Rooms and their places.
-use Rattle.std.proofs.Common.{◌≡◌, ℕ, zero, suc, ◌+◌, ◌<◌, ◌≤◌, List, [], ◌∷◌, length, drop, get_or, refl, ap, sym, ◌∙◌, true, false, arith, inl, inr}
-use Rattle.std.specs.Prelude.{Bool, cond, not, nat_le, Option, Some, None, is_some, if◌then◌else◌}
-use Rattle.std.specs.List.{position_or_len}
-use Rattle.std.proofs.lemmas.Bool.{cases_Bool}
-use Rattle.std.proofs.lemmas.Bool.Decides.{nat_tests}
-use Rattle.std.proofs.lemmas.List.{get_or-drop, length-drop}
+use Rattle.gb_types.specs.Common.{◌≡◌, ℕ, zero, suc, ◌+◌, ◌<◌, ◌≤◌, List, [], ◌∷◌, length, drop, get_or, refl, ap, sym, ◌∙◌, true, false, arith, inl, inr, Bool, cond, not, nat_le, Option, Some, None, is_some, if◌then◌else◌, position_or_len, cases_Bool, nat_tests, get_or-drop, length-drop}
 use Rattle.gb_types.specs.declared.address.Addr.{Addr}
-use Rattle.gb_rules.specs.Address.{is_addr}
-use Rattle.gb_rules.specs.Room.{name_of, is_same_room}
+use Rattle.gb_rules.specs.Common.{is_addr, name_of, is_same_room}
 use Rattle.gb_rules.proofs.AddressLemmas.{addr_is, addr_same}
-use Rattle.gb_slot.specs.SlotState.{SlotState}
+use Rattle.gb_slot.specs.Common.{SlotState}
 use Rattle.gb_table.specs.SlotsValue.{Row, row_at, no_row}
 use Rattle.gb_table.specs.Rooms.{rank_from, rank_of, is_passed, with_made, first_free}
 

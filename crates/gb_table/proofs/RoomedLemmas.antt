@@ -1,14 +1,9 @@
 -- The places of a new room change nothing for the groups that are here.
-use Rattle.std.proofs.Common.{◌≡◌, ℕ, ◌≤◌, List, [], ◌∷◌, length, refl, ap, sym, ◌∙◌, subst, arith, inl, inr, length-append}
-use Rattle.std.specs.Prelude.{nat_lt, None, map, if◌then◌else◌}
-use Rattle.std.proofs.lemmas.Bool.{cases_Bool, cases_lt}
-use Rattle.std.proofs.lemmas.List.{get_or_past}
+use Rattle.gb_types.specs.Common.{◌≡◌, ℕ, ◌≤◌, List, [], ◌∷◌, length, refl, ap, sym, ◌∙◌, subst, arith, inl, inr, length-append, nat_lt, None, map, if◌then◌else◌, cases_Bool, cases_lt, get_or_past}
 use Rattle.slab.specs.Slab.{Slab, get}
-use Rattle.gb_types.specs.declared.address.Addr.{Addr}
-use Rattle.gb_types.specs.declared.limits.TheConstants.{PLACES}
-use Rattle.gb_slot.specs.SlotState.{SlotState}
-use Rattle.gb_table.specs.declared.places.Place.{Place}
-use Rattle.gb_table.specs.declared.places.Place.TheVariants.{Key, Gone}
+use Rattle.gb_types.specs.declared.{address.Addr.Addr, limits.TheConstants.PLACES}
+use Rattle.gb_slot.specs.Common.{SlotState}
+use Rattle.gb_table.specs.declared.{places.Place.Place, places.Place.TheVariants.Key, places.Place.TheVariants.Gone}
 use Rattle.gb_table.specs.GroupsValue.{ArePlaces, IsIndex}
 use Rattle.gb_table.specs.Members.{AreMemberships}
 use Rattle.gb_table.specs.Places.{row_of, place_at, slot_under, AreKept}

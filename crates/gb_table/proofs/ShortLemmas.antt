@@ -1,22 +1,11 @@
 -- If there is room for the longest message, a batch without items means that nothing waits. The items of a batch are no longer than the messages
 -- of the groups.
-use Rattle.std.proofs.Common.{◌≡◌, ℕ, zero, suc, ◌<◌, ◌≤◌, List, [], ◌∷◌, length, map, Option, Some, None, refl, sym, ap, ◌∙◌, arith}
-use Rattle.std.specs.Prelude.{Bool, true, false, ◌-◌, ◌&&◌, not, cond, ltb, nat_le, drop, filter, option_map, slice_get, if◌then◌else◌}
+use Rattle.gb_types.specs.Common.{◌≡◌, ℕ, zero, suc, ◌<◌, ◌≤◌, List, [], ◌∷◌, length, map, Option, Some, None, refl, sym, ap, ◌∙◌, arith, Bool, true, false, ◌-◌, ◌&&◌, not, cond, ltb, nat_le, drop, filter, option_map, slice_get, if◌then◌else◌, All, AllByRecursion, All-from_recursion, eq-eqb, ltb-true, le-ltb, le-leb, leb-true, get_or_default}
 use Rattle.std.specs.FinSet as nodes
-use Rattle.std.specs.List.{All, AllByRecursion}
-use Rattle.std.proofs.lemmas.List.Elements.{All-from_recursion}
-use Rattle.std.proofs.Common.{eq-eqb}
-use Rattle.std.proofs.lemmas.Bool.{ltb-true, le-ltb, le-leb, leb-true}
-use Rattle.std.proofs.lemmas.List.{get_or_default}
-use Rattle.gb_types.specs.declared.entry.Entry.{Entry}
-use Rattle.gb_types.specs.declared.limits.TheConstants.{PAYLOAD}
-use Rattle.gb_types.specs.declared.message.MsgId.{MsgId}
+use Rattle.gb_types.specs.declared.{entry.Entry.Entry, limits.TheConstants.PAYLOAD, message.MsgId.MsgId, version.Version.Version}
 use Rattle.gb_frame.specs.declared.item.Item.{Item}
-use Rattle.gb_rules.specs.Messages.{payload_in, entry_in}
-use Rattle.gb_rules.specs.Group.{is_other}
-use Rattle.gb_slot.specs.Slot.{taken_for}
-use Rattle.gb_slot.specs.SlotState.{SlotState}
-use Rattle.gb_types.specs.declared.version.Version.{Version}
+use Rattle.gb_rules.specs.Common.{payload_in, entry_in, is_other}
+use Rattle.gb_slot.specs.Common.{taken_for, SlotState}
 use Rattle.gb_table.specs.SlotsValue.{Row, row_at, no_row, IsShort, AreShort}
 use Rattle.gb_table.specs.GroupsValue.{GroupsValue, cursor_for, walk_to, batch}
 use Rattle.gb_table.specs.Packing.{Visit, visit, placed, fit, size, is_at, queue, queue_of, queues, items}

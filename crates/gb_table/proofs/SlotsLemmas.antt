@@ -1,19 +1,13 @@
 -- A write under one key changes one group.
-use Rattle.std.proofs.Common.{◌≡◌, ℕ, zero, suc, ◌<◌, ◌≤◌, List, [], ◌∷◌, length, map, get_or, refl, ap, sym, ◌∙◌, subst, arith, inl, inr}
-use Rattle.std.specs.List.{position_or_len}
-use Rattle.std.specs.Prelude.{Bool, cond, not, nat_lt, ◌+◌, Option, Some, None, IsSome, IfSome, option_map, option_copied, position}
+use Rattle.gb_types.specs.Common.{◌≡◌, ℕ, zero, suc, ◌<◌, ◌≤◌, List, [], ◌∷◌, length, map, get_or, refl, ap, sym, ◌∙◌, subst, arith, inl, inr, position_or_len, Bool, cond, not, nat_lt, ◌+◌, Option, Some, None, IsSome, IfSome, option_map, option_copied, position, set, cases_lt, cases_eq, get_or-set_same, get_or-set_other, get_or_past, length-map, length-set}
 use Rattle.std.specs.Borrow.{Bor}
-use Rattle.std.proofs.Math.ListN.{set, get_or-map}
-use Rattle.std.proofs.lemmas.Bool.{cases_lt, cases_eq}
-use Rattle.std.proofs.lemmas.List.{get_or-set_same, get_or-set_other, get_or_past, length-map, length-set}
+use Rattle.std.proofs.Math.ListN.{get_or-map}
 use Rattle.std.specs.Map.{keys_of}
 use Rattle.slab.specs.Slab.{Slab, get, with_value}
-use Rattle.gb_rules.specs.Address.{is_addr}
-use Rattle.gb_types.specs.declared.address.Addr.{Addr}
-use Rattle.gb_types.specs.declared.limits.TheConstants.{NODES, PAYLOAD}
-use Rattle.gb_slot.specs.SlotState.{SlotState}
-use Rattle.gb_table.specs.declared.places.Place.{Place}
-use Rattle.gb_table.specs.declared.places.Place.TheVariants.{Key, Gone}
+use Rattle.gb_rules.specs.Common.{is_addr}
+use Rattle.gb_types.specs.declared.{address.Addr.Addr, limits.TheConstants.NODES, limits.TheConstants.PAYLOAD}
+use Rattle.gb_slot.specs.Common.{SlotState}
+use Rattle.gb_table.specs.declared.{places.Place.Place, places.Place.TheVariants.Key, places.Place.TheVariants.Gone}
 use Rattle.gb_table.specs.SlotsValue.{Row, row_at, on_slot, counters, counters_of, HaveCounters, IsShort, AreShort, no_row}
 use Rattle.gb_table.specs.Places.{slot_under, row_of, place_at, AreKept}
 

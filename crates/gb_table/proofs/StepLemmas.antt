@@ -1,30 +1,14 @@
 -- Steps keep the counters of a slot and the limit on its payloads.
-use Rattle.std.proofs.Common.{◌≡◌, ℕ, zero, suc, ◌≤◌, map, drop, subst, List, [], ◌∷◌, ◌++◌, length, get_or, true, false, refl, ap, sym, ◌∙◌, arith, inl, inr}
-use Rattle.std.proofs.Math.ListN.{set}
-use Rattle.std.proofs.lemmas.Bool.{cases_eq, cases_lt}
-use Rattle.std.proofs.lemmas.List.{get_or_past, get_or-set_same, get_or-set_other, length-set}
-use Rattle.std.proofs.lemmas.Option.{get_or_from_slice_get}
+use Rattle.gb_types.specs.Common.{◌≡◌, ℕ, zero, suc, ◌≤◌, map, drop, subst, List, [], ◌∷◌, ◌++◌, length, get_or, true, false, refl, ap, sym, ◌∙◌, arith, inl, inr, set, cases_eq, cases_lt, get_or_past, get_or-set_same, get_or-set_other, length-set, get_or_from_slice_get, Option, if◌then◌else◌, ◌&&◌, not, Some, None, option_map, slice_get, message_of, same, limits_of}
 use Rattle.std.specs.FinSet as nodes
-use Rattle.std.specs.Prelude.{Option, if◌then◌else◌, ◌&&◌, not, Some, None, option_map, slice_get}
-use Rattle.gb_types.specs.declared.address.Addr.{Addr}
-use Rattle.gb_types.specs.Entry.{message_of}
-use Rattle.gb_types.specs.declared.entry.Entry.{Entry}
-use Rattle.gb_types.specs.Message.{same}
-use Rattle.gb_types.specs.declared.message.MsgId.{MsgId}
-use Rattle.gb_types.specs.declared.node.NodeId.{NodeId}
-use Rattle.gb_types.specs.declared.reply.Reply.{Reply}
+use Rattle.gb_types.specs.declared.{address.Addr.Addr, entry.Entry.Entry, message.MsgId.MsgId, node.NodeId.NodeId, reply.Reply.Reply, version.Version.Version, new_message.NewMessage.NewMessage}
 use Rattle.gb_types.specs.declared.reply.Reply.TheVariants.{Done, Said, Log, Refused}
-use Rattle.gb_types.specs.declared.version.Version.{Version}
-use Rattle.gb_types.specs.Version.{limits_of}
 use Rattle.gb_layer.specs.declared.call.Call.TheVariants.{Came, Notice}
-use Rattle.gb_rules.specs.Messages.{has, payload_in, entry_in, with_new}
-use Rattle.gb_rules.specs.Group.{Shown, is_other, say_answer}
+use Rattle.gb_rules.specs.Common.{has, payload_in, entry_in, with_new, Shown, is_other, say_answer}
 use Rattle.gb_rules.specs.declared.phase.Phase.{Phase}
-use Rattle.gb_slot.specs.Slot.{falls, own_entry, shown, waiting, taken_for, slot_called, slot_moved, slot_said, slot_came, slot_noticed, slot_done, slot_took}
-use Rattle.gb_slot.specs.SlotState.{SlotState}
+use Rattle.gb_slot.specs.Common.{falls, own_entry, shown, waiting, taken_for, slot_called, slot_moved, slot_said, slot_came, slot_noticed, slot_done, slot_took, SlotState}
 use Rattle.gb_table.specs.Packing.{queue, queue_of}
 use Rattle.gb_table.specs.SlotsValue.{Row, row_at, no_row, IsShort, IsNamed, AreNamed, on_slot}
-use Rattle.gb_types.specs.declared.new_message.NewMessage.{NewMessage}
 use Rattle.gb_rules.proofs.LengthLemmas.{within_limit}
 use Rattle.gb_rules.proofs.SayLemmas.{said_is}
 

@@ -1,17 +1,9 @@
 -- A step of the slot at a place, among all that a node's groups keep.
-use Rattle.std.proofs.Common.{◌≡◌, ◌≢◌, ℕ, ◌<◌, ◌≤◌, min, List, refl, length, map, get_or, ap, sym, subst, ◌∙◌, true, false, arith}
-use Rattle.std.specs.Prelude.{Some, None, is_some}
-use Rattle.std.proofs.Math.ListN.{set}
-use Rattle.std.proofs.lemmas.List.{length-map, length-set}
-use Rattle.std.proofs.Math.Seq.{map-set_same}
+use Rattle.gb_types.specs.Common.{◌≡◌, ◌≢◌, ℕ, ◌<◌, ◌≤◌, min, List, refl, length, map, get_or, ap, sym, subst, ◌∙◌, true, false, arith, Some, None, is_some, set, length-map, length-set, map-set_same, limits_are_within}
 use Rattle.slab.specs.Slab.{get, with_value}
-use Rattle.gb_types.specs.declared.address.Addr.{Addr}
-use Rattle.gb_types.specs.declared.limits.TheConstants.{NODES, PAYLOAD}
-use Rattle.gb_slot.specs.SlotState.{SlotState}
-use Rattle.gb_slot.specs.StandsFor.{reaches}
-use Rattle.gb_slot.specs.Waiting.{WaitsForEach}
-use Rattle.gb_table.specs.declared.groups.Groups.TheInside.{Inside}
-use Rattle.gb_table.specs.declared.places.Place.TheVariants.{Key, Gone}
+use Rattle.gb_types.specs.declared.{address.Addr.Addr, limits.TheConstants.NODES, limits.TheConstants.PAYLOAD, entry.Entry.Entry, message.MsgId.MsgId, new_message.NewMessage.NewMessage, node.NodeId.NodeId, reply.Reply.Reply, version.Version.Version}
+use Rattle.gb_slot.specs.Common.{SlotState, reaches, WaitsForEach, shown, slot_came, slot_done, slot_moved, slot_noticed, slot_said, slot_took}
+use Rattle.gb_table.specs.declared.{groups.Groups.TheInside.Inside, places.Place.TheVariants.Key, places.Place.TheVariants.Gone}
 use Rattle.gb_table.specs.SlotsValue.{Row, row_at, no_row, on_slot, IsShort}
 use Rattle.gb_table.specs.Places.{slot_under, row_of, place_at, groups_of, AreKept, AreIndexed, AreGroups}
 use Rattle.gb_table.specs.GroupsValue.{GroupsValue, IsIndex, cursor_for}
@@ -20,16 +12,8 @@ use Rattle.gb_table.specs.Covered.{HaveWord, AreCovered}
 use Rattle.gb_table.specs.Packing.{queue, queue_of, took}
 use Rattle.gb_table.specs.PlaceSet.{has}
 use Rattle.gb_table.specs.AtAddress.{place_of, living_place, step_at, on_address, OthersKept}
-use Rattle.gb_types.specs.Version.{limits_are_within}
-use Rattle.gb_types.specs.declared.entry.Entry.{Entry}
-use Rattle.gb_types.specs.declared.message.MsgId.{MsgId}
-use Rattle.gb_types.specs.declared.new_message.NewMessage.{NewMessage}
-use Rattle.gb_types.specs.declared.node.NodeId.{NodeId}
-use Rattle.gb_types.specs.declared.reply.Reply.{Reply}
-use Rattle.gb_types.specs.declared.version.Version.{Version}
-use Rattle.gb_rules.specs.Group.{say_answer}
+use Rattle.gb_rules.specs.Common.{say_answer}
 use Rattle.gb_rules.specs.declared.phase.Phase.{Phase}
-use Rattle.gb_slot.specs.Slot.{shown, slot_came, slot_done, slot_moved, slot_noticed, slot_said, slot_took}
 use Rattle.gb_slot.proofs.SpecLemmas.{spec-came, spec-moved, spec-noticed, spec-said}
 use Rattle.gb_table.proofs.AddLemmas.{not_free}
 use Rattle.gb_table.proofs.StepLemmas.{taken-came, taken-done, taken-moved, taken-noticed, taken-said, short-came, short-done, short-moved, short-noticed, short-said, short-took}

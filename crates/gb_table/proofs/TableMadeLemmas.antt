@@ -1,15 +1,7 @@
 -- The rooms after a group was made.
-use Rattle.std.proofs.Common.{◌≡◌, ℕ, zero, suc, ◌≤◌, ◌<◌, List, [], ◌∷◌, length, refl, ap, sym, ◌∙◌, true, false, arith, inl, inr}
-use Rattle.std.specs.Prelude.{Bool, cond, Some, count_by, All, if◌then◌else◌}
-use Rattle.std.proofs.lemmas.Bool.{cases_Bool}
-use Rattle.std.proofs.lemmas.List.{length-map}
-use Rattle.std.proofs.lemmas.List.Elements.{All-cons}
-use Rattle.std.proofs.lemmas.List.Sums.{sum_by-cons}
-use Rattle.gb_types.specs.declared.address.Addr.{Addr}
-use Rattle.gb_types.specs.declared.spec.TenantRow.{TenantRow}
-use Rattle.gb_rules.specs.Address.{is_addr}
-use Rattle.gb_rules.specs.Room.{name_of}
-use Rattle.gb_rules.specs.Tenant.{row_of}
+use Rattle.gb_types.specs.Common.{◌≡◌, ℕ, zero, suc, ◌≤◌, ◌<◌, List, [], ◌∷◌, length, refl, ap, sym, ◌∙◌, true, false, arith, inl, inr, Bool, cond, Some, count_by, All, if◌then◌else◌, cases_Bool, length-map, All-cons, sum_by-cons}
+use Rattle.gb_types.specs.declared.{address.Addr.Addr, spec.TenantRow.TenantRow}
+use Rattle.gb_rules.specs.Common.{is_addr, name_of, row_of}
 use Rattle.gb_rules.specs.declared.room.TheConstants.{ROOMS}
 use Rattle.gb_rules.proofs.AddressLemmas.{addr_is}
 use Rattle.gb_table.specs.Rooms.{with_made}

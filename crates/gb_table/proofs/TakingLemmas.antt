@@ -1,16 +1,8 @@
 -- One item is taken.
-use Rattle.std.proofs.Common.{◌≡◌, ℕ, suc, zero, ◌+◌, ◌-◌, ◌≤◌, ◌<◌, ◌≢◌, List, [], ◌∷◌, ◌++◌, length, take, drop, get_or, refl, ap, sym, ◌∙◌, zero-add, add-zero, eq-eqb, arith, drop-cons, inl, inr}
-use Rattle.std.specs.Prelude.{◌&&◌, not, true, false, cond, Option, Some, None, option_map, map, if◌then◌else◌}
+use Rattle.gb_types.specs.Common.{◌≡◌, ℕ, suc, zero, ◌+◌, ◌-◌, ◌≤◌, ◌<◌, ◌≢◌, List, [], ◌∷◌, ◌++◌, length, take, drop, get_or, refl, ap, sym, ◌∙◌, zero-add, add-zero, eq-eqb, arith, drop-cons, inl, inr, ◌&&◌, not, true, false, cond, Option, Some, None, option_map, map, if◌then◌else◌, set, map-set, length-set, drop-drop, drop-map, take_more, drop_all, set-get_or, set-set, get_or-set_same, get_or-set_other, set_past, sum_by-append, slice_get-get_or, slice_get_past, cases_lt, ne_eqb}
 use Rattle.std.specs.FinSet as nodes
-use Rattle.gb_rules.specs.Group.{is_other}
-use Rattle.gb_rules.specs.Messages.{entry_in}
-use Rattle.gb_slot.specs.Slot.{waiting, taken_for, slot_took}
-use Rattle.gb_slot.specs.SlotState.{SlotState}
-use Rattle.std.proofs.Math.ListN.{set}
-use Rattle.std.proofs.lemmas.List.{map-set, length-set, drop-drop, drop-map, take_more, drop_all, set-get_or, set-set, get_or-set_same, get_or-set_other, set_past}
-use Rattle.std.proofs.lemmas.List.Sums.{sum_by-append}
-use Rattle.std.proofs.lemmas.Option.{slice_get-get_or, slice_get_past}
-use Rattle.std.proofs.lemmas.Bool.{cases_lt, ne_eqb}
+use Rattle.gb_rules.specs.Common.{is_other, entry_in}
+use Rattle.gb_slot.specs.Common.{waiting, taken_for, slot_took, SlotState}
 use Rattle.gb_types.specs.declared.entry.Entry.{Entry}
 use Rattle.gb_table.specs.SlotsValue.{Row, counters, counters_of, no_entry}
 use Rattle.gb_table.specs.Packing.{Visit, visit, walk, queue, queue_of, queues, took, gave, first_place, is_at, share, next_place, after_last, new_cursor, room_after}

@@ -1,28 +1,14 @@
 -- The rows of tenants, in their map and in the rules.
-use Rattle.std.proofs.Common.{◌≡◌, ℕ, zero, suc, ◌+◌, ◌≤◌, ◌<◌, List, [], ◌∷◌, ◌++◌, get_or, refl, ap, sym, ◌∙◌, subst, true, false, arith, inl, inr, eq-eqb, eqb-true}
-use Rattle.std.specs.Prelude.{Bool, cond, not, ◌||◌, nat_lt, nat_le, nat_eq, Option, Some, None, All, bytes_eq, option_map, if◌then◌else◌}
-use Rattle.std.specs.List.{list_all}
+use Rattle.gb_types.specs.Common.{◌≡◌, ℕ, zero, suc, ◌+◌, ◌≤◌, ◌<◌, List, [], ◌∷◌, ◌++◌, get_or, refl, ap, sym, ◌∙◌, subst, true, false, arith, inl, inr, eq-eqb, eqb-true, Bool, cond, not, ◌||◌, nat_lt, nat_le, nat_eq, Option, Some, None, All, bytes_eq, option_map, if◌then◌else◌, list_all, cases_Bool, cases_eq, ltb-false, leb-false, ne_eqb, map-append, All-push, sum_by-append}
 use Rattle.std.specs.FinSet as set
 use Rattle.std.specs.Map.{lookup}
-use Rattle.std.proofs.lemmas.Bool.{cases_Bool, cases_eq, ltb-false, leb-false, ne_eqb}
-use Rattle.std.proofs.lemmas.List.{map-append}
-use Rattle.std.proofs.lemmas.List.Elements.{All-push}
-use Rattle.std.proofs.lemmas.List.Sums.{sum_by-append}
 use Rattle.indexmap.specs.IndexMap.{insert_entry}
-use Rattle.gb_types.specs.declared.address.Addr.{Addr}
+use Rattle.gb_types.specs.declared.{address.Addr.Addr, reply.Reply.TheVariants.Done, reply.Reply.TheVariants.Refused, spec.Spec.Spec, spec.TenantRow.TenantRow, version.Version.Version, node.NodeId.NodeId}
 use Rattle.gb_types.specs.declared.limits.TheConstants.{GROUPS, MESSAGES, BYTES, WINDOW}
 use Rattle.gb_types.specs.declared.refusal.Refusal.TheVariants.{OverReserve, TenantThere, NoRoom, NoGroup, Spent, BadMembers}
-use Rattle.gb_types.specs.declared.reply.Reply.TheVariants.{Done, Refused}
-use Rattle.gb_types.specs.declared.spec.Spec.{Spec}
-use Rattle.gb_types.specs.declared.spec.TenantRow.{TenantRow}
-use Rattle.gb_types.specs.declared.version.Version.{Version}
-use Rattle.gb_rules.specs.Group.{is_member}
-use Rattle.gb_rules.specs.Room.{can_name}
-use Rattle.gb_rules.specs.Tenant.{is_over_limits, is_over, row_of, reserve_of, reserved, tenant_answer, make_answer}
-use Rattle.gb_rules.specs.declared.room.TheConstants.{GENERATIONS}
-use Rattle.gb_rules.specs.declared.reserve.Reserve.{Reserve}
-use Rattle.gb_slot.specs.Slot.{IsWithinLimits}
-use Rattle.gb_types.specs.declared.node.NodeId.{NodeId}
+use Rattle.gb_rules.specs.Common.{is_member, can_name, is_over_limits, is_over, row_of, reserve_of, reserved, tenant_answer, make_answer}
+use Rattle.gb_rules.specs.declared.{room.TheConstants.GENERATIONS, reserve.Reserve.Reserve}
+use Rattle.gb_slot.specs.Common.{IsWithinLimits}
 use Rattle.gb_types.proofs.BoolLemmas.{or_sides}
 use Rattle.gb_cap.specs.Token.{token_of}
 use Rattle.gb_cap.specs.declared.token.Need.TheVariants.{Member}

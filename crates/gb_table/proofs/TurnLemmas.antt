@@ -1,6 +1,5 @@
 -- One turn of the walk.
-use Rattle.std.proofs.Common.{◌≡◌, ℕ, suc, zero, ◌+◌, ◌-◌, ◌≤◌, max, List, [], ◌∷◌, ◌++◌, length, take, drop, refl, ap, sym, ◌∙◌, append_assoc, zero-add, arith}
-use Rattle.std.proofs.lemmas.List.{map-append, append-nil}
+use Rattle.gb_types.specs.Common.{◌≡◌, ℕ, suc, zero, ◌+◌, ◌-◌, ◌≤◌, max, List, [], ◌∷◌, ◌++◌, length, take, drop, refl, ap, sym, ◌∙◌, append_assoc, zero-add, arith, map-append, append-nil}
 use Rattle.gb_table.specs.Turns.{heads, rounds, longest, in_turns, tails}
 
 pub heads-append : {A : Type 0} (qs rs : List (List A)) → heads (qs ++ rs) ≡ heads qs ++ heads rs

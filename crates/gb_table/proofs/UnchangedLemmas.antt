@@ -1,19 +1,11 @@
 -- Steps that change none of the waiting items.
-use Rattle.std.proofs.Common.{◌≡◌, ℕ, List, refl, ap, [], map, drop, true, false, arith}
-use Rattle.std.proofs.lemmas.List.{drop_all}
+use Rattle.gb_types.specs.Common.{◌≡◌, ℕ, List, refl, ap, [], map, drop, true, false, arith, drop_all, nat_cmp, ◌&&◌, not, if◌then◌else◌, Option, Some, None, option_map}
 use Rattle.std.specs.FinSet as nodes
-use Rattle.std.specs.Ordering.{nat_cmp}
-use Rattle.gb_types.specs.declared.reply.Reply.{Reply}
+use Rattle.gb_types.specs.declared.{reply.Reply.Reply, spec.Spec.Spec, message.MsgId.MsgId, node.NodeId.NodeId}
 use Rattle.gb_types.specs.declared.reply.Reply.TheVariants.{Done, Said, Log, Refused}
-use Rattle.gb_types.specs.declared.spec.Spec.{Spec}
-use Rattle.gb_rules.specs.Group.{is_other}
+use Rattle.gb_rules.specs.Common.{is_other, entry_in}
 use Rattle.gb_rules.specs.declared.phase.Phase.{Phase}
-use Rattle.gb_rules.specs.Messages.{entry_in}
-use Rattle.std.specs.Prelude.{◌&&◌, not, if◌then◌else◌, Option, Some, None, option_map}
-use Rattle.gb_types.specs.declared.message.MsgId.{MsgId}
-use Rattle.gb_types.specs.declared.node.NodeId.{NodeId}
-use Rattle.gb_slot.specs.Slot.{slot_done, slot_moved, slot_said, new_slot, waiting, taken_for}
-use Rattle.gb_slot.specs.SlotState.{SlotState}
+use Rattle.gb_slot.specs.Common.{slot_done, slot_moved, slot_said, new_slot, waiting, taken_for, SlotState}
 use Rattle.gb_table.specs.SlotsValue.{Row, on_slot}
 use Rattle.gb_table.specs.Packing.{queue, queue_of}
 

@@ -1,9 +1,5 @@
 -- The walk, place by place.
-use Rattle.std.proofs.Common.{◌≡◌, ℕ, suc, zero, ◌+◌, ◌≤◌, ◌<◌, List, [], ◌∷◌, ◌++◌, length, map, take, drop, get_or, refl, ap, sym, ◌∙◌, append_assoc, arith, drop-cons}
-use Rattle.std.proofs.Math.ListN.{set}
-use Rattle.std.proofs.Math.Seq.{take-suc-set}
-use Rattle.std.proofs.lemmas.List.{append-nil, drop-set-lt, length-map, get_or_past, set-get_or, get_or-drop, drop_all, take_all}
-use Rattle.std.specs.Prelude.{Some}
+use Rattle.gb_types.specs.Common.{◌≡◌, ℕ, suc, zero, ◌+◌, ◌≤◌, ◌<◌, List, [], ◌∷◌, ◌++◌, length, map, take, drop, get_or, refl, ap, sym, ◌∙◌, append_assoc, arith, drop-cons, set, take-suc-set, append-nil, drop-set-lt, length-map, get_or_past, set-get_or, get_or-drop, drop_all, take_all, Some}
 use Rattle.gb_table.specs.Turns.{rounds, longest, in_turns}
 use Rattle.gb_types.specs.declared.entry.Entry.{Entry}
 use Rattle.gb_table.specs.SlotsValue.{Row, no_entry}

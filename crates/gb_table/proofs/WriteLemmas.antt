@@ -1,22 +1,14 @@
 -- The texts of a batch's items, written one after another.
-use Rattle.std.proofs.Common.{◌≡◌, ℕ, ◌+◌, ◌≤◌, ◌<◌, List, [], ◌∷◌, ◌++◌, length, take, get_or, ap, sym, ◌∙◌, subst, append_assoc, arith}
-use Rattle.std.specs.Prelude.{sum_by, All}
-use Rattle.std.proofs.lemmas.List.{map-append, append-nil, take_more, take-take}
+use Rattle.gb_types.specs.Common.{◌≡◌, ℕ, ◌+◌, ◌≤◌, ◌<◌, List, [], ◌∷◌, ◌++◌, length, take, get_or, ap, sym, ◌∙◌, subst, append_assoc, arith, sum_by, All, map-append, append-nil, take_more, take-take, All-push, sum_by-append, sum_by-take-le, limits_of}
 use Rattle.std.proofs.lemmas.List.Concat.{flat_map-append}
-use Rattle.std.proofs.lemmas.List.Elements.{All-push}
-use Rattle.std.proofs.lemmas.List.Sums.{sum_by-append, sum_by-take-le}
-use Rattle.gb_types.specs.declared.address.Addr.{Addr}
-use Rattle.gb_types.specs.declared.entry.Entry.{Entry}
+use Rattle.gb_types.specs.declared.{address.Addr.Addr, entry.Entry.Entry, version.Version.Version}
 use Rattle.gb_frame.specs.declared.item.Item.{Item}
-use Rattle.gb_frame.specs.Spelling.{item_text, items_text, IsItem}
-use Rattle.gb_types.specs.Version.{limits_of}
-use Rattle.gb_types.specs.declared.version.Version.{Version}
+use Rattle.gb_frame.specs.Common.{item_text, items_text, IsItem, item_for}
 use Rattle.gb_table.specs.SlotsValue.{Row, row_at, no_row}
 use Rattle.gb_table.specs.Packing.{Visit, visit, size, gave, item_of, item_at, items}
 use Rattle.gb_table.proofs.WalkLemmas.{nowhere}
 use Rattle.gb_table.proofs.BatchLemmas.{get_or-gave}
 use Rattle.gb_table.proofs.TakingLemmas.{length-gave}
-use Rattle.gb_frame.specs.Items.{item_for}
 
 -- the bytes of one item more
 pub sum-more : (version : Version) (k : ℕ) (vs : List Visit) → k < length vs → sum_by (size version) (take (k + 1) vs) ≡ sum_by (size version) (take k vs) + size version (get_or vs k nowhere)

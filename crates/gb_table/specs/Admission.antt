@@ -1,17 +1,10 @@
 -- Which token a request needs: a predicate over keys, tenants' rows and the node that is asked.
 use Rattle.std.specs.Prelude.{ℕ, Bool, false, List, bytes_eq, Option, Some, None}
-use Rattle.gb_types.specs.declared.node.NodeId.{NodeId}
-use Rattle.gb_types.specs.declared.address.Addr.{Addr}
-use Rattle.gb_types.specs.declared.request.Action.{Action}
-use Rattle.gb_types.specs.declared.request.Action.TheVariants.{AddTenant, Group}
-use Rattle.gb_types.specs.declared.request.GroupCommand.{GroupCommand}
-use Rattle.gb_types.specs.declared.request.GroupCommand.TheVariants.{Say, Fetch}
-use Rattle.gb_types.specs.declared.request.Request.{Request}
-use Rattle.gb_types.specs.declared.spec.TenantRow.{TenantRow}
+use Rattle.gb_types.specs.declared.{node.NodeId.NodeId, address.Addr.Addr, request.Action.Action, request.Action.TheVariants.AddTenant, request.Action.TheVariants.Group, request.GroupCommand.GroupCommand, request.GroupCommand.TheVariants.Say, request.GroupCommand.TheVariants.Fetch, request.Request.Request, spec.TenantRow.TenantRow}
 use Rattle.gb_cap.specs.Token.{token_of}
 use Rattle.gb_cap.specs.declared.token.Need.{Need}
 use Rattle.gb_cap.specs.declared.token.Need.TheVariants.{Admin, Tenant, Member}
-use Rattle.gb_rules.specs.Tenant.{row_of}
+use Rattle.gb_rules.specs.Common.{row_of}
 
 -- the token is the one for the need under the key
 abbrev pub is_token : List ℕ → Need → List ℕ → Bool

@@ -1,9 +1,8 @@
 -- A walk that takes nothing: what is left after a number of visits.
 use Rattle.std.specs.Prelude.{ℕ, suc, ◌+◌, ◌-◌, ◌≡◌, ◌<◌, ◌≤◌, min, List, [], ◌∷◌, length, drop, slice_index_or}
-use Rattle.gb_types.specs.declared.entry.Entry.{Entry}
+use Rattle.gb_types.specs.declared.{entry.Entry.Entry, limits.TheConstants.PLACES}
 use Rattle.gb_table.specs.SlotsValue.{Row}
 use Rattle.gb_table.specs.Packing.{walk, queues}
-use Rattle.gb_types.specs.declared.limits.TheConstants.{PLACES}
 use Rattle.gb_table.specs.PlaceSet.{has}
 
 -- the number of visits of place p by a walk that began at place `from`, came to place 0 `lap` times, and is now up to place `at`

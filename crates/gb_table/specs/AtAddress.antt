@@ -1,15 +1,10 @@
 -- A step at one address.
 use Rattle.std.specs.Prelude.{ℕ, ◌≡◌, ◌&&◌, not, false, List, Option, Some, None, is_some, option_map, position, nat_lt, slice_set, if◌then◌else◌}
-use Rattle.gb_types.specs.declared.address.Addr.{Addr}
-use Rattle.gb_types.specs.declared.limits.TheConstants.{NODES}
-use Rattle.gb_types.specs.declared.node.NodeId.{NodeId}
+use Rattle.gb_types.specs.declared.{address.Addr.Addr, limits.TheConstants.NODES, node.NodeId.NodeId, version.Version.Version}
 use Rattle.gb_frame.specs.declared.item.Item.{Item}
-use Rattle.gb_frame.specs.Items.{address_of, entry_of}
-use Rattle.gb_types.specs.declared.version.Version.{Version}
-use Rattle.gb_rules.specs.Group.{is_too_long}
-use Rattle.gb_rules.specs.Address.{is_addr}
-use Rattle.gb_slot.specs.Slot.{slot_came}
-use Rattle.gb_slot.specs.SlotState.{SlotState}
+use Rattle.gb_frame.specs.Common.{address_of, entry_of}
+use Rattle.gb_rules.specs.Common.{is_too_long, is_addr}
+use Rattle.gb_slot.specs.Common.{slot_came, SlotState}
 use Rattle.gb_table.specs.SlotsValue.{Row, row_at, on_slot, gone}
 
 -- the place of the group that was last made with an address

@@ -2,9 +2,7 @@
 use Rattle.std.specs.Prelude.{ℕ, ◌≡◌, ◌≢◌, ◌≤◌, ◌<◌, min, Bool, true, false, List, [], length, slice_index_or}
 use Rattle.std.specs.FinSet as set
 use Rattle.gb_types.specs.declared.limits.TheConstants.{PLACES}
-use Rattle.gb_slot.specs.Slot.{waiting}
-use Rattle.gb_slot.specs.SlotState.{SlotState}
-use Rattle.gb_slot.specs.StandsFor.{reaches}
+use Rattle.gb_slot.specs.Common.{waiting, SlotState, reaches}
 use Rattle.gb_table.specs.PlaceSet.{has}
 use Rattle.gb_table.specs.SlotsValue.{Row}
 use Rattle.gb_table.specs.Packing.{queues}

@@ -1,7 +1,7 @@
 -- The effect of a packing on each group by itself.
 use Rattle.std.specs.Prelude.{◌≡◌, ◌≢◌, Bool, ℕ, ◌≤◌, List, length, sum_by, take, drop, map, filter}
 use Rattle.gb_frame.specs.declared.item.Item.{Item}
-use Rattle.gb_frame.specs.Items.{names}
+use Rattle.gb_frame.specs.Common.{names}
 use Rattle.gb_types.specs.declared.version.Version.{Version}
 use Rattle.gb_table.specs.SlotsValue.{Row, row_at}
 use Rattle.gb_table.specs.Packing.{Visit, size, items, item_of, queue, share, took}

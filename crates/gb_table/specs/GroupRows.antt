@@ -1,8 +1,7 @@
 -- The rows in which a list shows a node's groups.
 use Rattle.std.specs.Prelude.{ℕ, List, map, take, drop, filter, length, Option, None, Some, option_map}
-use Rattle.gb_rules.specs.declared.phase.Phase.{Phase}
-use Rattle.gb_rules.specs.declared.phase.Phase.TheVariants.{Gone}
-use Rattle.gb_slot.specs.SlotState.{SlotState}
+use Rattle.gb_rules.specs.declared.{phase.Phase.Phase, phase.Phase.TheVariants.Gone}
+use Rattle.gb_slot.specs.Common.{SlotState}
 use Rattle.gb_table.specs.SlotsValue.{Row, is_used}
 use Rattle.gb_table.specs.declared.group_row.GroupRow.{GroupRow}
 

@@ -1,9 +1,7 @@
 -- All groups of a node, with the places where packing continues, as contracts see them.
 use Rattle.std.specs.Prelude.{ℕ, ◌≡◌, ◌≤◌, ◌<◌, List, [], length, replicate, slice_index_or, slice_set, Some}
-use Rattle.gb_types.specs.declared.limits.TheConstants.{NODES}
-use Rattle.gb_types.specs.declared.version.Version.{Version}
-use Rattle.gb_types.specs.declared.address.Addr.{Addr}
-use Rattle.gb_slot.specs.SlotState.{SlotState}
+use Rattle.gb_types.specs.declared.{limits.TheConstants.NODES, version.Version.Version, address.Addr.Addr}
+use Rattle.gb_slot.specs.Common.{SlotState}
 use Rattle.gb_table.specs.SlotsValue.{Row, with_room}
 use Rattle.gb_table.specs.Rooms.{rank_of, free_place, with_made}
 use Rattle.gb_table.specs.Packing.{Visit, queues, walk, fit, gave, new_cursor}

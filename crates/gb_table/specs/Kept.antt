@@ -1,12 +1,10 @@
 -- How the tenants of a node are kept: a map from their numbers to their rows, in the order in which they were added. The tokens of the groups'
 -- members are kept in a map from the names of the groups' rooms.
 use Rattle.std.specs.Prelude.{ℕ, ◌≡◌, List, map, All, Some}
-use Rattle.gb_types.specs.declared.address.Addr.{Addr}
-use Rattle.gb_types.specs.declared.node.NodeId.{NodeId}
-use Rattle.gb_types.specs.declared.spec.TenantRow.{TenantRow}
+use Rattle.gb_types.specs.declared.{address.Addr.Addr, node.NodeId.NodeId, spec.TenantRow.TenantRow}
 use Rattle.gb_cap.specs.Token.{token_of}
 use Rattle.gb_cap.specs.declared.token.Need.TheVariants.{Member}
-use Rattle.gb_rules.specs.Tenant.{row_of}
+use Rattle.gb_rules.specs.Common.{row_of}
 
 -- the rows
 abbrev pub rows_of : List (ℕ × TenantRow) → List TenantRow

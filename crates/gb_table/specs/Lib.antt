@@ -20,3 +20,4 @@ pub mod Fair
 pub mod AtAddress
 pub mod OneGroup
 pub mod GroupRows
+pub mod Common

@@ -1,13 +1,11 @@
 -- What a node tells its administrator about its groups.
 use Rattle.std.specs.Prelude.{ℕ, ◌||◌, List, length, nat_lt, Result, Ok, Err, if◌then◌else◌}
-use Rattle.gb_types.specs.declared.refusal.Refusal.{Refusal}
-use Rattle.gb_types.specs.declared.refusal.Refusal.TheVariants.{Denied, BadPlace}
+use Rattle.gb_types.specs.declared.{refusal.Refusal.Refusal, refusal.Refusal.TheVariants.Denied, refusal.Refusal.TheVariants.BadPlace}
 use Rattle.gb_cap.specs.declared.token.Need.TheVariants.{Admin}
 use Rattle.gb_table.specs.GroupRows.{listed_from, used}
-use Rattle.gb_table.specs.declared.group_row.GroupRow.{GroupRow}
+use Rattle.gb_table.specs.declared.{group_row.GroupRow.GroupRow, listing.TheConstants.LISTED}
 use Rattle.gb_table.specs.Admission.{is_token}
 use Rattle.gb_table.specs.TableValue.{TableValue}
-use Rattle.gb_table.specs.declared.listing.TheConstants.{LISTED}
 
 -- the groups from a place on, at most `most` and at most as many as one list names, if the token is the administrator's
 abbrev pub list_answer : List ℕ → ℕ → ℕ → TableValue → Result (List GroupRow) Refusal

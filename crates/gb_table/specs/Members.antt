@@ -3,8 +3,8 @@ use Rattle.std.specs.Prelude.{ℕ, ◌≡◌, ◌≢◌, ◌≤◌, ◌<◌, Lis
 use Rattle.std.specs.Ordering.{nat_cmp}
 use Rattle.std.specs.FinSet as set
 use Rattle.gb_types.specs.declared.limits.TheConstants.{NODES, PLACES}
-use Rattle.gb_rules.specs.Group.{is_member}
-use Rattle.gb_slot.specs.SlotState.{SlotState}
+use Rattle.gb_rules.specs.Common.{is_member}
+use Rattle.gb_slot.specs.Common.{SlotState}
 use Rattle.gb_table.specs.PlaceSet.{has}
 use Rattle.gb_table.specs.SlotsValue.{Row, row_at}
 

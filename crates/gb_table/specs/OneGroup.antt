@@ -1,22 +1,12 @@
 -- The effect of each call on one group among the groups of a node.
 use Rattle.std.specs.Prelude.{ℕ, ◌≡◌, ◌<◌, ◌+◌, ◌&&◌, Bool, true, false, List, [], length, map, take, fold, Option, Some, None, option_map, not, nat_lt, if◌then◌else◌}
-use Rattle.gb_types.specs.declared.address.Addr.{Addr}
-use Rattle.gb_types.specs.declared.entry.Entry.{Entry}
-use Rattle.gb_types.specs.declared.limits.TheConstants.{NODES, PAYLOAD}
-use Rattle.gb_types.specs.declared.node.NodeId.{NodeId}
+use Rattle.gb_types.specs.declared.{address.Addr.Addr, entry.Entry.Entry, limits.TheConstants.NODES, limits.TheConstants.PAYLOAD, node.NodeId.NodeId, version.Version.Version, reply.Reply.Reply}
 use Rattle.gb_frame.specs.declared.item.Item.{Item}
-use Rattle.gb_frame.specs.Items.{entry_of, item_for, items_for}
-use Rattle.gb_types.specs.declared.version.Version.{Version}
-use Rattle.gb_rules.specs.Address.{is_addr}
-use Rattle.gb_types.specs.declared.reply.Reply.{Reply}
-use Rattle.gb_rules.specs.Group.{Shown, is_too_long, absent_answer}
-use Rattle.gb_rules.specs.Lifetime.{stepped, dropped, passed, where_so}
-use Rattle.gb_rules.specs.Room.{is_reached_by, one_more, one_less}
+use Rattle.gb_frame.specs.Common.{entry_of, item_for, items_for}
+use Rattle.gb_rules.specs.Common.{is_addr, Shown, is_too_long, absent_answer, stepped, dropped, passed, where_so, is_reached_by, one_more, one_less}
 use Rattle.gb_rules.specs.declared.room.TheConstants.{GENERATIONS}
-use Rattle.gb_slot.specs.SlotState.{SlotState}
-use Rattle.gb_slot.specs.Slot.{shown, slot_came, slot_took}
-use Rattle.gb_types.specs.Version.{limits_of}
-use Rattle.gb_types.specs.declared.version.Version.{Version}
+use Rattle.gb_slot.specs.Common.{SlotState, shown, slot_came, slot_took}
+use Rattle.gb_types.specs.Common.{limits_of}
 use Rattle.gb_table.specs.SlotsValue.{Row, on_slot, AreApart}
 use Rattle.gb_table.specs.GroupsValue.{GroupsValue, made, batch, packed}
 use Rattle.gb_table.specs.Rooms.{is_passed, others_living, AreInRooms}

@@ -1,9 +1,8 @@
 -- An invariant of each group of a table: it is at the table's node, and each message that it knows is within the length limit there.
 use Rattle.std.specs.Prelude.{ℕ, ◌≡◌, List, Option, Some, None}
-use Rattle.gb_types.specs.Version.{limits_of}
-use Rattle.gb_types.specs.declared.node.NodeId.{NodeId}
-use Rattle.gb_types.specs.declared.version.Version.{Version}
-use Rattle.gb_slot.specs.SlotState.{SlotState}
+use Rattle.gb_types.specs.Common.{limits_of}
+use Rattle.gb_types.specs.declared.{node.NodeId.NodeId, version.Version.Version}
+use Rattle.gb_slot.specs.Common.{SlotState}
 use Rattle.gb_table.specs.SlotsValue.{Row, row_at, IsShort}
 
 -- the slot is at the node, which sends this version of the packet text, and its messages are within the version's limit; a dropped group has no slot

@@ -1,12 +1,10 @@
 -- The items that one packing takes: the walk round the groups, the batch, and where the next walk begins.
 use Rattle.std.specs.Prelude.{ℕ, suc, ◌+◌, ◌-◌, ◌*◌, ◌/◌, ◌==◌, nat_lt, Bool, if◌then◌else◌, List, [], ◌∷◌, ◌++◌, length, take, drop, map, Option, Some, None, option_map, slice_get, slice_index_or, count_by, ltb}
-use Rattle.gb_types.specs.Version.{limits_of}
-use Rattle.gb_types.specs.declared.entry.Entry.{Entry}
-use Rattle.gb_types.specs.declared.version.Version.{Version}
+use Rattle.gb_types.specs.Common.{limits_of}
+use Rattle.gb_types.specs.declared.{entry.Entry.Entry, version.Version.Version}
 use Rattle.gb_frame.specs.declared.item.Item.{Item}
-use Rattle.gb_frame.specs.Items.{item_for}
-use Rattle.gb_slot.specs.Slot.{waiting, slot_took}
-use Rattle.gb_slot.specs.SlotState.{SlotState}
+use Rattle.gb_frame.specs.Common.{item_for}
+use Rattle.gb_slot.specs.Common.{waiting, slot_took, SlotState}
 use Rattle.gb_table.specs.SlotsValue.{Row, row_at, no_entry}
 use Rattle.gb_rules.specs.declared.room.TheConstants.{GENERATIONS}
 use Rattle.gb_table.specs.Turns.{in_turns}

@@ -1,13 +1,10 @@
 -- The representation of the groups of a node: a map from addresses to keys, in order, slots under keys, and sets of places for each node.
 use Rattle.std.specs.Prelude.{ℕ, ◌≡◌, ◌<◌, false, List, [], ◌∷◌, ◌++◌, length, map, nat_lt, Option, None, IsSome, slice_index_or, if◌then◌else◌}
 use Rattle.slab.specs.Slab.{Slab, get}
-use Rattle.gb_types.specs.declared.address.Addr.{Addr}
-use Rattle.gb_types.specs.declared.limits.TheConstants.{PAYLOAD}
-use Rattle.gb_slot.specs.SlotState.{SlotState}
-use Rattle.gb_table.specs.declared.places.Place.{Place}
-use Rattle.gb_table.specs.declared.places.Place.TheVariants.{Key, Gone}
-use Rattle.gb_rules.specs.Address.{is_addr}
-use Rattle.gb_table.specs.declared.groups.Groups.TheInside.{Inside}
+use Rattle.gb_types.specs.declared.{address.Addr.Addr, limits.TheConstants.PAYLOAD}
+use Rattle.gb_slot.specs.Common.{SlotState}
+use Rattle.gb_table.specs.declared.{places.Place.Place, places.Place.TheVariants.Key, places.Place.TheVariants.Gone, groups.Groups.TheInside.Inside}
+use Rattle.gb_rules.specs.Common.{is_addr}
 use Rattle.gb_table.specs.SlotsValue.{Row, vacant, HaveCounters, AreShort, AreApart, AreVacant}
 use Rattle.gb_table.specs.GroupsValue.{GroupsValue, ArePlaces, IsIndex}
 use Rattle.gb_table.specs.Members.{AreMemberships}

@@ -2,22 +2,13 @@
 use Rattle.std.specs.Prelude.{◌≡◌, ◌⊎◌, ℕ, Bool, true, false, List, [], ◌∷◌, ◌++◌, Option, None, is_some, if◌then◌else◌}
 use Rattle.std.specs.Ordering.{nat_cmp}
 use Rattle.std.specs.FinSet as set
-use Rattle.gb_types.specs.declared.refusal.Refusal.TheVariants.{Denied, OutOfMemory}
-use Rattle.gb_types.specs.declared.reply.Reply.{Reply}
+use Rattle.gb_types.specs.declared.{refusal.Refusal.TheVariants.Denied, refusal.Refusal.TheVariants.OutOfMemory, reply.Reply.Reply, address.Addr.Addr, node.NodeId.NodeId, request.Action.Action, request.Action.TheVariants.AddTenant, request.Action.TheVariants.Group, request.GroupCommand.GroupCommand, request.Request.Request}
 use Rattle.gb_types.specs.declared.reply.Reply.TheVariants.{Done, Said, Log, Refused}
-use Rattle.gb_types.specs.declared.address.Addr.{Addr}
-use Rattle.gb_types.specs.declared.node.NodeId.{NodeId}
-use Rattle.gb_types.specs.declared.request.Action.{Action}
-use Rattle.gb_types.specs.declared.request.Action.TheVariants.{AddTenant, Group}
-use Rattle.gb_types.specs.declared.request.GroupCommand.{GroupCommand}
 use Rattle.gb_types.specs.declared.request.GroupCommand.TheVariants.{Make, Open, Shut, Drop, Say, Fetch}
-use Rattle.gb_types.specs.declared.request.Request.{Request}
 use Rattle.gb_cap.specs.declared.token.Need.{Need}
-use Rattle.gb_rules.specs.Group.{open_answer, shut_answer, drop_answer, say_answer, fetch_answer}
-use Rattle.gb_rules.specs.Replied.{takes_memory}
-use Rattle.gb_rules.specs.Tenant.{row_of, reserved, tenant_answer, make_answer, by_tenant}
+use Rattle.gb_rules.specs.Common.{open_answer, shut_answer, drop_answer, say_answer, fetch_answer, takes_memory, row_of, reserved, tenant_answer, make_answer, by_tenant}
 use Rattle.gb_rules.specs.declared.phase.Phase.TheVariants.{Opened, Shut as Closed}
-use Rattle.gb_slot.specs.Slot.{new_slot, slot_moved, slot_said}
+use Rattle.gb_slot.specs.Common.{new_slot, slot_moved, slot_said}
 use Rattle.gb_table.specs.AtAddress.{living_place, on_address, drop_at}
 use Rattle.gb_table.specs.GroupsValue.{GroupsValue, made}
 use Rattle.gb_table.specs.OneGroup.{group_in, group_reply}

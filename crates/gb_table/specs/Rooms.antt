@@ -2,8 +2,7 @@
 use Rattle.std.specs.Prelude.{ℕ, ◌+◌, ◌*◌, ◌/◌, ◌≡◌, ◌<◌, ◌⊎◌, ◌&&◌, not, Bool, true, false, List, [], ◌∷◌, length, drop, count_by, nat_le, Option, Some, None, is_some, if◌then◌else◌}
 use Rattle.std.specs.List.{position_or_len}
 use Rattle.gb_types.specs.declared.address.Addr.{Addr}
-use Rattle.gb_rules.specs.Address.{is_addr}
-use Rattle.gb_rules.specs.Room.{name_of, is_other_generation}
+use Rattle.gb_rules.specs.Common.{is_addr, name_of, is_other_generation}
 use Rattle.gb_rules.specs.declared.room.TheConstants.{GENERATIONS}
 use Rattle.gb_table.specs.SlotsValue.{Row, row_at, vacant, is_used}
 

@@ -1,14 +1,9 @@
 -- The places of a node's groups, and the slots there, as contracts see them.
 use Rattle.std.proofs.Common.{arith}
 use Rattle.std.specs.Prelude.{ℕ, ◌≡◌, ◌<◌, ◌≤◌, Bool, true, List, [], ◌∷◌, ◌++◌, length, nat_lt, Option, Some, None, option_map, slice_index_or, if◌then◌else◌}
-use Rattle.gb_types.specs.declared.address.Addr.{Addr}
-use Rattle.gb_types.specs.declared.entry.Entry.{Entry}
-use Rattle.gb_types.specs.declared.limits.TheConstants.{NODES}
-use Rattle.gb_types.specs.declared.message.MsgId.{MsgId}
-use Rattle.gb_types.specs.declared.version.Version.{Version}
-use Rattle.gb_rules.specs.Messages.{payload_in}
-use Rattle.gb_rules.specs.Room.{can_name}
-use Rattle.gb_slot.specs.SlotState.{SlotState}
+use Rattle.gb_types.specs.declared.{address.Addr.Addr, entry.Entry.Entry, limits.TheConstants.NODES, message.MsgId.MsgId, version.Version.Version}
+use Rattle.gb_rules.specs.Common.{payload_in, can_name}
+use Rattle.gb_slot.specs.Common.{SlotState}
 
 -- A place of a room: the address of the group that was last made there, and its slot unless it was dropped. A place where no group was made has no slot, and the
 -- address of no tenant.

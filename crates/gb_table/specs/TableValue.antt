@@ -1,14 +1,10 @@
 -- A node's table of tenants and groups, as contracts see it.
 use Rattle.std.specs.Prelude.{ℕ, List, [], map, Option, option_map}
-use Rattle.gb_types.specs.declared.address.Addr.{Addr}
-use Rattle.gb_types.specs.declared.message.MsgId.{MsgId}
-use Rattle.gb_types.specs.declared.node.NodeId.{NodeId}
-use Rattle.gb_types.specs.declared.spec.TenantRow.{TenantRow}
-use Rattle.gb_types.specs.declared.version.Version.{Version}
+use Rattle.gb_types.specs.declared.{address.Addr.Addr, message.MsgId.MsgId, node.NodeId.NodeId, spec.TenantRow.TenantRow, version.Version.Version}
 use Rattle.gb_frame.specs.declared.item.Item.{Item}
-use Rattle.gb_rules.specs.Tenant.{reserve_of, row_of}
+use Rattle.gb_rules.specs.Common.{reserve_of, row_of}
 use Rattle.gb_rules.specs.declared.reserve.Reserve.{Reserve}
-use Rattle.gb_slot.specs.Slot.{slot_done, slot_noticed}
+use Rattle.gb_slot.specs.Common.{slot_done, slot_noticed}
 use Rattle.gb_table.specs.SlotsValue.{Row, on_slot}
 use Rattle.gb_table.specs.AtAddress.{on_address, item_came}
 use Rattle.gb_table.specs.GroupsValue.{GroupsValue, no_groups, packed}

@@ -1,10 +1,8 @@
 -- An invariant of a node's table.
 use Rattle.std.specs.Prelude.{ℕ, ◌≡◌, ◌<◌, ◌≤◌, false, List, map, count_by, Some, All}
-use Rattle.gb_types.specs.declared.address.Addr.{Addr}
+use Rattle.gb_types.specs.declared.{address.Addr.Addr, spec.TenantRow.TenantRow}
 use Rattle.gb_rules.specs.declared.room.TheConstants.{ROOMS}
-use Rattle.gb_types.specs.declared.spec.TenantRow.{TenantRow}
-use Rattle.gb_rules.specs.Address.{is_addr}
-use Rattle.gb_rules.specs.Tenant.{is_over_limits, row_of, reserved}
+use Rattle.gb_rules.specs.Common.{is_addr, is_over_limits, row_of, reserved}
 
 -- the names of rooms
 abbrev pub names_of : List (Addr × ℕ) → List Addr

@@ -1,13 +1,12 @@
 //! All groups of a node, with an index of the groups where something waits.
 ghost use Rattle.std.specs.Prelude.{◌≡◌, ◌≤◌, ◌<◌, true, map, slice_set, ℕ, length, OnOk, OnErr, MatchOption};
 ghost use Rattle.gb_frame.specs.Packet.{item_of as view_item};
-ghost use Rattle.gb_rules.specs.Group.{is_member, open_answer, shut_answer, drop_answer, say_answer, fetch_answer};
+ghost use Rattle.gb_rules.specs.Common.{is_member, open_answer, shut_answer, drop_answer, say_answer, fetch_answer, IsReply, done_reply};
 ghost use Rattle.gb_rules.specs.declared.room.TheConstants.{ROOMS};
-ghost use Rattle.gb_rules.specs.Replied.{IsReply, done_reply};
-ghost use Rattle.gb_slot.specs.Slot.{IsWithinLimits, new_slot, slot_done, slot_moved, slot_noticed, slot_said};
+ghost use Rattle.gb_slot.specs.Common.{IsWithinLimits, new_slot, slot_done, slot_moved, slot_noticed, slot_said};
 ghost use Rattle.gb_table.specs.SlotsValue.{row_at, on_slot};
 ghost use Rattle.gb_table.specs.Rooms.{with_made};
-ghost use Rattle.gb_frame.specs.Items.{address_of};
+ghost use Rattle.gb_frame.specs.Common.{address_of};
 ghost use Rattle.gb_table.specs.AtAddress.{drop_at, living_place, on_address, item_came, OthersKept};
 ghost use Rattle.gb_table.specs.GroupsValue.{no_groups, made};
 ghost use Rattle.gb_table.specs.Members.{has_member, IsNextMember};

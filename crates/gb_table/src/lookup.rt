@@ -1,12 +1,11 @@
 //! Where a node's groups are: at the places of their rooms, under their addresses.
 ghost use Rattle.std.specs.Prelude.{◌≡◌, ◌≤◌, ◌<◌, ◌+◌, Some, None, is_some, length, IfSome, MatchOption, ◌&&◌, not, count_by, take, drop, if◌then◌else◌};
 ghost use Rattle.gb_types.specs.declared.limits.TheConstants.{PLACES, PAYLOAD};
-ghost use Rattle.gb_rules.specs.Group.{absent_answer};
+ghost use Rattle.gb_rules.specs.Common.{absent_answer, is_addr};
 ghost use Rattle.gb_table.specs.SlotsValue.{row_at, AreApart, IsShort};
 ghost use Rattle.gb_table.specs.Rooms.{rank_of, is_passed, free_place, others_living, first_free};
 ghost use Rattle.gb_table.specs.AtAddress.{place_of, living_place};
 ghost use Rattle.gb_table.specs.OneGroup.{group_in};
-ghost use Rattle.gb_rules.specs.Address.{is_addr};
 ghost use Rattle.gb_rules.specs.declared.room.TheConstants.{GENERATIONS};
 
 use crate::groups::Groups;

@@ -1,7 +1,7 @@
 //! The walk round a node's groups, by which packing chooses the waiting items of a batch, one item a visit. It takes no time for groups
 //! where nothing waits.
 ghost use Rattle.std.specs.Prelude.{◌≡◌, ◌<◌, ◌≤◌, ◌+◌, ◌*◌, ◌++◌, [], length, take, sum_by, slice_index_or, All, IfSome, MatchOption, vec_len, vec_capacity, true, slice_set, ℕ, Some};
-ghost use Rattle.gb_frame.specs.Spelling.{items_text, IsItem, item_text};
+ghost use Rattle.gb_frame.specs.Common.{items_text, IsItem, item_text};
 ghost use Rattle.gb_table.specs.Ahead.{ahead, IsActive, IsTurn};
 ghost use Rattle.gb_table.specs.Busy.{IsBusy};
 ghost use Rattle.gb_table.specs.PlaceSet.{IsSummary};
@@ -11,9 +11,9 @@ ghost use Rattle.gb_table.specs.Packing.{queues, walk, size, fit, gave, new_curs
 ghost use Rattle.gb_table.specs.Fair.{IsFront, IsLongest};
 ghost use Rattle.gb_table.specs.GroupsValue.{walk_to, batch, packed};
 ghost use Rattle.gb_table.specs.OneGroup.{longest_item, NothingWaits};
-ghost use Rattle.gb_slot.specs.Slot.{waiting};
-ghost use Rattle.gb_rules.specs.Room.{can_name};
-ghost use Rattle.gb_types.specs.Version.{limits_of};
+ghost use Rattle.gb_slot.specs.Common.{waiting};
+ghost use Rattle.gb_rules.specs.Common.{can_name};
+ghost use Rattle.gb_types.specs.Common.{limits_of};
 
 use crate::groups::Groups;
 use crate::index::note_taken;

@@ -1,7 +1,7 @@
 //! The places of a node's rooms, four a room, in the order in which the rooms were begun, and what is at each of them.
 ghost use Rattle.std.specs.Prelude.{◌≡◌, ◌<◌, ◌≤◌, ◌+◌, length, slice_get, slice_set, false, MatchOption};
 ghost use Rattle.gb_types.specs.declared.limits.TheConstants.{PLACES};
-ghost use Rattle.gb_rules.specs.Address.{is_addr};
+ghost use Rattle.gb_rules.specs.Common.{is_addr};
 ghost use Rattle.gb_rules.specs.declared.room.TheConstants.{GENERATIONS};
 ghost use Rattle.indexmap.specs.IndexMap.{spare, set_value_at};
 ghost use Rattle.gb_table.specs.Places.{place_at, with_vacant_entry, AreVacantEntries, entries_with_room, AreOthers};

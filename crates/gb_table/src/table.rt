@@ -2,15 +2,12 @@
 ghost use Rattle.std.specs.Prelude.{◌≡◌, ◌+◌, ◌≤◌, ◌<◌, ◌++◌, ℕ, List, map, false, length, sum_by, All, IfOk, IfErr, Ok, Err, ◌⊎◌, is_ok, true, IfSome, is_some, bytes_eq, vec_len, vec_capacity};
 ghost use Rattle.std.specs.Ordering.{nat_cmp};
 ghost use Rattle.std.specs.FinSet as set;
-ghost use Rattle.gb_types.specs.Version.{limits_of};
+ghost use Rattle.gb_types.specs.Common.{limits_of};
 ghost use Rattle.gb_types.specs.declared.limits.TheConstants.{NODES};
 ghost use Rattle.gb_rules.specs.declared.room.TheConstants.{ROOMS};
 ghost use Rattle.gb_frame.specs.Packet.{item_of as view_item};
-ghost use Rattle.gb_frame.specs.Spelling.{items_text, IsItem};
-ghost use Rattle.gb_rules.specs.Group.{open_answer, shut_answer, drop_answer, say_answer, fetch_answer};
-ghost use Rattle.gb_rules.specs.Replied.{IsReply};
-ghost use Rattle.gb_rules.specs.Tenant.{row_of, reserved, tenant_answer, make_answer, by_tenant};
-ghost use Rattle.gb_frame.specs.Items.{address_of};
+ghost use Rattle.gb_frame.specs.Common.{items_text, IsItem, address_of};
+ghost use Rattle.gb_rules.specs.Common.{open_answer, shut_answer, drop_answer, say_answer, fetch_answer, IsReply, row_of, reserved, tenant_answer, make_answer, by_tenant};
 ghost use Rattle.gb_table.specs.AtAddress.{living_place, OthersKept};
 ghost use Rattle.gb_table.specs.Fair.{IsFront, IsLongest};
 ghost use Rattle.gb_table.specs.OneGroup.{group_in, group_reply, longest_item, NothingWaits};

@@ -2,7 +2,7 @@
 ghost use Rattle.std.specs.Prelude.{◌≡◌, ◌++◌, ◌∷◌, ◌+◌, ◌≤◌, ◌<◌, ◌^◌, [], None, OnOk, OnErr, option_copied, option_map};
 ghost use Rattle.gb_rules.specs.declared.room.TheConstants.{ROOMS};
 ghost use Rattle.gb_cap.specs.Token.{token_of};
-ghost use Rattle.gb_rules.specs.Tenant.{row_of, reserved};
+ghost use Rattle.gb_rules.specs.Common.{row_of, reserved};
 ghost use Rattle.gb_table.specs.Admission.{is_token, is_by_row};
 
 use gb_cap::{HmacKey, Need, Token};

@@ -1,16 +1,8 @@
 -- What requests add to the projection on a group.
-use Rattle.std.proofs.Common.{◌≡◌, ℕ, true, false, Bool, List, [], ◌∷◌, ◌++◌, refl, sym, ap, ◌∙◌, append_assoc}
-use Rattle.std.specs.Prelude.{Option, Some, None, if◌then◌else◌}
-use Rattle.std.proofs.lemmas.List.{append-nil}
-use Rattle.gb_types.specs.declared.address.Addr.{Addr}
-use Rattle.gb_types.specs.declared.node.NodeId.{NodeId}
-use Rattle.gb_types.specs.declared.reply.Reply.{Reply}
-use Rattle.gb_types.specs.declared.request.Request.{Request}
-use Rattle.gb_types.specs.declared.spec.Spec.{Spec}
-use Rattle.gb_alone.specs.declared.event.GroupEvent.TheVariants.{Stop}
-use Rattle.gb_alone.specs.declared.event.GroupStep.{GroupStep}
-use Rattle.gb_node.specs.declared.answer.NodeAnswer.TheVariants.{Reply as Replied}
-use Rattle.gb_node.specs.declared.event.NodeEvent.TheVariants.{Request as Asked}
+use Rattle.gb_types.specs.Common.{◌≡◌, ℕ, true, false, Bool, List, [], ◌∷◌, ◌++◌, refl, sym, ap, ◌∙◌, append_assoc, Option, Some, None, if◌then◌else◌, append-nil}
+use Rattle.gb_types.specs.declared.{address.Addr.Addr, node.NodeId.NodeId, reply.Reply.Reply, request.Request.Request, spec.Spec.Spec}
+use Rattle.gb_alone.specs.declared.{event.GroupEvent.TheVariants.Stop, event.GroupStep.GroupStep}
+use Rattle.gb_node.specs.declared.{answer.NodeAnswer.TheVariants.Reply as Replied, event.NodeEvent.TheVariants.Request as Asked}
 use Rattle.gb_isolation.specs.Project.{command_for, made_by, notices, ticked, with_stop}
 
 -- it makes none

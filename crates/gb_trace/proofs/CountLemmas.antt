@@ -1,21 +1,12 @@
 -- How many items of a group frames have, and what their counts add to the projection.
-use Rattle.std.proofs.Common.{◌≡◌, ◌≢◌, ℕ, zero, suc, ◌+◌, ◌-◌, ◌<◌, Bool, false, not, ◌&&◌, List, [], ◌∷◌, ◌++◌, map, length, take, get_or, length-take, refl, sym, ap, ◌∙◌, arith, append_assoc, length-append}
-use Rattle.std.specs.Prelude.{sum, if◌then◌else◌}
-use Rattle.std.proofs.Math.Bool.{and-false}
-use Rattle.std.proofs.lemmas.List.{append-nil, take-map, take_more}
-use Rattle.std.proofs.lemmas.List.Sums.{sum_by-cons, sum_by_more}
-use Rattle.gb_types.specs.declared.address.Addr.{Addr}
-use Rattle.gb_types.specs.declared.node.NodeId.{NodeId}
+use Rattle.gb_types.specs.Common.{◌≡◌, ◌≢◌, ℕ, zero, suc, ◌+◌, ◌-◌, ◌<◌, Bool, false, not, ◌&&◌, List, [], ◌∷◌, ◌++◌, map, length, take, get_or, length-take, refl, sym, ap, ◌∙◌, arith, append_assoc, length-append, sum, if◌then◌else◌, and-false, append-nil, take-map, take_more, sum_by-cons, sum_by_more}
+use Rattle.gb_types.specs.declared.{address.Addr.Addr, node.NodeId.NodeId, plan.Plan.Plan}
 use Rattle.gb_frame.specs.declared.item.Item.{Item}
-use Rattle.gb_frame.specs.Packet.{Content}
-use Rattle.gb_alone.specs.declared.event.GroupEvent.{GroupEvent}
-use Rattle.gb_alone.specs.declared.event.GroupEvent.TheVariants.{Came, Done}
-use Rattle.gb_alone.specs.declared.event.GroupStep.{GroupStep}
-use Rattle.gb_node.specs.NodeStep.{node_numbered}
-use Rattle.gb_link.specs.Ack.{covers}
-use Rattle.gb_node.specs.Past.{Happened, read, frames_to, is_acked}
-use Rattle.gb_types.specs.declared.plan.Plan.{Plan}
-use Rattle.gb_cluster.specs.Run.{Did, past_at}
+use Rattle.gb_frame.specs.Common.{Content}
+use Rattle.gb_alone.specs.declared.{event.GroupEvent.GroupEvent, event.GroupEvent.TheVariants.Came, event.GroupEvent.TheVariants.Done, event.GroupStep.GroupStep}
+use Rattle.gb_node.specs.Common.{node_numbered, Happened, read, frames_to, is_acked}
+use Rattle.gb_link.specs.Common.{covers}
+use Rattle.gb_cluster.specs.Common.{Did, past_at}
 use Rattle.gb_isolation.proofs.MarkLemmas.{group_items_of-none, group_items_of-one}
 use Rattle.gb_isolation.specs.Project.{group_items, group_items_of, offset, if_any, comes, all_acknowledged, is_new_ack, acknowledges, brings}
 use Rattle.gb_trace.specs.Counts.{counts_acknowledged, is_newly}

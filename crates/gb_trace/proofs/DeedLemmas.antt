@@ -1,14 +1,8 @@
 -- What happened in a run, from its first event on.
-use Rattle.std.proofs.Common.{◌≡◌, ℕ, zero, suc, ◌+◌, ◌<◌, List, [], ◌∷◌, ◌++◌, length, take, get_or, ◌∙◌, ap, sym, refl, arith, add-one, append_assoc}
-use Rattle.std.specs.Prelude.{min, Option}
-use Rattle.std.specs.Option.{option_map_or}
-use Rattle.std.proofs.lemmas.List.{append-nil}
-use Rattle.gb_node.specs.declared.answer.NodeAnswer.{NodeAnswer}
-use Rattle.gb_node.specs.declared.event.NodeEvent.TheVariants.{Packet as Came}
-use Rattle.gb_cluster.specs.Run.{Did}
-use Rattle.gb_cluster.specs.declared.answer.Answer.{Answer}
-use Rattle.gb_cluster.specs.declared.event.Event.{Event}
-use Rattle.gb_cluster.specs.declared.posted.Posted.{Posted}
+use Rattle.gb_types.specs.Common.{◌≡◌, ℕ, zero, suc, ◌+◌, ◌<◌, List, [], ◌∷◌, ◌++◌, length, take, get_or, ◌∙◌, ap, sym, refl, arith, add-one, append_assoc, min, Option, option_map_or, append-nil}
+use Rattle.gb_node.specs.declared.{answer.NodeAnswer.NodeAnswer, event.NodeEvent.TheVariants.Packet as Came}
+use Rattle.gb_cluster.specs.Common.{Did}
+use Rattle.gb_cluster.specs.declared.{answer.Answer.Answer, event.Event.Event, posted.Posted.Posted}
 use Rattle.gb_trace.specs.Trace.{did_with, did_in, all_did}
 
 -- a packet that arrives, where it was sent and the node answered

@@ -1,12 +1,9 @@
 -- Frames and a group's items in them.
-use Rattle.std.proofs.Common.{◌≡◌, ℕ, List, [], ◌∷◌, ◌++◌, refl, ◌∙◌, ap, sym}
-use Rattle.std.proofs.lemmas.List.{append-nil}
-use Rattle.gb_types.specs.declared.address.Addr.{Addr}
-use Rattle.gb_types.specs.declared.entry.Entry.{Entry}
-use Rattle.gb_types.specs.declared.node.NodeId.{NodeId}
+use Rattle.gb_types.specs.Common.{◌≡◌, ℕ, List, [], ◌∷◌, ◌++◌, refl, ◌∙◌, ap, sym, append-nil}
+use Rattle.gb_types.specs.declared.{address.Addr.Addr, entry.Entry.Entry, node.NodeId.NodeId}
 use Rattle.gb_frame.specs.declared.item.Item.{Item}
-use Rattle.gb_node.specs.Past.{Happened, packed_for, frames_to}
-use Rattle.gb_cluster.specs.Run.{past_at}
+use Rattle.gb_node.specs.Common.{Happened, packed_for, frames_to}
+use Rattle.gb_cluster.specs.Common.{past_at}
 use Rattle.gb_trace.specs.Deeds.{past_in}
 use Rattle.gb_isolation.proofs.MarkLemmas.{group_items_of-append, group_items_of-none, group_items_of-one}
 use Rattle.gb_isolation.specs.Project.{group_items, group_items_of}

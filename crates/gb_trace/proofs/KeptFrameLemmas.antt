@@ -1,19 +1,11 @@
 -- What is kept of frames and marks.
-use Rattle.std.proofs.Common.{◌≡◌, ◌≢◌, ℕ, ◌+◌, ◌-◌, ◌<◌, ◌≤◌, Bool, true, false, ◌&&◌, ◌||◌, List, [], ◌∷◌, ◌++◌, length, take, get_or, set, nat_eq, nat_le, nat_lt, refl, sym, ap, subst, ◌∙◌, arith, length-append}
-use Rattle.std.specs.Prelude.{sum}
-use Rattle.std.specs.List.{list_any}
-use Rattle.std.proofs.Math.Bool.{or-false, and-false, or-true}
-use Rattle.std.proofs.lemmas.Bool.{eqb-true, eqb-false, ltb-true, ltb-false, lt-ltb, le-ltb, le-leb}
-use Rattle.std.proofs.lemmas.List.{append-nil, map-append, take_all, take-append-le, get_or_append_left, length-map, length-set, get_or-set_same, get_or-set_other}
-use Rattle.std.proofs.lemmas.List.Sums.{sum_by-append}
-use Rattle.std.proofs.Math.Seq.{get_or-append_seam}
-use Rattle.gb_types.specs.declared.address.Addr.{Addr}
-use Rattle.gb_types.specs.declared.plan.Plan.{Plan}
+use Rattle.gb_types.specs.Common.{◌≡◌, ◌≢◌, ℕ, ◌+◌, ◌-◌, ◌<◌, ◌≤◌, Bool, true, false, ◌&&◌, ◌||◌, List, [], ◌∷◌, ◌++◌, length, take, get_or, set, nat_eq, nat_le, nat_lt, refl, sym, ap, subst, ◌∙◌, arith, length-append, sum, list_any, or-false, and-false, or-true, eqb-true, eqb-false, ltb-true, ltb-false, lt-ltb, le-ltb, le-leb, append-nil, map-append, take_all, take-append-le, get_or_append_left, length-map, length-set, get_or-set_same, get_or-set_other, sum_by-append, get_or-append_seam}
+use Rattle.gb_types.specs.declared.{address.Addr.Addr, plan.Plan.Plan}
 use Rattle.gb_types.proofs.BoolLemmas.{or_left, or_right}
 use Rattle.gb_frame.specs.declared.item.Item.{Item}
-use Rattle.gb_frame.specs.Packet.{Content}
-use Rattle.gb_link.specs.Ack.{covers}
-use Rattle.gb_node.specs.Past.{Happened, came, packed_for, frames_to, is_ack, is_acked, is_frame}
+use Rattle.gb_frame.specs.Common.{Content}
+use Rattle.gb_link.specs.Common.{covers}
+use Rattle.gb_node.specs.Common.{Happened, came, packed_for, frames_to, is_ack, is_acked, is_frame}
 use Rattle.gb_node.proofs.PastLemmas.{none_later}
 use Rattle.gb_isolation.specs.Project.{group_items, has_come}
 use Rattle.gb_trace.specs.declared.frames.Frames.{Frames}

@@ -1,37 +1,18 @@
 -- What is kept of a run, before anything happened and after one thing more.
-use Rattle.std.proofs.Common.{◌≡◌, ℕ, ◌+◌, ◌<◌, ◌≤◌, Bool, true, false, ◌||◌, List, [], ◌∷◌, ◌++◌, length, get_or, set, nat_eq, nat_le, refl, sym, ap, subst, ◌∙◌, arith, length-append}
-use Rattle.std.specs.Option.{option_or}
-use Rattle.std.specs.Prelude.{Result, Ok, Err, OnOk, if◌then◌else◌}
-use Rattle.std.specs.List.{list_any}
+use Rattle.gb_types.specs.Common.{◌≡◌, ℕ, ◌+◌, ◌<◌, ◌≤◌, Bool, true, false, ◌||◌, List, [], ◌∷◌, ◌++◌, length, get_or, set, nat_eq, nat_le, refl, sym, ap, subst, ◌∙◌, arith, length-append, option_or, Result, Ok, Err, OnOk, if◌then◌else◌, list_any, or-false, eqb-true, eqb-false, eq-eqb, nat_tests, get_or-set_same, get_or-set_other, get_or_append_left, length-set, get_or-append_seam}
 use Rattle.std.specs.HashSet.{contains}
-use Rattle.std.proofs.Math.Bool.{or-false}
-use Rattle.std.proofs.lemmas.Bool.{eqb-true, eqb-false, eq-eqb}
-use Rattle.std.proofs.lemmas.Bool.Decides.{nat_tests}
-use Rattle.std.proofs.lemmas.List.{get_or-set_same, get_or-set_other, get_or_append_left, length-set}
-use Rattle.std.proofs.Math.Seq.{get_or-append_seam}
-use Rattle.gb_types.specs.declared.address.Addr.{Addr}
-use Rattle.gb_types.specs.declared.limits.TheConstants.{NODES}
-use Rattle.gb_types.specs.declared.node.NodeId.{NodeId}
-use Rattle.gb_types.specs.declared.plan.Plan.{Plan}
-use Rattle.gb_types.specs.declared.spec.TenantRow.{TenantRow}
+use Rattle.gb_types.specs.declared.{address.Addr.Addr, limits.TheConstants.NODES, node.NodeId.NodeId, plan.Plan.Plan, spec.TenantRow.TenantRow}
 use Rattle.gb_types.proofs.SameLemmas.{same_number}
 use Rattle.gb_frame.specs.declared.item.Item.{Item}
-use Rattle.gb_frame.specs.Packet.{Content}
+use Rattle.gb_frame.specs.Common.{Content}
 use Rattle.gb_detect.specs.Silence.{Tick, is_noticed}
 use Rattle.gb_detect.proofs.TickLemmas.{ticks_since, ticks_since-tick}
-use Rattle.gb_rules.specs.Tenant.{row_of}
-use Rattle.gb_node.specs.Past.{Happened, added, came, packed_for, is_stopped, stops, tenants_in, ticks, watched}
-use Rattle.gb_node.specs.declared.answer.NodeAnswer.{NodeAnswer}
-use Rattle.gb_node.specs.declared.answer.NodeAnswer.TheVariants.{Taken, Ticked}
-use Rattle.gb_node.specs.declared.answer.PacketAnswer.TheVariants.{Good as TakenGood}
-use Rattle.gb_node.specs.declared.answer.Ticked.TheVariants.{Noticed}
-use Rattle.gb_node.specs.declared.event.NodeEvent.{NodeEvent}
-use Rattle.gb_node.specs.declared.event.NodeEvent.TheVariants.{Packet as Came, Tick as Ticking}
-use Rattle.gb_cluster.specs.Run.{Did, past_at}
+use Rattle.gb_rules.specs.Common.{row_of}
+use Rattle.gb_node.specs.Common.{Happened, added, came, packed_for, is_stopped, stops, tenants_in, ticks, watched}
+use Rattle.gb_node.specs.declared.{answer.NodeAnswer.NodeAnswer, answer.NodeAnswer.TheVariants.Taken, answer.NodeAnswer.TheVariants.Ticked, answer.PacketAnswer.TheVariants.Good as TakenGood, answer.Ticked.TheVariants.Noticed, event.NodeEvent.NodeEvent, event.NodeEvent.TheVariants.Packet as Came, event.NodeEvent.TheVariants.Tick as Ticking}
+use Rattle.gb_cluster.specs.Common.{Did, past_at}
 use Rattle.gb_isolation.specs.Project.{group_items, is_met, is_met_by, made_by, made_with}
-use Rattle.gb_trace.specs.declared.frames.Frames.{Frames}
-use Rattle.gb_trace.specs.declared.kept.NodeKept.{NodeKept}
-use Rattle.gb_trace.specs.declared.links.Link.{Link}
+use Rattle.gb_trace.specs.declared.{frames.Frames.Frames, kept.NodeKept.NodeKept, links.Link.Link}
 use Rattle.gb_trace.specs.Kept.{AreNew, IsBare, IsNew, Keeps, KeepsFrames, KeepsLink, KeepsLinks, KeepsNode, TickAll, Takes, Ticks}
 use Rattle.gb_trace.proofs.KeptFrameLemmas.{below_or_last, come_begin, come_same, come_took, frames_bare, frames_pack, frames_rest, frames_take}
 use Rattle.gb_trace.proofs.PastLemmas.{find_later}

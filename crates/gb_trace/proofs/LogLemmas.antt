@@ -1,21 +1,9 @@
 -- A run goes on by a request to fetch a log.
-use Rattle.std.proofs.Common.{◌≡◌, suc, List, [], ◌∷◌, ◌++◌, length, refl, sym, ap, subst, ◌∙◌}
-use Rattle.std.specs.Prelude.{reverse}
-use Rattle.std.proofs.lemmas.List.{reverse-append}
-use Rattle.gb_types.specs.declared.node.NodeId.{NodeId}
-use Rattle.gb_types.specs.declared.plan.Plan.{Plan}
-use Rattle.gb_types.specs.declared.reply.Reply.{Reply}
-use Rattle.gb_types.specs.declared.request.Request.{Request}
-use Rattle.gb_node.specs.declared.answer.NodeAnswer.TheVariants.{Reply as Replied}
-use Rattle.gb_node.specs.declared.event.NodeEvent.TheVariants.{Request as Asked}
-use Rattle.gb_cluster.specs.ClusterStep.{IsStep, NodeActs}
-use Rattle.gb_cluster.specs.ClusterValue.{ClusterValue, new_cluster}
-use Rattle.gb_cluster.specs.Run.{Did, ComesTo}
-use Rattle.gb_cluster.specs.declared.answer.Answer.{Answer}
-use Rattle.gb_cluster.specs.declared.answer.Answer.TheVariants.{Reply as AnswerReply}
-use Rattle.gb_cluster.specs.declared.event.Event.{Event}
-use Rattle.gb_cluster.specs.declared.event.Event.TheVariants.{At}
-use Rattle.gb_cluster.specs.declared.posted.Posted.{Posted}
+use Rattle.gb_types.specs.Common.{◌≡◌, suc, List, [], ◌∷◌, ◌++◌, length, refl, sym, ap, subst, ◌∙◌, reverse, reverse-append}
+use Rattle.gb_types.specs.declared.{node.NodeId.NodeId, plan.Plan.Plan, reply.Reply.Reply, request.Request.Request}
+use Rattle.gb_node.specs.declared.{answer.NodeAnswer.TheVariants.Reply as Replied, event.NodeEvent.TheVariants.Request as Asked}
+use Rattle.gb_cluster.specs.Common.{IsStep, NodeActs, ClusterValue, new_cluster, Did, ComesTo}
+use Rattle.gb_cluster.specs.declared.{answer.Answer.Answer, answer.Answer.TheVariants.Reply as AnswerReply, event.Event.Event, event.Event.TheVariants.At, posted.Posted.Posted}
 use Rattle.gb_cluster.proofs.EndLemmas.{one_end}
 use Rattle.gb_isolation.specs.RunLaws.{LogsMayBeFetched, fetched_alone, to_fetch}
 use Rattle.gb_trace.specs.Run.{LogsAreShown}

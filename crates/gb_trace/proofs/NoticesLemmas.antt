@@ -1,15 +1,9 @@
 -- Notices, one node after the other.
-use Rattle.std.proofs.Common.{◌≡◌, ℕ, zero, suc, ◌+◌, Bool, true, false, cond, ◌&&◌, List, [], ◌∷◌, ◌++◌, map, refl, sym, ap, ◌∙◌, arith, add-one, append_assoc}
-use Rattle.std.specs.Prelude.{filter, if◌then◌else◌}
-use Rattle.std.specs.List.{range_with_len}
-use Rattle.std.proofs.lemmas.List.{append-nil, map-append}
-use Rattle.std.proofs.lemmas.List.Elements.{filter-append}
-use Rattle.gb_types.specs.declared.node.NodeId.{NodeId}
-use Rattle.gb_types.specs.declared.spec.Spec.{Spec}
-use Rattle.gb_rules.specs.Group.{is_other}
-use Rattle.gb_alone.specs.declared.event.GroupEvent.TheVariants.{Notice}
-use Rattle.gb_alone.specs.declared.event.GroupStep.{GroupStep}
-use Rattle.gb_node.specs.NodeStep.{node_numbered}
+use Rattle.gb_types.specs.Common.{◌≡◌, ℕ, zero, suc, ◌+◌, Bool, true, false, cond, ◌&&◌, List, [], ◌∷◌, ◌++◌, map, refl, sym, ap, ◌∙◌, arith, add-one, append_assoc, filter, if◌then◌else◌, range_with_len, append-nil, map-append, filter-append}
+use Rattle.gb_types.specs.declared.{node.NodeId.NodeId, spec.Spec.Spec}
+use Rattle.gb_rules.specs.Common.{is_other}
+use Rattle.gb_alone.specs.declared.{event.GroupEvent.TheVariants.Notice, event.GroupStep.GroupStep}
+use Rattle.gb_node.specs.Common.{node_numbered}
 use Rattle.gb_node.proofs.TookLemmas.{numbered_is}
 
 -- the notices of the nodes with numbers below n

@@ -1,14 +1,8 @@
 -- What happened in a run, one thing after the other.
-use Rattle.std.proofs.Common.{◌≡◌, ℕ, ◌+◌, ◌<◌, ◌≤◌, Bool, true, false, List, [], ◌∷◌, ◌++◌, length, take, get_or, ◌∙◌, ap, sym, refl}
-use Rattle.std.specs.Option.{option_or}
-use Rattle.std.proofs.lemmas.List.Folds.{find-append}
-use Rattle.std.specs.Prelude.{reverse, find, nat_eq, if◌then◌else◌}
-use Rattle.std.proofs.lemmas.List.{take_all, take_more, reverse-append}
-use Rattle.gb_types.specs.declared.address.Addr.{Addr}
-use Rattle.gb_types.specs.declared.node.NodeId.{NodeId}
-use Rattle.gb_types.specs.declared.plan.Plan.{Plan}
-use Rattle.gb_node.specs.Past.{Happened, added, tenants_in}
-use Rattle.gb_cluster.specs.Run.{Did, past_at}
+use Rattle.gb_types.specs.Common.{◌≡◌, ℕ, ◌+◌, ◌<◌, ◌≤◌, Bool, true, false, List, [], ◌∷◌, ◌++◌, length, take, get_or, ◌∙◌, ap, sym, refl, option_or, find-append, reverse, find, nat_eq, if◌then◌else◌, take_all, take_more, reverse-append}
+use Rattle.gb_types.specs.declared.{address.Addr.Addr, node.NodeId.NodeId, plan.Plan.Plan}
+use Rattle.gb_node.specs.Common.{Happened, added, tenants_in}
+use Rattle.gb_cluster.specs.Common.{Did, past_at}
 use Rattle.gb_isolation.specs.Project.{gives, project, reply_in, replies_in}
 use Rattle.gb_trace.specs.Deeds.{past_in}
 

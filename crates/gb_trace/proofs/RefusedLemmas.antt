@@ -1,31 +1,17 @@
 -- If no refusal of memory was found for a group, it had no request refused for lack of memory; and what one more event changes in this.
-use Rattle.std.proofs.Common.{◌≡◌, ℕ, ◌+◌, ◌<◌, Bool, true, false, not, ◌&&◌, ◌||◌, List, [], ◌∷◌, ◌++◌, length, take, get_or, replicate, Option, Some, None, nat_eq, refl, sym, ap, ◌∙◌, append_assoc, Bor}
-use Rattle.std.proofs.lemmas.List.{append-nil, reverse-append, get_or-replicate}
-use Rattle.std.specs.Option.{option_copied, option_or}
-use Rattle.std.specs.Prelude.{reverse, option_map, if◌then◌else◌}
-use Rattle.gb_types.specs.declared.address.Addr.{Addr}
-use Rattle.gb_types.specs.declared.limits.TheConstants.{NODES}
-use Rattle.gb_types.specs.declared.node.NodeId.{NodeId}
-use Rattle.gb_types.specs.declared.spec.TenantRow.{TenantRow}
+use Rattle.gb_types.specs.Common.{◌≡◌, ℕ, ◌+◌, ◌<◌, Bool, true, false, not, ◌&&◌, ◌||◌, List, [], ◌∷◌, ◌++◌, length, take, get_or, replicate, Option, Some, None, nat_eq, refl, sym, ap, ◌∙◌, append_assoc, Bor, append-nil, reverse-append, get_or-replicate, option_copied, option_or, reverse, option_map, if◌then◌else◌}
+use Rattle.gb_types.specs.declared.{address.Addr.Addr, limits.TheConstants.NODES, node.NodeId.NodeId, spec.TenantRow.TenantRow}
 use Rattle.gb_types.proofs.BoolLemmas.{or_left, or_right}
-use Rattle.gb_node.specs.Past.{Happened, added, tenants_in}
-use Rattle.gb_node.specs.declared.answer.NodeAnswer.{NodeAnswer}
-use Rattle.gb_node.specs.declared.answer.NodeAnswer.TheVariants.{Reply as Replied, Sent}
-use Rattle.gb_node.specs.declared.answer.Sent.{Sent as SentValue}
-use Rattle.gb_node.specs.declared.event.NodeEvent.{NodeEvent}
-use Rattle.gb_node.specs.declared.event.NodeEvent.TheVariants.{Request as Asked, Packet as Came}
-use Rattle.gb_cluster.specs.ClusterStep.{packet_numbered}
-use Rattle.gb_cluster.specs.Run.{Did, past_at}
-use Rattle.gb_cluster.specs.declared.answer.Answer.{Answer}
+use Rattle.gb_node.specs.Common.{Happened, added, tenants_in}
+use Rattle.gb_node.specs.declared.{answer.NodeAnswer.NodeAnswer, answer.NodeAnswer.TheVariants.Reply as Replied, answer.NodeAnswer.TheVariants.Sent, answer.Sent.Sent as SentValue, event.NodeEvent.NodeEvent, event.NodeEvent.TheVariants.Request as Asked, event.NodeEvent.TheVariants.Packet as Came}
+use Rattle.gb_cluster.specs.Common.{packet_numbered, Did, past_at}
+use Rattle.gb_cluster.specs.declared.{answer.Answer.Answer, event.Event.Event, event.Event.TheVariants.At, event.Event.TheVariants.Arrive, posted.Posted.Posted}
 use Rattle.gb_cluster.specs.declared.answer.Answer.TheVariants.{Reply as AnswerReply, Taken as AnswerTaken, Sent as AnswerSent, Ticked as AnswerTicked, Halted as AnswerHalted, NoPacket, NotNoise}
-use Rattle.gb_cluster.specs.declared.event.Event.{Event}
-use Rattle.gb_cluster.specs.declared.event.Event.TheVariants.{At, Arrive}
-use Rattle.gb_cluster.specs.declared.posted.Posted.{Posted}
 use Rattle.gb_isolation.specs.Project.{is_starved_by, is_fed}
 use Rattle.gb_trace.specs.Kept.{AreRows}
 use Rattle.gb_trace.specs.Refused.{is_untaken_by, is_refused_for, is_lacked_by, rows_by}
 use Rattle.gb_trace.specs.Trace.{did_in, did_with, own_answer, sent_as, run_of, all_did}
-use Rattle.gb_rules.specs.Tenant.{row_of}
+use Rattle.gb_rules.specs.Common.{row_of}
 use Rattle.gb_trace.proofs.DeedLemmas.{did_arrive, newest_deed}
 use Rattle.gb_trace.proofs.PastLemmas.{find_later}
 

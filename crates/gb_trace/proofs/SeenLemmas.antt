@@ -1,17 +1,12 @@
 -- What the plain programs see of an isolated group.
-use Rattle.std.proofs.Common.{◌≡◌, ℕ, ◌<◌, List, ◌++◌, length, take, sym, ◌∙◌, ap, subst, arith}
-use Rattle.gb_types.specs.Version.{bounds_of}
+use Rattle.gb_types.specs.Common.{◌≡◌, ℕ, ◌<◌, List, ◌++◌, length, take, sym, ◌∙◌, ap, subst, arith, bounds_of}
 use Rattle.gb_types.specs.declared.entry.Entry.{Entry}
-use Rattle.gb_alone.specs.Alone.{Group, alone, IsLegal}
-use Rattle.gb_alone.specs.Observation.{observed_alone}
+use Rattle.gb_alone.specs.Common.{Group, alone, IsLegal, observed_alone}
 use Rattle.gb_alone.specs.declared.event.GroupStep.{GroupStep}
 use Rattle.gb_alone.proofs.ObservationLemmas.{seen_same}
-use Rattle.gb_node.specs.NodeGroups.{waiting_at}
-use Rattle.gb_node.specs.NodeStep.{node_numbered}
-use Rattle.gb_node.specs.Past.{frames_to}
-use Rattle.gb_cluster.specs.ClusterValue.{node_at}
+use Rattle.gb_node.specs.Common.{waiting_at, node_numbered, frames_to}
+use Rattle.gb_cluster.specs.Common.{node_at, Did, past_at}
 use Rattle.gb_cluster.proofs.NodesLemmas.{stays}
-use Rattle.gb_cluster.specs.Run.{Did, past_at}
 use Rattle.gb_isolation.proofs.NoticeLemmas.{numbered_is}
 use Rattle.gb_isolation.proofs.SeenLemmas.{take_front}
 use Rattle.gb_isolation.specs.Isolation.{Seen, alone_in, IsIsolated, GroupsAreIsolated}

@@ -1,11 +1,9 @@
 -- For how many ticks a node was not heard at another.
-use Rattle.std.proofs.Common.{◌≡◌, ℕ, ◌<◌, Bool, true, false, ◌||◌, List, [], ◌∷◌, ◌++◌, map, nat_eq, refl, ◌∙◌, append_assoc}
-use Rattle.std.specs.Prelude.{if◌then◌else◌}
-use Rattle.std.specs.List.{list_any}
+use Rattle.gb_types.specs.Common.{◌≡◌, ℕ, ◌<◌, Bool, true, false, ◌||◌, List, [], ◌∷◌, ◌++◌, map, nat_eq, refl, ◌∙◌, append_assoc, if◌then◌else◌, list_any}
 use Rattle.gb_detect.specs.Silence.{Call, Heard, is_noticed}
 use Rattle.gb_detect.proofs.TickLemmas.{ticks_since, ticks_since-other, ticks_since-heard, noticed-heard}
-use Rattle.gb_frame.specs.Packet.{Content}
-use Rattle.gb_node.specs.Past.{Happened, came, ticks, watched}
+use Rattle.gb_frame.specs.Common.{Content}
+use Rattle.gb_node.specs.Common.{Happened, came, ticks, watched}
 
 -- the packet is from this sender
 abbrev pub is_from : ℕ → Content → Bool

@@ -1,10 +1,9 @@
 -- Frames, given by the number of a group's items in each.
 use Rattle.std.specs.Prelude.{ℕ, ◌+◌, ◌-◌, ◌&&◌, not, Bool, false, List, [], ◌∷◌, ◌++◌, slice_index_or, if◌then◌else◌}
 use Rattle.gb_types.specs.declared.node.NodeId.{NodeId}
-use Rattle.gb_frame.specs.Packet.{Content}
-use Rattle.gb_link.specs.Ack.{covers}
-use Rattle.gb_alone.specs.declared.event.GroupEvent.TheVariants.{Done}
-use Rattle.gb_alone.specs.declared.event.GroupStep.{GroupStep}
+use Rattle.gb_frame.specs.Common.{Content}
+use Rattle.gb_link.specs.Common.{covers}
+use Rattle.gb_alone.specs.declared.{event.GroupEvent.TheVariants.Done, event.GroupStep.GroupStep}
 use Rattle.gb_isolation.specs.Project.{if_any}
 
 -- The acknowledged items of the frames from a to b: those in the frames whose number passes the test. The list has the number of items of each frame. The frames are

@@ -1,21 +1,15 @@
 -- What the programs that read a run keep of it, so that they do not ask its past anew at each event.
 use Rattle.std.specs.Prelude.{ℕ, ◌≡◌, ◌+◌, ◌<◌, ◌≤◌, ◌||◌, Bool, true, false, List, [], length, map, sum, take, nat_eq, nat_le, Option, None, slice_index_or}
 use Rattle.std.specs.HashSet.{contains, IsEmpty}
-use Rattle.gb_types.specs.declared.address.Addr.{Addr}
-use Rattle.gb_types.specs.declared.limits.TheConstants.{NODES}
-use Rattle.gb_types.specs.declared.node.NodeId.{NodeId}
-use Rattle.gb_types.specs.declared.plan.Plan.{Plan}
-use Rattle.gb_types.specs.declared.spec.TenantRow.{TenantRow}
-use Rattle.gb_frame.specs.Packet.{Content}
-use Rattle.gb_link.specs.Ack.{covers}
+use Rattle.gb_types.specs.declared.{address.Addr.Addr, limits.TheConstants.NODES, node.NodeId.NodeId, plan.Plan.Plan, spec.TenantRow.TenantRow}
+use Rattle.gb_frame.specs.Common.{Content}
+use Rattle.gb_link.specs.Common.{covers}
 use Rattle.gb_detect.specs.Silence.{since_heard, is_noticed, is_tick}
-use Rattle.gb_rules.specs.Tenant.{row_of}
-use Rattle.gb_node.specs.Past.{Happened, frames_to, is_acked, is_stopped, tenants_in, watched}
-use Rattle.gb_cluster.specs.Run.{Did, past_at}
+use Rattle.gb_rules.specs.Common.{row_of}
+use Rattle.gb_node.specs.Common.{Happened, frames_to, is_acked, is_stopped, tenants_in, watched}
+use Rattle.gb_cluster.specs.Common.{Did, past_at}
 use Rattle.gb_isolation.specs.Project.{group_items, has_come, is_met, made_with}
-use Rattle.gb_trace.specs.declared.frames.Frames.{Frames}
-use Rattle.gb_trace.specs.declared.links.Link.{Link}
-use Rattle.gb_trace.specs.declared.kept.NodeKept.{NodeKept}
+use Rattle.gb_trace.specs.declared.{frames.Frames.Frames, links.Link.Link, kept.NodeKept.NodeKept}
 use Rattle.std.specs.List.{count_by}
 
 -- for each node, the row of the tenant there after the run, if it was added

@@ -1,20 +1,12 @@
 -- What is seen of a group in a run, without what only the nodes hold.
 use Rattle.std.specs.Prelude.{◌≡◌, ◌≤◌, true, List, map}
-use Rattle.gb_types.specs.Version.{bounds_of}
-use Rattle.gb_types.specs.declared.address.Addr.{Addr}
-use Rattle.gb_types.specs.declared.limits.TheConstants.{NODES}
-use Rattle.gb_types.specs.declared.node.NodeId.{NodeId}
-use Rattle.gb_alone.specs.Alone.{alone, IsLegal}
-use Rattle.gb_alone.specs.Observation.{SeenAt, numbers_below, observed_alone}
+use Rattle.gb_types.specs.Common.{bounds_of}
+use Rattle.gb_types.specs.declared.{address.Addr.Addr, limits.TheConstants.NODES, node.NodeId.NodeId, plan.Plan.Plan}
+use Rattle.gb_alone.specs.Common.{alone, IsLegal, SeenAt, numbers_below, observed_alone}
 use Rattle.gb_alone.specs.declared.event.GroupStep.{GroupStep}
-use Rattle.gb_node.specs.NodeStep.{node_numbered}
-use Rattle.gb_node.specs.Past.{frames_to}
-use Rattle.gb_cluster.specs.ClusterValue.{ClusterValue}
-use Rattle.gb_cluster.specs.Run.{Did, past_at}
-use Rattle.gb_cluster.specs.declared.answer.Answer.{Answer}
-use Rattle.gb_cluster.specs.declared.event.Event.{Event}
-use Rattle.gb_types.specs.declared.plan.Plan.{Plan}
-use Rattle.gb_cluster.specs.declared.posted.Posted.{Posted}
+use Rattle.gb_node.specs.Common.{node_numbered, frames_to}
+use Rattle.gb_cluster.specs.Common.{ClusterValue, Did, past_at}
+use Rattle.gb_cluster.specs.declared.{answer.Answer.Answer, event.Event.Event, posted.Posted.Posted}
 use Rattle.gb_isolation.specs.Isolation.{alone_in, IsIsolated}
 use Rattle.gb_isolation.specs.Project.{group_items_of, replies_in, project, is_fed}
 use Rattle.gb_trace.specs.Trace.{run_of, IsRun}

@@ -1,22 +1,10 @@
 -- Which groups were refused memory, as a run shows it.
 use Rattle.std.specs.Prelude.{Bool, false, ◌||◌, List, [], ◌∷◌, nat_eq, if◌then◌else◌}
-use Rattle.gb_types.specs.declared.address.Addr.{Addr}
-use Rattle.gb_types.specs.declared.refusal.Refusal.TheVariants.{OutOfMemory}
-use Rattle.gb_types.specs.declared.reply.Reply.TheVariants.{Refused}
-use Rattle.gb_types.specs.declared.request.Action.{Action}
-use Rattle.gb_types.specs.declared.request.Action.TheVariants.{AddTenant, Group}
-use Rattle.gb_types.specs.declared.node.NodeId.{NodeId}
-use Rattle.gb_types.specs.declared.spec.TenantRow.{TenantRow}
-use Rattle.gb_node.specs.Past.{added}
-use Rattle.gb_node.specs.declared.answer.NodeAnswer.{NodeAnswer}
-use Rattle.gb_node.specs.declared.answer.NodeAnswer.TheVariants.{Reply as Replied}
-use Rattle.gb_node.specs.declared.event.NodeEvent.{NodeEvent}
-use Rattle.gb_node.specs.declared.event.NodeEvent.TheVariants.{Request as Asked}
-use Rattle.gb_cluster.specs.Run.{Did, past_at}
-use Rattle.gb_cluster.specs.declared.answer.Answer.{Answer}
-use Rattle.gb_cluster.specs.declared.answer.Answer.TheVariants.{Reply as AnswerReply}
-use Rattle.gb_cluster.specs.declared.event.Event.{Event}
-use Rattle.gb_cluster.specs.declared.event.Event.TheVariants.{At}
+use Rattle.gb_types.specs.declared.{address.Addr.Addr, refusal.Refusal.TheVariants.OutOfMemory, reply.Reply.TheVariants.Refused, request.Action.Action, request.Action.TheVariants.AddTenant, request.Action.TheVariants.Group, node.NodeId.NodeId, spec.TenantRow.TenantRow}
+use Rattle.gb_node.specs.Common.{added}
+use Rattle.gb_node.specs.declared.{answer.NodeAnswer.NodeAnswer, answer.NodeAnswer.TheVariants.Reply as Replied, event.NodeEvent.NodeEvent, event.NodeEvent.TheVariants.Request as Asked}
+use Rattle.gb_cluster.specs.Common.{Did, past_at}
+use Rattle.gb_cluster.specs.declared.{answer.Answer.Answer, answer.Answer.TheVariants.Reply as AnswerReply, event.Event.Event, event.Event.TheVariants.At}
 use Rattle.gb_isolation.specs.Project.{is_starved_by}
 
 -- the request is to add the group's tenant

@@ -1,25 +1,14 @@
 -- Whole runs of a cluster, from events, answers and packets.
 use Rattle.std.specs.Prelude.{◌≡◌, true, List, [], ◌∷◌, ◌++◌, Option, Some, None, option_map, reverse}
 use Rattle.std.specs.Option.{option_map_or, option_to_list}
-use Rattle.gb_types.specs.declared.address.Addr.{Addr}
-use Rattle.gb_types.specs.declared.node.NodeId.{NodeId}
-use Rattle.gb_node.specs.declared.answer.NodeAnswer.{NodeAnswer}
+use Rattle.gb_types.specs.declared.{address.Addr.Addr, node.NodeId.NodeId, plan.Plan.Plan}
+use Rattle.gb_node.specs.declared.{answer.NodeAnswer.NodeAnswer, answer.Sent.Sent as SentValue, event.NodeEvent.NodeEvent, event.NodeEvent.TheVariants.Packet as Came}
 use Rattle.gb_node.specs.declared.answer.NodeAnswer.TheVariants.{Reply as Replied, Taken, Sent, Ticked, Halted}
-use Rattle.gb_node.specs.declared.answer.Sent.{Sent as SentValue}
 use Rattle.gb_node.specs.declared.answer.Sent.TheVariants.{Packet as SentPacket, Nothing as SentNothing, Refused as SentRefused}
-use Rattle.gb_node.specs.declared.event.NodeEvent.{NodeEvent}
-use Rattle.gb_node.specs.declared.event.NodeEvent.TheVariants.{Packet as Came}
-use Rattle.gb_cluster.specs.ClusterStep.{packet_numbered, IsStep}
-use Rattle.gb_cluster.specs.ClusterValue.{ClusterValue, new_cluster}
-use Rattle.gb_cluster.specs.Run.{Did, ComesTo}
-use Rattle.gb_cluster.specs.declared.answer.Answer.{Answer}
+use Rattle.gb_cluster.specs.Common.{packet_numbered, IsStep, ClusterValue, new_cluster, Did, ComesTo}
+use Rattle.gb_cluster.specs.declared.{answer.Answer.Answer, answer.Sending.Sending, event.Event.Event, event.Event.TheVariants.At, event.Event.TheVariants.Arrive, posted.Posted.Posted}
 use Rattle.gb_cluster.specs.declared.answer.Answer.TheVariants.{Reply as AnswerReply, Taken as AnswerTaken, Sent as AnswerSent, Ticked as AnswerTicked, Halted as AnswerHalted}
-use Rattle.gb_cluster.specs.declared.answer.Sending.{Sending}
 use Rattle.gb_cluster.specs.declared.answer.Sending.TheVariants.{Packet as SendingPacket, Nothing as SendingNothing, Refused as SendingRefused}
-use Rattle.gb_cluster.specs.declared.event.Event.{Event}
-use Rattle.gb_cluster.specs.declared.event.Event.TheVariants.{At, Arrive}
-use Rattle.gb_types.specs.declared.plan.Plan.{Plan}
-use Rattle.gb_cluster.specs.declared.posted.Posted.{Posted}
 use Rattle.gb_isolation.specs.Isolation.{IsSeenAlone}
 use Rattle.gb_isolation.specs.Project.{is_fed}
 

@@ -1,6 +1,6 @@
 //! What happened at nodes, read from events, answers and packets.
 ghost use Rattle.std.specs.Prelude.{◌≡◌, ◌++◌, nat_eq, IfOk, OnOk, Some, None, MatchOption};
-ghost use Rattle.gb_cluster.specs.ClusterStep.{packet_numbered};
+ghost use Rattle.gb_cluster.specs.Common.{packet_numbered};
 ghost use Rattle.gb_trace.specs.Trace.{sent_as, own_answer, did_with, did_in, all_did};
 
 use gb_cluster::{Answer, Event, Posted, Sending};
@@ -21,7 +21,7 @@ impl Model for Deed {
     ghost use Rattle.std.specs.Coded.{codes, coded_ℕ};
     ghost use Rattle.std.specs.Ordering.{nat_cmp};
     ghost use Rattle.std.specs.FinSet as set;
-    ghost use Rattle.gb_cluster.specs.Run.{Did};
+    ghost use Rattle.gb_cluster.specs.Common.{Did};
 
     ghost Value = { Did };
 

@@ -2,9 +2,9 @@
 ghost use Rattle.std.specs.Prelude.{◌≡◌, ◌≤◌, ◌++◌, reverse, IfOk, OnOk, map};
 ghost use Rattle.std.specs.Option.{option_copied};
 ghost use Rattle.gb_types.specs.declared.limits.TheConstants.{NODES as MOST};
-ghost use Rattle.gb_rules.specs.Tenant.{row_of};
-ghost use Rattle.gb_alone.specs.Observation.{numbers_below};
-ghost use Rattle.gb_node.specs.Past.{packed_for, frames_to, tenants_in};
+ghost use Rattle.gb_rules.specs.Common.{row_of};
+ghost use Rattle.gb_alone.specs.Common.{numbers_below};
+ghost use Rattle.gb_node.specs.Common.{packed_for, frames_to, tenants_in};
 ghost use Rattle.gb_isolation.specs.Project.{group_items_of, reply_in, replies_in};
 ghost use Rattle.gb_trace.specs.Deeds.{past_in};
 ghost use Rattle.gb_trace.specs.Observed.{observed, observed_at};

@@ -1,13 +1,12 @@
 //! Questions about what happened at a node, one thing at a time, and about its requests.
 ghost use Rattle.std.specs.Prelude.{◌≡◌, ◌&&◌, List};
 ghost use Rattle.std.specs.Option.{option_copied};
-ghost use Rattle.gb_rules.specs.Tenant.{row_of};
-ghost use Rattle.gb_node.specs.Past.{added, tenants_in};
+ghost use Rattle.gb_rules.specs.Common.{row_of};
+ghost use Rattle.gb_node.specs.Common.{added, tenants_in};
 ghost use Rattle.gb_node.specs.Past as occurred;
-ghost use Rattle.gb_table.specs.Admission.{has_group_token, is_by_row};
+ghost use Rattle.gb_table.specs.Common.{has_group_token, is_by_row};
 ghost use Rattle.gb_types.specs.declared.spec.TenantRow.{TenantRow as RowValue};
-ghost use Rattle.gb_node.specs.declared.answer.NodeAnswer.TheVariants.{Reply as Replied};
-ghost use Rattle.gb_node.specs.declared.event.NodeEvent.TheVariants.{Request as Asked};
+ghost use Rattle.gb_node.specs.declared.{answer.NodeAnswer.TheVariants.Reply as Replied, event.NodeEvent.TheVariants.Request as Asked};
 ghost use Rattle.gb_isolation.specs.Project as projected;
 ghost use Rattle.gb_trace.specs.Deeds.{past_in};
 ghost use Rattle.gb_trace.specs.Kept.{KeepsNode};

@@ -1,8 +1,7 @@
 //! The packets that were packed and that came, read from their texts, and the items of a group in them.
 ghost use Rattle.std.specs.Prelude.{ℕ, ◌≡◌, ◌++◌, List, [], ◌∷◌, false, length, nat_eq, IfOk, OnOk, MatchOption};
-ghost use Rattle.gb_frame.specs.Packet.{item_of};
-ghost use Rattle.gb_frame.specs.Items.{entry_of, names};
-ghost use Rattle.gb_node.specs.NodeStep.{node_numbered};
+ghost use Rattle.gb_frame.specs.Common.{item_of, entry_of, names};
+ghost use Rattle.gb_node.specs.Common.{node_numbered};
 ghost use Rattle.gb_node.specs.Past as past;
 ghost use Rattle.gb_isolation.specs.Project.{group_items};
 

@@ -2,8 +2,8 @@
 ghost use Rattle.std.specs.Prelude.{◌≡◌, false, true, None, List, slice_index_or};
 ghost use Rattle.std.specs.Option.{option_copied, option_or};
 ghost use Rattle.gb_types.specs.declared.node.NodeId.{NodeId as AnyNode};
-ghost use Rattle.gb_rules.specs.Tenant.{row_of};
-ghost use Rattle.gb_cluster.specs.Run.{Did};
+ghost use Rattle.gb_rules.specs.Common.{row_of};
+ghost use Rattle.gb_cluster.specs.Common.{Did};
 ghost use Rattle.gb_isolation.specs.Project.{is_fed};
 ghost use Rattle.gb_trace.specs.Kept.{AreRows};
 ghost use Rattle.gb_trace.specs.Refused.{is_lacked_by, is_refused_for, rows_by};

@@ -1,8 +1,7 @@
 //! Whole runs of a cluster.
 ghost use Rattle.std.specs.Prelude.{◌≡◌, ◌↔◌, All, IsTrue, IfOk};
 ghost use Rattle.std.specs.List.{list_any};
-ghost use Rattle.gb_cluster.specs.ClusterStep.{IsPlaced};
-ghost use Rattle.gb_cluster.specs.ClusterValue.{ClusterValue, IsClusterPlan};
+ghost use Rattle.gb_cluster.specs.Common.{IsPlaced, ClusterValue, IsClusterPlan};
 ghost use Rattle.gb_trace.specs.Trace.{AreSeenAlone, IsRun};
 ghost use Rattle.gb_trace.specs.Run.{tells_want, IsIsolatedRun, IsAmpleRun};
 

@@ -6,9 +6,7 @@ use Rattle.gb_types.specs.Rising.{AreNodes}
 use Rattle.gb_types.specs.KindWord.{kind_word}
 use Rattle.gb_types.specs.MembersWord.{members_word}
 use Rattle.gb_types.specs.RequestWords.{IsShort, IsLong, IsGroup, AreGroupNumbers, group_word, SpellsSpec}
-use Rattle.gb_types.specs.declared.kind.Kind.{Kind}
-use Rattle.gb_types.specs.declared.address.Addr.{Addr}
-use Rattle.gb_types.specs.declared.spec.Spec.{Spec}
+use Rattle.gb_types.specs.declared.{kind.Kind.Kind, address.Addr.Addr, spec.Spec.Spec}
 use Rattle.gb_types.proofs.ReadLemmas.{Reads, found, only, reads_one}
 
 -- what the readers of single words find

@@ -1,11 +1,9 @@
-use Rattle.gb_types.specs.declared.limits.TheConstants.{NODES}
+use Rattle.gb_types.specs.declared.{limits.TheConstants.NODES, message.MsgId.MsgId, node.NodeId.NodeId}
 use Rattle.std.proofs.Common.{◌≡◌, true, arith, ◌<◌}
 use Rattle.std.proofs.lemmas.Bool.{eqb-true}
 use Rattle.std.proofs.lemmas.Bool.Decides.{nat_tests}
-use Rattle.gb_types.specs.declared.message.MsgId.{MsgId}
 use Rattle.std.proofs.Math.Path.{to_path_p}
 use Rattle.std.proofs.Math.Bridge.{le_prop}
-use Rattle.gb_types.specs.declared.node.NodeId.{NodeId}
 use Rattle.gb_types.specs.Message.{same}
 use Rattle.gb_types.proofs.BoolLemmas.{and_left, and_right}
 

@@ -1,12 +1,9 @@
 -- The words of commands in groups: what a command begins with, and the words that spell what it asks.
 use Rattle.std.specs.Prelude.{◌≡◌, ℕ, List, [], ◌∷◌, codes, decimal}
 use Rattle.gb_types.specs.RequestWords.{IsLong, SpellsSpec, SpellsMessage}
-use Rattle.gb_types.specs.declared.command_words.CommandHead.{CommandHead}
+use Rattle.gb_types.specs.declared.{command_words.CommandHead.CommandHead, new_message.NewMessage.NewMessage, request.GroupCommand.GroupCommand, spec.Spec.Spec}
 use Rattle.gb_types.specs.declared.command_words.CommandHead.TheVariants.{Make, Open, Shut, Drop, Say, Fetch}
-use Rattle.gb_types.specs.declared.new_message.NewMessage.{NewMessage}
-use Rattle.gb_types.specs.declared.request.GroupCommand.{GroupCommand}
 use Rattle.gb_types.specs.declared.request.GroupCommand.TheVariants as commands
-use Rattle.gb_types.specs.declared.spec.Spec.{Spec}
 
 -- the word that a command begins with
 abbrev pub head_word : CommandHead → List ℕ

@@ -1,6 +1,5 @@
 -- Entries: messages with their payloads.
-use Rattle.gb_types.specs.declared.entry.Entry.{Entry}
-use Rattle.gb_types.specs.declared.message.MsgId.{MsgId}
+use Rattle.gb_types.specs.declared.{entry.Entry.Entry, message.MsgId.MsgId}
 
 -- the origin and the number of an entry's message
 abbrev pub message_of : Entry → MsgId

@@ -1,10 +1,7 @@
 -- The words for the kinds of broadcast.
 use Rattle.std.specs.Prelude.{ℕ, List, ◌++◌, codes}
-use Rattle.gb_types.specs.declared.kind.Kind.{Kind}
-use Rattle.gb_types.specs.declared.kind.Module.{Module}
+use Rattle.gb_types.specs.declared.{kind.Kind.Kind, kind.Module.Module, kind.Order.Order, kind.Order.TheVariants.Any, kind.Order.TheVariants.Fifo}
 use Rattle.gb_types.specs.declared.kind.Module.TheVariants.{BestEffort, Lazy, Eager, AllAck, Majority}
-use Rattle.gb_types.specs.declared.kind.Order.{Order}
-use Rattle.gb_types.specs.declared.kind.Order.TheVariants.{Any, Fifo}
 
 -- the word for a module of broadcast
 abbrev pub module_word : Module → List ℕ

@@ -1,7 +1,6 @@
 -- The bytes of a payload.
 use Rattle.std.specs.Prelude.{ℕ, List}
-use Rattle.gb_types.specs.declared.payload.Bytes.{Bytes}
-use Rattle.gb_types.specs.declared.payload.Bytes.TheVariants.{Few, Many}
+use Rattle.gb_types.specs.declared.{payload.Bytes.Bytes, payload.Bytes.TheVariants.Few, payload.Bytes.TheVariants.Many}
 
 -- the bytes, whether they are in place or in memory of their own
 abbrev pub bytes_of : Bytes → List ℕ

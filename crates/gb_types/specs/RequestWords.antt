@@ -6,9 +6,7 @@ use Rattle.gb_types.specs.Rising.{AreNodes}
 use Rattle.gb_types.specs.KindWord.{kind_word}
 use Rattle.gb_types.specs.MembersWord.{members_word}
 use Rattle.gb_types.specs.PayloadWord.{payload_of}
-use Rattle.gb_types.specs.declared.address.Addr.{Addr}
-use Rattle.gb_types.specs.declared.new_message.NewMessage.{NewMessage}
-use Rattle.gb_types.specs.declared.spec.Spec.{Spec}
+use Rattle.gb_types.specs.declared.{address.Addr.Addr, new_message.NewMessage.NewMessage, spec.Spec.Spec}
 
 -- the numbers of tenants and groups have two bytes, the other numbers of a request four
 abbrev pub IsShort : ℕ → Type 0

@@ -2,11 +2,8 @@
 use Rattle.std.specs.Prelude.{ℕ, ◌==◌, ◌≤◌, List, Option, Some, None, slice_index_or, if◌then◌else◌}
 use Rattle.std.proofs.Common.{lit≤}
 use Rattle.gb_types.specs.declared.limits.TheConstants.{NODES, PAYLOAD, PACKET}
-use Rattle.gb_types.specs.declared.plan.Bounds.{Bounds}
-use Rattle.gb_types.specs.declared.plan.Plan.{Plan}
-use Rattle.gb_types.specs.declared.version.Version.{Version}
+use Rattle.gb_types.specs.declared.{plan.Bounds.Bounds, plan.Plan.Plan, version.Version.Version, version.VersionLimits.VersionLimits}
 use Rattle.gb_types.specs.declared.version.Version.TheVariants.{One, Two, Three}
-use Rattle.gb_types.specs.declared.version.VersionLimits.{VersionLimits}
 
 -- what a version allows: the byte that stands for it, nodes, bytes of a payload, bytes of a packet, bytes of an item before its payload
 abbrev pub limits_of : Version → VersionLimits

@@ -1,9 +1,8 @@
 //! The words of commands in groups: what a command begins with, and the words that spell what it asks.
 ghost use Rattle.std.specs.Prelude.{◌≡◌, ◌↔◌, ℕ, [], Some, IfOk, IfErr, map};
 ghost use Rattle.gb_types.specs.CommandWords.{head_word, SpellsFetch, SpellsCommand};
-ghost use Rattle.gb_types.specs.declared.command_words.CommandHead.{CommandHead};
+ghost use Rattle.gb_types.specs.declared.{command_words.CommandHead.CommandHead, request.GroupCommand.GroupCommand as TheCommand};
 ghost use Rattle.gb_types.specs.declared.command_words.CommandHead.TheVariants.{Make as MakeHead, Say as SayHead, Fetch as FetchHead};
-ghost use Rattle.gb_types.specs.declared.request.GroupCommand.{GroupCommand as TheCommand};
 
 use crate::memory::OutOfMemory;
 use crate::request::GroupCommand;

@@ -1,7 +1,6 @@
 //! The words for the kinds of broadcast.
 ghost use Rattle.std.specs.Prelude.{◌≡◌, ◌↔◌, Some};
-ghost use Rattle.gb_types.specs.declared.kind.Kind.{Kind};
-ghost use Rattle.gb_types.specs.declared.kind.Module.{Module};
+ghost use Rattle.gb_types.specs.declared.{kind.Kind.Kind, kind.Module.Module};
 ghost use Rattle.gb_types.specs.KindWord.{kind_word, module_word};
 
 use crate::kind::{Kind, Module, Order};

@@ -2,9 +2,7 @@
 ghost use Rattle.std.specs.Prelude.{◌≡◌, ◌↔◌, ℕ, Option, Some, IfOk, decimal, map, option_map};
 ghost use Rattle.std.specs.Option.{ForSome};
 ghost use Rattle.gb_types.specs.RequestWords.{IsShort, IsLong, IsGroup, AreGroupNumbers, HasNoDot, with_dot, generation_word, group_word, SpellsSpec, seq_words, SpellsMessage};
-ghost use Rattle.gb_types.specs.declared.address.Addr.{Addr as TheAddress};
-ghost use Rattle.gb_types.specs.declared.new_message.NewMessage.{NewMessage as TheMessage};
-ghost use Rattle.gb_types.specs.declared.spec.Spec.{Spec as TheSpec};
+ghost use Rattle.gb_types.specs.declared.{address.Addr.Addr as TheAddress, new_message.NewMessage.NewMessage as TheMessage, spec.Spec.Spec as TheSpec};
 
 use crate::address::Addr;
 use crate::kind_word::read_kind;

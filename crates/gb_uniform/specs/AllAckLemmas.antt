@@ -4,10 +4,7 @@ use Rattle.std.specs.List.{list_all}
 use Rattle.std.specs.FinSet as set
 use Rattle.gb_types.specs.declared.kind.Module.TheVariants.{AllAck}
 use Rattle.gb_types.proofs.BoolLemmas.{or_more}
-use Rattle.gb_layer.specs.Lists.{list_all_weaker}
-use Rattle.gb_layer.specs.Machine.{mentions, was_noticed}
-use Rattle.gb_layer.specs.Modules.{holds}
-use Rattle.gb_layer.specs.Rule.{BroadcastsMore, DeliversMore, BroadcastsItsOwn, BroadcastsAs, DeliversAs, noticed_in, holders_in}
+use Rattle.gb_layer.specs.Common.{list_all_weaker, mentions, was_noticed, holds, BroadcastsMore, DeliversMore, BroadcastsItsOwn, BroadcastsAs, DeliversAs, noticed_in, holders_in}
 use Rattle.gb_layer.proofs.RuleLemmas.{noticed_is, holders_is}
 use Rattle.gb_uniform.specs.Rules.{all_ack_rules}
 

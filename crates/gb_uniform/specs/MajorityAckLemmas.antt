@@ -2,10 +2,9 @@
 use Rattle.std.proofs.Common.{◌&&◌, refl, sym}
 use Rattle.std.specs.FinSet as set
 use Rattle.gb_types.specs.declared.kind.Module.TheVariants.{Majority}
-use Rattle.gb_types.specs.Places.{has_majority}
+use Rattle.gb_types.specs.Common.{has_majority}
 use Rattle.gb_types.proofs.MajorityLemmas.{listed, majority_more}
-use Rattle.gb_layer.specs.Machine.{mentions}
-use Rattle.gb_layer.specs.Rule.{BroadcastsMore, DeliversMore, BroadcastsItsOwn, BroadcastsAs, DeliversAs}
+use Rattle.gb_layer.specs.Common.{mentions, BroadcastsMore, DeliversMore, BroadcastsItsOwn, BroadcastsAs, DeliversAs}
 use Rattle.gb_layer.proofs.RuleLemmas.{holders_is}
 use Rattle.gb_uniform.specs.Rules.{majority_ack_rules}
 

@@ -2,8 +2,8 @@
 use Rattle.std.specs.Prelude.{true, ◌||◌}
 use Rattle.std.specs.List.{list_all}
 use Rattle.std.specs.FinSet as set
-use Rattle.gb_types.specs.Places.{has_majority}
-use Rattle.gb_layer.specs.Rule.{Rules}
+use Rattle.gb_types.specs.Common.{has_majority}
+use Rattle.gb_layer.specs.Common.{Rules}
 
 -- all-ack broadcasts at once, and delivers once each member was noticed or holds the message (Cachin, Guerraoui, Rodrigues 2011, Algorithm 3.4)
 abbrev pub all_ack_rules : Rules

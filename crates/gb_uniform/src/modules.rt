@@ -1,6 +1,6 @@
 //! Laws: which rules are which module of broadcast.
 ghost use Rattle.gb_types.specs.declared.kind.Module.TheVariants.{AllAck, Majority};
-ghost use Rattle.gb_layer.specs.Rule.{BroadcastsAs, DeliversAs};
+ghost use Rattle.gb_layer.specs.Common.{BroadcastsAs, DeliversAs};
 
 use crate::all_ack::AllAcked;
 use crate::majority_ack::MajorityAcked;

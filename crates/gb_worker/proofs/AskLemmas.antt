@@ -1,13 +1,10 @@
 -- The answers of a session, seen in the seat's list.
-use Rattle.std.proofs.Common.{ℕ, List, [], ◌∷◌, ap, subst, Option, Result, Ok, Err}
-use Rattle.std.specs.Prelude.{IfOk, IfErr}
-use Rattle.gb_types.specs.declared.reply.Reply.{Reply}
-use Rattle.gb_types.specs.declared.request.Request.{Request}
+use Rattle.gb_types.specs.Common.{ℕ, List, [], ◌∷◌, ap, subst, Option, Result, Ok, Err, IfOk, IfErr}
+use Rattle.gb_types.specs.declared.{reply.Reply.Reply, request.Request.Request}
 use Rattle.gb_session.specs.Answering.{Answering, IsDenied}
 use Rattle.gb_session.specs.Runs.{IsRun}
 use Rattle.gb_session.specs.Sessions.{IsSession, IsCutOff}
-use Rattle.gb_session.specs.declared.serve.SessionEnd.{SessionEnd}
-use Rattle.gb_session.specs.declared.serve.SessionFault.{SessionFault}
+use Rattle.gb_session.specs.declared.{serve.SessionEnd.SessionEnd, serve.SessionFault.SessionFault}
 
 abbrev Relation : Type 0 → Type 1
 Relation S = S → Request → Reply → S → Type 0

@@ -1,22 +1,10 @@
 -- A request is asked by a call, and what the client is told.
-use Rattle.std.proofs.Common.{◌≡◌, ◌⊎◌, ◌+◌, ◌∙◌, ℕ, inl, inr, ◌&&◌, ◌||◌, not, Bool, true, false, List, [], ◌∷◌, ◌++◌, ap, arith, cond, refl, subst, Result, Ok, Err}
+use Rattle.gb_types.specs.Common.{◌≡◌, ◌⊎◌, ◌+◌, ◌∙◌, ℕ, inl, inr, ◌&&◌, ◌||◌, not, Bool, true, false, List, [], ◌∷◌, ◌++◌, ap, arith, cond, refl, Result, Ok, Err, nat_cmp, IfOk, IfErr, OnErr}
 use Rattle.std.specs.FinSet as set
-use Rattle.std.specs.Ordering.{nat_cmp}
-use Rattle.std.specs.Prelude.{IfOk, IfErr, OnErr}
-use Rattle.gb_types.specs.declared.node.NodeId.{NodeId}
-use Rattle.gb_types.specs.declared.refusal.Refusal.TheVariants.{Stopped, OutOfMemory}
-use Rattle.gb_types.specs.declared.reply.Reply.{Reply}
-use Rattle.gb_types.specs.declared.reply.Reply.TheVariants.{Refused}
-use Rattle.gb_types.specs.declared.request.Request.{Request}
-use Rattle.gb_node.specs.declared.answer.NodeAnswer.{NodeAnswer}
-use Rattle.gb_node.specs.declared.event.NodeEvent.{NodeEvent}
-use Rattle.gb_node.specs.declared.event.NodeEvent.TheVariants.{Request as Asked}
-use Rattle.gb_host.specs.HostValue.{IsRefused}
-use Rattle.gb_host.specs.Plans.{is_kept}
-use Rattle.gb_host.specs.SeatValue.{SeatValue}
-use Rattle.gb_host.specs.declared.entry.SeatEntry.{SeatEntry}
-use Rattle.gb_host.specs.declared.plan.HostPlan.{HostPlan}
-use Rattle.gb_host.specs.declared.fault.HostFault.{HostFault}
+use Rattle.gb_types.specs.declared.{node.NodeId.NodeId, refusal.Refusal.TheVariants.Stopped, refusal.Refusal.TheVariants.OutOfMemory, reply.Reply.Reply, reply.Reply.TheVariants.Refused, request.Request.Request}
+use Rattle.gb_node.specs.declared.{answer.NodeAnswer.NodeAnswer, event.NodeEvent.NodeEvent, event.NodeEvent.TheVariants.Request as Asked}
+use Rattle.gb_host.specs.Common.{IsRefused, is_kept, SeatValue}
+use Rattle.gb_host.specs.declared.{entry.SeatEntry.SeatEntry, plan.HostPlan.HostPlan, fault.HostFault.HostFault}
 use Rattle.gb_host.specs.declared.fault.HostFault.TheVariants.{NoNode, ForeignSeat, Differs, OutOfMemory as NoMemory, Full, Behind}
 use Rattle.gb_worker.specs.Answered.{is_stopped, stops_in}
 use Rattle.gb_worker.specs.Asked.{AnswersAt, reply_at, reply_of}

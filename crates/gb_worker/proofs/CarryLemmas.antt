@@ -1,20 +1,18 @@
 -- What travels at a port, call by call.
-use Rattle.std.proofs.Common.{◌≡◌, ◌≢◌, ◌⊎◌, inl, inr, ℕ, Bool, List, [], ◌∷◌, ◌++◌, refl, sym, ap, ap₂, ◌∙◌, append_assoc, Option, Some, Result, Ok, Err, subst}
+use Rattle.gb_types.specs.Common.{◌≡◌, ◌≢◌, ◌⊎◌, inl, inr, ℕ, Bool, List, [], ◌∷◌, ◌++◌, refl, sym, ap, ap₂, ◌∙◌, append_assoc, Option, Some, Result, Ok, Err, subst}
 use Rattle.std.specs.declared.vec.Vec.{Vec}
 use Rattle.std.specs.declared.alloc.Global.{Global}
 use Rattle.gb_types.specs.declared.node.NodeId.{NodeId}
-use Rattle.gb_node.specs.declared.answer.NodeAnswer.{NodeAnswer}
+use Rattle.gb_node.specs.declared.{answer.NodeAnswer.NodeAnswer, event.NodeEvent.NodeEvent}
 use Rattle.gb_node.specs.declared.answer.NodeAnswer.TheVariants as answers
 use Rattle.gb_node.specs.declared.answer.Sent.TheVariants as sents
-use Rattle.gb_node.specs.declared.event.NodeEvent.{NodeEvent}
 use Rattle.gb_node.specs.declared.event.NodeEvent.TheVariants as events
 use Rattle.gb_port.specs.declared.port.PortFault.{PortFault}
 use Rattle.gb_host.specs.declared.entry.SeatEntry.{SeatEntry}
 use Rattle.gb_worker.specs.Answered.{destination}
 use Rattle.gb_worker.specs.Carried.{PortCall, Received, Handed, Came, Went, AreCalls, travels_in, travels, goes_to, traffic_of, traffic, GivesNothing, HasCarried}
 use Rattle.gb_worker.specs.Gained.{Gains, noted, IsStopped}
-use Rattle.gb_worker.specs.declared.end.Why.{Why}
-use Rattle.gb_worker.specs.declared.end.Why.TheVariants.{Stopped, Fault}
+use Rattle.gb_worker.specs.declared.{end.Why.Why, end.Why.TheVariants.Stopped, end.Why.TheVariants.Fault}
 use Rattle.gb_worker.proofs.GainLemmas.{append_nil, joined}
 
 abbrev Sends : Type 0 → Type 1

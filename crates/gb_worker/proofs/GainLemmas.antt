@@ -1,5 +1,5 @@
 -- What a list gains, call by call.
-use Rattle.std.proofs.Common.{◌≡◌, List, [], ◌∷◌, ◌++◌, ap, ◌∙◌, refl, append_assoc}
+use Rattle.gb_types.specs.Common.{◌≡◌, List, [], ◌∷◌, ◌++◌, ap, ◌∙◌, refl, append_assoc}
 use Rattle.gb_host.specs.declared.entry.SeatEntry.{SeatEntry}
 
 pub append_nil : {X : Type 0} (xs : List X) → xs ++ [] ≡ xs

@@ -1,24 +1,14 @@
 -- The parts of a pump's turn.
-use Rattle.std.proofs.Common.{◌≡◌, ◌≢◌, ◌⊎◌, inl, inr, ℕ, zero, suc, ◌+◌, ◌-◌, ◌%◌, ◌<◌, ◌≤◌, ◌==◌, ◌&&◌, Bool, true, false, List, [], ◌∷◌, ◌++◌, length, refl, sym, ap, ◌∙◌, arith, append_assoc, eqb, subst, not}
-use Rattle.std.specs.Bool.{MatchBool}
+use Rattle.gb_types.specs.Common.{◌≡◌, ◌≢◌, ◌⊎◌, inl, inr, ℕ, zero, suc, ◌+◌, ◌-◌, ◌%◌, ◌<◌, ◌≤◌, ◌==◌, ◌&&◌, Bool, true, false, List, [], ◌∷◌, ◌++◌, length, refl, sym, ap, ◌∙◌, arith, append_assoc, eqb, subst, not, MatchBool, nat_cmp, eq-eqb, ne_eqb, eqb_tells, fold_push}
 use Rattle.std.specs.FinSet as set
-use Rattle.std.specs.Ordering.{nat_cmp}
-use Rattle.std.proofs.lemmas.Bool.{eq-eqb, ne_eqb}
-use Rattle.std.proofs.lemmas.Bool.Decides.{eqb_tells}
-use Rattle.std.proofs.lemmas.List.Sums.{fold_push}
-use Rattle.gb_types.specs.declared.limits.TheConstants.{NODES}
-use Rattle.gb_types.specs.declared.node.NodeId.{NodeId}
-use Rattle.gb_node.specs.declared.event.NodeEvent.{NodeEvent}
+use Rattle.gb_types.specs.declared.{limits.TheConstants.NODES, node.NodeId.NodeId}
+use Rattle.gb_node.specs.declared.{event.NodeEvent.NodeEvent, answer.NodeAnswer.NodeAnswer, answer.NodeAnswer.TheVariants.Sent, answer.Sent.TheVariants.Nothing}
 use Rattle.gb_node.specs.declared.event.NodeEvent.TheVariants.{Packet, Pack, Again, Ack}
-use Rattle.gb_node.specs.declared.answer.NodeAnswer.{NodeAnswer}
-use Rattle.gb_node.specs.declared.answer.NodeAnswer.TheVariants.{Sent}
-use Rattle.gb_node.specs.declared.answer.Sent.TheVariants.{Nothing}
 use Rattle.gb_host.specs.declared.entry.SeatEntry.{SeatEntry}
 use Rattle.gb_worker.specs.Answered.{gives_packet, and_heard, heard_in}
 use Rattle.gb_worker.specs.Gained.{Gains, noted, IsStopped, IsMade, IsBegun, IsNoted, IfDue}
 use Rattle.gb_worker.specs.Turns.{ArePackets, IsFor, is_again_due, is_ack_due, SendsTo, IsPartTo, SendsAll, IsPartAll, IsReceived, HasReceived, IsTurn, IsPart, AreTurns, HasPumped}
-use Rattle.gb_worker.specs.declared.end.WorkerEnd.{WorkerEnd}
-use Rattle.gb_worker.specs.declared.pump.TheConstants.{PACKETS, AGAIN}
+use Rattle.gb_worker.specs.declared.{end.WorkerEnd.WorkerEnd, pump.TheConstants.PACKETS, pump.TheConstants.AGAIN}
 use Rattle.gb_worker.proofs.GainLemmas.{append_nil, joined}
 
 -- One call.

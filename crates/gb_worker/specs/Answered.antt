@@ -2,17 +2,11 @@
 use Rattle.std.specs.Prelude.{ℕ, ◌+◌, Bool, true, false, cond, List, [], ◌∷◌, fold, Option, Some, None}
 use Rattle.std.specs.FinSet as set
 use Rattle.std.specs.Ordering.{nat_cmp}
-use Rattle.gb_types.specs.declared.refusal.Refusal.TheVariants.{Stopped}
-use Rattle.gb_types.specs.declared.node.NodeId.{NodeId}
-use Rattle.gb_node.specs.declared.event.NodeEvent.{NodeEvent}
+use Rattle.gb_types.specs.declared.{refusal.Refusal.TheVariants.Stopped, node.NodeId.NodeId}
+use Rattle.gb_node.specs.declared.{event.NodeEvent.NodeEvent, answer.NodeAnswer.NodeAnswer, answer.NodeAnswer.TheVariants.Taken, answer.NodeAnswer.TheVariants.Sent, answer.PacketAnswer.TheVariants.Good as TakenGood, answer.PacketAnswer.TheVariants.Refused as TakenRefused, answer.Sent.TheVariants.Packet as SentPacket, answer.Sent.TheVariants.Refused as SentRefused}
 use Rattle.gb_node.specs.declared.event.NodeEvent.TheVariants.{Pack, Again, Ack}
-use Rattle.gb_node.specs.declared.answer.NodeAnswer.{NodeAnswer}
-use Rattle.gb_node.specs.declared.answer.NodeAnswer.TheVariants.{Taken, Sent}
-use Rattle.gb_node.specs.declared.answer.PacketAnswer.TheVariants.{Good as TakenGood, Refused as TakenRefused}
-use Rattle.gb_node.specs.declared.answer.Sent.TheVariants.{Packet as SentPacket, Refused as SentRefused}
 use Rattle.gb_host.specs.declared.entry.SeatEntry.{SeatEntry}
-use Rattle.gb_worker.specs.declared.end.Why.{Why}
-use Rattle.gb_worker.specs.declared.end.Why.TheVariants.{Stopped as StoppedThere}
+use Rattle.gb_worker.specs.declared.{end.Why.Why, end.Why.TheVariants.Stopped as StoppedThere}
 
 -- the answer is Stopped, to a packet that came or to a packet to be sent
 abbrev pub is_stopped : NodeAnswer → Bool

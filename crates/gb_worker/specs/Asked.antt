@@ -1,19 +1,10 @@
 -- What a session adds to its seat's calls.
 use Rattle.std.specs.Prelude.{◌≡◌, ◌⊎◌, true, List, [], ◌∷◌, ◌++◌}
-use Rattle.gb_types.specs.declared.node.NodeId.{NodeId}
-use Rattle.gb_types.specs.declared.refusal.Refusal.TheVariants.{Stopped, OutOfMemory}
-use Rattle.gb_types.specs.declared.reply.Reply.{Reply}
-use Rattle.gb_types.specs.declared.reply.Reply.TheVariants.{Refused}
-use Rattle.gb_types.specs.declared.request.Request.{Request}
-use Rattle.gb_node.specs.declared.answer.NodeAnswer.{NodeAnswer}
-use Rattle.gb_node.specs.declared.answer.NodeAnswer.TheVariants.{Reply as Replied}
-use Rattle.gb_node.specs.declared.event.NodeEvent.TheVariants.{Request as Asked}
-use Rattle.gb_host.specs.Plans.{is_kept}
+use Rattle.gb_types.specs.declared.{node.NodeId.NodeId, refusal.Refusal.TheVariants.Stopped, refusal.Refusal.TheVariants.OutOfMemory, reply.Reply.Reply, reply.Reply.TheVariants.Refused, request.Request.Request}
+use Rattle.gb_node.specs.declared.{answer.NodeAnswer.NodeAnswer, answer.NodeAnswer.TheVariants.Reply as Replied, event.NodeEvent.TheVariants.Request as Asked}
+use Rattle.gb_host.specs.Common.{is_kept}
 use Rattle.gb_session.specs.Answering.{Answering, IsDenied}
-use Rattle.gb_host.specs.declared.entry.SeatEntry.{SeatEntry}
-use Rattle.gb_host.specs.declared.fault.HostFault.{HostFault}
-use Rattle.gb_host.specs.declared.fault.HostFault.TheVariants.{OutOfMemory as NoMemory, Behind}
-use Rattle.gb_host.specs.declared.plan.HostPlan.{HostPlan}
+use Rattle.gb_host.specs.declared.{entry.SeatEntry.SeatEntry, fault.HostFault.HostFault, fault.HostFault.TheVariants.OutOfMemory as NoMemory, fault.HostFault.TheVariants.Behind, plan.HostPlan.HostPlan}
 
 -- The reply that an answer holds. A node answers each request with a reply; any other answer would be reported as Stopped.
 abbrev pub reply_of : NodeAnswer → Reply

@@ -1,13 +1,10 @@
 -- Why a worker ends, and which calls it counts.
-use Rattle.std.specs.Prelude.{ℕ, ◌≡◌, ◌⊎◌, ◌-◌, ◌^◌, false, slice_index}
+use Rattle.std.specs.Prelude.{◌≡◌, ◌⊎◌, ◌-◌, ◌^◌, false, slice_index}
 use Rattle.std.specs.FinSet as set
 use Rattle.std.specs.Ordering.{nat_cmp}
 use Rattle.gb_types.specs.declared.node.NodeId.{NodeId}
-use Rattle.gb_host.specs.Plans.{is_kept}
-use Rattle.gb_host.specs.SeatValue.{SeatValue}
-use Rattle.gb_host.specs.declared.fault.HostFault.{HostFault}
-use Rattle.gb_host.specs.declared.fault.HostFault.TheVariants.{OutOfMemory, Behind}
-use Rattle.gb_host.specs.declared.plan.HostPlan.{HostPlan}
+use Rattle.gb_host.specs.Common.{is_kept, SeatValue}
+use Rattle.gb_host.specs.declared.{fault.HostFault.HostFault, fault.HostFault.TheVariants.OutOfMemory, fault.HostFault.TheVariants.Behind, plan.HostPlan.HostPlan}
 
 -- the host refuses the seat's calls at the node: the node is not here, or the seat has called it 2^64 - 1 times
 abbrev pub IsLost : set.FinSet nat_cmp → NodeId → SeatValue → Type 0

@@ -3,12 +3,10 @@ use Rattle.std.specs.Prelude.{ℕ, zero, suc, ◌≡◌, ◌≢◌, ◌≤◌, c
 use Rattle.std.specs.FinSet as set
 use Rattle.std.specs.Ordering.{nat_cmp}
 use Rattle.gb_types.specs.declared.node.NodeId.{NodeId}
-use Rattle.gb_node.specs.declared.event.NodeEvent.{NodeEvent}
-use Rattle.gb_node.specs.declared.event.NodeEvent.TheVariants.{Tick}
+use Rattle.gb_node.specs.declared.{event.NodeEvent.NodeEvent, event.NodeEvent.TheVariants.Tick}
 use Rattle.gb_host.specs.declared.entry.SeatEntry.{SeatEntry}
 use Rattle.gb_worker.specs.Gained.{Gains}
-use Rattle.gb_worker.specs.declared.end.WorkerEnd.{WorkerEnd}
-use Rattle.gb_worker.specs.declared.end.Why.TheVariants.{Fault}
+use Rattle.gb_worker.specs.declared.{end.WorkerEnd.WorkerEnd, end.Why.TheVariants.Fault}
 
 -- the events of a list, each with its node's number
 abbrev pub events_of : List SeatEntry → List (ℕ × NodeEvent)

@@ -4,14 +4,12 @@ use Rattle.std.specs.Bool.{MatchBool}
 use Rattle.std.specs.FinSet as set
 use Rattle.std.specs.Ordering.{nat_cmp}
 use Rattle.gb_types.specs.declared.node.NodeId.{NodeId}
-use Rattle.gb_node.specs.declared.event.NodeEvent.{NodeEvent}
+use Rattle.gb_node.specs.declared.{event.NodeEvent.NodeEvent, answer.NodeAnswer.NodeAnswer}
 use Rattle.gb_node.specs.declared.event.NodeEvent.TheVariants.{Packet, Pack, Again, Ack}
-use Rattle.gb_node.specs.declared.answer.NodeAnswer.{NodeAnswer}
 use Rattle.gb_host.specs.declared.entry.SeatEntry.{SeatEntry}
 use Rattle.gb_worker.specs.Answered.{gives_packet, heard_in}
 use Rattle.gb_worker.specs.Gained.{IfDue}
-use Rattle.gb_worker.specs.declared.end.WorkerEnd.{WorkerEnd}
-use Rattle.gb_worker.specs.declared.end.Why.TheVariants.{Turns, Gate}
+use Rattle.gb_worker.specs.declared.{end.WorkerEnd.WorkerEnd, end.Why.TheVariants.Turns, end.Why.TheVariants.Gate}
 use Rattle.gb_worker.specs.declared.pump.TheConstants.{PACKETS, AGAIN, ACK}
 
 -- each entry is the event of bytes that came, at the node

@@ -1,6 +1,6 @@
 //! The worker that makes the time tick.
 ghost use Rattle.std.specs.Prelude.{ℕ, ◌≡◌, ◌≢◌, ◌≤◌, ◌-◌, ◌^◌, false, slice_index, IfErr, OnOk, OnErr};
-ghost use Rattle.gb_host.specs.Plans.{is_kept};
+ghost use Rattle.gb_host.specs.Common.{is_kept};
 ghost use Rattle.gb_worker.specs.Gained.{Gains};
 ghost use Rattle.gb_worker.specs.Ticks.{HasTicked, IsTick};
 

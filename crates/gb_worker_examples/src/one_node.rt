@@ -1,7 +1,6 @@
 // A host of one of two nodes.
 ghost use Rattle.std.specs.Prelude.{◌≡◌, vec_len};
-ghost use Rattle.gb_host.specs.Pasts.{AreBlank, books_of};
-ghost use Rattle.gb_host.specs.Plans.{IsPlan};
+ghost use Rattle.gb_host.specs.Common.{AreBlank, books_of, IsPlan};
 
 use crate::asking::{Unanswered, call};
 use crate::plans::{FIRST, SECOND, two_nodes};

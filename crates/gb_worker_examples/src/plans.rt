@@ -1,6 +1,6 @@
 // The plans of the hosts in the tests, and lists of two values.
 ghost use Rattle.std.specs.Prelude.{◌≡◌, vec_len, IfSome};
-ghost use Rattle.gb_host.specs.Plans.{IsPlan};
+ghost use Rattle.gb_host.specs.Common.{IsPlan};
 
 use crate::asking::ADMIN_KEY;
 use gb_host::HostPlan;

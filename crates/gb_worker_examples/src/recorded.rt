@@ -1,8 +1,6 @@
 // Hosts of node 1 alone whose entries go through a ring to a recorder.
 ghost use Rattle.std.specs.Prelude.{◌≡◌, vec_len};
-ghost use Rattle.gb_host.specs.HostValue.{AreHere};
-ghost use Rattle.gb_host.specs.Pasts.{AreBlank, books_of};
-ghost use Rattle.gb_host.specs.Plans.{IsPlan};
+ghost use Rattle.gb_host.specs.Common.{AreHere, AreBlank, books_of, IsPlan};
 
 use crate::asking::{ALONE, BOTH, Unanswered, WORDS, add_tenant, call, log, prepare, say};
 use crate::plans::{FIRST, SECOND, two_nodes, two_recorded};

@@ -1,7 +1,6 @@
 // Scenes on a host, mostly of two nodes, from its opening to its end, and their results.
 ghost use Rattle.std.specs.Prelude.{◌≡◌, vec_len};
-ghost use Rattle.gb_host.specs.Pasts.{AreBlank, books_of};
-ghost use Rattle.gb_host.specs.Plans.{IsPlan};
+ghost use Rattle.gb_host.specs.Common.{AreBlank, books_of, IsPlan};
 
 use crate::agreement::{agree, copy_lists, count_entries, entries_of};
 use crate::asking::prepare_both;

@@ -1,5 +1,5 @@
-use Rattle.std.proofs.Common.{sym, subst}
-use Rattle.gb_merge.specs.Front.{IsMergedFront}
+use Rattle.gb_types.specs.Common.{sym, subst}
+use Rattle.gb_merge.specs.Common.{IsMergedFront}
 use Rattle.gb_audit.proofs.print_group.Goals as goal
 
 pub compare-requires-clause-merged : goal.compare-requires-clause-merged

@@ -1,5 +1,4 @@
-use Rattle.std.proofs.Common.{◌≡◌, take}
-use Rattle.std.specs.Prelude.{map}
+use Rattle.gb_types.specs.Common.{◌≡◌, take, map}
 use Rattle.gb_alone.specs.Alone.{Group}
 use Rattle.gb_alone.specs.MemberLists.{StandForMembers}
 use Rattle.gb_alone.specs.Observation.{numbers_below, seen_at}

@@ -1,5 +1,4 @@
-use Rattle.std.proofs.Common.{◌≡◌, subst}
-use Rattle.std.specs.Prelude.{IfOk}
+use Rattle.gb_types.specs.Common.{◌≡◌, subst, IfOk}
 use Rattle.gb_types.specs.declared.plan.Bounds.{Bounds}
 use Rattle.gb_alone.specs.Alone as one_group
 use Rattle.gb_alone.specs.Observation.{observed_alone}

@@ -1,5 +1,4 @@
-use Rattle.std.proofs.Common.{length, ◌∙◌, ap, sym, subst, List}
-use Rattle.std.specs.Prelude.{fold, replicate}
+use Rattle.gb_types.specs.Common.{length, ◌∙◌, ap, sym, subst, List, fold, replicate}
 use Rattle.gb_types.specs.declared.limits.TheConstants.{NODES}
 use Rattle.gb_alone.specs.Alone as one_group
 use Rattle.gb_alone.specs.MemberLists.{MemberValue, new_member, values_after, StandForMembers}

@@ -1,5 +1,4 @@
-use Rattle.std.proofs.Common.{◌≡◌, take, length}
-use Rattle.std.specs.Prelude.{fold, replicate}
+use Rattle.gb_types.specs.Common.{◌≡◌, take, length, fold, replicate}
 use Rattle.gb_types.specs.declared.limits.TheConstants.{NODES}
 use Rattle.gb_alone.specs.MemberLists.{new_member, values_after}
 use Rattle.gb_alone.proofs.alone.seen_alone.Given as goal

@@ -1,7 +1,5 @@
-use Rattle.std.proofs.Common.{◌≡◌, List, [], ◌∷◌, ◌++◌, ◌∙◌, ap, sym, take, arith}
-use Rattle.std.specs.Prelude.{map}
-use Rattle.gb_types.specs.declared.entry.Entry.{Entry}
-use Rattle.gb_types.specs.declared.reply.Reply.{Reply}
+use Rattle.gb_types.specs.Common.{◌≡◌, List, [], ◌∷◌, ◌++◌, ◌∙◌, ap, sym, take, arith, map}
+use Rattle.gb_types.specs.declared.{entry.Entry.Entry, reply.Reply.Reply}
 use Rattle.gb_alone.specs.Observation.{SeenAt, numbers_below}
 use Rattle.gb_alone.proofs.ObservationLemmas.{map_more, map_none}
 use Rattle.gb_alone.proofs.alone.seen_of.Goals as goal

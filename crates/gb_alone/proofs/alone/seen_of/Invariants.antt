@@ -1,5 +1,4 @@
-use Rattle.std.proofs.Common.{◌≡◌, take}
-use Rattle.std.specs.Prelude.{map}
+use Rattle.gb_types.specs.Common.{◌≡◌, take, map}
 use Rattle.gb_alone.specs.Alone.{Member}
 use Rattle.gb_alone.specs.MemberLists.{StandsForMember}
 use Rattle.gb_alone.specs.Observation.{numbers_below}

@@ -1,5 +1,4 @@
-use Rattle.std.proofs.lemmas.Grind.{common_steps}
-use Rattle.std.proofs.Common.{arith}
+use Rattle.gb_types.specs.Common.{common_steps, arith}
 use Rattle.gb_alone.proofs.marks.+is_acknowledged.Goals as goal
 
 pub returns-in-empty : goal.returns-in-empty

@@ -1,4 +1,4 @@
-use Rattle.std.proofs.Common.{length}
+use Rattle.gb_types.specs.Common.{length}
 use Rattle.gb_alone.proofs.marks.+is_acknowledged.Given as goal
 
 abbrev pub decreases-is_acknowledged : goal.decreases-is_acknowledged

@@ -1,5 +1,4 @@
-use Rattle.std.proofs.lemmas.Grind.{common_steps}
-use Rattle.std.proofs.Common.{arith}
+use Rattle.gb_types.specs.Common.{common_steps, arith}
 use Rattle.gb_alone.proofs.member.copied_replies.Goals as goal
 
 pub loop-reply-preserved : goal.loop-reply-preserved

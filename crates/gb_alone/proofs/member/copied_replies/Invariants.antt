@@ -1,4 +1,4 @@
-use Rattle.std.proofs.Common.{◌≡◌, take}
+use Rattle.gb_types.specs.Common.{◌≡◌, take}
 use Rattle.gb_alone.proofs.member.copied_replies.Given as goal
 
 abbrev pub invariant-loop-reply : goal.invariant-loop-reply

@@ -1,4 +1,4 @@
-use Rattle.std.proofs.Common.{[], rules}
+use Rattle.gb_types.specs.Common.{[], rules}
 use Rattle.gb_types.specs.declared.limits.TheConstants.{NODES}
 use Rattle.gb_alone.proofs.ObservationLemmas.{all_empty}
 use Rattle.gb_alone.proofs.member.no_marks.Goals as goal

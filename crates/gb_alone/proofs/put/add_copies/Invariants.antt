@@ -1,4 +1,4 @@
-use Rattle.std.proofs.Common.{◌≡◌, ◌++◌, take}
+use Rattle.gb_types.specs.Common.{◌≡◌, ◌++◌, take}
 use Rattle.gb_alone.proofs.put.add_copies.Given as goal
 
 abbrev pub invariant-loop-x : goal.invariant-loop-x

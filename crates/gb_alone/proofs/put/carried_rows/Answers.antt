@@ -1,4 +1,4 @@
-use Rattle.std.proofs.Common.{arith}
+use Rattle.gb_types.specs.Common.{arith}
 use Rattle.gb_alone.proofs.ObservationLemmas.{map_more, map_none}
 use Rattle.gb_alone.proofs.put.carried_rows.Goals as goal
 

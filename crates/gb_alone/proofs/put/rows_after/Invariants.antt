@@ -1,5 +1,4 @@
-use Rattle.std.proofs.Common.{◌≡◌}
-use Rattle.std.specs.Prelude.{map}
+use Rattle.gb_types.specs.Common.{◌≡◌, map}
 use Rattle.gb_alone.specs.MemberLists.{row_with}
 use Rattle.gb_alone.specs.Observation.{numbers_below}
 use Rattle.gb_alone.proofs.put.rows_after.Given as goal

@@ -1,5 +1,4 @@
-use Rattle.std.proofs.Common.{ℕ, ◌<◌, ◌≤◌}
-use Rattle.gb_types.specs.Version.{limits_of, version_at}
+use Rattle.gb_types.specs.Common.{ℕ, ◌<◌, ◌≤◌, limits_of, version_at}
 use Rattle.gb_audit_examples.proofs.stops.is_named.Given as goal
 
 abbrev pub invariant-loop-number : goal.invariant-loop-number

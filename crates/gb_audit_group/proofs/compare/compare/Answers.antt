@@ -1,8 +1,6 @@
-use Rattle.std.proofs.Common.{List, ap, sym, ◌∙◌, subst}
-use Rattle.gb_types.specs.Version.{bounds_of}
-use Rattle.gb_alone.specs.Alone.{alone, IsLegal}
-use Rattle.gb_alone.specs.Observation.{observed_alone}
-use Rattle.gb_cluster.specs.Run.{Did}
+use Rattle.gb_types.specs.Common.{List, ap, sym, ◌∙◌, subst, bounds_of}
+use Rattle.gb_alone.specs.Common.{alone, IsLegal, observed_alone}
+use Rattle.gb_cluster.specs.Common.{Did}
 use Rattle.gb_isolation.specs.Isolation.{alone_in}
 use Rattle.gb_isolation.specs.Project.{project}
 use Rattle.gb_merge.proofs.RerunLemmas.{NodeLaws}

@@ -1,4 +1,4 @@
-use Rattle.std.proofs.Common.{◌≡◌, ◌++◌, length, map, drop}
+use Rattle.gb_types.specs.Common.{◌≡◌, ◌++◌, length, map, drop}
 use Rattle.gb_record_text.specs.RecordText.{each_after_comma}
 use Rattle.gb_audit_group.proofs.lines.put_more.Given as goal
 

@@ -1,4 +1,4 @@
-use Rattle.std.proofs.Common.{◌≡◌, ◌++◌, drop}
+use Rattle.gb_types.specs.Common.{◌≡◌, ◌++◌, drop}
 use Rattle.gb_audit_group.specs.GroupText.{lines_from, node_lines}
 use Rattle.gb_audit_group.proofs.lines.put_nodes.Given as goal
 

@@ -1,4 +1,4 @@
-use Rattle.std.proofs.Common.{◌≡◌, ◌↔◌, drop}
+use Rattle.gb_types.specs.Common.{◌≡◌, ◌↔◌, drop}
 use Rattle.gb_audit_group.proofs.same.is_same.Given as goal
 
 abbrev pub invariant-loop-a : goal.invariant-loop-a

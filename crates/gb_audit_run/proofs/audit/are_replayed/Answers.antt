@@ -1,7 +1,4 @@
-use Rattle.std.proofs.Common.{arith, subst}
-use Rattle.std.specs.Prelude.{All}
-use Rattle.std.proofs.lemmas.List.{take_all}
-use Rattle.std.proofs.lemmas.List.Elements.{All-more}
+use Rattle.gb_types.specs.Common.{arith, subst, All, take_all, All-more}
 use Rattle.gb_record_text.specs.Laws.{IsAnswered}
 use Rattle.gb_audit_run.specs.Audits.{IsAllAnswered}
 use Rattle.gb_audit_run.proofs.audit.are_replayed.Goals as goal

@@ -1,5 +1,4 @@
-use Rattle.std.proofs.Common.{take}
-use Rattle.std.specs.Prelude.{All}
+use Rattle.gb_types.specs.Common.{take, All}
 use Rattle.gb_audit_run.specs.Audits.{IsAllAnswered}
 use Rattle.gb_audit_run.proofs.audit.are_replayed.Given as goal
 

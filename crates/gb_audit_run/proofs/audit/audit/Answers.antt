@@ -1,7 +1,6 @@
-use Rattle.std.proofs.Common.{◌≡◌, ◌<◌, map, length, ap, sym, subst, ◌∙◌, arith}
-use Rattle.std.specs.Prelude.{All, AllPairs, sum}
+use Rattle.gb_types.specs.Common.{◌≡◌, ◌<◌, map, length, ap, sym, subst, ◌∙◌, arith, All, AllPairs, sum}
 use Rattle.std.proofs.lemmas.List.FromFn.{length-map-range_with_len}
-use Rattle.gb_merge.specs.Front.{IsMergedFront}
+use Rattle.gb_merge.specs.Common.{IsMergedFront}
 use Rattle.gb_record_text.specs.declared.reader.Record.{Record}
 use Rattle.gb_audit_run.specs.Audits.{AreOfOne, IsAllAnswered, IsOfPlan, entries_of}
 use Rattle.gb_audit_run.specs.Counts.{AreCounted}

@@ -1,4 +1,4 @@
-use Rattle.std.proofs.Common.{arith, ap, length}
+use Rattle.gb_types.specs.Common.{arith, ap, length}
 use Rattle.gb_audit_run.proofs.AuditLemmas.{sum_past}
 use Rattle.gb_audit_run.proofs.audit.have_entries.Goals as goal
 

@@ -1,5 +1,4 @@
-use Rattle.std.proofs.Common.{take, ◌≡◌, ◌+◌, map, length}
-use Rattle.std.specs.Prelude.{sum}
+use Rattle.gb_types.specs.Common.{take, ◌≡◌, ◌+◌, map, length, sum}
 use Rattle.gb_audit_run.proofs.audit.have_entries.Given as goal
 
 abbrev pub invariant-loop-tape : goal.invariant-loop-tape

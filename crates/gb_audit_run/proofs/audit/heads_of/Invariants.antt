@@ -1,4 +1,4 @@
-use Rattle.std.proofs.Common.{take, ◌≡◌, map}
+use Rattle.gb_types.specs.Common.{take, ◌≡◌, map}
 use Rattle.gb_audit_run.proofs.audit.heads_of.Given as goal
 
 abbrev pub invariant-loop-record : goal.invariant-loop-record

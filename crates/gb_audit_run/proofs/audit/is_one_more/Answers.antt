@@ -1,4 +1,4 @@
-use Rattle.std.proofs.Common.{refl}
+use Rattle.gb_types.specs.Common.{refl}
 use Rattle.gb_record_text.specs.declared.reader.Record.{Record}
 use Rattle.gb_audit_run.specs.Audits.{AreOfOne}
 use Rattle.gb_audit_run.proofs.AuditLemmas.{one_more, all_seen}

@@ -1,7 +1,4 @@
-use Rattle.std.proofs.Common.{sym, subst, take, ◌+◌}
-use Rattle.std.specs.Prelude.{All, AllPairs}
-use Rattle.std.specs.List.{AllZip}
-use Rattle.std.proofs.lemmas.List.Elements.{All-push}
+use Rattle.gb_types.specs.Common.{sym, subst, take, ◌+◌, All, AllPairs, AllZip, All-push}
 use Rattle.std.proofs.lemmas.List.Quantifiers.{all_pairs_push}
 use Rattle.gb_record_text.specs.Fits.{FitsRecord}
 use Rattle.gb_record_text.specs.declared.reader.Record.{Record}

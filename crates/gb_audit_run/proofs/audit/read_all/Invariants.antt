@@ -1,6 +1,4 @@
-use Rattle.std.proofs.Common.{take}
-use Rattle.std.specs.Prelude.{All, AllPairs}
-use Rattle.std.specs.List.{AllZip}
+use Rattle.gb_types.specs.Common.{take, All, AllPairs, AllZip}
 use Rattle.gb_record_text.specs.Fits.{FitsRecord}
 use Rattle.gb_audit_run.specs.Audits.{AreOfOne, HasText}
 use Rattle.gb_audit_run.proofs.audit.read_all.Given as goal

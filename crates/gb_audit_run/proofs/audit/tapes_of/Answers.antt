@@ -1,4 +1,4 @@
-use Rattle.std.proofs.Common.{arith}
+use Rattle.gb_types.specs.Common.{arith}
 use Rattle.gb_audit_run.proofs.AuditLemmas.{made_none, all_made, none_left}
 use Rattle.gb_audit_run.proofs.audit.tapes_of.Goals as goal
 

@@ -1,5 +1,4 @@
-use Rattle.std.proofs.Common.{◌≡◌, [], length, vec_len}
-use Rattle.std.specs.Prelude.{All}
+use Rattle.gb_types.specs.Common.{◌≡◌, [], length, vec_len, All}
 use Rattle.gb_audit_run.proofs.AuditLemmas.{AreMade}
 use Rattle.gb_audit_run.proofs.audit.tapes_of.Given as goal
 

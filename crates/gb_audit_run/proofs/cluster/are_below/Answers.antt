@@ -1,4 +1,4 @@
-use Rattle.std.proofs.Common.{◌<◌, refl, arith}
+use Rattle.gb_types.specs.Common.{◌<◌, refl, arith}
 use Rattle.gb_audit_run.proofs.AuditLemmas.{one_more, all_seen}
 use Rattle.gb_audit_run.proofs.cluster.are_below.Goals as goal
 

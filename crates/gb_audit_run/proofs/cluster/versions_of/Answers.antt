@@ -1,7 +1,4 @@
-use Rattle.std.proofs.Common.{◌∙◌, sym, subst, arith, take, ◌+◌}
-use Rattle.std.specs.Prelude.{All}
-use Rattle.std.proofs.Math.ListN.{set}
-use Rattle.std.proofs.lemmas.List.{length-set}
+use Rattle.gb_types.specs.Common.{◌∙◌, sym, subst, arith, take, ◌+◌, All, set, length-set}
 use Rattle.gb_audit_run.proofs.AuditLemmas.{SendsIt, versions_more, all_seen}
 use Rattle.gb_audit_run.proofs.cluster.versions_of.Goals as goal
 

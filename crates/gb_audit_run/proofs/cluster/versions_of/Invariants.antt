@@ -1,5 +1,4 @@
-use Rattle.std.proofs.Common.{take, ◌≡◌, length}
-use Rattle.std.specs.Prelude.{All}
+use Rattle.gb_types.specs.Common.{take, ◌≡◌, length, All}
 use Rattle.gb_types.specs.declared.limits.TheConstants.{NODES}
 use Rattle.gb_audit_run.proofs.AuditLemmas.{SendsIt}
 use Rattle.gb_audit_run.proofs.cluster.versions_of.Given as goal

@@ -1,4 +1,4 @@
-use Rattle.std.proofs.Common.{◌≡◌, ℕ}
+use Rattle.gb_types.specs.Common.{◌≡◌, ℕ}
 use Rattle.gb_audit_run.specs.Counts.{AreCountedTo, noted}
 use Rattle.gb_audit_run.proofs.CountLemmas.{of_seat}
 use Rattle.gb_audit_run.proofs.counts.first_gap.Given as goal

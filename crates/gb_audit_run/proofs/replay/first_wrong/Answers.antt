@@ -1,8 +1,7 @@
-use Rattle.std.proofs.Common.{◌≡◌, ◌<◌, length, get_or, subst, arith}
-use Rattle.std.proofs.lemmas.List.Elements.{All-more}
+use Rattle.gb_types.specs.Common.{◌≡◌, ◌<◌, length, get_or, subst, arith, All-more}
 use Rattle.std.proofs.lemmas.Result.{err_from_is_err_and}
 use Rattle.gb_record_text.specs.Laws.{IsAnswered}
-use Rattle.gb_merge.specs.Faults.{after_entry}
+use Rattle.gb_merge.specs.Common.{after_entry}
 use Rattle.gb_node.specs.declared.tape.TapeEntry.{TapeEntry}
 use Rattle.gb_audit_run.specs.Replayed.{IsGiven, IsUnfed}
 use Rattle.gb_audit_run.proofs.ReplayLemmas.{replayed_more, given_more, starved_so}

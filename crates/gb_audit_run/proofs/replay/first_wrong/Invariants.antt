@@ -1,7 +1,6 @@
-use Rattle.std.proofs.Common.{◌≡◌, take}
-use Rattle.std.specs.Prelude.{All}
+use Rattle.gb_types.specs.Common.{◌≡◌, take, All}
 use Rattle.gb_record_text.specs.Laws.{IsAnswered}
-use Rattle.gb_merge.specs.Faults.{replay}
+use Rattle.gb_merge.specs.Common.{replay}
 use Rattle.gb_audit_run.specs.Replayed.{AreReplayedTo}
 use Rattle.gb_audit_run.proofs.replay.first_wrong.Given as goal
 

@@ -1,4 +1,4 @@
-use Rattle.std.proofs.Common.{◌≡◌, false, sym, ◌∙◌}
+use Rattle.gb_types.specs.Common.{◌≡◌, false, sym, ◌∙◌}
 use Rattle.gb_isolation.specs.Isolation.{wants_memory}
 use Rattle.gb_audit_run.proofs.ReplayLemmas.{given_so, same_so, after_so}
 use Rattle.gb_audit_run.proofs.replay.is_right.Goals as goal

@@ -1,4 +1,4 @@
-use Rattle.std.proofs.Common.{◌≡◌, ℕ, length, subst, arith}
+use Rattle.gb_types.specs.Common.{◌≡◌, ℕ, length, subst, arith}
 use Rattle.gb_broadcast_examples.proofs.layer_examples.last_effects.Goals as goal
 
 pub loop-call-init : goal.loop-call-init

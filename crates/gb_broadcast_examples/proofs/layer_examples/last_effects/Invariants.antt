@@ -1,4 +1,4 @@
-use Rattle.std.proofs.Common.{length}
+use Rattle.gb_types.specs.Common.{length}
 use Rattle.gb_broadcast_examples.proofs.layer_examples.last_effects.Given as goal
 
 abbrev pub invariant-loop-call : goal.invariant-loop-call

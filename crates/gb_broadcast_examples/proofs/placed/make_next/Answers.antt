@@ -1,5 +1,5 @@
-use Rattle.std.proofs.Common.{◌≡◌, ℕ, ◌<◌, length, sym, subst, arith}
-use Rattle.gb_layer.specs.PlacedCalls.{Names, IsNext}
+use Rattle.gb_types.specs.Common.{◌≡◌, ℕ, ◌<◌, length, sym, subst, arith}
+use Rattle.gb_layer.specs.Common.{Names, IsNext}
 use Rattle.gb_layer.proofs.KnowsLemmas.{names_more}
 use Rattle.gb_broadcast_examples.proofs.placed.make_next.Goals as goal
 

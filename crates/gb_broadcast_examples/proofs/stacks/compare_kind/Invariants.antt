@@ -1,4 +1,4 @@
-use Rattle.std.proofs.Common.{◌≤◌}
+use Rattle.gb_types.specs.Common.{◌≤◌}
 use Rattle.gb_broadcast_examples.proofs.stacks.compare_kind.Given as goal
 
 abbrev pub invariant-loop-n : goal.invariant-loop-n

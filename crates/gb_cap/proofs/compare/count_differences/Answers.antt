@@ -1,6 +1,4 @@
-use Rattle.std.proofs.Common.{arith, ◌+◌, take, zip, count_by, ap, ◌∙◌}
-use Rattle.std.proofs.lemmas.List.{take_all, length-take}
-use Rattle.std.proofs.lemmas.List.Sums.{count_by-le-length}
+use Rattle.gb_types.specs.Common.{arith, ◌+◌, take, zip, count_by, ap, ◌∙◌, take_all, length-take, count_by-le-length}
 use Rattle.std.proofs.lemmas.Slice.Zip.{length-zip}
 use Rattle.gb_cap.specs.Compare.{are_unlike}
 use Rattle.gb_cap.proofs.DifferenceLemmas.{count_more, counts_same}

@@ -1,4 +1,4 @@
-use Rattle.std.specs.Prelude.{◌≡◌, ◌≤◌, take, zip, count_by}
+use Rattle.gb_types.specs.Common.{◌≡◌, ◌≤◌, take, zip, count_by}
 use Rattle.gb_cap.specs.Compare.{are_unlike}
 use Rattle.gb_cap.proofs.compare.count_differences.Given as goal
 

@@ -1,5 +1,4 @@
-use Rattle.std.proofs.Common.{◌++◌, ap₂, length}
-use Rattle.std.proofs.lemmas.List.{drop-replicate}
+use Rattle.gb_types.specs.Common.{◌++◌, ap₂, length, drop-replicate}
 use Rattle.gb_cap.proofs.hmac.filled_key.Goals as goal
 
 pub returns : goal.returns

@@ -1,4 +1,4 @@
-use Rattle.std.proofs.Common.{◌≡◌, ℕ, ◌<◌, ◌≤◌, get_or, bit_xor}
+use Rattle.gb_types.specs.Common.{◌≡◌, ℕ, ◌<◌, ◌≤◌, get_or, bit_xor}
 use Rattle.gb_cap.specs.Hmac.{filled}
 use Rattle.gb_cap.proofs.hmac.padded_key.Given as goal
 

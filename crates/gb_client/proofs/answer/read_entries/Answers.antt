@@ -1,4 +1,4 @@
-use Rattle.std.proofs.Common.{arith}
+use Rattle.gb_types.specs.Common.{arith}
 use Rattle.gb_client.proofs.ReplyLemmas.{entry_at, texts_more}
 use Rattle.gb_client.proofs.answer.read_entries.Goals as goal
 

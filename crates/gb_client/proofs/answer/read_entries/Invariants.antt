@@ -1,5 +1,4 @@
-use Rattle.std.proofs.Common.{◌≡◌, map, take}
-use Rattle.gb_types.specs.ReplyText.{entry_text}
+use Rattle.gb_types.specs.Common.{◌≡◌, map, take, entry_text}
 use Rattle.gb_client.proofs.answer.read_entries.Given as goal
 
 abbrev pub invariant-loop-word : goal.invariant-loop-word

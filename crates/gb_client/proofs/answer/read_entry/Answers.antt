@@ -1,4 +1,4 @@
-use Rattle.std.proofs.Common.{sym, ap, map, ◌∙◌}
+use Rattle.gb_types.specs.Common.{sym, ap, map, ◌∙◌}
 use Rattle.std.proofs.lemmas.Result.{IfOk-weaker}
 use Rattle.gb_client.proofs.ReplyLemmas.{entry_found, entry_not_found}
 use Rattle.gb_client.proofs.answer.read_entry.Goals as goal

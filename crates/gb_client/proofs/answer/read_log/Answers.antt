@@ -1,4 +1,4 @@
-use Rattle.std.proofs.Common.{sym, ap, map, ◌∙◌}
+use Rattle.gb_types.specs.Common.{sym, ap, map, ◌∙◌}
 use Rattle.std.proofs.lemmas.Result.{IfOk-weaker}
 use Rattle.gb_client.proofs.ReplyLemmas.{log_found, log_not_found}
 use Rattle.gb_client.proofs.answer.read_log.Goals as goal

@@ -1,4 +1,4 @@
-use Rattle.std.proofs.Common.{arith}
+use Rattle.gb_types.specs.Common.{arith}
 use Rattle.gb_client.proofs.answer.read_node.Goals as goal
 
 pub overflow_cast-number : goal.overflow_cast-number

@@ -1,7 +1,5 @@
-use Rattle.std.proofs.Common.{rules, ◌≡◌, ap, map, ◌∙◌}
+use Rattle.gb_types.specs.Common.{rules, ◌≡◌, ap, map, ◌∙◌, reply_spelling, words_of}
 use Rattle.gb_types.specs.declared.reply.Reply.TheVariants.{Refused}
-use Rattle.gb_types.specs.ReplyText.{reply_spelling}
-use Rattle.gb_types.specs.Words.{words_of}
 use Rattle.gb_client.proofs.ReplyLemmas.{refusal_words_are}
 use Rattle.gb_client.proofs.answer.read_refusal.Goals as goal
 

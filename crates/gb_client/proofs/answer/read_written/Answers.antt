@@ -1,5 +1,4 @@
-use Rattle.std.proofs.Common.{rules, ◌≡◌, ap, ◌∙◌}
-use Rattle.gb_types.specs.PayloadWord.{payload_of, payload_word}
+use Rattle.gb_types.specs.Common.{rules, ◌≡◌, ap, ◌∙◌, payload_of, payload_word}
 use Rattle.gb_types.proofs.PayloadLemmas.{payload_of-payload_word}
 use Rattle.gb_client.proofs.ReplyLemmas.{none_is_not_some}
 use Rattle.gb_client.proofs.answer.read_written.Goals as goal

@@ -1,8 +1,6 @@
-use Rattle.std.proofs.Common.{rules, tests, ◌≡◌, ◌==◌, map}
-use Rattle.std.specs.Result.{IfOk}
+use Rattle.gb_types.specs.Common.{rules, tests, ◌≡◌, ◌==◌, map, IfOk, slice_split}
 use Rattle.std.proofs.lemmas.Iterator.Consumers.{map_from_collect}
 use Rattle.std.proofs.lemmas.Iterator.Splits.{YieldsList-from_slice_split}
-use Rattle.std.specs.List.{slice_split}
 use Rattle.gb_client.proofs.answer.split_colons.Goals as goal
 
 pub returns : goal.returns

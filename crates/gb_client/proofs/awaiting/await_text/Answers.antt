@@ -1,4 +1,4 @@
-use Rattle.std.proofs.Common.{subst}
+use Rattle.gb_types.specs.Common.{subst}
 use Rattle.gb_session.specs.Asks.{IsAwaitText}
 use Rattle.gb_client.proofs.awaiting.await_text.Goals as goal
 

@@ -1,6 +1,4 @@
-use Rattle.std.proofs.Common.{arith, ◌≡◌, take, sym, ap, ◌∙◌}
-use Rattle.std.specs.Int.{w32, from_be_bytes}
-use Rattle.std.proofs.Math.Seq.{take-length}
+use Rattle.gb_types.specs.Common.{arith, ◌≡◌, take, sym, ap, ◌∙◌, w32, from_be_bytes, take-length}
 use Rattle.std.proofs.lemmas.Nat.{be_bytes_4}
 use Rattle.gb_client.proofs.exchange.length_of.Goals as goal
 

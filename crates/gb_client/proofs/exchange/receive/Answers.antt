@@ -1,5 +1,4 @@
-use Rattle.std.proofs.Common.{rules, ◌≡◌, ◌++◌, length, subst}
-use Rattle.std.specs.Int.{w32, to_be_bytes}
+use Rattle.gb_types.specs.Common.{rules, ◌≡◌, ◌++◌, length, subst, w32, to_be_bytes}
 use Rattle.std.specs.Io.KnownBytes.{Consumes}
 use Rattle.gb_session.proofs.RunLemmas.{Consumes-join}
 use Rattle.gb_client.proofs.exchange.receive.Goals as goal

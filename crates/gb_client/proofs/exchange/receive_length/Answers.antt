@@ -1,4 +1,4 @@
-use Rattle.std.proofs.Common.{sym, subst}
+use Rattle.gb_types.specs.Common.{sym, subst}
 use Rattle.std.specs.Io.KnownBytes.{Consumes}
 use Rattle.gb_client.proofs.exchange.receive_length.Goals as goal
 

@@ -1,4 +1,4 @@
-use Rattle.std.proofs.Common.{map}
+use Rattle.gb_types.specs.Common.{map}
 use Rattle.gb_client.proofs.NeedLemmas.{needs_tenant}
 use Rattle.gb_client.proofs.need.command_need.Goals as goal
 

@@ -1,4 +1,4 @@
-use Rattle.std.proofs.Common.{arith}
+use Rattle.gb_types.specs.Common.{arith}
 use Rattle.gb_types.proofs.ReadLemmas.{words_and_rest}
 use Rattle.gb_client.proofs.NeedLemmas.{member_reads}
 use Rattle.gb_client.proofs.need.member_need.Goals as goal

@@ -1,5 +1,4 @@
-use Rattle.std.proofs.Common.{◌≡◌, ◌++◌, drop, codes}
-use Rattle.std.specs.List.{flat_map}
+use Rattle.gb_types.specs.Common.{◌≡◌, ◌++◌, drop, codes, flat_map}
 use Rattle.gb_client.proofs.request.put_words.Given as goal
 
 abbrev pub invariant-loop-word : goal.invariant-loop-word

@@ -1,4 +1,4 @@
-use Rattle.std.proofs.Common.{Err, ap, refl, sym, subst, ◌∙◌, arith}
+use Rattle.gb_types.specs.Common.{Err, ap, refl, sym, subst, ◌∙◌, arith}
 use Rattle.gb_session.specs.Grammar.{IsRequestText}
 use Rattle.gb_client.proofs.request.request_text.Goals as goal
 

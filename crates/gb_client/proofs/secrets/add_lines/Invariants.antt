@@ -1,7 +1,5 @@
-use Rattle.std.proofs.Common.{◌≡◌, map, drop}
-use Rattle.std.specs.Prelude.{fold}
+use Rattle.gb_types.specs.Common.{◌≡◌, map, drop, fold, Some}
 use Rattle.gb_client.specs.Secrets.{with_next, no_secrets}
-use Rattle.std.specs.Prelude.{Some}
 use Rattle.gb_client.proofs.secrets.add_lines.Given as goal
 
 abbrev pub invariant-loop-line : goal.invariant-loop-line

@@ -1,4 +1,4 @@
-use Rattle.std.proofs.Common.{◌≡◌, false, take}
+use Rattle.gb_types.specs.Common.{◌≡◌, false, take}
 use Rattle.gb_client.specs.Answers.{lines_of}
 use Rattle.gb_client.proofs.show.entry_lines.Given as goal
 

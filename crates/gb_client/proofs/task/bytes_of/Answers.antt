@@ -1,4 +1,4 @@
-use Rattle.std.proofs.Common.{arith}
+use Rattle.gb_types.specs.Common.{arith}
 use Rattle.gb_client.proofs.ReplyLemmas.{bytes_more}
 use Rattle.gb_client.proofs.task.bytes_of.Goals as goal
 

@@ -1,4 +1,4 @@
-use Rattle.std.proofs.Common.{◌≡◌, map, take}
+use Rattle.gb_types.specs.Common.{◌≡◌, map, take}
 use Rattle.gb_client.proofs.task.bytes_of.Given as goal
 
 abbrev pub invariant-loop-word : goal.invariant-loop-word

@@ -1,4 +1,4 @@
-use Rattle.std.proofs.Common.{map}
+use Rattle.gb_types.specs.Common.{map}
 use Rattle.gb_client_run.proofs.ExportLemmas.{Exports}
 use Rattle.gb_client_run.proofs.exporting.export.Given as goal
 

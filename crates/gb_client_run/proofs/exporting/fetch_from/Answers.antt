@@ -1,4 +1,4 @@
-use Rattle.std.proofs.Common.{rules}
+use Rattle.gb_types.specs.Common.{rules}
 use Rattle.gb_client_run.proofs.exporting.fetch_from.Goals as goal
 
 pub returns-in-Some : goal.returns-in-Some

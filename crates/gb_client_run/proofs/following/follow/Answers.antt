@@ -1,7 +1,5 @@
-use Rattle.std.proofs.Common.{refl, sym, ap, subst, ◌∙◌, ◌++◌, ◌∷◌, []}
+use Rattle.gb_types.specs.Common.{refl, sym, ap, subst, ◌∙◌, ◌++◌, ◌∷◌, [], reply_spelling}
 use Rattle.std.specs.Io.KnownBytes.{Appends}
-use Rattle.gb_types.specs.declared.reply.Reply.TheVariants.{Refused}
-use Rattle.gb_types.specs.ReplyText.{reply_spelling}
 use Rattle.gb_client.specs.Answers.{lines_of, reply_status}
 use Rattle.gb_client_run.specs.Following.{HasFollowed}
 use Rattle.gb_client_run.proofs.FollowLemmas.{follows_more, ends_refused}

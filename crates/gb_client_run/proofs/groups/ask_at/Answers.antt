@@ -1,5 +1,4 @@
-use Rattle.std.proofs.Common.{◌≡◌, [], inl, inr, refl, sym, ap, ◌∙◌, arith}
-use Rattle.gb_types.specs.ReplyText.{reply_spelling}
+use Rattle.gb_types.specs.Common.{◌≡◌, [], inl, inr, refl, sym, ap, ◌∙◌, arith, reply_spelling}
 use Rattle.gb_client_run.specs.Groups.{outcome_status}
 use Rattle.gb_client_run.proofs.AskedLemmas.{done_then}
 use Rattle.gb_client_run.proofs.groups.ask_at.Goals as goal

@@ -1,4 +1,4 @@
-use Rattle.std.proofs.Common.{rules, arith}
+use Rattle.gb_types.specs.Common.{rules, arith}
 use Rattle.gb_client_run.proofs.AskedLemmas.{done_at_next}
 use Rattle.gb_client_run.proofs.groups.ask_each.Goals as goal
 

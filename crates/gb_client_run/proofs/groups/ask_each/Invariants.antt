@@ -1,4 +1,4 @@
-use Rattle.std.proofs.Common.{map, take}
+use Rattle.gb_types.specs.Common.{map, take}
 use Rattle.gb_client_run.specs.Groups.{HasDoneAll}
 use Rattle.gb_client_run.proofs.groups.ask_each.Given as goal
 

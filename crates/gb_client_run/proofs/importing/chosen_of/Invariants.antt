@@ -1,5 +1,4 @@
-use Rattle.std.proofs.Common.{◌≡◌, take}
-use Rattle.std.specs.List.{filter}
+use Rattle.gb_types.specs.Common.{◌≡◌, take, filter}
 use Rattle.gb_client_run.specs.Importing.{is_chosen}
 use Rattle.gb_client_run.proofs.importing.chosen_of.Given as goal
 

@@ -1,4 +1,4 @@
-use Rattle.std.proofs.Common.{sym, ◌∙◌}
+use Rattle.gb_types.specs.Common.{sym, ◌∙◌}
 use Rattle.gb_client_run.proofs.ImportLemmas.{tried_more}
 use Rattle.gb_client_run.proofs.importing.say.Goals as goal
 

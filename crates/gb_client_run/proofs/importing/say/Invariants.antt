@@ -1,4 +1,4 @@
-use Rattle.std.proofs.Common.{map, List}
+use Rattle.gb_types.specs.Common.{map, List}
 use Rattle.gb_types.specs.declared.refusal.Refusal.{Refusal}
 use Rattle.gb_client_run.specs.Importing.{HasTried}
 use Rattle.gb_client_run.proofs.importing.say.Given as goal

@@ -1,4 +1,4 @@
-use Rattle.std.proofs.Common.{◌≡◌, arith, rules, subst, ◌∙◌}
+use Rattle.gb_types.specs.Common.{◌≡◌, arith, rules, subst, ◌∙◌}
 use Rattle.std.specs.Io.KnownBytes.{Appends}
 use Rattle.gb_client_run.specs.declared.importing.Told.TheVariants.{Said, Refused}
 use Rattle.gb_client_run.proofs.ImportLemmas.{says_more, says_refused, says_failed}

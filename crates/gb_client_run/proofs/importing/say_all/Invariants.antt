@@ -1,4 +1,4 @@
-use Rattle.std.proofs.Common.{map}
+use Rattle.gb_types.specs.Common.{map}
 use Rattle.gb_client_run.proofs.ImportLemmas.{Says}
 use Rattle.gb_client_run.proofs.importing.say_all.Given as goal
 

@@ -1,4 +1,4 @@
-use Rattle.std.proofs.Common.{rules}
+use Rattle.gb_types.specs.Common.{rules}
 use Rattle.gb_client_run.proofs.importing.say_once.Goals as goal
 
 pub returns : goal.returns

@@ -1,5 +1,4 @@
-use Rattle.std.proofs.Common.{◌≡◌, map, take}
-use Rattle.std.specs.List.{All}
+use Rattle.gb_types.specs.Common.{◌≡◌, map, take, All}
 use Rattle.toml.specs.View.{view}
 use Rattle.gb_client_run.specs.Listing.{IsPlaceOf}
 use Rattle.gb_client_run.specs.declared.listed.Listed.{Listed}

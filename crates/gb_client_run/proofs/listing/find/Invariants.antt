@@ -1,4 +1,4 @@
-use Rattle.std.proofs.Common.{List}
+use Rattle.gb_types.specs.Common.{List}
 use Rattle.gb_client_run.specs.Asked.{Exchange, HasAsked}
 use Rattle.gb_client_run.proofs.listing.find.Given as goal
 

@@ -1,4 +1,4 @@
-use Rattle.std.proofs.Common.{[], ◌∷◌}
+use Rattle.gb_types.specs.Common.{[], ◌∷◌}
 use Rattle.gb_client_run.proofs.AskedLemmas.{HasAsked-one}
 use Rattle.gb_client_run.proofs.listing.page_text.Goals as goal
 

@@ -1,6 +1,4 @@
-use Rattle.std.proofs.Common.{arith, ◌≡◌, ◌-◌, ◌∙◌, Some, refl, sym, ap}
-use Rattle.std.specs.Prelude.{slice_get}
-use Rattle.std.proofs.lemmas.Option.{slice_get_read}
+use Rattle.gb_types.specs.Common.{arith, ◌≡◌, ◌-◌, ◌∙◌, Some, refl, sym, ap, slice_get, slice_get_read}
 use Rattle.gb_cluster.proofs.CodeLemmas.{not_there, arrived}
 use Rattle.gb_cluster.proofs.cluster.arrive.Goals as goal
 

@@ -1,4 +1,4 @@
-use Rattle.std.proofs.Common.{arith, sym, ◌∙◌}
+use Rattle.gb_types.specs.Common.{arith, sym, ◌∙◌}
 use Rattle.gb_cluster.proofs.CodeLemmas.{happened}
 use Rattle.gb_cluster.proofs.cluster.happen.Goals as goal
 

@@ -1,4 +1,4 @@
-use Rattle.std.proofs.Common.{◌<◌, length, arith}
+use Rattle.gb_types.specs.Common.{◌<◌, length, arith}
 use Rattle.toml.specs.View.{view}
 use Rattle.gb_cluster_file.proofs.ViewLemmas.{item_at, get_item-below, pairs_more}
 use Rattle.gb_cluster_file.proofs.check.differ.Goals as goal

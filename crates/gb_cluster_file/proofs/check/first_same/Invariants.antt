@@ -1,4 +1,4 @@
-use Rattle.std.proofs.Common.{◌≡◌, ℕ, ◌<◌, Some}
+use Rattle.gb_types.specs.Common.{◌≡◌, ℕ, ◌<◌, Some}
 use Rattle.toml.specs.Data.{Data, get_item}
 use Rattle.toml.specs.View.{view, items_view}
 use Rattle.gb_cluster_file.specs.Cluster.{IsSame}

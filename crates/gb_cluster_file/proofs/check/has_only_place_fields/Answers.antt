@@ -1,4 +1,4 @@
-use Rattle.std.proofs.Common.{◌≡◌, ◌∙◌, true, false, [], ◌∷◌, ◌++◌, ap, sym, append_assoc, string_bytes, rules}
+use Rattle.gb_types.specs.Common.{◌≡◌, ◌∙◌, true, false, [], ◌∷◌, ◌++◌, ap, sym, append_assoc, string_bytes, rules}
 use Rattle.toml.specs.View.{members_view}
 use Rattle.toml.proofs.Views.{Entry}
 use Rattle.gb_cluster_file.specs.Cluster.{all_keys}

@@ -1,4 +1,4 @@
-use Rattle.std.proofs.Common.{codes}
+use Rattle.gb_types.specs.Common.{codes}
 use Rattle.toml.proofs.Views.{table_get}
 use Rattle.gb_cluster_file.proofs.check.node_value.Goals as goal
 

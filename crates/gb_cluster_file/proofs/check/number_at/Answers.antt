@@ -1,4 +1,4 @@
-use Rattle.std.proofs.Common.{◌≤◌, ◌∙◌, Some, ap, sym, subst}
+use Rattle.gb_types.specs.Common.{◌≤◌, ◌∙◌, Some, ap, sym, subst}
 use Rattle.toml.specs.Data.{Data}
 use Rattle.toml.specs.View.{view, table_view}
 use Rattle.toml.proofs.Views.{table_get}

@@ -1,4 +1,4 @@
-use Rattle.std.proofs.Common.{◌∙◌, ap, sym}
+use Rattle.gb_types.specs.Common.{◌∙◌, ap, sym}
 use Rattle.toml.specs.Data.{array}
 use Rattle.toml.specs.View.{items_view}
 use Rattle.gb_cluster_file.proofs.ViewLemmas.{array_is}

@@ -1,4 +1,4 @@
-use Rattle.std.proofs.Common.{sym, subst, refl}
+use Rattle.gb_types.specs.Common.{sym, subst, refl}
 use Rattle.gb_cluster_file.specs.Cluster.{IsNumber}
 use Rattle.gb_cluster_file.proofs.check.version_at.Goals as goal
 

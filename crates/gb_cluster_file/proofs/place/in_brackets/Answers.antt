@@ -1,4 +1,4 @@
-use Rattle.std.proofs.Common.{Some, None, [], ◌∷◌, ◌++◌, arith}
+use Rattle.gb_types.specs.Common.{Some, None, [], ◌∷◌, ◌++◌, arith}
 use Rattle.std.proofs.lemmas.Str.Pattern.{strip_prefix_char, strip_suffix_char}
 use Rattle.gb_cluster_file.proofs.PlaceLemmas.{bracketed}
 use Rattle.gb_cluster_file.proofs.place.in_brackets.Goals as goal

@@ -1,4 +1,4 @@
-use Rattle.std.proofs.Common.{◌≡◌, subst, rules}
+use Rattle.gb_types.specs.Common.{◌≡◌, subst, rules}
 use Rattle.gb_cluster_file.specs.Places.{IsIpv6}
 use Rattle.gb_cluster_file.proofs.place.is_ipv6.Goals as goal
 

@@ -1,4 +1,4 @@
-use Rattle.std.proofs.Common.{Some, None}
+use Rattle.gb_types.specs.Common.{Some, None}
 use Rattle.gb_cluster_file.proofs.PlaceLemmas.{split_at_colon, no_place, place_parts, whole_place}
 use Rattle.gb_cluster_file.proofs.place.place_of.Goals as goal
 

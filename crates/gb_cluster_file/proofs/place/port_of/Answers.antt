@@ -1,4 +1,4 @@
-use Rattle.std.proofs.Common.{◌≡◌, ◌∙◌, refl, arith, rules}
+use Rattle.gb_types.specs.Common.{◌≡◌, ◌∙◌, refl, arith, rules}
 use Rattle.gb_cluster_file.proofs.place.port_of.Goals as goal
 
 pub overflow_cast-result : goal.overflow_cast-result

@@ -1,4 +1,4 @@
-use Rattle.std.proofs.Common.{arith}
+use Rattle.gb_types.specs.Common.{arith}
 use Rattle.toml.specs.View.{items_view}
 use Rattle.gb_cluster_file.proofs.ViewLemmas.{item_count-view, nodes_count, nodes_ports}
 use Rattle.gb_cluster_file.proofs.read.cluster_of.Goals as goal

@@ -1,4 +1,4 @@
-use Rattle.std.proofs.Common.{◌<◌, length, arith}
+use Rattle.gb_types.specs.Common.{◌<◌, length, arith}
 use Rattle.toml.specs.View.{items_view}
 use Rattle.gb_cluster_file.proofs.ViewLemmas.{item_at, nodes_next}
 use Rattle.gb_cluster_file.proofs.read.nodes_of.Goals as goal

@@ -1,4 +1,4 @@
-use Rattle.std.proofs.Common.{take}
+use Rattle.gb_types.specs.Common.{take}
 use Rattle.toml.specs.View.{items_view}
 use Rattle.gb_cluster_file.specs.Cluster.{AreNodes}
 use Rattle.gb_cluster_file.proofs.read.nodes_of.Given as goal

@@ -1,6 +1,5 @@
-use Rattle.std.proofs.Common.{◌+◌, min, ◌∙◌, sym, arith, ℕ}
-use Rattle.std.proofs.lemmas.Grind.{same_number_lists}
-use Rattle.std.proofs.lemmas.List.{length-map, get_or-map}
+use Rattle.gb_types.specs.Common.{◌+◌, min, ◌∙◌, sym, arith, ℕ, same_number_lists, length-map}
+use Rattle.std.proofs.lemmas.List.{get_or-map}
 use Rattle.gb_detect.proofs.detector.count_tick.Goals as goal
 
 pub returns : goal.returns

@@ -1,4 +1,4 @@
-use Rattle.std.proofs.Common.{◌≡◌, ℕ, ◌+◌, ◌<◌, ◌≤◌, min, get_or, length}
+use Rattle.gb_types.specs.Common.{◌≡◌, ℕ, ◌+◌, ◌<◌, ◌≤◌, min, get_or, length}
 use Rattle.gb_detect.proofs.detector.count_tick.Given as goal
 
 abbrev pub invariant-loop-ticks : goal.invariant-loop-ticks

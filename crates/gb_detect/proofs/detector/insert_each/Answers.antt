@@ -1,4 +1,4 @@
-use Rattle.std.proofs.Common.{◌∙◌, sym}
+use Rattle.gb_types.specs.Common.{◌∙◌, sym}
 use Rattle.std.specs.FinSet as set
 use Rattle.gb_detect.specs.Watch.{nodes_where}
 use Rattle.gb_detect.proofs.SetLemmas.{nodes_where-zero, nodes_where-more, nodes_where-same, insert-union, union-empty}

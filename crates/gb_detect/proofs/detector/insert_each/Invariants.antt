@@ -1,4 +1,4 @@
-use Rattle.std.proofs.Common.{◌≡◌}
+use Rattle.gb_types.specs.Common.{◌≡◌}
 use Rattle.std.specs.FinSet as set
 use Rattle.gb_detect.specs.Watch.{nodes_where}
 use Rattle.gb_detect.proofs.detector.insert_each.Given as goal

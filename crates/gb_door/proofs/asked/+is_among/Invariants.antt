@@ -1,4 +1,4 @@
-use Rattle.std.proofs.Common.{length}
+use Rattle.gb_types.specs.Common.{length}
 use Rattle.gb_door.proofs.asked.+is_among.Given as goal
 
 abbrev pub decreases-is_among : goal.decreases-is_among

@@ -1,5 +1,5 @@
 use Rattle.std.proofs.lemmas.Slice.Eq.{bytes_eq-Decides}
-use Rattle.std.proofs.lemmas.Bool.Decides.{same_from_decides}
+use Rattle.gb_types.specs.Common.{same_from_decides}
 use Rattle.gb_door.proofs.asked.is_origin.Goals as goal
 
 pub returns : goal.returns

@@ -1,4 +1,4 @@
-use Rattle.std.proofs.Common.{◌∷◌}
+use Rattle.gb_types.specs.Common.{◌∷◌}
 use Rattle.gb_door.proofs.talk.converse.Goals as goal
 
 pub loop-preserved : goal.loop-preserved

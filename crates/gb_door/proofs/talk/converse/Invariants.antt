@@ -1,4 +1,4 @@
-use Rattle.std.proofs.Common.{List}
+use Rattle.gb_types.specs.Common.{List}
 use Rattle.gb_door.specs.Talk.{Exchange, Talks}
 use Rattle.gb_door.proofs.talk.converse.Given as goal
 

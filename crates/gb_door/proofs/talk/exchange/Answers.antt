@@ -1,4 +1,4 @@
-use Rattle.std.proofs.Common.{List, ℕ, subst}
+use Rattle.gb_types.specs.Common.{List, ℕ, subst}
 use Rattle.gb_door.proofs.talk.exchange.Goals as goal
 
 pub returns-in-Ok-tell-clause-whole : goal.returns-in-Ok-tell-clause-whole

@@ -1,4 +1,4 @@
-use Rattle.std.proofs.Common.{◌∙◌, ap, map}
+use Rattle.gb_types.specs.Common.{◌∙◌, ap, map}
 use Rattle.clap.specs.Words.{App, takes}
 use Rattle.gb_door.proofs.words.asked_text.Goals as goal
 

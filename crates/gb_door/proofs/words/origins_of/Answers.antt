@@ -1,4 +1,4 @@
-use Rattle.std.proofs.Common.{◌≡◌, ◌∙◌, ap, codes, map, unwrap_or, []}
+use Rattle.gb_types.specs.Common.{◌≡◌, ◌∙◌, ap, codes, map, []}
 use Rattle.std.proofs.lemmas.Result.{IfOk-weaker}
 use Rattle.std.specs.Borrow.{Bor}
 use Rattle.clap.specs.Words.{Text, all_of, found_of, rows_of}

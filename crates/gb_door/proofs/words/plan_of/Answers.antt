@@ -1,4 +1,4 @@
-use Rattle.std.proofs.Common.{◌∙◌, Option, ℕ, ap, arith, codes, unwrap_or}
+use Rattle.gb_types.specs.Common.{◌∙◌, Option, ℕ, ap, arith, codes, unwrap_or}
 use Rattle.std.specs.Str.Parse.{ParsesUnsigned, ExplainsUnsignedError, HasUnsignedDigitsIfOk}
 use Rattle.clap.specs.Words.{found_of}
 use Rattle.gb_serve_words.specs.declared.options.TheConstants.{MOST_CONNECTIONS, MOST_SESSIONS}

@@ -1,4 +1,4 @@
-use Rattle.std.proofs.Common.{◌∙◌, codes}
+use Rattle.gb_types.specs.Common.{◌∙◌, codes}
 use Rattle.clap.specs.Words.{found_of}
 use Rattle.clap.proofs.WalkLemmas.{first_value-rows}
 use Rattle.gb_door.proofs.words.words_of.Goals as goal

@@ -1,4 +1,4 @@
-use Rattle.std.proofs.Common.{◌≡◌, refl, ap}
+use Rattle.gb_types.specs.Common.{◌≡◌, refl, ap}
 use Rattle.gb_fifo.specs.FifoLemmas.{lower_after}
 use Rattle.gb_fifo.proofs.FifoOrderLemmas.{call_order, fifo_order}
 use Rattle.gb_fifo.proofs.laws.in_origin_order.Goals as goal

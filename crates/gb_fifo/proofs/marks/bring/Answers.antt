@@ -1,6 +1,5 @@
-use Rattle.std.proofs.Common.{◌≡◌, ◌≤◌, ◌<◌, ◌∙◌, set, get_or, length, ap, sym, arith}
-use Rattle.gb_layer.specs.PlacedCalls.{message_at}
-use Rattle.gb_layer.specs.PairedLemmas.{changed_there, changed_beyond}
+use Rattle.gb_types.specs.Common.{◌≡◌, ◌≤◌, ◌<◌, ◌∙◌, set, get_or, length, ap, sym, arith}
+use Rattle.gb_layer.specs.Common.{message_at, changed_there, changed_beyond}
 use Rattle.gb_fifo.specs.Entries.{brought}
 use Rattle.gb_fifo.specs.Marks.{come_up, entry_of, marked}
 use Rattle.gb_fifo.proofs.MarksLemmas.{brought_there, not_brought}

@@ -1,4 +1,4 @@
-use Rattle.std.proofs.Common.{sym, ◌∙◌}
+use Rattle.gb_types.specs.Common.{sym, ◌∙◌}
 use Rattle.gb_fifo.proofs.MarksLemmas.{next_place, none_next, not_next_there}
 use Rattle.gb_fifo.proofs.marks.find_next.Goals as goal
 

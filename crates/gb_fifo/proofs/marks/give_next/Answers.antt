@@ -1,12 +1,7 @@
-use Rattle.std.proofs.Common.{◌≡◌, ℕ, ◌++◌, ◌∙◌, List, fold, length, slice_index, refl, ap, sym, subst, arith}
-use Rattle.std.specs.declared.option.Option.{Option}
-use Rattle.std.specs.declared.option.Option.TheVariants.{None, Some}
-use Rattle.gb_types.specs.declared.limits.TheConstants.{NODES}
-use Rattle.gb_types.specs.declared.message.MsgId.{MsgId}
-use Rattle.gb_types.specs.declared.node.NodeId.{NodeId}
+use Rattle.gb_types.specs.Common.{◌≡◌, ℕ, ◌++◌, ◌∙◌, List, fold, length, slice_index, refl, ap, sym, subst, arith, Option, None, Some}
+use Rattle.gb_types.specs.declared.{limits.TheConstants.NODES, message.MsgId.MsgId, node.NodeId.NodeId}
 use Rattle.gb_layer.specs.declared.effects.Up.{Up}
-use Rattle.gb_layer.specs.PlacedCalls.{message_at}
-use Rattle.gb_layer.specs.Sinks.{ups_alone, one_up}
+use Rattle.gb_layer.specs.Common.{message_at, ups_alone, one_up}
 use Rattle.gb_fifo.specs.Entries.{is_next, next_of, given_of, IsPlace}
 use Rattle.gb_fifo.proofs.PlacedLemmas.{none_given, none_picked}
 use Rattle.gb_fifo.specs.declared.marks.Mark.{Mark}

@@ -1,8 +1,6 @@
-use Rattle.std.proofs.Common.{◌≡◌, ◌≤◌, ◌<◌, ◌++◌, ◌∷◌, [], Bool, true, false, cond, length, ap, sym, ◌∙◌, arith}
-use Rattle.std.specs.List.{list_any}
+use Rattle.gb_types.specs.Common.{◌≡◌, ◌≤◌, ◌<◌, ◌++◌, ◌∷◌, [], Bool, true, false, cond, length, ap, sym, ◌∙◌, arith, list_any}
 use Rattle.gb_types.proofs.SameLemmas.{same_itself}
-use Rattle.gb_layer.specs.PlacedCalls.{message_at}
-use Rattle.gb_layer.specs.PairedLemmas.{found_there, found_beyond, paired_push}
+use Rattle.gb_layer.specs.Common.{message_at, found_there, found_beyond, paired_push}
 use Rattle.gb_fifo.specs.Entries.{is_for, blank}
 use Rattle.gb_fifo.specs.declared.marks.Mark.TheVariants.{Missing}
 use Rattle.gb_fifo.specs.Marks.{entry_of, marked}

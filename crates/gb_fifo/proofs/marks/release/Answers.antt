@@ -1,5 +1,5 @@
-use Rattle.std.proofs.Common.{◌≡◌, ℕ, ◌<◌, ◌-◌, ◌∙◌, [], fold, length, refl, ap, sym, subst, arith}
-use Rattle.gb_layer.specs.PairedLemmas.{length-paired}
+use Rattle.gb_types.specs.Common.{◌≡◌, ℕ, ◌<◌, ◌-◌, ◌∙◌, [], fold, length, refl, ap, sym, subst, arith}
+use Rattle.gb_layer.specs.Common.{length-paired}
 use Rattle.gb_fifo.specs.Entries.{next_of, give, released, released_ups}
 use Rattle.gb_fifo.proofs.PlacedLemmas.{released_more, released_done}
 use Rattle.gb_fifo.specs.Marks.{entry_of, marked}

@@ -1,4 +1,4 @@
-use Rattle.std.proofs.Common.{◌≡◌, ◌-◌, [], fold, length, vec_len, vec_capacity}
+use Rattle.gb_types.specs.Common.{◌≡◌, ◌-◌, [], fold, length, vec_len, vec_capacity}
 use Rattle.gb_fifo.specs.Entries.{released, released_ups}
 use Rattle.gb_fifo.specs.Marks.{marked, AreCounted}
 use Rattle.gb_fifo.specs.Ordered.{HasRoomFor}

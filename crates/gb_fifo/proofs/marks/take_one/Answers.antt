@@ -1,7 +1,6 @@
-use Rattle.std.proofs.Common.{◌≡◌, ◌∙◌, List, [], fold, length, map, slice_index, ap, sym, subst}
-use Rattle.std.proofs.lemmas.List.{length-map}
+use Rattle.gb_types.specs.Common.{◌≡◌, ◌∙◌, List, [], fold, length, map, slice_index, ap, sym, subst, length-map}
 use Rattle.gb_layer.specs.declared.effects.Up.{Up}
-use Rattle.gb_layer.specs.PlacedCalls.{message_at}
+use Rattle.gb_layer.specs.Common.{message_at}
 use Rattle.gb_fifo.specs.Entries.{brought, given_of, released, released_ups}
 use Rattle.gb_fifo.proofs.NumberLemmas.{given_brought}
 use Rattle.gb_fifo.specs.Ordered.{HasRoomFor}

@@ -1,8 +1,6 @@
-use Rattle.std.proofs.Common.{rules, ◌≡◌, ◌∙◌, [], List, length, vec_capacity, sym, subst}
-use Rattle.std.proofs.lemmas.List.{append-nil}
+use Rattle.gb_types.specs.Common.{rules, ◌≡◌, ◌∙◌, [], List, length, vec_capacity, sym, subst, append-nil}
 use Rattle.gb_layer.specs.declared.effects.Up.{Up}
-use Rattle.gb_layer.specs.PlacedCalls.{told}
-use Rattle.gb_layer.specs.Sinks.{folded}
+use Rattle.gb_layer.specs.Common.{told, folded}
 use Rattle.gb_fifo.specs.Entries.{taken, taken_ups}
 use Rattle.gb_fifo.specs.Marks.{marked, AreCounted}
 use Rattle.gb_fifo.specs.Ordered.{OrderedState, are_sound, sound_from, sound_counted, ordered_marks_name, ordered_out_name, ordered_len, ordered_capacity, ordered_sound, ordered_entries, ordered_inner}

@@ -1,4 +1,4 @@
-use Rattle.std.proofs.Common.{length}
+use Rattle.gb_types.specs.Common.{length}
 use Rattle.gb_fifo.proofs.plain.+greatest.Given as goal
 
 abbrev pub decreases-greatest : goal.decreases-greatest

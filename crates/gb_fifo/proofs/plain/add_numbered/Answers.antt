@@ -1,4 +1,4 @@
-use Rattle.std.proofs.Common.{arith}
+use Rattle.gb_types.specs.Common.{arith}
 use Rattle.gb_fifo.proofs.OrderLemmas.{added_none, added_more, added_all}
 use Rattle.gb_fifo.proofs.plain.add_numbered.Goals as goal
 

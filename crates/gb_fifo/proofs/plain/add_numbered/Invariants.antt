@@ -1,5 +1,5 @@
-use Rattle.std.proofs.Common.{◌≡◌, ◌≤◌, ◌++◌, map, drop, max}
-use Rattle.gb_layer.specs.Numbered.{numbered}
+use Rattle.gb_types.specs.Common.{◌≡◌, ◌≤◌, ◌++◌, map, drop, max}
+use Rattle.gb_layer.specs.Common.{numbered}
 use Rattle.gb_fifo.specs.Order.{upto}
 use Rattle.gb_fifo.proofs.plain.add_numbered.Given as goal
 

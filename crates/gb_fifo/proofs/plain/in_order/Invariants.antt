@@ -1,4 +1,4 @@
-use Rattle.std.proofs.Common.{◌≡◌, take}
+use Rattle.gb_types.specs.Common.{◌≡◌, take}
 use Rattle.gb_fifo.specs.Order.{in_order}
 use Rattle.gb_fifo.proofs.plain.in_order.Given as goal
 

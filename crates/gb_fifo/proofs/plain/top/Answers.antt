@@ -1,5 +1,5 @@
-use Rattle.std.proofs.Common.{◌∙◌, sym, arith, ℕ}
-use Rattle.gb_layer.specs.Numbered.{is_in, numbered}
+use Rattle.gb_types.specs.Common.{◌∙◌, sym, arith, ℕ}
+use Rattle.gb_layer.specs.Common.{is_in, numbered}
 use Rattle.gb_fifo.specs.Order.{top}
 use Rattle.gb_fifo.proofs.OrderLemmas.{counted_more}
 use Rattle.gb_fifo.proofs.plain.top.Goals as goal

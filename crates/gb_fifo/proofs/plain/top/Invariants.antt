@@ -1,6 +1,5 @@
-use Rattle.std.proofs.Common.{◌≡◌, ◌≤◌, ◌+◌, ◌-◌}
-use Rattle.std.specs.List.{prefix_len, range_with_len}
-use Rattle.gb_layer.specs.Numbered.{is_in, numbered}
+use Rattle.gb_types.specs.Common.{◌≡◌, ◌≤◌, ◌+◌, ◌-◌, prefix_len, range_with_len}
+use Rattle.gb_layer.specs.Common.{is_in, numbered}
 use Rattle.gb_fifo.specs.Order.{top, greatest}
 use Rattle.gb_fifo.proofs.plain.top.Given as goal
 

@@ -1,4 +1,4 @@
-use Rattle.std.proofs.Common.{arith, length, ap}
+use Rattle.gb_types.specs.Common.{arith, length, ap}
 use Rattle.gb_frame.proofs.ItemLemmas.{item_shrinks}
 use Rattle.gb_frame.proofs.ItemTextLemmas.{behind_first, none_again}
 use Rattle.gb_frame.proofs.item.count_items.Goals as goal

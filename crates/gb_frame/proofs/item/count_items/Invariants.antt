@@ -1,4 +1,4 @@
-use Rattle.std.proofs.Common.{◌≡◌, ◌+◌, ◌*◌, ◌≤◌, List, length}
+use Rattle.gb_types.specs.Common.{◌≡◌, ◌+◌, ◌*◌, ◌≤◌, List, length}
 use Rattle.gb_frame.specs.declared.item.Item.{Item}
 use Rattle.gb_frame.specs.Spelling.{AreTexts}
 use Rattle.gb_frame.proofs.item.count_items.Given as goal

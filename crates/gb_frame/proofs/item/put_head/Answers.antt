@@ -1,4 +1,4 @@
-use Rattle.std.proofs.Common.{rules}
+use Rattle.gb_types.specs.Common.{rules}
 use Rattle.gb_frame.proofs.item.put_head.Goals as goal
 
 pub returns-in-Three-clause-written : goal.returns-in-Three-clause-written

@@ -1,4 +1,4 @@
-use Rattle.std.proofs.Common.{arith}
+use Rattle.gb_types.specs.Common.{arith}
 use Rattle.gb_frame.proofs.item.put_item.Goals as goal
 
 pub returns-clause-fits : goal.returns-clause-fits

@@ -1,5 +1,4 @@
-use Rattle.std.proofs.Common.{◌≡◌, length, get_or, take, arith, ap, ◌∙◌, append_assoc}
-use Rattle.std.proofs.lemmas.List.Elements.{All-more}
+use Rattle.gb_types.specs.Common.{◌≡◌, length, get_or, take, arith, ap, ◌∙◌, append_assoc, All-more}
 use Rattle.gb_frame.specs.Packet.{item_of}
 use Rattle.gb_frame.specs.Spelling.{item_text, items_text, IsItem}
 use Rattle.gb_frame.proofs.RoomLemmas.{one_fits, length_more, texts_more}

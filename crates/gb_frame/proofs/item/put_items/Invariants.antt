@@ -1,4 +1,4 @@
-use Rattle.std.proofs.Common.{◌≡◌, ◌+◌, ◌≤◌, ◌++◌, length, take, All, vec_len, vec_capacity}
+use Rattle.gb_types.specs.Common.{◌≡◌, ◌+◌, ◌≤◌, ◌++◌, length, take, All, vec_len, vec_capacity}
 use Rattle.gb_frame.specs.Spelling.{items_text, IsItem}
 use Rattle.gb_frame.proofs.item.put_items.Given as goal
 

@@ -1,4 +1,4 @@
-use Rattle.std.proofs.Common.{◌≡◌, ◌-◌, ◌+◌, arith, suc, ap, sym, ◌∙◌}
+use Rattle.gb_types.specs.Common.{◌≡◌, ◌-◌, ◌+◌, arith, suc, ap, sym, ◌∙◌}
 use Rattle.gb_frame.specs.Reading.{items_at}
 use Rattle.gb_frame.proofs.WalkLemmas.{behind, no_item, behind_more, none_left, behind_none, behind_some}
 use Rattle.gb_frame.proofs.item.skip_items.Goals as goal

@@ -1,4 +1,4 @@
-use Rattle.std.proofs.Common.{◌≡◌, ◌-◌}
+use Rattle.gb_types.specs.Common.{◌≡◌, ◌-◌}
 use Rattle.gb_frame.specs.Reading.{items_at}
 use Rattle.gb_frame.proofs.WalkLemmas.{behind}
 use Rattle.gb_frame.proofs.item.skip_items.Given as goal

@@ -1,7 +1,5 @@
-use Rattle.std.proofs.Common.{◌≡◌, ◌+◌, ◌≤◌, length, arith, sym, ap}
-use Rattle.std.proofs.lemmas.List.Elements.{All-more}
+use Rattle.gb_types.specs.Common.{◌≡◌, ◌+◌, ◌≤◌, length, arith, sym, ap, All-more, limits_of}
 use Rattle.gb_types.specs.declared.version.VersionLimits.{VersionLimits}
-use Rattle.gb_types.specs.Version.{limits_of}
 use Rattle.gb_frame.specs.Room.{room_of}
 use Rattle.gb_frame.proofs.RoomLemmas.{too_long, no_room, room_more}
 use Rattle.gb_frame.proofs.packet.room_beside.Goals as goal

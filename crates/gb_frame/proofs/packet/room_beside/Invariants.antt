@@ -1,5 +1,4 @@
-use Rattle.std.proofs.Common.{◌≡◌, ◌+◌, ◌≤◌, length, take, All}
-use Rattle.gb_types.specs.Version.{limits_of}
+use Rattle.gb_types.specs.Common.{◌≡◌, ◌+◌, ◌≤◌, length, take, All, limits_of}
 use Rattle.gb_frame.specs.Room.{room_of}
 use Rattle.gb_frame.specs.Spelling.{items_text}
 use Rattle.gb_frame.proofs.packet.room_beside.Given as goal

@@ -1,5 +1,4 @@
-use Rattle.std.proofs.Common.{sym, ap, ◌∙◌, Ok, arith}
-use Rattle.gb_types.specs.Version.{limits_are_within}
+use Rattle.gb_types.specs.Common.{sym, ap, ◌∙◌, Ok, arith, limits_are_within}
 use Rattle.gb_frame.specs.Reading.{version_read}
 use Rattle.gb_frame.proofs.ReadingLemmas.{good, is_text, is_first_fault, text_found, no_fault_found}
 use Rattle.gb_frame.proofs.reading.decode.Goals as goal

@@ -1,5 +1,4 @@
-use Rattle.std.proofs.Common.{ap, sym, ◌∙◌, Ok, arith}
-use Rattle.gb_types.specs.Version.{limits_are_within}
+use Rattle.gb_types.specs.Common.{ap, sym, ◌∙◌, Ok, arith, limits_are_within}
 use Rattle.gb_frame.specs.Reading.{version_read}
 use Rattle.gb_frame.proofs.ReadingLemmas.{good, nothing_wrong, read_whole}
 use Rattle.gb_frame.proofs.reading.decode_known.Goals as goal

@@ -1,4 +1,4 @@
-use Rattle.std.proofs.Common.{arith}
+use Rattle.gb_types.specs.Common.{arith}
 use Rattle.gb_frame.proofs.RoomLemmas.{count_fits}
 use Rattle.gb_frame.proofs.VersionLemmas.{room_within}
 use Rattle.gb_frame.proofs.writing.encode.Goals as goal

@@ -1,5 +1,4 @@
-use Rattle.std.proofs.Common.{◌≡◌, ◌++◌, List, drop, sym, ap, subst, ◌∙◌, append_assoc, arith}
-use Rattle.std.proofs.lemmas.List.{drop_at}
+use Rattle.gb_types.specs.Common.{◌≡◌, ◌++◌, List, drop, sym, ap, subst, ◌∙◌, append_assoc, arith, drop_at}
 use Rattle.gb_frame.specs.declared.item.Item.{Item}
 use Rattle.gb_frame.specs.Packet.{packet_of}
 use Rattle.gb_frame.specs.Spelling.{header_text, tagged_text, tag_of, IsWithinLimits}

@@ -1,8 +1,6 @@
-use Rattle.std.proofs.Common.{◌≡◌, ◌+◌, List, [], ◌∷◌, ◌++◌, take, ap, sym, ◌∙◌}
-use Rattle.std.proofs.lemmas.List.{append_assoc, take_more}
-use Rattle.std.proofs.lemmas.Option.{slice_get_within, get_or_from_slice_get}
+use Rattle.gb_types.specs.Common.{◌≡◌, ◌+◌, List, [], ◌∷◌, ◌++◌, take, ap, sym, ◌∙◌, append_assoc, take_more, slice_get_within, get_or_from_slice_get}
 use Rattle.gb_types.specs.declared.entry.Entry.{Entry}
-use Rattle.gb_slot.specs.Slot.{waiting}
+use Rattle.gb_slot.specs.Common.{waiting}
 use Rattle.gb_group_run.proofs.answers.copy_waiting.Goals as goal
 
 pub loop-place-preserved : goal.loop-place-preserved

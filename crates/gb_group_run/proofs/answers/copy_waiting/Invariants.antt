@@ -1,5 +1,5 @@
-use Rattle.std.proofs.Common.{◌≡◌, ◌++◌, take}
-use Rattle.gb_slot.specs.Slot.{waiting}
+use Rattle.gb_types.specs.Common.{◌≡◌, ◌++◌, take}
+use Rattle.gb_slot.specs.Common.{waiting}
 use Rattle.gb_group_run.proofs.answers.copy_waiting.Given as goal
 
 abbrev pub invariant-loop-place : goal.invariant-loop-place

@@ -1,4 +1,4 @@
-use Rattle.std.proofs.Common.{◌≡◌, take}
+use Rattle.gb_types.specs.Common.{◌≡◌, take}
 use Rattle.gb_group_run.specs.SlotMember.{slot_marked}
 use Rattle.gb_group_run.proofs.answers.mark_all.Given as goal
 

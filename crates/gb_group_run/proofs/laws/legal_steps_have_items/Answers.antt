@@ -1,5 +1,5 @@
-use Rattle.std.proofs.Common.{◌∷◌}
-use Rattle.gb_alone.specs.Alone.{nobody, alone}
+use Rattle.gb_types.specs.Common.{◌∷◌}
+use Rattle.gb_alone.specs.Common.{nobody, alone}
 use Rattle.gb_duties.proofs.FlowLemmas.{nobody_flows, run_flows, legal_parts}
 use Rattle.gb_group_run.proofs.LegalLemmas.{may_have}
 use Rattle.gb_group_run.proofs.laws.legal_steps_have_items.Goals as goal

@@ -1,5 +1,4 @@
-use Rattle.std.proofs.Common.{◌≡◌}
-use Rattle.std.specs.Prelude.{map}
+use Rattle.gb_types.specs.Common.{◌≡◌, map}
 use Rattle.gb_group_run.specs.SlotMember.{seen_of}
 use Rattle.gb_group_run.proofs.run.all_seen.Given as goal
 

@@ -1,8 +1,7 @@
-use Rattle.std.proofs.Common.{◌≡◌, subst}
-use Rattle.std.specs.Prelude.{IfOk}
+use Rattle.gb_types.specs.Common.{◌≡◌, subst, IfOk}
 use Rattle.gb_types.specs.declared.plan.Bounds.{Bounds}
 use Rattle.gb_alone.specs.Alone as one_group
-use Rattle.gb_alone.specs.Observation.{observed_alone}
+use Rattle.gb_alone.specs.Common.{observed_alone}
 use Rattle.gb_group_run.proofs.run.alone_by_slots.Goals as goal
 
 pub returns : goal.returns

@@ -1,5 +1,4 @@
-use Rattle.std.proofs.Common.{◌≡◌, ◌-◌, ◌≤◌, length}
-use Rattle.std.specs.Prelude.{replicate}
+use Rattle.gb_types.specs.Common.{◌≡◌, ◌-◌, ◌≤◌, length, replicate}
 use Rattle.gb_types.specs.declared.limits.TheConstants.{NODES}
 use Rattle.gb_group_run.specs.SlotMember.{new_member}
 use Rattle.gb_group_run.proofs.run.members.Given as goal

@@ -1,8 +1,6 @@
-use Rattle.std.proofs.Common.{◌≡◌, ◌+◌, List, length, take, ap, sym, subst, ◌∙◌}
-use Rattle.std.specs.Prelude.{map, IfOk}
-use Rattle.std.proofs.lemmas.List.Sums.{fold_more}
+use Rattle.gb_types.specs.Common.{◌≡◌, ◌+◌, List, length, take, ap, sym, subst, ◌∙◌, map, IfOk, fold_more}
 use Rattle.gb_alone.specs.Alone as one_group
-use Rattle.gb_alone.specs.Observation.{SeenAt, observed_alone}
+use Rattle.gb_alone.specs.Common.{SeenAt, observed_alone}
 use Rattle.gb_alone.proofs.ObservationLemmas.{take_short}
 use Rattle.gb_group_run.specs.SlotMember.{SlotMember, slot_members_after, seen_of}
 use Rattle.gb_group_run.proofs.SeenLemmas.{seen_is}

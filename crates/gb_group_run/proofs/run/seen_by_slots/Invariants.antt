@@ -1,4 +1,4 @@
-use Rattle.std.proofs.Common.{◌≡◌, take, length}
+use Rattle.gb_types.specs.Common.{◌≡◌, take, length}
 use Rattle.gb_types.specs.declared.limits.TheConstants.{NODES}
 use Rattle.gb_alone.specs.Alone as one_group
 use Rattle.gb_group_run.proofs.Stands.{SlotLaws, AllStand}

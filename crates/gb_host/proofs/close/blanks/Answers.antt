@@ -1,5 +1,4 @@
-use Rattle.std.proofs.Common.{arith}
-use Rattle.std.proofs.lemmas.Grind.{common_steps}
+use Rattle.gb_types.specs.Common.{arith, common_steps}
 use Rattle.gb_host.proofs.close.blanks.Goals as goal
 
 pub loop-i-preserved : goal.loop-i-preserved

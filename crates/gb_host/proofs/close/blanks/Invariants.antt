@@ -1,4 +1,4 @@
-use Rattle.std.proofs.Common.{◌≡◌, ℕ, [], length, vec_len, sum_by, vec_capacity, ◌≤◌}
+use Rattle.gb_types.specs.Common.{◌≡◌, ℕ, [], length, vec_len, sum_by, vec_capacity, ◌≤◌}
 use Rattle.gb_host.specs.Closing.{list_at}
 use Rattle.gb_host.proofs.close.blanks.Given as goal
 

@@ -1,4 +1,4 @@
-use Rattle.std.proofs.Common.{arith, length, drop}
+use Rattle.gb_types.specs.Common.{arith, length, drop}
 use Rattle.gb_host.proofs.GatheringLemmas.{gathered_step}
 use Rattle.gb_host.proofs.close.by_number.Goals as goal
 

@@ -1,4 +1,4 @@
-use Rattle.std.proofs.Common.{◌≡◌, vec_len}
+use Rattle.gb_types.specs.Common.{◌≡◌, vec_len}
 use Rattle.gb_host.specs.Closing.{Gathered}
 use Rattle.gb_host.proofs.close.by_number.Given as goal
 

@@ -1,4 +1,4 @@
-use Rattle.std.proofs.Common.{rules}
+use Rattle.gb_types.specs.Common.{rules}
 use Rattle.gb_host.specs.Closing.{AreReplays, AreSame, list_at}
 use Rattle.gb_host.proofs.ClosingLemmas.{closed_same, closed_entries, closed_fresh}
 use Rattle.gb_host.proofs.close.close.Goals as goal

@@ -1,4 +1,4 @@
-use Rattle.std.proofs.Common.{◌≡◌, ℕ, vec_len, vec_capacity, ◌≤◌, length}
+use Rattle.gb_types.specs.Common.{◌≡◌, ℕ, vec_len, vec_capacity, ◌≤◌, length}
 use Rattle.gb_host.specs.Walk.{cursor_at}
 use Rattle.gb_host.proofs.compare.beginnings.Given as goal
 

@@ -1,4 +1,4 @@
-use Rattle.std.proofs.Common.{◌≡◌, ◌<◌, ℕ}
+use Rattle.gb_types.specs.Common.{◌≡◌, ◌<◌, ℕ}
 use Rattle.gb_host.specs.Calls.{calls_of, calls_at, numbered}
 use Rattle.gb_host.specs.Closing.{tape_at, list_at}
 use Rattle.gb_host.proofs.compare.differing.Given as goal

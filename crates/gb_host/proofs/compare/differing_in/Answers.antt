@@ -1,5 +1,4 @@
-use Rattle.std.proofs.Common.{arith, ◌≡◌, ℕ, List, [], drop, sym, subst}
-use Rattle.std.proofs.lemmas.List.{drop_all}
+use Rattle.gb_types.specs.Common.{arith, ◌≡◌, ℕ, List, [], drop, sym, subst, drop_all}
 use Rattle.gb_host.specs.Calls.{calls_of, calls_at, numbered}
 use Rattle.gb_host.specs.Closing.{list_at}
 use Rattle.gb_host.specs.Walk.{left_of, IsWalked}

@@ -1,4 +1,4 @@
-use Rattle.std.proofs.Common.{◌≡◌, drop, length, vec_len}
+use Rattle.gb_types.specs.Common.{◌≡◌, drop, length, vec_len}
 use Rattle.gb_host.specs.Walk.{AreBounded, IsWalked}
 use Rattle.gb_host.proofs.compare.differing_in.Given as goal
 

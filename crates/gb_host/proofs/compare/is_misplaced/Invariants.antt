@@ -1,4 +1,4 @@
-use Rattle.std.proofs.Common.{◌≡◌, ◌≤◌, ℕ, drop}
+use Rattle.gb_types.specs.Common.{◌≡◌, ◌≤◌, ℕ, drop}
 use Rattle.gb_host.specs.Calls.{calls_at}
 use Rattle.gb_host.proofs.compare.is_misplaced.Given as goal
 

@@ -1,4 +1,4 @@
-use Rattle.std.proofs.Common.{◌≡◌, ◌<◌, ℕ, []}
+use Rattle.gb_types.specs.Common.{◌≡◌, ◌<◌, ℕ, []}
 use Rattle.gb_host.specs.Walk.{left_of}
 use Rattle.gb_host.proofs.compare.left_over.Given as goal
 

@@ -1,4 +1,4 @@
-use Rattle.std.proofs.Common.{◌≡◌, ◌<◌, ◌≤◌, ℕ, []}
+use Rattle.gb_types.specs.Common.{◌≡◌, ◌<◌, ◌≤◌, ℕ, []}
 use Rattle.gb_host.specs.Calls.{calls_at}
 use Rattle.gb_host.specs.Closing.{list_at}
 use Rattle.gb_host.proofs.compare.misplaced.Given as goal

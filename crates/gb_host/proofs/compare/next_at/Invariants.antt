@@ -1,4 +1,4 @@
-use Rattle.std.proofs.Common.{◌≡◌, drop}
+use Rattle.gb_types.specs.Common.{◌≡◌, drop}
 use Rattle.gb_host.specs.Calls.{calls_at}
 use Rattle.gb_host.proofs.compare.next_at.Given as goal
 

@@ -1,4 +1,4 @@
-use Rattle.std.proofs.Common.{arith}
+use Rattle.gb_types.specs.Common.{arith}
 use Rattle.gb_host.proofs.HereLemmas.{none_here, whole_more, within_more}
 use Rattle.gb_host.proofs.here.all_nodes.Goals as goal
 

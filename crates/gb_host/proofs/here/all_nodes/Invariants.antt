@@ -1,4 +1,4 @@
-use Rattle.std.proofs.Common.{ℕ, ◌≡◌, ◌<◌, true}
+use Rattle.gb_types.specs.Common.{ℕ, ◌≡◌, ◌<◌, true}
 use Rattle.std.specs.FinSet as set
 use Rattle.gb_host.proofs.here.all_nodes.Given as goal
 

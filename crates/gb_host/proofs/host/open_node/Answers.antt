@@ -1,4 +1,4 @@
-use Rattle.std.proofs.Common.{◌<◌, subst}
+use Rattle.gb_types.specs.Common.{◌<◌, subst}
 use Rattle.gb_host.specs.Plans.{IsPlan}
 use Rattle.gb_host.specs.declared.plan.HostPlan.{HostPlan}
 use Rattle.gb_host.proofs.RingLemmas.{past_new}

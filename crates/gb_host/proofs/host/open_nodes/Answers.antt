@@ -1,6 +1,5 @@
-use Rattle.std.proofs.Common.{arith, ◌≡◌, ◌+◌, ◌∙◌, ◌++◌, Bool, ℕ, [], ◌∷◌, ap, append_assoc, length, refl, subst, sym}
+use Rattle.gb_types.specs.Common.{arith, ◌≡◌, ◌+◌, ◌∙◌, ◌++◌, Bool, ℕ, [], ◌∷◌, ap, append_assoc, length, refl, subst, sym, length_push}
 use Rattle.std.specs.FinSet as set
-use Rattle.std.proofs.lemmas.List.{length_push}
 use Rattle.gb_past.specs.Story.{Known}
 use Rattle.gb_node.specs.declared.tape.TapeEntry.{TapeEntry}
 use Rattle.gb_host.specs.HostValue.{AreOpened, IsOpened}

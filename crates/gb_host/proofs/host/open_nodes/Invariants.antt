@@ -1,4 +1,4 @@
-use Rattle.std.proofs.Common.{◌≡◌, ◌≤◌, ◌++◌, length, vec_len, vec_capacity}
+use Rattle.gb_types.specs.Common.{◌≡◌, ◌≤◌, ◌++◌, length, vec_len, vec_capacity}
 use Rattle.gb_host.specs.HostValue.{AreOpened}
 use Rattle.gb_host.proofs.host.open_nodes.Given as goal
 

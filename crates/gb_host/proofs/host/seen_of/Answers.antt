@@ -1,4 +1,4 @@
-use Rattle.std.proofs.Common.{rules, arith, ◌≡◌, ◌<◌, ◌∙◌, [], ap, length, subst, sym}
+use Rattle.gb_types.specs.Common.{rules, arith, ◌≡◌, ◌<◌, ◌∙◌, [], ap, length, subst, sym}
 use Rattle.gb_past.specs.Story.{Known}
 use Rattle.gb_node.specs.declared.tape.TapeEntry.{TapeEntry}
 use Rattle.gb_host.specs.Pasts.{AreOfBooks, AreUnseen, book_at, books_of}

@@ -1,4 +1,4 @@
-use Rattle.std.proofs.Common.{◌≡◌, ◌≤◌, vec_len, vec_capacity}
+use Rattle.gb_types.specs.Common.{◌≡◌, ◌≤◌, vec_len, vec_capacity}
 use Rattle.gb_host.specs.Pasts.{AreBlank}
 use Rattle.gb_host.proofs.pasts.new_pasts.Given as goal
 

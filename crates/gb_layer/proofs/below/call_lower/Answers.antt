@@ -1,4 +1,4 @@
-use Rattle.std.proofs.Common.{rules, ◌≡◌, ◌∙◌, ap, vec_len, vec_capacity}
+use Rattle.gb_types.specs.Common.{rules, ◌≡◌, ◌∙◌, ap, vec_len, vec_capacity}
 use Rattle.gb_types.specs.declared.node.NodeId.{NodeId}
 use Rattle.gb_layer.specs.Relay.{taken_in}
 use Rattle.gb_layer.specs.PlacedCalls.{told}

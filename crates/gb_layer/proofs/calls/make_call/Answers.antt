@@ -1,4 +1,4 @@
-use Rattle.std.proofs.Common.{◌++◌, ap, ◌∙◌}
+use Rattle.gb_types.specs.Common.{◌++◌, ap, ◌∙◌}
 use Rattle.gb_layer.specs.PlacedCalls.{told}
 use Rattle.gb_layer.specs.ListSink.{messages_at, ups_at, lists_state, lists_folded}
 use Rattle.gb_layer.proofs.calls.make_call.Goals as goal

@@ -1,5 +1,4 @@
-use Rattle.std.proofs.Common.{◌≡◌, ℕ, ◌<◌, ◌+◌, ◌∷◌, ◌++◌, ◌∙◌, [], List, map, filter, fold, take, drop, get_or, length, refl, ap, sym, subst, arith, add-one, drop-cons}
-use Rattle.std.proofs.lemmas.List.{drop_all}
+use Rattle.gb_types.specs.Common.{◌≡◌, ℕ, ◌<◌, ◌+◌, ◌∷◌, ◌++◌, ◌∙◌, [], List, map, filter, fold, take, drop, get_or, length, refl, ap, sym, subst, arith, add-one, drop-cons, drop_all}
 use Rattle.gb_layer.specs.declared.entries.Entry.{Entry}
 use Rattle.gb_layer.specs.Relay.{due_to_deliver, handed, up_of}
 use Rattle.gb_layer.proofs.MappedLemmas.{mapped_more, mapped_at, mapped_below, mapped_from}

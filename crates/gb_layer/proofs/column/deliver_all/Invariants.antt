@@ -1,4 +1,4 @@
-use Rattle.std.proofs.Common.{◌≡◌, ◌++◌, map, filter, fold, take, drop, vec_len, vec_capacity}
+use Rattle.gb_types.specs.Common.{◌≡◌, ◌++◌, map, filter, fold, take, drop, vec_len, vec_capacity}
 use Rattle.gb_layer.specs.Relay.{due_to_deliver, handed, up_of}
 use Rattle.gb_layer.specs.Sinks.{ups_alone}
 use Rattle.gb_layer.specs.Column.{zipped}

@@ -1,10 +1,7 @@
-use Rattle.std.proofs.Common.{◌≡◌, ℕ, ◌≤◌, ◌<◌, ◌∷◌, ◌∙◌, [], Bool, true, false, List, cond, map, fold, set, get_or, length, ap, sym, subst}
-use Rattle.std.proofs.lemmas.Option.{get_or_from_slice_get}
-use Rattle.std.proofs.lemmas.List.{set-get_or}
+use Rattle.gb_types.specs.Common.{◌≡◌, ℕ, ◌≤◌, ◌<◌, ◌∷◌, ◌∙◌, [], Bool, true, false, List, cond, map, fold, set, get_or, length, ap, sym, subst, get_or_from_slice_get, set-get_or}
 use Rattle.gb_types.specs.declared.message.MsgId.{MsgId}
-use Rattle.gb_layer.specs.declared.effects.Up.{Up}
+use Rattle.gb_layer.specs.declared.{effects.Up.Up, column.Held.Held}
 use Rattle.gb_layer.specs.Relay.{due_to_deliver, given_entry, up_of}
-use Rattle.gb_layer.specs.declared.column.Held.{Held}
 use Rattle.gb_layer.specs.PlacedCalls.{message_at}
 use Rattle.gb_layer.specs.Sinks.{one_up, ups_alone}
 use Rattle.gb_layer.specs.Column.{entry_of, zipped, no_entry}

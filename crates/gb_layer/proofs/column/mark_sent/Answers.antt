@@ -1,4 +1,4 @@
-use Rattle.std.proofs.Common.{◌≡◌, ◌<◌, ◌∙◌, set, get_or, cond, length, ap, sym, arith}
+use Rattle.gb_types.specs.Common.{◌≡◌, ◌<◌, ◌∙◌, set, get_or, cond, length, ap, sym, arith}
 use Rattle.gb_types.proofs.SameLemmas.{same_itself}
 use Rattle.gb_layer.specs.Relay.{marked_sent, sent_entry}
 use Rattle.gb_layer.proofs.TableLemmas.{not_marked}

@@ -1,5 +1,4 @@
-use Rattle.std.proofs.Common.{◌≡◌, ◌≤◌, ◌<◌, ◌++◌, ◌∷◌, [], Bool, true, false, cond, length, ap, sym, ◌∙◌, arith}
-use Rattle.std.specs.List.{list_any}
+use Rattle.gb_types.specs.Common.{◌≡◌, ◌≤◌, ◌<◌, ◌++◌, ◌∷◌, [], Bool, true, false, cond, length, ap, sym, ◌∙◌, arith, list_any}
 use Rattle.gb_types.proofs.SameLemmas.{same_itself}
 use Rattle.gb_layer.specs.Relay.{is_for, new_entry}
 use Rattle.gb_layer.specs.PlacedCalls.{message_at}

@@ -1,4 +1,4 @@
-use Rattle.std.proofs.Common.{◌∙◌, ◌&&◌, get_or, ap, sym}
+use Rattle.gb_types.specs.Common.{◌∙◌, ◌&&◌, get_or, ap, sym}
 use Rattle.gb_types.proofs.SameLemmas.{same_itself}
 use Rattle.gb_layer.specs.Relay.{is_for}
 use Rattle.gb_layer.proofs.TableLemmas.{not_sent}

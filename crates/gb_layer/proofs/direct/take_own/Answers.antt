@@ -1,4 +1,4 @@
-use Rattle.std.proofs.Common.{rules}
+use Rattle.gb_types.specs.Common.{rules}
 use Rattle.gb_layer.specs.Own.{own_name, own_inner}
 use Rattle.gb_layer.proofs.direct.take_own.Goals as goal
 

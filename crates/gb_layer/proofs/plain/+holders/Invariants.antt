@@ -1,4 +1,4 @@
-use Rattle.std.proofs.Common.{length}
+use Rattle.gb_types.specs.Common.{length}
 use Rattle.gb_layer.proofs.plain.+holders.Given as goal
 
 abbrev pub decreases-holders : goal.decreases-holders

@@ -1,4 +1,4 @@
-use Rattle.std.proofs.Common.{length}
+use Rattle.gb_types.specs.Common.{length}
 use Rattle.gb_layer.proofs.plain.+set_of.Given as goal
 
 abbrev pub decreases-set_of : goal.decreases-set_of

@@ -1,6 +1,5 @@
-use Rattle.std.proofs.Common.{◌∙◌}
+use Rattle.gb_types.specs.Common.{◌∙◌, has_majority}
 use Rattle.std.specs.FinSet as set
-use Rattle.gb_types.specs.Places.{has_majority}
 use Rattle.gb_layer.specs.Machine.{numbers}
 use Rattle.gb_layer.specs.Modules as modules
 use Rattle.gb_layer.proofs.ListedLemmas.{majority_listed}

@@ -1,4 +1,4 @@
-use Rattle.std.proofs.Common.{◌-◌, ◌∙◌, sym, arith}
+use Rattle.gb_types.specs.Common.{◌-◌, ◌∙◌, sym, arith}
 use Rattle.gb_link.proofs.AckLemmas.{not_covered_beyond}
 use Rattle.gb_link.proofs.TestLemmas.{lt_not}
 use Rattle.gb_link.proofs.ack.covers.Goals as goal

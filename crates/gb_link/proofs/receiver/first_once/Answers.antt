@@ -1,4 +1,4 @@
-use Rattle.std.proofs.Common.{arith}
+use Rattle.gb_types.specs.Common.{arith}
 use Rattle.gb_link.proofs.ArrivalLemmas.{firsts_most}
 use Rattle.gb_link.proofs.receiver.first_once.Goals as goal
 

@@ -1,4 +1,4 @@
-use Rattle.std.proofs.Common.{◌≤◌, ◌∙◌, sym, ap, arith}
+use Rattle.gb_types.specs.Common.{◌≤◌, ◌∙◌, sym, ap, arith}
 use Rattle.std.specs.FinSet as set
 use Rattle.gb_types.specs.declared.limits.TheConstants.{LAST_FRAME}
 use Rattle.gb_link.proofs.ReceivedLemmas.{covered_slide, odd_base}

@@ -1,4 +1,4 @@
-use Rattle.std.proofs.Common.{◌≡◌, ◌≤◌, ◌<◌, ◌^◌}
+use Rattle.gb_types.specs.Common.{◌≡◌, ◌≤◌, ◌<◌, ◌^◌}
 use Rattle.gb_link.specs.Words.{covered}
 use Rattle.gb_link.proofs.receiver.slid.Given as goal
 

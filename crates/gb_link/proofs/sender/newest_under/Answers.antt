@@ -1,4 +1,4 @@
-use Rattle.std.proofs.Common.{◌≡◌, ◌<◌, ◌-◌, length, get_or, rules}
+use Rattle.gb_types.specs.Common.{◌≡◌, ◌<◌, ◌-◌, length, get_or, rules}
 use Rattle.gb_link.proofs.WindowLemmas.{newest_found}
 use Rattle.gb_link.proofs.sender.newest_under.Goals as goal
 

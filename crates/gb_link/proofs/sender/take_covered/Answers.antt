@@ -1,4 +1,4 @@
-use Rattle.std.proofs.Common.{sym, refl, arith, ◌∙◌}
+use Rattle.gb_types.specs.Common.{sym, refl, arith, ◌∙◌}
 use Rattle.std.specs.VecDeque.{deque_len}
 use Rattle.gb_link.specs.Ack.{covers}
 use Rattle.gb_link.proofs.FirstLemmas.{no_position, removed_first}

@@ -1,4 +1,4 @@
-use Rattle.gb_host.specs.SeatValue.{SeatValue}
+use Rattle.gb_host.specs.Common.{SeatValue}
 use Rattle.gb_loop.proofs.MailLemmas.{called_or_not}
 use Rattle.gb_loop.proofs.mail.ask_to_send.Goals as goal
 

@@ -1,4 +1,4 @@
-use Rattle.std.proofs.Common.{◌≡◌}
+use Rattle.gb_types.specs.Common.{◌≡◌}
 use Rattle.gb_node.specs.declared.answer.NodeAnswer.{NodeAnswer}
 use Rattle.gb_node.specs.declared.answer.NodeAnswer.TheVariants as answers
 use Rattle.gb_node.specs.declared.answer.Sent.TheVariants as sents

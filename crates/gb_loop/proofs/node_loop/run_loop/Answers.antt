@@ -1,6 +1,6 @@
-use Rattle.std.proofs.Common.{List, ap, ◌∙◌, subst}
+use Rattle.gb_types.specs.Common.{List, ap, ◌∙◌, subst}
 use Rattle.gb_types.specs.declared.node.NodeId.{NodeId}
-use Rattle.gb_host.specs.SeatValue.{SeatValue}
+use Rattle.gb_host.specs.Common.{SeatValue}
 use Rattle.gb_host.specs.declared.entry.SeatEntry.{SeatEntry}
 use Rattle.gb_loop.specs.Mailed.{HasCalled, HasMailed}
 use Rattle.gb_loop.specs.declared.mail.Origin.{Origin}

@@ -1,4 +1,4 @@
-use Rattle.std.proofs.Common.{lit≤, arith}
+use Rattle.gb_types.specs.Common.{lit≤, arith}
 use Rattle.gb_types.specs.declared.version.Version.TheVariants.{One}
 use Rattle.gb_host.proofs.PlanLemmas.{all_named}
 use Rattle.gb_loop_examples.proofs.loops.plan_of.Goals as goal

@@ -1,4 +1,4 @@
-use Rattle.gb_host.specs.Pasts.{books_of}
+use Rattle.gb_host.specs.Common.{books_of}
 use Rattle.gb_loop_examples.proofs.loops.runs.Given as goal
 
 abbrev pub ghosts-run_host : goal.ghosts-run_host

@@ -1,6 +1,6 @@
-use Rattle.std.proofs.Common.{◌≡◌, ◌∙◌, ap}
+use Rattle.gb_types.specs.Common.{◌≡◌, ◌∙◌, ap}
 use Rattle.gb_types.specs.declared.node.NodeId.{NodeId}
-use Rattle.gb_cluster.specs.Run.{past_at}
+use Rattle.gb_cluster.specs.Common.{past_at}
 use Rattle.gb_merge.specs.Fed.{fed_of}
 use Rattle.gb_merge.specs.Merged.{run_of, past_of}
 use Rattle.gb_merge.proofs.FedLemmas.{tape_of-fed, ends_as_replay, replies_are}

@@ -1,5 +1,4 @@
-use Rattle.std.proofs.Common.{List, subst}
-use Rattle.std.specs.Prelude.{IfErr}
+use Rattle.gb_types.specs.Common.{List, subst, IfErr}
 use Rattle.gb_node.specs.declared.tape.TapeEntry.{TapeEntry}
 use Rattle.gb_merge.specs.Faults.{IsFault}
 use Rattle.gb_merge.proofs.fed.merge_fed.Goals as goal

@@ -1,6 +1,4 @@
-use Rattle.std.proofs.Common.{◌≡◌, ◌<◌, Some, length, refl, subst, arith}
-use Rattle.std.specs.Prelude.{slice_get}
-use Rattle.std.proofs.lemmas.Option.{slice_get_read}
+use Rattle.gb_types.specs.Common.{◌≡◌, ◌<◌, Some, length, refl, subst, arith, slice_get, slice_get_read}
 use Rattle.gb_node.specs.declared.answer.NodeAnswer.{NodeAnswer}
 use Rattle.gb_merge.specs.Woven.{IsTold, IsStepFault, IsFollowFault}
 use Rattle.gb_merge.proofs.FollowingLemmas.{is_at-first, is_at-next, goes_there, fault_of}

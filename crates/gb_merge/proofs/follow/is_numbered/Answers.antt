@@ -1,7 +1,5 @@
-use Rattle.std.proofs.Common.{◌≡◌, ◌-◌, ◌∙◌, ℕ, List, Some, None, refl, sym, ap}
-use Rattle.std.specs.Option.{option_map}
-use Rattle.std.proofs.lemmas.Option.{slice_get_read, slice_get_past}
-use Rattle.gb_cluster.specs.ClusterStep.{packet_numbered}
+use Rattle.gb_types.specs.Common.{◌≡◌, ◌-◌, ◌∙◌, ℕ, List, Some, None, refl, sym, ap, option_map, slice_get_read, slice_get_past}
+use Rattle.gb_cluster.specs.Common.{packet_numbered}
 use Rattle.gb_cluster.specs.declared.posted.Posted.{Posted}
 use Rattle.gb_cluster.proofs.CodeLemmas.{numbered_at}
 use Rattle.gb_merge.proofs.follow.is_numbered.Goals as goal

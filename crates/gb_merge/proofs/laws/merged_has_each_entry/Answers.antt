@@ -1,5 +1,4 @@
-use Rattle.std.proofs.Common.{[], ◌∙◌, ap}
-use Rattle.std.specs.Prelude.{slice_get}
+use Rattle.gb_types.specs.Common.{[], ◌∙◌, ap, slice_get}
 use Rattle.gb_merge.proofs.CountingLemmas.{count_is, events_sum}
 use Rattle.gb_merge.proofs.FindingLemmas.{found_at, taken_so}
 use Rattle.gb_merge.proofs.MergingLemmas.{events_count}

@@ -1,4 +1,4 @@
-use Rattle.std.proofs.Common.{◌∙◌, ap}
+use Rattle.gb_types.specs.Common.{◌∙◌, ap}
 use Rattle.gb_merge.specs.Merged.{run_of, past_of}
 use Rattle.gb_merge.proofs.FeedingLemmas.{ample_run}
 use Rattle.gb_merge.proofs.MergingLemmas.{past_is}

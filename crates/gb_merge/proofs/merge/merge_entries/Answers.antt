@@ -1,5 +1,5 @@
-use Rattle.std.proofs.Common.{◌≡◌, [], List, length, sym, ◌∙◌, ap, subst}
-use Rattle.gb_cluster.specs.ClusterValue.{ClusterValue}
+use Rattle.gb_types.specs.Common.{◌≡◌, [], List, length, sym, ◌∙◌, ap, subst}
+use Rattle.gb_cluster.specs.Common.{ClusterValue}
 use Rattle.gb_cluster.specs.declared.event.Event.{Event}
 use Rattle.gb_types.specs.declared.plan.Plan.{Plan}
 use Rattle.gb_types.proofs.ReadLemmas.{err_so}

@@ -1,4 +1,4 @@
-use Rattle.std.proofs.Common.{sym, ◌∙◌, ap}
+use Rattle.gb_types.specs.Common.{sym, ◌∙◌, ap}
 use Rattle.gb_merge.specs.Fed.{fed_of}
 use Rattle.gb_merge.proofs.FedLemmas.{fed_of-refused}
 use Rattle.gb_merge.proofs.rest.after_refused.Goals as goal

@@ -1,4 +1,4 @@
-use Rattle.std.proofs.Common.{◌≡◌, length}
+use Rattle.gb_types.specs.Common.{◌≡◌, length}
 use Rattle.gb_merge.specs.Fed.{fed_of}
 use Rattle.gb_merge.proofs.rest.after_refused.Given as goal
 

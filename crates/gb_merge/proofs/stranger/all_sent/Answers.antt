@@ -1,4 +1,4 @@
-use Rattle.std.proofs.Common.{◌++◌, List, sym, ◌∙◌, ap}
+use Rattle.gb_types.specs.Common.{◌++◌, List, sym, ◌∙◌, ap}
 use Rattle.gb_node.specs.declared.tape.TapeEntry.{TapeEntry}
 use Rattle.gb_merge.specs.Faults.{sent_of}
 use Rattle.gb_merge.proofs.TellingLemmas.{all_more, none_of_all}

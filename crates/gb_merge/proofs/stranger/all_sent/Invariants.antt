@@ -1,4 +1,4 @@
-use Rattle.std.proofs.Common.{take, ◌≡◌}
+use Rattle.gb_types.specs.Common.{take, ◌≡◌}
 use Rattle.gb_merge.specs.Faults.{all_sent}
 use Rattle.gb_merge.proofs.stranger.all_sent.Given as goal
 

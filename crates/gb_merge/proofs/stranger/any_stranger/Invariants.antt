@@ -1,5 +1,5 @@
-use Rattle.std.proofs.Common.{◌<◌, ℕ}
-use Rattle.gb_node.specs.NodeStep.{node_numbered}
+use Rattle.gb_types.specs.Common.{◌<◌, ℕ}
+use Rattle.gb_node.specs.Common.{node_numbered}
 use Rattle.gb_merge.specs.Interleaving.{tape_of}
 use Rattle.gb_merge.specs.Woven.{HasStranger}
 use Rattle.gb_merge.proofs.stranger.any_stranger.Given as goal

@@ -1,4 +1,4 @@
-use Rattle.std.proofs.Common.{sym, subst}
+use Rattle.gb_types.specs.Common.{sym, subst}
 use Rattle.gb_merge.specs.Woven.{HasStranger}
 use Rattle.gb_merge.proofs.StrangerLemmas.{has_here, has_later, has_behind}
 use Rattle.gb_merge.proofs.stranger.has_stranger.Goals as goal

@@ -1,4 +1,4 @@
-use Rattle.std.proofs.Common.{length}
+use Rattle.gb_types.specs.Common.{length}
 use Rattle.gb_merge.specs.Woven.{HasStranger}
 use Rattle.gb_merge.proofs.stranger.has_stranger.Given as goal
 

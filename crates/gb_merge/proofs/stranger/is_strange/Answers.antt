@@ -1,4 +1,4 @@
-use Rattle.std.proofs.Common.{sym, ◌∙◌}
+use Rattle.gb_types.specs.Common.{sym, ◌∙◌}
 use Rattle.gb_merge.proofs.CodeLemmas.{none_is, some_is}
 use Rattle.gb_merge.proofs.GoingLemmas.{blocked_is, sent_free}
 use Rattle.gb_merge.proofs.stranger.is_strange.Goals as goal

@@ -1,5 +1,4 @@
-use Rattle.std.proofs.Common.{◌≡◌, ◌++◌, ℕ, List, sym, ◌∙◌, ap, subst}
-use Rattle.std.proofs.lemmas.List.{append-nil}
+use Rattle.gb_types.specs.Common.{◌≡◌, ◌++◌, ℕ, List, sym, ◌∙◌, ap, subst, append-nil}
 use Rattle.gb_node.specs.declared.tape.TapeEntry.{TapeEntry}
 use Rattle.gb_merge.specs.Faults.{sent_of}
 use Rattle.gb_merge.proofs.StrangerLemmas.{sent_on, sent_of-none}

@@ -1,4 +1,4 @@
-use Rattle.std.proofs.Common.{◌≡◌, ◌++◌, length}
+use Rattle.gb_types.specs.Common.{◌≡◌, ◌++◌, length}
 use Rattle.gb_merge.specs.Faults.{sent_of}
 use Rattle.gb_merge.proofs.stranger.post_all.Given as goal
 

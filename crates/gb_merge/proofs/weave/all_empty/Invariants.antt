@@ -1,4 +1,4 @@
-use Rattle.std.proofs.Common.{ℕ, ◌<◌, ◌≡◌, []}
+use Rattle.gb_types.specs.Common.{ℕ, ◌<◌, ◌≡◌, []}
 use Rattle.gb_merge.specs.Interleaving.{tape_of}
 use Rattle.gb_merge.proofs.weave.all_empty.Given as goal
 

@@ -1,4 +1,4 @@
-use Rattle.std.proofs.Common.{◌≡◌, ℕ, ◌<◌, length}
+use Rattle.gb_types.specs.Common.{◌≡◌, ℕ, ◌<◌, length}
 use Rattle.gb_merge.specs.Interleaving.{tape_of}
 use Rattle.gb_merge.specs.Woven.{IsHeld, AreMarked}
 use Rattle.gb_merge.proofs.weave.next_event.Given as goal

@@ -1,5 +1,4 @@
-use Rattle.std.proofs.Common.{◌≡◌, ◌<◌, ℕ, length, true, false}
-use Rattle.std.specs.Prelude.{slice_index_or}
+use Rattle.gb_types.specs.Common.{◌≡◌, ◌<◌, ℕ, length, true, false, slice_index_or}
 use Rattle.gb_merge.specs.Interleaving.{tape_of}
 use Rattle.gb_merge.specs.Woven.{AwaitsOther}
 use Rattle.gb_merge.proofs.weave.wake.Given as goal

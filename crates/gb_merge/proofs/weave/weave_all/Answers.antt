@@ -1,6 +1,4 @@
-use Rattle.std.proofs.Common.{◌≡◌, List, ◌∷◌, refl, sym, ◌∙◌, ap, subst, arith}
-use Rattle.std.specs.Prelude.{slice_set}
-use Rattle.std.proofs.Math.ListN.{length-set}
+use Rattle.gb_types.specs.Common.{◌≡◌, List, ◌∷◌, refl, sym, ◌∙◌, ap, subst, arith, slice_set, length-set}
 use Rattle.gb_node.specs.declared.tape.TapeEntry.{TapeEntry}
 use Rattle.gb_merge.specs.Interleaving.{tape_of}
 use Rattle.gb_merge.specs.Woven.{IsWoven, AreMarked, AreWoken}

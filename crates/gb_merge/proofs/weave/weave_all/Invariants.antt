@@ -1,4 +1,4 @@
-use Rattle.std.proofs.Common.{◌≡◌, length}
+use Rattle.gb_types.specs.Common.{◌≡◌, length}
 use Rattle.gb_merge.specs.Woven.{IsWoven, AreMarked, sent_with, count_of}
 use Rattle.gb_merge.proofs.weave.weave_all.Given as goal
 

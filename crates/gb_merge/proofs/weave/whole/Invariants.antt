@@ -1,4 +1,4 @@
-use Rattle.std.proofs.Common.{◌≡◌, take}
+use Rattle.gb_types.specs.Common.{◌≡◌, take}
 use Rattle.gb_merge.proofs.weave.whole.Given as goal
 
 abbrev pub invariant-loop-tape : goal.invariant-loop-tape

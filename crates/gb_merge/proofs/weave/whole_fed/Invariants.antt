@@ -1,4 +1,4 @@
-use Rattle.std.proofs.Common.{◌≡◌, take}
+use Rattle.gb_types.specs.Common.{◌≡◌, take}
 use Rattle.gb_merge.specs.Fed.{fed_tapes}
 use Rattle.gb_merge.proofs.weave.whole_fed.Given as goal
 

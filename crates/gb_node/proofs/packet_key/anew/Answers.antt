@@ -1,4 +1,4 @@
-use Rattle.std.proofs.Common.{length, ap, ◌∙◌}
+use Rattle.gb_types.specs.Common.{length, ap, ◌∙◌}
 use Rattle.gb_node.proofs.KeptLemmas.{bare_len}
 use Rattle.gb_node.proofs.packet_key.anew.Goals as goal
 

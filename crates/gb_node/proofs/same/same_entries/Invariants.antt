@@ -1,4 +1,4 @@
-use Rattle.std.proofs.Common.{◌≡◌, ◌↔◌, drop}
+use Rattle.gb_types.specs.Common.{◌≡◌, ◌↔◌, drop}
 use Rattle.gb_node.proofs.same.same_entries.Given as goal
 
 abbrev pub invariant-loop-i : goal.invariant-loop-i

@@ -1,4 +1,4 @@
-use Rattle.std.proofs.Common.{rules, sym, ◌∙◌}
+use Rattle.gb_types.specs.Common.{rules, sym, ◌∙◌}
 use Rattle.gb_node.proofs.SetLemmas.{one_set, within_itself}
 use Rattle.gb_node.proofs.same.same_set.Goals as goal
 

@@ -1,5 +1,4 @@
-use Rattle.std.proofs.Common.{◌≡◌}
-use Rattle.std.specs.Prelude.{fold}
+use Rattle.gb_types.specs.Common.{◌≡◌, fold}
 use Rattle.gb_node.specs.NodeStep.{item_comes}
 use Rattle.gb_node.proofs.taking.bring.Given as goal
 

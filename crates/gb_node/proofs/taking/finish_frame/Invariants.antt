@@ -1,6 +1,5 @@
-use Rattle.std.proofs.Common.{◌≡◌}
-use Rattle.std.specs.Prelude.{fold}
-use Rattle.gb_frame.specs.Batch.{batch_in}
+use Rattle.gb_types.specs.Common.{◌≡◌, fold}
+use Rattle.gb_frame.specs.Common.{batch_in}
 use Rattle.gb_node.specs.NodeStep.{item_done}
 use Rattle.gb_node.proofs.taking.finish_frame.Given as goal
 

@@ -1,5 +1,4 @@
-use Rattle.std.proofs.Common.{◌≡◌}
-use Rattle.gb_types.specs.Rising.{rising}
+use Rattle.gb_types.specs.Common.{◌≡◌, rising}
 use Rattle.gb_node.specs.NodeStep.{notice_each}
 use Rattle.gb_node.proofs.taking.notice_each.Given as goal
 

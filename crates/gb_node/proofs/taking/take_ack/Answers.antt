@@ -1,7 +1,6 @@
-use Rattle.std.proofs.Common.{◌≡◌, ◌∙◌, ap, sym, arith}
-use Rattle.std.specs.Prelude.{fold}
+use Rattle.gb_types.specs.Common.{◌≡◌, ◌∙◌, ap, sym, arith, fold}
 use Rattle.gb_types.specs.declared.version.Version.{Version}
-use Rattle.gb_frame.specs.Batch.{batch_in}
+use Rattle.gb_frame.specs.Common.{batch_in}
 use Rattle.gb_node.specs.Frames.{FrameWindow}
 use Rattle.gb_node.specs.NodeStep.{item_done}
 use Rattle.gb_node.proofs.AckLemmas.{freed_few, acked_goes, acked_ends, freed_count, freed_table}

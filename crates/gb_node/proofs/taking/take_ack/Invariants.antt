@@ -1,6 +1,5 @@
-use Rattle.std.proofs.Common.{◌≡◌, ◌+◌, length}
-use Rattle.std.specs.Prelude.{fold}
-use Rattle.gb_link.specs.SendWindow.{freed}
+use Rattle.gb_types.specs.Common.{◌≡◌, ◌+◌, length, fold}
+use Rattle.gb_link.specs.Common.{freed}
 use Rattle.gb_node.specs.NodeStep.{frame_done, without_done}
 use Rattle.gb_node.proofs.taking.take_ack.Given as goal
 

@@ -1,8 +1,7 @@
-use Rattle.std.proofs.Common.{◌≡◌, ◌≤◌, [], ◌∷◌, length, refl, sym, arith, ◌∙◌}
-use Rattle.std.proofs.lemmas.List.Elements.{All-nil, All-cons}
+use Rattle.gb_types.specs.Common.{◌≡◌, ◌≤◌, [], ◌∷◌, length, refl, sym, arith, ◌∙◌, All-nil, All-cons}
 use Rattle.gb_types.specs.declared.version.Version.TheVariants.{One}
 use Rattle.gb_frame.specs.declared.item.Item.{Item}
-use Rattle.gb_frame.specs.Spelling.{items_text, IsItem}
+use Rattle.gb_frame.specs.Common.{items_text, IsItem}
 use Rattle.gb_packet_examples.proofs.packets.a_frame_is_wrapped.Goals as goal
 
 pub wrap-requires-clause-packet : goal.wrap-requires-clause-packet

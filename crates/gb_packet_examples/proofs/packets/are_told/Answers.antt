@@ -1,7 +1,5 @@
-use Rattle.std.proofs.Common.{rules, ◌≡◌, true, get_or, ◌∙◌, subst}
-use Rattle.std.proofs.lemmas.List.Elements.{All-more}
-use Rattle.gb_frame.specs.Packet.{item_of}
-use Rattle.gb_frame.specs.Spelling.{HasGeneration}
+use Rattle.gb_types.specs.Common.{rules, ◌≡◌, true, get_or, ◌∙◌, subst, All-more}
+use Rattle.gb_frame.specs.Common.{item_of, HasGeneration}
 use Rattle.gb_packet_examples.proofs.packets.are_told.Goals as goal
 
 pub loop-item-preserved : goal.loop-item-preserved

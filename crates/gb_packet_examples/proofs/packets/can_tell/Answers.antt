@@ -1,4 +1,4 @@
-use Rattle.std.proofs.Common.{arith}
+use Rattle.gb_types.specs.Common.{arith}
 use Rattle.gb_packet_examples.proofs.packets.can_tell.Goals as goal
 
 pub returns-in-Three : goal.returns-in-Three

@@ -1,5 +1,4 @@
-use Rattle.std.proofs.Common.{ℕ, ◌≤◌, lit≤, subst, sym}
-use Rattle.gb_types.specs.Version.{limits_of}
+use Rattle.gb_types.specs.Common.{ℕ, ◌≤◌, lit≤, subst, sym, limits_of}
 use Rattle.gb_host.proofs.PlanLemmas.{all_named}
 use Rattle.gb_peer_run.proofs.cluster.host_plan.Goals as goal
 

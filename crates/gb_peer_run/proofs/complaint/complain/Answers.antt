@@ -1,4 +1,4 @@
-use Rattle.std.proofs.Common.{◌∙◌, ℕ, List, subst}
+use Rattle.gb_types.specs.Common.{◌∙◌, ℕ, List, subst}
 use Rattle.std.specs.Io.KnownBytes.{Appends}
 use Rattle.gb_peer_run.proofs.ComplaintLemmas.{own_complaint}
 use Rattle.gb_peer_run.proofs.complaint.complain.Goals as goal

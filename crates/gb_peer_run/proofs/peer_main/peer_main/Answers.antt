@@ -1,4 +1,4 @@
-use Rattle.std.proofs.Common.{◌∙◌, Err, ap, map, subst, sym}
+use Rattle.gb_types.specs.Common.{◌∙◌, Err, ap, map, subst, sym}
 use Rattle.std.specs.Io.KnownBytes.{Appends}
 use Rattle.gb_peer_run.specs.Told.{fault_line}
 use Rattle.gb_peer_run.proofs.RefusedLemmas.{taken_file}

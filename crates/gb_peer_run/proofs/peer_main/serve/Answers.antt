@@ -1,4 +1,4 @@
-use Rattle.std.proofs.Common.{Err, ap, inr, map, refl}
+use Rattle.gb_types.specs.Common.{Err, ap, inr, map, refl}
 use Rattle.gb_peer_run.proofs.RefusedLemmas.{no_words, not_words, on_error, words_error}
 use Rattle.gb_peer_run.proofs.ServedLemmas.{on_ok}
 use Rattle.gb_peer_run.proofs.peer_main.serve.Goals as goal

@@ -1,6 +1,5 @@
-use Rattle.std.proofs.Common.{ℕ, List, subst}
+use Rattle.gb_types.specs.Common.{ℕ, List, subst, OnOk}
 use Rattle.std.specs.Io.KnownBytes.{Appends}
-use Rattle.std.specs.Result.{OnOk}
 use Rattle.gb_peer_run.proofs.peer_main.serve_node.Goals as goal
 
 pub returns-clause-told : goal.returns-clause-told

@@ -1,4 +1,4 @@
-use Rattle.gb_host.specs.Pasts.{books_of}
+use Rattle.gb_host.specs.Common.{books_of}
 use Rattle.gb_peer_run.proofs.peer_main.serve_node.Given as goal
 
 abbrev pub ghosts-serve_host : goal.ghosts-serve_host

@@ -1,4 +1,4 @@
-use Rattle.std.proofs.Common.{ℕ, List, length, append-nil, inr, subst, sym}
+use Rattle.gb_types.specs.Common.{ℕ, List, length, append-nil, inr, subst, sym}
 use Rattle.std.specs.Io.KnownBytes.{Appends}
 use Rattle.gb_peer_run.specs.Told.{serving_line}
 use Rattle.gb_peer_run.proofs.RefusedLemmas.{on_error}

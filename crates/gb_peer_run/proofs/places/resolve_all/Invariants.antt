@@ -1,5 +1,4 @@
-use Rattle.std.proofs.Common.{◌≡◌, ◌≤◌, vec_len}
-use Rattle.std.specs.List.{All}
+use Rattle.gb_types.specs.Common.{◌≡◌, ◌≤◌, vec_len, All}
 use Rattle.gb_peer_run.specs.Refused.{AreAlike}
 use Rattle.gb_peer_run.proofs.places.resolve_all.Given as goal
 

@@ -1,4 +1,4 @@
-use Rattle.std.proofs.Common.{◌∙◌, ◌≤◌, ℕ, Option, sym, ap, subst, arith, codes, IfSome, unwrap_or}
+use Rattle.gb_types.specs.Common.{◌∙◌, ◌≤◌, ℕ, Option, sym, ap, subst, arith, codes, IfSome, unwrap_or}
 use Rattle.std.specs.Str.Parse.{ParsesUnsigned, ExplainsUnsignedError, HasUnsignedDigitsIfOk}
 use Rattle.clap.specs.Words.{found_of, one_of, rows_of}
 use Rattle.gb_serve_words.specs.declared.options.TheConstants.{CONNECTIONS, MOST_CONNECTIONS, MOST_IDLE, MOST_REQUESTS, MOST_SESSIONS}

@@ -1,4 +1,4 @@
-use Rattle.std.proofs.Common.{◌≡◌, ◌∙◌, ap, codes, List, refl, sym, subst, map, true, rules, inl, inr}
+use Rattle.gb_types.specs.Common.{◌≡◌, ◌∙◌, ap, codes, List, refl, sym, subst, map, true, rules, inl, inr}
 use Rattle.clap.specs.Words.{App, Row, fault_of, is_simple, is_simple_and_free, matches_of, one_of, takes}
 use Rattle.clap.specs.Kinds.{HasKind, Kinds}
 use Rattle.clap.proofs.OnLiterals.{clap_on_literals}

@@ -1,4 +1,4 @@
-use Rattle.std.proofs.Common.{◌∙◌, Option, ap, codes, option_map, sym}
+use Rattle.gb_types.specs.Common.{◌∙◌, Option, ap, codes, option_map, sym}
 use Rattle.std.specs.Borrow.{Bor}
 use Rattle.clap.specs.Words.{Text, first_of, found_of, rows_of}
 use Rattle.clap.proofs.CallerLemmas.{some_of_text}

@@ -1,4 +1,4 @@
-use Rattle.std.proofs.Common.{◌≤◌, vec_capacity}
+use Rattle.gb_types.specs.Common.{◌≤◌, vec_capacity}
 use Rattle.gb_port.specs.UdpPorts.{AreLoopback}
 use Rattle.gb_port.proofs.udp.loopback_places.Given as goal
 

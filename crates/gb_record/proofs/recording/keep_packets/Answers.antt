@@ -1,4 +1,4 @@
-use Rattle.std.proofs.Common.{rules, Bool}
+use Rattle.gb_types.specs.Common.{rules, Bool}
 use Rattle.std.proofs.lemmas.Fn.{filter_same}
 use Rattle.gb_node.specs.declared.tape.TapeEntry.{TapeEntry}
 use Rattle.gb_record.specs.Recorded.{gives_some}

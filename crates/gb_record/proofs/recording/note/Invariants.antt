@@ -1,4 +1,4 @@
-use Rattle.std.proofs.Common.{◌≡◌, ◌++◌, take}
+use Rattle.gb_types.specs.Common.{◌≡◌, ◌++◌, take}
 use Rattle.gb_record.proofs.recording.note.Given as goal
 
 abbrev pub invariant-loop-entry : goal.invariant-loop-entry

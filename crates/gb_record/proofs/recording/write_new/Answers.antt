@@ -1,4 +1,4 @@
-use Rattle.std.proofs.Common.{length, drop, ◌++◌, ap, subst, ◌∙◌}
+use Rattle.gb_types.specs.Common.{length, drop, ◌++◌, ap, subst, ◌∙◌}
 use Rattle.std.specs.Io.KnownBytes.{Appends}
 use Rattle.gb_record.proofs.WriteLemmas.{rest_is, written_by}
 use Rattle.gb_record.proofs.recording.write_new.Goals as goal

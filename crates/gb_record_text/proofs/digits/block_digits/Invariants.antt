@@ -1,4 +1,4 @@
-use Rattle.std.proofs.Common.{◌≡◌, ◌*◌, ◌++◌, length, take, drop}
+use Rattle.gb_types.specs.Common.{◌≡◌, ◌*◌, ◌++◌, length, take, drop}
 use Rattle.hex.specs.Hex.{encode_lower}
 use Rattle.gb_record_text.proofs.digits.block_digits.Given as goal
 

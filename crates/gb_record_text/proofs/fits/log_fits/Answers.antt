@@ -1,8 +1,4 @@
-use Rattle.std.proofs.Common.{subst}
-use Rattle.std.specs.Prelude.{All}
-use Rattle.std.proofs.lemmas.List.{take_all}
-use Rattle.std.proofs.lemmas.List.Elements.{All-more}
-use Rattle.gb_types.specs.Laws.{FitsEntry}
+use Rattle.gb_types.specs.Common.{subst, All, take_all, All-more, FitsEntry}
 use Rattle.gb_record_text.proofs.fits.log_fits.Goals as goal
 
 pub loop-entry-preserved : goal.loop-entry-preserved

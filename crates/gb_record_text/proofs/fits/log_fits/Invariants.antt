@@ -1,6 +1,4 @@
-use Rattle.std.proofs.Common.{take}
-use Rattle.std.specs.Prelude.{All}
-use Rattle.gb_types.specs.Laws.{FitsEntry}
+use Rattle.gb_types.specs.Common.{take, All, FitsEntry}
 use Rattle.gb_record_text.proofs.fits.log_fits.Given as goal
 
 abbrev pub invariant-loop-entry : goal.invariant-loop-entry

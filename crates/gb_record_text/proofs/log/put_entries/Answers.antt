@@ -1,5 +1,4 @@
-use Rattle.std.proofs.Common.{arith}
-use Rattle.std.proofs.lemmas.Grind.{common_steps}
+use Rattle.gb_types.specs.Common.{arith, common_steps}
 use Rattle.gb_record_text.proofs.log.put_entries.Goals as goal
 
 pub loop-entry-preserved : goal.loop-entry-preserved

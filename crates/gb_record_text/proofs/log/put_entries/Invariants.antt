@@ -1,6 +1,4 @@
-use Rattle.std.proofs.Common.{◌≡◌, ◌++◌, take, codes}
-use Rattle.std.specs.List.{flat_map}
-use Rattle.gb_types.specs.ReplyText.{entry_text}
+use Rattle.gb_types.specs.Common.{◌≡◌, ◌++◌, take, codes, flat_map, entry_text}
 use Rattle.gb_record_text.proofs.log.put_entries.Given as goal
 
 abbrev pub invariant-loop-entry : goal.invariant-loop-entry

@@ -1,6 +1,4 @@
-use Rattle.std.proofs.Common.{◌≡◌, List, ◌++◌, ◌∷◌, [], Bool, false, subst, sym}
-use Rattle.std.specs.Prelude.{All, Option, IfSome}
-use Rattle.std.proofs.lemmas.List.Elements.{All-push}
+use Rattle.gb_types.specs.Common.{◌≡◌, List, ◌++◌, ◌∷◌, [], Bool, false, subst, sym, All, Option, IfSome, All-push}
 use Rattle.gb_node.specs.declared.tape.TapeEntry.{TapeEntry}
 use Rattle.gb_record_text.specs.Fits.{FitsEntry}
 use Rattle.gb_record_text.specs.RecordText.{entry_line}

@@ -1,5 +1,4 @@
-use Rattle.std.proofs.Common.{length}
-use Rattle.std.specs.Prelude.{All}
+use Rattle.gb_types.specs.Common.{length, All}
 use Rattle.gb_record_text.specs.Fits.{FitsEntry, FitsHead}
 use Rattle.gb_record_text.proofs.RecordLemmas.{AreRead}
 use Rattle.gb_record_text.proofs.reader.read_record.Given as goal

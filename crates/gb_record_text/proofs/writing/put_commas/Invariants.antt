@@ -1,5 +1,4 @@
-use Rattle.std.proofs.Common.{◌≡◌, ◌++◌, length}
-use Rattle.gb_types.specs.Rising.{rising_from}
+use Rattle.gb_types.specs.Common.{◌≡◌, ◌++◌, length, rising_from}
 use Rattle.gb_record_text.specs.RecordText.{each_after_comma}
 use Rattle.gb_record_text.proofs.writing.put_commas.Given as goal
 

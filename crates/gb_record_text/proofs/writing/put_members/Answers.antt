@@ -1,7 +1,4 @@
-use Rattle.std.proofs.Common.{◌+◌, ◌++◌, ◌∙◌, sym, ap}
-use Rattle.std.proofs.lemmas.List.{append-nil}
-use Rattle.std.specs.Prelude.{decimal}
-use Rattle.gb_types.specs.Rising.{rising_from}
+use Rattle.gb_types.specs.Common.{◌+◌, ◌++◌, ◌∙◌, sym, ap, append-nil, decimal, rising_from}
 use Rattle.gb_record_text.specs.RecordText.{each_after_comma}
 use Rattle.gb_record_text.proofs.TextLemmas.{members_none, members_some, joined}
 use Rattle.gb_simulate.proofs.AnswerLemmas.{on_ok}

@@ -1,4 +1,4 @@
-use Rattle.std.proofs.Common.{◌≡◌, length, take}
+use Rattle.gb_types.specs.Common.{◌≡◌, length, take}
 use Rattle.gb_redact.specs.Redacted.{rows_in, AreRedactedTo}
 use Rattle.gb_redact.proofs.entries.redact.Given as goal
 

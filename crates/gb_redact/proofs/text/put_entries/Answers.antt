@@ -1,4 +1,4 @@
-use Rattle.std.proofs.Common.{◌++◌, [], ◌∷◌, take, sym, ap, ◌∙◌, append_assoc}
+use Rattle.gb_types.specs.Common.{◌++◌, [], ◌∷◌, take, sym, ap, ◌∙◌, append_assoc}
 use Rattle.gb_record_text.specs.RecordText.{entry_line, entry_lines}
 use Rattle.gb_redact.proofs.TextLemmas.{lines_more}
 use Rattle.gb_redact.proofs.text.put_entries.Goals as goal

@@ -1,4 +1,4 @@
-use Rattle.std.proofs.Common.{◌≡◌, ◌++◌, take}
+use Rattle.gb_types.specs.Common.{◌≡◌, ◌++◌, take}
 use Rattle.gb_record_text.specs.RecordText.{entry_lines}
 use Rattle.gb_redact.proofs.text.put_entries.Given as goal
 

@@ -1,5 +1,4 @@
-use Rattle.std.proofs.Common.{◌≡◌, ◌++◌, [], ◌∷◌, ℕ, List, sym, ap, ap₂, subst, ◌∙◌}
-use Rattle.std.proofs.lemmas.List.{append-nil}
+use Rattle.gb_types.specs.Common.{◌≡◌, ◌++◌, [], ◌∷◌, ℕ, List, sym, ap, ap₂, subst, ◌∙◌, append-nil}
 use Rattle.gb_node.specs.declared.tape.TapeEntry.{TapeEntry}
 use Rattle.gb_record_text.specs.RecordText.{head_line, entry_lines, last_line}
 use Rattle.gb_redact.specs.Redacted.{AreRedacted}

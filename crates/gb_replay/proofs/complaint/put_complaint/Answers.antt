@@ -1,5 +1,4 @@
-use Rattle.std.proofs.Common.{◌++◌, ◌∷◌, [], ◌∙◌, sym, ap}
-use Rattle.std.specs.Prelude.{codes, decimal}
+use Rattle.gb_types.specs.Common.{◌++◌, ◌∷◌, [], ◌∙◌, sym, ap, codes, decimal}
 use Rattle.gb_record_text.proofs.TextLemmas.{joined3}
 use Rattle.gb_simulate.proofs.AnswerLemmas.{on_ok}
 use Rattle.gb_replay.specs.Complaint.{complaint}

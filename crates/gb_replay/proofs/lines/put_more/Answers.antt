@@ -1,4 +1,4 @@
-use Rattle.std.proofs.Common.{refl}
+use Rattle.gb_types.specs.Common.{refl}
 use Rattle.gb_replay.proofs.LineLemmas.{versions_more}
 use Rattle.gb_replay.proofs.lines.put_more.Goals as goal
 

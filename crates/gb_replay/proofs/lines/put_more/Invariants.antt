@@ -1,4 +1,4 @@
-use Rattle.std.proofs.Common.{◌≡◌, ◌++◌, map, take}
+use Rattle.gb_types.specs.Common.{◌≡◌, ◌++◌, map, take}
 use Rattle.gb_record_text.specs.RecordText.{each_after_comma}
 use Rattle.gb_replay.specs.ScheduleText.{version_byte}
 use Rattle.gb_replay.proofs.lines.put_more.Given as goal

@@ -1,4 +1,4 @@
-use Rattle.std.proofs.Common.{◌≡◌, ◌-◌, ◌∙◌, length, rules}
+use Rattle.gb_types.specs.Common.{◌≡◌, ◌-◌, ◌∙◌, length, rules}
 use Rattle.gb_replay.specs.ScheduleText.{secret_text}
 use Rattle.gb_replay.proofs.LineLemmas.{cut_off}
 use Rattle.gb_replay.proofs.lines.put_request_line.Goals as goal

@@ -1,7 +1,6 @@
-use Rattle.std.proofs.Common.{[], ap, subst, sym, Err}
-use Rattle.std.specs.Prelude.{All}
+use Rattle.gb_types.specs.Common.{[], ap, subst, sym, Err, All}
 use Rattle.gb_cluster.proofs.NodesLemmas.{stays}
-use Rattle.gb_cluster.specs.ClusterStep.{IsPlaced}
+use Rattle.gb_cluster.specs.Common.{IsPlaced}
 use Rattle.gb_replay.proofs.ReplayLemmas.{why_is}
 use Rattle.gb_replay.proofs.steps.schedule_of.Goals as goal
 

@@ -1,6 +1,5 @@
-use Rattle.std.proofs.Common.{◌∙◌, ap, refl, subst, sym, length, Err}
-use Rattle.std.proofs.lemmas.List.Elements.{All-get_or}
-use Rattle.gb_cluster.specs.ClusterStep.{IsPlaced}
+use Rattle.gb_types.specs.Common.{◌∙◌, ap, refl, subst, sym, length, Err, All-get_or}
+use Rattle.gb_cluster.specs.Common.{IsPlaced}
 use Rattle.gb_replay.proofs.ReplayLemmas.{begun, goes_on, why_is}
 use Rattle.gb_replay.proofs.steps.take_steps.Goals as goal
 

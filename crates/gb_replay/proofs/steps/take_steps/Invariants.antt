@@ -1,4 +1,4 @@
-use Rattle.std.proofs.Common.{◌≡◌, length, take}
+use Rattle.gb_types.specs.Common.{◌≡◌, length, take}
 use Rattle.gb_replay.proofs.ReplayLemmas.{IsAt}
 use Rattle.gb_replay.proofs.steps.take_steps.Given as goal
 

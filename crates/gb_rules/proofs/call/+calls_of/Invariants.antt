@@ -1,4 +1,4 @@
-use Rattle.std.proofs.Common.{length}
+use Rattle.gb_types.specs.Common.{length}
 use Rattle.gb_rules.proofs.call.+calls_of.Given as goal
 
 abbrev pub decreases-calls_of : goal.decreases-calls_of

@@ -1,4 +1,4 @@
-use Rattle.std.proofs.Common.{length}
+use Rattle.gb_types.specs.Common.{length}
 use Rattle.gb_rules.proofs.call.+said_in.Given as goal
 
 abbrev pub decreases-said_in : goal.decreases-said_in

@@ -1,6 +1,5 @@
-use Rattle.std.proofs.Common.{◌≡◌, ◌++◌}
-use Rattle.gb_types.specs.Rising.{rising}
-use Rattle.gb_layer.specs.Machine.{numbers}
+use Rattle.gb_types.specs.Common.{◌≡◌, ◌++◌, rising}
+use Rattle.gb_layer.specs.Common.{numbers}
 use Rattle.gb_rules.proofs.log.members_of.Given as goal
 
 abbrev pub invariant-loop-member : goal.invariant-loop-member

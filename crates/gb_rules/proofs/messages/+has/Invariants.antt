@@ -1,4 +1,4 @@
-use Rattle.std.proofs.Common.{length}
+use Rattle.gb_types.specs.Common.{length}
 use Rattle.gb_rules.proofs.messages.+has.Given as goal
 
 abbrev pub decreases-has : goal.decreases-has

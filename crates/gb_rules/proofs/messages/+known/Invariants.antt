@@ -1,4 +1,4 @@
-use Rattle.std.proofs.Common.{length}
+use Rattle.gb_types.specs.Common.{length}
 use Rattle.gb_rules.proofs.messages.+known.Given as goal
 
 abbrev pub decreases-known : goal.decreases-known

@@ -1,4 +1,4 @@
-use Rattle.std.proofs.Common.{length}
+use Rattle.gb_types.specs.Common.{length}
 use Rattle.gb_rules.proofs.messages.+payload_in.Given as goal
 
 abbrev pub decreases-payload_in : goal.decreases-payload_in

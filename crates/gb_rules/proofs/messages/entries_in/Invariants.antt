@@ -1,5 +1,4 @@
-use Rattle.std.proofs.Common.{◌≡◌, take}
-use Rattle.std.specs.Prelude.{map}
+use Rattle.gb_types.specs.Common.{◌≡◌, take, map}
 use Rattle.gb_rules.specs.Messages.{entry_in}
 use Rattle.gb_rules.proofs.messages.entries_in.Given as goal
 

@@ -1,5 +1,4 @@
-use Rattle.std.proofs.Common.{subst, sym, Some, arith}
-use Rattle.std.proofs.lemmas.List.{take_rest}
+use Rattle.gb_types.specs.Common.{subst, sym, Some, arith, take_rest}
 use Rattle.gb_schedule.specs.Numbers.{IsNumberAt}
 use Rattle.gb_schedule.proofs.SayLemmas.{first_named}
 use Rattle.gb_schedule.proofs.grammar.first_member.Goals as goal

@@ -1,4 +1,4 @@
-use Rattle.std.proofs.Common.{refl, arith}
+use Rattle.gb_types.specs.Common.{refl, arith}
 use Rattle.gb_schedule.proofs.StepLemmas.{again_within, again_reads, again_none}
 use Rattle.gb_schedule.proofs.grammar.read_again.Goals as goal
 

@@ -1,4 +1,4 @@
-use Rattle.std.proofs.Common.{List, ℕ, sym, subst}
+use Rattle.gb_types.specs.Common.{List, ℕ, sym, subst}
 use Rattle.gb_types.specs.declared.command_words.CommandHead.TheVariants.{Fetch}
 use Rattle.gb_schedule.specs.declared.command.Command.TheVariants.{Step}
 use Rattle.gb_schedule.specs.Grammar.{SpellsGroup}

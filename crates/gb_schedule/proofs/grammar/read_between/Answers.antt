@@ -1,4 +1,4 @@
-use Rattle.std.proofs.Common.{◌≡◌, ◌≤◌, decimal}
+use Rattle.gb_types.specs.Common.{◌≡◌, ◌≤◌, decimal}
 use Rattle.gb_types.proofs.ReadLemmas.{found, only, reads_one}
 use Rattle.gb_schedule.proofs.grammar.read_between.Goals as goal
 

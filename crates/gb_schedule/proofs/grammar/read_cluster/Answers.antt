@@ -1,5 +1,4 @@
-use Rattle.std.proofs.lemmas.Grind.{common_steps}
-use Rattle.std.proofs.Common.{ap, arith}
+use Rattle.gb_types.specs.Common.{common_steps, ap, arith}
 use Rattle.gb_types.proofs.ReadLemmas.{words_are}
 use Rattle.gb_types.specs.declared.version.VersionLimits.{VersionLimits}
 use Rattle.gb_schedule.proofs.RowLemmas.{cluster_reads}

@@ -1,5 +1,4 @@
-use Rattle.std.proofs.lemmas.Grind.{common_steps}
-use Rattle.std.proofs.Common.{arith}
+use Rattle.gb_types.specs.Common.{common_steps, arith}
 use Rattle.gb_types.proofs.ReadLemmas.{words_and_rest, found}
 use Rattle.gb_schedule.proofs.RowLemmas.{cluster2_reads, no_versions, no_room}
 use Rattle.gb_schedule.proofs.grammar.read_cluster2.Goals as goal

@@ -1,4 +1,4 @@
-use Rattle.std.proofs.Common.{refl, arith}
+use Rattle.gb_types.specs.Common.{refl, arith}
 use Rattle.gb_types.proofs.ReadLemmas.{found}
 use Rattle.gb_schedule.proofs.RowLemmas.{between_reads}
 use Rattle.gb_schedule.proofs.grammar.read_count.Goals as goal

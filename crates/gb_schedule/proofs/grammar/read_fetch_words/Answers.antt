@@ -1,5 +1,4 @@
-use Rattle.std.proofs.Common.{[], arith}
-use Rattle.gb_types.specs.CommandWords.{SpellsFetch}
+use Rattle.gb_types.specs.Common.{[], arith, SpellsFetch}
 use Rattle.gb_types.specs.declared.request.GroupCommand.TheVariants.{Fetch}
 use Rattle.gb_types.proofs.ReadLemmas.{words_and_rest, none_made}
 use Rattle.gb_schedule.proofs.GroupLemmas.{fetch_reads, nothing_asked}

@@ -1,4 +1,4 @@
-use Rattle.std.proofs.Common.{refl, arith}
+use Rattle.gb_types.specs.Common.{refl, arith}
 use Rattle.gb_schedule.proofs.GroupLemmas.{fetch_within, first_fetch}
 use Rattle.gb_schedule.proofs.grammar.read_first_fetch.Goals as goal
 

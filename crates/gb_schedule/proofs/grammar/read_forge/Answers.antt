@@ -1,5 +1,4 @@
-use Rattle.std.proofs.lemmas.Grind.{common_steps}
-use Rattle.std.proofs.Common.{None, ap, ◌∙◌, arith}
+use Rattle.gb_types.specs.Common.{common_steps, None, ap, ◌∙◌, arith}
 use Rattle.gb_types.proofs.ReadLemmas.{words_are}
 use Rattle.gb_schedule.proofs.RowLemmas.{forge_reads, no_group}
 use Rattle.gb_schedule.proofs.grammar.read_forge.Goals as goal

@@ -1,5 +1,4 @@
-use Rattle.std.proofs.lemmas.Grind.{common_steps}
-use Rattle.std.proofs.Common.{[], arith}
+use Rattle.gb_types.specs.Common.{common_steps, [], arith}
 use Rattle.gb_types.proofs.ReadLemmas.{words_and_rest}
 use Rattle.gb_schedule.proofs.GroupLemmas.{asked_reads, nothing_asked}
 use Rattle.gb_schedule.proofs.RowLemmas.{no_group}

@@ -1,4 +1,4 @@
-use Rattle.std.proofs.Common.{◌∙◌, arith}
+use Rattle.gb_types.specs.Common.{◌∙◌, arith}
 use Rattle.gb_types.proofs.SameLemmas.{same_number}
 use Rattle.gb_types.proofs.ReadLemmas.{found, only, reads_one}
 use Rattle.gb_schedule.proofs.RowLemmas.{IsNodeWord}

@@ -1,5 +1,4 @@
-use Rattle.std.proofs.lemmas.Grind.{common_steps}
-use Rattle.std.proofs.Common.{sym, arith}
+use Rattle.gb_types.specs.Common.{common_steps, sym, arith}
 use Rattle.gb_types.proofs.ReadLemmas.{words_are}
 use Rattle.gb_schedule.proofs.RowLemmas.{noise_reads}
 use Rattle.gb_schedule.proofs.grammar.read_noise.Goals as goal

@@ -1,4 +1,4 @@
-use Rattle.std.proofs.Common.{Some}
+use Rattle.gb_types.specs.Common.{Some}
 use Rattle.gb_types.proofs.ReadLemmas.{found}
 use Rattle.gb_schedule.specs.Grammar.{IsCommandLine}
 use Rattle.gb_schedule.proofs.PlaceLemmas.{line_in_place, command_in_place}

@@ -1,4 +1,4 @@
-use Rattle.std.proofs.Common.{arith}
+use Rattle.gb_types.specs.Common.{arith}
 use Rattle.gb_types.proofs.ReadLemmas.{found}
 use Rattle.gb_schedule.proofs.grammar.read_room.Goals as goal
 

@@ -1,5 +1,4 @@
-use Rattle.std.proofs.Common.{None, take, sym, ◌∙◌}
-use Rattle.std.specs.Option.{option_map}
+use Rattle.gb_types.specs.Common.{None, take, sym, ◌∙◌, option_map}
 use Rattle.gb_schedule.specs.declared.command.Command.TheVariants.{Cluster}
 use Rattle.gb_schedule.specs.Grammar.{IsCommandLine}
 use Rattle.gb_types.proofs.ReadLemmas.{words_and_rest}

@@ -1,4 +1,4 @@
-use Rattle.std.proofs.Common.{arith}
+use Rattle.gb_types.specs.Common.{arith}
 use Rattle.gb_schedule.proofs.StepLemmas.{one_within, stop_reads, stop_none}
 use Rattle.gb_schedule.proofs.grammar.read_stop.Goals as goal
 

@@ -1,5 +1,4 @@
-use Rattle.std.proofs.lemmas.Grind.{common_steps}
-use Rattle.std.proofs.Common.{arith}
+use Rattle.gb_types.specs.Common.{common_steps, arith}
 use Rattle.gb_types.proofs.ReadLemmas.{words_are}
 use Rattle.gb_schedule.proofs.RowLemmas.{tenant_reads, no_tenant_limits}
 use Rattle.gb_schedule.proofs.grammar.read_tenant.Goals as goal

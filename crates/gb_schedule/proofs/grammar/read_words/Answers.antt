@@ -1,5 +1,4 @@
-use Rattle.std.proofs.Common.{Some, take, sym, ◌∙◌}
-use Rattle.std.proofs.lemmas.List.{length-take-le}
+use Rattle.gb_types.specs.Common.{Some, take, sym, ◌∙◌, length-take-le}
 use Rattle.gb_types.proofs.ReadLemmas.{words_and_rest}
 use Rattle.gb_schedule.proofs.CommandLemmas.{command_found}
 use Rattle.gb_schedule.proofs.HeadLemmas.{no_step_behind}

@@ -1,4 +1,4 @@
-use Rattle.std.proofs.Common.{subst, Some, arith}
+use Rattle.gb_types.specs.Common.{subst, Some, arith}
 use Rattle.gb_schedule.specs.Numbers.{IsNumberAt}
 use Rattle.gb_schedule.proofs.StepLemmas.{beyond_two}
 use Rattle.gb_schedule.proofs.grammar.two_nodes.Goals as goal

@@ -1,5 +1,4 @@
-use Rattle.std.proofs.lemmas.Grind.{common_steps}
-use Rattle.std.proofs.Common.{arith}
+use Rattle.gb_types.specs.Common.{common_steps, arith}
 use Rattle.gb_schedule.proofs.keys.empty_places.Goals as goal
 
 pub returns-in-Ok : goal.returns-in-Ok

@@ -1,4 +1,4 @@
-use Rattle.std.proofs.Common.{arith}
+use Rattle.gb_types.specs.Common.{arith}
 use Rattle.gb_types.proofs.ReadLemmas.{found}
 use Rattle.gb_schedule.proofs.VersionLemmas.{version_reads}
 use Rattle.gb_schedule.proofs.versions.read_version.Goals as goal

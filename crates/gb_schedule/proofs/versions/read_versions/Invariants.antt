@@ -1,4 +1,4 @@
-use Rattle.std.proofs.Common.{◌≡◌, length}
+use Rattle.gb_types.specs.Common.{◌≡◌, length}
 use Rattle.gb_types.proofs.MembersLemmas.{parts_of}
 use Rattle.gb_schedule.proofs.VersionLemmas.{AreReadTo}
 use Rattle.gb_schedule.proofs.versions.read_versions.Given as goal

@@ -1,5 +1,4 @@
-use Rattle.std.proofs.Common.{◌+◌, arith}
-use Rattle.std.proofs.lemmas.List.{take_rest}
+use Rattle.gb_types.specs.Common.{◌+◌, arith, take_rest}
 use Rattle.gb_schedule.proofs.WordLemmas.{more_words, last_word}
 use Rattle.gb_schedule.proofs.words.cut_word.Goals as goal
 

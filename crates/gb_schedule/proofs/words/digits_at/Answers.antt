@@ -1,8 +1,5 @@
-use Rattle.std.proofs.lemmas.Grind.{common_steps}
-use Rattle.std.proofs.Common.{◌≡◌, ◌≤◌, ◌+◌, ◌-◌, ◌*◌, ◌%◌, ◌^◌, ◌∙◌, take, drop, get_or, sym, ap, subst, length-drop, rules, arith}
+use Rattle.gb_types.specs.Common.{common_steps, ◌≡◌, ◌≤◌, ◌+◌, ◌-◌, ◌*◌, ◌%◌, ◌^◌, ◌∙◌, take, drop, get_or, sym, ap, subst, length-drop, rules, arith, IsInRange, get_or-drop}
 use Rattle.std.specs.Str.Parse.{AllDigits, digits_value}
-use Rattle.std.specs.Int.{IsInRange}
-use Rattle.std.proofs.lemmas.List.{get_or-drop}
 use Rattle.gb_types.proofs.NumberLemmas.{is_digit}
 use Rattle.gb_schedule.proofs.NumbersLemmas.{more_digit}
 use Rattle.gb_schedule.proofs.words.digits_at.Goals as goal

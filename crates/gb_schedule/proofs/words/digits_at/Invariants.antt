@@ -1,4 +1,4 @@
-use Rattle.std.proofs.Common.{◌≡◌, ◌≤◌, ◌-◌, take, drop}
+use Rattle.gb_types.specs.Common.{◌≡◌, ◌≤◌, ◌-◌, take, drop}
 use Rattle.std.specs.Str.Parse.{AllDigits, digits_value}
 use Rattle.gb_schedule.proofs.words.digits_at.Given as goal
 

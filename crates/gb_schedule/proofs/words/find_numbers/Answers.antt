@@ -1,6 +1,4 @@
-use Rattle.std.proofs.lemmas.Grind.{common_steps}
-use Rattle.std.proofs.Common.{◌∙◌, length, take, drop, decimal, ap, arith}
-use Rattle.std.proofs.lemmas.List.{length-map}
+use Rattle.gb_types.specs.Common.{common_steps, ◌∙◌, length, take, drop, decimal, ap, arith, length-map}
 use Rattle.gb_schedule.proofs.WordLemmas.{too_many}
 use Rattle.gb_schedule.proofs.NumbersLemmas.{stops_at}
 use Rattle.gb_schedule.proofs.words.find_numbers.Goals as goal

@@ -1,5 +1,4 @@
-use Rattle.std.proofs.Common.{◌≡◌, ◌≤◌, ◌++◌, map, take, drop, length, decimal}
-use Rattle.gb_types.specs.Words.{words_of}
+use Rattle.gb_types.specs.Common.{◌≡◌, ◌≤◌, ◌++◌, map, take, drop, length, decimal, words_of}
 use Rattle.gb_schedule.specs.declared.words.TheConstants.{NUMBERS}
 use Rattle.gb_schedule.specs.Numbers.{AllFit}
 use Rattle.gb_schedule.proofs.words.find_numbers.Given as goal

@@ -1,4 +1,4 @@
-use Rattle.std.proofs.Common.{subst}
+use Rattle.gb_types.specs.Common.{subst}
 use Rattle.gb_schedule.specs.Numbers.{IsNumberAt}
 use Rattle.gb_schedule.proofs.NumbersLemmas.{not_last}
 use Rattle.gb_schedule.proofs.words.last_number_at.Goals as goal

@@ -1,7 +1,4 @@
-use Rattle.std.proofs.lemmas.Grind.{common_steps}
-use Rattle.std.proofs.Common.{◌≡◌, [], ◌∷◌, ◌+◌, ◌∙◌, ◌<◌, drop, length, get_or, decimal, ap, sym, length-drop, arith}
-use Rattle.std.proofs.lemmas.List.{get_or-drop, drop-drop}
-use Rattle.gb_types.specs.Words.{words_of}
+use Rattle.gb_types.specs.Common.{common_steps, ◌≡◌, [], ◌∷◌, ◌+◌, ◌∙◌, ◌<◌, drop, length, get_or, decimal, ap, sym, length-drop, arith, get_or-drop, drop-drop, words_of}
 use Rattle.gb_types.proofs.NumberLemmas.{no_digit}
 use Rattle.gb_types.proofs.ReadLemmas.{found}
 use Rattle.gb_schedule.proofs.NumbersLemmas.{last_digits, next_digits, no_number, no_number_first}

@@ -1,6 +1,4 @@
-use Rattle.std.proofs.lemmas.Grind.{common_steps}
-use Rattle.std.proofs.Common.{◌≡◌, ◌∙◌, drop, get_or, ap, sym, arith}
-use Rattle.std.proofs.lemmas.List.{get_or-drop}
+use Rattle.gb_types.specs.Common.{common_steps, ◌≡◌, ◌∙◌, drop, get_or, ap, sym, arith, get_or-drop}
 use Rattle.gb_schedule.proofs.NumbersLemmas.{zero_first, digits_spell}
 use Rattle.gb_schedule.proofs.words.number_of.Goals as goal
 

@@ -1,7 +1,4 @@
-use Rattle.std.proofs.lemmas.Grind.{common_steps}
-use Rattle.std.proofs.Common.{◌≡◌, ◌≤◌, ◌<◌, ◌^◌, ◌∙◌, ℕ, length, take, get_or, sym, ap, subst, rules, arith}
-use Rattle.std.proofs.lemmas.List.{take_all, get_or-take, length-take-le}
-use Rattle.std.proofs.lemmas.List.Elements.{All-from_get_or}
+use Rattle.gb_types.specs.Common.{common_steps, ◌≡◌, ◌≤◌, ◌<◌, ◌^◌, ◌∙◌, ℕ, length, take, get_or, sym, ap, subst, rules, arith, take_all, get_or-take, length-take-le, All-from_get_or}
 use Rattle.gb_types.proofs.ReadLemmas.{Reads}
 use Rattle.gb_schedule.specs.Numbers.{AllFit, AreNumbers}
 use Rattle.gb_schedule.proofs.NumbersLemmas.{as_many, at_most_fit, each_at_most, all_read, too_large, other_count}

@@ -1,4 +1,4 @@
-use Rattle.std.proofs.Common.{◌≡◌, ◌<◌, ◌≤◌, ℕ, take, length, get_or}
+use Rattle.gb_types.specs.Common.{◌≡◌, ◌<◌, ◌≤◌, ℕ, take, length, get_or}
 use Rattle.gb_schedule.proofs.words.numbers_in.Given as goal
 
 -- those so far are within their bounds

@@ -1,4 +1,4 @@
-use Rattle.std.proofs.Common.{get_or, sym, subst, rules, arith, Some, None, ◌+◌}
+use Rattle.gb_types.specs.Common.{get_or, sym, subst, rules, arith, Some, None, ◌+◌}
 use Rattle.gb_types.proofs.NumberLemmas.{is_digit}
 use Rattle.gb_schedule.specs.Numbers.{IsNumberAt}
 use Rattle.gb_schedule.proofs.NumbersLemmas.{last_digit, next_digit}

@@ -1,5 +1,4 @@
-use Rattle.std.proofs.Common.{◌==◌, length, slice_index, arith}
-use Rattle.std.proofs.lemmas.Bool.{eqb-true, false_from_ne_true}
+use Rattle.gb_types.specs.Common.{◌==◌, length, slice_index, arith, eqb-true, false_from_ne_true}
 use Rattle.gb_schedule.proofs.WordLemmas.{first_space}
 use Rattle.gb_schedule.proofs.words.word_len.Goals as goal
 

@@ -1,4 +1,4 @@
-use Rattle.std.proofs.Common.{length-set, ◌∙◌, arith}
+use Rattle.gb_types.specs.Common.{length-set, ◌∙◌, arith}
 use Rattle.gb_schedule.proofs.WordLemmas.{goes_on, ends, too_many}
 use Rattle.gb_schedule.proofs.words.words_in.Goals as goal
 

@@ -1,5 +1,4 @@
-use Rattle.std.proofs.Common.{◌≡◌, ◌++◌, map, take, length}
-use Rattle.gb_types.specs.Words.{words_of}
+use Rattle.gb_types.specs.Common.{◌≡◌, ◌++◌, map, take, length, words_of}
 use Rattle.gb_schedule.specs.declared.words.TheConstants.{WORDS}
 use Rattle.gb_schedule.proofs.words.words_in.Given as goal
 

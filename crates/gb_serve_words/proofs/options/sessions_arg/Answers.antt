@@ -1,4 +1,4 @@
-use Rattle.std.proofs.Common.{ap}
+use Rattle.gb_types.specs.Common.{ap}
 use Rattle.clap.specs.Words.{Rule}
 use Rattle.gb_serve_words.proofs.options.sessions_arg.Goals as goal
 

@@ -1,4 +1,4 @@
-use Rattle.std.proofs.Common.{codes}
+use Rattle.gb_types.specs.Common.{codes}
 use Rattle.clap.specs.Words.{found_of}
 use Rattle.gb_serve_words.proofs.NumberLemmas.{no_address, reads_address}
 use Rattle.gb_serve_words.proofs.options.status_of.Goals as goal

@@ -1,4 +1,4 @@
-use Rattle.std.proofs.Common.{◌≡◌, ◌∙◌, Option, Some, None, ap, codes, is_some, option_map, refl, sym, true≢false}
+use Rattle.gb_types.specs.Common.{◌≡◌, ◌∙◌, Option, Some, None, ap, codes, is_some, option_map, refl, sym, true≢false}
 use Rattle.std.specs.Borrow.{Bor}
 use Rattle.clap.specs.Words.{Text, first_of, found_of, rows_of}
 use Rattle.clap.proofs.WalkLemmas.{first_value-rows}

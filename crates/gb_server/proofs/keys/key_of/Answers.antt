@@ -1,4 +1,4 @@
-use Rattle.std.proofs.Common.{rules, ◌≡◌, length}
+use Rattle.gb_types.specs.Common.{rules, ◌≡◌, length}
 use Rattle.gb_server.proofs.KeyLemmas.{digits_spell}
 use Rattle.gb_server.proofs.keys.key_of.Goals as goal
 

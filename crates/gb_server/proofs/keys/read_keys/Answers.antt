@@ -1,6 +1,5 @@
-use Rattle.std.proofs.Common.{◌≡◌, ◌++◌, [], append-nil, inr, is_some, refl, rules, sym, take, true, ap}
+use Rattle.gb_types.specs.Common.{◌≡◌, ◌++◌, [], append-nil, inr, is_some, refl, rules, sym, take, true, ap, token_of}
 use Rattle.gb_session.proofs.RunLemmas.{Consumes-join}
-use Rattle.gb_types.specs.TokenWord.{token_of}
 use Rattle.gb_server.specs.Keys.{characters_of}
 use Rattle.gb_server.proofs.KeyLemmas.{handed_on}
 use Rattle.gb_server.proofs.keys.read_keys.Goals as goal

@@ -1,4 +1,4 @@
-use Rattle.std.proofs.Common.{◌++◌, [], rules}
+use Rattle.gb_types.specs.Common.{◌++◌, [], rules}
 use Rattle.gb_session.proofs.RunLemmas.{Consumes-join, Consumes-none}
 use Rattle.gb_server.proofs.orders.heed.Goals as goal
 

@@ -1,4 +1,4 @@
-use Rattle.std.proofs.Common.{◌<◌, List, length, ℕ}
+use Rattle.gb_types.specs.Common.{◌<◌, List, length, ℕ}
 use Rattle.std.specs.Io.KnownBytes.{Consumes}
 use Rattle.gb_server.proofs.orders.heed.Given as goal
 

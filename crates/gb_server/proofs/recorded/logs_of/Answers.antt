@@ -1,4 +1,4 @@
-use Rattle.std.proofs.Common.{◌≡◌, ◌∙◌, ◌++◌, ◌∷◌, [], ap, append_assoc, sym}
+use Rattle.gb_types.specs.Common.{◌≡◌, ◌∙◌, ◌++◌, ◌∷◌, [], ap, append_assoc, sym}
 use Rattle.gb_server.proofs.RecordedLemmas.{fresh_at}
 use Rattle.gb_server.proofs.recorded.logs_of.Goals as goal
 

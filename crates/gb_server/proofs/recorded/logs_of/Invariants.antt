@@ -1,4 +1,4 @@
-use Rattle.std.proofs.Common.{◌≡◌, ◌++◌}
+use Rattle.gb_types.specs.Common.{◌≡◌, ◌++◌}
 use Rattle.gb_server.proofs.recorded.logs_of.Given as goal
 
 abbrev pub invariant-loop-place : goal.invariant-loop-place

@@ -1,4 +1,4 @@
-use Rattle.std.proofs.Common.{lit≤}
+use Rattle.gb_types.specs.Common.{lit≤}
 use Rattle.gb_host.proofs.PlanLemmas.{all_named}
 use Rattle.gb_server.proofs.serve_main.host_plan.Goals as goal
 

@@ -1,4 +1,4 @@
-use Rattle.std.proofs.Common.{Err, List, ap, append-nil, refl, subst, sym, ℕ}
+use Rattle.gb_types.specs.Common.{Err, List, ap, append-nil, refl, subst, sym, ℕ}
 use Rattle.std.specs.Io.KnownBytes.{Appends}
 use Rattle.gb_session.proofs.RunLemmas.{Consumes-join}
 use Rattle.gb_server.specs.Told.{serving_line}

@@ -1,4 +1,4 @@
-use Rattle.std.proofs.Common.{subst}
+use Rattle.gb_types.specs.Common.{subst}
 use Rattle.gb_host.specs.declared.plan.HostPlan.{HostPlan}
 use Rattle.gb_server.specs.Ended.{EndsSo}
 use Rattle.gb_server.proofs.serve_main.serve_plan.Goals as goal

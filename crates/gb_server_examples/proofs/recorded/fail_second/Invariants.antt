@@ -1,4 +1,4 @@
-use Rattle.gb_host.specs.Pasts.{books_of}
+use Rattle.gb_host.specs.Common.{books_of}
 use Rattle.gb_server_examples.proofs.recorded.fail_second.Given as goal
 
 abbrev pub ghosts-failed : goal.ghosts-failed

@@ -1,4 +1,4 @@
-use Rattle.gb_host.specs.Pasts.{books_of}
+use Rattle.gb_host.specs.Common.{books_of}
 use Rattle.gb_server_examples.proofs.recorded.hand_first.Given as goal
 
 abbrev pub ghosts-handed : goal.ghosts-handed

@@ -1,9 +1,7 @@
-use Rattle.std.proofs.Common.{◌≤◌, Bor, List, ℕ, length, sym, subst, ◌∙◌, arith}
-use Rattle.std.proofs.lemmas.List.{length-map}
+use Rattle.gb_types.specs.Common.{◌≤◌, Bor, List, ℕ, length, sym, subst, ◌∙◌, arith, length-map, false≢true}
 use Rattle.gb_types.proofs.ReadLemmas.{words_and_rest, words_are}
 use Rattle.gb_session.proofs.AskLemmas.{no_place, places_more, only_more, other_rest, no_wait, bad_numbers, spells_await}
 use Rattle.gb_session.specs.declared.ask.Place.{Place}
-use Rattle.std.proofs.lemmas.Bool.{false≢true}
 use Rattle.gb_session.proofs.ask.read_await.Goals as goal
 
 abbrev Allowed : List Place → ℕ → Type 0

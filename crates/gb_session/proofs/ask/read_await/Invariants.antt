@@ -1,4 +1,4 @@
-use Rattle.std.proofs.Common.{length, map}
+use Rattle.gb_types.specs.Common.{length, map}
 use Rattle.gb_session.specs.Asks.{SpellsPlaces}
 use Rattle.gb_session.proofs.AskLemmas.{AreOnly}
 use Rattle.gb_session.proofs.ask.read_await.Given as goal

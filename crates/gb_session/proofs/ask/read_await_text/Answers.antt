@@ -1,4 +1,4 @@
-use Rattle.std.proofs.Common.{sym, ap, map, ◌∙◌, arith}
+use Rattle.gb_types.specs.Common.{sym, ap, map, ◌∙◌, arith}
 use Rattle.std.proofs.lemmas.Result.{IfOk-weaker}
 use Rattle.gb_types.proofs.ReadLemmas.{words_and_rest}
 use Rattle.gb_session.proofs.AskLemmas.{await_text}

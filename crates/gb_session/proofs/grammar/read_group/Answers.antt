@@ -1,5 +1,4 @@
-use Rattle.std.proofs.lemmas.Grind.{common_steps}
-use Rattle.std.proofs.Common.{[], arith}
+use Rattle.gb_types.specs.Common.{common_steps, [], arith}
 use Rattle.gb_types.proofs.ReadLemmas.{words_and_rest}
 use Rattle.gb_session.proofs.RequestLemmas.{group_reads, no_command}
 use Rattle.gb_session.proofs.grammar.read_group.Goals as goal

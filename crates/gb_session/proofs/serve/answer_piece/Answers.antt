@@ -1,4 +1,4 @@
-use Rattle.std.proofs.Common.{subst, sym, Some}
+use Rattle.gb_types.specs.Common.{subst, sym, Some}
 use Rattle.std.specs.Io.KnownBytes.{Appends}
 use Rattle.gb_types.proofs.ReadLemmas.{err_so}
 use Rattle.gb_session.specs.Progress.{CutsOff, WritesPart}

@@ -1,4 +1,4 @@
-use Rattle.std.proofs.Common.{take, subst}
+use Rattle.gb_types.specs.Common.{take, subst}
 use Rattle.std.specs.Io.KnownBytes.{Appends}
 use Rattle.gb_session.proofs.ServeLemmas.{keeps_none, keeps_join}
 use Rattle.gb_session.proofs.serve.write_once.Goals as goal

@@ -1,5 +1,4 @@
-use Rattle.std.proofs.Common.{◌++◌, take}
-use Rattle.std.proofs.lemmas.List.{take_rest}
+use Rattle.gb_types.specs.Common.{◌++◌, take, take_rest}
 use Rattle.gb_session.proofs.RunLemmas.{Appends-join}
 use Rattle.gb_session.proofs.ServeLemmas.{parts_more}
 use Rattle.gb_session.proofs.serve.write_whole.Goals as goal

@@ -1,4 +1,4 @@
-use Rattle.std.proofs.Common.{◌++◌, ◌∷◌, [], drop, sym, append-nil, arith}
+use Rattle.gb_types.specs.Common.{◌++◌, ◌∷◌, [], drop, sym, append-nil, arith}
 use Rattle.gb_session.specs.Nexts.{session_at}
 use Rattle.gb_session.proofs.SettleLemmas.{front_none}
 use Rattle.gb_session.proofs.NextLemmas.{within_none, within_one, written_one, front_next, takes_ended}

@@ -1,4 +1,4 @@
-use Rattle.std.proofs.Common.{◌≡◌, ◌≤◌, ◌++◌, List, ℕ, drop, length}
+use Rattle.gb_types.specs.Common.{◌≡◌, ◌≤◌, ◌++◌, List, ℕ, drop, length}
 use Rattle.gb_session.specs.Settled.{framed_all}
 use Rattle.gb_session.specs.Takes.{AnswersFront, IsWithin}
 use Rattle.gb_session.proofs.session.answer_each.Given as goal

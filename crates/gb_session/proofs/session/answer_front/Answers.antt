@@ -1,4 +1,4 @@
-use Rattle.std.proofs.Common.{arith}
+use Rattle.gb_types.specs.Common.{arith}
 use Rattle.gb_session.specs.Settled.{answer_text}
 use Rattle.gb_session.proofs.RunLemmas.{on_err}
 use Rattle.gb_session.proofs.NextLemmas.{outcome_settles, fails_settled, fails_nothing, operation_settles, nothing_asked}

@@ -1,5 +1,4 @@
-use Rattle.std.proofs.Common.{refl}
-use Rattle.std.proofs.lemmas.List.{take_rest}
+use Rattle.gb_types.specs.Common.{refl, take_rest}
 use Rattle.gb_session.proofs.NextLemmas.{next_same}
 use Rattle.gb_session.specs.declared.session.Next.TheVariants.{Ended}
 use Rattle.gb_session.proofs.session.answer_one.Goals as goal

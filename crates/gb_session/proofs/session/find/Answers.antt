@@ -1,5 +1,4 @@
-use Rattle.std.proofs.Common.{◌++◌, ◌∷◌, [], sym, ◌∙◌, refl, take, drop, get_or, suc, ◌+◌, arith}
-use Rattle.std.proofs.lemmas.List.{length-take-le}
+use Rattle.gb_types.specs.Common.{◌++◌, ◌∷◌, [], sym, ◌∙◌, refl, take, drop, get_or, suc, ◌+◌, arith, length-take-le}
 use Rattle.gb_session.specs.Settled.{fetch_of}
 use Rattle.gb_session.proofs.RunLemmas.{IsRun-join}
 use Rattle.gb_session.proofs.SettleLemmas.{none_one, found_here, place_more, place_here}

@@ -1,6 +1,5 @@
-use Rattle.std.proofs.Common.{length, ◌-◌, ◌≤◌, List, take}
-use Rattle.gb_types.specs.declared.reply.Reply.{Reply}
-use Rattle.gb_types.specs.declared.request.Request.{Request}
+use Rattle.gb_types.specs.Common.{length, ◌-◌, ◌≤◌, List, take}
+use Rattle.gb_types.specs.declared.{reply.Reply.Reply, request.Request.Request}
 use Rattle.gb_session.specs.Runs.{IsRun}
 use Rattle.gb_session.specs.Settled.{FindsNone}
 use Rattle.gb_session.proofs.session.find.Given as goal

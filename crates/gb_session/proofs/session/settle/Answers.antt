@@ -1,4 +1,4 @@
-use Rattle.std.proofs.Common.{[], ◌∷◌, refl}
+use Rattle.gb_types.specs.Common.{[], ◌∷◌, refl}
 use Rattle.gb_session.proofs.SettleLemmas.{settled_now}
 use Rattle.gb_session.proofs.session.settle.Goals as goal
 

@@ -1,6 +1,5 @@
-use Rattle.std.proofs.Common.{◌≡◌, ◌++◌, length}
+use Rattle.gb_types.specs.Common.{◌≡◌, ◌++◌, length, rising_from}
 use Rattle.std.specs.Io.{StartsWith}
-use Rattle.gb_types.specs.Rising.{rising_from}
 use Rattle.gb_simulate.specs.AnswerText.{each_after_space}
 use Rattle.gb_simulate.proofs.answer_text.put_each.Given as goal
 

@@ -1,5 +1,4 @@
-use Rattle.std.proofs.Common.{◌+◌, ◌++◌, sym, ◌∙◌, ap}
-use Rattle.gb_types.specs.Rising.{rising_from}
+use Rattle.gb_types.specs.Common.{◌+◌, ◌++◌, sym, ◌∙◌, ap, rising_from}
 use Rattle.gb_simulate.specs.AnswerText.{each_after_space}
 use Rattle.gb_simulate.proofs.AnswerLemmas.{noticed-none, noticed-some, joined, on_ok}
 use Rattle.gb_simulate.proofs.answer_text.put_noticed.Goals as goal

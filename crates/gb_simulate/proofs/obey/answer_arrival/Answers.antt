@@ -1,4 +1,4 @@
-use Rattle.std.proofs.Common.{refl}
+use Rattle.gb_types.specs.Common.{refl}
 use Rattle.std.proofs.lemmas.List.Prefix.{front_rest}
 use Rattle.gb_cluster.specs.declared.event.Event.TheVariants as Events
 use Rattle.gb_simulate.proofs.AnswerLemmas.{on_ok}

@@ -1,6 +1,4 @@
-use Rattle.std.proofs.Common.{inl, inr, refl, sym, ◌∙◌, arith}
-use Rattle.std.proofs.lemmas.Bool.{false≢true}
-use Rattle.std.proofs.lemmas.Option.{none-some}
+use Rattle.gb_types.specs.Common.{inl, inr, refl, sym, ◌∙◌, arith, false≢true, none-some}
 use Rattle.gb_schedule.specs.declared.command.Command.TheVariants as Commands
 use Rattle.gb_simulate.proofs.AnswerLemmas.{nothing_added}
 use Rattle.gb_simulate.proofs.obey.answer_line.Goals as goal

@@ -1,4 +1,4 @@
-use Rattle.std.proofs.Common.{Ok, ap}
+use Rattle.gb_types.specs.Common.{Ok, ap}
 use Rattle.gb_simulate.proofs.ProgressLemmas.{at_on, at_end, fault_over}
 use Rattle.gb_simulate.proofs.simulate.answer_all.Goals as goal
 

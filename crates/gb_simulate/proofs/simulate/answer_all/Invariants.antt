@@ -1,5 +1,4 @@
-use Rattle.std.proofs.Common.{ℕ, List, None, ◌-◌}
-use Rattle.std.specs.Option.{IfSome}
+use Rattle.gb_types.specs.Common.{ℕ, List, None, ◌-◌, IfSome}
 use Rattle.gb_lines.specs.Buffered.{left}
 use Rattle.gb_simulate.specs.Progress.{IsAt}
 use Rattle.gb_simulate.specs.Schedule.{HasNodes}

@@ -1,4 +1,4 @@
-use Rattle.std.proofs.Common.{ℕ, List, Some, ◌-◌}
+use Rattle.gb_types.specs.Common.{ℕ, List, Some, ◌-◌}
 use Rattle.gb_lines.specs.Buffered.{left}
 use Rattle.gb_simulate.specs.Progress.{IsAt}
 use Rattle.gb_simulate.specs.Schedule.{HasNodes}

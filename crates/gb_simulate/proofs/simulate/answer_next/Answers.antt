@@ -1,5 +1,4 @@
-use Rattle.std.proofs.Common.{Ok, Some, ap, sym, ◌∙◌}
-use Rattle.std.proofs.lemmas.Option.{none-some}
+use Rattle.gb_types.specs.Common.{Ok, Some, ap, sym, ◌∙◌, none-some}
 use Rattle.gb_lines.specs.Buffered.{left}
 use Rattle.gb_simulate.specs.Schedule.{IsBadLine}
 use Rattle.gb_simulate.specs.declared.outcome.BadLine.TheVariants.{NoCommand}

@@ -1,6 +1,4 @@
-use Rattle.std.proofs.Common.{Ok, Some, None, ◌++◌, codes, inr, refl, ap, sym, ◌∙◌}
-use Rattle.std.proofs.lemmas.Bool.{false≢true}
-use Rattle.std.proofs.lemmas.Option.{none-some}
+use Rattle.gb_types.specs.Common.{Ok, Some, None, ◌++◌, codes, inr, refl, ap, sym, ◌∙◌, false≢true, none-some}
 use Rattle.gb_lines.specs.Buffered.{left}
 use Rattle.gb_lines.specs.Lines.{ended}
 use Rattle.gb_schedule.specs.declared.command.Command.TheVariants.{Cluster}

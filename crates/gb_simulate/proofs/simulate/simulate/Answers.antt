@@ -1,13 +1,9 @@
-use Rattle.std.proofs.Common.{◌≡◌, ℕ, List, [], None, Bool, false, Ok, Err, refl, sym}
-use Rattle.std.specs.Prelude.{Result, not}
-use Rattle.std.specs.Result.{result_eq}
-use Rattle.std.proofs.lemmas.Bool.{false≢true}
+use Rattle.gb_types.specs.Common.{◌≡◌, ℕ, List, [], None, Bool, false, Ok, Err, refl, sym, Result, not, result_eq, false≢true}
 use Rattle.std.specs.Io.KnownBytes.{prepend_known}
 use Rattle.gb_types.proofs.ReadLemmas.{err_so}
 use Rattle.gb_simulate.specs.Progress.{IsAt}
 use Rattle.gb_simulate.specs.contracts.outcome.SimFaultPartialEq.TheImpl.{eq-value}
-use Rattle.gb_simulate.specs.declared.outcome.SimEnd.{SimEnd}
-use Rattle.gb_simulate.specs.declared.outcome.SimFault.{SimFault}
+use Rattle.gb_simulate.specs.declared.{outcome.SimEnd.SimEnd, outcome.SimFault.SimFault}
 use Rattle.gb_simulate.specs.declared.outcome.SimFault.TheVariants.{Read, Write, OutOfMemory}
 use Rattle.gb_simulate.proofs.ProgressLemmas.{IsWrittenTo, over_handed, over_left, text_so, fault_so, cut_so}
 use Rattle.gb_simulate.proofs.simulate.simulate.Given.{Over}

@@ -1,5 +1,4 @@
-use Rattle.std.proofs.Common.{ℕ, ◌-◌, ◌≡◌, ◌≤◌, List, length, take, drop, subst, arith}
-use Rattle.std.proofs.lemmas.List.{take-take, length-take-le, length-drop}
+use Rattle.gb_types.specs.Common.{ℕ, ◌-◌, ◌≡◌, ◌≤◌, List, length, take, drop, subst, arith, take-take, length-take-le, length-drop}
 use Rattle.std.specs.Io.KnownBytes.{Appends}
 use Rattle.gb_simulate.proofs.WritingLemmas.{appends_more}
 use Rattle.gb_simulate.proofs.writing.write_text.Goals as goal

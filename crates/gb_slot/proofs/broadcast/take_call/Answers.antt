@@ -1,9 +1,6 @@
-use Rattle.std.proofs.Common.{◌≡◌, ℕ, ◌+◌, ◌<◌, ◌≤◌, ◌++◌, List, length, map, vec_capacity, ap, ◌∙◌, sym, subst}
-use Rattle.std.proofs.lemmas.List.{length-map}
-use Rattle.gb_types.specs.Entry.{message_of}
+use Rattle.gb_types.specs.Common.{◌≡◌, ℕ, ◌+◌, ◌<◌, ◌≤◌, ◌++◌, List, length, map, vec_capacity, ap, ◌∙◌, sym, subst, length-map, message_of}
 use Rattle.gb_types.specs.declared.message.MsgId.{MsgId}
-use Rattle.gb_layer.specs.Machine.{messages}
-use Rattle.gb_layer.specs.PlacedCalls.{told, Names, MayTake, IsNext, told_after, message_at}
+use Rattle.gb_layer.specs.Common.{messages, told, Names, MayTake, IsNext, told_after, message_at}
 use Rattle.gb_stack.specs.Layers.{stack_of, StackKnows}
 use Rattle.gb_stack.specs.StackState.{stack_next, stack_gives}
 use Rattle.gb_slot.specs.Outgoing.{are_below}

@@ -1,6 +1,5 @@
-use Rattle.std.proofs.Common.{rules, ◌≡◌, ◌++◌, map, length, vec_capacity}
-use Rattle.gb_layer.specs.Machine.{messages}
-use Rattle.gb_layer.specs.PlacedCalls.{told, message_at}
+use Rattle.gb_types.specs.Common.{rules, ◌≡◌, ◌++◌, map, length, vec_capacity}
+use Rattle.gb_layer.specs.Common.{messages, told, message_at}
 use Rattle.gb_slot.specs.Outgoing.{are_below}
 use Rattle.gb_slot.specs.Outward.{OutwardState, outward_log_name, outward_outgoing_name, outward_log, outward_outgoing, outward_log_capacity, outward_outgoing_capacity, outward_inside}
 use Rattle.gb_slot.proofs.broadcast.take_placed.Goals as goal

@@ -1,4 +1,4 @@
-use Rattle.std.proofs.Common.{◌≤◌, [], arith, sym, subst}
+use Rattle.gb_types.specs.Common.{◌≤◌, [], arith, sym, subst}
 use Rattle.gb_stack.specs.Layers.{StackKnows}
 use Rattle.gb_stack.specs.Stands.{HasStarted}
 use Rattle.gb_slot.proofs.slot.broadcast.Goals as goal

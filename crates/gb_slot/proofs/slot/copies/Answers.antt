@@ -1,5 +1,4 @@
-use Rattle.std.proofs.Common.{arith}
-use Rattle.std.proofs.lemmas.Grind.{common_steps}
+use Rattle.gb_types.specs.Common.{arith, common_steps}
 use Rattle.gb_slot.proofs.slot.copies.Goals as goal
 
 pub loop-m-preserved : goal.loop-m-preserved

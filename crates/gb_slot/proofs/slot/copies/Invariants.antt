@@ -1,6 +1,5 @@
-use Rattle.std.proofs.Common.{◌≡◌, ◌≤◌, take, length, vec_len, vec_capacity}
-use Rattle.std.specs.Prelude.{map}
-use Rattle.gb_rules.specs.Messages.{entry_in}
+use Rattle.gb_types.specs.Common.{◌≡◌, ◌≤◌, take, length, vec_len, vec_capacity, map}
+use Rattle.gb_rules.specs.Common.{entry_in}
 use Rattle.gb_slot.proofs.slot.copies.Given as goal
 
 abbrev pub invariant-loop-m : goal.invariant-loop-m

@@ -1,4 +1,4 @@
-use Rattle.std.proofs.Common.{arith}
+use Rattle.gb_types.specs.Common.{arith}
 use Rattle.gb_types.specs.declared.limits.TheConstants.{BYTES}
 use Rattle.gb_slot.proofs.MemoryLemmas.{all_fit}
 use Rattle.gb_slot.proofs.slot.memory.Goals as goal

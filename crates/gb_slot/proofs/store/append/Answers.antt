@@ -1,4 +1,4 @@
-use Rattle.std.proofs.Common.{◌∙◌, ◌++◌, ◌∷◌, [], ap}
+use Rattle.gb_types.specs.Common.{◌∙◌, ◌++◌, ◌∷◌, [], ap}
 use Rattle.gb_slot.specs.Kept.{arrivals_of}
 use Rattle.gb_slot.proofs.KeptLemmas.{added, added_inside, arrivals_added}
 use Rattle.gb_slot.proofs.store.append.Goals as goal

@@ -1,4 +1,4 @@
-use Rattle.std.proofs.Common.{◌≡◌, refl, ap, length, arith, slice_index}
+use Rattle.gb_types.specs.Common.{◌≡◌, refl, ap, length, arith, slice_index}
 use Rattle.gb_types.specs.declared.limits.TheConstants.{NODES}
 use Rattle.gb_slot.proofs.CountedLemmas.{counted_pushed}
 use Rattle.gb_slot.proofs.store.count_bytes.Goals as goal

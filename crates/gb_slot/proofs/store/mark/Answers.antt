@@ -1,4 +1,4 @@
-use Rattle.std.proofs.Common.{◌<◌, ◌∙◌, ap, sym, subst, set, length, arith}
+use Rattle.gb_types.specs.Common.{◌<◌, ◌∙◌, ap, sym, subst, set, length, arith}
 use Rattle.std.specs.FinSet as nodes
 use Rattle.gb_slot.specs.Kept.{AreInside, arrivals_of, entries_of}
 use Rattle.gb_slot.proofs.PlaceLemmas.{marked, entries_marked, inside_marked, node_there}

@@ -1,5 +1,4 @@
-use Rattle.std.proofs.Common.{ap, sym, ◌∙◌, arith}
-use Rattle.std.specs.Prelude.{slice_index_or, slice_range}
+use Rattle.gb_types.specs.Common.{ap, sym, ◌∙◌, arith, slice_index_or, slice_range}
 use Rattle.gb_slot.proofs.PlaceLemmas.{inside_at, payload_there}
 use Rattle.gb_slot.proofs.store.part.Goals as goal
 

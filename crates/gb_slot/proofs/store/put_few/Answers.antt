@@ -1,4 +1,4 @@
-use Rattle.std.proofs.Common.{◌≡◌, ◌∷◌, ◌++◌, [], ◌∙◌, ap, length, set, get_or, arith}
+use Rattle.gb_types.specs.Common.{◌≡◌, ◌∷◌, ◌++◌, [], ◌∙◌, ap, length, set, get_or, arith}
 use lib.Seq.{get_or_at, set_at}
 use Rattle.gb_types.specs.declared.entry.Entry.{Entry}
 use Rattle.gb_slot.proofs.store.put_few.Goals as goal

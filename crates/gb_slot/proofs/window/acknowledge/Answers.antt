@@ -1,6 +1,4 @@
-use Rattle.std.proofs.lemmas.Grind.{common_steps}
-use Rattle.std.proofs.Common.{◌<◌, ◌-◌, ap, arith, length}
-use Rattle.std.proofs.lemmas.List.{get_or-set_same}
+use Rattle.gb_types.specs.Common.{common_steps, ◌<◌, ◌-◌, ap, arith, length, get_or-set_same}
 use Rattle.gb_slot.proofs.WindowLemmas.{one, unfinished_few, unfinished_has, unfinished_set}
 use Rattle.gb_slot.proofs.window.acknowledge.Goals as goal
 

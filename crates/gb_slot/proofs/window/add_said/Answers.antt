@@ -1,4 +1,4 @@
-use Rattle.std.proofs.Common.{◌∙◌, ap, sym, arith, ◌+◌}
+use Rattle.gb_types.specs.Common.{◌∙◌, ap, sym, arith, ◌+◌}
 use Rattle.gb_slot.specs.Slot.{unfinished_of}
 use Rattle.gb_slot.proofs.WindowLemmas.{unfinished_few, unfinished_pushed}
 use Rattle.gb_slot.proofs.window.add_said.Goals as goal

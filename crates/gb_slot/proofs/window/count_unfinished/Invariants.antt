@@ -1,4 +1,4 @@
-use Rattle.std.proofs.Common.{◌≡◌, ◌+◌, ◌≤◌, drop}
+use Rattle.gb_types.specs.Common.{◌≡◌, ◌+◌, ◌≤◌, drop}
 use Rattle.gb_slot.specs.Slot.{unfinished_of}
 use Rattle.gb_slot.proofs.window.count_unfinished.Given as goal
 

@@ -1,4 +1,4 @@
-use Rattle.std.proofs.Common.{◌≤◌, ◌+◌, arith}
+use Rattle.gb_types.specs.Common.{◌≤◌, ◌+◌, arith}
 use Rattle.gb_types.specs.declared.limits.TheConstants.{NODES}
 use Rattle.gb_stack.proofs.StartLemmas.{heard_none, heard_more}
 use Rattle.gb_stack.proofs.stack.hear.Goals as goal

@@ -1,4 +1,4 @@
-use Rattle.std.proofs.Common.{◌≤◌}
+use Rattle.gb_types.specs.Common.{◌≤◌}
 use Rattle.gb_types.specs.declared.limits.TheConstants.{NODES}
 use Rattle.gb_stack.specs.Stands.{HasHeard}
 use Rattle.gb_stack.proofs.stack.hear.Given as goal

@@ -1,5 +1,4 @@
-use Rattle.std.proofs.Common.{◌≡◌, ◌++◌}
-use Rattle.gb_types.specs.Rising.{rising}
+use Rattle.gb_types.specs.Common.{◌≡◌, ◌++◌, rising}
 use Rattle.gb_status.specs.News.{notices_of}
 use Rattle.gb_status.proofs.news.put_notices.Given as goal
 

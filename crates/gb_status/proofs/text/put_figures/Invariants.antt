@@ -1,5 +1,4 @@
-use Rattle.std.proofs.Common.{◌≡◌, ◌++◌, take}
-use Rattle.std.specs.List.{flat_map}
+use Rattle.gb_types.specs.Common.{◌≡◌, ◌++◌, take, flat_map}
 use Rattle.gb_status.specs.Figures.{figure_text}
 use Rattle.gb_status.proofs.text.put_figures.Given as goal
 

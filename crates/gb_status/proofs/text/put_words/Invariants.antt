@@ -1,4 +1,4 @@
-use Rattle.std.proofs.Common.{◌≡◌, ◌++◌, take}
+use Rattle.gb_types.specs.Common.{◌≡◌, ◌++◌, take}
 use Rattle.gb_status.specs.Figures.{words_text}
 use Rattle.gb_status.proofs.text.put_words.Given as goal
 

@@ -1,4 +1,4 @@
-use Rattle.std.proofs.Common.{◌≡◌, ◌<◌, length, ap, sym, ◌∙◌, arith}
+use Rattle.gb_types.specs.Common.{◌≡◌, ◌<◌, length, ap, sym, ◌∙◌, arith}
 use Rattle.std.specs.FinSet as nodes
 use Rattle.gb_table.proofs.CoveredLemmas.{grown_none, grown_one, word_below, word_one, word_skip}
 use Rattle.gb_table.proofs.index.cover.Goals as goal

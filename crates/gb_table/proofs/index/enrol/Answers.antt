@@ -1,5 +1,4 @@
-use Rattle.std.proofs.Common.{◌≡◌, ap, sym, refl, ◌∙◌, arith}
-use Rattle.std.specs.Prelude.{if◌then◌else◌}
+use Rattle.gb_types.specs.Common.{◌≡◌, ap, sym, refl, ◌∙◌, arith, if◌then◌else◌}
 use Rattle.std.specs.FinSet as nodes
 use Rattle.gb_table.proofs.MemberLemmas.{enrolled}
 use Rattle.gb_table.proofs.index.enrol.Goals as goal

@@ -1,4 +1,4 @@
-use Rattle.std.proofs.Common.{[], rules}
+use Rattle.gb_types.specs.Common.{[], rules}
 use Rattle.gb_table.proofs.index.no_places.Goals as goal
 
 pub returns : goal.returns

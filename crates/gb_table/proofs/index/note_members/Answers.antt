@@ -1,10 +1,7 @@
-use Rattle.std.proofs.Common.{◌≡◌, ℕ, ◌+◌, min, true, List, [], length, ap, sym, subst, ◌∙◌, arith}
-use Rattle.std.proofs.Math.ListN.{set}
-use Rattle.std.proofs.lemmas.List.{get_or_default}
+use Rattle.gb_types.specs.Common.{◌≡◌, ℕ, ◌+◌, min, true, List, [], length, ap, sym, subst, ◌∙◌, arith, set, get_or_default, rising_from}
 use Rattle.std.specs.FinSet as nodes
-use Rattle.gb_types.specs.Rising.{rising_from}
 use Rattle.gb_types.specs.declared.limits.TheConstants.{NODES}
-use Rattle.gb_slot.specs.Slot.{waiting}
+use Rattle.gb_slot.specs.Common.{waiting}
 use Rattle.gb_table.specs.Busy.{IsNoted}
 use Rattle.gb_table.proofs.NotedLemmas.{written_none, written_more, written_further, first_member, no_member}
 use Rattle.gb_table.proofs.index.note_members.Goals as goal

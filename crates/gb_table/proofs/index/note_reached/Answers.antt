@@ -1,11 +1,7 @@
-use Rattle.std.proofs.Common.{◌≡◌, ℕ, ◌<◌, ◌≤◌, ◌+◌, true, false, List, [], length, ap, sym, subst, ◌∙◌, arith}
-use Rattle.std.specs.Prelude.{not}
-use Rattle.std.proofs.Math.ListN.{set}
-use Rattle.std.proofs.lemmas.List.{get_or_default}
+use Rattle.gb_types.specs.Common.{◌≡◌, ℕ, ◌<◌, ◌≤◌, ◌+◌, true, false, List, [], length, ap, sym, subst, ◌∙◌, arith, not, set, get_or_default, rising_from}
 use Rattle.std.specs.FinSet as nodes
-use Rattle.gb_types.specs.Rising.{rising_from}
 use Rattle.gb_types.specs.declared.limits.TheConstants.{NODES}
-use Rattle.gb_slot.specs.StandsFor.{reaches}
+use Rattle.gb_slot.specs.Common.{reaches}
 use Rattle.gb_table.specs.Busy.{IsPlaced}
 use Rattle.gb_table.proofs.NotedLemmas.{written_none, written_more, written_further, first_member, no_member, reached_member, reached_outside}
 use Rattle.gb_table.proofs.index.note_reached.Goals as goal

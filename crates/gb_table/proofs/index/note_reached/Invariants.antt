@@ -1,5 +1,4 @@
-use Rattle.std.proofs.Common.{length}
-use Rattle.gb_types.specs.Rising.{rising_from}
+use Rattle.gb_types.specs.Common.{length, rising_from}
 use Rattle.gb_table.specs.Busy.{IsPlaced}
 use Rattle.gb_table.proofs.index.note_reached.Given as goal
 

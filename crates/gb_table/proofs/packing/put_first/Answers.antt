@@ -1,5 +1,4 @@
-use Rattle.std.proofs.lemmas.Grind.{common_steps}
-use Rattle.std.proofs.Common.{arith}
+use Rattle.gb_types.specs.Common.{common_steps, arith}
 use Rattle.gb_types.specs.declared.limits.TheConstants.{PAYLOAD}
 use Rattle.gb_table.proofs.StepLemmas.{waiting_fits}
 use Rattle.gb_table.proofs.packing.put_first.Goals as goal

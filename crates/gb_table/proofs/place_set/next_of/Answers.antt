@@ -1,4 +1,4 @@
-use Rattle.std.proofs.Common.{◌≤◌, ◌<◌, ◌+◌, ◌/◌, ◌%◌, get_or, refl, arith}
+use Rattle.gb_types.specs.Common.{◌≤◌, ◌<◌, ◌+◌, ◌/◌, ◌%◌, get_or, refl, arith}
 use Rattle.std.proofs.lemmas.Nat.Bits.{ones_shl}
 use Rattle.gb_table.proofs.PlaceSetLemmas.{first_found, found_behind, has-past, none_before, none_behind}
 use Rattle.gb_table.proofs.place_set.next_of.Goals as goal

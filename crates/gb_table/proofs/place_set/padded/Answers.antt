@@ -1,4 +1,4 @@
-use Rattle.std.proofs.Common.{◌∙◌, min, ap, sym}
+use Rattle.gb_types.specs.Common.{◌∙◌, min, ap, sym}
 use Rattle.gb_table.proofs.PlaceSetLemmas.{padded_word, has-same}
 use Rattle.gb_table.proofs.place_set.padded.Goals as goal
 

@@ -1,5 +1,4 @@
-use Rattle.std.proofs.Common.{◌<◌, ◌*◌, ◌/◌, ◌%◌, ◌^◌, ◌∙◌, min, get_or, ap, sym, refl, arith, w64}
-use Rattle.std.specs.Int.{bit_not}
+use Rattle.gb_types.specs.Common.{◌<◌, ◌*◌, ◌/◌, ◌%◌, ◌^◌, ◌∙◌, min, get_or, ap, sym, refl, arith, w64, bit_not}
 use Rattle.std.proofs.lemmas.Nat.{and_le_l}
 use Rattle.std.proofs.lemmas.Nat.Bits.{bit_at_clear_same, bit_at_clear_other}
 use Rattle.gb_table.proofs.PlaceSetLemmas.{has-set-same, has-set-other, summary-set}

@@ -1,4 +1,4 @@
-use Rattle.std.proofs.Common.{◌≡◌, ap, refl, ◌∙◌, length}
+use Rattle.gb_types.specs.Common.{◌≡◌, ap, refl, ◌∙◌, length}
 use Rattle.indexmap.specs.IndexMap.{insert_entry}
 use Rattle.gb_types.specs.contracts.address.AddrPartialEq.TheImpl.{ghosts}
 use Rattle.gb_table.specs.declared.places.Place.TheVariants.{Gone}

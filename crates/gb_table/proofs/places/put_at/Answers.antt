@@ -1,9 +1,7 @@
-use Rattle.std.proofs.Common.{List, ap, refl, ◌∙◌}
-use Rattle.std.specs.Prelude.{swap_remove}
+use Rattle.gb_types.specs.Common.{List, ap, refl, ◌∙◌, swap_remove}
 use Rattle.gb_types.specs.contracts.address.AddrPartialEq.TheImpl.{ghosts}
 use Rattle.gb_types.specs.declared.address.Addr.{Addr}
-use Rattle.gb_table.specs.declared.places.Place.{Place}
-use Rattle.gb_table.specs.declared.places.Place.TheVariants.{Key}
+use Rattle.gb_table.specs.declared.{places.Place.Place, places.Place.TheVariants.Key}
 use Rattle.gb_table.proofs.AddLemmas.{insert-new, swap-last}
 use Rattle.gb_table.proofs.places.put_at.Goals as goal
 

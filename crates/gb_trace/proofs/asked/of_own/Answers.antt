@@ -1,6 +1,4 @@
-use Rattle.std.proofs.Common.{◌≡◌, List, subst}
-use Rattle.std.specs.Prelude.{OnOk}
-use Rattle.std.specs.Option.{option_to_list}
+use Rattle.gb_types.specs.Common.{◌≡◌, List, subst, OnOk, option_to_list}
 use Rattle.gb_alone.specs.declared.event.GroupStep.{GroupStep}
 use Rattle.gb_isolation.specs.Project.{is_noticed_at}
 use Rattle.gb_trace.specs.Deeds.{past_in}

@@ -1,5 +1,4 @@
-use Rattle.std.proofs.Common.{◌∙◌, ap, sym}
-use Rattle.std.specs.Option.{option_to_list}
+use Rattle.gb_types.specs.Common.{◌∙◌, ap, sym, option_to_list}
 use Rattle.gb_isolation.specs.Project.{command_for}
 use Rattle.gb_trace.proofs.AskedLemmas.{stop_shown, none_shown}
 use Rattle.gb_trace.proofs.asked.of_stopped.Goals as goal

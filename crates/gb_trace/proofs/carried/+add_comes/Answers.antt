@@ -1,5 +1,4 @@
-use Rattle.std.proofs.Common.{◌≡◌, List, subst}
-use Rattle.std.specs.Prelude.{OnOk}
+use Rattle.gb_types.specs.Common.{◌≡◌, List, subst, OnOk}
 use Rattle.gb_alone.specs.declared.event.GroupStep.{GroupStep}
 use Rattle.gb_trace.proofs.CountLemmas.{come_on}
 use Rattle.gb_trace.proofs.carried.+add_comes.Goals as goal

@@ -1,6 +1,5 @@
-use Rattle.std.proofs.Common.{◌≡◌, ◌+◌, ◌<◌, ◌≤◌, ◌++◌, ◌∙◌, length, get_or, ap, arith}
-use Rattle.std.proofs.lemmas.List.{take_all}
-use Rattle.gb_node.specs.NodeStep.{node_numbered}
+use Rattle.gb_types.specs.Common.{◌≡◌, ◌+◌, ◌<◌, ◌≤◌, ◌++◌, ◌∙◌, length, get_or, ap, arith, take_all}
+use Rattle.gb_node.specs.Common.{node_numbered}
 use Rattle.gb_trace.specs.Counts.{counts_acknowledged, is_newly}
 use Rattle.gb_trace.proofs.CountLemmas.{counted_on_marked, front_counted, get_or_default, place_on}
 use Rattle.gb_trace.proofs.carried.add_all_acknowledged.Goals as goal

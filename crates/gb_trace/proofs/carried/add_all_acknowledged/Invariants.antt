@@ -1,6 +1,5 @@
-use Rattle.std.proofs.Common.{◌≡◌, ◌+◌, ◌++◌, take}
-use Rattle.std.specs.Prelude.{sum}
-use Rattle.gb_node.specs.NodeStep.{node_numbered}
+use Rattle.gb_types.specs.Common.{◌≡◌, ◌+◌, ◌++◌, take, sum}
+use Rattle.gb_node.specs.Common.{node_numbered}
 use Rattle.gb_trace.specs.Counts.{counts_acknowledged, is_newly}
 use Rattle.gb_trace.proofs.carried.add_all_acknowledged.Given as goal
 

@@ -1,6 +1,5 @@
-use Rattle.std.proofs.Common.{◌≡◌, ◌-◌, ◌++◌, ◌∙◌, List, ap, subst}
-use Rattle.std.specs.Prelude.{OnOk, reverse}
-use Rattle.gb_frame.specs.Packet.{Content}
+use Rattle.gb_types.specs.Common.{◌≡◌, ◌-◌, ◌++◌, ◌∙◌, List, ap, subst, OnOk, reverse}
+use Rattle.gb_frame.specs.Common.{Content}
 use Rattle.gb_alone.specs.declared.event.GroupStep.{GroupStep}
 use Rattle.gb_trace.proofs.CountLemmas.{brought_is}
 use Rattle.gb_trace.proofs.carried.of_frame.Goals as goal

@@ -1,4 +1,4 @@
-use Rattle.std.proofs.Common.{◌<◌, length, arith}
+use Rattle.gb_types.specs.Common.{◌<◌, length, arith}
 use Rattle.gb_trace.proofs.DeedLemmas.{newest_deed}
 use Rattle.gb_trace.proofs.deed.deeds_of.Goals as goal
 

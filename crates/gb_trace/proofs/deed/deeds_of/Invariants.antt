@@ -1,4 +1,4 @@
-use Rattle.std.proofs.Common.{◌≡◌, take}
+use Rattle.gb_types.specs.Common.{◌≡◌, take}
 use Rattle.gb_trace.specs.Trace.{all_did}
 use Rattle.gb_trace.proofs.deed.deeds_of.Given as goal
 

@@ -1,5 +1,4 @@
-use Rattle.std.proofs.Common.{◌∷◌, ◌∙◌, ℕ, set, ap, sym, subst}
-use Rattle.std.specs.Prelude.{reverse}
+use Rattle.gb_types.specs.Common.{◌∷◌, ◌∙◌, ℕ, set, ap, sym, subst, reverse}
 use Rattle.std.proofs.lemmas.Result.{on_ok_weaker}
 use Rattle.gb_types.specs.declared.node.NodeId.{NodeId}
 use Rattle.gb_trace.specs.Kept.{Keeps}

@@ -1,5 +1,4 @@
-use Rattle.std.proofs.Common.{◌∙◌, ◌||◌, ap}
-use Rattle.std.specs.Option.{option_or}
+use Rattle.gb_types.specs.Common.{◌∙◌, ◌||◌, ap, option_or}
 use Rattle.gb_trace.specs.Deeds.{past_in}
 use Rattle.gb_trace.proofs.KeptLemmas.{node_goes_on}
 use Rattle.gb_trace.proofs.kept.keep_at.Goals as goal

@@ -1,8 +1,7 @@
-use Rattle.std.proofs.Common.{◌<◌, ◌∙◌, [], ◌∷◌, ap, sym, arith}
-use Rattle.std.specs.Prelude.{if◌then◌else◌}
+use Rattle.gb_types.specs.Common.{◌<◌, ◌∙◌, [], ◌∷◌, ap, sym, arith, if◌then◌else◌}
 use Rattle.std.proofs.lemmas.Result.{on_ok_weaker}
 use Rattle.gb_detect.specs.Silence.{Tick}
-use Rattle.gb_node.specs.Past.{Happened, came}
+use Rattle.gb_node.specs.Common.{Happened, came}
 use Rattle.gb_trace.specs.Deeds.{past_in}
 use Rattle.gb_trace.proofs.KeptLemmas.{links_take, links_tick}
 use Rattle.gb_trace.proofs.links.keep_links.Goals as goal

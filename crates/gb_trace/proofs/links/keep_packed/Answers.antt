@@ -1,5 +1,5 @@
-use Rattle.std.proofs.Common.{◌≡◌, ◌<◌, ◌∙◌, [], ◌∷◌, nat_eq, ap, sym, arith}
-use Rattle.gb_node.specs.Past.{Happened, came, packed_for}
+use Rattle.gb_types.specs.Common.{◌≡◌, ◌<◌, ◌∙◌, [], ◌∷◌, nat_eq, ap, sym, arith}
+use Rattle.gb_node.specs.Common.{Happened, came, packed_for}
 use Rattle.gb_trace.specs.Deeds.{past_in}
 use Rattle.gb_trace.proofs.KeptLemmas.{links_pack, links_rest, on_ok_all, unpacked_all}
 use Rattle.gb_trace.proofs.links.keep_packed.Goals as goal

@@ -1,4 +1,4 @@
-use Rattle.std.proofs.Common.{◌≡◌, ◌∙◌, arith}
+use Rattle.gb_types.specs.Common.{◌≡◌, ◌∙◌, arith}
 use Rattle.gb_types.specs.declared.limits.TheConstants.{NODES}
 use Rattle.gb_trace.specs.Kept.{IsBare}
 use Rattle.gb_trace.proofs.KeptLemmas.{so_far_none, so_far_on}

@@ -1,5 +1,4 @@
-use Rattle.std.proofs.Common.{◌≡◌, ◌∙◌, ap, arith}
-use Rattle.std.specs.Prelude.{◌++◌}
+use Rattle.gb_types.specs.Common.{◌≡◌, ◌∙◌, ap, arith, ◌++◌}
 use Rattle.std.specs.FinSet as set
 use Rattle.gb_types.specs.declared.limits.TheConstants.{NODES}
 use Rattle.gb_trace.proofs.NoticesLemmas.{noticed_none, noticed_more, notices_below}

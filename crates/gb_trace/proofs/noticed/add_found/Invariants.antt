@@ -1,4 +1,4 @@
-use Rattle.std.proofs.Common.{◌≡◌, ◌++◌}
+use Rattle.gb_types.specs.Common.{◌≡◌, ◌++◌}
 use Rattle.std.specs.FinSet as set
 use Rattle.gb_trace.proofs.NoticesLemmas.{notices_below}
 use Rattle.gb_trace.proofs.noticed.add_found.Given as goal

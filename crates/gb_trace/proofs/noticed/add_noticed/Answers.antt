@@ -1,5 +1,4 @@
-use Rattle.std.proofs.Common.{◌≡◌, ◌∙◌, ap, arith}
-use Rattle.std.specs.Prelude.{◌++◌}
+use Rattle.gb_types.specs.Common.{◌≡◌, ◌∙◌, ap, arith, ◌++◌}
 use Rattle.gb_types.specs.declared.limits.TheConstants.{NODES}
 use Rattle.gb_isolation.specs.Project.{is_noticed_at}
 use Rattle.gb_trace.specs.Deeds.{past_in}

@@ -1,4 +1,4 @@
-use Rattle.std.proofs.Common.{◌≡◌, ◌++◌}
+use Rattle.gb_types.specs.Common.{◌≡◌, ◌++◌}
 use Rattle.gb_isolation.specs.Project.{is_noticed_at}
 use Rattle.gb_trace.specs.Deeds.{past_in}
 use Rattle.gb_trace.proofs.NoticesLemmas.{notices_below}

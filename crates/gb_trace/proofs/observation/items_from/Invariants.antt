@@ -1,7 +1,6 @@
-use Rattle.std.proofs.Common.{◌≡◌}
-use Rattle.std.specs.Prelude.{map}
-use Rattle.gb_alone.specs.Observation.{numbers_below}
-use Rattle.gb_node.specs.Past.{frames_to}
+use Rattle.gb_types.specs.Common.{◌≡◌, map}
+use Rattle.gb_alone.specs.Common.{numbers_below}
+use Rattle.gb_node.specs.Common.{frames_to}
 use Rattle.gb_isolation.specs.Project.{group_items_of}
 use Rattle.gb_trace.specs.Deeds.{past_in}
 use Rattle.gb_trace.proofs.observation.items_from.Given as goal

@@ -1,5 +1,5 @@
-use Rattle.std.proofs.Common.{◌<◌, ◌≤◌, ◌∙◌, length, take, arith, ap, sym}
-use Rattle.gb_node.specs.Past.{packed_for, frames_to}
+use Rattle.gb_types.specs.Common.{◌<◌, ◌≤◌, ◌∙◌, length, take, arith, ap, sym}
+use Rattle.gb_node.specs.Common.{packed_for, frames_to}
 use Rattle.gb_isolation.specs.Project.{group_items_of}
 use Rattle.gb_trace.specs.Deeds.{past_in}
 use Rattle.gb_trace.proofs.FrameLemmas.{no_items, items_more}

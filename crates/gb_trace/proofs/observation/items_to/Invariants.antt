@@ -1,5 +1,5 @@
-use Rattle.std.proofs.Common.{◌≡◌, take}
-use Rattle.gb_node.specs.Past.{frames_to}
+use Rattle.gb_types.specs.Common.{◌≡◌, take}
+use Rattle.gb_node.specs.Common.{frames_to}
 use Rattle.gb_isolation.specs.Project.{group_items_of}
 use Rattle.gb_trace.specs.Deeds.{past_in}
 use Rattle.gb_trace.proofs.observation.items_to.Given as goal

@@ -1,7 +1,6 @@
-use Rattle.std.proofs.Common.{◌+◌, ◌<◌, ◌≤◌, ◌∙◌, length, take, arith, ap, sym}
-use Rattle.std.specs.Option.{option_copied}
-use Rattle.gb_rules.specs.Tenant.{row_of}
-use Rattle.gb_node.specs.Past.{added, tenants_in}
+use Rattle.gb_types.specs.Common.{◌+◌, ◌<◌, ◌≤◌, ◌∙◌, length, take, arith, ap, sym, option_copied}
+use Rattle.gb_rules.specs.Common.{row_of}
+use Rattle.gb_node.specs.Common.{added, tenants_in}
 use Rattle.gb_isolation.specs.Project.{reply_in, replies_in}
 use Rattle.gb_trace.specs.Deeds.{past_in}
 use Rattle.gb_trace.proofs.PastLemmas.{whole, longer, as_long, no_replies, replies_more, added_here, added_elsewhere, none_added}

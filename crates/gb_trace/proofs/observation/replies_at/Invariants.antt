@@ -1,7 +1,6 @@
-use Rattle.std.proofs.Common.{◌≡◌, take}
-use Rattle.std.specs.Option.{option_copied}
-use Rattle.gb_rules.specs.Tenant.{row_of}
-use Rattle.gb_node.specs.Past.{tenants_in}
+use Rattle.gb_types.specs.Common.{◌≡◌, take, option_copied}
+use Rattle.gb_rules.specs.Common.{row_of}
+use Rattle.gb_node.specs.Common.{tenants_in}
 use Rattle.gb_isolation.specs.Project.{replies_in}
 use Rattle.gb_trace.specs.Deeds.{past_in}
 use Rattle.gb_trace.proofs.observation.replies_at.Given as goal

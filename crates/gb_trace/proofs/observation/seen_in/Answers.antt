@@ -1,9 +1,8 @@
-use Rattle.std.proofs.Common.{◌≡◌, ℕ, List, [], ◌∷◌, ◌++◌, map, sym, ◌∙◌, ap}
-use Rattle.std.specs.Prelude.{reverse}
+use Rattle.gb_types.specs.Common.{◌≡◌, ℕ, List, [], ◌∷◌, ◌++◌, map, sym, ◌∙◌, ap, reverse}
 use Rattle.gb_types.specs.declared.node.NodeId.{NodeId}
-use Rattle.gb_alone.specs.Observation.{SeenAt, numbers_below}
+use Rattle.gb_alone.specs.Common.{SeenAt, numbers_below}
 use Rattle.gb_alone.proofs.ObservationLemmas.{map_more}
-use Rattle.gb_node.specs.NodeStep.{node_numbered}
+use Rattle.gb_node.specs.Common.{node_numbered}
 use Rattle.gb_node.proofs.TookLemmas.{numbered_is}
 use Rattle.gb_trace.specs.Observed.{observed_at}
 use Rattle.gb_trace.proofs.observation.seen_in.Goals as goal

@@ -1,7 +1,6 @@
-use Rattle.std.proofs.Common.{◌≡◌}
-use Rattle.std.specs.Prelude.{map, reverse}
-use Rattle.gb_alone.specs.Observation.{numbers_below}
-use Rattle.gb_node.specs.NodeStep.{node_numbered}
+use Rattle.gb_types.specs.Common.{◌≡◌, map, reverse}
+use Rattle.gb_alone.specs.Common.{numbers_below}
+use Rattle.gb_node.specs.Common.{node_numbered}
 use Rattle.gb_trace.specs.Observed.{observed_at}
 use Rattle.gb_trace.proofs.observation.seen_in.Given as goal
 

@@ -1,6 +1,5 @@
-use Rattle.std.proofs.Common.{◌<◌, ◌≤◌, ◌++◌, ◌∙◌, List, length, take, arith, ap, sym, subst}
-use Rattle.std.specs.Prelude.{reverse}
-use Rattle.gb_cluster.specs.Run.{Did}
+use Rattle.gb_types.specs.Common.{◌<◌, ◌≤◌, ◌++◌, ◌∙◌, List, length, take, arith, ap, sym, subst, reverse}
+use Rattle.gb_cluster.specs.Common.{Did}
 use Rattle.gb_isolation.specs.Project.{gives, project}
 use Rattle.gb_trace.specs.Kept.{Keeps}
 use Rattle.gb_trace.proofs.KeptLemmas.{nodes_new}

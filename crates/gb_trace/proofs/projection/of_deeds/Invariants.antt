@@ -1,5 +1,4 @@
-use Rattle.std.proofs.Common.{◌≡◌, take}
-use Rattle.std.specs.Prelude.{reverse}
+use Rattle.gb_types.specs.Common.{◌≡◌, take, reverse}
 use Rattle.gb_isolation.specs.Project as projected
 use Rattle.gb_trace.specs.Kept.{Keeps}
 use Rattle.gb_trace.proofs.projection.of_deeds.Given as goal

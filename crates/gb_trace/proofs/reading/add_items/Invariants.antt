@@ -1,4 +1,4 @@
-use Rattle.std.proofs.Common.{◌≡◌, ◌++◌}
+use Rattle.gb_types.specs.Common.{◌≡◌, ◌++◌}
 use Rattle.gb_isolation.specs.Project.{group_items}
 use Rattle.gb_trace.proofs.reading.add_items.Given as goal
 

@@ -1,4 +1,4 @@
-use Rattle.std.proofs.Common.{◌≡◌, ◌+◌, ◌≤◌, length}
+use Rattle.gb_types.specs.Common.{◌≡◌, ◌+◌, ◌≤◌, length}
 use Rattle.gb_isolation.specs.Project.{group_items}
 use Rattle.gb_trace.proofs.reading.count_in.Given as goal
 

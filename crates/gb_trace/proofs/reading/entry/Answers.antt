@@ -1,8 +1,7 @@
-use Rattle.std.proofs.Common.{◌≡◌}
+use Rattle.gb_types.specs.Common.{◌≡◌}
 use Rattle.gb_types.specs.declared.entry.Entry.{Entry}
 use Rattle.gb_types.proofs.SameLemmas.{same_number}
-use Rattle.gb_frame.specs.Packet.{item_of}
-use Rattle.gb_frame.specs.Items.{entry_of}
+use Rattle.gb_frame.specs.Common.{item_of, entry_of}
 use Rattle.gb_trace.proofs.reading.entry.Goals as goal
 
 pub returns : goal.returns

@@ -1,4 +1,4 @@
-use Rattle.std.proofs.Common.{◌∙◌, ap, sym}
+use Rattle.gb_types.specs.Common.{◌∙◌, ap, sym}
 use Rattle.gb_node.proofs.PacketLemmas.{packet_in, read_in, read_one}
 use Rattle.gb_trace.proofs.reading.read.Goals as goal
 

@@ -1,6 +1,6 @@
-use Rattle.std.proofs.Common.{◌∙◌, ap, sym}
-use Rattle.gb_frame.specs.Packet.{Content}
-use Rattle.gb_node.specs.NodeStep.{node_numbered}
+use Rattle.gb_types.specs.Common.{◌∙◌, ap, sym}
+use Rattle.gb_frame.specs.Common.{Content}
+use Rattle.gb_node.specs.Common.{node_numbered}
 use Rattle.gb_node.proofs.TookLemmas.{numbered_is}
 use Rattle.gb_trace.proofs.reading.sender.Goals as goal
 

@@ -1,4 +1,4 @@
-use Rattle.std.proofs.Common.{◌<◌, ◌||◌, ◌∙◌, Bool, length, take, ap, sym, arith}
+use Rattle.gb_types.specs.Common.{◌<◌, ◌||◌, ◌∙◌, Bool, length, take, ap, sym, arith}
 use Rattle.gb_trace.specs.Refused.{is_refused_for}
 use Rattle.gb_trace.specs.Trace.{run_of}
 use Rattle.gb_trace.proofs.RefusedLemmas.{refused_more, none_refused, rows_begin, rows_go_on}

@@ -1,4 +1,4 @@
-use Rattle.std.proofs.Common.{◌≡◌, take}
+use Rattle.gb_types.specs.Common.{◌≡◌, take}
 use Rattle.gb_trace.specs.Kept.{AreRows}
 use Rattle.gb_trace.specs.Refused.{is_refused_for}
 use Rattle.gb_trace.specs.Trace.{run_of}

@@ -1,6 +1,5 @@
-use Rattle.std.proofs.Common.{take}
-use Rattle.std.specs.Prelude.{All}
-use Rattle.gb_cluster.specs.ClusterStep.{IsPlaced}
+use Rattle.gb_types.specs.Common.{take, All}
+use Rattle.gb_cluster.specs.Common.{IsPlaced}
 use Rattle.gb_trace.proofs.run.are_placed.Given as goal
 
 abbrev pub invariant-loop-event : goal.invariant-loop-event

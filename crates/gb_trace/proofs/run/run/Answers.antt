@@ -1,7 +1,5 @@
-use Rattle.std.proofs.Common.{List, ◌++◌, ◌∷◌, [], take, sym, ◌∙◌, ap, subst, arith}
-use Rattle.std.proofs.lemmas.List.{take_all, take_more}
+use Rattle.gb_types.specs.Common.{List, ◌++◌, ◌∷◌, [], take, sym, ◌∙◌, ap, subst, arith, take_all, take_more, list_any}
 use Rattle.gb_cluster.specs.declared.event.Event.{Event}
-use Rattle.std.specs.List.{list_any}
 use Rattle.gb_isolation.proofs.SeenLemmas.{is_seen_alone}
 use Rattle.gb_trace.specs.Run.{tells_want}
 use Rattle.gb_trace.proofs.RunLemmas.{Goes, run_begins, run_goes, placed_at, is_run, ample}

@@ -1,4 +1,4 @@
-use Rattle.std.proofs.Common.{take}
+use Rattle.gb_types.specs.Common.{take}
 use Rattle.gb_trace.proofs.RunLemmas.{Goes}
 use Rattle.gb_trace.proofs.run.run.Given as goal
 

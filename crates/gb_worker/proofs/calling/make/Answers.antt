@@ -1,4 +1,4 @@
-use Rattle.std.proofs.Common.{◌≡◌, ◌∙◌, Option, Some, subst, sym}
+use Rattle.gb_types.specs.Common.{◌≡◌, ◌∙◌, Option, Some, subst, sym}
 use Rattle.gb_node.specs.declared.answer.NodeAnswer.{NodeAnswer}
 use Rattle.gb_worker.specs.Gained.{IsCalled}
 use Rattle.gb_worker.proofs.CallLemmas.{stops_once, stops_same}

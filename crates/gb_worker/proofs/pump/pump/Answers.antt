@@ -1,7 +1,6 @@
-use Rattle.std.proofs.Common.{◌≡◌, ◌∙◌, refl, arith, subst, ap, ℕ}
+use Rattle.gb_types.specs.Common.{◌≡◌, ◌∙◌, refl, arith, subst, ap, ℕ}
 use Rattle.gb_worker.specs.Turns.{HasPumped}
-use Rattle.gb_worker.specs.declared.end.WorkerEnd.{WorkerEnd}
-use Rattle.gb_worker.specs.declared.end.Why.TheVariants.{Turns, Gate}
+use Rattle.gb_worker.specs.declared.{end.WorkerEnd.WorkerEnd, end.Why.TheVariants.Turns, end.Why.TheVariants.Gate}
 use Rattle.gb_worker.proofs.CarryLemmas.{carried_more, carried_none, ok_is_no_fault, err_is_no_fault}
 use Rattle.gb_worker.proofs.TurnLemmas.{turns_none, turns_more, pumped_whole}
 use Rattle.gb_worker.proofs.pump.pump.Goals as goal

@@ -1,6 +1,5 @@
-use Rattle.std.proofs.Common.{refl, ◌∙◌, sym, ap, arith, Err, subst}
+use Rattle.gb_types.specs.Common.{refl, ◌∙◌, sym, ap, arith, Err, subst, nat_cmp}
 use Rattle.std.specs.FinSet as set
-use Rattle.std.specs.Ordering.{nat_cmp}
 use Rattle.gb_worker.specs.Carried.{HasCarried}
 use Rattle.gb_worker.specs.Gained.{Gains}
 use Rattle.gb_worker.specs.Turns.{HasReceived, IsReceived}

@@ -1,4 +1,4 @@
-use Rattle.std.proofs.Common.{◌≡◌, true}
+use Rattle.gb_types.specs.Common.{◌≡◌}
 use Rattle.gb_worker.specs.Answered.{stops_in}
 use Rattle.gb_worker.specs.Carried.{HasCarried}
 use Rattle.gb_worker.specs.Ended.{IsUncounted}

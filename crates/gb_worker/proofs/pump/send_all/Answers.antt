@@ -1,4 +1,4 @@
-use Rattle.std.proofs.Common.{◌∙◌, refl, subst, ℕ, Bool}
+use Rattle.gb_types.specs.Common.{◌∙◌, refl, subst, ℕ, Bool}
 use Rattle.std.specs.FinSet as set
 use Rattle.gb_worker.specs.Gained.{Gains}
 use Rattle.gb_worker.specs.Turns.{SendsTo, IsPartTo}

@@ -1,4 +1,4 @@
-use Rattle.std.proofs.Common.{◌∙◌, sym, Bool, subst}
+use Rattle.gb_types.specs.Common.{◌∙◌, sym, Bool, subst}
 use Rattle.gb_node.specs.declared.event.NodeEvent.TheVariants.{Again, Ack}
 use Rattle.gb_worker.specs.Gained.{Gains, IfDue, IsNoted}
 use Rattle.gb_worker.proofs.CarryLemmas.{carried_more, ok_is_no_fault}

@@ -1,8 +1,7 @@
-use Rattle.std.proofs.Common.{◌≡◌, refl, subst, sym, ◌∙◌}
-use Rattle.std.specs.Prelude.{IfOk, IfErr}
+use Rattle.gb_types.specs.Common.{◌≡◌, refl, subst, sym, ◌∙◌, IfOk, IfErr}
 use Rattle.gb_types.specs.declared.node.NodeId.{NodeId}
 use Rattle.gb_session.specs.Sessions.{IsSession, IsCutOff}
-use Rattle.gb_host.specs.SeatValue.{SeatValue}
+use Rattle.gb_host.specs.Common.{SeatValue}
 use Rattle.gb_worker.specs.Asked.{AnswersAt, answers_at}
 use Rattle.gb_worker.specs.declared.session.Desk.{Desk}
 use Rattle.gb_worker.proofs.AskLemmas.{shown}

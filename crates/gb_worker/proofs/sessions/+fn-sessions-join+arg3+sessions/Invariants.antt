@@ -1,4 +1,4 @@
-use Rattle.std.proofs.Common.{length}
+use Rattle.gb_types.specs.Common.{length}
 use Rattle.gb_worker.proofs.sessions.+fn-sessions-join+arg3+sessions.Given as goal
 
 abbrev pub decreases-sessions : goal.decreases-sessions

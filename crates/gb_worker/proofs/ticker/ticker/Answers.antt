@@ -1,4 +1,4 @@
-use Rattle.std.proofs.Common.{◌∙◌}
+use Rattle.gb_types.specs.Common.{◌∙◌}
 use Rattle.gb_worker.proofs.TickLemmas.{ticked_more}
 use Rattle.gb_worker.proofs.ticker.ticker.Goals as goal
 

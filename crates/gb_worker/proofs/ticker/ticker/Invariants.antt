@@ -1,5 +1,5 @@
-use Rattle.std.proofs.Common.{◌≡◌, false}
-use Rattle.gb_host.specs.Plans.{is_kept}
+use Rattle.gb_types.specs.Common.{◌≡◌, false}
+use Rattle.gb_host.specs.Common.{is_kept}
 use Rattle.gb_worker.specs.Gained.{Gains}
 use Rattle.gb_worker.specs.Ticks.{AreTicks}
 use Rattle.gb_worker.proofs.ticker.ticker.Given as goal

@@ -1,4 +1,4 @@
-use Rattle.std.proofs.Common.{lit≤, arith}
+use Rattle.gb_types.specs.Common.{lit≤, arith}
 use Rattle.gb_types.specs.declared.version.Version.TheVariants.{Two}
 use Rattle.gb_host.proofs.PlanLemmas.{all_named}
 use Rattle.gb_worker_examples.proofs.plans.most_nodes.Goals as goal

@@ -1,4 +1,4 @@
-use Rattle.gb_host.specs.Pasts.{books_of}
+use Rattle.gb_host.specs.Common.{books_of}
 use Rattle.gb_worker_examples.proofs.recorded.answers_of.Given as goal
 
 abbrev pub ghosts-answers : goal.ghosts-answers

@@ -1,4 +1,4 @@
-use Rattle.gb_host.specs.Pasts.{books_of}
+use Rattle.gb_host.specs.Common.{books_of}
 use Rattle.gb_worker_examples.proofs.recorded.tried.Given as goal
 
 abbrev pub ghosts-run : goal.ghosts-run

@@ -1,5 +1,4 @@
-use Rattle.std.proofs.lemmas.Grind.{common_steps}
-use Rattle.std.proofs.Common.{arith}
+use Rattle.gb_types.specs.Common.{common_steps, arith}
 use Rattle.gb_alone.proofs.member.Member.cut.Goals as goal
 
 pub returns-else-at-len : goal.returns-else-at-len

@@ -1,7 +1,6 @@
-use Rattle.std.proofs.Common.{List, ◌∙◌, ap, sym}
-use Rattle.gb_rules.specs.History.{log_of}
+use Rattle.gb_types.specs.Common.{List, ◌∙◌, ap, sym}
+use Rattle.gb_rules.specs.Common.{log_of, Shown, fetch_answer}
 use Rattle.gb_rules.specs.declared.call.GroupCall.{GroupCall}
-use Rattle.gb_rules.specs.Group.{Shown, fetch_answer}
 use Rattle.gb_alone.specs.Alone.{shown_in}
 use Rattle.gb_alone.specs.MemberLists.{MemberValue, member_of}
 use Rattle.gb_alone.proofs.member.Member.fetch_reply.Goals as goal

@@ -1,9 +1,6 @@
-use Rattle.std.proofs.Common.{◌≡◌, ◌||◌, nat_eq, [], ℕ, Bool}
-use Rattle.std.specs.Prelude.{slice_index_or}
-use Rattle.std.specs.List.{list_all}
-use Rattle.gb_types.specs.Rising.{rising}
-use Rattle.gb_rules.specs.History.{calls_of}
-use Rattle.gb_layer.specs.Machine.{was_noticed}
+use Rattle.gb_types.specs.Common.{◌≡◌, ◌||◌, nat_eq, [], ℕ, Bool, slice_index_or, list_all, rising}
+use Rattle.gb_rules.specs.Common.{calls_of}
+use Rattle.gb_layer.specs.Common.{was_noticed}
 use Rattle.gb_alone.specs.Alone.{is_acknowledged}
 use Rattle.gb_alone.proofs.member.Member.is_finished.Given as goal
 

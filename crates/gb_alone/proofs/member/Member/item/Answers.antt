@@ -1,4 +1,4 @@
-use Rattle.std.proofs.Common.{◌∙◌, ap}
+use Rattle.gb_types.specs.Common.{◌∙◌, ap}
 use Rattle.gb_alone.specs.MemberLists.{MemberValue}
 use Rattle.gb_alone.proofs.ItemLemmas.{item_there, no_item}
 use Rattle.gb_alone.proofs.member.Member.item.Goals as goal

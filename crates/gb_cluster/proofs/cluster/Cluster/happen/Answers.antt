@@ -1,4 +1,4 @@
-use Rattle.std.proofs.Common.{List, subst}
+use Rattle.gb_types.specs.Common.{List, subst}
 use Rattle.gb_cluster.specs.ClusterValue.{ClusterValue, cluster}
 use Rattle.gb_cluster.specs.ClusterStep.{IsStep}
 use Rattle.gb_cluster.specs.Run.{IsReached}

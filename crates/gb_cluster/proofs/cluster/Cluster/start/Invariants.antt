@@ -1,7 +1,5 @@
-use Rattle.std.proofs.Common.{◌≡◌, ◌≤◌, map, vec_len, vec_capacity}
-use Rattle.std.specs.List.{range_with_len}
-use Rattle.gb_node.specs.NodeStep.{node_numbered}
-use Rattle.gb_node.specs.NodeValue.{new_node}
+use Rattle.gb_types.specs.Common.{◌≡◌, ◌≤◌, map, vec_len, vec_capacity, range_with_len}
+use Rattle.gb_node.specs.Common.{node_numbered, new_node}
 use Rattle.gb_cluster.specs.ClusterValue.{node_plan}
 use Rattle.gb_cluster.proofs.cluster.Cluster.start.Given as goal
 

@@ -1,5 +1,4 @@
-use Rattle.std.proofs.Common.{sym, subst}
-use Rattle.std.specs.Prelude.{IfOk}
+use Rattle.gb_types.specs.Common.{sym, subst, IfOk}
 use Rattle.gb_cluster.specs.Run.{RunGoesOn}
 use Rattle.gb_cluster.specs.declared.event.Event.{Event}
 use Rattle.gb_cluster.proofs.cluster.Cluster.step.Goals as goal

@@ -1,6 +1,5 @@
-use Rattle.std.proofs.Common.{◌≡◌, ap, ◌∙◌, sym, subst, arith}
+use Rattle.gb_types.specs.Common.{◌≡◌, ap, ◌∙◌, sym, subst, arith, nat_cmp}
 use Rattle.std.specs.FinSet as set
-use Rattle.std.specs.Ordering.{nat_cmp}
 use Rattle.gb_detect.specs.Watch.{Watch, nodes_where, is_due, due, AreNew}
 use Rattle.gb_detect.proofs.SetLemmas.{nodes_where-zero, nodes_where-more, nodes_where-same}
 use Rattle.gb_detect.proofs.ReplayLemmas.{stands-due}

@@ -1,4 +1,4 @@
-use Rattle.std.proofs.Common.{◌≡◌}
+use Rattle.gb_types.specs.Common.{◌≡◌}
 use Rattle.gb_detect.specs.Watch.{nodes_where, is_due}
 use Rattle.gb_detect.proofs.detector.Detector.due.Given as goal
 

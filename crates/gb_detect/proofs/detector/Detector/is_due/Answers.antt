@@ -1,5 +1,4 @@
-use Rattle.std.proofs.Common.{◌<◌, ap, arith}
-use Rattle.std.proofs.lemmas.Bool.Decides.{nat_tests}
+use Rattle.gb_types.specs.Common.{◌<◌, ap, arith, nat_tests}
 use Rattle.gb_detect.specs.Watch.{Watch}
 use Rattle.gb_detect.proofs.SetLemmas.{is_due-inside}
 use Rattle.gb_detect.proofs.detector.Detector.is_due.Goals as goal

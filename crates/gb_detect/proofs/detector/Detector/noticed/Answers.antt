@@ -1,6 +1,5 @@
-use Rattle.std.proofs.Common.{ap, sym, subst, ◌∙◌}
+use Rattle.gb_types.specs.Common.{ap, sym, subst, ◌∙◌, nat_cmp}
 use Rattle.std.specs.FinSet as set
-use Rattle.std.specs.Ordering.{nat_cmp}
 use Rattle.gb_detect.specs.Watch.{Watch, AreNoticed}
 use Rattle.gb_detect.proofs.ReplayLemmas.{stands-noticed}
 use Rattle.gb_detect.proofs.detector.Detector.noticed.Goals as goal

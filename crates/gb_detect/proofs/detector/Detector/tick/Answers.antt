@@ -1,6 +1,5 @@
-use Rattle.std.proofs.Common.{◌+◌, min, map, ap, sym, subst, ◌∷◌}
+use Rattle.gb_types.specs.Common.{◌+◌, min, map, ap, sym, subst, ◌∷◌, nat_cmp}
 use Rattle.std.specs.FinSet as set
-use Rattle.std.specs.Ordering.{nat_cmp}
 use Rattle.gb_detect.specs.Silence.{Tick}
 use Rattle.gb_detect.specs.Watch.{Watch, nodes_where, is_due, StandsFor}
 use Rattle.gb_detect.proofs.SetLemmas.{nodes_where-union, nodes_where-grown}

@@ -1,5 +1,5 @@
-use Rattle.std.proofs.Common.{◌∙◌, length, ap, sym, subst, arith}
-use Rattle.gb_layer.specs.PairedLemmas.{paired_nothing}
+use Rattle.gb_types.specs.Common.{◌∙◌, length, ap, sym, subst, arith}
+use Rattle.gb_layer.specs.Common.{paired_nothing}
 use Rattle.gb_fifo.specs.Marks.{entry_of, marked, AreCounted}
 use Rattle.gb_fifo.proofs.fifo.Fifo.new.Goals as goal
 

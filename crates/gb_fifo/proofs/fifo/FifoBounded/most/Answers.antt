@@ -1,5 +1,5 @@
-use Rattle.std.proofs.Common.{arith}
-use Rattle.gb_layer.specs.PairedLemmas.{length-paired}
+use Rattle.gb_types.specs.Common.{arith}
+use Rattle.gb_layer.specs.Common.{length-paired}
 use Rattle.gb_fifo.specs.Marks.{entry_of, marked}
 use Rattle.gb_fifo.proofs.FifoBoundLemmas.{fifo_ups_few}
 use Rattle.gb_fifo.proofs.fifo.FifoBounded.most.Goals as goal

@@ -1,7 +1,5 @@
-use Rattle.std.proofs.Common.{◌≡◌, ◌∙◌, length, ap, sym, subst, arith}
-use Rattle.gb_layer.specs.Machine.{Gives}
-use Rattle.gb_layer.specs.PlacedCalls.{told, told_after}
-use Rattle.gb_layer.specs.Sinks.{folded}
+use Rattle.gb_types.specs.Common.{◌≡◌, ◌∙◌, length, ap, sym, subst, arith}
+use Rattle.gb_layer.specs.Common.{Gives, told, told_after, folded}
 use Rattle.gb_fifo.specs.Entries.{noted_by, taken, taken_ups}
 use Rattle.gb_fifo.specs.Marks.{marked}
 use Rattle.gb_fifo.proofs.FifoKnowsLemmas.{told_most, told_few, noted_counted}

@@ -1,4 +1,4 @@
-use Rattle.std.proofs.lemmas.List.{get_or-replicate}
+use Rattle.gb_types.specs.Common.{get_or-replicate}
 use Rattle.gb_types.specs.declared.limits.TheConstants.{NODES}
 use Rattle.gb_fifo.proofs.marks.Marks.new.Goals as goal
 

@@ -1,5 +1,5 @@
-use Rattle.std.proofs.Common.{◌∷◌, []}
-use Rattle.gb_layer.specs.PlacedCalls.{message_at}
+use Rattle.gb_types.specs.Common.{◌∷◌, []}
+use Rattle.gb_layer.specs.Common.{message_at}
 use Rattle.gb_fifo.proofs.ordered.OrderedSink.send.Goals as goal
 
 pub send-requires-clause-room : goal.send-requires-clause-room

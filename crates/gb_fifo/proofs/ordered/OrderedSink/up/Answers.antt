@@ -1,7 +1,6 @@
-use Rattle.std.proofs.Common.{◌≡◌, ◌∙◌, [], List, sym, subst, arith}
-use Rattle.std.proofs.lemmas.List.{append-nil}
+use Rattle.gb_types.specs.Common.{◌≡◌, ◌∙◌, [], List, sym, subst, arith, append-nil}
 use Rattle.gb_layer.specs.declared.effects.Up.{Up}
-use Rattle.gb_layer.specs.PlacedCalls.{message_at}
+use Rattle.gb_layer.specs.Common.{message_at}
 use Rattle.gb_fifo.specs.Entries.{taken_one_ups}
 use Rattle.gb_fifo.specs.Marks.{marked}
 use Rattle.gb_fifo.specs.Ordered.{are_sound, sound_from, sound_within, sound_counted, HasRoomFor}

@@ -1,4 +1,4 @@
-use Rattle.std.proofs.Common.{◌<◌, List, length, sym, subst, ◌∙◌, arith}
+use Rattle.gb_types.specs.Common.{◌<◌, List, length, sym, subst, ◌∙◌, arith}
 use Rattle.gb_frame.specs.declared.item.Item.{Item}
 use Rattle.gb_frame.specs.Batch.{batch_in}
 use Rattle.gb_frame.proofs.BatchLemmas.{none_first, one_first}

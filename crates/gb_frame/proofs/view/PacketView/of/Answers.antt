@@ -1,4 +1,4 @@
-use Rattle.gb_types.specs.Version.{limits_are_within}
+use Rattle.gb_types.specs.Common.{limits_are_within}
 use Rattle.gb_frame.specs.Reading.{version_read}
 use Rattle.gb_frame.specs.Fields.{from_in, to_in, base_in, mask_in, frame_in}
 use Rattle.gb_frame.proofs.ItemLemmas.{items_under_greater}

@@ -1,5 +1,4 @@
-use Rattle.std.proofs.Common.{rules, ◌≡◌, ◌++◌, [], ◌∷◌, subst}
-use Rattle.std.specs.Prelude.{IfNone, IfOk, IfSome}
+use Rattle.gb_types.specs.Common.{rules, ◌≡◌, ◌++◌, [], ◌∷◌, subst, IfNone, IfOk, IfSome}
 use Rattle.gb_types.proofs.SameLemmas.{same_number}
 use Rattle.gb_types.specs.declared.node.NodeId.{NodeId}
 use Rattle.gb_host.specs.Happened.{GoesOn}

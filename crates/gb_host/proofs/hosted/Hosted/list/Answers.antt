@@ -1,6 +1,6 @@
-use Rattle.std.proofs.Common.{rules, ◌≡◌, subst}
+use Rattle.gb_types.specs.Common.{rules, ◌≡◌, subst}
 use Rattle.gb_types.specs.declared.node.NodeId.{NodeId}
-use Rattle.gb_node.specs.Past.{ComesTo}
+use Rattle.gb_node.specs.Common.{ComesTo}
 use Rattle.gb_host.specs.Plans.{plan_of}
 use Rattle.gb_host.specs.Replay.{past_of}
 use Rattle.gb_host.proofs.hosted.Hosted.list.Goals as goal

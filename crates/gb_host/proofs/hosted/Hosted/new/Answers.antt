@@ -1,4 +1,4 @@
-use Rattle.std.proofs.Common.{rules, ◌<◌, subst}
+use Rattle.gb_types.specs.Common.{rules, ◌<◌, subst}
 use Rattle.gb_host.specs.KeptPast.{IsKeptAt}
 use Rattle.gb_host.specs.Plans.{IsPlan}
 use Rattle.gb_host.specs.declared.plan.HostPlan.{HostPlan}

@@ -1,4 +1,4 @@
-use Rattle.std.proofs.Common.{arith, ◌≡◌, true, ◌+◌, ◌<◌, ◌++◌, List, [], ◌∷◌, ◌∙◌, ap, length, refl, sym, subst, get_or, set}
+use Rattle.gb_types.specs.Common.{arith, ◌≡◌, true, ◌+◌, ◌<◌, ◌++◌, List, [], ◌∷◌, ◌∙◌, ap, length, refl, sym, subst, get_or, set}
 use Rattle.gb_past.specs.Story.{Known}
 use Rattle.gb_types.proofs.BoolLemmas.{and_right}
 use Rattle.gb_node.specs.declared.tape.TapeEntry.{TapeEntry}
@@ -7,15 +7,13 @@ use Rattle.gb_host.specs.Fits.{HostedFits}
 use Rattle.gb_host.specs.Happened.{GoesOn}
 use Rattle.gb_host.specs.HostedValue.{HostedValue}
 use Rattle.gb_host.specs.KeptPast.{kept_entries, way_of, IsKeptAt}
-use Rattle.gb_node.specs.Past.{ComesTo}
+use Rattle.gb_node.specs.Common.{ComesTo}
 use Rattle.gb_host.specs.Nothing.{gives_nothing, GaveNothing, GivesNothing}
 use Rattle.gb_host.specs.Pasts.{no_book, seen_at}
 use Rattle.gb_host.specs.Plans.{plan_of}
 use Rattle.gb_host.specs.Replay.{past_of}
 use Rattle.gb_host.specs.SeatValue.{SeatValue}
-use Rattle.gb_host.specs.declared.entry.SeatEntry.{SeatEntry}
-use Rattle.gb_host.specs.declared.copies.Way.{Way}
-use Rattle.gb_host.specs.declared.plan.HostPlan.{HostPlan}
+use Rattle.gb_host.specs.declared.{entry.SeatEntry.SeatEntry, copies.Way.Way, plan.HostPlan.HostPlan}
 use Rattle.gb_host.proofs.KeptLemmas.{are_for, list_kept, noted, same_way, tape_kept}
 use Rattle.gb_host.proofs.ReplayLemmas.{any_default, goes_on, hosted_fits_more, seat_fits_more, NotedMore}
 use Rattle.gb_host.proofs.RingLemmas.{past_more}

@@ -1,4 +1,4 @@
-use Rattle.std.proofs.Common.{◌≡◌}
+use Rattle.gb_types.specs.Common.{◌≡◌}
 use Rattle.gb_host.proofs.outlet.Outlet.wait_for_room.Given as goal
 
 abbrev pub invariant-loop : goal.invariant-loop

@@ -1,4 +1,4 @@
-use Rattle.std.proofs.Common.{subst}
+use Rattle.gb_types.specs.Common.{subst}
 use Rattle.gb_host.specs.Happened.{HaveHappened}
 use Rattle.gb_host.specs.SeatValue.{SeatValue}
 use Rattle.gb_host.proofs.seat.Seat.have_happened.Goals as goal

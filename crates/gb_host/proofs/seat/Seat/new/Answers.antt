@@ -1,4 +1,4 @@
-use Rattle.std.proofs.Common.{arith, refl}
+use Rattle.gb_types.specs.Common.{arith, refl}
 use Rattle.gb_host.proofs.ReplayLemmas.{seat_fits_new}
 use Rattle.gb_host.proofs.seat.Seat.new.Goals as goal
 

@@ -1,4 +1,4 @@
-use Rattle.std.proofs.Common.{[], ◌∷◌, subst}
+use Rattle.gb_types.specs.Common.{[], ◌∷◌, subst}
 use Rattle.gb_layer.specs.BebMachine.{beb_gives}
 use Rattle.gb_layer.specs.declared.placed_call.PlacedCall.{PlacedCall}
 use Rattle.gb_layer.specs.PlacedCalls.{message_at, told}

@@ -1,4 +1,4 @@
-use Rattle.std.proofs.Common.{arith}
+use Rattle.gb_types.specs.Common.{arith}
 use Rattle.gb_layer.specs.Own.{fewer_own}
 use Rattle.gb_layer.proofs.direct.DirectBounded.most.Goals as goal
 

@@ -1,4 +1,4 @@
-use Rattle.std.proofs.Common.{arith}
+use Rattle.gb_types.specs.Common.{arith}
 use Rattle.gb_layer.proofs.LastLemmas.{none_above}
 use Rattle.gb_layer.proofs.index.Index.find.Goals as goal
 

@@ -1,4 +1,4 @@
-use Rattle.std.proofs.Common.{◌<◌, length, sym, ◌∙◌, arith}
+use Rattle.gb_types.specs.Common.{◌<◌, length, sym, ◌∙◌, arith}
 use Rattle.gb_types.proofs.SameLemmas.{same-true}
 use Rattle.gb_layer.specs.PlacedCalls.{message_at}
 use Rattle.gb_layer.proofs.IndexLemmas.{none_found}

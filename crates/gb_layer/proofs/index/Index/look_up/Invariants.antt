@@ -1,5 +1,4 @@
-use Rattle.std.proofs.Common.{◌≡◌, ◌<◌, ◌≤◌, ℕ, false}
-use Rattle.gb_types.specs.Message.{same}
+use Rattle.gb_types.specs.Common.{◌≡◌, ◌<◌, ◌≤◌, ℕ, false, same}
 use Rattle.gb_layer.specs.PlacedCalls.{message_at}
 use Rattle.gb_layer.proofs.index.Index.look_up.Given as goal
 

@@ -1,5 +1,4 @@
-use Rattle.std.proofs.Common.{ap, sym, ◌∙◌}
-use Rattle.std.proofs.lemmas.List.{get_or-replicate}
+use Rattle.gb_types.specs.Common.{ap, sym, ◌∙◌, get_or-replicate}
 use Rattle.gb_types.specs.declared.limits.TheConstants.{NODES}
 use Rattle.gb_layer.specs.Last.{last_of}
 use Rattle.gb_layer.proofs.index.Index.new.Goals as goal

@@ -1,5 +1,4 @@
-use Rattle.std.proofs.Common.{◌≡◌, ◌≤◌, ◌<◌, max, sym, ◌+◌, ◌++◌, ◌∷◌, [], length, ap, ◌∙◌, arith}
-use Rattle.std.proofs.lemmas.List.{length_push}
+use Rattle.gb_types.specs.Common.{◌≡◌, ◌≤◌, ◌<◌, max, sym, ◌+◌, ◌++◌, ◌∷◌, [], length, ap, ◌∙◌, arith, length_push}
 use Rattle.gb_types.specs.declared.limits.TheConstants.{NODES}
 use Rattle.gb_layer.specs.Table.{leads}
 use Rattle.gb_layer.specs.PlacedCalls.{all_differ}

@@ -1,6 +1,5 @@
-use Rattle.std.proofs.Common.{◌≡◌, ◌∙◌, List, length, ap, sym, subst, arith}
-use Rattle.gb_layer.specs.declared.call.Call.TheVariants.{Came}
-use Rattle.gb_layer.specs.declared.entries.Entry.{Entry}
+use Rattle.gb_types.specs.Common.{◌≡◌, ◌∙◌, List, length, ap, sym, subst, arith}
+use Rattle.gb_layer.specs.declared.{call.Call.TheVariants.Came, entries.Entry.Entry}
 use Rattle.gb_layer.specs.Relay.{taken_in, noting, call_below}
 use Rattle.gb_layer.specs.Due.{OnlyDueAt}
 use Rattle.gb_layer.specs.PlacedCalls.{message_at}

@@ -1,4 +1,4 @@
-use Rattle.std.proofs.Common.{◌≡◌, length, arith}
+use Rattle.gb_types.specs.Common.{◌≡◌, length, arith}
 use Rattle.gb_layer.proofs.KnowsLemmas.{knows_kept}
 use Rattle.gb_layer.proofs.relay.Relay.begin_notice.Goals as goal
 

@@ -1,9 +1,7 @@
-use Rattle.std.proofs.Common.{◌≡◌, ℕ, ◌<◌, ◌++◌, ◌∷◌, ◌∙◌, [], Bool, true, List, cond, length, map, ap, sym, subst, arith}
-use Rattle.gb_layer.specs.declared.entries.Entry.{Entry}
+use Rattle.gb_types.specs.Common.{◌≡◌, ℕ, ◌<◌, ◌++◌, ◌∷◌, ◌∙◌, [], Bool, true, List, cond, length, map, ap, sym, subst, arith}
+use Rattle.gb_layer.specs.declared.{entries.Entry.Entry, call.Call.TheVariants.Say, column.Held.Held}
 use Rattle.gb_layer.specs.EntryLemmas.{sent_noted, sent_has}
 use Rattle.gb_layer.specs.Relay.{new_entry, is_sent, marked_sent, taken_in, noting, relay}
-use Rattle.gb_layer.specs.declared.call.Call.TheVariants.{Say}
-use Rattle.gb_layer.specs.declared.column.Held.{Held}
 use Rattle.gb_layer.specs.Due.{OnlyDueAt}
 use Rattle.gb_layer.specs.PlacedCalls.{message_at}
 use Rattle.gb_layer.specs.Column.{zipped}

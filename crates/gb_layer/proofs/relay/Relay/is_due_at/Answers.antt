@@ -1,5 +1,4 @@
-use Rattle.std.proofs.Common.{◌≡◌, ◌∙◌, Bool, cond, get_or, ap, sym}
-use Rattle.std.specs.declared.option.Option.TheVariants.{None, Some}
+use Rattle.gb_types.specs.Common.{◌≡◌, ◌∙◌, Bool, cond, get_or, ap, sym, None, Some}
 use Rattle.gb_layer.specs.Relay.{due_message, due_to_relay}
 use Rattle.gb_layer.specs.PlacedCalls.{message_at}
 use Rattle.gb_layer.specs.Column.{entry_of}

@@ -1,4 +1,4 @@
-use Rattle.std.proofs.Common.{rules, ◌≡◌, ◌∙◌, ℕ, length, ap, sym, subst, arith}
+use Rattle.gb_types.specs.Common.{rules, ◌≡◌, ◌∙◌, ℕ, length, ap, sym, subst, arith}
 use Rattle.gb_layer.specs.Pending.{is_pending}
 use Rattle.gb_layer.specs.Column.{zipped, zipped_nothing}
 use Rattle.gb_layer.proofs.SettleLemmas.{none_there}

@@ -1,5 +1,4 @@
-use Rattle.std.proofs.Common.{◌≡◌, ℕ, ◌+◌, ◌-◌, ◌∙◌, fold, slice_get, length, refl, ap, sym, subst, arith, suc}
-use Rattle.std.proofs.lemmas.List.Sums.{fold-append}
+use Rattle.gb_types.specs.Common.{◌≡◌, ℕ, ◌+◌, ◌-◌, ◌∙◌, fold, slice_get, length, refl, ap, sym, subst, arith, suc, fold-append}
 use Rattle.gb_layer.specs.Relay.{State, relay_if, relay_if_sends, relay_from, relay_from_sends}
 use Rattle.gb_layer.specs.Sinks.{sends_alone}
 use Rattle.gb_layer.specs.RelayColumn.{state_of}

@@ -1,9 +1,6 @@
-use Rattle.std.proofs.Common.{◌≡◌, ℕ, ◌∙◌, Bool, List, cond, fold, slice_get, length, ap, sym, subst, arith}
-use Rattle.std.specs.declared.option.Option.{Option}
-use Rattle.std.specs.declared.option.Option.TheVariants.{None, Some}
+use Rattle.gb_types.specs.Common.{◌≡◌, ℕ, ◌∙◌, Bool, List, cond, fold, slice_get, length, ap, sym, subst, arith, Option, None, Some}
 use Rattle.gb_types.specs.declared.message.MsgId.{MsgId}
-use Rattle.gb_layer.specs.declared.entries.Entry.{Entry}
-use Rattle.gb_layer.specs.declared.call.Call.TheVariants.{Say}
+use Rattle.gb_layer.specs.declared.{entries.Entry.Entry, call.Call.TheVariants.Say}
 use Rattle.gb_layer.specs.Relay.{due_message, relay_any, relay_any_sends, taken_in}
 use Rattle.gb_layer.specs.PlacedCalls.{message_at}
 use Rattle.gb_layer.specs.Sinks.{sends_alone}

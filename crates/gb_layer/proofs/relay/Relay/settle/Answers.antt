@@ -1,5 +1,4 @@
-use Rattle.std.proofs.Common.{◌<◌, ◌∙◌, List, slice_get, fold, length, ap, sym, subst, arith}
-use Rattle.std.proofs.lemmas.List.{append-nil}
+use Rattle.gb_types.specs.Common.{◌<◌, ◌∙◌, List, slice_get, fold, length, ap, sym, subst, arith, append-nil}
 use Rattle.gb_types.specs.declared.message.MsgId.{MsgId}
 use Rattle.gb_layer.specs.declared.effects.Up.{Up}
 use Rattle.gb_layer.specs.Relay.{State, given, given_ups, relay_if_sends, relayed}

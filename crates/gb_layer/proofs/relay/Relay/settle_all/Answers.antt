@@ -1,7 +1,5 @@
-use Rattle.std.proofs.Common.{◌∙◌, List, map, filter, fold, ap, sym, subst, arith}
-use Rattle.std.proofs.lemmas.List.{append-nil}
-use Rattle.gb_types.specs.declared.message.MsgId.{MsgId}
-use Rattle.gb_types.specs.declared.node.NodeId.{NodeId}
+use Rattle.gb_types.specs.Common.{◌∙◌, List, map, filter, fold, ap, sym, subst, arith, append-nil}
+use Rattle.gb_types.specs.declared.{message.MsgId.MsgId, node.NodeId.NodeId}
 use Rattle.gb_layer.specs.Relay.{State, due_to_deliver, handed, up_of, given, given_ups, relayed, relayed_sends}
 use Rattle.gb_layer.specs.Sinks.{ups_alone}
 use Rattle.gb_layer.specs.Column.{zipped}

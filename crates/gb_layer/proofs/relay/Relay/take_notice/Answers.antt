@@ -1,4 +1,4 @@
-use Rattle.std.proofs.Common.{◌≡◌, ◌++◌, ◌∙◌, Bool, false, cond, sym, subst}
+use Rattle.gb_types.specs.Common.{◌≡◌, ◌++◌, ◌∙◌, Bool, false, cond, sym, subst}
 use Rattle.gb_layer.specs.declared.call.Call.TheVariants.{Notice}
 use Rattle.gb_layer.specs.Machine.{nothing}
 use Rattle.gb_layer.specs.Relay.{is_repeat, begun, begun_sends, relayed, relayed_sends, given_ups}

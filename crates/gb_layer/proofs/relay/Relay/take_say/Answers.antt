@@ -1,4 +1,4 @@
-use Rattle.std.proofs.Common.{ℕ, ◌∙◌, length, ap, sym, subst, arith}
+use Rattle.gb_types.specs.Common.{ℕ, ◌∙◌, length, ap, sym, subst, arith}
 use Rattle.gb_layer.specs.Relay.{begun, begun_sends, relayed, relayed_sends, given_ups}
 use Rattle.gb_layer.specs.declared.placed_call.PlacedCall.TheVariants.{Say}
 use Rattle.gb_layer.specs.Due.{NothingIsDue, OnlyDueAt}

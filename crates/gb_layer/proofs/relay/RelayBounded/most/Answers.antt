@@ -1,4 +1,4 @@
-use Rattle.std.proofs.Common.{arith}
+use Rattle.gb_types.specs.Common.{arith}
 use Rattle.gb_layer.specs.RelayColumn.{state_of}
 use Rattle.gb_layer.proofs.ColumnLemmas.{length-zipped}
 use Rattle.gb_layer.proofs.BoundLemmas.{relay_sends_few, relay_ups_few}

@@ -1,4 +1,4 @@
-use Rattle.std.proofs.Common.{◌+◌, ◌++◌, ◌∷◌, [], arith}
+use Rattle.gb_types.specs.Common.{◌+◌, ◌++◌, ◌∷◌, [], arith}
 use Rattle.gb_layer.proofs.TableLemmas.{leads_said, leads_nothing, leads_unsaid}
 use Rattle.gb_layer.proofs.table.Table.note.Goals as goal
 

@@ -1,4 +1,4 @@
-use Rattle.std.proofs.Common.{sym, arith}
+use Rattle.gb_types.specs.Common.{sym, arith}
 use Rattle.gb_layer.proofs.TableLemmas.{stands_there}
 use Rattle.gb_layer.proofs.PlacesLemmas.{get_within}
 use Rattle.gb_layer.proofs.table.Table.places.Goals as goal

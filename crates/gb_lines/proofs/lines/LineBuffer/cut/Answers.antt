@@ -1,5 +1,4 @@
-use Rattle.std.proofs.Common.{◌≡◌, ◌-◌, length, arith}
-use Rattle.std.specs.List.{between}
+use Rattle.gb_types.specs.Common.{◌≡◌, ◌-◌, length, arith, between}
 use Rattle.std.proofs.lemmas.List.Edits.{between_none, length-between}
 use Rattle.gb_lines.proofs.CutLemmas.{NoLineFeed-join, IsLine-between, cuts_here, cuts_last, too_long_here}
 use Rattle.gb_lines.proofs.lines.LineBuffer.cut.Goals as goal

@@ -1,6 +1,4 @@
-use Rattle.std.proofs.lemmas.Grind.{common_steps}
-use Rattle.std.proofs.Common.{◌≡◌, ◌-◌, take, length, ◌∙◌, ap, false, arith}
-use Rattle.std.specs.List.{copy_within}
+use Rattle.gb_types.specs.Common.{common_steps, ◌≡◌, ◌-◌, take, length, ◌∙◌, ap, false, arith, copy_within}
 use Rattle.gb_lines.proofs.CutLemmas.{read_behind_in}
 use Rattle.gb_lines.proofs.LeftLemmas.{left_read}
 use Rattle.gb_lines.proofs.lines.LineBuffer.fill.Goals as goal

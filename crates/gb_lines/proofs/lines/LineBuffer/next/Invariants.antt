@@ -1,4 +1,4 @@
-use Rattle.std.proofs.Common.{◌≤◌, ◌-◌}
+use Rattle.gb_types.specs.Common.{◌≤◌, ◌-◌}
 use Rattle.std.specs.Io.KnownBytes.{Keeps}
 use Rattle.gb_lines.specs.Buffered.{left}
 use Rattle.gb_lines.proofs.lines.LineBuffer.next.Given as goal

@@ -1,8 +1,5 @@
-use Rattle.std.proofs.lemmas.Grind.{common_steps}
-use Rattle.std.proofs.Common.{◌≡◌, ◌-◌, length, refl, arith}
-use Rattle.std.proofs.lemmas.Bool.{false≢true}
+use Rattle.gb_types.specs.Common.{common_steps, ◌≡◌, ◌-◌, length, refl, arith, false≢true, between}
 use Rattle.std.proofs.lemmas.List.Edits.{length-between}
-use Rattle.std.specs.List.{between}
 use Rattle.gb_lines.proofs.CutLemmas.{NoLineFeed-join, IsLine-between, no_place_within}
 use Rattle.gb_lines.proofs.lines.LineBuffer.wants_read.Goals as goal
 

@@ -1,4 +1,4 @@
-use Rattle.std.proofs.Common.{sym}
+use Rattle.gb_types.specs.Common.{sym}
 use Rattle.gb_link.proofs.ReceivedLemmas.{base_of_covered, mask_of_covered, contains-covered}
 use Rattle.gb_link.proofs.receiver.Receiver.ack.Goals as goal
 

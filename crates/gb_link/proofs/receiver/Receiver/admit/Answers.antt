@@ -1,4 +1,4 @@
-use Rattle.std.proofs.Common.{◌∙◌, sym, ap, arith}
+use Rattle.gb_types.specs.Common.{◌∙◌, sym, ap, arith}
 use Rattle.std.specs.FinSet as set
 use Rattle.gb_link.proofs.ReceivedLemmas.{admission_seen, admission_outside, admission_first, covered_first, first_in_range}
 use Rattle.gb_link.proofs.receiver.Receiver.admit.Goals as goal

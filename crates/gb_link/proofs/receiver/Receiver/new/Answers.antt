@@ -1,4 +1,4 @@
-use Rattle.std.proofs.Common.{arith}
+use Rattle.gb_types.specs.Common.{arith}
 use Rattle.gb_link.proofs.ReceivedLemmas.{covered_none, IsReceiver-clear}
 use Rattle.gb_link.proofs.receiver.Receiver.new.Goals as goal
 

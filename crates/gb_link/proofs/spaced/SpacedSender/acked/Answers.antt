@@ -1,4 +1,4 @@
-use Rattle.std.proofs.Common.{arith}
+use Rattle.gb_types.specs.Common.{arith}
 use Rattle.gb_link.specs.Ack.{covers}
 use Rattle.gb_link.proofs.WindowLemmas.{IsWindow-acknowledged, ascending-filter, filter_first}
 use Rattle.gb_link.proofs.spaced.SpacedSender.acked.Goals as goal

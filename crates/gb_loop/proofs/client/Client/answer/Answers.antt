@@ -1,4 +1,4 @@
-use Rattle.std.proofs.Common.{◌++◌, ap, sym, ◌∙◌, subst}
+use Rattle.gb_types.specs.Common.{◌++◌, ap, sym, ◌∙◌, subst}
 use Rattle.gb_session.proofs.WholeLemmas.{fails_in_turn, in_turn_asked}
 use Rattle.gb_loop.specs.Turned.{HasSent}
 use Rattle.gb_loop.proofs.AskedLemmas.{took_asked}

@@ -1,4 +1,4 @@
-use Rattle.std.proofs.Common.{rules, refl, inl}
+use Rattle.gb_types.specs.Common.{rules, refl, inl}
 use Rattle.gb_session.proofs.NextLemmas.{asked_none}
 use Rattle.gb_loop.proofs.client.Client.turn.Goals as goal
 

@@ -1,4 +1,4 @@
-use Rattle.std.proofs.Common.{refl}
+use Rattle.gb_types.specs.Common.{refl}
 use Rattle.gb_worker.proofs.CarryLemmas.{carried_in, carried_nothing}
 use Rattle.gb_loop.proofs.MailLemmas.{called_more, mailed_more}
 use Rattle.gb_loop.proofs.mail.Mail.receive.Goals as goal

@@ -1,4 +1,4 @@
-use Rattle.std.proofs.Common.{refl}
+use Rattle.gb_types.specs.Common.{refl}
 use Rattle.gb_node.specs.declared.event.NodeEvent.TheVariants as events
 use Rattle.gb_loop.proofs.MailLemmas.{called_more, mailed_more, quiet_call}
 use Rattle.gb_loop.proofs.mail.Mail.tick.Goals as goal

@@ -1,5 +1,5 @@
-use Rattle.std.proofs.Common.{refl, subst, sym}
-use Rattle.gb_host.specs.SeatValue.{SeatValue}
+use Rattle.gb_types.specs.Common.{refl, subst, sym}
+use Rattle.gb_host.specs.Common.{SeatValue}
 use Rattle.gb_worker.specs.Asked.{AnswersAt}
 use Rattle.gb_worker.proofs.CallLemmas.{told}
 use Rattle.gb_node.specs.declared.event.NodeEvent.TheVariants as events

@@ -1,4 +1,4 @@
-use Rattle.std.proofs.Common.{◌≡◌}
+use Rattle.gb_types.specs.Common.{◌≡◌}
 use Rattle.gb_loop.proofs.node_loop.NodeLoop.pack.Given as goal
 
 abbrev pub invariant-frames : goal.invariant-frames

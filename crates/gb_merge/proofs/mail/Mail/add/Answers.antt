@@ -1,5 +1,4 @@
-use Rattle.std.proofs.Common.{arith, ◌≡◌, ◌∷◌, ◌++◌, [], ℕ, List, length, map, Bor, ◌∙◌, ap}
-use Rattle.std.proofs.lemmas.List.{map-append, length-map}
+use Rattle.gb_types.specs.Common.{arith, ◌≡◌, ◌∷◌, ◌++◌, [], ℕ, List, length, map, Bor, ◌∙◌, ap, map-append, length-map}
 use Rattle.gb_merge.proofs.MailLemmas.{noted}
 use Rattle.gb_merge.proofs.mail.Mail.add.Goals as goal
 

@@ -1,7 +1,5 @@
-use Rattle.std.proofs.Common.{◌≡◌, ℕ, ◌<◌, List, [], length, map, Some, Bor, sym, ◌∙◌, arith}
-use Rattle.std.specs.Prelude.{position}
+use Rattle.gb_types.specs.Common.{◌≡◌, ℕ, ◌<◌, List, [], length, map, Some, Bor, sym, ◌∙◌, arith, position, length-map}
 use Rattle.std.specs.Str.{bytes_eq}
-use Rattle.std.proofs.lemmas.List.{length-map}
 use Rattle.std.proofs.lemmas.List.Quantifiers.{position-Some}
 use Rattle.gb_merge.proofs.mail.Mail.number.Goals as goal
 

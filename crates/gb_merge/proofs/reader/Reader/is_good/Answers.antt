@@ -1,7 +1,5 @@
-use Rattle.std.proofs.Common.{◌≡◌, ◌∙◌, sym, ap, true, false, Bool, eq-eqb}
-use Rattle.std.specs.Prelude.{nat_eq, nat_lt, ◌&&◌, Ok}
-use Rattle.std.proofs.lemmas.Bool.{ne_eqb}
-use Rattle.gb_frame.specs.Packet.{Content}
+use Rattle.gb_types.specs.Common.{◌≡◌, ◌∙◌, sym, ap, true, false, Bool, eq-eqb, nat_eq, nat_lt, ◌&&◌, Ok, ne_eqb}
+use Rattle.gb_frame.specs.Common.{Content}
 use Rattle.gb_types.specs.declared.plan.Plan.{Plan}
 use Rattle.gb_merge.specs.Interleaving.{is_good}
 use Rattle.gb_merge.proofs.CodeLemmas.{good_reads}

@@ -1,5 +1,4 @@
-use Rattle.std.proofs.Common.{◌≡◌, List, [], ◌∷◌, subst}
-use Rattle.std.specs.Prelude.{MatchOption}
+use Rattle.gb_types.specs.Common.{◌≡◌, List, [], ◌∷◌, subst, MatchOption}
 use Rattle.gb_node.specs.declared.tape.TapeEntry.{TapeEntry}
 use Rattle.gb_merge.proofs.FedLemmas.{first_kept}
 use Rattle.gb_merge.proofs.rest.Rest.first.Goals as goal

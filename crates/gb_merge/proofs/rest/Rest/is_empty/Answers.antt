@@ -1,4 +1,4 @@
-use Rattle.std.proofs.Common.{sym, ◌∙◌}
+use Rattle.gb_types.specs.Common.{sym, ◌∙◌}
 use Rattle.gb_merge.proofs.FedLemmas.{empty_kept}
 use Rattle.gb_merge.proofs.rest.Rest.is_empty.Goals as goal
 

@@ -1,4 +1,4 @@
-use Rattle.std.proofs.Common.{◌∷◌, sym, ◌∙◌, ap, subst}
+use Rattle.gb_types.specs.Common.{◌∷◌, sym, ◌∙◌, ap, subst}
 use Rattle.gb_merge.specs.Fed.{kept, IsReady}
 use Rattle.gb_merge.proofs.FedLemmas.{kept-some, kept-short}
 use Rattle.gb_merge.proofs.rest.Rest.take.Goals as goal

@@ -1,7 +1,5 @@
-use Rattle.std.specs.Prelude.{OnOk}
-use Rattle.std.proofs.Common.{subst}
-use Rattle.gb_frame.specs.Spelling.{IsPacket}
-use Rattle.std.proofs.Common.{[], ap}
+use Rattle.gb_types.specs.Common.{OnOk, subst, [], ap}
+use Rattle.gb_frame.specs.Common.{IsPacket}
 use Rattle.gb_node.specs.NodeValue.{NodeValue}
 use Rattle.gb_node.proofs.NodeLemmas.{written_if}
 use Rattle.gb_node.proofs.node.Node.acknowledgement.Goals as goal

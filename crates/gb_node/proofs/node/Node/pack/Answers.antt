@@ -1,5 +1,5 @@
-use Rattle.std.proofs.Common.{◌≡◌, ◌<◌, true, false, rules, arith}
-use Rattle.gb_link.specs.SendWindow.{has_room}
+use Rattle.gb_types.specs.Common.{◌≡◌, ◌<◌, true, false, rules}
+use Rattle.gb_link.specs.Common.{has_room}
 use Rattle.gb_node.specs.NodeStep.{is_reached, window_to}
 use Rattle.gb_node.proofs.TurnLemmas.{packs}
 use Rattle.gb_node.proofs.node.Node.pack.Goals as goal

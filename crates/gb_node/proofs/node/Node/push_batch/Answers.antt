@@ -1,8 +1,7 @@
-use Rattle.std.proofs.Common.{rules, ◌≡◌, ◌<◌, ◌∙◌, ap, sym, length, get_or}
-use Rattle.std.proofs.Math.ListN.{set}
-use Rattle.gb_link.specs.SendWindow.{new_window}
+use Rattle.gb_types.specs.Common.{rules, ◌≡◌, ◌<◌, ◌∙◌, ap, sym, length, get_or, set}
+use Rattle.gb_link.specs.Common.{new_window}
 use Rattle.gb_node.specs.Frames.{windows_of}
-use Rattle.gb_table.specs.TableValue.{table_packed}
+use Rattle.gb_table.specs.Common.{table_packed}
 use Rattle.gb_node.specs.NodeStep.{batch_to, room_to}
 use Rattle.gb_node.specs.contracts.node.Node.{the_view}
 use Rattle.gb_node.proofs.WindowLemmas.{window_at, written_at, pushed_at, frame_at, on_both}

@@ -1,6 +1,5 @@
-use Rattle.std.proofs.Common.{◌≡◌, true, Ok, sym, ap, subst, ◌∙◌}
-use Rattle.std.specs.Prelude.{is_ok}
-use Rattle.gb_frame.specs.Reading.{reading}
+use Rattle.gb_types.specs.Common.{◌≡◌, true, Ok, sym, ap, subst, ◌∙◌, is_ok}
+use Rattle.gb_frame.specs.Common.{reading}
 use Rattle.gb_node.specs.NodeStep.{read_at}
 use Rattle.gb_node.specs.contracts.node.Node.{the_view}
 use Rattle.gb_node.proofs.KnownLemmas.{known_reads, known_here}

@@ -1,7 +1,5 @@
-use Rattle.std.proofs.Common.{length, ap, sym, ◌∙◌}
-use Rattle.std.proofs.lemmas.List.{length-map}
-use Rattle.gb_table.specs.GroupsValue.{batch}
-use Rattle.gb_table.specs.Packing.{item_at}
+use Rattle.gb_types.specs.Common.{length, ap, sym, ◌∙◌, length-map}
+use Rattle.gb_table.specs.Common.{batch, item_at}
 use Rattle.gb_node.specs.Frames.{items_of_frame}
 use Rattle.gb_node.proofs.node.Node.send_batch.Goals as goal
 

@@ -1,8 +1,6 @@
-use Rattle.std.proofs.Common.{rules, ◌<◌, ◌∙◌, ap, length, get_or}
+use Rattle.gb_types.specs.Common.{rules, ◌<◌, ◌∙◌, ap, length, get_or, fold, get_or_default, map-set}
 use Rattle.std.specs.FinSet as set
-use Rattle.std.specs.Prelude.{fold}
-use Rattle.std.proofs.lemmas.List.{get_or_default, map-set}
-use Rattle.gb_link.specs.SendWindow.{new_window, freed}
+use Rattle.gb_link.specs.Common.{new_window, freed}
 use Rattle.gb_node.specs.Frames.{FrameWindow, new_frames, windows_of}
 use Rattle.gb_node.specs.NodeStep.{fate, new_items, without_done, frame_done, frame_comes, receives}
 use Rattle.gb_node.specs.contracts.node.Node.{the_view}

@@ -1,5 +1,5 @@
 -- Notices change neither the node's version nor its frames.
-use Rattle.gb_types.specs.Rising.{rising}
+use Rattle.gb_types.specs.Common.{rising}
 use Rattle.gb_node.proofs.VersionLemmas.{noticed_keeps}
 use Rattle.gb_node.proofs.node.Node.tick.Goals as goal
 

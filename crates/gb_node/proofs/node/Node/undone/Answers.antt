@@ -1,7 +1,6 @@
 -- A frame that was not acknowledged is of the node's version, and fits a packet of it.
-use Rattle.std.proofs.Common.{◌≡◌, ◌∙◌, ◌<◌, ap, length, get_or, rules, subst, sym}
-use Rattle.std.proofs.lemmas.List.{get_or_default}
-use Rattle.gb_link.specs.SendWindow.{new_window}
+use Rattle.gb_types.specs.Common.{◌≡◌, ◌∙◌, ◌<◌, ap, length, get_or, rules, subst, sym, get_or_default}
+use Rattle.gb_link.specs.Common.{new_window}
 use Rattle.gb_node.specs.Frames.{new_frames, windows_of, IsOfVersion}
 use Rattle.gb_node.proofs.VersionLemmas.{undone_fits}
 use Rattle.gb_node.proofs.WindowLemmas.{window_at}

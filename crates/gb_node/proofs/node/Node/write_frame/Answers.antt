@@ -1,9 +1,6 @@
-use Rattle.std.proofs.Common.{subst}
-use Rattle.gb_frame.specs.Spelling.{IsPacket}
-use Rattle.std.proofs.Common.{ap, ◌∙◌}
+use Rattle.gb_types.specs.Common.{subst, ap, ◌∙◌}
+use Rattle.gb_frame.specs.Common.{IsPacket, packet_of, batch_in}
 use Rattle.gb_types.specs.declared.version.Version.{Version}
-use Rattle.gb_frame.specs.Packet.{packet_of}
-use Rattle.gb_frame.specs.Batch.{batch_in}
 use Rattle.gb_node.specs.NodeValue.{NodeValue}
 use Rattle.gb_node.proofs.NodeLemmas.{written}
 use Rattle.gb_node.proofs.node.Node.write_frame.Goals as goal

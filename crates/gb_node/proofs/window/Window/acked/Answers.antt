@@ -1,8 +1,7 @@
-use Rattle.std.proofs.Common.{List, ap}
+use Rattle.gb_types.specs.Common.{List, ap}
 use Rattle.gb_frame.specs.declared.item.Item.{Item}
-use Rattle.gb_link.specs.SendWindow.{SendWindow}
+use Rattle.gb_link.specs.Common.{SendWindow, covers}
 use Rattle.gb_node.proofs.FrameLemmas.{acked_frame, acked_first, without_batch}
-use Rattle.gb_link.specs.Ack.{covers}
 use Rattle.gb_node.proofs.window.Window.acked.Goals as goal
 
 pub invariant_of-self : goal.invariant_of-self

@@ -1,15 +1,12 @@
-use Rattle.std.proofs.Common.{◌≡◌, ◌<◌, ◌≤◌, ◌∙◌, ℕ, [], rules, arith, ap, sym, length, subst}
-use Rattle.std.proofs.lemmas.List.{length-append}
-use Rattle.gb_frame.specs.Batch.{batch_in, IsBatch}
-use Rattle.gb_frame.specs.Spelling.{items_text}
+use Rattle.gb_types.specs.Common.{◌≡◌, ◌<◌, ◌≤◌, ◌∙◌, ℕ, [], rules, arith, ap, sym, length, subst, length-append}
+use Rattle.gb_frame.specs.Common.{batch_in, IsBatch, items_text}
 use Rattle.gb_frame.proofs.VersionLemmas.{room_within}
-use Rattle.gb_table.specs.GroupsValue.{batch}
-use Rattle.gb_table.specs.Packing.{items}
+use Rattle.gb_table.specs.Common.{batch, items}
 use Rattle.gb_node.specs.Frames.{FrameWindow, window_of, AreBatches}
 use Rattle.gb_node.proofs.FrameLemmas.{more_batches}
 use Rattle.std.specs.declared.vec.Vec.{Vec}
 use Rattle.std.specs.declared.alloc.Global.{Global}
-use Rattle.gb_link.specs.SendWindow.{SendWindow, pushed}
+use Rattle.gb_link.specs.Common.{SendWindow, pushed}
 use Rattle.gb_node.proofs.PackLemmas.{some_bytes, batch_written, batch_is, pushed_frame}
 use Rattle.gb_node.proofs.window.Window.pack.Goals as goal
 

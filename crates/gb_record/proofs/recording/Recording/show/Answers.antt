@@ -1,4 +1,4 @@
-use Rattle.std.proofs.Common.{◌≡◌, ℕ, List, true, None, sym, ap, subst, ◌∙◌}
+use Rattle.gb_types.specs.Common.{◌≡◌, ℕ, List, true, None, sym, ap, subst, ◌∙◌}
 use Rattle.gb_past.specs.Story.{Known}
 use Rattle.gb_node.specs.declared.tape.TapeEntry.{TapeEntry}
 use Rattle.gb_record.specs.Recorded.{is_sent, IsFiled}

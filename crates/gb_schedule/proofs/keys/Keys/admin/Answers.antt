@@ -1,4 +1,4 @@
-use Rattle.std.proofs.Common.{ap, ◌∙◌}
+use Rattle.gb_types.specs.Common.{ap, ◌∙◌}
 use Rattle.gb_cap.specs.Token.{token_of}
 use Rattle.gb_cap.specs.declared.token.Need.TheVariants.{Admin}
 use Rattle.gb_schedule.specs.Keys.{admin_token}

@@ -1,5 +1,4 @@
-use Rattle.std.proofs.Common.{◌≡◌, refl, sym, ap, ◌∙◌}
-use Rattle.std.specs.Prelude.{option_copied}
+use Rattle.gb_types.specs.Common.{◌≡◌, refl, sym, ap, ◌∙◌, option_copied}
 use Rattle.gb_cap.proofs.KeptLemmas.{kept_found}
 use Rattle.gb_schedule.specs.Keys.{member_token, IsMemberToken}
 use Rattle.gb_schedule.proofs.KeyLemmas.{member_of, same_member, same_node}

@@ -1,4 +1,4 @@
-use Rattle.std.proofs.Common.{sym, ◌∙◌}
+use Rattle.gb_types.specs.Common.{sym, ◌∙◌}
 use Rattle.gb_schedule.specs.Keys.{member_token}
 use Rattle.gb_schedule.proofs.KeyLemmas.{same_node}
 use Rattle.gb_schedule.proofs.keys.Keys.make.Goals as goal

@@ -1,4 +1,4 @@
-use Rattle.std.proofs.Common.{refl}
+use Rattle.gb_types.specs.Common.{refl}
 use Rattle.gb_schedule.proofs.keys.Keys.member.Goals as goal
 
 pub returns-in-Some : goal.returns-in-Some

@@ -1,6 +1,4 @@
-use Rattle.std.proofs.Common.{Some}
-use Rattle.std.specs.Prelude.{IfSome}
-use Rattle.std.proofs.lemmas.List.Elements.{All-set}
+use Rattle.gb_types.specs.Common.{Some, IfSome, All-set}
 use Rattle.gb_schedule.specs.Keys.{IsMemberToken}
 use Rattle.gb_schedule.proofs.keys.Keys.put.Goals as goal
 

@@ -1,6 +1,4 @@
-use Rattle.std.proofs.Common.{◌≡◌, ℕ, List, sym, ap, ◌∙◌}
-use Rattle.std.specs.Prelude.{option_copied}
-use Rattle.std.proofs.lemmas.Bool.{eqb-true}
+use Rattle.gb_types.specs.Common.{◌≡◌, ℕ, List, sym, ap, ◌∙◌, option_copied, eqb-true}
 use Rattle.gb_cap.proofs.KeptLemmas.{kept_found, kept_after}
 use Rattle.gb_cap.specs.Token.{token_of}
 use Rattle.gb_schedule.specs.Keys.{tenant_key}

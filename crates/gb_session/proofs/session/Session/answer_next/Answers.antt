@@ -1,5 +1,4 @@
-use Rattle.std.proofs.Common.{ap, ◌∙◌, drop}
-use Rattle.std.proofs.lemmas.List.{take_rest}
+use Rattle.gb_types.specs.Common.{ap, ◌∙◌, drop, take_rest}
 use Rattle.gb_session.proofs.RunLemmas.{on_err}
 use Rattle.gb_session.proofs.NextLemmas.{next_same, fails_same}
 use Rattle.gb_session.proofs.session.Session.answer_next.Goals as goal

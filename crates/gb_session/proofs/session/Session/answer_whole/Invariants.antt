@@ -1,4 +1,4 @@
-use Rattle.std.proofs.Common.{◌≡◌, ◌++◌, List, ℕ}
+use Rattle.gb_types.specs.Common.{◌≡◌, ◌++◌, List, ℕ}
 use Rattle.gb_session.specs.Settled.{framed_all}
 use Rattle.gb_session.specs.Takes.{AnswersFront, IsWithin}
 use Rattle.gb_session.proofs.session.Session.answer_whole.Given as goal

@@ -1,4 +1,4 @@
-use Rattle.std.proofs.Common.{length, ap, ◌∙◌, length-drop, arith}
+use Rattle.gb_types.specs.Common.{length, ap, ◌∙◌, length-drop, arith}
 use Rattle.gb_session.proofs.session.Session.end_of_input.Goals as goal
 
 pub returns-else-self-len : goal.returns-else-self-len

@@ -1,4 +1,4 @@
-use Rattle.std.proofs.Common.{drop, ap}
+use Rattle.gb_types.specs.Common.{drop, ap}
 use Rattle.gb_session.proofs.WholeLemmas.{took_here, broke_here}
 use Rattle.gb_session.proofs.session.Session.take_here.Goals as goal
 

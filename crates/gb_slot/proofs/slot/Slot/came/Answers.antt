@@ -1,18 +1,13 @@
-use Rattle.std.proofs.Common.{Bool, ◌≡◌, ◌≢◌, ◌<◌, ◌≤◌, ◌+◌, ◌++◌, length, length-append, map, vec_capacity, refl, sym, ◌∙◌, ap, subst, arith}
-use Rattle.std.proofs.lemmas.Bool.Decides.{nat_tests}
-use Rattle.std.proofs.lemmas.List.{length-map}
-use Rattle.gb_types.specs.Entry.{message_of}
+use Rattle.gb_types.specs.Common.{Bool, ◌≡◌, ◌≢◌, ◌<◌, ◌≤◌, ◌+◌, ◌++◌, length, length-append, map, vec_capacity, refl, sym, ◌∙◌, ap, subst, arith, nat_tests, length-map, message_of, if◌then◌else◌}
 use Rattle.gb_types.specs.declared.entry.Entry.{Entry}
-use Rattle.gb_layer.specs.Machine.{Gives, messages}
+use Rattle.gb_layer.specs.Common.{Gives, messages, told}
 use Rattle.gb_layer.specs.declared.call.Call.TheVariants.{Came}
-use Rattle.gb_layer.specs.PlacedCalls.{told}
 use Rattle.gb_layer.specs.declared.placed_call.PlacedCall.TheVariants as placed
 use Rattle.gb_stack.specs.Layers.{stack_of, StackKnows}
 use Rattle.gb_stack.specs.StackState.{stack_next, stack_gives}
-use Rattle.gb_rules.specs.Messages.{with_new, entry_in}
+use Rattle.gb_rules.specs.Common.{with_new, entry_in}
 use Rattle.gb_slot.specs.Outgoing.{messages_at}
 use Rattle.gb_slot.specs.Reached.{IsReached, most_messages}
-use Rattle.std.specs.Prelude.{if◌then◌else◌}
 use Rattle.gb_slot.specs.Slot.{slot_called, slot_came, taken_for}
 use Rattle.gb_slot.proofs.MemoryLemmas.{held, stack_stays, place_is_next, places_in_log, places_put_out, place_in_store, bytes_in_store, item_stays, new_known, still_enough, as_much}
 use Rattle.gb_slot.proofs.OutgoingLemmas.{messages_count, messages_stay, places_stay, grown_new}

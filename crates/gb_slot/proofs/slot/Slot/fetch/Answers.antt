@@ -1,6 +1,5 @@
-use Rattle.std.proofs.Common.{inl, inr, refl, arith, ◌≤◌, length, ◌∙◌, ap, sym, take, drop}
-use Rattle.std.specs.Prelude.{map}
-use Rattle.gb_rules.specs.Messages.{entry_in}
+use Rattle.gb_types.specs.Common.{inl, inr, refl, arith, ◌≤◌, length, ◌∙◌, ap, sym, take, drop, map}
+use Rattle.gb_rules.specs.Common.{entry_in}
 use Rattle.gb_slot.specs.SlotState.{SlotState}
 use Rattle.gb_slot.proofs.SlotLemmas.{fetched, fetched_some}
 use Rattle.gb_slot.proofs.slot.Slot.fetch.Goals as goal

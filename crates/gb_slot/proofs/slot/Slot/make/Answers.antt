@@ -1,12 +1,9 @@
-use Rattle.std.proofs.Common.{◌≡◌, ◌∙◌, List, [], length, map, ap, refl, rules, sym, subst}
-use Rattle.std.specs.Prelude.{replicate}
-use Rattle.gb_types.specs.declared.limits.TheConstants.{NODES}
+use Rattle.gb_types.specs.Common.{◌≡◌, ◌∙◌, List, [], length, map, ap, refl, rules, sym, subst, replicate, message_of}
+use Rattle.gb_types.specs.declared.{limits.TheConstants.NODES, entry.Entry.Entry}
 use Rattle.gb_rules.specs.declared.phase.Phase.TheVariants.{Made}
 use Rattle.gb_stack.specs.Layers.{stack_of, StackKnows}
 use Rattle.gb_slot.specs.Outgoing.{messages_at, AreInStore}
 use Rattle.gb_slot.specs.Reached.{IsReached, most_messages}
-use Rattle.gb_types.specs.Entry.{message_of}
-use Rattle.gb_types.specs.declared.entry.Entry.{Entry}
 use Rattle.gb_slot.specs.Slot.{new_slot}
 use Rattle.gb_slot.specs.SlotState.{SlotState}
 use Rattle.gb_slot.proofs.ReachedLemmas.{reached_new}

@@ -1,6 +1,5 @@
-use Rattle.std.proofs.Common.{◌≡◌, true, length, map, rules, refl, sym, subst}
-use Rattle.gb_types.specs.Entry.{message_of}
-use Rattle.gb_rules.specs.Group.{is_other}
+use Rattle.gb_types.specs.Common.{◌≡◌, true, length, map, rules, refl, sym, subst, message_of}
+use Rattle.gb_rules.specs.Common.{is_other}
 use Rattle.gb_stack.specs.Layers.{stack_of}
 use Rattle.gb_slot.specs.Outgoing.{messages_at}
 use Rattle.gb_slot.specs.Reached.{IsReached, most_messages}

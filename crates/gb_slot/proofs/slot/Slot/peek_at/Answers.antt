@@ -1,8 +1,5 @@
-use Rattle.std.proofs.Common.{ℕ, map, subst, ◌+◌, ◌<◌, List, length, sym, ◌∙◌, ap, arith}
-use Rattle.std.specs.Prelude.{slice_get, slice_index_or}
-use Rattle.std.proofs.lemmas.Option.{slice_get-get_or}
-use Rattle.gb_types.specs.Entry.{message_of}
-use Rattle.gb_rules.specs.Messages.{payload_in}
+use Rattle.gb_types.specs.Common.{ℕ, map, subst, ◌+◌, ◌<◌, List, length, sym, ◌∙◌, ap, arith, slice_get, slice_index_or, slice_get-get_or, message_of}
+use Rattle.gb_rules.specs.Common.{payload_in}
 use Rattle.gb_slot.specs.Slot.{taken_for}
 use Rattle.gb_slot.specs.SlotState.{SlotState}
 use Rattle.gb_slot.proofs.MemoryLemmas.{few_wait}

@@ -1,10 +1,7 @@
-use Rattle.std.proofs.Common.{◌≡◌, ◌<◌, ◌≤◌, ◌+◌, ◌∷◌, ◌++◌, [], length, length-append, map, vec_capacity, arith, rules, refl, sym, ◌∙◌, ap, subst}
+use Rattle.gb_types.specs.Common.{◌≡◌, ◌<◌, ◌≤◌, ◌+◌, ◌∷◌, ◌++◌, [], length, length-append, map, vec_capacity, arith, rules, refl, sym, ◌∙◌, ap, subst, length-map, message_of}
 use Rattle.std.specs.FinSet as set
-use Rattle.std.proofs.lemmas.List.{length-map}
-use Rattle.gb_types.specs.Entry.{message_of}
-use Rattle.gb_layer.specs.Machine.{Gives, messages}
+use Rattle.gb_layer.specs.Common.{Gives, messages, told}
 use Rattle.gb_layer.specs.declared.call.Call.TheVariants.{Say}
-use Rattle.gb_layer.specs.PlacedCalls.{told}
 use Rattle.gb_layer.specs.declared.placed_call.PlacedCall.TheVariants as placed
 use Rattle.gb_stack.specs.Layers.{stack_of, StackKnows}
 use Rattle.gb_stack.specs.StackState.{stack_next, stack_gives}
@@ -14,7 +11,7 @@ use Rattle.gb_slot.specs.SlotState.{SlotState}
 use Rattle.gb_slot.specs.Slot.{own_entry, slot_said, taken_for}
 use Rattle.gb_types.specs.declared.reply.Reply.TheVariants.{Said}
 use Rattle.gb_slot.proofs.MemoryLemmas.{held, stack_stays, place_is_next, places_in_log, places_put_out, place_in_store, bytes_in_store, said_leads, still_enough, as_much}
-use Rattle.gb_rules.specs.Messages.{entry_in}
+use Rattle.gb_rules.specs.Common.{entry_in}
 use Rattle.gb_slot.proofs.OutgoingLemmas.{messages_stay, places_stay}
 use Rattle.gb_slot.proofs.PageLemmas.{some_rest}
 use Rattle.gb_slot.proofs.PutOutLemmas.{said_sends}

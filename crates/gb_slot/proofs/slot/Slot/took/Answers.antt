@@ -1,5 +1,4 @@
-use Rattle.std.proofs.Common.{◌≡◌, ◌+◌, ◌≤◌, length, sym, subst, arith}
-use Rattle.std.specs.Prelude.{slice_index_or, slice_set}
+use Rattle.gb_types.specs.Common.{◌≡◌, ◌+◌, ◌≤◌, length, sym, subst, arith, slice_index_or, slice_set}
 use Rattle.gb_slot.specs.Reached.{IsReached}
 use Rattle.gb_slot.specs.Slot.{waiting, slot_took}
 use Rattle.gb_slot.specs.SlotState.{SlotState}

@@ -1,5 +1,4 @@
-use Rattle.std.proofs.Common.{arith}
-use Rattle.std.proofs.lemmas.Grind.{common_steps}
+use Rattle.gb_types.specs.Common.{arith, common_steps}
 use Rattle.gb_slot.proofs.OutgoingLemmas.{messages_count}
 use Rattle.gb_slot.proofs.slot.Slot.waiting_for.Goals as goal
 

@@ -1,6 +1,5 @@
-use Rattle.std.proofs.Common.{◌≡◌, ◌+◌, ◌∷◌, ◌++◌, [], ◌∙◌, ap, sym, subst, length, arith}
-use Rattle.std.proofs.lemmas.List.{length_push}
-use Rattle.gb_rules.specs.Messages.{has}
+use Rattle.gb_types.specs.Common.{◌≡◌, ◌+◌, ◌∷◌, ◌++◌, [], ◌∙◌, ap, sym, subst, length, arith, length_push}
+use Rattle.gb_rules.specs.Common.{has}
 use Rattle.gb_slot.specs.Kept.{entries_of, AreCounted}
 use Rattle.gb_slot.specs.StoreValue.{StoreValue, total_bytes}
 use Rattle.gb_slot.proofs.FewLemmas.{few_counted, total_pushed}

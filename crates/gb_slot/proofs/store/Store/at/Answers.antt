@@ -1,4 +1,4 @@
-use Rattle.std.proofs.Common.{◌≡◌, ◌<◌, length, ap, arith}
+use Rattle.gb_types.specs.Common.{◌≡◌, ◌<◌, length, ap, arith}
 use Rattle.gb_slot.specs.StoreValue.{StoreValue}
 use Rattle.gb_slot.proofs.PlaceLemmas.{entries_count, read_there}
 use Rattle.gb_slot.proofs.store.Store.at.Goals as goal

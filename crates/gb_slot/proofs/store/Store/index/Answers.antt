@@ -1,4 +1,4 @@
-use Rattle.std.proofs.Common.{◌≡◌, sym, length, arith}
+use Rattle.gb_types.specs.Common.{◌≡◌, sym, length, arith}
 use Rattle.gb_slot.proofs.PlaceLemmas.{entries_ids}
 use Rattle.gb_slot.proofs.store.Store.index.Goals as goal
 

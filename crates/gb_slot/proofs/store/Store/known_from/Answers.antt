@@ -1,7 +1,5 @@
-use Rattle.std.proofs.Common.{◌≡◌, ◌<◌, length, sym, ap, ◌∙◌, arith}
+use Rattle.gb_types.specs.Common.{◌≡◌, ◌<◌, length, sym, ap, ◌∙◌, arith, nat_cmp, slice_index_or}
 use Rattle.std.specs.FinSet as set
-use Rattle.std.specs.Ordering.{nat_cmp}
-use Rattle.std.specs.Prelude.{slice_index_or}
 use Rattle.gb_slot.specs.Arrivals.{nodes_of}
 use Rattle.gb_slot.specs.Kept.{arrivals_of}
 use Rattle.gb_slot.proofs.PlaceLemmas.{any_entries, any_arrivals, stands_there, read_there, nodes_there, nodes_missing}

@@ -1,5 +1,5 @@
-use Rattle.std.proofs.Common.{◌≡◌, ◌∙◌, ap, sym, subst, length, arith}
-use Rattle.gb_layer.specs.PlacedCalls.{message_at}
+use Rattle.gb_types.specs.Common.{◌≡◌, ◌∙◌, ap, sym, subst, length, arith}
+use Rattle.gb_layer.specs.Common.{message_at}
 use Rattle.gb_slot.specs.Arrivals.{with_node}
 use Rattle.gb_slot.specs.Kept.{AreCounted, arrivals_of}
 use Rattle.gb_slot.specs.StoreValue.{StoreValue, total_bytes}

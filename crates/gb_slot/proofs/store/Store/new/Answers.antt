@@ -1,5 +1,5 @@
 -- A new store is empty.
-use Rattle.std.proofs.Common.{◌≡◌, ◌∙◌, [], rules, sym, subst, List}
+use Rattle.gb_types.specs.Common.{◌≡◌, ◌∙◌, [], rules, sym, subst, List}
 use Rattle.gb_slot.specs.declared.store.Kept.{Kept}
 use Rattle.gb_slot.specs.Kept.{entries_of, AreInside}
 use Rattle.gb_slot.proofs.PlaceLemmas.{none_counted}

@@ -1,7 +1,7 @@
-use Rattle.std.proofs.Common.{◌≡◌, length, sym, ◌∙◌, arith}
+use Rattle.gb_types.specs.Common.{◌≡◌, length, sym, ◌∙◌, arith}
 use Rattle.gb_types.proofs.SameLemmas.{same-true}
-use Rattle.gb_layer.specs.PlacedCalls.{message_at}
-use Rattle.gb_rules.specs.Messages.{payload_in}
+use Rattle.gb_layer.specs.Common.{message_at}
+use Rattle.gb_rules.specs.Common.{payload_in}
 use Rattle.gb_slot.specs.Kept.{entries_of}
 use Rattle.gb_slot.proofs.PlaceLemmas.{any_entries, payload_missing}
 use Rattle.gb_slot.proofs.store.Store.payload_at.Goals as goal

@@ -1,5 +1,5 @@
-use Rattle.std.proofs.Common.{◌≡◌, ◌<◌, length, sym, ap, ◌∙◌, arith}
-use Rattle.gb_layer.specs.PlacedCalls.{message_at}
+use Rattle.gb_types.specs.Common.{◌≡◌, ◌<◌, length, sym, ap, ◌∙◌, arith}
+use Rattle.gb_layer.specs.Common.{message_at}
 use Rattle.gb_slot.proofs.PlaceLemmas.{any_entries, read_there}
 use Rattle.gb_slot.proofs.store.Store.place.Goals as goal
 

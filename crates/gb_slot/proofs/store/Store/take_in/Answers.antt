@@ -1,6 +1,5 @@
-use Rattle.std.proofs.Common.{sym, ap, ◌∙◌, ◌++◌, ◌∷◌, []}
+use Rattle.gb_types.specs.Common.{sym, ap, ◌∙◌, ◌++◌, ◌∷◌, [], is_some, if◌then◌else◌}
 use Rattle.std.specs.FinSet as set
-use Rattle.std.specs.Prelude.{is_some, if◌then◌else◌}
 use Rattle.gb_slot.specs.Arrivals.{with_message, with_node}
 use Rattle.gb_slot.proofs.ArrivalLemmas.{with_node_new}
 use Rattle.gb_slot.proofs.store.Store.take_in.Goals as goal

@@ -1,4 +1,4 @@
-use Rattle.std.proofs.Common.{◌≡◌, [], ap, ◌∙◌, sym, subst}
+use Rattle.gb_types.specs.Common.{◌≡◌, [], ap, ◌∙◌, sym, subst}
 use Rattle.gb_stack.specs.Layers.{stack_of, StackKnows, stack_grows}
 use Rattle.gb_stack.specs.StackState.{untold_stack, IsUntoldStack, stack_me, new_stack}
 use Rattle.gb_stack.specs.Stands.{HasStarted}

@@ -1,5 +1,5 @@
-use Rattle.std.proofs.Common.{ap, ◌∙◌}
-use Rattle.gb_layer.specs.Relay.{at_start}
+use Rattle.gb_types.specs.Common.{ap, ◌∙◌}
+use Rattle.gb_layer.specs.Common.{at_start}
 use Rattle.gb_stack.specs.StackState.{best_effort, lazy, eager, all_ack, majority_ack}
 use Rattle.gb_stack.proofs.unordered.Unordered.new.Goals as goal
 

@@ -1,4 +1,4 @@
-use Rattle.std.proofs.Common.{ap}
+use Rattle.gb_types.specs.Common.{ap}
 use Rattle.gb_stack.specs.StackState.{best_effort}
 use Rattle.gb_stack.proofs.unordered.UnorderedLayer.whole.Goals as goal
 

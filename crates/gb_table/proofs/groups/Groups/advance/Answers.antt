@@ -1,10 +1,8 @@
-use Rattle.std.proofs.Common.{◌≡◌, ◌<◌, ◌≤◌, ◌+◌, ◌-◌, List, [], ℕ, length, get_or, drop, Some, None, ap, sym, refl, ◌∙◌, arith}
-use Rattle.std.specs.Prelude.{Option, IsSome}
-use Rattle.std.proofs.lemmas.List.{length-set, get_or_default}
+use Rattle.gb_types.specs.Common.{◌≡◌, ◌<◌, ◌≤◌, ◌+◌, ◌-◌, List, [], ℕ, length, get_or, drop, Some, None, ap, sym, refl, ◌∙◌, arith, Option, IsSome, length-set, get_or_default}
 use Rattle.gb_table.specs.SlotsValue.{row_at, counters, no_row}
 use Rattle.gb_frame.specs.declared.item.Item.{Item}
 use Rattle.gb_table.specs.Packing.{Visit, first_entry, item_of, took, queues, walk, first_place, new_cursor, room_after}
-use Rattle.gb_slot.specs.Slot.{slot_took}
+use Rattle.gb_slot.specs.Common.{slot_took}
 use Rattle.gb_table.proofs.StepLemmas.{named_set}
 use Rattle.gb_table.proofs.WalkLemmas.{nowhere, queues_at}
 use Rattle.gb_table.proofs.TakingLemmas.{has_next, first_visit, gives_one, gave_step, gave-none, cursor_next, cursor_last, cursor_idle}

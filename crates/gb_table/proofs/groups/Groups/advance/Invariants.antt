@@ -1,5 +1,4 @@
-use Rattle.std.proofs.Common.{◌≡◌, suc, ◌-◌, ◌<◌, ◌≤◌, length, get_or, take, drop, vec_len}
-use Rattle.std.specs.Prelude.{vec_capacity}
+use Rattle.gb_types.specs.Common.{◌≡◌, suc, ◌-◌, ◌<◌, ◌≤◌, length, get_or, take, drop, vec_len, vec_capacity}
 use Rattle.gb_table.specs.Packing.{queues, walk, gave}
 use Rattle.gb_table.specs.SlotsValue.{AreNamed}
 use Rattle.gb_table.proofs.WalkLemmas.{nowhere}

@@ -1,5 +1,5 @@
-use Rattle.std.proofs.Common.{ap, length}
-use Rattle.gb_slot.specs.Slot.{slot_done}
+use Rattle.gb_types.specs.Common.{ap, length}
+use Rattle.gb_slot.specs.Common.{slot_done}
 use Rattle.gb_table.specs.SlotsValue.{row_at}
 use Rattle.gb_table.proofs.LivingLemmas.{gone_absent, step_absent}
 use Rattle.gb_table.proofs.SteppedLemmas.{stepped, quiet, keeps_done, at_address, others_are, rows_in, slot_gone, slot_there}

@@ -1,10 +1,7 @@
-use Rattle.std.proofs.Common.{◌<◌, List, map, ap, length, refl, subst, sym, ◌∙◌, arith}
+use Rattle.gb_types.specs.Common.{◌<◌, List, map, ap, length, refl, subst, sym, ◌∙◌, arith, set, length-map}
 use Rattle.std.specs.FinSet as nodes
-use Rattle.std.proofs.Math.ListN.{set}
-use Rattle.std.proofs.lemmas.List.{length-map}
-use Rattle.gb_types.specs.declared.address.Addr.{Addr}
-use Rattle.gb_types.specs.declared.limits.TheConstants.{NODES}
-use Rattle.gb_rules.specs.Group.{drop_answer}
+use Rattle.gb_types.specs.declared.{address.Addr.Addr, limits.TheConstants.NODES}
+use Rattle.gb_rules.specs.Common.{drop_answer}
 use Rattle.gb_table.specs.declared.places.Place.{Place}
 use Rattle.gb_table.specs.Covered.{HaveWord}
 use Rattle.gb_table.specs.Members.{IsEnrolled}

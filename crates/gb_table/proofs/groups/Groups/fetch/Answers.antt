@@ -1,6 +1,5 @@
-use Rattle.std.proofs.Common.{◌≡◌, ap, sym, ◌∙◌, inr, true, false}
-use Rattle.std.specs.Prelude.{is_some}
-use Rattle.gb_rules.specs.Group.{Shown, fetch_answer}
+use Rattle.gb_types.specs.Common.{◌≡◌, ap, sym, ◌∙◌, inr, true, false, is_some}
+use Rattle.gb_rules.specs.Common.{Shown, fetch_answer}
 use Rattle.gb_table.proofs.LivingLemmas.{lives_at, reply_absent}
 use Rattle.gb_table.proofs.groups.Groups.fetch.Goals as goal
 

@@ -1,4 +1,4 @@
-use Rattle.std.proofs.Common.{◌≡◌, ◌≤◌, ◌-◌, length}
+use Rattle.gb_types.specs.Common.{◌≡◌, ◌≤◌, ◌-◌, length}
 use Rattle.gb_table.specs.Rooms.{first_free}
 use Rattle.gb_table.proofs.groups.Groups.first_free.Given as goal
 

@@ -1,9 +1,6 @@
-use Rattle.std.proofs.Common.{◌≡◌, ◌<◌, ◌++◌, min, length, get_or, ap, sym, subst, ◌∙◌, arith}
-use Rattle.std.specs.Prelude.{Some, option_map}
-use Rattle.std.proofs.Math.ListN.{set}
-use Rattle.gb_frame.specs.Spelling.{item_text, IsItem}
-use Rattle.gb_slot.specs.Slot.{slot_took, waiting}
-use Rattle.gb_slot.specs.SlotState.{SlotState}
+use Rattle.gb_types.specs.Common.{◌≡◌, ◌<◌, ◌++◌, min, length, get_or, ap, sym, subst, ◌∙◌, arith, Some, option_map, set}
+use Rattle.gb_frame.specs.Common.{item_text, IsItem}
+use Rattle.gb_slot.specs.Common.{slot_took, waiting, SlotState}
 use Rattle.gb_types.specs.declared.limits.TheConstants.{PAYLOAD}
 use Rattle.gb_table.specs.SlotsValue.{Row, row_at, on_slot, no_entry, IsShort}
 use Rattle.gb_table.specs.GroupsValue.{GroupsValue}

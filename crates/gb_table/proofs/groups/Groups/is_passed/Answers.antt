@@ -1,6 +1,6 @@
-use Rattle.std.proofs.Common.{ap, ◌∙◌}
+use Rattle.gb_types.specs.Common.{ap, ◌∙◌}
 use Rattle.gb_types.specs.declared.address.Addr.{Addr}
-use Rattle.gb_rules.specs.Address.{is_addr}
+use Rattle.gb_rules.specs.Common.{is_addr}
 use Rattle.gb_table.specs.GroupsValue.{GroupsValue}
 use Rattle.gb_table.specs.Rooms.{is_passed}
 use Rattle.gb_table.proofs.LivingLemmas.{passed_some, passed_none}

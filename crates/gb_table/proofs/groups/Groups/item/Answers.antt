@@ -1,13 +1,12 @@
-use Rattle.std.proofs.Common.{ap, sym, ◌∙◌}
+use Rattle.gb_types.specs.Common.{ap, sym, ◌∙◌, set}
 use Rattle.gb_types.specs.declared.entry.Entry.{Entry}
-use Rattle.gb_frame.specs.Items.{address_of}
+use Rattle.gb_frame.specs.Common.{address_of}
 use Rattle.gb_frame.specs.Packet.{item_of as view_item}
 use Rattle.gb_rules.proofs.LengthLemmas.{within_greatest}
-use Rattle.gb_slot.specs.Slot.{slot_came}
+use Rattle.gb_slot.specs.Common.{slot_came}
 use Rattle.gb_slot.proofs.SpecLemmas.{reaches-came}
 use Rattle.gb_table.specs.SlotsValue.{row_at, on_slot}
 use Rattle.gb_table.specs.GroupsValue.{GroupsValue}
-use Rattle.std.proofs.Math.ListN.{set}
 use Rattle.gb_table.proofs.AddressLemmas.{item_is}
 use Rattle.gb_table.proofs.LivingLemmas.{gone_absent, item_absent}
 use Rattle.gb_table.proofs.SlotsLemmas.{slot_is}

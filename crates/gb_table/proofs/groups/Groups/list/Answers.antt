@@ -1,6 +1,5 @@
-use Rattle.std.proofs.Common.{◌≡◌, suc, ◌++◌, ◌∷◌, [], ap, ◌∙◌, sym, map, take, drop, List, arith, inl, inr}
+use Rattle.gb_types.specs.Common.{◌≡◌, suc, ◌++◌, ◌∷◌, [], ap, ◌∙◌, sym, map, take, drop, List, arith, inl, inr, ◌-◌, ◌+◌, ◌<◌}
 use Rattle.std.proofs.Math.Nat.{eq-zero-or-pos}
-use Rattle.std.specs.Prelude.{◌-◌, ◌+◌, ◌<◌}
 use Rattle.gb_table.specs.GroupRows.{listed, used}
 use Rattle.gb_table.specs.SlotsValue.{Row, row_at}
 use Rattle.gb_table.specs.declared.group_row.GroupRow.{GroupRow}

@@ -1,4 +1,4 @@
-use Rattle.std.proofs.Common.{◌≡◌, ◌≤◌, ◌+◌, ◌++◌, length, map, take, drop, min, vec_len, vec_capacity}
+use Rattle.gb_types.specs.Common.{◌≡◌, ◌≤◌, ◌+◌, ◌++◌, length, map, take, drop, min, vec_len, vec_capacity}
 use Rattle.gb_table.specs.GroupRows.{listed, used, listed_from}
 use Rattle.gb_table.proofs.groups.Groups.list.Given as goal
 

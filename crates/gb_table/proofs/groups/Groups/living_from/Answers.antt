@@ -1,6 +1,5 @@
-use Rattle.std.proofs.Common.{◌≡◌, suc, ap, ◌∙◌, sym, take, drop, arith}
-use Rattle.std.specs.Prelude.{◌&&◌, not, is_some, count_by, ◌+◌}
-use Rattle.gb_rules.specs.Address.{is_addr}
+use Rattle.gb_types.specs.Common.{◌≡◌, suc, ap, ◌∙◌, sym, take, drop, arith, ◌&&◌, not, is_some, count_by, ◌+◌}
+use Rattle.gb_rules.specs.Common.{is_addr}
 use Rattle.gb_table.specs.SlotsValue.{Row, row_at}
 use Rattle.gb_table.proofs.ListingLemmas.{flag_most, next_counted}
 use Rattle.gb_table.proofs.groups.Groups.living_from.Goals as goal

@@ -1,6 +1,5 @@
-use Rattle.std.proofs.Common.{◌≡◌, ◌≤◌, take, drop}
-use Rattle.std.specs.Prelude.{◌&&◌, not, is_some, count_by}
-use Rattle.gb_rules.specs.Address.{is_addr}
+use Rattle.gb_types.specs.Common.{◌≡◌, ◌≤◌, take, drop, ◌&&◌, not, is_some, count_by}
+use Rattle.gb_rules.specs.Common.{is_addr}
 use Rattle.gb_table.proofs.groups.Groups.living_from.Given as goal
 
 abbrev pub invariant-loop-nth : goal.invariant-loop-nth

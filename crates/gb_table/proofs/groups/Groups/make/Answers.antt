@@ -1,22 +1,13 @@
-use Rattle.std.proofs.Common.{◌≡◌, ◌<◌, ◌≤◌, ℕ, List, [], ◌∷◌, length, map, ap, refl, sym, subst, ◌∙◌, arith}
-use Rattle.std.specs.Prelude.{Some, if◌then◌else◌}
-use Rattle.std.proofs.Math.ListN.{set}
-use Rattle.std.proofs.lemmas.List.{length-map}
+use Rattle.gb_types.specs.Common.{◌≡◌, ◌<◌, ◌≤◌, ℕ, List, [], ◌∷◌, length, map, ap, refl, sym, subst, ◌∙◌, arith, Some, if◌then◌else◌, set, length-map}
 use Rattle.indexmap.specs.IndexMap.{insert_entry}
 use Rattle.slab.specs.Slab.{Slab, get}
-use Rattle.gb_types.specs.declared.address.Addr.{Addr}
+use Rattle.gb_types.specs.declared.{address.Addr.Addr, spec.Spec.Spec}
 use Rattle.gb_types.specs.declared.limits.TheConstants.{NODES, PAYLOAD, PLACES}
-use Rattle.gb_types.specs.declared.spec.Spec.{Spec}
 use Rattle.gb_types.specs.contracts.address.AddrPartialEq.TheImpl.{ghosts}
-use Rattle.gb_rules.specs.Address.{is_addr}
-use Rattle.gb_rules.specs.Messages.{payload_in}
-use Rattle.gb_rules.specs.Room.{name_of}
+use Rattle.gb_rules.specs.Common.{is_addr, payload_in, name_of}
 use Rattle.gb_rules.specs.declared.room.TheConstants.{ROOMS}
-use Rattle.gb_slot.specs.Slot.{new_slot}
-use Rattle.gb_slot.specs.SlotState.{SlotState}
-use Rattle.gb_table.specs.declared.groups.Groups.TheInside.{Inside}
-use Rattle.gb_table.specs.declared.places.Place.{Place}
-use Rattle.gb_table.specs.declared.places.Place.TheVariants.{Key}
+use Rattle.gb_slot.specs.Common.{new_slot, SlotState}
+use Rattle.gb_table.specs.declared.{groups.Groups.TheInside.Inside, places.Place.Place, places.Place.TheVariants.Key}
 use Rattle.gb_table.specs.Covered.{HaveGrown}
 use Rattle.gb_table.specs.OneGroup.{CanBeMade}
 use Rattle.gb_table.specs.Packing.{queue_of}

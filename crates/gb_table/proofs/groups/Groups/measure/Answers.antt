@@ -1,5 +1,4 @@
-use Rattle.std.proofs.Common.{length, ap, subst, sym, ◌∙◌, arith}
-use Rattle.std.specs.Prelude.{sum_by}
+use Rattle.gb_types.specs.Common.{length, ap, subst, sym, ◌∙◌, arith, sum_by}
 use Rattle.gb_types.specs.declared.limits.TheConstants.{PAYLOAD}
 use Rattle.gb_table.specs.SlotsValue.{AreShort}
 use Rattle.gb_table.specs.Packing.{queues, walk, size, fit}

@@ -1,7 +1,5 @@
-use Rattle.std.proofs.Common.{◌≡◌, ◌+◌, [], List, ℕ, length, get_or, ap, refl, arith}
-use Rattle.gb_types.specs.declared.entry.Entry.{Entry}
-use Rattle.gb_types.specs.Version.{limits_of}
-use Rattle.gb_types.specs.declared.version.VersionLimits.{VersionLimits}
+use Rattle.gb_types.specs.Common.{◌≡◌, ◌+◌, [], List, ℕ, length, get_or, ap, refl, arith, limits_of}
+use Rattle.gb_types.specs.declared.{entry.Entry.Entry, version.VersionLimits.VersionLimits}
 use Rattle.gb_table.specs.SlotsValue.{Row, row_at, no_entry}
 use Rattle.gb_table.specs.Packing.{queue, queues, fit, walk}
 use Rattle.gb_table.specs.Ahead.{visits, ahead, IsActive, IsTurn}

@@ -1,4 +1,4 @@
-use Rattle.std.proofs.Common.{◌≤◌, ◌<◌, ◌+◌, ◌*◌, length}
+use Rattle.gb_types.specs.Common.{◌≤◌, ◌<◌, ◌+◌, ◌*◌, length}
 use Rattle.gb_table.specs.Packing.{queues, walk, fit}
 use Rattle.gb_table.specs.Ahead.{ahead, IsActive}
 use Rattle.gb_table.specs.PlaceSet.{IsSummary}

@@ -1,4 +1,4 @@
-use Rattle.std.proofs.Common.{◌≡◌, None, get_or, refl, rules, arith}
+use Rattle.gb_types.specs.Common.{◌≡◌, None, get_or, refl, rules, arith}
 use Rattle.gb_table.specs.Packing.{queues, walk, first_place}
 use Rattle.gb_table.proofs.BusyLemmas.{nothing_fits}
 use Rattle.gb_table.proofs.SteppedLemmas.{busy_now, busy_copied}

@@ -1,7 +1,6 @@
 -- If no group was made, packing begins at place 0 for each node, and each set is empty.
-use Rattle.std.proofs.Common.{ℕ, ◌*◌, List, length, ap, sym, rules, refl, arith}
-use Rattle.gb_types.specs.declared.address.Addr.{Addr}
-use Rattle.gb_types.specs.declared.limits.TheConstants.{NODES}
+use Rattle.gb_types.specs.Common.{ℕ, ◌*◌, List, length, ap, sym, rules, refl, arith}
+use Rattle.gb_types.specs.declared.{address.Addr.Addr, limits.TheConstants.NODES}
 use Rattle.gb_rules.specs.declared.room.TheConstants.{GENERATIONS}
 use Rattle.gb_slot.proofs.TakenLemmas.{none_taken}
 use Rattle.gb_table.proofs.groups.Groups.new.Goals as goal

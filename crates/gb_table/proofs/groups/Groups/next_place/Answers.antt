@@ -1,4 +1,4 @@
-use Rattle.std.proofs.Common.{get_or, refl}
+use Rattle.gb_types.specs.Common.{get_or, refl}
 use Rattle.gb_table.proofs.BusyLemmas.{busy_at, inside, place_of, same_next, same_early, none_next}
 use Rattle.gb_table.proofs.SteppedLemmas.{busy_now}
 use Rattle.gb_table.proofs.groups.Groups.next_place.Goals as goal

@@ -1,5 +1,4 @@
-use Rattle.std.proofs.Common.{◌≡◌, ◌≤◌, ℕ, get_or, refl, subst, arith}
-use Rattle.std.specs.Prelude.{MatchOption}
+use Rattle.gb_types.specs.Common.{◌≡◌, ◌≤◌, ℕ, get_or, refl, subst, arith, MatchOption}
 use Rattle.gb_table.specs.SlotsValue.{row_at}
 use Rattle.gb_table.specs.GroupsValue.{GroupsValue}
 use Rattle.gb_table.specs.Places.{groups_of}

@@ -1,7 +1,5 @@
-use Rattle.std.proofs.Common.{◌≡◌, ◌≢◌, List, ap, refl, sym, ◌∙◌, length, arith, inl, inr}
-use Rattle.std.proofs.lemmas.Bool.{cases_lt, cases_eq}
-use Rattle.std.proofs.lemmas.List.{get_or-set_same, get_or-set_other, length-set}
-use Rattle.gb_slot.specs.Slot.{slot_noticed}
+use Rattle.gb_types.specs.Common.{◌≡◌, ◌≢◌, List, ap, refl, sym, ◌∙◌, length, arith, inl, inr, cases_lt, cases_eq, get_or-set_same, get_or-set_other, length-set}
+use Rattle.gb_slot.specs.Common.{slot_noticed}
 use Rattle.gb_table.specs.SlotsValue.{Row, row_at, on_slot, no_row}
 use Rattle.gb_table.proofs.MemberLemmas.{member_in, unnoticed, noticed_all}
 use Rattle.gb_table.proofs.groups.Groups.notice.Goals as goal

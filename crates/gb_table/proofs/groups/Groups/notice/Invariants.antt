@@ -1,5 +1,5 @@
-use Rattle.std.proofs.Common.{◌≡◌, ◌<◌, ◌≤◌, ◌-◌, ℕ, length}
-use Rattle.gb_slot.specs.Slot.{slot_noticed}
+use Rattle.gb_types.specs.Common.{◌≡◌, ◌<◌, ◌≤◌, ◌-◌, ℕ, length}
+use Rattle.gb_slot.specs.Common.{slot_noticed}
 use Rattle.gb_table.specs.SlotsValue.{row_at, on_slot}
 use Rattle.gb_table.proofs.groups.Groups.notice.Given as goal
 

@@ -1,6 +1,5 @@
-use Rattle.std.proofs.Common.{ap, ◌∙◌}
-use Rattle.std.proofs.Math.ListN.{set}
-use Rattle.gb_slot.specs.Slot.{slot_noticed}
+use Rattle.gb_types.specs.Common.{ap, ◌∙◌, set}
+use Rattle.gb_slot.specs.Common.{slot_noticed}
 use Rattle.gb_table.specs.SlotsValue.{row_at, on_slot}
 use Rattle.gb_table.specs.GroupsValue.{GroupsValue}
 use Rattle.gb_table.proofs.LivingLemmas.{step_gone}

@@ -1,6 +1,6 @@
-use Rattle.std.proofs.Common.{length, ap, sym, subst, ◌∙◌, arith}
+use Rattle.gb_types.specs.Common.{length, ap, sym, subst, ◌∙◌, arith}
 use Rattle.gb_types.specs.declared.address.Addr.{Addr}
-use Rattle.gb_rules.specs.Address.{is_addr}
+use Rattle.gb_rules.specs.Common.{is_addr}
 use Rattle.gb_table.specs.GroupsValue.{GroupsValue}
 use Rattle.gb_table.specs.Rooms.{rank_of, AreInRooms}
 use Rattle.gb_table.proofs.LivingLemmas.{rank_is}

@@ -1,7 +1,5 @@
-use Rattle.std.proofs.Common.{◌≡◌, ◌++◌, List, length, take, refl, ap, subst, ◌∙◌, arith}
-use Rattle.std.specs.Prelude.{sum_by, All}
-use Rattle.std.proofs.Math.ListN.{set}
-use Rattle.gb_frame.specs.Spelling.{items_text, IsItem}
+use Rattle.gb_types.specs.Common.{◌≡◌, ◌++◌, List, length, take, refl, ap, subst, ◌∙◌, arith, sum_by, All, set}
+use Rattle.gb_frame.specs.Common.{items_text, IsItem}
 use Rattle.gb_table.specs.SlotsValue.{Row, HaveCounters, AreApart}
 use Rattle.gb_table.specs.GroupsValue.{GroupsValue, cursor_for, walk_to}
 use Rattle.gb_table.specs.Packing.{Visit, queues, walk, size, gave, new_cursor, items}

@@ -1,6 +1,5 @@
-use Rattle.std.proofs.Common.{ap, refl, ◌∙◌}
-use Rattle.std.specs.Prelude.{position}
-use Rattle.gb_rules.specs.Address.{is_addr}
+use Rattle.gb_types.specs.Common.{ap, refl, ◌∙◌, position}
+use Rattle.gb_rules.specs.Common.{is_addr}
 use Rattle.gb_table.specs.SlotsValue.{Row}
 use Rattle.gb_table.specs.GroupsValue.{GroupsValue}
 use Rattle.gb_table.proofs.FindLemmas.{found_at}

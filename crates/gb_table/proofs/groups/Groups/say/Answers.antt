@@ -1,8 +1,7 @@
-use Rattle.std.proofs.Common.{◌≡◌, ap, sym, ◌∙◌, length}
+use Rattle.gb_types.specs.Common.{◌≡◌, ap, sym, ◌∙◌, length}
 use Rattle.gb_types.specs.declared.reply.Reply.{Reply}
-use Rattle.gb_rules.specs.Group.{Shown, say_answer}
-use Rattle.gb_rules.specs.Replied.{said_reply}
-use Rattle.gb_slot.specs.Slot.{slot_said}
+use Rattle.gb_rules.specs.Common.{Shown, say_answer, said_reply}
+use Rattle.gb_slot.specs.Common.{slot_said}
 use Rattle.gb_slot.proofs.SpecLemmas.{reaches-said}
 use Rattle.gb_table.specs.SlotsValue.{row_at}
 use Rattle.gb_table.specs.AtAddress.{on_address}

@@ -1,9 +1,8 @@
-use Rattle.std.proofs.Common.{length, ap, sym, ◌∙◌}
-use Rattle.gb_rules.specs.Group.{shut_answer}
-use Rattle.gb_rules.specs.Replied.{done_reply}
+use Rattle.gb_types.specs.Common.{length, ap, sym, ◌∙◌}
+use Rattle.gb_rules.specs.Common.{shut_answer, done_reply}
 use Rattle.gb_rules.specs.declared.phase.Phase.TheVariants.{Shut}
 use Rattle.gb_types.specs.declared.reply.Reply.{Reply}
-use Rattle.gb_slot.specs.Slot.{slot_moved}
+use Rattle.gb_slot.specs.Common.{slot_moved}
 use Rattle.gb_table.specs.SlotsValue.{row_at}
 use Rattle.gb_table.specs.AtAddress.{on_address}
 use Rattle.gb_table.proofs.LivingLemmas.{reply_absent, reply_living, step_absent}

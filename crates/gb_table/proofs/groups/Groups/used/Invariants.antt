@@ -1,4 +1,4 @@
-use Rattle.std.proofs.Common.{◌≡◌, ◌≤◌, length, take}
+use Rattle.gb_types.specs.Common.{◌≡◌, ◌≤◌, length, take}
 use Rattle.gb_table.specs.GroupRows.{used}
 use Rattle.gb_table.proofs.groups.Groups.used.Given as goal
 

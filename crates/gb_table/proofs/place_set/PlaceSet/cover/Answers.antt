@@ -1,4 +1,4 @@
-use Rattle.std.proofs.Common.{◌≡◌, ◌∙◌, ℕ, ◌+◌, ◌/◌, List, length, ap, refl, arith}
+use Rattle.gb_types.specs.Common.{◌≡◌, ◌∙◌, ℕ, ◌+◌, ◌/◌, List, length, ap, refl, arith}
 use Rattle.gb_table.specs.PlaceSet.{has}
 use Rattle.gb_table.proofs.PlaceSetLemmas.{lengthened}
 use Rattle.gb_table.proofs.place_set.PlaceSet.cover.Goals as goal

@@ -1,7 +1,5 @@
-use Rattle.std.proofs.Common.{◌≡◌, ◌<◌, ◌*◌, ◌/◌, ◌%◌, ◌^◌, ◌∙◌, ℕ, List, length, ap, sym, get_or, arith, w64, bit_or}
-use Rattle.std.proofs.lemmas.List.{get_or_default, length-set}
+use Rattle.gb_types.specs.Common.{◌≡◌, ◌<◌, ◌*◌, ◌/◌, ◌%◌, ◌^◌, ◌∙◌, ℕ, List, length, ap, sym, get_or, arith, w64, bit_or, get_or_default, length-set, bit_at}
 use Rattle.std.proofs.lemmas.Nat.Bits.{bit_at_set_same, bit_at_set_other}
-use Rattle.std.specs.Int.{bit_at}
 use Rattle.gb_table.specs.PlaceSet.{has}
 use Rattle.gb_table.proofs.PlaceSetLemmas.{has-set-same, has-set-other, summary-set, word_with}
 use Rattle.gb_table.proofs.place_set.PlaceSet.insert.Goals as goal

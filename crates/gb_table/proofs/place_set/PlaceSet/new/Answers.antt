@@ -1,4 +1,4 @@
-use Rattle.std.proofs.Common.{◌∙◌, ℕ, List, [], ap, arith}
+use Rattle.gb_types.specs.Common.{◌∙◌, ℕ, List, [], ap, arith}
 use Rattle.gb_table.specs.PlaceSet.{has}
 use Rattle.gb_table.proofs.PlaceSetLemmas.{has-past}
 use Rattle.gb_table.proofs.place_set.PlaceSet.new.Goals as goal

@@ -1,4 +1,4 @@
-use Rattle.std.proofs.Common.{ℕ, List, length, ap, arith}
+use Rattle.gb_types.specs.Common.{ℕ, List, length, ap, arith}
 use Rattle.gb_table.proofs.PlaceSetLemmas.{has-past}
 use Rattle.gb_table.proofs.place_set.PlaceSet.remove.Goals as goal
 

@@ -1,4 +1,4 @@
-use Rattle.std.proofs.Common.{List, sym, subst, arith}
+use Rattle.gb_types.specs.Common.{List, sym, subst, arith}
 use Rattle.gb_types.specs.declared.spec.TenantRow.{TenantRow}
 use Rattle.gb_table.specs.SlotsValue.{AreNamed}
 use Rattle.gb_table.specs.Kept.{AreMemberTokens}

@@ -1,7 +1,5 @@
-use Rattle.std.proofs.Common.{◌∙◌, ap, inr, refl, subst, sym}
-use Rattle.gb_types.specs.declared.request.Action.TheVariants.{Group}
-use Rattle.gb_types.specs.declared.request.GroupCommand.{GroupCommand}
-use Rattle.gb_types.specs.declared.request.GroupCommand.TheVariants.{Make, Fetch}
+use Rattle.gb_types.specs.Common.{◌∙◌, ap, inr, refl, subst, sym}
+use Rattle.gb_types.specs.declared.{request.Action.TheVariants.Group, request.GroupCommand.GroupCommand, request.GroupCommand.TheVariants.Make, request.GroupCommand.TheVariants.Fetch}
 use Rattle.gb_table.specs.Requests.{admitted_reply, place_for, IsReplyTo, table_did}
 use Rattle.gb_table.specs.TableValue.{TableValue}
 use Rattle.gb_table.proofs.RequestLemmas.{may_lack, fetch_leaves}

@@ -1,5 +1,4 @@
-use Rattle.std.proofs.lemmas.Grind.{common_steps}
-use Rattle.std.proofs.Common.{sym, subst, arith}
+use Rattle.gb_types.specs.Common.{common_steps, sym, subst, arith}
 use Rattle.gb_table.specs.SlotsValue.{AreNamed}
 use Rattle.gb_table.specs.OwnNode.{AreOwn}
 use Rattle.gb_table.proofs.NamedLemmas.{named_dropped}

@@ -1,4 +1,4 @@
-use Rattle.std.proofs.Common.{◌∙◌}
+use Rattle.gb_types.specs.Common.{◌∙◌}
 use Rattle.gb_table.proofs.TenantLemmas.{token_admits}
 use Rattle.gb_table.proofs.table.Table.is_member.Goals as goal
 

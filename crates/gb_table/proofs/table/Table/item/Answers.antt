@@ -1,4 +1,4 @@
-use Rattle.std.proofs.Common.{sym, subst}
+use Rattle.gb_types.specs.Common.{sym, subst}
 use Rattle.gb_frame.specs.Packet.{item_of as view_item}
 use Rattle.gb_table.specs.SlotsValue.{AreNamed}
 use Rattle.gb_table.specs.OwnNode.{AreOwn}

@@ -1,13 +1,11 @@
-use Rattle.std.proofs.Common.{ap, sym, subst, ◌∙◌}
-use Rattle.std.specs.Prelude.{option_map}
+use Rattle.gb_types.specs.Common.{ap, sym, subst, ◌∙◌, option_map}
 use Rattle.gb_cap.specs.Token.{token_of}
-use Rattle.gb_cap.specs.declared.token.Need.{Need}
+use Rattle.gb_cap.specs.declared.{token.Need.Need, token.Need.TheVariants.Member}
 use Rattle.gb_types.specs.declared.address.Addr.{Addr}
-use Rattle.gb_rules.specs.Tenant.{row_of}
+use Rattle.gb_rules.specs.Common.{row_of}
 use Rattle.gb_cap.proofs.KeptLemmas.{kept_after}
 use Rattle.gb_rules.proofs.AddressLemmas.{addr_is}
 use Rattle.gb_table.specs.Kept.{IsMemberToken}
-use Rattle.gb_cap.specs.declared.token.Need.TheVariants.{Member}
 use Rattle.gb_table.specs.TableValue.{TableValue}
 use Rattle.gb_table.proofs.TenantLemmas.{token_made}
 use Rattle.gb_table.proofs.table.Table.keep_member_token.Goals as goal

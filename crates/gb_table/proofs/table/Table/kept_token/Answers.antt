@@ -1,8 +1,7 @@
-use Rattle.std.proofs.Common.{◌≡◌, ◌∙◌, sym, subst}
-use Rattle.std.proofs.lemmas.Bool.{not-false}
+use Rattle.gb_types.specs.Common.{◌≡◌, ◌∙◌, sym, subst, not-false}
 use Rattle.gb_cap.proofs.KeptLemmas.{kept_found}
 use Rattle.gb_types.specs.declared.address.Addr.{Addr}
-use Rattle.gb_rules.specs.Room.{name_of}
+use Rattle.gb_rules.specs.Common.{name_of}
 use Rattle.gb_rules.proofs.AddressLemmas.{addr_is}
 use Rattle.gb_table.specs.Kept.{IsMemberToken}
 use Rattle.gb_table.specs.TableValue.{TableValue}

@@ -1,10 +1,8 @@
-use Rattle.std.proofs.Common.{◌≡◌, ◌<◌, false, ap, sym, subst, ◌∙◌, inl, inr}
-use Rattle.gb_types.specs.declared.reply.Reply.TheVariants.{Done}
-use Rattle.gb_types.specs.declared.spec.TenantRow.{TenantRow}
-use Rattle.gb_rules.specs.Replied.{takes_memory}
-use Rattle.gb_rules.specs.Tenant.{is_over_limits, is_over}
+use Rattle.gb_types.specs.Common.{◌≡◌, ◌<◌, false, ap, sym, subst, ◌∙◌, inl, inr}
+use Rattle.gb_types.specs.declared.{reply.Reply.TheVariants.Done, spec.TenantRow.TenantRow}
+use Rattle.gb_rules.specs.Common.{takes_memory, is_over_limits, is_over}
 use Rattle.gb_rules.specs.declared.reserve.Reserve.{Reserve}
-use Rattle.gb_slot.specs.Slot.{new_slot}
+use Rattle.gb_slot.specs.Common.{new_slot}
 use Rattle.gb_table.specs.GroupsValue.{GroupsValue}
 use Rattle.gb_table.specs.OneGroup.{group_in}
 use Rattle.gb_table.specs.SlotsValue.{AreNamed}

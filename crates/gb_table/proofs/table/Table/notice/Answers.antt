@@ -1,5 +1,5 @@
-use Rattle.std.proofs.Common.{sym, subst}
-use Rattle.gb_slot.specs.Slot.{slot_noticed}
+use Rattle.gb_types.specs.Common.{sym, subst}
+use Rattle.gb_slot.specs.Common.{slot_noticed}
 use Rattle.gb_table.specs.SlotsValue.{AreNamed}
 use Rattle.gb_table.specs.OwnNode.{AreOwn}
 use Rattle.gb_table.proofs.NamedLemmas.{named_stepped}

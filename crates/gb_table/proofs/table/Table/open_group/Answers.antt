@@ -1,7 +1,6 @@
-use Rattle.std.proofs.lemmas.Grind.{common_steps}
-use Rattle.std.proofs.Common.{sym, subst, arith}
+use Rattle.gb_types.specs.Common.{common_steps, sym, subst, arith}
 use Rattle.gb_rules.specs.declared.phase.Phase.TheVariants.{Opened}
-use Rattle.gb_slot.specs.Slot.{slot_moved}
+use Rattle.gb_slot.specs.Common.{slot_moved}
 use Rattle.gb_table.specs.SlotsValue.{AreNamed}
 use Rattle.gb_table.specs.OwnNode.{AreOwn}
 use Rattle.gb_table.proofs.NamedLemmas.{named_address}

@@ -1,6 +1,4 @@
-use Rattle.std.proofs.Common.{ap, sym, subst, ◌≤◌, length}
-use Rattle.std.specs.List.{All}
-use Rattle.gb_types.specs.Version.{limits_of}
+use Rattle.gb_types.specs.Common.{ap, sym, subst, ◌≤◌, length, All, limits_of}
 use Rattle.gb_frame.specs.declared.item.Item.{Item}
 use Rattle.gb_table.specs.GroupsValue.{GroupsValue, batch}
 use Rattle.gb_table.specs.Packing.{items}

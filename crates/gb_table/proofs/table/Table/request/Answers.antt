@@ -1,6 +1,5 @@
-use Rattle.std.proofs.Common.{◌≡◌, ◌∙◌, ap, refl, subst, sym, true}
-use Rattle.gb_types.specs.declared.request.Action.{Action}
-use Rattle.gb_types.specs.declared.request.Action.TheVariants.{AddTenant}
+use Rattle.gb_types.specs.Common.{◌≡◌, ◌∙◌, ap, refl, subst, sym, true}
+use Rattle.gb_types.specs.declared.{request.Action.Action, request.Action.TheVariants.AddTenant}
 use Rattle.gb_table.specs.Requests.{is_admitted, admitted_reply, place_for, IsReplyTo, table_did}
 use Rattle.gb_table.proofs.RequestLemmas.{admitted, may_lack}
 use Rattle.gb_table.proofs.table.Table.request.Goals as goal

@@ -1,7 +1,7 @@
-use Rattle.std.proofs.Common.{◌≡◌, ℕ, List, [], ◌∷◌, ◌++◌, ◌+◌, refl, ap, sym, subst, ◌∙◌, nat_eq}
+use Rattle.gb_types.specs.Common.{◌≡◌, ℕ, List, [], ◌∷◌, ◌++◌, ◌+◌, refl, ap, sym, subst, ◌∙◌, nat_eq}
 use Rattle.indexmap.specs.IndexMap.{insert_entry}
 use Rattle.gb_types.specs.declared.spec.TenantRow.{TenantRow}
-use Rattle.gb_rules.specs.Tenant.{row_of, reserved}
+use Rattle.gb_rules.specs.Common.{row_of, reserved}
 use Rattle.gb_table.specs.Kept.{rows_of, AreKeyed}
 use Rattle.gb_table.proofs.TenantLemmas.{insert-last, keyed-more, rows-more, reserved-more}
 use Rattle.gb_table.proofs.tenants.Tenants.add.Goals as goal

@@ -1,5 +1,5 @@
-use Rattle.std.proofs.Common.{refl, ap, ◌∙◌}
-use Rattle.gb_rules.specs.Tenant.{row_of}
+use Rattle.gb_types.specs.Common.{refl, ap, ◌∙◌}
+use Rattle.gb_rules.specs.Common.{row_of}
 use Rattle.gb_table.proofs.TenantLemmas.{rows-lookup}
 use Rattle.gb_table.proofs.tenants.Tenants.find.Goals as goal
 

@@ -1,4 +1,4 @@
-use Rattle.std.proofs.Common.{refl}
+use Rattle.gb_types.specs.Common.{refl}
 use Rattle.gb_worker.proofs.CallLemmas.{told}
 use Rattle.gb_worker.proofs.session.DeskAnswers.answer.Goals as goal
 

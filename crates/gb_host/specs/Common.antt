@@ -1,0 +1,8 @@
+-- The names that files of crates above cite, passed on from one place. Declares nothing.
+pub use Rattle.gb_host.specs.Closing.{AreFresh, AreReplays, AreSame, IsOther, list_of, seat_entries, tape_entries}
+pub use Rattle.gb_host.specs.HostValue.{AreHere, AreOpened, IsOpened, IsRefused}
+pub use Rattle.gb_host.specs.Nothing.{GaveNothing}
+pub use Rattle.gb_host.specs.Pasts.{AreBlank, BookName, books_of, no_book}
+pub use Rattle.gb_host.specs.Plans.{IsPlan, is_kept, is_ringed}
+pub use Rattle.gb_host.specs.RingValues.{RecorderValue}
+pub use Rattle.gb_host.specs.SeatValue.{SeatValue}

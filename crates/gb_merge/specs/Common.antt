@@ -1,0 +1,9 @@
+-- The names that files of crates above cite, passed on from one place. Declares nothing.
+pub use Rattle.gb_merge.specs.Faults.{IsFault, after_entry, replay}
+unfoldable pub use Rattle.gb_merge.specs.Faults.{node_after, node_answer}
+pub use Rattle.gb_merge.specs.Front.{FrontIsOneRun, IsMergedFront}
+pub use Rattle.gb_merge.specs.Interleaving.{Pick, sent_by}
+unfoldable pub use Rattle.gb_merge.specs.Interleaving.{AreEvents, entries_at}
+pub use Rattle.gb_merge.specs.Merged.{IsMerged, did, past_of, run_of, told}
+unfoldable pub use Rattle.gb_merge.specs.Rerun.{AreTold, Leads, answers_to}
+pub use Rattle.gb_merge.specs.Woven.{is_refused}
