@@ -5,12 +5,10 @@ use Rattle.gb_types.specs.declared.{entry.Entry.Entry, message.MsgId.MsgId, spec
 use Rattle.gb_types.proofs.SameLemmas.{same-true}
 use Rattle.gb_layer.specs.Common.{mentions}
 use Rattle.gb_rules.proofs.MentionLemmas.{has-known}
-use Rattle.gb_rules.specs.Common.{call_of, calls_of, known, delivered, log_of, puts_of, has, payload_in, entry_in, with_new}
+use Rattle.gb_rules.specs.Common.{call_of, calls_of, known, delivered, log_of, puts_of, has, payload_in, entry_in, with_new, kind_broadcasts, kind_log_once, kind_log_mentioned, kind_broadcasts_mentioned}
 use Rattle.gb_rules.specs.declared.call.GroupCall.{GroupCall}
 use Rattle.gb_rules.specs.declared.call.GroupCall.TheVariants.{Own, Other, Crashed}
 use Rattle.gb_alone.specs.Laws.{copies}
-use Rattle.gb_stack.specs.Kinds.{kind_broadcasts}
-use Rattle.gb_stack.proofs.DeliveryLemmas.{kind_log_once, kind_log_mentioned, kind_broadcasts_mentioned}
 
 -- what holds of each message of a list holds of the entry that is found there
 entry_found : (P : Entry → Type 0) (xs : List Entry) (m : MsgId) → All P xs → has xs m ≡ true → P (entry_in xs m)

@@ -3,8 +3,7 @@ use Rattle.gb_types.specs.Common.{ℕ, Bool, true, false, List, [], Option, Some
 use Rattle.std.specs.FinSet as set
 use Rattle.gb_types.specs.declared.spec.Spec.{Spec}
 use Rattle.gb_fifo.specs.Order.{RunsFromOne}
-use Rattle.gb_stack.proofs.DeliveryLemmas.{kind_log_in_order}
-use Rattle.gb_rules.specs.Common.{calls_of, is_gone}
+use Rattle.gb_rules.specs.Common.{kind_log_in_order, calls_of, is_gone}
 use Rattle.gb_rules.specs.declared.call.GroupCall.{GroupCall}
 use Rattle.gb_alone.specs.Alone.{alone, log_at}
 use Rattle.gb_alone.specs.Laws.{KeepsOrder, IsInOrder}

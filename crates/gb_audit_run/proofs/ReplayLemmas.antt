@@ -4,8 +4,7 @@ use Rattle.gb_types.specs.declared.{node.NodeId.NodeId, plan.Plan.Plan}
 use Rattle.gb_node.specs.Common.{IsTurn, NodeValue, new_node, StarvedSays}
 use Rattle.gb_node.specs.declared.{answer.NodeAnswer.NodeAnswer, tape.TapeEntry.TapeEntry}
 use Rattle.gb_cluster.specs.Common.{node_plan}
-use Rattle.gb_isolation.specs.Isolation.{wants_memory}
-use Rattle.gb_merge.specs.Common.{node_after, after_entry, replay}
+use Rattle.gb_merge.specs.Common.{wants_memory, node_after, after_entry, replay}
 use Rattle.gb_merge.proofs.ActingLemmas.{turned}
 use Rattle.gb_audit_run.specs.Replayed.{AreReplayedTo, IsGiven, IsUnfed, IsStarvedAt}
 

@@ -3,8 +3,7 @@ use Rattle.std.specs.Prelude.{◌≡◌, ℕ, ◌<◌, true, false, List, length
 use Rattle.gb_types.specs.declared.{node.NodeId.NodeId, plan.Plan.Plan}
 use Rattle.gb_node.specs.Common.{IsTurn, NodeValue}
 use Rattle.gb_node.specs.declared.{answer.NodeAnswer.NodeAnswer, tape.TapeEntry.TapeEntry}
-use Rattle.gb_isolation.specs.Isolation.{wants_memory}
-use Rattle.gb_merge.specs.Common.{node_answer, replay}
+use Rattle.gb_merge.specs.Common.{wants_memory, node_answer, replay}
 
 -- the entry's answer is what the node answers that has memory, and no refusal for lack of memory
 abbrev pub IsGiven : NodeValue → TapeEntry → Type 0

@@ -1,8 +1,7 @@
 //! Replaying the record of one node by itself, and comparing the answers.
 ghost use Rattle.std.specs.Prelude.{◌≡◌, ◌<◌, ◌↔◌, All, IfOk, IfErr, IfSome, IfNone, IsTrue};
 ghost use Rattle.gb_cluster.specs.Common.{IsClusterPlan};
-ghost use Rattle.gb_isolation.specs.Isolation.{wants_memory};
-ghost use Rattle.gb_merge.specs.Common.{after_entry};
+ghost use Rattle.gb_merge.specs.Common.{wants_memory, after_entry};
 ghost use Rattle.gb_record_text.specs.Laws.{IsAnswered};
 ghost use Rattle.gb_audit_run.specs.Replayed.{AreReplayed, IsFirstWrong, IsGiven, IsStarvedAt, IsUnfed};
 

@@ -1,8 +1,7 @@
 -- A run leads to one value: an event with its answer determines the next value of a node.
 use Rattle.gb_types.specs.Common.{◌≡◌, List, [], ◌∷◌, ◌++◌, sym, ap, subst, ◌∙◌, inl, inr, slice_set}
 use Rattle.gb_types.specs.declared.{refusal.Refusal.TheVariants.OutOfMemory, reply.Reply.TheVariants.Refused, plan.Plan.Plan}
-use Rattle.gb_rules.specs.Common.{takes_memory}
-use Rattle.gb_node.specs.Common.{IsStarved, IsTurn, NodeValue}
+use Rattle.gb_node.specs.Common.{takes_memory, IsStarved, IsTurn, NodeValue}
 use Rattle.gb_node.specs.declared.{answer.NodeAnswer.NodeAnswer, answer.NodeAnswer.TheVariants.Reply as Replied, answer.NodeAnswer.TheVariants.Sent, answer.Sent.TheVariants.Packet as SentPacket, event.NodeEvent.NodeEvent}
 use Rattle.gb_node.specs.declared.event.NodeEvent.TheVariants.{Request as Asked, Packet as Came, Pack, Again, Ack, Tick, Stop}
 use Rattle.gb_cluster.specs.ClusterStep.{NodeActs, posted}

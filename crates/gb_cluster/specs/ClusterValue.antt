@@ -2,10 +2,9 @@
 use Rattle.std.specs.Prelude.{ℕ, ◌<◌, ◌≤◌, List, [], false, map, slice_index_or}
 use Rattle.std.specs.List.{range_with_len}
 use Rattle.gb_types.specs.declared.limits.TheConstants.{NODES, SILENCE_MIN, SILENCE_MAX}
-use Rattle.gb_rules.specs.declared.room.TheConstants.{ROOMS}
+use Rattle.gb_node.specs.Common.{ROOMS, node_numbered, NodeValue, new_node}
 use Rattle.gb_types.specs.declared.{node.NodeId.NodeId, plan.Plan.Plan}
 use Rattle.gb_types.specs.Common.{limits_of, version_at}
-use Rattle.gb_node.specs.Common.{node_numbered, NodeValue, new_node}
 use Rattle.gb_node.specs.declared.plan.NodePlan.{NodePlan}
 use Rattle.gb_cluster.specs.declared.posted.Posted.{Posted}
 

@@ -7,3 +7,7 @@ unfoldable pub use Rattle.gb_merge.specs.Interleaving.{AreEvents, entries_at}
 pub use Rattle.gb_merge.specs.Merged.{IsMerged, did, past_of, run_of, told}
 unfoldable pub use Rattle.gb_merge.specs.Rerun.{AreTold, Leads, answers_to}
 pub use Rattle.gb_merge.specs.Woven.{is_refused}
+pub use Rattle.gb_isolation.specs.Isolation.{wants_memory}
+pub use Rattle.gb_isolation.specs.Isolation.{alone_in}
+unfoldable pub use Rattle.gb_isolation.specs.Project.{project}
+pub use Rattle.gb_cluster.specs.declared.event.Event.{Event}

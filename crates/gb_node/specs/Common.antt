@@ -11,3 +11,5 @@ pub use Rattle.gb_node.specs.PastLaw.{IsOfPast, PastsSay}
 pub use Rattle.gb_node.specs.Reads.{is_read, packet_room}
 pub use Rattle.gb_node.specs.SendLaw.{BatchesAreForOthers, OthersAreInside, PacketsAreReadBack, PacketsSay, ReachedAreOthers, Says, SendersRun, StarvedSays}
 pub use Rattle.gb_node.specs.StepLaw.{AnswersSay, IsAnswered, IsAsked, IsPacked, IsTakenIn, IsTicked, admitted_answer, group_answer, has_group_token, is_admitted_by, past_answer}
+pub use Rattle.gb_rules.specs.Common.{takes_memory}
+pub use Rattle.gb_rules.specs.declared.room.TheConstants.{ROOMS}

@@ -10,6 +10,5 @@ pub trait RecordName {
 }
 
 impl RecordName for Brand {
-
     ghost book = { no_book };
 }

@@ -1,8 +1,7 @@
 -- The recorders of a host that was just opened.
 use Rattle.gb_types.specs.Common.{◌≡◌, ◌∙◌, ◌<◌, ◌++◌, ◌∷◌, ℕ, Bool, true, false, List, [], length, Option, Some, None, IfSome, ap, arith, refl, subst, nat_cmp}
 use Rattle.std.specs.FinSet as set
-use Rattle.gb_host.specs.Common.{AreOpened, IsOpened, RecorderValue}
-use Rattle.gb_node.specs.declared.tape.TapeEntry.{TapeEntry}
+use Rattle.gb_host.specs.Common.{AreOpened, IsOpened, RecorderValue, TapeEntry}
 use Rattle.gb_host.specs.declared.plan.HostPlan.{HostPlan}
 use Rattle.gb_host.proofs.ReplayLemmas.{placed_next}
 

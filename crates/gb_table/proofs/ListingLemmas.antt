@@ -1,6 +1,6 @@
 -- Groups as a list shows them, and counts of places.
 use Rattle.gb_types.specs.Common.{◌≡◌, ℕ, zero, suc, ◌+◌, ◌<◌, ◌≤◌, List, [], ◌∷◌, ◌++◌, length, take, drop, map, ap, ◌∙◌, true, false, arith, drop-cons, ◌-◌, Bool, cond, count_by, if◌then◌else◌, take-suc, append_assoc, get_or-drop, length-drop}
-use Rattle.gb_layer.specs.Common.{count_by-append, count_by-cons}
+use Rattle.gb_rules.specs.Common.{count_by-append, count_by-cons}
 use Rattle.gb_table.specs.GroupRows.{listed, used}
 use Rattle.gb_table.specs.declared.group_row.GroupRow.{GroupRow}
 use Rattle.gb_table.specs.SlotsValue.{Row, row_at, no_row, is_used}

@@ -3,8 +3,7 @@ use Rattle.gb_types.specs.Common.{◌≡◌, ◌≢◌, ℕ, ◌<◌, ◌≤◌,
 use Rattle.std.specs.FinSet as nodes
 use Rattle.std.proofs.Math.ListN.{get_or-map}
 use Rattle.gb_types.specs.declared.{limits.TheConstants.NODES, limits.TheConstants.PLACES, node.NodeId.NodeId, spec.Spec.Spec}
-use Rattle.gb_layer.specs.declared.call.Call.TheVariants.{Notice}
-use Rattle.gb_rules.specs.Common.{is_member}
+use Rattle.gb_rules.specs.Common.{Notice, is_member}
 use Rattle.gb_slot.specs.Common.{slot_called, slot_noticed, SlotState}
 use Rattle.gb_table.specs.SlotsValue.{Row, row_at, on_slot, gone, no_row}
 use Rattle.gb_table.specs.PlaceSet.{has, IsNext}

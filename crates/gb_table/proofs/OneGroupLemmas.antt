@@ -1,7 +1,7 @@
 -- The effect of each step on the slot that was last at an address.
 use Rattle.gb_types.specs.Common.{◌≡◌, ℕ, suc, zero, ◌+◌, ◌<◌, inl, inr, List, [], ◌∷◌, length, map, take, get_or, refl, sym, ap, ◌∙◌, arith, zero-add, Bool, true, false, not, cond, ltb, ◌&&◌, nat_lt, fold, is_some, Option, Some, None, option_map, slice_set, if◌then◌else◌, position_or_len, cases_Bool, cases_lt, lt-ltb, le-ltb, ltb-true, length-filter}
 use Rattle.gb_types.specs.declared.{address.Addr.Addr, limits.TheConstants.NODES, version.Version.Version, node.NodeId.NodeId}
-use Rattle.gb_rules.specs.Common.{is_too_long, is_addr, stepped, dropped, where_so}
+use Rattle.gb_rules.specs.Common.{is_too_long, is_addr, stepped, dropped, where_so, same_filter, filter-never}
 use Rattle.gb_frame.specs.declared.item.Item.{Item}
 use Rattle.gb_rules.proofs.AddressLemmas.{addr_is}
 use Rattle.gb_slot.specs.Common.{SlotState, slot_came, slot_took}
@@ -16,7 +16,6 @@ use Rattle.gb_table.proofs.AddressLemmas.{place_is, addr_through}
 use Rattle.gb_table.proofs.BatchLemmas.{get_or-gave}
 use Rattle.gb_table.proofs.FrontLemmas.{is_below, agree, filter-map, batch_below, batch_of, items_front}
 use Rattle.gb_table.proofs.TakingLemmas.{length-gave}
-use Rattle.gb_layer.specs.Common.{same_filter, filter-never}
 
 -- The group with an address is the first that has it.
 

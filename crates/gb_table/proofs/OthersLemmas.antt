@@ -3,14 +3,13 @@ use Rattle.gb_types.specs.Common.{◌≡◌, ℕ, zero, suc, ◌+◌, ◌-◌, �
 use Rattle.gb_types.specs.declared.{address.Addr.Addr, limits.TheConstants.NODES, node.NodeId.NodeId, version.Version.Version}
 use Rattle.gb_frame.specs.declared.item.Item.{Item}
 use Rattle.gb_frame.specs.Common.{address_of, entry_of}
-use Rattle.gb_rules.specs.Common.{is_addr, is_too_long, is_other_generation, one_more, one_less}
+use Rattle.gb_rules.specs.Common.{is_addr, is_too_long, is_other_generation, one_more, one_less, count_by-cons, count_by-map, count_by-grown}
 use Rattle.gb_rules.proofs.AddressLemmas.{addr_is}
 use Rattle.gb_slot.specs.Common.{slot_came, slot_took, SlotState}
 use Rattle.gb_table.specs.SlotsValue.{Row, row_at, vacant, with_vacant, with_room, on_slot, gone}
 use Rattle.gb_table.specs.Packing.{Visit, gave, share, took}
 use Rattle.gb_table.specs.AtAddress.{place_of, on_address, drop_at, item_came}
 use Rattle.gb_table.specs.Rooms.{is_living_other, others_living}
-use Rattle.gb_layer.specs.Common.{count_by-cons, count_by-map, count_by-grown}
 use Rattle.gb_table.proofs.OneGroupLemmas.{first_with, changed, change_first, step_is, gone_is}
 
 abbrev flag : Bool → ℕ

@@ -4,8 +4,7 @@ use Rattle.std.specs.FinSet as nodes
 use Rattle.gb_types.specs.declared.{address.Addr.Addr, entry.Entry.Entry, message.MsgId.MsgId, node.NodeId.NodeId, spec.Spec.Spec, version.Version.Version, reply.Reply.Reply, new_message.NewMessage.NewMessage}
 use Rattle.gb_types.specs.declared.reply.Reply.TheVariants.{Done, Said, Log, Refused}
 use Rattle.gb_frame.specs.declared.item.Item.{Item}
-use Rattle.gb_layer.specs.declared.call.Call.TheVariants.{Came, Notice}
-use Rattle.gb_rules.specs.Common.{with_new, is_other, is_too_long, say_answer}
+use Rattle.gb_rules.specs.Common.{Came, Notice, with_new, is_other, is_too_long, say_answer}
 use Rattle.gb_rules.proofs.LengthLemmas.{within_limit}
 use Rattle.gb_rules.specs.declared.phase.Phase.{Phase}
 use Rattle.gb_slot.specs.Common.{falls, shown, slot_called, slot_moved, slot_said, slot_came, slot_noticed, slot_took, slot_done, new_slot, with_acknowledgement, SlotState}

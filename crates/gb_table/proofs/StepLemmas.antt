@@ -3,8 +3,7 @@ use Rattle.gb_types.specs.Common.{◌≡◌, ℕ, zero, suc, ◌≤◌, map, dro
 use Rattle.std.specs.FinSet as nodes
 use Rattle.gb_types.specs.declared.{address.Addr.Addr, entry.Entry.Entry, message.MsgId.MsgId, node.NodeId.NodeId, reply.Reply.Reply, version.Version.Version, new_message.NewMessage.NewMessage}
 use Rattle.gb_types.specs.declared.reply.Reply.TheVariants.{Done, Said, Log, Refused}
-use Rattle.gb_layer.specs.declared.call.Call.TheVariants.{Came, Notice}
-use Rattle.gb_rules.specs.Common.{has, payload_in, entry_in, with_new, Shown, is_other, say_answer}
+use Rattle.gb_rules.specs.Common.{Came, Notice, has, payload_in, entry_in, with_new, Shown, is_other, say_answer}
 use Rattle.gb_rules.specs.declared.phase.Phase.{Phase}
 use Rattle.gb_slot.specs.Common.{falls, own_entry, shown, waiting, taken_for, slot_called, slot_moved, slot_said, slot_came, slot_noticed, slot_done, slot_took, SlotState}
 use Rattle.gb_table.specs.Packing.{queue, queue_of}

@@ -1,8 +1,7 @@
 use Rattle.gb_types.specs.Common.{List, ap, sym, ◌∙◌, subst, bounds_of}
 use Rattle.gb_alone.specs.Common.{alone, IsLegal, observed_alone}
 use Rattle.gb_cluster.specs.Common.{Did}
-use Rattle.gb_isolation.specs.Isolation.{alone_in}
-use Rattle.gb_isolation.specs.Project.{project}
+use Rattle.gb_merge.specs.Common.{alone_in, project}
 use Rattle.gb_merge.proofs.RerunLemmas.{NodeLaws}
 use Rattle.gb_trace.specs.Observed.{observed}
 use Rattle.gb_trace.specs.Trace.{run_of}

@@ -1,5 +1,5 @@
 use Rattle.gb_types.specs.Common.{◌≡◌, false, sym, ◌∙◌}
-use Rattle.gb_isolation.specs.Isolation.{wants_memory}
+use Rattle.gb_merge.specs.Common.{wants_memory}
 use Rattle.gb_audit_run.proofs.ReplayLemmas.{given_so, same_so, after_so}
 use Rattle.gb_audit_run.proofs.replay.is_right.Goals as goal
 
