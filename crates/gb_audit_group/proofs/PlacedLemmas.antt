@@ -6,7 +6,7 @@ use Rattle.gb_cluster.specs.Common.{IsPlaced, ClusterValue, Did, ComesTo}
 use Rattle.gb_cluster.specs.declared.event.Event.{Event}
 use Rattle.gb_merge.specs.Common.{IsMergedFront, Pick, sent_by, AreEvents, did, run_of}
 use Rattle.gb_merge.proofs.ActingLemmas.{placed_so}
-use Rattle.gb_merge.proofs.RerunLemmas.{back, placed}
+use Rattle.gb_isolation.proofs.MomentLemmas.{back, placed}
 
 placed_in : (plan : Plan) (sent : List (List ℕ)) (picks : List Pick) (events : List Event) (behind : List Did) (v : ClusterValue) → ComesTo plan (run_of picks ++ behind) v → AreEvents plan sent picks events → All (IsPlaced plan.nodes) events
 unfolding AreEvents
