@@ -3,7 +3,7 @@
 
 use clap::error::ErrorKind;
 use gb_client::secrets::read_secrets;
-use gb_client::{ClientFault, Errand, Secrets, Task};
+use gb_client::{ClientFault, Errand, Secrets, Server, Task};
 use gb_client_run::ending::{end_run, refuse_file};
 use gb_client_run::following::WAIT;
 use gb_client_run::listed::list;
@@ -95,6 +95,11 @@ fn run_on<R: Read, S: Write>(
     )
 }
 
+// The longest wait for a reply where a log is followed, in seconds: a node may wait for something new before it replies.
+fn longest_wait(server: Server) -> u64 {
+    u64::from(WAIT) / 1_000 + u64::from(server.wait)
+}
+
 // Opens what a task takes, and runs it. The exit status, or the fault that came before it.
 fn go(
     rt: &HostRuntime,
@@ -104,7 +109,7 @@ fn go(
 ) -> Result<u8, ClientFault> {
     let alloc = rt.alloc();
     if let Task::At(server, Errand::Follow(node, _, _, _)) = task {
-        let wait = u64::from(WAIT) / 1_000 + u64::from(server.wait);
+        let wait = longest_wait(*server);
         let stream = connect(rt, listed, server.sessions_port(*node), wait)?;
         let (mut reader, mut sender) = (&stream, &stream);
         return Ok(run_on(rt, listed, secrets, task, &mut reader, &mut sender, &[]));
