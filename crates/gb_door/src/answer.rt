@@ -4,9 +4,9 @@ ghost use Rattle.gb_door.specs.Answer.{answer_of, code_of, common_lines, file_of
 
 use crate::asked::Asked;
 use crate::page::Page;
+use gb_spelling::number::put_number;
 use gb_types::OutOfMemory;
 use gb_types::memory::put_bytes;
-use gb_types::number::put_number;
 use std::alloc::Global;
 
 /// What an answer is, by its status code.

@@ -1,7 +1,6 @@
 //! What the head of a request by HTTP asks a door for.
 ghost use Rattle.std.specs.Prelude.{◌≡◌, ◌≤◌, All, length, map};
-ghost use Rattle.std.specs.List.{list_all, list_any};
-ghost use Rattle.std.specs.Str.{bytes_eq};
+ghost use Rattle.std.specs.{List.list_all, List.list_any, Str.bytes_eq};
 ghost use Rattle.httparse.specs.Spans.{IsHeaderWithin, header_bytes};
 ghost use Rattle.gb_door.specs.Asked.{Asks, admits, is_origin, place_asked};
 

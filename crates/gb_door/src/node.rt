@@ -1,6 +1,5 @@
 //! The node behind a door: requests go to its sessions over TCP, one after the other.
-ghost use Rattle.std.specs.Prelude.{◌≤◌, length, IfOk};
-ghost use Rattle.std.specs.Io.KnownBytes.{Appends, Consumes};
+ghost use Rattle.std.specs.{Prelude.◌≤◌, Prelude.length, Prelude.IfOk, Io.KnownBytes.Appends, Io.KnownBytes.Consumes};
 ghost use Rattle.gb_session.specs.Streams.{framed};
 ghost use Rattle.gb_session.specs.declared.grammar.TheConstants.{BODY};
 

@@ -8,6 +8,8 @@ use std::rt::Files;
 /// How many bytes each file of a page may have.
 pub const FILE: usize = 1_048_576;
 
+const _: () = prove!(FILE == 1_048_576);
+
 /// The three files of a page.
 #[derive(Drop)]
 pub struct Page {

@@ -12,6 +12,8 @@ use std::time::{Clock, Duration};
 // How long nobody is taken in where a connection could not be, in milliseconds.
 const PAUSE: u64 = 10;
 
+const _: () = prove!(PAUSE == 10);
+
 // Serves a connection, and counts that it is over.
 fn attend<H: Net<Listener = TcpListener, Stream = TcpStream> + Clock>(
     rt: &H,

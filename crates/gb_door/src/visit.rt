@@ -20,6 +20,8 @@ pub const HEAD: usize = 8_192;
 // How many bytes one read asks for.
 const PIECE: usize = 1_024;
 
+const _: () = prove!(HEAD == 8_192 && PIECE == 1_024);
+
 // Reads the head of a request, and returns what it asks for. None: it did not come in time, or the connection ended, or there is no memory.
 fn read_head<R: Read>(reader: &mut R, origins: &[&str], head: &mut Vec<u8>) -> Option<Asked> {
     for _ in 0..HEAD {

@@ -1,6 +1,5 @@
 //! The program gb_web from its words to its exit status.
-ghost use Rattle.std.specs.Prelude.{◌≡◌, true};
-ghost use Rattle.std.specs.Io.KnownBytes.{Appends};
+ghost use Rattle.std.specs.{Prelude.◌≡◌, Prelude.true, Io.KnownBytes.Appends};
 
 use crate::door::Door;
 use crate::limits::usual_limits;

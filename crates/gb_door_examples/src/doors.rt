@@ -290,3 +290,43 @@ fn one_more_is_closed(rt: HostRuntime) {
     );
     assert!(rt; is_right);
 }
+
+// The head of a request for the page, of this many bytes.
+fn long_head(alloc: Global, bytes: usize) -> Option<Vec<u8>> {
+    let (front, back) = (b"GET / HTTP/1.1\r\nx: ", b"\r\n\r\n");
+    let mut head = Vec::from_slice(alloc, front).ok()?;
+    let count = bytes.saturating_sub(front.len() + back.len());
+    head.extend_from_slice(&Vec::from_elem(alloc, b'a', count).ok()?)
+        .ok()?;
+    head.extend_from_slice(back).ok()?;
+    Some(head)
+}
+
+// Whether a head of 8,192 bytes is answered by the page, and one of 9,216 refused: as many, and the bytes of one read.
+fn are_bounded<H: Net<Stream = TcpStream>>(rt: &H, alloc: Global, port: u16) -> bool {
+    let (Some(longest), Some(longer)) = (long_head(alloc, 8_192), long_head(alloc, 9_216)) else {
+        return false;
+    };
+    let is_taken = is_answered(rt, alloc, port, &longest, b"HTTP/1.1 200 OK\r\n");
+    let is_refused = is_answered(rt, alloc, port, &longer, b"HTTP/1.1 400 Bad Request\r\n");
+    is_taken && is_refused
+}
+
+#[test]
+fn a_head_is_as_long_as_it_may_be(rt: HostRuntime) {
+    let alloc = rt.alloc();
+    let Ok(page) = plain_page(alloc) else {
+        assert!(rt; false);
+        return;
+    };
+    let Ok(listener) = TcpListener::bind(&rt, local(26_704)) else {
+        assert!(rt; false);
+        return;
+    };
+    let (is_right, _) = thread::join(
+        &rt,
+        || are_bounded(&rt, alloc, 26_704),
+        || open(&rt, alloc, &listener, &page, 26_705, 2, 2),
+    );
+    assert!(rt; is_right);
+}

@@ -61,6 +61,22 @@ fn heads_ask_for(rt: HostRuntime) {
     }
 }
 
+// What a head with this many fields asks for.
+fn asked_with(alloc: Global, fields: usize) -> Option<Asked> {
+    let mut head = Vec::from_slice(alloc, b"GET / HTTP/1.1\r\n").ok()?;
+    for _ in 0..fields {
+        head.extend_from_slice(b"a: b\r\n").ok()?;
+    }
+    head.extend_from_slice(b"\r\n").ok()?;
+    Some(asked_for(&head, &ORIGINS))
+}
+
+#[test]
+fn a_head_has_as_many_fields_as_it_may(rt: HostRuntime) {
+    assert!(rt; asked_with(rt.alloc(), 64) == Some(Asked::Page));
+    assert!(rt; asked_with(rt.alloc(), 65) == Some(Asked::NoRequest));
+}
+
 // Whether an answer begins and ends with these bytes.
 fn is_answered(alloc: Global, page: &Page, asked: Asked, front: &[u8], back: &[u8]) -> bool {
     match answer(alloc, asked, page) {

@@ -9,4 +9,6 @@ mod doors;
 #[cfg(test)]
 mod heads;
 #[cfg(test)]
+mod pages;
+#[cfg(test)]
 mod web_words;
