@@ -1,27 +1,13 @@
 ghost use Rattle.std.specs.Prelude.{◌<◌};
 
+use crate::schedule::{FIRST, PLAN, SECOND};
 use gb_cluster::{Answer, Cluster, Event, Sending};
 use gb_frame::PacketFault;
 use gb_node::{Halted, NodeEvent, PacketAnswer, PacketText};
-use gb_types::limits::NODES;
-use gb_types::{NodeId, OutOfMemory, Plan, Refusal, Version};
+use gb_types::{OutOfMemory, Refusal};
 use std::alloc::Global;
 use std::rt::HostRuntime;
 use std::test::Fail;
-
-const FIRST: NodeId = NodeId { number: 0 };
-
-const SECOND: NodeId = NodeId { number: 1 };
-
-const PLAN: Plan = Plan {
-    nodes: 2,
-    versions: [Version::One; NODES],
-    silence: 3,
-    places: 4,
-    room: 16_345,
-    cluster_key: [3; 32],
-    admin_key: [1; 32],
-};
 
 /// Returns a short name for an answer.
 fn word(answer: &Answer) -> &'static str {

@@ -1,10 +1,7 @@
 // A tenant by itself, and beside another one whose messages share its frames: a lazy group, and a first-in first-out one.
-use crate::projected::{Shown, show};
 use crate::schedule::group_of;
-use crate::short::is_same;
-use crate::stops::{are_fetched, is_plan, read, right_trace};
-use crate::told::{Told, are_same_steps, are_steps};
-use gb_cluster::Event;
+use crate::shown::{RightRun, agree, is_as_told, run_by};
+use crate::told::{OPEN_AT_THIRD, OPEN_AT_TWO, Told, ToldAt};
 use gb_types::OutOfMemory;
 use std::alloc::Global;
 use std::rt::HostRuntime;
@@ -89,17 +86,8 @@ const BESIDE: [&[u8]; 42] = [
     b"fetch 1 7 1 0 16",
 ];
 
-/// The part of both runs that concerns the first tenant's group, written by hand.
-const LAZY: &[(u8, Told)] = &[
-    (0, Told::Tenant),
-    (0, Told::Make),
-    (0, Told::Open),
-    (1, Told::Tenant),
-    (1, Told::Make),
-    (1, Told::Open),
-    (2, Told::Tenant),
-    (2, Told::Make),
-    (2, Told::Open),
+/// The part of both runs that concerns the first tenant's group, once it is open at the three nodes. It is written by hand.
+const LAZY: &[ToldAt] = &[
     (0, Told::Say),
     (0, Told::Took(1, 1)),
     (0, Told::Say),
@@ -115,17 +103,8 @@ const LAZY: &[(u8, Told)] = &[
     (1, Told::Fetch),
 ];
 
-/// The part of the second run that concerns the other tenant's group, written by hand.
-const FIFO: &[(u8, Told)] = &[
-    (0, Told::Tenant),
-    (0, Told::Make),
-    (0, Told::Open),
-    (1, Told::Tenant),
-    (1, Told::Make),
-    (1, Told::Open),
-    (2, Told::Tenant),
-    (2, Told::Make),
-    (2, Told::Open),
+/// The part of the second run that concerns the other tenant's group, once it is open at the three nodes. It is written by hand.
+const FIFO: &[ToldAt] = &[
     (0, Told::Say),
     (0, Told::Took(1, 1)),
     (0, Told::Say),
@@ -141,39 +120,21 @@ const FIFO: &[(u8, Told)] = &[
     (2, Told::Fetch),
 ];
 
-/// Returns what a run of these lines shows of the tenant's group, if all is right in it and the logs that are fetched have these
-/// numbers of entries. The events are added to a list, which is empty before.
-fn shown_in(
+/// Returns the run of these lines, if all is right in it, the logs that are fetched have these numbers of entries, and the run shows these
+/// steps of the tenant's group once it is open.
+fn told_by(
     alloc: Global,
     lines: &[&[u8]],
     logs: &[usize],
     tenant: u16,
-    events: &mut Vec<Event>,
-) -> Result<Option<Shown>, OutOfMemory> {
-    let Some(plan) = read(alloc, lines, events)? else {
-        return Ok(None);
-    };
-    if !is_plan(&plan) {
-        return Ok(None);
+    steps: &[ToldAt],
+) -> Result<Option<RightRun>, OutOfMemory> {
+    match run_by(alloc, lines, group_of(tenant))? {
+        Some(run) if is_as_told(&run, 4, logs, &[OPEN_AT_TWO, OPEN_AT_THIRD, steps]) => {
+            Ok(Some(run))
+        }
+        _ => Ok(None),
     }
-    let Some(trace) = right_trace(alloc, plan, events)? else {
-        return Ok(None);
-    };
-    if trace.packets.len() != 4 || !are_fetched(trace.answers.as_slice(), logs) {
-        return Ok(None);
-    }
-    show(alloc, &plan, events, &trace, group_of(tenant))
-}
-
-/// Returns what a run of these lines shows of the tenant's group.
-fn shown_by(
-    alloc: Global,
-    lines: &[&[u8]],
-    logs: &[usize],
-    tenant: u16,
-) -> Result<Option<Shown>, OutOfMemory> {
-    let mut events = Vec::new(alloc);
-    shown_in(alloc, lines, logs, tenant, &mut events)
 }
 
 /// The numbers of entries of the logs that are fetched.
@@ -183,24 +144,14 @@ const LOGS_BESIDE: [usize; 6] = [1, 0, 2, 2, 1, 2];
 
 /// Returns true if both runs show the same of the first tenant's group, and the projection is the one that is written by hand.
 fn agrees(alloc: Global) -> Result<bool, OutOfMemory> {
-    let by_itself = shown_by(alloc, &BY_ITSELF, &LOGS_BY_ITSELF, 7)?;
-    let beside = shown_by(alloc, &BESIDE, &LOGS_BESIDE, 7)?;
-    match (&by_itself, &beside) {
-        (Some(one), Some(other)) => Ok(
-            are_steps(&one.steps, LAZY)
-                && are_same_steps(&one.steps, &other.steps)
-                && is_same(&one.seen, &other.seen),
-        ),
-        _ => Ok(false),
-    }
+    let by_itself = told_by(alloc, &BY_ITSELF, &LOGS_BY_ITSELF, 7, LAZY)?;
+    let beside = told_by(alloc, &BESIDE, &LOGS_BESIDE, 7, LAZY)?;
+    Ok(agree(&by_itself, &beside))
 }
 
 /// Returns true if the projection on the second tenant's group is the one that is written by hand.
 fn is_told(alloc: Global) -> Result<bool, OutOfMemory> {
-    match shown_by(alloc, &BESIDE, &LOGS_BESIDE, 8)? {
-        None => Ok(false),
-        Some(beside) => Ok(are_steps(&beside.steps, FIFO)),
-    }
+    Ok(told_by(alloc, &BESIDE, &LOGS_BESIDE, 8, FIFO)?.is_some())
 }
 
 // A tenant's group has the same projection and the same observation by itself and beside another tenant's group.

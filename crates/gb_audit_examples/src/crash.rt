@@ -1,22 +1,18 @@
 // A cluster of three nodes. Two of them stop. Events are in short.
-use crate::schedule::{FIRST, SECOND, drop_group, fetch, furnish, say, spec_with};
-use crate::told::Told;
+use crate::schedule;
+use crate::schedule::{FIRST, SECOND, ToldOf, drop_group, fetch, furnish, say, spec_with};
+use crate::told::{OPEN_AT_THIRD, OPEN_AT_TWO, Told, ToldAt};
 use gb_cluster::Event;
 use gb_node::NodeEvent;
-use gb_types::limits::NODES;
-use gb_types::{Module, NodeId, NodeSet, OutOfMemory, Plan, Spec, Version};
+use gb_types::{Module, NodeId, NodeSet, OutOfMemory, Plan, Spec};
 use std::alloc::Global;
 
 const THIRD: NodeId = NodeId { number: 2 };
 
 pub const PLAN: Plan = Plan {
     nodes: 3,
-    versions: [Version::One; NODES],
     silence: 2,
-    places: 8,
-    room: 16_345,
-    cluster_key: [3; 32],
-    admin_key: [1; 32],
+    ..schedule::PLAN
 };
 
 /// What happens, in short.
@@ -71,17 +67,8 @@ const ACTS: [Act; 31] = [
     Act::Fetch(FIRST, 7),
 ];
 
-/// The parts of this run that concern the groups of tenants 7, 8 and 9: best effort, eager, and all-ack.
-const BEST_EFFORT: [(u8, Told); 18] = [
-    (0, Told::Tenant),
-    (0, Told::Make),
-    (0, Told::Open),
-    (1, Told::Tenant),
-    (1, Told::Make),
-    (1, Told::Open),
-    (2, Told::Tenant),
-    (2, Told::Make),
-    (2, Told::Open),
+/// The parts of this run that concern the groups of tenants 7 and 8, best effort and eager, once they are open at the three nodes.
+const BEST_EFFORT: &[ToldAt] = &[
     (0, Told::Say),
     (0, Told::Took(1, 1)),
     (1, Told::Came(0, 1)),
@@ -93,16 +80,7 @@ const BEST_EFFORT: [(u8, Told); 18] = [
     (0, Told::Fetch),
 ];
 
-const EAGER: [(u8, Told); 23] = [
-    (0, Told::Tenant),
-    (0, Told::Make),
-    (0, Told::Open),
-    (1, Told::Tenant),
-    (1, Told::Make),
-    (1, Told::Open),
-    (2, Told::Tenant),
-    (2, Told::Make),
-    (2, Told::Open),
+const EAGER: &[ToldAt] = &[
     (0, Told::Say),
     (1, Told::Say),
     (0, Told::Took(1, 1)),
@@ -119,7 +97,8 @@ const EAGER: [(u8, Told); 23] = [
     (0, Told::Drop),
 ];
 
-const ALL_ACK: [(u8, Told); 11] = [
+/// The part that concerns the group of tenant 9, all-ack.
+const ALL_ACK: &[ToldAt] = &[
     (1, Told::Tenant),
     (1, Told::Make),
     (1, Told::Open),
@@ -133,15 +112,24 @@ const ALL_ACK: [(u8, Told); 11] = [
     (1, Told::Fetch),
 ];
 
-/// Returns the part of the run in which two of three nodes stop that concerns the group of this tenant, 7, 8 or 9. Each step is the
-/// number of a node and what happens there. It is written by hand.
-pub fn told(tenant: u16) -> &'static [(u8, Told)] {
-    match tenant {
-        7 => &BEST_EFFORT,
-        8 => &EAGER,
-        _ => &ALL_ACK,
-    }
-}
+/// What is told of each group in the run of `events`. It is written by hand.
+pub const TOLD: [ToldOf; 3] = [
+    ToldOf {
+        tenant: 7,
+        parts: &[OPEN_AT_TWO, OPEN_AT_THIRD, BEST_EFFORT],
+        second: None,
+    },
+    ToldOf {
+        tenant: 8,
+        parts: &[OPEN_AT_TWO, OPEN_AT_THIRD, EAGER],
+        second: None,
+    },
+    ToldOf {
+        tenant: 9,
+        parts: &[ALL_ACK],
+        second: None,
+    },
+];
 
 fn spec_of(tenant: u16) -> Spec {
     let mut members = NodeSet::new();

@@ -1,5 +1,5 @@
 // Each fault of merging, by tapes that nodes made.
-use crate::merged::{Case, judge, judge_front, judge_front_fault};
+use crate::merged::{Case, Part, judge, judge_part};
 use crate::steps::{At, Step};
 use gb_merge::AuditFault;
 use gb_types::Refusal;
@@ -98,9 +98,9 @@ fn an_answer_is_another(rt: HostRuntime) {
 // The packet that no tape sent, and each entry behind it, are not in the run.
 #[test]
 fn a_front_ends_where_a_packet_was_never_sent(rt: HostRuntime) {
-    judge_front(&rt, rt.alloc(), &UNSENT, &[]);
-    judge_front(&rt, rt.alloc(), &STUCK, &["2a"]);
-    judge_front(&rt, rt.alloc(), &STRANGER, &[]);
+    judge_part(&rt, rt.alloc(), Part::Front, &UNSENT, Ok(&[]));
+    judge_part(&rt, rt.alloc(), Part::Front, &STUCK, Ok(&["2a"]));
+    judge_part(&rt, rt.alloc(), Part::Front, &STRANGER, Ok(&[]));
 }
 
 // A packet of the second node comes to the first, whose tick follows. The second node's tape is lost: the first ends before that
@@ -123,12 +123,14 @@ const CUT: Case = Case {
 #[test]
 fn a_tape_that_is_cut_short_ends_others_where_they_took_what_it_sent(rt: HostRuntime) {
     judge(&rt, rt.alloc(), &CUT);
-    judge_front(&rt, rt.alloc(), &CUT, &["0t", "0a", "#1", "2t"]);
+    let front: &[&str] = &["0t", "0a", "#1", "2t"];
+    judge_part(&rt, rt.alloc(), Part::Front, &CUT, Ok(front));
 }
 
 // A wrong answer in the front is a fault, not a cut.
 #[test]
 fn a_front_with_another_answer_differs(rt: HostRuntime) {
-    judge_front_fault(&rt, rt.alloc(), &ITSELF_NOTICED, AuditFault::Differs);
-    judge_front_fault(&rt, rt.alloc(), &REFUSED, AuditFault::Differs);
+    let differs = Err(AuditFault::Differs);
+    judge_part(&rt, rt.alloc(), Part::Front, &ITSELF_NOTICED, differs);
+    judge_part(&rt, rt.alloc(), Part::Front, &REFUSED, differs);
 }

@@ -1,11 +1,8 @@
 // Two generations of one room whose messages share frames, and a room with as many generations as may live. Each is seen in the run
 // as it is alone, under a projection that tells what was made and dropped of the others.
-use crate::projected::{Shown, show};
-use crate::short::{Got, are_replies, is_same};
-use crate::stops::{is_plan, read, right_trace};
-use crate::told::{Told, are_same_steps, are_steps};
-use gb_alone::Observation;
-use gb_cluster::Event;
+use crate::short::{Got, are_seen};
+use crate::shown::{agree, run_by};
+use crate::told::{OPEN_AT_TWO, Told, ToldAt, are_steps};
 use gb_types::{Addr, OutOfMemory, Refusal};
 use std::alloc::Global;
 use std::process::Abort;
@@ -74,14 +71,8 @@ const SHARED: [&[u8]; 29] = [
     b"fetch 0 7 1 0 16",
 ];
 
-/// The part of both runs that concerns the group, written by hand.
-const FIRST: &[(u8, Told)] = &[
-    (0, Told::Tenant),
-    (0, Told::Make),
-    (0, Told::Open),
-    (1, Told::Tenant),
-    (1, Told::Make),
-    (1, Told::Open),
+/// The part of both runs that concerns the group, once it is open at both nodes. It is written by hand.
+const FIRST: &[ToldAt] = &[
     (0, Told::OtherMade(1)),
     (1, Told::OtherMade(1)),
     (0, Told::Say),
@@ -111,7 +102,7 @@ const FIRST_AT_0: &[Got] = &[
 const FIRST_AT_1: &[Got] = &[Got::Done, Got::Done, Got::Log(0), Got::Log(2), Got::Log(2)];
 
 /// The part of the second run that concerns the next generation, written by hand.
-const NEXT: &[(u8, Told)] = &[
+const NEXT: &[ToldAt] = &[
     (0, Told::Tenant),
     (0, Told::OtherMade(0)),
     (1, Told::Tenant),
@@ -164,7 +155,7 @@ const FULL: [&[u8]; 14] = [
 ];
 
 /// The part of it that concerns the later generation, written by hand. The first make is refused.
-const LATER: &[(u8, Told)] = &[
+const LATER: &[ToldAt] = &[
     (0, Told::Tenant),
     (0, Told::OtherMade(0)),
     (0, Told::OtherMade(1)),
@@ -185,7 +176,7 @@ const LATER_AT_0: &[Got] = &[
 ];
 
 /// The part that concerns a generation that was left out.
-const LEFT_OUT: &[(u8, Told)] = &[
+const LEFT_OUT: &[ToldAt] = &[
     (0, Told::Tenant),
     (0, Told::OtherMade(0)),
     (0, Told::OtherMade(1)),
@@ -207,55 +198,19 @@ fn generation(generation: u32) -> Addr {
     }
 }
 
-/// Returns what a run of these lines shows of a group, if all is right in it. The events are added to a list, which is empty before.
-fn shown_in(
-    alloc: Global,
-    lines: &[&[u8]],
-    addr: Addr,
-    events: &mut Vec<Event>,
-) -> Result<Option<Shown>, OutOfMemory> {
-    let Some(plan) = read(alloc, lines, events)? else {
-        return Ok(None);
-    };
-    if !is_plan(&plan) {
-        return Ok(None);
-    }
-    match right_trace(alloc, plan, events)? {
-        None => Ok(None),
-        Some(trace) => show(alloc, &plan, events, &trace, addr),
-    }
-}
-
-fn shown_by(alloc: Global, lines: &[&[u8]], addr: Addr) -> Result<Option<Shown>, OutOfMemory> {
-    let mut events = Vec::new(alloc);
-    shown_in(alloc, lines, addr, &mut events)
-}
-
-/// Returns true if these replies are seen at each node.
-fn are_seen(seen: &Observation, wanted: &[&[Got]]) -> bool {
-    let nodes = seen.nodes();
-    if nodes.len() != wanted.len() {
-        return false;
-    }
-    for i in 0..nodes.len() {
-        if !are_replies(nodes[i].replies(), wanted[i]) {
-            return false;
-        }
-    }
-    true
-}
-
 /// Returns true if a run of these lines shows these steps of a generation, and these replies at each node.
 fn is_told(
     alloc: Global,
     lines: &[&[u8]],
     number: u32,
-    steps: &[(u8, Told)],
+    parts: &[&[ToldAt]],
     replies: &[&[Got]],
 ) -> Result<bool, OutOfMemory> {
-    match shown_by(alloc, lines, generation(number))? {
+    match run_by(alloc, lines, generation(number))? {
         None => Ok(false),
-        Some(shown) => Ok(are_steps(&shown.steps, steps) && are_seen(&shown.seen, replies)),
+        Some(run) => {
+            Ok(are_steps(&run.shown.steps, parts) && are_seen(&run.shown.seen, replies))
+        }
     }
 }
 
@@ -265,35 +220,31 @@ fn compare(
     alloc: Global,
     lines: &[&[u8]],
     number: u32,
-    steps: &[(u8, Told)],
+    parts: &[&[ToldAt]],
     replies: &[&[Got]],
 ) -> Result<(), OutOfMemory> {
-    let told = is_told(alloc, lines, number, steps, replies)?;
+    let told = is_told(alloc, lines, number, parts, replies)?;
     assert!(rt; told);
     Ok(())
 }
 
 /// Returns true if both runs show the same of the group.
 fn agrees(alloc: Global) -> Result<bool, OutOfMemory> {
-    let silent = shown_by(alloc, &SILENT, generation(0))?;
-    let shared = shown_by(alloc, &SHARED, generation(0))?;
-    match (&silent, &shared) {
-        (Some(one), Some(other)) => {
-            Ok(are_same_steps(&one.steps, &other.steps) && is_same(&one.seen, &other.seen))
-        }
-        _ => Ok(false),
-    }
+    let silent = run_by(alloc, &SILENT, generation(0))?;
+    let shared = run_by(alloc, &SHARED, generation(0))?;
+    Ok(agree(&silent, &shared))
 }
 
 // Another generation's messages change nothing in the group, and the group's nothing in the other generation.
 #[test]
 fn two_generations_share_their_frames(rt: HostRuntime) -> Result<(), Fail> {
     let alloc = rt.alloc();
-    compare(&rt, alloc, &SILENT, 0, FIRST, &[FIRST_AT_0, FIRST_AT_1])?;
-    compare(&rt, alloc, &SHARED, 0, FIRST, &[FIRST_AT_0, FIRST_AT_1])?;
+    let first: &[&[ToldAt]] = &[OPEN_AT_TWO, FIRST];
+    compare(&rt, alloc, &SILENT, 0, first, &[FIRST_AT_0, FIRST_AT_1])?;
+    compare(&rt, alloc, &SHARED, 0, first, &[FIRST_AT_0, FIRST_AT_1])?;
     let agrees = agrees(alloc)?;
     assert!(rt; agrees);
-    compare(&rt, alloc, &SHARED, 1, NEXT, &[NEXT_AT_0, NEXT_AT_1])?;
+    compare(&rt, alloc, &SHARED, 1, &[NEXT], &[NEXT_AT_0, NEXT_AT_1])?;
     Ok(())
 }
 
@@ -301,7 +252,7 @@ fn two_generations_share_their_frames(rt: HostRuntime) -> Result<(), Fail> {
 #[test]
 fn generations_of_a_full_room_are_seen_alone(rt: HostRuntime) -> Result<(), Fail> {
     let alloc = rt.alloc();
-    compare(&rt, alloc, &FULL, 5, LATER, &[LATER_AT_0])?;
-    compare(&rt, alloc, &FULL, 2, LEFT_OUT, &[LEFT_OUT_AT_0])?;
+    compare(&rt, alloc, &FULL, 5, &[LATER], &[LATER_AT_0])?;
+    compare(&rt, alloc, &FULL, 2, &[LEFT_OUT], &[LEFT_OUT_AT_0])?;
     Ok(())
 }

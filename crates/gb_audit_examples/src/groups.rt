@@ -3,16 +3,16 @@ ghost use Rattle.gb_cluster.specs.Common.{IsClusterPlan};
 ghost use Rattle.gb_merge.specs.Common.{IsMergedFront};
 
 use crate::merged::plan_with;
-use crate::records::records_of;
-use crate::requests::{ADMIN_KEY, Asked, group_of};
+use crate::records::{KEYS, records_of, sources};
+use crate::requests::{Asked, group_of};
 use crate::steps::{At, Step};
 use gb_alone::{NodeSeen, Observation};
 use gb_audit_group::GroupSeen;
 use gb_audit_group::compare::compare;
 use gb_audit_group::lines::put_group;
 use gb_audit_group::same::is_same;
+use gb_audit_run::Audited;
 use gb_audit_run::audit::audit;
-use gb_audit_run::{Audited, ClusterKeys, Source};
 use gb_types::{Addr, Entries, Entry, NodeId, OutOfMemory, Payload, Refusal, Reply};
 use std::alloc::Global;
 use std::rt::HostRuntime;
@@ -106,22 +106,8 @@ fn are_shown(alloc: Global) -> Result<bool, OutOfMemory> {
     let [first, second] = texts.as_slice() else {
         return Ok(false);
     };
-    let sources = [
-        Source {
-            name: "a",
-            text: first.as_slice(),
-        },
-        Source {
-            name: "b",
-            text: second.as_slice(),
-        },
-    ];
-    let keys = ClusterKeys {
-        cluster: [3; 32],
-        admin: ADMIN_KEY,
-    };
     let mut told = Vec::new(alloc);
-    let Some(audited) = audit(alloc, &sources, keys, &mut told)? else {
+    let Some(audited) = audit(alloc, &sources(first, second), KEYS, &mut told)? else {
         return Ok(false);
     };
     for case in &CASES {

@@ -1,5 +1,5 @@
 // Tapes of nodes that had no memory for some events.
-use crate::merged::{Case, judge, judge_fed, judge_fed_fault};
+use crate::merged::{Case, Part, judge, judge_part};
 use crate::requests::Asked;
 use crate::steps::Step;
 use gb_merge::AuditFault;
@@ -30,12 +30,8 @@ const LACKING: Case = Case {
 #[test]
 fn what_was_refused_is_left_out(rt: HostRuntime) {
     judge(&rt, rt.alloc(), &LACKING);
-    judge_fed(
-        &rt,
-        rt.alloc(),
-        &LACKING,
-        &["0r", "0r", "0r", "0r", "0p", "#1", "1t"],
-    );
+    let fed: &[&str] = &["0r", "0r", "0r", "0r", "0p", "#1", "1t"];
+    judge_part(&rt, rt.alloc(), Part::Fed, &LACKING, Ok(fed));
 }
 
 // The group was never made, so a message in it is refused. The run has that answer.
@@ -53,7 +49,7 @@ const NEVER_MADE: Case = Case {
 #[test]
 fn what_was_refused_did_not_happen(rt: HostRuntime) {
     judge(&rt, rt.alloc(), &NEVER_MADE);
-    judge_fed(&rt, rt.alloc(), &NEVER_MADE, &["0r", "0r"]);
+    judge_part(&rt, rt.alloc(), Part::Fed, &NEVER_MADE, Ok(&["0r", "0r"]));
 }
 
 // A packet that was refused was not sent. Another node took it in, so no tape sent it.
@@ -93,9 +89,10 @@ const WRONG: Case = Case {
 #[test]
 fn other_faults_are_told_beside_refusals(rt: HostRuntime) {
     judge(&rt, rt.alloc(), &NOT_SENT);
-    judge_fed_fault(&rt, rt.alloc(), &NOT_SENT, AuditFault::Stranger);
+    let stranger = Err(AuditFault::Stranger);
+    judge_part(&rt, rt.alloc(), Part::Fed, &NOT_SENT, stranger);
     judge(&rt, rt.alloc(), &WAITING);
-    judge_fed_fault(&rt, rt.alloc(), &WAITING, AuditFault::Stuck);
+    judge_part(&rt, rt.alloc(), Part::Fed, &WAITING, Err(AuditFault::Stuck));
     judge(&rt, rt.alloc(), &WRONG);
-    judge_fed_fault(&rt, rt.alloc(), &WRONG, AuditFault::Differs);
+    judge_part(&rt, rt.alloc(), Part::Fed, &WRONG, Err(AuditFault::Differs));
 }

@@ -45,6 +45,8 @@ mod settled;
 #[cfg(test)]
 mod short;
 #[cfg(test)]
+mod shown;
+#[cfg(test)]
 mod steps;
 #[cfg(test)]
 mod stops;

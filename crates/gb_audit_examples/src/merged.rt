@@ -171,32 +171,26 @@ pub fn merged(
     run(alloc, &plan, part, steps, lost, &mut nodes, &mut tapes)
 }
 
-/// Returns true if merging a part of the case's tapes returns these events.
-fn gives(alloc: Global, part: Part, case: &Case, told: &[&str]) -> bool {
-    match merged(alloc, part, case.nodes, case.steps, case.lost) {
-        Ok(events) => are_told(events.as_slice(), told),
-        Err(_) => false,
-    }
-}
-
-/// Returns true if merging a part of the case's tapes ends with this fault.
-fn faults(alloc: Global, part: Part, case: &Case, fault: AuditFault) -> bool {
-    match merged(alloc, part, case.nodes, case.steps, case.lost) {
-        Ok(_) => false,
-        Err(found) => found == fault,
+/// Returns true if merging a part of the case's tapes returns these events, or ends with this fault.
+fn gives(alloc: Global, part: Part, case: &Case, wanted: Result<&[&str], AuditFault>) -> bool {
+    let found = merged(alloc, part, case.nodes, case.steps, case.lost);
+    match (found, wanted) {
+        (Ok(events), Ok(told)) => are_told(events.as_slice(), told),
+        (Err(found), Err(fault)) => found == fault,
+        _ => false,
     }
 }
 
 /// Returns true if merging returns what the case says. If the tapes are one run, merging their front, and merging the entries that
 /// were not refused for lack of memory, return the same events.
 fn holds(alloc: Global, case: &Case) -> bool {
+    let all = gives(alloc, Part::All, case, case.told);
     match case.told {
-        Ok(told) => {
-            gives(alloc, Part::All, case, told)
-                && gives(alloc, Part::Front, case, told)
-                && gives(alloc, Part::Fed, case, told)
+        Ok(_) => {
+            all && gives(alloc, Part::Front, case, case.told)
+                && gives(alloc, Part::Fed, case, case.told)
         }
-        Err(fault) => faults(alloc, Part::All, case, fault),
+        Err(_) => all,
     }
 }
 
@@ -208,30 +202,16 @@ pub fn judge(rt: &impl Abort, alloc: Global, case: &Case) {
     assert!(rt; held);
 }
 
-/// Takes the steps of a case and merges the front of their tapes. The test aborts with a message unless that returns these events,
-/// each as two letters as in `Case`.
-pub fn judge_front(rt: &impl Abort, alloc: Global, case: &Case, front: &[&str]) {
-    let held = gives(alloc, Part::Front, case, front);
-    assert!(rt; held);
-}
-
-/// Takes the steps of a case and merges the front of their tapes. The test aborts with a message unless that ends with this fault.
-pub fn judge_front_fault(rt: &impl Abort, alloc: Global, case: &Case, fault: AuditFault) {
-    let held = faults(alloc, Part::Front, case, fault);
-    assert!(rt; held);
-}
-
-/// Takes the steps of a case at new nodes in memory, and merges those entries of their tapes that were not refused for lack of memory.
-/// Takes memory for nodes, tapes and events, and does no input or output. The test aborts with a message unless that returns these events,
-/// each as two letters as in `Case`.
-pub fn judge_fed(rt: &impl Abort, alloc: Global, case: &Case, fed: &[&str]) {
-    let held = gives(alloc, Part::Fed, case, fed);
-    assert!(rt; held);
-}
-
-/// Takes the steps of a case at new nodes in memory, and merges those entries of their tapes that were not refused for lack of memory. The
-/// test aborts with a message unless that ends with this fault.
-pub fn judge_fed_fault(rt: &impl Abort, alloc: Global, case: &Case, fault: AuditFault) {
-    let held = faults(alloc, Part::Fed, case, fault);
+/// Takes the steps of a case at new nodes in memory, and merges a part of their tapes. Takes memory for nodes, tapes and events, and does
+/// no input or output. The test aborts with a message unless that returns the wanted events, each as two letters as in `Case`, or ends
+/// with the wanted fault.
+pub fn judge_part(
+    rt: &impl Abort,
+    alloc: Global,
+    part: Part,
+    case: &Case,
+    wanted: Result<&[&str], AuditFault>,
+) {
+    let held = gives(alloc, part, case, wanted);
     assert!(rt; held);
 }

@@ -40,20 +40,3 @@ pub fn show(
     }
     Ok(Some(Shown { steps, seen }))
 }
-
-/// Returns the part of a run that concerns a group (its projection), as `show` does. `Ok(None)` and `Err` in the same cases.
-pub fn projection(
-    alloc: Global,
-    plan: &Plan,
-    events: &[Event],
-    trace: &Trace,
-    addr: Addr,
-) -> Result<Option<Vec<GroupStep>>, OutOfMemory>
-    requires few { plan.now.nodes ≤ NODES }
-    requires least { SILENCE_MIN ≤ plan.now.silence }
-{
-    match show(alloc, plan, events, trace, addr)? {
-        None => Ok(None),
-        Some(shown) => Ok(Some(shown.steps)),
-    }
-}

@@ -145,6 +145,39 @@ pub fn records_of(alloc: Global, plan: &Plan, steps: &[At]) -> Result<Vec<Vec<u8
     Ok(texts)
 }
 
+/// The keys of the cluster.
+pub const KEYS: ClusterKeys = ClusterKeys {
+    cluster: [3; 32],
+    admin: ADMIN_KEY,
+};
+
+/// Returns the records of two nodes as the files `a` and `b`.
+pub fn sources<'a>(first: &'a [u8], second: &'a [u8]) -> [Source<'a>; 2] {
+    [
+        Source {
+            name: "a",
+            text: first,
+        },
+        Source {
+            name: "b",
+            text: second,
+        },
+    ]
+}
+
+/// Returns true if an audit of the two records under these keys prints these lines and has this status. `Err` if memory is refused.
+pub fn is_audited(
+    alloc: Global,
+    sources: &[Source<'_>],
+    keys: ClusterKeys,
+    lines: &str,
+    status: u8,
+) -> Result<bool, OutOfMemory> {
+    let mut out = Vec::new(alloc);
+    let found = audit(alloc, sources, keys, &mut out)?;
+    Ok(out.as_slice() == lines.as_bytes() && status_of(&found) == status)
+}
+
 // Changes of the records of node 0 and of node 1, what an audit of them prints, and its status.
 struct Case {
     first: Change,
@@ -154,34 +187,14 @@ struct Case {
 }
 
 // Returns true if an audit of the records after the changes prints these lines and has this status.
-fn is_told(
-    alloc: Global,
-    texts: &[Vec<u8>],
-    cluster: [u8; 32],
-    case: &Case,
-) -> Result<bool, OutOfMemory> {
+fn is_told(alloc: Global, texts: &[Vec<u8>], case: &Case) -> Result<bool, OutOfMemory> {
     let [first, second] = texts else {
         return Ok(false);
     };
     let first = changed(alloc, first, case.first)?;
     let second = changed(alloc, second, case.second)?;
-    let sources = [
-        Source {
-            name: "a",
-            text: first.as_slice(),
-        },
-        Source {
-            name: "b",
-            text: second.as_slice(),
-        },
-    ];
-    let keys = ClusterKeys {
-        cluster,
-        admin: ADMIN_KEY,
-    };
-    let mut out = Vec::new(alloc);
-    let found = audit(alloc, &sources, keys, &mut out)?;
-    Ok(out.as_slice() == case.lines.as_bytes() && status_of(&found) == case.status)
+    let sources = sources(&first, &second);
+    is_audited(alloc, &sources, KEYS, case.lines, case.status)
 }
 
 static CASES: [Case; 13] = [
@@ -281,7 +294,7 @@ static CASES: [Case; 13] = [
 fn are_told(alloc: Global) -> Result<bool, OutOfMemory> {
     let texts = records_of(alloc, &plan(2), &STEPS)?;
     for case in &CASES {
-        if !is_told(alloc, &texts, [3; 32], case)? {
+        if !is_told(alloc, &texts, case)? {
             return Ok(false);
         }
     }
@@ -305,7 +318,7 @@ fn is_other_run_told(alloc: Global) -> Result<bool, OutOfMemory> {
         return Ok(false);
     };
     texts.push(other)?;
-    is_told(alloc, &texts, [3; 32], &OTHER_RUN)
+    is_told(alloc, &texts, &OTHER_RUN)
 }
 
 #[test]

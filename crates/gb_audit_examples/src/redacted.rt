@@ -1,18 +1,16 @@
 // Records without their secrets: what stands in them, and what an audit of them says.
 use crate::merged::plan;
-use crate::records::{Change, changed, records_of};
+use crate::records::{Change, KEYS, changed, is_audited, records_of, sources};
 use crate::requests::{ADMIN_KEY, Asked};
 use crate::steps::{At, Step};
-use gb_audit_run::audit::audit;
-use gb_audit_run::verdict::status_of;
-use gb_audit_run::{ClusterKeys, Source};
+use gb_audit_run::ClusterKeys;
 use gb_cap::Key;
 use gb_redact::laws::{
     denied_leave_nothing, marked_are_read, redacted_are_a_tape, right_stay_right,
 };
 use gb_redact::text::{keys_text, redact_text, unmarked_text};
+use gb_spelling::token_word::read_token;
 use gb_types::OutOfMemory;
-use gb_types::token_word::read_token;
 use std::alloc::Global;
 use std::rt::HostRuntime;
 
@@ -49,7 +47,7 @@ static SAID: &[u8] = b"4f24bd934e6f14f850bad5870782a6b538a6fa428c02a0c087d730e1c
 static NO_TOKEN: &[u8] = b"0000000000000000000000000000000000000000000000000000000000000000";
 
 // The keys for an audit of the redacted records, and the key that stands for the administrator's.
-static KEYS: &str = "0303030303030303030303030303030303030303030303030303030303030303\n\
+static KEYS_TEXT: &str = "0303030303030303030303030303030303030303030303030303030303030303\n\
 5382e5bd808acee065475566c872cbacaffc325bc37f95d7be51a3ee8021e819\n";
 
 static ADMIN: &[u8] = b"5382e5bd808acee065475566c872cbacaffc325bc37f95d7be51a3ee8021e819";
@@ -82,23 +80,8 @@ fn is_told(
     let (Some(first), Some(second)) = (plain(alloc, first)?, plain(alloc, second)?) else {
         return Ok(false);
     };
-    let sources = [
-        Source {
-            name: "a",
-            text: first.as_slice(),
-        },
-        Source {
-            name: "b",
-            text: second.as_slice(),
-        },
-    ];
-    let keys = ClusterKeys {
-        cluster: [3; 32],
-        admin,
-    };
-    let mut out = Vec::new(alloc);
-    let found = audit(alloc, &sources, keys, &mut out)?;
-    Ok(out.as_slice() == lines.as_bytes() && status_of(&found) == status)
+    let keys = ClusterKeys { admin, ..KEYS };
+    is_audited(alloc, &sources(&first, &second), keys, lines, status)
 }
 
 // Returns true if the record of node 0 is redacted as it should be: whole, cut in the midst of a token, and with a wrong token.
@@ -142,7 +125,7 @@ fn outcome(alloc: Global) -> Result<bool, OutOfMemory> {
     };
     let keys = keys_text(alloc, &[3; 32], &ADMIN_KEY)?;
     Ok(
-        keys.as_slice() == KEYS.as_bytes()
+        keys.as_slice() == KEYS_TEXT.as_bytes()
             && is_first_redacted(alloc, first)?
             && are_audited(alloc, first, second)?,
     )

@@ -1,14 +1,14 @@
-// What happens in a cluster of two nodes, and to one of its groups by itself.
-use gb_alone::{GroupEvent, GroupStep};
+// What happens in a cluster of two nodes, and what is told of each of its groups.
+use crate::short::Got;
+use crate::told::{OPEN_AT_TWO, Told, ToldAt};
 use gb_cap::token::token;
 use gb_cap::{Key, Need, Token};
 use gb_cluster::Event;
 use gb_node::NodeEvent;
-use gb_rules::Reserve;
 use gb_types::limits::NODES;
 use gb_types::{
     Action, Addr, GroupCommand, Kind, Module, NewMessage, NodeId, NodeSet, Order, OutOfMemory,
-    Payload, Plan, Request, Spec, TenantRow, Version,
+    Payload, Plan, Refusal, Request, Spec, TenantRow, Version,
 };
 use std::alloc::Global;
 
@@ -16,7 +16,7 @@ pub const FIRST: NodeId = NodeId { number: 0 };
 
 pub const SECOND: NodeId = NodeId { number: 1 };
 
-pub const TENANTS: [u16; 3] = [7, 8, 9];
+const TENANTS: [u16; 3] = [7, 8, 9];
 
 pub const PLAN: Plan = Plan {
     nodes: 2,
@@ -193,42 +193,33 @@ fn add_events(alloc: Global, events: &mut Vec<Event>) -> Result<(), OutOfMemory>
     Ok(())
 }
 
-fn step(steps: &mut Vec<GroupStep>, node: NodeId, event: GroupEvent) -> Result<(), OutOfMemory> {
-    steps.push(GroupStep { node, event })?;
-    Ok(())
+/// What is told of the group of a tenant in a run: the parts of its projection, and its replies at the second of two nodes, if they are
+/// looked at.
+#[derive(Clone, Copy)]
+pub struct ToldOf {
+    pub tenant: u16,
+    pub parts: &'static [&'static [ToldAt]],
+    pub second: Option<&'static [Got]>,
 }
 
-/// Returns the part of the run of `events` that concerns the group of this tenant, 7, 8 or 9, step by step. It is written by hand.
-/// `Err` if there is no memory.
-pub fn steps(alloc: Global, tenant: u16) -> Result<Vec<GroupStep>, OutOfMemory> {
-    let mut steps = Vec::new(alloc);
-    add_steps(alloc, tenant, &mut steps)?;
-    Ok(steps)
-}
+/// A tenant's message goes from the first node to the second.
+const SAID: &[ToldAt] = &[(0, Told::Say), (0, Told::Took(1, 1)), (1, Told::Came(0, 1))];
 
-/// Adds the steps that make and open the group at a node.
-fn begin(steps: &mut Vec<GroupStep>, node: NodeId, tenant: u16) -> Result<(), OutOfMemory> {
-    step(steps, node, GroupEvent::Tenant(Reserve::of(&row(tenant))))?;
-    step(steps, node, GroupEvent::Make(spec()))?;
-    step(steps, node, GroupEvent::Open)
-}
-
-fn add_steps(alloc: Global, tenant: u16, steps: &mut Vec<GroupStep>) -> Result<(), OutOfMemory> {
-    begin(steps, FIRST, tenant)?;
-    begin(steps, SECOND, tenant)?;
-    let payload = Payload::from_slice(alloc, &tenant.to_be_bytes())?;
-    step(steps, FIRST, GroupEvent::Say(NewMessage::new(payload)))?;
-    step(steps, FIRST, GroupEvent::Took(SECOND, 1))?;
-    step(steps, SECOND, GroupEvent::Came(FIRST, 1))?;
-    if tenant == 7 {
-        step(steps, SECOND, GroupEvent::Fetch(0, 16))?;
-    }
-    if tenant == 8 {
-        step(steps, SECOND, GroupEvent::Stop)?;
-        step(steps, SECOND, GroupEvent::Fetch(0, 16))?;
-    }
-    if tenant == 9 {
-        step(steps, SECOND, GroupEvent::Drop)?;
-    }
-    Ok(())
-}
+/// What is told of each group in the run of `events`. It is written by hand.
+pub const TOLD: [ToldOf; 3] = [
+    ToldOf {
+        tenant: 7,
+        parts: &[OPEN_AT_TWO, SAID, &[(1, Told::Fetch)]],
+        second: Some(&[Got::Done, Got::Done, Got::Log(1)]),
+    },
+    ToldOf {
+        tenant: 8,
+        parts: &[OPEN_AT_TWO, SAID, &[(1, Told::Stop), (1, Told::Fetch)]],
+        second: Some(&[Got::Done, Got::Done, Got::Refused(Refusal::Stopped)]),
+    },
+    ToldOf {
+        tenant: 9,
+        parts: &[OPEN_AT_TWO, SAID, &[(1, Told::Drop)]],
+        second: Some(&[Got::Done, Got::Done, Got::Done]),
+    },
+];

@@ -1,7 +1,8 @@
 // A run in which a group is settled: a member stopped, the others noticed it, and nothing of the group is on its way.
+use crate::schedule::group_of;
 use crate::short::are_same_entries;
-use crate::stops::{read, right_trace};
-use gb_cluster::{Answer, Event, Sending};
+use crate::shown::run_by;
+use gb_cluster::{Answer, Sending};
 use gb_node::Ticked;
 use gb_types::{Entry, OutOfMemory, Reply};
 use std::alloc::Global;
@@ -124,23 +125,20 @@ const SIGNS: [Sign; 6] = [
     Sign::Log(2),
 ];
 
-/// Returns true if all is right in the run, the group is settled, and the logs at the running members agree. The events are added
-/// to a list, which is empty before.
-fn settles(alloc: Global, events: &mut Vec<Event>) -> Result<bool, OutOfMemory> {
-    let Some(plan) = read(alloc, &SETTLED, events)? else {
-        return Ok(false);
-    };
-    let Some(trace) = right_trace(alloc, plan, events)? else {
-        return Ok(false);
-    };
-    let answers = trace.answers.as_slice();
-    Ok(are_signs(answers, &SIGNS) && agree(answers))
+/// Returns true if all is right in the run, the group is settled, and the logs at the running members agree.
+fn settles(alloc: Global) -> Result<bool, OutOfMemory> {
+    match run_by(alloc, &SETTLED, group_of(7))? {
+        None => Ok(false),
+        Some(run) => {
+            let answers = run.trace.answers.as_slice();
+            Ok(are_signs(answers, &SIGNS) && agree(answers))
+        }
+    }
 }
 
 #[test]
 fn the_logs_of_a_settled_group_agree(rt: HostRuntime) -> Result<(), Fail> {
-    let mut events = Vec::new(rt.alloc());
-    let settles = settles(rt.alloc(), &mut events)?;
+    let settles = settles(rt.alloc())?;
     assert!(rt; settles);
     Ok(())
 }

@@ -22,7 +22,7 @@ fn short_of(reply: &Reply) -> Got {
 
 /// Returns true if a group's replies at a node are exactly the wanted ones, in order. Logs are compared by their numbers of entries
 /// alone.
-pub fn are_replies(replies: &[Reply], wanted: &[Got]) -> bool {
+fn are_replies(replies: &[Reply], wanted: &[Got]) -> bool {
     if replies.len() != wanted.len() {
         return false;
     }
@@ -34,18 +34,26 @@ pub fn are_replies(replies: &[Reply], wanted: &[Got]) -> bool {
     true
 }
 
-/// Returns true if there is exactly one item, with this payload.
-fn is_one(items: &Entries, payload: &[u8]) -> bool {
-    match items.as_slice() {
-        [item] => item.origin.number == 0 && item.seq == 1 && item.payload.as_slice() == payload,
-        _ => false,
+/// Returns true if these are the first messages of the first node, with these payloads.
+fn are_messages(items: &Entries, payloads: &[&[u8]]) -> bool {
+    let items = items.as_slice();
+    if items.len() != payloads.len() {
+        return false;
     }
+    for i in 0..items.len() {
+        let item = &items[i];
+        let is_next = item.origin.number == 0 && usize::from(item.seq) == i + 1;
+        if !is_next || item.payload.as_slice() != payloads[i] {
+            return false;
+        }
+    }
+    true
 }
 
-/// Returns true if the first node carried exactly one item, with this payload, to the second.
-fn is_sender(node: &NodeSeen, payload: &[u8]) -> bool {
+/// Returns true if the first node carried exactly the messages with these payloads to the second, and none to itself.
+fn is_sender(node: &NodeSeen, payloads: &[&[u8]]) -> bool {
     match node.carried() {
-        [own, other] => own.is_empty() && is_one(other, payload),
+        [own, other] => own.is_empty() && are_messages(other, payloads),
         _ => false,
     }
 }
@@ -57,13 +65,28 @@ fn is_silent(node: &NodeSeen) -> bool {
     }
 }
 
+/// Returns true if a group has exactly these replies at each node, in order. Logs are compared by their numbers of entries alone.
+pub fn are_seen(seen: &Observation, wanted: &[&[Got]]) -> bool {
+    let nodes = seen.nodes();
+    if nodes.len() != wanted.len() {
+        return false;
+    }
+    for i in 0..nodes.len() {
+        if !are_replies(nodes[i].replies(), wanted[i]) {
+            return false;
+        }
+    }
+    true
+}
+
 /// Returns true if exactly this is seen of a group at two nodes: the replies `first` at the first node and `second` at the second, and
-/// one message with this payload, which went from the first node to the second. Logs are compared by their numbers of entries alone.
-pub fn is_seen(seen: &Observation, first: &[Got], second: &[Got], payload: &[u8]) -> bool {
+/// the messages with these payloads, which went from the first node to the second. The messages are numbered from 1. Logs are compared by
+/// their numbers of entries alone.
+pub fn is_seen(seen: &Observation, first: &[Got], second: &[Got], payloads: &[&[u8]]) -> bool {
     match seen.nodes() {
         [sender, other] => {
             are_replies(sender.replies(), first)
-                && is_sender(sender, payload)
+                && is_sender(sender, payloads)
                 && are_replies(other.replies(), second)
                 && is_silent(other)
         }

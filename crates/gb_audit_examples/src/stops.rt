@@ -5,7 +5,7 @@ ghost use Rattle.gb_cluster.specs.Common.{IsClusterPlan};
 ghost use Rattle.gb_types.specs.declared.limits.TheConstants.{NODES as MOST};
 ghost use Rattle.gb_types.specs.Common.{limits_of, version_at};
 
-use crate::projected::projection;
+use crate::projected::show;
 use crate::worked::{
     ALL_ACK, BEST_EFFORT, EMPTY_PAYLOAD, FIFO, LAST_NODE, LAZY_RELAY, MAJORITY_ACK,
     NEXT_GENERATION, UNLIKE_SPECS,
@@ -211,7 +211,7 @@ fn each_is_alone(
     requires { IsClusterPlan plan.now }
 {
     for addr in groups {
-        if projection(alloc, plan, events, trace, *addr)?.is_none() {
+        if show(alloc, plan, events, trace, *addr)?.is_none() {
             return Ok(false);
         }
     }
@@ -447,7 +447,7 @@ fn compare(
     lines: &[&[u8]],
     nodes: u8,
     logs: &[usize],
-) -> Result<(), OutOfMemory> {
+) -> Result<(), Fail> {
     let worked = is_worked(alloc, lines, nodes, logs)?;
     assert!(rt; worked);
     let wrong = first_wrong(alloc, lines, nodes)?;
@@ -457,50 +457,42 @@ fn compare(
 
 #[test]
 fn a_stop_after_each_event_of_an_empty_payload(rt: HostRuntime) -> Result<(), Fail> {
-    compare(&rt, rt.alloc(), &EMPTY_PAYLOAD, 3, &[1, 1, 1])?;
-    Ok(())
+    compare(&rt, rt.alloc(), &EMPTY_PAYLOAD, 3, &[1, 1, 1])
 }
 
 #[test]
 fn a_stop_after_each_event_of_two_messages_in_fifo_order(rt: HostRuntime) -> Result<(), Fail> {
-    compare(&rt, rt.alloc(), &FIFO, 2, &[0, 2])?;
-    Ok(())
+    compare(&rt, rt.alloc(), &FIFO, 2, &[0, 2])
 }
 
 #[test]
 fn a_stop_after_each_event_of_two_messages_by_best_effort(rt: HostRuntime) -> Result<(), Fail> {
-    compare(&rt, rt.alloc(), &BEST_EFFORT, 2, &[1, 2])?;
-    Ok(())
+    compare(&rt, rt.alloc(), &BEST_EFFORT, 2, &[1, 2])
 }
 
 #[test]
 fn a_stop_after_each_event_of_a_lazy_relay(rt: HostRuntime) -> Result<(), Fail> {
-    compare(&rt, rt.alloc(), &LAZY_RELAY, 3, &[1, 2])?;
-    Ok(())
+    compare(&rt, rt.alloc(), &LAZY_RELAY, 3, &[1, 2])
 }
 
 #[test]
 fn a_stop_after_each_event_of_unlike_specs(rt: HostRuntime) -> Result<(), Fail> {
-    compare(&rt, rt.alloc(), &UNLIKE_SPECS, 3, &[0, 1])?;
-    Ok(())
+    compare(&rt, rt.alloc(), &UNLIKE_SPECS, 3, &[0, 1])
 }
 
 #[test]
 fn a_stop_after_each_event_of_acknowledgements_by_all(rt: HostRuntime) -> Result<(), Fail> {
-    compare(&rt, rt.alloc(), &ALL_ACK, 2, &[0, 1, 1])?;
-    Ok(())
+    compare(&rt, rt.alloc(), &ALL_ACK, 2, &[0, 1, 1])
 }
 
 #[test]
 fn a_stop_after_each_event_of_acknowledgements_by_most(rt: HostRuntime) -> Result<(), Fail> {
-    compare(&rt, rt.alloc(), &MAJORITY_ACK, 3, &[0, 1, 1, 0])?;
-    Ok(())
+    compare(&rt, rt.alloc(), &MAJORITY_ACK, 3, &[0, 1, 1, 0])
 }
 
 #[test]
 fn a_stop_after_each_event_of_two_generations(rt: HostRuntime) -> Result<(), Fail> {
-    compare(&rt, rt.alloc(), &NEXT_GENERATION, 2, &[1, 1])?;
-    Ok(())
+    compare(&rt, rt.alloc(), &NEXT_GENERATION, 2, &[1, 1])
 }
 
 // A run of 32 nodes, with no other stop than its own.

@@ -1,13 +1,9 @@
 // The worked run of docs/THEOREM.md: the part of it that concerns a group, and what is seen of the group.
-use crate::projected::projection;
 use crate::schedule::group_of;
-use crate::short::{Got, are_replies};
-use crate::stops::{are_fetched, is_plan, read, right_trace};
-use crate::told::{Told, are_steps};
-use gb_alone::{NodeSeen, Observation};
-use gb_cluster::Event;
-use gb_trace::observe;
-use gb_types::{Entries, Entry, OutOfMemory};
+use crate::short::{Got, is_seen};
+use crate::shown::{is_as_told, run_by};
+use crate::told::{OPEN_AT_TWO, Told, ToldAt};
+use gb_types::OutOfMemory;
 use std::alloc::Global;
 use std::rt::HostRuntime;
 use std::test::Fail;
@@ -38,14 +34,8 @@ const LINES: [&[u8]; 22] = [
     b"fetch 0 7 1 0 16",
 ];
 
-/// The part of it that concerns tenant 7's group, as the page has it.
-const STEPS: &[(u8, Told)] = &[
-    (0, Told::Tenant),
-    (0, Told::Make),
-    (0, Told::Open),
-    (1, Told::Tenant),
-    (1, Told::Make),
-    (1, Told::Open),
+/// The part of it that concerns tenant 7's group, as the page has it, once the group is open at both nodes.
+const STEPS: &[ToldAt] = &[
     (0, Told::Say),
     (0, Told::Say),
     (0, Told::Took(1, 2)),
@@ -66,66 +56,16 @@ const FIRST_REPLIES: &[Got] = &[
 
 const SECOND_REPLIES: &[Got] = &[Got::Done, Got::Done, Got::Log(2)];
 
-fn is_message(item: &Entry, seq: u16, payload: &[u8]) -> bool {
-    item.origin.number == 0 && item.seq == seq && item.payload.as_slice() == payload
-}
+/// The payloads of the two messages, in order.
+const PAYLOADS: &[&[u8]] = &[b"a", b"b"];
 
-/// Returns true if the items are the two messages, in order.
-fn are_both(items: &Entries) -> bool {
-    match items.as_slice() {
-        [first, second] => is_message(first, 1, b"a") && is_message(second, 2, b"b"),
-        _ => false,
-    }
-}
-
-/// Returns true if the first node carried both messages to the second, and none to itself.
-fn is_sender(node: &NodeSeen) -> bool {
-    match node.carried() {
-        [own, other] => own.is_empty() && are_both(other),
-        _ => false,
-    }
-}
-
-fn is_silent(node: &NodeSeen) -> bool {
-    match node.carried() {
-        [first, second] => first.is_empty() && second.is_empty(),
-        _ => false,
-    }
-}
-
-/// Returns true if this is what the page says is seen.
-fn is_seen(seen: &Observation) -> bool {
-    match seen.nodes() {
-        [sender, other] => {
-            are_replies(sender.replies(), FIRST_REPLIES)
-                && is_sender(sender)
-                && are_replies(other.replies(), SECOND_REPLIES)
-                && is_silent(other)
-        }
-        _ => false,
-    }
-}
-
-/// Returns true if the run is as the page has it. The events are added to a list, which is empty before.
-fn is_as_told(alloc: Global, events: &mut Vec<Event>) -> Result<bool, OutOfMemory> {
-    let Some(plan) = read(alloc, &LINES, events)? else {
-        return Ok(false);
-    };
-    if !is_plan(&plan) {
-        return Ok(false);
-    }
-    let Some(trace) = right_trace(alloc, plan, events)? else {
-        return Ok(false);
-    };
-    if trace.packets.len() != 1 || !are_fetched(trace.answers.as_slice(), &[2, 2]) {
-        return Ok(false);
-    }
-    let addr = group_of(7);
-    match projection(alloc, &plan, events, &trace, addr)? {
+/// Returns true if the run is as the page has it.
+fn is_as_the_page_has_it(alloc: Global) -> Result<bool, OutOfMemory> {
+    match run_by(alloc, &LINES, group_of(7))? {
         None => Ok(false),
-        Some(steps) => {
-            let seen = observe(alloc, &plan, events, &trace, addr)?;
-            Ok(are_steps(&steps, STEPS) && is_seen(&seen))
+        Some(run) => {
+            let told = is_as_told(&run, 1, &[2, 2], &[OPEN_AT_TWO, STEPS]);
+            Ok(told && is_seen(&run.shown.seen, FIRST_REPLIES, SECOND_REPLIES, PAYLOADS))
         }
     }
 }
@@ -134,9 +74,7 @@ fn is_as_told(alloc: Global, events: &mut Vec<Event>) -> Result<bool, OutOfMemor
 // these steps.
 #[test]
 fn the_worked_run_of_the_theorem(rt: HostRuntime) -> Result<(), Fail> {
-    let alloc = rt.alloc();
-    let mut events = Vec::new(alloc);
-    let right = is_as_told(alloc, &mut events)?;
+    let right = is_as_the_page_has_it(rt.alloc())?;
     assert!(rt; right);
     Ok(())
 }

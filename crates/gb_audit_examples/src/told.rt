@@ -39,19 +39,48 @@ fn told_of(event: &GroupEvent) -> Told {
     }
 }
 
-/// Returns true if the steps of a group are exactly the wanted ones, in order. Each is the number of a node and what happens there,
-/// without the arguments of requests.
-pub fn are_steps(steps: &[GroupStep], wanted: &[(u8, Told)]) -> bool {
-    if steps.len() != wanted.len() {
+/// The number of a node, and what happens there.
+pub type ToldAt = (u8, Told);
+
+/// A tenant comes to two nodes, and its group is made and opened, first at the one node and then at the other.
+pub const OPEN_AT_TWO: &[ToldAt] = &[
+    (0, Told::Tenant),
+    (0, Told::Make),
+    (0, Told::Open),
+    (1, Told::Tenant),
+    (1, Told::Make),
+    (1, Told::Open),
+];
+
+/// The same at a third node. It stands behind what `OPEN_AT_TWO` has.
+pub const OPEN_AT_THIRD: &[ToldAt] = &[(2, Told::Tenant), (2, Told::Make), (2, Told::Open)];
+
+/// Returns true if the steps of a group are exactly those of a part.
+fn are_of_part(steps: &[GroupStep], part: &[ToldAt]) -> bool {
+    if steps.len() != part.len() {
         return false;
     }
     for i in 0..steps.len() {
-        let (node, told) = wanted[i];
+        let (node, told) = part[i];
         if steps[i].node.number != node || told_of(&steps[i].event) != told {
             return false;
         }
     }
     true
+}
+
+/// Returns true if the steps of a group are exactly the wanted ones: those of the first part, in order, then those of the next one, to the
+/// last. Each is the number of a node and what happens there, without the arguments of requests.
+pub fn are_steps(steps: &[GroupStep], parts: &[&[ToldAt]]) -> bool {
+    let mut left = steps;
+    for part in parts {
+        let count = part.len();
+        if left.len() < count || !are_of_part(&left[..count], part) {
+            return false;
+        }
+        left = &left[count..];
+    }
+    left.is_empty()
 }
 
 /// Returns true if both lists have the same steps of a group, in order. Compared are the nodes and what happens there, without the

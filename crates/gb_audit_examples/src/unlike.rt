@@ -1,63 +1,21 @@
 // A cluster whose first node sends version 2 and whose second sends version 1.
-use crate::projected::projection;
-use crate::schedule::{FIRST, SECOND, fetch, furnish, group_of, say, say_bytes, spec};
-use crate::short::{Got, are_replies, is_same};
-use crate::stops::right_trace;
-use crate::told::{Told, are_steps};
-use gb_alone::Observation;
+use crate::schedule::{FIRST, PLAN, SECOND, fetch, furnish, group_of, say, say_bytes, spec};
+use crate::short::{Got, are_seen};
+use crate::shown::{RightRun, agree, right_run};
+use crate::told::{OPEN_AT_TWO, Told, ToldAt, are_steps};
 use gb_cluster::Event;
 use gb_node::NodeEvent;
-use gb_trace::observe;
-use gb_types::limits::NODES;
 use gb_types::{OutOfMemory, Plan, Refusal, Version};
 use std::alloc::Global;
 use std::rt::HostRuntime;
 use std::test::Fail;
 
-const VERSIONS: [Version; NODES] = [
-    Version::Two,
-    Version::One,
-    Version::One,
-    Version::One,
-    Version::One,
-    Version::One,
-    Version::One,
-    Version::One,
-    Version::One,
-    Version::One,
-    Version::One,
-    Version::One,
-    Version::One,
-    Version::One,
-    Version::One,
-    Version::One,
-    Version::One,
-    Version::One,
-    Version::One,
-    Version::One,
-    Version::One,
-    Version::One,
-    Version::One,
-    Version::One,
-    Version::One,
-    Version::One,
-    Version::One,
-    Version::One,
-    Version::One,
-    Version::One,
-    Version::One,
-    Version::One,
-];
-
-const PLAN: Plan = Plan {
-    nodes: 2,
-    versions: VERSIONS,
-    silence: 3,
-    places: 8,
-    room: 16_345,
-    cluster_key: [3; 32],
-    admin_key: [1; 32],
-};
+/// Returns the plan of the cluster.
+fn plan() -> Plan {
+    let mut versions = PLAN.versions;
+    versions[0] = Version::Two;
+    Plan { versions, ..PLAN }
+}
 
 /// A payload that is too long for a node of version 1.
 const LONG: &[u8] = &[b'a'; 1_025];
@@ -87,14 +45,8 @@ fn add_events(alloc: Global, is_shared: bool, events: &mut Vec<Event>) -> Result
     fetch(events, FIRST, 7)
 }
 
-/// The part of this run that concerns the group, written by hand.
-const STEPS: &[(u8, Told)] = &[
-    (0, Told::Tenant),
-    (0, Told::Make),
-    (0, Told::Open),
-    (1, Told::Tenant),
-    (1, Told::Make),
-    (1, Told::Open),
+/// The part of this run that concerns the group, once it is open at both nodes. It is written by hand.
+const STEPS: &[ToldAt] = &[
     (1, Told::Say),
     (0, Told::Say),
     (0, Told::Say),
@@ -121,46 +73,26 @@ const SECOND_REPLIES: &[Got] = &[
     Got::Log(1),
 ];
 
-/// Returns true if the group is seen as it should be.
-fn is_seen(seen: &Observation) -> bool {
-    match seen.nodes() {
-        [first, second] => {
-            are_replies(first.replies(), FIRST_REPLIES)
-                && are_replies(second.replies(), SECOND_REPLIES)
-        }
-        _ => false,
-    }
-}
-
-/// Returns what is seen of the group in a run of these events, if all is right in it and the projection is the one that is written
-/// by hand.
-fn seen_of(alloc: Global, events: &[Event]) -> Result<Option<Observation>, OutOfMemory> {
-    let Some(trace) = right_trace(alloc, PLAN, events)? else {
-        return Ok(None);
-    };
-    let addr = group_of(7);
-    match projection(alloc, &PLAN, events, &trace, addr)? {
-        Some(steps) if are_steps(&steps, STEPS) => {
-            Ok(Some(observe(alloc, &PLAN, events, &trace, addr)?))
-        }
-        _ => Ok(None),
-    }
-}
-
-/// Returns what is seen of the group, beside another group or by itself.
-fn seen(alloc: Global, is_shared: bool) -> Result<Option<Observation>, OutOfMemory> {
+/// Returns the run with what it shows of the group, beside another group or by itself.
+fn run_beside(alloc: Global, is_shared: bool) -> Result<Option<RightRun>, OutOfMemory> {
     let mut events = Vec::new(alloc);
     add_events(alloc, is_shared, &mut events)?;
-    seen_of(alloc, &events)
+    right_run(alloc, plan(), &events, group_of(7))
+}
+
+/// Returns true if a run shows of the group what it should show.
+fn is_told(run: &RightRun) -> bool {
+    are_steps(&run.shown.steps, &[OPEN_AT_TWO, STEPS])
+        && are_seen(&run.shown.seen, &[FIRST_REPLIES, SECOND_REPLIES])
 }
 
 /// Returns true if the same is seen in both runs, and it is what should be seen.
 fn agrees(alloc: Global) -> Result<bool, OutOfMemory> {
-    let by_itself = seen(alloc, false)?;
-    let shared = seen(alloc, true)?;
-    match (&by_itself, &shared) {
-        (Some(one), Some(other)) => Ok(is_seen(one) && is_same(one, other)),
-        _ => Ok(false),
+    let by_itself = run_beside(alloc, false)?;
+    let shared = run_beside(alloc, true)?;
+    match &by_itself {
+        None => Ok(false),
+        Some(run) => Ok(is_told(run) && agree(&by_itself, &shared)),
     }
 }
 

@@ -3,10 +3,12 @@
 ghost use Rattle.std.specs.Prelude.{List};
 ghost use Rattle.gb_types.specs.declared.message.MsgId.{MsgId};
 
+use crate::layer_examples::Event::{Came, Notice, Say};
+use crate::names::{message, node, set};
 use crate::placed::make_next;
 use gb_layer::{Beb, Bounded, Direct, Index, Layer, Lists, PlacedCall, PlacedUp, Relay, Rule};
 use gb_reliable::{Eagerly, Lazily};
-use gb_types::{MsgId, NodeId, NodeSet, OutOfMemory};
+use gb_types::{NodeId, OutOfMemory};
 use gb_uniform::AllAcked;
 use std::alloc::Global;
 use std::process::Abort;
@@ -18,23 +20,39 @@ pub const ME: NodeId = NodeId { number: 1 };
 
 pub const OTHER: NodeId = NodeId { number: 2 };
 
-pub const OWN: MsgId = MsgId { origin: ME, seq: 1 };
+pub const MEMBERS: [NodeId; 3] = [ORIGIN, ME, OTHER];
 
-pub const FIRST: MsgId = MsgId {
-    origin: ORIGIN,
-    seq: 1,
-};
+/// What a layer is told, each message by its place and each node by its number: a message is said, it came from a node, or a node was
+/// noticed.
+#[derive(Clone, Copy)]
+pub enum Event {
+    Say(u16),
+    Came(u8, u16),
+    Notice(u8),
+}
 
-pub const SECOND: MsgId = MsgId {
-    origin: ORIGIN,
-    seq: 2,
-};
+/// Messages by origin and number, what a layer is told of them, and what it then sends and hands up: places, and nodes with places.
+pub type Case = (
+    &'static [(u8, u16)],
+    &'static [Event],
+    &'static [u16],
+    &'static [(u8, u16)],
+);
+
+/// Returns the call that tells a layer of the event.
+fn call_of(event: Event) -> PlacedCall {
+    match event {
+        Event::Say(place) => PlacedCall::Say(place),
+        Event::Came(from, place) => PlacedCall::Came(node(from), place),
+        Event::Notice(who) => PlacedCall::Notice(node(who)),
+    }
+}
 
 /// Makes these calls, and keeps the effects of the last one alone. Returns false if a call names a place too early.
 fn last_effects<L: Bounded>(
     layer: &mut L,
     index: &Index,
-    calls: &[PlacedCall],
+    calls: &[Event],
     out: &mut Lists,
 ) -> Result<bool, OutOfMemory>
     requires { L.knows index.now.list.items layer.old 0 0 }
@@ -43,7 +61,7 @@ fn last_effects<L: Bounded>(
     let mut told = 0;
     for call in calls {
         out.clear();
-        let made = make_next(layer, index, *call, &mut told, out)?;
+        let made = make_next(layer, index, call_of(*call), &mut told, out)?;
         if !made {
             return Ok(false);
         }
@@ -52,226 +70,148 @@ fn last_effects<L: Bounded>(
 }
 
 /// Returns an index of these messages.
-pub fn index_of(alloc: Global, messages: &[MsgId]) -> Result<Index, OutOfMemory> {
-    let mut members = NodeSet::new();
-    members.insert(ORIGIN);
-    members.insert(ME);
+pub fn index_of(alloc: Global, messages: &[(u8, u16)]) -> Result<Index, OutOfMemory> {
     let mut index = Index::new(alloc);
-    index.cover(&members, 2)?;
-    for m in messages {
-        let _place = index.place(*m)?;
+    index.cover(&set(&[ORIGIN, ME]), 2)?;
+    for (origin, seq) in messages {
+        let _place = index.place(message(*origin, *seq))?;
     }
     Ok(index)
 }
 
-/// Compares the effects of the last of these calls.
+/// Returns true if these come up, each told by its node and its place.
+fn come_up(ups: &[PlacedUp], told: &[(u8, u16)]) -> bool {
+    for (up, (via, place)) in ups.iter().zip(told) {
+        if up.via != node(*via) || up.place != *place {
+            return false;
+        }
+    }
+    ups.len() == told.len()
+}
+
+/// Compares the effects of the last of a case's calls.
 pub fn compare<L: Bounded>(
     rt: &impl Abort,
     alloc: Global,
     layer: &mut L,
-    messages: &[MsgId],
-    calls: &[PlacedCall],
-    sends: &[u16],
-    ups: &[PlacedUp],
+    case: &Case,
 ) -> Result<(), OutOfMemory>
     requires { (ms : List MsgId) → L.knows ms layer.old 0 0 }
 {
+    let (messages, calls, sends, ups) = *case;
     let index = index_of(alloc, messages)?;
     let mut out = Lists::new(alloc);
     let made = last_effects(layer, &index, calls, &mut out)?;
     assert!(rt; made);
     assert!(rt; out.sends.as_slice() == sends);
-    assert!(rt; out.ups.as_slice() == ups);
+    assert!(rt; come_up(&out.ups, ups));
     Ok(())
 }
 
-/// Compares the effects of the last of these calls of a new layer for best-effort broadcast.
-fn compare_direct(
-    rt: &impl Abort,
-    alloc: Global,
-    messages: &[MsgId],
-    calls: &[PlacedCall],
-    sends: &[u16],
-    ups: &[PlacedUp],
-) -> Result<(), OutOfMemory> {
+/// Compares the effects of the last of a case's calls of a new layer for best-effort broadcast.
+fn compare_direct(rt: &impl Abort, alloc: Global, case: &Case) -> Result<(), OutOfMemory> {
     let mut layer = Direct::new(Beb::new(ME));
-    compare(rt, alloc, &mut layer, messages, calls, sends, ups)
+    compare(rt, alloc, &mut layer, case)
 }
 
-/// Compares the effects of the last of these calls of a new relay.
+/// Compares the effects of the last of a case's calls of a new relay.
 fn compare_relay<R: Rule + Drop>(
     rt: &impl Abort,
     alloc: Global,
     rule: R,
-    messages: &[MsgId],
-    calls: &[PlacedCall],
-    sends: &[u16],
-    ups: &[PlacedUp],
+    case: &Case,
 ) -> Result<(), OutOfMemory> {
-    let mut members = NodeSet::new();
-    members.insert(ORIGIN);
-    members.insert(ME);
-    members.insert(OTHER);
+    let members = set(&MEMBERS);
     let mut layer = Relay::new(alloc, Beb::new(ME), rule, members);
-    compare(rt, alloc, &mut layer, messages, calls, sends, ups)
+    compare(rt, alloc, &mut layer, case)
 }
 
-const UP: [PlacedUp; 1] = [PlacedUp {
-    via: ORIGIN,
-    place: 0,
-}];
+/// The first message of node 0.
+const FIRST: &[(u8, u16)] = &[(0, 1)];
 
-const UP_SECOND: [PlacedUp; 1] = [PlacedUp {
-    via: ORIGIN,
-    place: 1,
-}];
+/// The first message of node 1.
+pub const OWN: &[(u8, u16)] = &[(1, 1)];
 
-const UP_BOTH: [PlacedUp; 2] = [
-    PlacedUp {
-        via: ORIGIN,
-        place: 0,
-    },
-    PlacedUp {
-        via: ORIGIN,
-        place: 1,
-    },
-];
+/// Two messages of node 0.
+const BOTH: &[(u8, u16)] = &[(0, 1), (0, 2)];
 
-const UP_OWN: [PlacedUp; 1] = [PlacedUp { via: ME, place: 0 }];
+/// The same with the second one first.
+pub const TURNED: &[(u8, u16)] = &[(0, 2), (0, 1)];
 
-const SAID: [PlacedCall; 1] = [PlacedCall::Say(0)];
-
-const SAID_TWICE: [PlacedCall; 2] = [PlacedCall::Say(0), PlacedCall::Say(0)];
-
-const RELAYED: [PlacedCall; 1] = [PlacedCall::Came(OTHER, 0)];
-
-const CAME: [PlacedCall; 1] = [PlacedCall::Came(ORIGIN, 0)];
-
-const RELAYED_THEN_CAME: [PlacedCall; 2] = [
-    PlacedCall::Came(OTHER, 0),
-    PlacedCall::Came(ORIGIN, 0),
-];
-
-const CAME_THEN_RELAYED: [PlacedCall; 2] = [
-    PlacedCall::Came(ORIGIN, 0),
-    PlacedCall::Came(OTHER, 0),
-];
-
-const CAME_THEN_NOTICED: [PlacedCall; 2] = [
-    PlacedCall::Came(ORIGIN, 0),
-    PlacedCall::Notice(ORIGIN),
-];
-
-const CAME_THEN_OTHER_NOTICED: [PlacedCall; 2] = [
-    PlacedCall::Came(ORIGIN, 0),
-    PlacedCall::Notice(OTHER),
-];
-
-const NOTICED_TWICE: [PlacedCall; 3] = [
-    PlacedCall::Came(ORIGIN, 0),
-    PlacedCall::Notice(ORIGIN),
-    PlacedCall::Notice(ORIGIN),
-];
-
-const SECOND_AFTER_THE_NOTICE: [PlacedCall; 3] = [
-    PlacedCall::Came(ORIGIN, 0),
-    PlacedCall::Notice(ORIGIN),
-    PlacedCall::Came(OTHER, 1),
-];
-
-const AGAIN_AFTER_THE_NOTICE: [PlacedCall; 3] = [
-    PlacedCall::Came(ORIGIN, 0),
-    PlacedCall::Notice(ORIGIN),
-    PlacedCall::Came(OTHER, 0),
-];
-
-const TWO_THEN_NOTICED: [PlacedCall; 3] = [
-    PlacedCall::Came(OTHER, 0),
-    PlacedCall::Came(ORIGIN, 1),
-    PlacedCall::Notice(ORIGIN),
-];
-
-const TWO_THEN_OTHER_NOTICED: [PlacedCall; 3] = [
-    PlacedCall::Came(ORIGIN, 0),
-    PlacedCall::Came(ORIGIN, 1),
-    PlacedCall::Notice(OTHER),
+const DIRECT: &[Case] = &[
+    (FIRST, &[Came(2, 0)], &[], &[]),
+    (FIRST, &[Came(2, 0), Came(0, 0)], &[], &[(0, 0)]),
+    (FIRST, &[Came(0, 0), Notice(0)], &[], &[]),
+    (OWN, &[Say(0)], &[0], &[(1, 0)]),
 ];
 
 #[test]
 fn best_effort_waits_for_the_origin(rt: HostRuntime) -> Result<(), Fail> {
-    let alloc = rt.alloc();
-    compare_direct(&rt, alloc, &[FIRST], &RELAYED, &[], &[])?;
-    compare_direct(&rt, alloc, &[FIRST], &RELAYED_THEN_CAME, &[], &UP)?;
-    compare_direct(&rt, alloc, &[FIRST], &CAME_THEN_NOTICED, &[], &[])?;
-    compare_direct(&rt, alloc, &[OWN], &SAID, &[0], &UP_OWN)?;
+    for case in DIRECT {
+        compare_direct(&rt, rt.alloc(), case)?;
+    }
     Ok(())
 }
+
+const LAZY: &[Case] = &[
+    (FIRST, &[Came(2, 0)], &[], &[(0, 0)]),
+    (FIRST, &[Came(2, 0), Came(0, 0)], &[], &[]),
+    (FIRST, &[Came(0, 0), Notice(0)], &[0], &[]),
+    (FIRST, &[Came(0, 0), Notice(0), Notice(0)], &[], &[]),
+    (BOTH, &[Came(0, 0), Notice(0), Came(2, 1)], &[1], &[(0, 1)]),
+    (FIRST, &[Came(0, 0), Notice(0), Came(2, 0)], &[], &[]),
+];
 
 #[test]
 fn lazy_relays_from_the_notice_on(rt: HostRuntime) -> Result<(), Fail> {
-    let alloc = rt.alloc();
-    let one = [FIRST];
-    let both = [FIRST, SECOND];
-    compare_relay(&rt, alloc, Lazily, &one, &RELAYED, &[], &UP)?;
-    compare_relay(&rt, alloc, Lazily, &one, &RELAYED_THEN_CAME, &[], &[])?;
-    compare_relay(&rt, alloc, Lazily, &one, &CAME_THEN_NOTICED, &[0], &[])?;
-    compare_relay(&rt, alloc, Lazily, &one, &NOTICED_TWICE, &[], &[])?;
-    compare_relay(
-        &rt,
-        alloc,
-        Lazily,
-        &both,
-        &SECOND_AFTER_THE_NOTICE,
-        &[1],
-        &UP_SECOND,
-    )?;
-    compare_relay(&rt, alloc, Lazily, &one, &AGAIN_AFTER_THE_NOTICE, &[], &[])?;
+    for case in LAZY {
+        compare_relay(&rt, rt.alloc(), Lazily, case)?;
+    }
     Ok(())
 }
+
+const EAGER: &[Case] = &[
+    (FIRST, &[Came(2, 0)], &[0], &[(0, 0)]),
+    (FIRST, &[Came(2, 0), Came(0, 0)], &[], &[]),
+    (OWN, &[Say(0)], &[0], &[(1, 0)]),
+    (OWN, &[Say(0), Say(0)], &[], &[]),
+];
 
 #[test]
 fn eager_relays_once(rt: HostRuntime) -> Result<(), Fail> {
-    let alloc = rt.alloc();
-    let one = [FIRST];
-    compare_relay(&rt, alloc, Eagerly, &one, &RELAYED, &[0], &UP)?;
-    compare_relay(&rt, alloc, Eagerly, &one, &RELAYED_THEN_CAME, &[], &[])?;
-    compare_relay(&rt, alloc, Eagerly, &[OWN], &SAID, &[0], &UP_OWN)?;
-    compare_relay(&rt, alloc, Eagerly, &[OWN], &SAID_TWICE, &[], &[])?;
+    for case in EAGER {
+        compare_relay(&rt, rt.alloc(), Eagerly, case)?;
+    }
     Ok(())
 }
+
+const ALL_ACK: &[Case] = &[
+    (FIRST, &[Came(0, 0)], &[0], &[]),
+    (FIRST, &[Came(0, 0), Came(2, 0)], &[], &[(0, 0)]),
+    (FIRST, &[Came(0, 0), Notice(2)], &[], &[(0, 0)]),
+];
 
 #[test]
 fn all_ack_waits_for_each_member(rt: HostRuntime) -> Result<(), Fail> {
-    let alloc = rt.alloc();
-    let one = [FIRST];
-    compare_relay(&rt, alloc, AllAcked, &one, &CAME, &[0], &[])?;
-    compare_relay(&rt, alloc, AllAcked, &one, &CAME_THEN_RELAYED, &[], &UP)?;
-    compare_relay(
-        &rt,
-        alloc,
-        AllAcked,
-        &one,
-        &CAME_THEN_OTHER_NOTICED,
-        &[],
-        &UP,
-    )?;
+    for case in ALL_ACK {
+        compare_relay(&rt, rt.alloc(), AllAcked, case)?;
+    }
     Ok(())
 }
 
+const LAZY_FREES: Case = (TURNED, &[Came(2, 0), Came(0, 1), Notice(0)], &[0, 1], &[]);
+
+const ALL_ACK_FREES: Case = (
+    TURNED,
+    &[Came(0, 0), Came(0, 1), Notice(2)],
+    &[],
+    &[(0, 0), (0, 1)],
+);
+
 #[test]
 fn a_notice_frees_in_the_order_of_first_mention(rt: HostRuntime) -> Result<(), Fail> {
-    let alloc = rt.alloc();
-    let both = [SECOND, FIRST];
-    compare_relay(&rt, alloc, Lazily, &both, &TWO_THEN_NOTICED, &[0, 1], &[])?;
-    compare_relay(
-        &rt,
-        alloc,
-        AllAcked,
-        &both,
-        &TWO_THEN_OTHER_NOTICED,
-        &[],
-        &UP_BOTH,
-    )?;
+    compare_relay(&rt, rt.alloc(), Lazily, &LAZY_FREES)?;
+    compare_relay(&rt, rt.alloc(), AllAcked, &ALL_ACK_FREES)?;
     Ok(())
 }
 
@@ -279,11 +219,10 @@ fn a_notice_frees_in_the_order_of_first_mention(rt: HostRuntime) -> Result<(), F
 #[test]
 fn a_place_is_told_after_those_before_it(rt: HostRuntime) -> Result<(), Fail> {
     let alloc = rt.alloc();
-    let index = index_of(alloc, &[FIRST, SECOND])?;
+    let index = index_of(alloc, BOTH)?;
     let mut out = Lists::new(alloc);
     let mut layer = Direct::new(Beb::new(ME));
-    let calls = [PlacedCall::Came(ORIGIN, 1)];
-    let made = last_effects(&mut layer, &index, &calls, &mut out)?;
+    let made = last_effects(&mut layer, &index, &[Came(0, 1)], &mut out)?;
     assert!(&rt; !made);
     Ok(())
 }

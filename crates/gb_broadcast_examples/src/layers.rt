@@ -1,5 +1,5 @@
 //! The lowest layer, and the plain program on a history worked out by hand.
-use crate::names::{FIRST, ME, MEMBERS, ORIGIN, OTHER, OWN, SECOND};
+use crate::names::{FIRST, ME, MEMBERS, ORIGIN, OTHER, OWN, SECOND, are_messages};
 use crate::placed::{Outcome, effects};
 use gb_layer::{Beb, Call, Layer, Up, plain};
 use gb_types::{Module, MsgId, OutOfMemory};
@@ -47,48 +47,36 @@ const HISTORY: [Call; 3] = [
     Call::Came(ORIGIN, FIRST),
 ];
 
-/// Returns true if the plain program computes this log for the history.
-fn has_log(alloc: Global, module: Module, log: &[MsgId]) -> Result<bool, OutOfMemory> {
+/// A module, and the plain program's log of the history and broadcasts at its last call, by origin and number.
+type Plain = (Module, &'static [(u8, u16)], &'static [(u8, u16)]);
+
+const SECOND_ALONE: &[(u8, u16)] = &[(31, 2)];
+
+const BOTH: &[(u8, u16)] = &[(31, 1), (31, 2)];
+
+const PLAIN: &[Plain] = &[
+    (Module::BestEffort, &[(31, 1)], &[]),
+    (Module::Lazy, BOTH, SECOND_ALONE),
+    (Module::Eager, BOTH, SECOND_ALONE),
+    (Module::AllAck, SECOND_ALONE, SECOND_ALONE),
+    (Module::Majority, BOTH, SECOND_ALONE),
+];
+
+/// Returns true if the plain program computes this log and these broadcasts for the history.
+fn has_plain(alloc: Global, case: &Plain) -> Result<bool, OutOfMemory> {
+    let (module, log, broadcasts) = *case;
     let found = plain::log(alloc, module, ME, &MEMBERS, &HISTORY)?;
-    Ok(found.as_slice() == log)
-}
-
-/// Returns true if the plain program computes these broadcasts for the last call of the history.
-fn has_broadcasts(
-    alloc: Global,
-    module: Module,
-    broadcasts: &[MsgId],
-) -> Result<bool, OutOfMemory> {
-    let found = plain::broadcasts(alloc, module, ME, &HISTORY)?;
-    Ok(found.as_slice() == broadcasts)
-}
-
-/// Compares what the plain program computes for the history with this log and these broadcasts.
-fn compare(
-    rt: &impl Abort,
-    alloc: Global,
-    module: Module,
-    log: &[MsgId],
-    broadcasts: &[MsgId],
-) -> Result<(), OutOfMemory> {
-    let logged = has_log(alloc, module, log)?;
-    assert!(rt; logged);
-    let broadcast = has_broadcasts(alloc, module, broadcasts)?;
-    assert!(rt; broadcast);
-    Ok(())
+    let sent = plain::broadcasts(alloc, module, ME, &HISTORY)?;
+    Ok(are_messages(&found, log) && are_messages(&sent, broadcasts))
 }
 
 /// The log of a history and the broadcasts of its last call, for each base, worked out by hand from the book's
 /// algorithms: a message of a node that was noticed is relayed, and its second one comes from a relay.
 #[test]
 fn plain_answers_are_those_of_the_algorithms(rt: HostRuntime) -> Result<(), Fail> {
-    let alloc = rt.alloc();
-    let second = [SECOND];
-    let both = [FIRST, SECOND];
-    compare(&rt, alloc, Module::BestEffort, &[FIRST], &[])?;
-    compare(&rt, alloc, Module::Lazy, &both, &second)?;
-    compare(&rt, alloc, Module::Eager, &both, &second)?;
-    compare(&rt, alloc, Module::AllAck, &second, &second)?;
-    compare(&rt, alloc, Module::Majority, &both, &second)?;
+    for case in PLAIN {
+        let held = has_plain(rt.alloc(), case)?;
+        assert!(rt; held);
+    }
     Ok(())
 }

@@ -30,3 +30,26 @@ pub fn set(nodes: &[NodeId]) -> NodeSet {
     }
     found
 }
+
+/// Returns the node with this number, below 32.
+pub fn node(number: u8) -> NodeId {
+    NodeId::new(number % 32)
+}
+
+/// Returns the message of this origin with this number.
+pub fn message(origin: u8, seq: u16) -> MsgId {
+    MsgId {
+        origin: node(origin),
+        seq,
+    }
+}
+
+/// Returns true if these are the messages, each told by its origin and its number.
+pub fn are_messages(found: &[MsgId], told: &[(u8, u16)]) -> bool {
+    for (m, (origin, seq)) in found.iter().zip(told) {
+        if *m != message(*origin, *seq) {
+            return false;
+        }
+    }
+    found.len() == told.len()
+}

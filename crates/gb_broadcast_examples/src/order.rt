@@ -2,10 +2,12 @@
 ghost use Rattle.std.specs.Prelude.{List};
 ghost use Rattle.gb_types.specs.declared.message.MsgId.{MsgId};
 
+use crate::names::{are_messages, message, node};
 use crate::placed::{Outcome, effects};
+use crate::stacks::add_effects;
 use gb_fifo::{Fifo, plain};
 use gb_layer::{Beb, Bounded, Call, Direct, Layer};
-use gb_types::{MsgId, NodeId, OutOfMemory};
+use gb_types::{MsgId, OutOfMemory};
 use std::alloc::Global;
 use std::process::Abort;
 use std::test::Fail;
@@ -16,19 +18,6 @@ const ME: u8 = 1;
 
 const OTHER: u8 = 31;
 
-/// Returns the node with this number, below 32.
-fn node(number: u8) -> NodeId {
-    NodeId::new(number % 32)
-}
-
-/// Returns the message of this origin with this number.
-fn message(origin: u8, seq: u16) -> MsgId {
-    MsgId {
-        origin: node(origin),
-        seq,
-    }
-}
-
 /// Messages, by origin and number.
 fn listed(alloc: Global, told: &[(u8, u16)]) -> Result<Vec<MsgId>, OutOfMemory> {
     let mut found = Vec::new(alloc);
@@ -38,40 +27,18 @@ fn listed(alloc: Global, told: &[(u8, u16)]) -> Result<Vec<MsgId>, OutOfMemory> 
     Ok(found)
 }
 
-/// Returns true if these messages were sent.
-fn has_sent(alloc: Global, out: &Outcome, sends: &[(u8, u16)]) -> Result<bool, OutOfMemory> {
-    let sends = listed(alloc, sends)?;
-    Ok(out.sends.as_slice() == sends.as_slice())
-}
-
-/// Returns the messages that came up.
-fn messages(alloc: Global, out: &Outcome) -> Result<Vec<MsgId>, OutOfMemory> {
-    let mut found = Vec::new(alloc);
-    for up in &out.ups {
-        found.push(up.m)?;
-    }
-    Ok(found)
-}
-
-/// Returns true if these messages came up.
-fn has_given(alloc: Global, out: &Outcome, ups: &[(u8, u16)]) -> Result<bool, OutOfMemory> {
-    let found = messages(alloc, out)?;
-    let ups = listed(alloc, ups)?;
-    Ok(found.as_slice() == ups.as_slice())
-}
-
-/// Compares what was sent and what came up.
+/// Compares what all these calls sent and what came up, each message from its origin.
 fn compare(
     rt: &impl Abort,
     alloc: Global,
-    out: &Outcome,
+    each: &[Outcome],
     sends: &[(u8, u16)],
     ups: &[(u8, u16)],
 ) -> Result<(), OutOfMemory> {
-    let sent = has_sent(alloc, out, sends)?;
-    assert!(rt; sent);
-    let given = has_given(alloc, out, ups)?;
-    assert!(rt; given);
+    let (mut sent, mut given) = (Vec::new(alloc), Vec::new(alloc));
+    add_effects(rt, each, &mut sent, &mut given)?;
+    let held = are_messages(&sent, sends) && are_messages(&given, ups);
+    assert!(rt; held);
     Ok(())
 }
 
@@ -109,26 +76,13 @@ fn have_counts(each: &[Outcome], steps: &[Step]) -> bool {
     each.len() == steps.len()
 }
 
-/// Returns the effects of all these calls, one after the other.
-fn gathered(alloc: Global, each: &[Outcome]) -> Result<Outcome, OutOfMemory> {
-    let mut all = Outcome {
-        sends: Vec::new(alloc),
-        ups: Vec::new(alloc),
-    };
-    for out in each {
-        all.sends.extend_from_slice(&out.sends)?;
-        all.ups.extend_from_slice(&out.ups)?;
-    }
-    Ok(all)
-}
-
-/// Takes the steps at a new fifo, one after the other. Returns what was sent and what came up.
-fn told(rt: &impl Abort, alloc: Global, steps: &[Step]) -> Result<Outcome, OutOfMemory> {
+/// Takes the steps at a new fifo, one after the other. Returns what each of them sends and hands up.
+fn told(rt: &impl Abort, alloc: Global, steps: &[Step]) -> Result<Vec<Outcome>, OutOfMemory> {
     let mut fifo = Fifo::new(alloc, Direct::new(Beb::new(node(ME))));
     let calls = calls_of(alloc, steps)?;
     let each = effects(alloc, &mut fifo, &calls)?;
     assert!(rt; have_counts(&each, steps));
-    gathered(alloc, &each)
+    Ok(each)
 }
 
 const LATE: &[Step] = &[
@@ -152,8 +106,8 @@ const LATE_UPS: &[(u8, u16)] = &[
 /// Another origin's message in between does not wait, and a copy of what came up changes nothing.
 #[test]
 fn a_gap_is_filled_late(rt: HostRuntime) -> Result<(), Fail> {
-    let out = told(&rt, rt.alloc(), LATE)?;
-    compare(&rt, rt.alloc(), &out, &[], LATE_UPS)?;
+    let each = told(&rt, rt.alloc(), LATE)?;
+    compare(&rt, rt.alloc(), &each, &[], LATE_UPS)?;
     Ok(())
 }
 
@@ -178,14 +132,14 @@ const TURNS_UPS: &[(u8, u16)] = &[
 /// The messages of two origins, and this node's own, come in turns and out of order.
 #[test]
 fn two_origins_do_not_wait_for_each_other(rt: HostRuntime) -> Result<(), Fail> {
-    let out = told(&rt, rt.alloc(), TURNS)?;
-    compare(&rt, rt.alloc(), &out, &[(ME, 2), (ME, 1)], TURNS_UPS)?;
+    let each = told(&rt, rt.alloc(), TURNS)?;
+    compare(&rt, rt.alloc(), &each, &[(ME, 2), (ME, 1)], TURNS_UPS)?;
     Ok(())
 }
 
 /// Tells a layer of the second and the first message of an origin that crashes in between, and of an own one. Returns what it sends and
-/// hands up.
-fn tell<L: Bounded>(alloc: Global, layer: &mut L) -> Result<Outcome, OutOfMemory>
+/// hands up at each.
+fn tell<L: Bounded>(alloc: Global, layer: &mut L) -> Result<Vec<Outcome>, OutOfMemory>
     requires { (ms : List MsgId) → L.knows ms layer.old 0 0 }
 {
     let origin = node(ORIGIN);
@@ -195,8 +149,7 @@ fn tell<L: Bounded>(alloc: Global, layer: &mut L) -> Result<Outcome, OutOfMemory
         Call::Came(origin, message(ORIGIN, 1)),
         Call::Say(message(ME, 1)),
     ];
-    let each = effects(alloc, layer, &calls)?;
-    gathered(alloc, &each)
+    effects(alloc, layer, &calls)
 }
 
 /// Compares what a fifo over a fifo sends and hands up after `tell`.
@@ -204,9 +157,9 @@ fn compare_two_fifos(rt: &impl Abort, alloc: Global) -> Result<(), OutOfMemory> 
     let below = Fifo::new(alloc, Direct::new(Beb::new(node(ME))));
     let mut fifo = Fifo::new(alloc, below);
     assert!(rt; fifo.me() == node(ME));
-    let out = tell(alloc, &mut fifo)?;
+    let each = tell(alloc, &mut fifo)?;
     let ups = [(ORIGIN, 1), (ORIGIN, 2), (ME, 1)];
-    compare(rt, alloc, &out, &[(ME, 1)], &ups)
+    compare(rt, alloc, &each, &[(ME, 1)], &ups)
 }
 
 /// A fifo over a fifo hands up the same as a fifo. It may take the place of the layer below.
@@ -223,9 +176,8 @@ fn in_order(
     given: &[(u8, u16)],
 ) -> Result<bool, OutOfMemory> {
     let delivered = listed(alloc, delivered)?;
-    let given = listed(alloc, given)?;
     let found = plain::in_order(alloc, &delivered)?;
-    Ok(found.as_slice() == given.as_slice())
+    Ok(are_messages(&found, given))
 }
 
 /// What was delivered, and the order in which it is handed up.

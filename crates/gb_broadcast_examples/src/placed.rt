@@ -4,7 +4,6 @@ ghost use Rattle.gb_types.specs.declared.message.MsgId.{MsgId};
 ghost use Rattle.gb_layer.specs.Common.{Names, IsNext, reached, told_after};
 
 use crate::names::{ME, MEMBERS, set};
-use gb_layer::calls::make_call;
 use gb_layer::{Bounded, Call, Index, Layer, Lists, PlacedCall, Up};
 use gb_stack::Stack;
 use gb_types::{Kind, MsgId, NodeSet, OutOfMemory, Spec};
@@ -101,7 +100,7 @@ fn told_after(told: usize, call: PlacedCall) -> usize
     }
 }
 
-/// Makes one call, and appends its effects to `out`. `told` is the number of places that were told. Returns false, with no call made,
+/// Makes one call, and appends its effects to `out`, for which it takes the memory before the call. `told` is the number of places that were told. Returns false, with no call made,
 /// if the call names a place too early.
 pub fn make_next<L: Bounded>(
     layer: &mut L,
@@ -116,7 +115,9 @@ pub fn make_next<L: Bounded>(
     if !is_next(call, *told, index.list.len()) {
         return Ok(false);
     }
-    make_call(layer, index, call, out)?;
+    let room = layer.most();
+    out.reserve(room)?;
+    layer.take(index, call, out);
     *told = told_after(*told, call);
     Ok(true)
 }

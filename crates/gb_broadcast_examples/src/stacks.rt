@@ -2,8 +2,9 @@
 //! check that fails aborts the test with a message.
 use crate::names::{FIRST, ME, MEMBERS, ORIGIN, OTHER, OWN, SECOND, set};
 use crate::placed::{Outcome, run, stack};
+use gb_kinds::{laws, plain};
 use gb_layer::{Call, Layer};
-use gb_stack::{plain, stands};
+use gb_stack::stands;
 use gb_types::kind::MODULES;
 use gb_types::{Kind, Module, MsgId, NodeId, NodeSet, Order, OutOfMemory};
 use std::alloc::Global;
@@ -172,7 +173,7 @@ fn compare_all(rt: &impl Abort, alloc: Global, noticed: &[NodeId]) -> Result<(),
 #[test]
 fn each_stack_is_its_plain_kind(rt: HostRuntime) -> Result<(), Fail> {
     stands::stands();
-    stands::logs();
+    laws::logs();
     stands::starts();
     stands::laws();
     compare_all(&rt, rt.alloc(), &[])?;
@@ -229,7 +230,7 @@ fn a_relayed_copy_tells_the_kinds_apart(rt: HostRuntime) -> Result<(), Fail> {
 }
 
 /// Appends what these calls sent, and what came up, which is of the origin.
-fn add_effects(
+pub fn add_effects(
     rt: &impl Abort,
     each: &[Outcome],
     sends: &mut Vec<MsgId>,

@@ -1,31 +1,19 @@
 //! A table of places, at its limits.
+use crate::names::{message, node, set};
 use gb_layer::Table;
-use gb_types::{MsgId, NodeId, NodeSet, OutOfMemory};
+use gb_types::OutOfMemory;
 use std::alloc::Global;
 use std::rt::HostRuntime;
 use std::test::Fail;
 
-const ORIGIN: NodeId = NodeId { number: 0 };
-
-const FIRST: MsgId = MsgId {
-    origin: ORIGIN,
-    seq: 1,
-};
-
-const OTHER: MsgId = MsgId {
-    origin: ORIGIN,
-    seq: 2,
-};
-
 /// Returns what a table says of the first message, and of one that comes after `count` others.
 fn said_after(alloc: Global, count: usize) -> Result<(Option<usize>, Option<usize>), OutOfMemory> {
     let mut table = Table::new(alloc);
-    let mut members = NodeSet::new();
-    members.insert(ORIGIN);
-    table.cover(&members, 2)?;
-    table.note(FIRST, 0);
-    table.note(OTHER, count);
-    Ok((table.told(FIRST), table.told(OTHER)))
+    let (first, other) = (message(0, 1), message(0, 2));
+    table.cover(&set(&[node(0)]), 2)?;
+    table.note(first, 0);
+    table.note(other, count);
+    Ok((table.told(first), table.told(other)))
 }
 
 // With more messages it answers `None` for each, so that all messages are searched.

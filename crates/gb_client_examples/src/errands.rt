@@ -5,16 +5,22 @@ use gb_client_run::running::run_task;
 use gb_client_run::{Nodes, Pauses};
 use gb_client_words::words::{command, plan_of};
 use std::alloc::Global;
-use std::test::Fail;
+use std::process::Abort;
 
-/// What is asked at a port, how its body begins and ends, and the reply; `!` for none in time, `?` for no connection.
-pub type Turn = (u16, &'static str, &'static str, &'static str);
+/// The node that is asked, what it is asked, with a `*` for the token, and the reply; `!` for none in time, `?` for no connection.
+pub type Turn = (u16, &'static str, &'static str);
+
+/// The nodes that are asked, all of them, what is printed, and the exit status.
+pub type Ending = (&'static [Turn], &'static str, u8);
+
+/// The words of a line, and how they end where the nodes reply so.
+type Errand = (&'static str, &'static [Ending]);
 
 /// Nodes that reply by a table, as long as they are asked by it.
 #[derive(Drop)]
-pub struct Script {
-    pub turns: &'static [Turn],
-    pub at: usize,
+struct Script {
+    turns: &'static [Turn],
+    at: usize,
 }
 
 impl Nodes for Script {
@@ -23,11 +29,15 @@ impl Nodes for Script {
     ghost asks = { λ _ _ _ _ _. ⊤ };
 
     fn ask(&mut self, alloc: Global, port: u16, body: &[u8]) -> Result<Vec<u8>, ClientFault> {
-        let Some((at, head, end, reply)) = self.turns.get(self.at) else {
+        let Some((node, asked, reply)) = self.turns.get(self.at) else {
             return Err(ClientFault::NoReply);
         };
         self.at = self.at.saturating_add(1);
-        if port != *at || !body.starts_with(head.as_bytes()) || !body.ends_with(end.as_bytes()) {
+        let (head, end) = asked.split_once('*').unwrap_or((*asked, ""));
+        if port.checked_sub(42_064) != Some(*node)
+            || !body.starts_with(head.as_bytes())
+            || !body.ends_with(end.as_bytes())
+        {
             return Err(ClientFault::NoReply);
         }
         match *reply {
@@ -36,14 +46,6 @@ impl Nodes for Script {
             text => Ok(Vec::from_slice(alloc, text.as_bytes())?),
         }
     }
-}
-
-/// The words of a line, the nodes that are asked, all of them, what is printed, and the exit status.
-struct Case {
-    words: &'static str,
-    turns: &'static [Turn],
-    printed: &'static str,
-    status: u8,
 }
 
 const SECRETS: Secrets = Secrets {
@@ -60,217 +62,200 @@ const OTHER: &str = "groups 1 7:1:lazy:0,1:8:4096:4:open:5";
 
 const GONE: &str = "groups 1 7:1:-:-:0:0:0:dropped:0";
 
-const MAKE: &str = " 7 1 beb 0,1 8 4096 4";
+const MAKE: &str = "make * 7 1 beb 0,1 8 4096 4";
 
 // What is asked of a group's nodes.
-static GROUPS: &[Case] = &[
-    Case {
-        words: "group --nodes 0,1 7 1 beb 8 4096 4",
-        turns: &[
-            (42064, "make ", MAKE, "ok"),
-            (42065, "make ", MAKE, "ok"),
-            (42064, "open ", " 7 1", "ok"),
-            (42065, "open ", " 7 1", "ok"),
-        ],
-        printed: "node 0: made\nnode 1: made\nnode 0: opened\nnode 1: opened\n",
-        status: 0,
-    },
-    Case {
-        words: "group --nodes 0,1,31 7 1 beb 8 4096 4",
-        turns: &[
-            (42064, "make ", " 7 1 beb 0,1,31 8 4096 4", "ok"),
+static GROUPS: &[Errand] = &[
+    (
+        "group --nodes 0,1 7 1 beb 8 4096 4",
+        &[
             (
-                42065,
-                "make ",
-                " 7 1 beb 0,1,31 8 4096 4",
-                "refused 5 OverReserve",
+                &[
+                    (0, MAKE, "ok"),
+                    (1, MAKE, "ok"),
+                    (0, "open * 7 1", "ok"),
+                    (1, "open * 7 1", "ok"),
+                ],
+                "node 0: made\nnode 1: made\nnode 0: opened\nnode 1: opened\n",
+                0,
+            ),
+            (
+                &[
+                    (0, MAKE, "refused 3 Spent"),
+                    (0, "list * 0 64", ROW),
+                    (1, MAKE, "ok"),
+                    (0, "open * 7 1", "refused 6 WrongPhase"),
+                    (0, "list * 0 64", OPEN),
+                    (1, "open * 7 1", "ok"),
+                ],
+                "node 0: made before\nnode 1: made\nnode 0: opened before\nnode 1: opened\n",
+                0,
+            ),
+            (
+                &[(0, MAKE, "refused 3 Spent"), (0, "list * 0 64", OTHER)],
+                "node 0: refused 3 Spent\nnode 1: not asked\nopened at no node\n",
+                1,
+            ),
+            (
+                &[
+                    (0, MAKE, "refused 3 Spent"),
+                    (0, "list * 0 64", "groups 70 7:3:beb:0:1:0:1:made:0"),
+                    (0, "list * 1 64", GONE),
+                ],
+                "node 0: refused 3 Spent\nnode 1: not asked\nopened at no node\n",
+                1,
+            ),
+            (
+                &[(0, MAKE, "ok"), (1, MAKE, "!")],
+                "node 0: made\nnode 1: no reply in time, so the outcome is unknown: fetch before you ask again\nopened at no node\n",
+                4,
+            ),
+            (
+                &[
+                    (0, MAKE, "ok"),
+                    (1, MAKE, "ok"),
+                    (0, "open * 7 1", "refused 6 WrongPhase"),
+                    (0, "list * 0 64", "refused 1 Denied"),
+                ],
+                "node 0: made\nnode 1: made\nnode 0: refused 6 WrongPhase\nnode 1: not asked\n",
+                1,
             ),
         ],
-        printed: "node 0: made\nnode 1: refused 5 OverReserve\nnode 31: not asked\nopened at no node\n",
-        status: 1,
-    },
-    Case {
-        words: "group --nodes 0,1 7 1 beb 8 4096 4",
-        turns: &[
-            (42064, "make ", MAKE, "refused 3 Spent"),
-            (42064, "list ", " 0 64", ROW),
-            (42065, "make ", MAKE, "ok"),
-            (42064, "open ", " 7 1", "refused 6 WrongPhase"),
-            (42064, "list ", " 0 64", OPEN),
-            (42065, "open ", " 7 1", "ok"),
-        ],
-        printed: "node 0: made before\nnode 1: made\nnode 0: opened before\nnode 1: opened\n",
-        status: 0,
-    },
-    Case {
-        words: "group --nodes 0,1 7 1 beb 8 4096 4",
-        turns: &[
-            (42064, "make ", MAKE, "refused 3 Spent"),
-            (42064, "list ", " 0 64", OTHER),
-        ],
-        printed: "node 0: refused 3 Spent\nnode 1: not asked\nopened at no node\n",
-        status: 1,
-    },
-    Case {
-        words: "group --nodes 0,1 7 1 beb 8 4096 4",
-        turns: &[
-            (42064, "make ", MAKE, "refused 3 Spent"),
-            (42064, "list ", " 0 64", "groups 70 7:3:beb:0:1:0:1:made:0"),
-            (42064, "list ", " 1 64", GONE),
-        ],
-        printed: "node 0: refused 3 Spent\nnode 1: not asked\nopened at no node\n",
-        status: 1,
-    },
-    Case {
-        words: "group --nodes 0,1 7 1 beb 8 4096 4",
-        turns: &[(42064, "make ", MAKE, "ok"), (42065, "make ", MAKE, "!")],
-        printed: "node 0: made\nnode 1: no reply in time, so the outcome is unknown: fetch before you ask again\nopened at no node\n",
-        status: 4,
-    },
-    Case {
-        words: "group --nodes 0,1 7 1 beb 8 4096 4",
-        turns: &[
-            (42064, "make ", MAKE, "ok"),
-            (42065, "make ", MAKE, "ok"),
-            (42064, "open ", " 7 1", "refused 6 WrongPhase"),
-            (42064, "list ", " 0 64", "refused 1 Denied"),
-        ],
-        printed: "node 0: made\nnode 1: made\nnode 0: refused 6 WrongPhase\nnode 1: not asked\n",
-        status: 1,
-    },
-    Case {
-        words: "drop --nodes 0,1,2 7 1",
-        turns: &[
-            (42064, "drop ", " 7 1", "refused 3 Spent"),
-            (42064, "list ", " 0 64", GONE),
-            (42065, "drop ", " 7 1", "?"),
-            (42066, "drop ", " 7 1", "ok"),
-        ],
-        printed: "node 0: dropped before\nnode 1: no connection to the node, nothing was asked\nnode 2: dropped\n",
-        status: 3,
-    },
+    ),
+    (
+        "group --nodes 0,1,31 7 1 beb 8 4096 4",
+        &[(
+            &[
+                (0, "make * 7 1 beb 0,1,31 8 4096 4", "ok"),
+                (1, "make * 7 1 beb 0,1,31 8 4096 4", "refused 5 OverReserve"),
+            ],
+            "node 0: made\nnode 1: refused 5 OverReserve\nnode 31: not asked\nopened at no node\n",
+            1,
+        )],
+    ),
+    (
+        "drop --nodes 0,1,2 7 1",
+        &[(
+            &[
+                (0, "drop * 7 1", "refused 3 Spent"),
+                (0, "list * 0 64", GONE),
+                (1, "drop * 7 1", "?"),
+                (2, "drop * 7 1", "ok"),
+            ],
+            "node 0: dropped before\nnode 1: no connection to the node, nothing was asked\nnode 2: dropped\n",
+            3,
+        )],
+    ),
 ];
 
 // What an administrator asks.
-static OPERATIONS: &[Case] = &[
-    Case {
-        words: "check --nodes 0,1 7 1",
-        turns: &[
-            (42064, "list ", " 0 64", ROW),
-            (42065, "list ", " 0 64", OPEN),
-        ],
-        printed: "node 0: 7:1:beb:0,1:8:4096:4:made:0\nnode 1: 7:1:beb:0,1:8:4096:4:open:5\nalike\n",
-        status: 0,
-    },
-    Case {
-        words: "check --nodes 0,1 7 1",
-        turns: &[
-            (42064, "list ", " 0 64", OTHER),
-            (42065, "list ", " 0 64", OPEN),
-        ],
-        printed: "node 0: 7:1:lazy:0,1:8:4096:4:open:5\nnode 1: 7:1:beb:0,1:8:4096:4:open:5\nnot alike\n",
-        status: 1,
-    },
-    Case {
-        words: "check --nodes 0,1 7 1.2",
-        turns: &[
+static OPERATIONS: &[Errand] = &[
+    (
+        "check --nodes 0,1 7 1",
+        &[
             (
-                42064,
-                "list ",
-                " 0 64",
-                "groups 2 7:1:lazy:0,1:8:4096:4:open:5 7:1.2:beb:0,1:8:4096:4:open:0",
-            ),
-            (42065, "list ", " 0 64", ROW),
-        ],
-        printed: "node 0: 7:1.2:beb:0,1:8:4096:4:open:0\nnode 1: no such group\nnot alike\n",
-        status: 1,
-    },
-    Case {
-        words: "check --nodes 0 7 1",
-        turns: &[(42064, "list ", " 0 64", ROW)],
-        printed: "node 0: 7:1:beb:0,1:8:4096:4:made:0\nnot alike\n",
-        status: 1,
-    },
-    Case {
-        words: "check --nodes 0,1 7 1",
-        turns: &[
-            (42064, "list ", " 0 64", "groups 0"),
-            (42065, "list ", " 0 64", "refused 1 Denied"),
-        ],
-        printed: "node 0: no such group\nnode 1: refused 1 Denied\nnot alike\n",
-        status: 1,
-    },
-    Case {
-        words: "--node 1 list",
-        turns: &[
-            (
-                42065,
-                "list ",
-                " 0 64",
-                "groups 3 7:0:beb:0,1:8:4096:4:made:0 7:1:-:-:0:0:0:dropped:0",
+                &[(0, "list * 0 64", ROW), (1, "list * 0 64", OPEN)],
+                "node 0: 7:1:beb:0,1:8:4096:4:made:0\nnode 1: 7:1:beb:0,1:8:4096:4:open:5\nalike\n",
+                0,
             ),
             (
-                42065,
-                "list ",
-                " 2 64",
-                "groups 3 7:2:beb:1:8:4096:4:shut:9",
+                &[(0, "list * 0 64", OTHER), (1, "list * 0 64", OPEN)],
+                "node 0: 7:1:lazy:0,1:8:4096:4:open:5\nnode 1: 7:1:beb:0,1:8:4096:4:open:5\nnot alike\n",
+                1,
+            ),
+            (
+                &[
+                    (0, "list * 0 64", "groups 0"),
+                    (1, "list * 0 64", "refused 1 Denied"),
+                ],
+                "node 0: no such group\nnode 1: refused 1 Denied\nnot alike\n",
+                1,
             ),
         ],
-        printed: "groups 3\n7:0:beb:0,1:8:4096:4:made:0\n7:1:-:-:0:0:0:dropped:0\n7:2:beb:1:8:4096:4:shut:9\n",
-        status: 0,
-    },
-    Case {
-        words: "--node 0 status",
-        turns: &[(42064, "status ", "", "status groups=3 lost=0")],
-        printed: "status groups=3 lost=0\n",
-        status: 0,
-    },
-    Case {
-        words: "--node 0 status",
-        turns: &[(42064, "status ", "", "refused 1 Denied")],
-        printed: "refused 1 Denied\n",
-        status: 1,
-    },
-    Case {
-        words: "--node 0 shutdown",
-        turns: &[(42064, "stop ", "", "ok")],
-        printed: "ok\n",
-        status: 0,
-    },
-    Case {
-        words: "--node 0 shutdown",
-        turns: &[(42064, "stop ", "", "log 0")],
-        printed: "",
-        status: 3,
-    },
+    ),
+    (
+        "check --nodes 0,1 7 1.2",
+        &[(
+            &[
+                (
+                    0,
+                    "list * 0 64",
+                    "groups 2 7:1:lazy:0,1:8:4096:4:open:5 7:1.2:beb:0,1:8:4096:4:open:0",
+                ),
+                (1, "list * 0 64", ROW),
+            ],
+            "node 0: 7:1.2:beb:0,1:8:4096:4:open:0\nnode 1: no such group\nnot alike\n",
+            1,
+        )],
+    ),
+    (
+        "check --nodes 0 7 1",
+        &[(
+            &[(0, "list * 0 64", ROW)],
+            "node 0: 7:1:beb:0,1:8:4096:4:made:0\nnot alike\n",
+            1,
+        )],
+    ),
+    (
+        "--node 1 list",
+        &[(
+            &[
+                (
+                    1,
+                    "list * 0 64",
+                    "groups 3 7:0:beb:0,1:8:4096:4:made:0 7:1:-:-:0:0:0:dropped:0",
+                ),
+                (1, "list * 2 64", "groups 3 7:2:beb:1:8:4096:4:shut:9"),
+            ],
+            "groups 3\n7:0:beb:0,1:8:4096:4:made:0\n7:1:-:-:0:0:0:dropped:0\n7:2:beb:1:8:4096:4:shut:9\n",
+            0,
+        )],
+    ),
+    (
+        "--node 0 status",
+        &[
+            (
+                &[(0, "status *", "status groups=3 lost=0")],
+                "status groups=3 lost=0\n",
+                0,
+            ),
+            (
+                &[(0, "status *", "refused 1 Denied")],
+                "refused 1 Denied\n",
+                1,
+            ),
+        ],
+    ),
+    (
+        "--node 0 shutdown",
+        &[
+            (&[(0, "stop *", "ok")], "ok\n", 0),
+            (&[(0, "stop *", "log 0")], "", 3),
+        ],
+    ),
 ];
 
 // One request at one node.
-static REQUESTS: &[Case] = &[
-    Case {
-        words: "--node 2 say 7 1 61",
-        turns: &[(42066, "say ", " 7 1 61", "said 4")],
-        printed: "said 4\n",
-        status: 0,
-    },
-    Case {
-        words: "--node 2 say 7 1 61",
-        turns: &[(42066, "say ", " 7 1 61", "ok")],
-        printed: "",
-        status: 3,
-    },
-    Case {
-        words: "--node 2 fetch 7 1 0 16 --text",
-        turns: &[(42066, "fetch ", " 7 1 0 16", "log 2 0:1:6869 1:1:1b")],
-        printed: "log 2\n0:1:\"hi\"\n1:1:1b\n",
-        status: 0,
-    },
-    Case {
-        words: "--node 2 open 7 1",
-        turns: &[(42066, "open ", " 7 1", "log junk")],
-        printed: "",
-        status: 3,
-    },
+static REQUESTS: &[Errand] = &[
+    (
+        "--node 2 say 7 1 61",
+        &[
+            (&[(2, "say * 7 1 61", "said 4")], "said 4\n", 0),
+            (&[(2, "say * 7 1 61", "ok")], "", 3),
+        ],
+    ),
+    (
+        "--node 2 fetch 7 1 0 16 --text",
+        &[(
+            &[(2, "fetch * 7 1 0 16", "log 2 0:1:6869 1:1:1b")],
+            "log 2\n0:1:\"hi\"\n1:1:1b\n",
+            0,
+        )],
+    ),
+    (
+        "--node 2 open 7 1",
+        &[(&[(2, "open * 7 1", "log junk")], "", 3)],
+    ),
 ];
 
 const SIXTEEN: &str =
@@ -279,148 +264,117 @@ const SIXTEEN: &str =
 const LONG_LINES: &str =
     "0:1:00\n1:1:01\n0:2:02\n0:3:03\n0:4:04\n0:5:05\n0:6:06\n0:7:07\n0:8:08\n0:9:09\n0:10:0a\n0:11:0b\n0:12:0c\n0:13:0d\n0:14:0e\n0:15:0f\n0:16:10\nend 17\n";
 
-// A log that is exported.
-static EXPORTS: &[Case] = &[
-    Case {
-        words: "--node 2 export 7 1",
-        turns: &[(42066, "fetch ", " 7 1 0 16", "log 0")],
-        printed: "end 0\n",
-        status: 0,
-    },
-    Case {
-        words: "--node 2 export 7 1",
-        turns: &[
-            (42066, "fetch ", " 7 1 0 16", "log 2 0:1:6869 2:1:-"),
-            (42066, "fetch ", " 7 1 2 16", "log 1 0:2:6a"),
-            (42066, "fetch ", " 7 1 3 16", "log 0"),
+// A log that is exported; the last one has more entries than one fetch brings.
+static EXPORTS: &[Errand] = &[
+    (
+        "--node 2 export 7 1",
+        &[
+            (&[(2, "fetch * 7 1 0 16", "log 0")], "end 0\n", 0),
+            (
+                &[
+                    (2, "fetch * 7 1 0 16", "log 2 0:1:6869 2:1:-"),
+                    (2, "fetch * 7 1 2 16", "log 1 0:2:6a"),
+                    (2, "fetch * 7 1 3 16", "log 0"),
+                ],
+                "0:1:6869\n2:1:-\n0:2:6a\nend 3\n",
+                0,
+            ),
         ],
-        printed: "0:1:6869\n2:1:-\n0:2:6a\nend 3\n",
-        status: 0,
-    },
-    Case {
-        words: "--node 0 export 7 1",
-        turns: &[
-            (42064, "fetch ", " 7 1 0 16", "log 1 0:1:6869"),
-            (42064, "fetch ", " 7 1 1 16", "refused 3 Spent"),
+    ),
+    (
+        "--node 0 export 7 1",
+        &[
+            (
+                &[
+                    (0, "fetch * 7 1 0 16", "log 1 0:1:6869"),
+                    (0, "fetch * 7 1 1 16", "refused 3 Spent"),
+                ],
+                "0:1:6869\nrefused 3 Spent\n",
+                1,
+            ),
+            (
+                &[
+                    (0, "fetch * 7 1 0 16", "log 1 0:1:6869"),
+                    (0, "fetch * 7 1 1 16", "!"),
+                ],
+                "0:1:6869\n",
+                4,
+            ),
+            (&[(0, "fetch * 7 1 0 16", "said 1")], "", 3),
+            (
+                &[
+                    (0, "fetch * 7 1 0 16", SIXTEEN),
+                    (0, "fetch * 7 1 16 16", "log 1 0:16:10"),
+                    (0, "fetch * 7 1 17 16", "log 0"),
+                ],
+                LONG_LINES,
+                0,
+            ),
         ],
-        printed: "0:1:6869\nrefused 3 Spent\n",
-        status: 1,
-    },
-    Case {
-        words: "--node 0 export 7 1",
-        turns: &[
-            (42064, "fetch ", " 7 1 0 16", "log 1 0:1:6869"),
-            (42064, "fetch ", " 7 1 1 16", "!"),
-        ],
-        printed: "0:1:6869\n",
-        status: 4,
-    },
-    Case {
-        words: "--node 0 export 7 1",
-        turns: &[(42064, "fetch ", " 7 1 0 16", "said 1")],
-        printed: "",
-        status: 3,
-    },
+    ),
 ];
-
-// A log of more entries than one fetch brings.
-static LONG_EXPORT: Case = Case {
-    words: "--node 0 export 7 1",
-    turns: &[
-        (42064, "fetch ", " 7 1 0 16", SIXTEEN),
-        (42064, "fetch ", " 7 1 16 16", "log 1 0:16:10"),
-        (42064, "fetch ", " 7 1 17 16", "log 0"),
-    ],
-    printed: LONG_LINES,
-    status: 0,
-};
-
-/// The words of a line, a text on standard input, the nodes that are asked, all of them, what is printed, and the exit status.
-#[derive(Clone, Copy)]
-struct ImportCase {
-    words: &'static str,
-    text: &'static str,
-    turns: &'static [Turn],
-    printed: &'static str,
-    status: u8,
-}
 
 const EXPORTED: &str = "0:1:6869\n2:1:-\n2:2:6a\n0:2:6b\nend 4\n";
 
 // A log whose entries are said again.
-static IMPORTS: &[ImportCase] = &[
-    ImportCase {
-        words: "--node 2 --secrets s import 7 1",
-        text: EXPORTED,
-        turns: &[
-            (42066, "say ", " 7 1 -", "said 1"),
-            (42066, "say ", " 7 1 6a", "said 2"),
+static IMPORTS: &[Errand] = &[
+    (
+        "--node 2 --secrets s import 7 1",
+        &[(
+            &[(2, "say * 7 1 -", "said 1"), (2, "say * 7 1 6a", "said 2")],
+            "2:1 said 1\n2:2 said 2\nsaid 2\n",
+            0,
+        )],
+    ),
+    (
+        "--node 2 --secrets s import 7 1 --all",
+        &[(
+            &[
+                (2, "say * 7 1 6869", "said 5"),
+                (2, "say * 7 1 -", "said 6"),
+                (2, "say * 7 1 6a", "said 7"),
+                (2, "say * 7 1 6b", "said 8"),
+            ],
+            "0:1 said 5\n2:1 said 6\n2:2 said 7\n0:2 said 8\nsaid 4\n",
+            0,
+        )],
+    ),
+    (
+        "--node 0 --secrets s import 7 1 --from 1",
+        &[
+            (&[(0, "say * 7 1 6b", "said 2")], "0:2 said 2\nsaid 2\n", 0),
+            (&[(0, "say * 7 1 6b", "!")], "said 1\n", 4),
         ],
-        printed: "2:1 said 1\n2:2 said 2\nsaid 2\n",
-        status: 0,
-    },
-    ImportCase {
-        words: "--node 2 --secrets s import 7 1 --all",
-        text: EXPORTED,
-        turns: &[
-            (42066, "say ", " 7 1 6869", "said 5"),
-            (42066, "say ", " 7 1 -", "said 6"),
-            (42066, "say ", " 7 1 6a", "said 7"),
-            (42066, "say ", " 7 1 6b", "said 8"),
+    ),
+    (
+        "--node 0 --secrets s import 7 1 --from 3",
+        &[(&[], "said 2\n", 0)],
+    ),
+    (
+        "--node 0 --secrets s import 7 1",
+        &[
+            (
+                &[
+                    (0, "say * 7 1 6869", "refused 10 Window"),
+                    (0, "say * 7 1 6869", "refused 16 OutOfMemory"),
+                    (0, "say * 7 1 6869", "said 1"),
+                    (0, "say * 7 1 6b", "refused 8 Budget"),
+                ],
+                "0:1 said 1\nrefused 8 Budget\nsaid 1\n",
+                1,
+            ),
+            (&[(0, "say * 7 1 6869", "log 0")], "said 0\n", 3),
         ],
-        printed: "0:1 said 5\n2:1 said 6\n2:2 said 7\n0:2 said 8\nsaid 4\n",
-        status: 0,
-    },
-    ImportCase {
-        words: "--node 0 --secrets s import 7 1 --from 1",
-        text: EXPORTED,
-        turns: &[(42064, "say ", " 7 1 6b", "said 2")],
-        printed: "0:2 said 2\nsaid 2\n",
-        status: 0,
-    },
-    ImportCase {
-        words: "--node 0 --secrets s import 7 1 --from 3",
-        text: EXPORTED,
-        turns: &[],
-        printed: "said 2\n",
-        status: 0,
-    },
-    ImportCase {
-        words: "--node 1 --secrets s import 7 1",
-        text: "end 0\n",
-        turns: &[],
-        printed: "said 0\n",
-        status: 0,
-    },
-    ImportCase {
-        words: "--node 0 --secrets s import 7 1",
-        text: EXPORTED,
-        turns: &[
-            (42064, "say ", " 7 1 6869", "refused 10 Window"),
-            (42064, "say ", " 7 1 6869", "refused 16 OutOfMemory"),
-            (42064, "say ", " 7 1 6869", "said 1"),
-            (42064, "say ", " 7 1 6b", "refused 8 Budget"),
-        ],
-        printed: "0:1 said 1\nrefused 8 Budget\nsaid 1\n",
-        status: 1,
-    },
-    ImportCase {
-        words: "--node 0 --secrets s import 7 1 --from 1",
-        text: EXPORTED,
-        turns: &[(42064, "say ", " 7 1 6b", "!")],
-        printed: "said 1\n",
-        status: 4,
-    },
-    ImportCase {
-        words: "--node 0 --secrets s import 7 1",
-        text: EXPORTED,
-        turns: &[(42064, "say ", " 7 1 6869", "log 0")],
-        printed: "said 0\n",
-        status: 3,
-    },
+    ),
 ];
 
-// What is no exported log: of these nothing is said.
+// A log with no entries.
+static EMPTY_IMPORT: &[Errand] = &[("--node 1 --secrets s import 7 1", &[(&[], "said 0\n", 0)])];
+
+// Nothing is said of what is no exported log.
+static NO_IMPORT: &[Errand] = &[("--node 0 --secrets s import 7 1", &[(&[], "", 2)])];
+
+// What is no exported log.
 static NO_EXPORTS: &[&str] = &[
     "",
     "0:1:6869\n",
@@ -477,7 +431,7 @@ const FIRST_WORDS: &[&str] = &["gb_ctl", "--port", "42000"];
 
 /// Reads the words of a line, and runs what they say at nodes, with these secrets and a text on standard input. Returns the exit status;
 /// `Err` if the words are no plan.
-pub fn run_line<N: Nodes>(
+fn run_line<N: Nodes>(
     alloc: Global,
     line: &str,
     secrets: &Secrets,
@@ -497,102 +451,76 @@ pub fn run_line<N: Nodes>(
     }
 }
 
-// Runs the words of a line with both keys. The exit status.
-fn status_of<N: Nodes>(
+/// Whether the words of a line end so, with these secrets and a text on standard input: all nodes are asked, this is printed, and the
+/// status is this. What is told has to be `told`, where one is given.
+pub fn ends_so(
     alloc: Global,
-    line: &str,
-    text: &[u8],
-    nodes: &mut N,
-    out: &mut Vec<u8>,
-) -> Result<u8, ClientFault> {
-    let mut told = Vec::new(alloc);
-    run_line(alloc, line, &SECRETS, text, nodes, out, &mut told)
-}
-
-// Whether words come out so, with a text on standard input: all nodes are asked, this is printed, and the status is this.
-fn comes_out(alloc: Global, case: &ImportCase) -> bool {
-    let mut nodes = Script {
-        turns: case.turns,
-        at: 0,
+    words: &str,
+    secrets: &Secrets,
+    text: &str,
+    ending: &Ending,
+    told: Option<&str>,
+) -> bool {
+    let (turns, printed, wanted) = *ending;
+    let mut nodes = Script { turns, at: 0 };
+    let (mut out, mut complaints) = (Vec::new(alloc), Vec::new(alloc));
+    let text = text.as_bytes();
+    let status = run_line(
+        alloc,
+        words,
+        secrets,
+        text,
+        &mut nodes,
+        &mut out,
+        &mut complaints,
+    );
+    let is_told = match told {
+        Some(told) => complaints.as_slice() == told.as_bytes(),
+        None => true,
     };
-    let mut out = Vec::new(alloc);
-    let text = case.text.as_bytes();
-    let status = status_of(alloc, case.words, text, &mut nodes, &mut out);
-    status == Ok(case.status)
-        && nodes.at == case.turns.len()
-        && out.as_slice() == case.printed.as_bytes()
+    status == Ok(wanted)
+        && nodes.at == turns.len()
+        && out.as_slice() == printed.as_bytes()
+        && is_told
 }
 
-// Whether a case comes out so.
-fn holds(alloc: Global, case: &Case) -> bool {
-    comes_out(
-        alloc,
-        &ImportCase {
-            words: case.words,
-            text: "",
-            turns: case.turns,
-            printed: case.printed,
-            status: case.status,
-        },
-    )
+// Compares how each errand ends, with both keys and a text on standard input.
+fn compare(rt: &impl Abort, alloc: Global, errands: &[Errand], text: &str) {
+    for (words, endings) in errands {
+        for ending in *endings {
+            let held = ends_so(alloc, words, &SECRETS, text, ending, None);
+            assert!(rt; held);
+        }
+    }
 }
 
 #[test]
-fn groups_are_made_and_dropped(rt: HostRuntime) -> Result<(), Fail> {
-    for case in GROUPS {
-        assert!(rt; holds(rt.alloc(), case));
-    }
-    Ok(())
+fn groups_are_made_and_dropped(rt: HostRuntime) {
+    compare(&rt, rt.alloc(), GROUPS, "");
 }
 
 #[test]
-fn administrators_are_answered(rt: HostRuntime) -> Result<(), Fail> {
-    for case in OPERATIONS {
-        assert!(rt; holds(rt.alloc(), case));
-    }
-    Ok(())
+fn administrators_are_answered(rt: HostRuntime) {
+    compare(&rt, rt.alloc(), OPERATIONS, "");
 }
 
 #[test]
-fn requests_are_made(rt: HostRuntime) -> Result<(), Fail> {
-    for case in REQUESTS {
-        assert!(rt; holds(rt.alloc(), case));
-    }
-    Ok(())
+fn requests_are_made(rt: HostRuntime) {
+    compare(&rt, rt.alloc(), REQUESTS, "");
 }
 
 #[test]
-fn logs_are_exported(rt: HostRuntime) -> Result<(), Fail> {
-    for case in EXPORTS {
-        assert!(rt; holds(rt.alloc(), case));
-    }
-    assert!(rt; holds(rt.alloc(), &LONG_EXPORT));
-    Ok(())
-}
-
-// Whether a text is refused before anything is said.
-fn is_no_export(alloc: Global, text: &'static str) -> bool {
-    comes_out(
-        alloc,
-        &ImportCase {
-            words: "--node 0 --secrets s import 7 1",
-            text,
-            turns: &[],
-            printed: "",
-            status: 2,
-        },
-    )
+fn logs_are_exported(rt: HostRuntime) {
+    compare(&rt, rt.alloc(), EXPORTS, "");
 }
 
 #[test]
-fn logs_are_imported(rt: HostRuntime) -> Result<(), Fail> {
-    for case in IMPORTS {
-        assert!(rt; comes_out(rt.alloc(), case));
-    }
+fn logs_are_imported(rt: HostRuntime) {
+    compare(&rt, rt.alloc(), IMPORTS, EXPORTED);
+    compare(&rt, rt.alloc(), EMPTY_IMPORT, "end 0\n");
     for text in NO_EXPORTS {
-        assert!(rt; is_no_export(rt.alloc(), text));
+        compare(&rt, rt.alloc(), NO_IMPORT, text);
     }
-    Ok(())
 }
 
 /// A node whose members never acknowledge.
@@ -615,17 +543,18 @@ impl Nodes for Full {
 // Whether a say is tried 20 times more in a second, and no longer.
 fn ends_in_time(alloc: Global) -> bool {
     let mut nodes = Full { asked: 0 };
-    let mut out = Vec::new(alloc);
+    let (mut out, mut told) = (Vec::new(alloc), Vec::new(alloc));
     let words = "--node 0 --secrets s --wait 1 import 7 1";
-    let status = status_of(alloc, words, EXPORTED.as_bytes(), &mut nodes, &mut out);
+    let text = EXPORTED.as_bytes();
+    let status = run_line(
+        alloc, words, &SECRETS, text, &mut nodes, &mut out, &mut told,
+    );
     status == Ok(1)
         && nodes.asked == 21
         && out.as_slice() == b"refused 10 Window\nsaid 0\n".as_slice()
 }
 
 #[test]
-fn a_full_window_is_awaited_for_the_time_of_a_reply(rt: HostRuntime) -> Result<(), Fail> {
-    let ended = ends_in_time(rt.alloc());
-    assert!(rt; ended);
-    Ok(())
+fn a_full_window_is_awaited_for_the_time_of_a_reply(rt: HostRuntime) {
+    assert!(rt; ends_in_time(rt.alloc()));
 }

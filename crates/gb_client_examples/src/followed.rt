@@ -6,8 +6,9 @@ use gb_client::show::reply_lines;
 use gb_client::{Asked, ClientFault, Secrets};
 use gb_client_run::following::follow;
 use gb_session::Head;
-use gb_types::words::split_words;
-use gb_types::{CommandHead, NodeId, OutOfMemory};
+use gb_spelling::CommandHead;
+use gb_spelling::words::split_words;
+use gb_types::{NodeId, OutOfMemory};
 use std::alloc::Global;
 use std::test::Fail;
 

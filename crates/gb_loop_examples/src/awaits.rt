@@ -5,7 +5,8 @@ use crate::clients::{
 };
 use gb_client::ClientFault;
 use gb_session::Head;
-use gb_types::{CommandHead, NodeId};
+use gb_spelling::CommandHead;
+use gb_types::NodeId;
 use std::alloc::Global;
 use std::net::{Net, TcpListener, TcpStream};
 use std::rt::HostRuntime;

@@ -4,7 +4,8 @@ use crate::clients::{
 };
 use gb_client::ClientFault;
 use gb_session::Head;
-use gb_types::{CommandHead, NodeId};
+use gb_spelling::CommandHead;
+use gb_types::NodeId;
 use std::alloc::Global;
 use std::io::{Read, Write};
 use std::net::{Net, TcpListener, TcpStream};

@@ -1,7 +1,8 @@
 // The text of a list of as many groups as a list may have, at a node that has one more.
 use crate::clients::{Member, end_server, gives, joined, reply, reply_to, serves};
 use gb_session::Head;
-use gb_types::{CommandHead, NodeId};
+use gb_spelling::CommandHead;
+use gb_types::NodeId;
 use std::alloc::Global;
 use std::net::{Net, TcpStream};
 use std::rt::HostRuntime;

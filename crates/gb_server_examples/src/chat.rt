@@ -3,14 +3,15 @@
 ghost use Rattle.std.specs.Prelude.{◌≤◌, vec_len, IfOk};
 ghost use Rattle.gb_session.specs.declared.grammar.TheConstants.{BODY};
 
-use crate::served::{KEYS, prints};
+use crate::served::prints;
 use crate::socket_clients::connect;
 use gb_client::exchange::{receive, send};
 use gb_client::task::request_of;
 use gb_client::{Asked, ClientFault, Secrets};
 use gb_session::Head;
-use gb_types::words::split_words;
-use gb_types::{CommandHead, NodeId};
+use gb_spelling::CommandHead;
+use gb_spelling::words::split_words;
+use gb_types::NodeId;
 use std::alloc::Global;
 use std::net::{Net, TcpStream};
 use std::thread;
@@ -227,7 +228,6 @@ fn three_members_chat(rt: HostRuntime) {
             &rt,
             alloc,
             &WORDS,
-            KEYS,
             0,
             b"serving 3 nodes from port 24100\nclosed\n",
         ),

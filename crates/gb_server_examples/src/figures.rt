@@ -1,6 +1,7 @@
 //! Worked figures of nodes, and how they are told.
 ghost use Rattle.std.specs.Prelude.{◌<◌};
 
+use crate::texts::has;
 use gb_status::figure::{COUNT, FIGURES};
 use gb_status::http::{answer, asked_for};
 use gb_status::text::{metrics_text, status_text};
@@ -19,17 +20,9 @@ fn some_figures() -> Figures {
     figures
 }
 
-// Whether a text has a part.
-fn has(text: &[u8], part: &[u8]) -> bool {
-    text.windows(part.len().max(1)).any(|bytes| bytes == part)
-}
-
 #[test]
 fn a_status_has_each_figure_once(rt: HostRuntime) {
-    let Ok(text) = status_text(rt.alloc(), &some_figures()) else {
-        assert!(rt; false, "memory");
-        return;
-    };
+    let text = status_text(rt.alloc(), &some_figures()).expect(&rt, "memory");
     assert!(rt;
         text.starts_with(
             b"status requests_tenant=0 requests_make=0 requests_open=0 requests_shut=0 requests_drop=0 requests_say=7 requests_fetch=0 refused_denied=0 "
@@ -45,12 +38,6 @@ fn a_status_has_each_figure_once(rt: HostRuntime) {
     );
 }
 
-static SAYS: &[u8] = b"foqradesh_requests_total{node=\"0\",kind=\"say\"} 0\nforgotten";
-
-// The first lines of a text of two nodes, of which the second has figures.
-static FIRST: &[u8] =
-    b"# HELP foqradesh_requests_total Requests answered, by kind.\n# TYPE foqradesh_requests_total counter\nforeign";
-
 // The figures of the node with this number.
 fn row(number: u8, figures: Figures) -> NodeFigures
     requires { number < 32 }
@@ -63,42 +50,32 @@ fn row(number: u8, figures: Figures) -> NodeFigures
 
 #[test]
 fn metrics_of_one_node_have_its_number(rt: HostRuntime) {
-    let Ok(text) = metrics_text(rt.alloc(), &[row(31, some_figures())]) else {
-        assert!(rt; false, "memory");
-        return;
-    };
-    assert!(rt;
-        has(
-            &text,
-            b"foqradesh_requests_total{node=\"31\",kind=\"say\"} 7\n"
-        )
-    );
+    let text = metrics_text(rt.alloc(), &[row(31, some_figures())]).expect(&rt, "memory");
+    let says = b"foqradesh_requests_total{node=\"31\",kind=\"say\"} 7\n";
+    assert!(rt; has(&text, says));
     assert!(rt; text.iter().filter(|byte| **byte == b'{').count() == COUNT);
     assert!(rt; text.ends_with(b"foqradesh_node_running{node=\"31\"} 0\n"));
 }
 
+// The first lines of a text of two nodes, of which the second has figures.
+static FIRST: &[u8] =
+    b"# HELP foqradesh_requests_total Requests answered, by kind.\n# TYPE foqradesh_requests_total counter\n";
+
+// Other lines of this text.
+static PARTS: [&[u8]; 3] = [
+    b"foqradesh_requests_total{node=\"0\",kind=\"say\"} 0\n",
+    b"foqradesh_requests_total{node=\"1\",kind=\"say\"} 7\n",
+    b"# TYPE foqradesh_connections_open gauge\nfoqradesh_connections_open{node=\"0\"} 0\nfoqradesh_connections_open{node=\"1\"} 0\n",
+];
+
 #[test]
 fn metrics_are_told_of_each_node(rt: HostRuntime) {
     let all = [row(0, Figures::new()), row(1, some_figures())];
-    let Ok(text) = metrics_text(rt.alloc(), &all) else {
-        assert!(rt; false, "memory");
-        return;
-    };
-    let first = FIRST.strip_suffix(b"foreign".as_slice()).unwrap_or(b"");
-    let says = SAYS.strip_suffix(b"forgotten".as_slice()).unwrap_or(b"");
-    assert!(rt; text.starts_with(first) && has(&text, says));
-    assert!(rt;
-        has(
-            &text,
-            b"foqradesh_requests_total{node=\"1\",kind=\"say\"} 7\n"
-        )
-    );
-    assert!(rt;
-        has(
-            &text,
-            b"# TYPE foqradesh_connections_open gauge\nfoqradesh_connections_open{node=\"0\"} 0\nfoqradesh_connections_open{node=\"1\"} 0\n"
-        )
-    );
+    let text = metrics_text(rt.alloc(), &all).expect(&rt, "memory");
+    assert!(rt; text.starts_with(FIRST));
+    for part in &PARTS {
+        assert!(rt; has(&text, part));
+    }
     assert!(rt; text.ends_with(b"foqradesh_node_running{node=\"1\"} 0\n"));
     assert!(rt; text.iter().filter(|byte| **byte == b'#').count() == 2 * 22);
 }
@@ -131,50 +108,41 @@ fn is_answered(alloc: Global, asked: Asked, is_serving: bool, want: &[u8]) -> bo
     }
 }
 
+// What is asked for, whether all is served, and the answer.
+static ANSWERS: [(Asked, bool, &[u8]); 3] = [
+    (
+        Asked::Health,
+        true,
+        b"HTTP/1.1 200 OK\r\nContent-Type: text/plain; version=0.0.4; charset=utf-8\r\nConnection: close\r\nContent-Length: 3\r\n\r\nok\n",
+    ),
+    (
+        Asked::Health,
+        false,
+        b"HTTP/1.1 503 Service Unavailable\r\nContent-Type: text/plain; charset=utf-8\r\nConnection: close\r\nContent-Length: 6\r\n\r\nended\n",
+    ),
+    (
+        Asked::OtherMethod,
+        true,
+        b"HTTP/1.1 405 Method Not Allowed\r\nAllow: GET\r\nContent-Type: text/plain; charset=utf-8\r\nConnection: close\r\nContent-Length: 9\r\n\r\nonly GET\n",
+    ),
+];
+
 #[test]
 fn answers_are_whole(rt: HostRuntime) {
-    let alloc = rt.alloc();
-    assert!(rt;
-        is_answered(
-            alloc,
-            Asked::Health,
-            true,
-            b"HTTP/1.1 200 OK\r\nContent-Type: text/plain; version=0.0.4; charset=utf-8\r\nConnection: close\r\nContent-Length: 3\r\n\r\nok\n"
-        )
-    );
-    assert!(rt;
-        is_answered(
-            alloc,
-            Asked::Health,
-            false,
-            b"HTTP/1.1 503 Service Unavailable\r\nContent-Type: text/plain; charset=utf-8\r\nConnection: close\r\nContent-Length: 6\r\n\r\nended\n"
-        )
-    );
-    assert!(rt;
-        is_answered(
-            alloc,
-            Asked::OtherMethod,
-            true,
-            b"HTTP/1.1 405 Method Not Allowed\r\nAllow: GET\r\nContent-Type: text/plain; charset=utf-8\r\nConnection: close\r\nContent-Length: 9\r\n\r\nonly GET\n"
-        )
-    );
+    for (asked, is_serving, want) in &ANSWERS {
+        assert!(rt; is_answered(rt.alloc(), *asked, *is_serving, want));
+    }
 }
 
 #[test]
 fn a_board_has_places_from_a_node_on(rt: HostRuntime) {
     let alloc = rt.alloc();
-    let Ok(board) = Board::new(alloc, NodeId::new(30), 2) else {
-        assert!(rt; false, "memory");
-        return;
-    };
+    let board = Board::new(alloc, NodeId::new(30), 2).expect(&rt, "memory");
     let noticed = NodeSet::new();
     for number in [0u8, 29, 30] {
         board.put(NodeId::new(number), &some_figures(), &noticed);
     }
-    let Ok(all) = board.all(alloc) else {
-        assert!(rt; false, "memory");
-        return;
-    };
+    let all = board.all(alloc).expect(&rt, "memory");
     let [first, second] = all.as_slice() else {
         assert!(rt; false, "two rows");
         return;
@@ -186,10 +154,7 @@ fn a_board_has_places_from_a_node_on(rt: HostRuntime) {
 
 #[test]
 fn a_board_shows_what_was_put_there(rt: HostRuntime) {
-    let Ok(board) = Board::new(rt.alloc(), NodeId::new(0), 2) else {
-        assert!(rt; false, "memory");
-        return;
-    };
+    let board = Board::new(rt.alloc(), NodeId::new(0), 2).expect(&rt, "memory");
     let mut noticed = NodeSet::new();
     noticed.insert(NodeId::new(0));
     noticed.insert(NodeId::new(31));

@@ -1,7 +1,7 @@
 //! Worked texts of keys, read in pieces and by readers that fail.
-use gb_server::keys::{read_keys, run_key};
-use gb_server::{KeyFault, Keys};
-use gb_types::token_word::read_token;
+use gb_keys::keys::{read_keys, run_key};
+use gb_keys::{KeyFault, Keys};
+use gb_spelling::token_word::read_token;
 use std::alloc::Global;
 use std::io::{ErrorKind, Read};
 use std::{cmp, io};
@@ -104,7 +104,7 @@ fn keys_come_in_pieces(rt: HostRuntime) {
 
 // The first line has 65 bytes, each of which takes a read. With 434 interruptions it is whole after 499 reads, with 435 after 500.
 #[test]
-fn a_line_of_keys_takes_so_many_reads(rt: HostRuntime) {
+fn a_line_of_keys_is_whole_within_its_reads(rt: HostRuntime) {
     let mut enough = Late {
         bytes: TEXT,
         interruptions: 434,

@@ -23,11 +23,15 @@ mod messages;
 #[cfg(test)]
 mod nodes;
 #[cfg(test)]
+mod plans;
+#[cfg(test)]
 mod recorded;
 #[cfg(test)]
 mod recorded_servers;
 #[cfg(test)]
 mod refusals;
+#[cfg(test)]
+mod runs;
 #[cfg(test)]
 mod served;
 #[cfg(test)]
@@ -38,6 +42,8 @@ mod statuses;
 mod stops;
 #[cfg(test)]
 mod talks;
+#[cfg(test)]
+mod texts;
 #[cfg(test)]
 mod ticks;
 #[cfg(test)]

@@ -1,10 +1,11 @@
 // A server with the most nodes that are allowed: each is asked, and a message of the last node reaches the first.
 use crate::chat::{Member, gives, joined, reply};
 use crate::messages::{DENIED, OPEN};
-use crate::served::{KEYS, is_told, prints};
+use crate::served::{is_told, prints};
 use gb_client::ClientFault;
 use gb_session::Head;
-use gb_types::{CommandHead, NodeId};
+use gb_spelling::CommandHead;
+use gb_types::NodeId;
 use std::alloc::Global;
 use std::net::{Net, TcpStream};
 use std::rt::HostRuntime;
@@ -79,7 +80,6 @@ fn thirty_two_nodes_are_served(rt: HostRuntime) {
             &rt,
             alloc,
             &WORDS,
-            KEYS,
             0,
             b"serving 32 nodes from port 29000\nclosed\n",
         ),

@@ -44,9 +44,6 @@ fn a_folder_is_made_for_marks(rt: HostRuntime) {
 
 #[test]
 fn a_mark_has_a_name(rt: HostRuntime) {
-    let Ok(name) = mark_name(rt.alloc(), "d", 18_446_744_073_709_551_615, 31) else {
-        assert!(rt; false, "memory");
-        return;
-    };
+    let name = mark_name(rt.alloc(), "d", 18_446_744_073_709_551_615, 31).expect(&rt, "memory");
     assert!(rt; name.as_slice() == b"d/run-18446744073709551615-node-31.mark".as_slice());
 }

@@ -3,7 +3,8 @@ ghost use Rattle.std.specs.Prelude.{◌≡◌, [], false, vec_len, IfSome};
 ghost use Rattle.gb_host.specs.Common.{AreBlank, books_of, IsPlan};
 
 use crate::desk::{Desk, Pen};
-use crate::recorded_servers::folder;
+use crate::folders::folder;
+use crate::plans::{FIRST, SECOND, two_nodes};
 use gb_host::here::all_nodes;
 use gb_host::pasts::new_pasts;
 use gb_host::{Host, HostPlan, NodePast, Recorder, Seat, Tapes};
@@ -14,8 +15,7 @@ use gb_record::{RecordName, Recording, SharedRecording, WrittenFirst};
 use gb_server::RecordPlace;
 use gb_server::record_file::open_records;
 use gb_server::recorded::logs_of;
-use gb_types::limits::NODES;
-use gb_types::{NodeId, Plan, Version};
+use gb_types::Version;
 use std::alloc::{AllocGlobal, Global};
 use std::fs::{File, Files};
 use std::io::{ErrorKind, Write};
@@ -24,30 +24,6 @@ use std::random::RandomSource;
 use std::rt::HostRuntime;
 use std::sync::Wait;
 use std::{fs, io};
-
-const FIRST: NodeId = NodeId { number: 0 };
-
-const SECOND: NodeId = NodeId { number: 1 };
-
-// Returns the plan of two nodes whose entries go to recorders.
-fn two_recorded() -> HostPlan
-    ensures nodes { result.cluster.nodes ≡ 2 }
-    ensures limits { IsPlan result }
-{
-    HostPlan {
-        cluster: Plan {
-            nodes: 2,
-            versions: [Version::Three; NODES],
-            silence: 1_000,
-            places: 1_024,
-            room: 1_400,
-            cluster_key: [0x11; 32],
-            admin_key: [0x22; 32],
-        },
-        tape: false,
-        ring: true,
-    }
-}
 
 // A writer to a desk whose write with a number, from 1, fails, and each after it.
 #[derive(Drop)]
@@ -166,7 +142,8 @@ fn fail_second<H: Wait + Files<File = File> + RandomSource + AllocGlobal>(
     alloc: Global,
 ) -> Option<([bool; 3], Vec<u8>)> {
     let pasts = new_pasts(alloc, 2).ok()?;
-    failed::<Brand, H>(rt, alloc, two_recorded(), pasts)
+    let plan = two_nodes(Version::Three, 1_400, false);
+    failed::<Brand, H>(rt, alloc, plan, pasts)
 }
 
 #[test]
@@ -260,7 +237,8 @@ fn hand_first<H: Wait + Files<File = File> + RandomSource + AllocGlobal>(
     alloc: Global,
 ) -> Option<Passed> {
     let pasts = new_pasts(alloc, 2).ok()?;
-    handed::<Brand, H>(rt, alloc, two_recorded(), pasts)
+    let plan = two_nodes(Version::Three, 1_400, false);
+    handed::<Brand, H>(rt, alloc, plan, pasts)
 }
 
 #[test]

@@ -1,6 +1,6 @@
 //! Words, files and addresses by which a node of a cluster of several machines does not serve, as tests.
 use crate::folders::{file, folder};
-use gb_peer_run::peer_main::peer_main;
+use crate::runs::{KEYS, Run, run_node};
 use std::alloc::{AllocGlobal, Global};
 use std::fs;
 use std::fs::{File, Files};
@@ -9,40 +9,6 @@ use std::rt::HostRuntime;
 use std::sync::Wait;
 use std::thread::Threads;
 use std::time::Clock;
-
-/// The keys of the nodes here: the cluster's, 32 bytes 11, and the administrator's, 32 bytes 22.
-pub static KEYS: &[u8] =
-    b"1111111111111111111111111111111111111111111111111111111111111111\n2222222222222222222222222222222222222222222222222222222222222222\n";
-
-/// How a node ended: its status, and what it wrote to standard output and to standard error.
-#[derive(Drop)]
-pub struct Run {
-    pub status: u8,
-    pub lines: Vec<u8>,
-    pub errors: Vec<u8>,
-}
-
-/// Runs a node of a cluster of several machines with these words and this standard input, until it ends. Returns its exit status,
-/// and what it wrote to standard output and to standard error.
-pub fn run_of<
-    H: Net<Listener = TcpListener, Stream = TcpStream>
-        + Threads
-        + Wait
-        + Clock
-        + Sync
-        + Files<File = File>
-        + AllocGlobal,
->(rt: &H, alloc: Global, words: &[&str], input: &[u8]) -> Run {
-    let mut reader = input;
-    let mut lines = Vec::new(alloc);
-    let mut errors = Vec::new(alloc);
-    let status = peer_main(rt, alloc, words, &mut reader, &mut lines, &mut errors);
-    Run {
-        status,
-        lines,
-        errors,
-    }
-}
 
 // How a node of a cluster whose file has this text ends, in a folder.
 fn run_in<
@@ -66,17 +32,7 @@ fn run_in<
         "--wait",
         "0",
     ];
-    Some(run_of(rt, alloc, &words, KEYS))
-}
-
-// Whether a run ended so: with this status and this line, and with an end of what it wrote to standard error.
-fn ended(run: Option<Run>, status: u8, line: &[u8], error: &[u8]) -> bool {
-    match run {
-        Some(run) => run.status == status
-            && run.lines.as_slice() == line
-            && run.errors.ends_with(error),
-        None => false,
-    }
+    Some(run_node(rt, alloc, &words, KEYS))
 }
 
 // A file of one node on this machine.
@@ -134,8 +90,8 @@ fn files_are_refused(rt: HostRuntime) {
     let alloc = rt.alloc();
     let dir = folder(&rt, alloc).expect(&rt, "a folder");
     for (text, node, status, line, error) in &FILES {
-        let run = run_in(&rt, alloc, &dir, text, node);
-        assert!(rt; ended(run, *status, line, error));
+        let run = run_in(&rt, alloc, &dir, text, node).expect(&rt, "a file");
+        assert!(rt; run.has_logged(*status, line, b"", error));
     }
     let _ = fs::remove_dir_all(&rt, dir.as_str());
 }
@@ -153,17 +109,11 @@ static LOST: [&str; 7] = [
 #[test]
 fn words_and_names_are_refused(rt: HostRuntime) {
     let alloc = rt.alloc();
-    let short = run_of(&rt, alloc, &["gb_peer"], KEYS);
-    assert!(rt; ended(Some(short), 2, b"refused words\n", b""));
-    let lost = run_of(&rt, alloc, &LOST, KEYS);
-    assert!(rt;
-        ended(
-            Some(lost),
-            2,
-            b"refused cluster file\n",
-            b"gb_peer: /nowhere/cluster.toml: it cannot be read\n"
-        )
-    );
+    let short = run_node(&rt, alloc, &["gb_peer"], KEYS);
+    assert!(rt; short.has_logged(2, b"refused words\n", b"", b""));
+    let lost = run_node(&rt, alloc, &LOST, KEYS);
+    let error = b"gb_peer: /nowhere/cluster.toml: it cannot be read\n";
+    assert!(rt; lost.has_logged(2, b"refused cluster file\n", b"", error));
 }
 
 #[test]
@@ -172,14 +122,8 @@ fn a_node_that_began_is_refused(rt: HostRuntime) {
     let dir = folder(&rt, alloc).expect(&rt, "a folder");
     let mark = format!(in alloc; "{dir}/run-7-node-0.mark").expect(&rt, "a name");
     fs::write(&rt, mark.as_str(), b"begun\n").expect(&rt, "a mark");
-    let run = run_in(&rt, alloc, &dir, ALONE, "0");
-    assert!(rt;
-        ended(
-            run,
-            1,
-            b"node 0 has begun in run 7 already\n",
-            b"let a spare node take its place, or start all nodes in the next run\n"
-        )
-    );
+    let run = run_in(&rt, alloc, &dir, ALONE, "0").expect(&rt, "a file");
+    let error = b"let a spare node take its place, or start all nodes in the next run\n";
+    assert!(rt; run.has_logged(1, b"node 0 has begun in run 7 already\n", b"", error));
     let _ = fs::remove_dir_all(&rt, dir.as_str());
 }

@@ -1,8 +1,8 @@
 // Whole servers: what they print, and the replies to their clients.
 use crate::messages::{DENIED, OPEN};
+use crate::runs::{KEYS, run_server};
 use crate::socket_clients::{MALFORMED, address, leaves, told};
-use gb_server::serve_main::serve_main;
-use gb_types::number::read_number;
+use gb_spelling::number::read_number;
 use std::alloc::Global;
 use std::fs::{File, Files};
 use std::net::{Net, TcpListener, TcpStream, UdpSocket};
@@ -11,52 +11,8 @@ use std::thread;
 use std::thread::Threads;
 use std::time::Clock;
 
-/// The number of the run of the servers here.
-pub const RUN: u64 = 1;
-
-/// The keys of the servers here: the cluster's, 32 bytes 11, and the administrator's, 32 bytes 22.
-pub static KEYS: &[u8] =
-    b"1111111111111111111111111111111111111111111111111111111111111111\n2222222222222222222222222222222222222222222222222222222222222222\n";
-
-/// How a server ended: its status, and what it wrote to standard output and to standard error.
-#[derive(Drop)]
-pub struct Run {
-    pub status: u8,
-    pub lines: Vec<u8>,
-    pub errors: Vec<u8>,
-}
-
-/// Runs a whole server with these words as its command line and these bytes as its standard input, until it ends. Returns its exit
-/// status and what it wrote to standard output and to standard error.
-pub fn run_of<
-    H: Net<Listener = TcpListener, Stream = TcpStream>
-        + Threads
-        + Wait
-        + Clock
-        + Sync
-        + Files<File = File>,
->(rt: &H, alloc: Global, words: &[&str], input: &[u8]) -> Run {
-    let mut reader = input;
-    let mut lines = Vec::new(alloc);
-    let mut errors = Vec::new(alloc);
-    let status = serve_main(
-        rt,
-        alloc,
-        words,
-        Some(RUN),
-        &mut reader,
-        &mut lines,
-        &mut errors,
-    );
-    Run {
-        status,
-        lines,
-        errors,
-    }
-}
-
-/// Runs a whole server with these words and keys until it ends. Returns true if it ends with this exit status and writes exactly these
-/// lines to standard output.
+/// Runs a whole server with these words, and with `KEYS` as its standard input, until it ends. Returns true if it ends with this exit
+/// status and writes exactly these lines to standard output.
 pub fn prints<
     H: Net<Listener = TcpListener, Stream = TcpStream>
         + Threads
@@ -64,8 +20,8 @@ pub fn prints<
         + Clock
         + Sync
         + Files<File = File>,
->(rt: &H, alloc: Global, words: &[&str], keys: &[u8], status: u8, lines: &[u8]) -> bool {
-    let run = run_of(rt, alloc, words, keys);
+>(rt: &H, alloc: Global, words: &[&str], status: u8, lines: &[u8]) -> bool {
+    let run = run_server(rt, alloc, words, KEYS);
     run.status == status && run.lines.as_slice() == lines
 }
 
@@ -107,8 +63,8 @@ static TOO_MANY: [&str; 7] = [
 #[test]
 fn faults_are_told(rt: HostRuntime) {
     let alloc = rt.alloc();
-    let is_refused = prints(&rt, alloc, &["gb_serve"], KEYS, 2, b"refused words\n");
-    let are_too_many = prints(&rt, alloc, &TOO_MANY, KEYS, 2, b"refused words\n");
+    let is_refused = prints(&rt, alloc, &["gb_serve"], 2, b"refused words\n");
+    let are_too_many = prints(&rt, alloc, &TOO_MANY, 2, b"refused words\n");
     assert!(rt; is_refused && are_too_many);
 }
 
@@ -143,9 +99,8 @@ static BAD_KEYS: [(&[u8], &[u8]); 6] = [
 #[test]
 fn bad_keys_are_explained(rt: HostRuntime) {
     for (input, want) in &BAD_KEYS {
-        let run = run_of(&rt, rt.alloc(), &KEYLESS, input);
-        let is_right = run.status == 1 && run.lines.as_slice() == b"bad keys\n".as_slice();
-        assert!(rt; is_right && run.errors.as_slice() == *want);
+        let run = run_server(&rt, rt.alloc(), &KEYLESS, *input);
+        assert!(rt; run.has_ended(1, b"bad keys\n", want));
     }
 }
 
@@ -169,7 +124,6 @@ fn two_nodes_are_served(rt: HostRuntime) {
             &rt,
             alloc,
             &TWO_NODES,
-            KEYS,
             0,
             b"serving 2 nodes from port 28000\nclosed\n",
         ),
@@ -200,34 +154,21 @@ static WITH_TAPES: [&str; 8] = [
     "1",
 ];
 
-// Returns true if a server with tapes ends well, and merged at least two events.
-fn merges<
-    H: Net<Listener = TcpListener, Stream = TcpStream>
-        + Threads
-        + Wait
-        + Clock
-        + Sync
-        + Files<File = File>,
->(rt: &H, alloc: Global) -> bool {
-    let run = run_of(rt, alloc, &WITH_TAPES, KEYS);
-    let count = merged(&run.lines, b"serving 2 nodes from port 28750\n");
-    run.status == 0 && count.unwrap_or(0) >= 2
-}
-
-// A server with tapes merges them at its end. The clients' requests are among the events.
+// A server with tapes merges them at its end. The clients' requests are among the events, so there are two at least.
 #[test]
 fn what_was_done_is_merged(rt: HostRuntime) {
     let alloc = rt.alloc();
-    let (are_merged, (first, second)) = thread::join(
+    let (run, (first, second)) = thread::join(
         &rt,
-        || merges(&rt, alloc),
+        || run_server(&rt, alloc, &WITH_TAPES, KEYS),
         || thread::join(
             &rt,
             || is_told(&rt, alloc, 28_814, OPEN, DENIED),
             || is_told(&rt, alloc, 28_815, OPEN, DENIED),
         ),
     );
-    assert!(rt; are_merged && first && second);
+    let count = merged(&run.lines, b"serving 2 nodes from port 28750\n").unwrap_or(0);
+    assert!(rt; run.status == 0 && count >= 2 && first && second);
 }
 
 // Returns true if each of these clients of one node, one after the other, gets the right reply: one that sends no request, one that
@@ -262,7 +203,6 @@ fn bad_clients_end_their_own_sessions(rt: HostRuntime) {
             &rt,
             alloc,
             &ONE_NODE,
-            KEYS,
             0,
             b"serving 1 nodes from port 28300\nclosed\n",
         ),
@@ -293,23 +233,19 @@ pub fn is_free<H: Net<Listener = TcpListener, Stream = TcpStream>>(
     is_udp && is_tcp
 }
 
-// Returns true if a server told which port could not be bound.
-fn is_told_of(run: &Run, errors: &[u8]) -> bool {
-    let is_fault = run.status == 1 && run.lines.as_slice() == b"host fault 3\n".as_slice();
-    is_fault && run.errors.as_slice() == errors
-}
-
 // The server tells which port is bound already. It leaves no socket: all ports can be bound then.
 #[test]
 fn bound_ports_are_told(rt: HostRuntime) {
     let holder = UdpSocket::bind(&rt, address(28_451)).expect(&rt, "a socket");
-    let packets = run_of(&rt, rt.alloc(), &BOUND, KEYS);
+    let packets = run_server(&rt, rt.alloc(), &BOUND, KEYS);
     drop(holder);
     let holder = TcpListener::bind(&rt, address(28_515)).expect(&rt, "a listener");
-    let clients = run_of(&rt, rt.alloc(), &BOUND, KEYS);
+    let clients = run_server(&rt, rt.alloc(), &BOUND, KEYS);
     drop(holder);
     let (first, second) = (is_free(&rt, 28_450, 28_514), is_free(&rt, 28_451, 28_515));
     assert!(rt; first && second);
-    assert!(rt; is_told_of(&packets, b"gb_serve: UDP port 28451 could not be bound\n"));
-    assert!(rt; is_told_of(&clients, b"gb_serve: TCP port 28515 could not be bound\n"));
+    let udp = b"gb_serve: UDP port 28451 could not be bound\n";
+    let tcp = b"gb_serve: TCP port 28515 could not be bound\n";
+    assert!(rt; packets.has_ended(1, b"host fault 3\n", udp));
+    assert!(rt; clients.has_ended(1, b"host fault 3\n", tcp));
 }

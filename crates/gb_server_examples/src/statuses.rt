@@ -1,32 +1,28 @@
 // The status of a server and its log: figures of known traffic, read by HTTP, how other requests are answered, and which lines are logged.
 use crate::chat::{gives, joined};
-use crate::served::{KEYS, Run, is_free, run_of};
+use crate::runs::{KEYS, run_server};
+use crate::served::is_free;
 use crate::socket_clients::{address, connect, told};
+use crate::texts::has;
 use gb_client::ClientFault;
 use gb_loop::Ending;
 use gb_server::{ServerLog, Signals, StatusServer, Why};
 use gb_session::Head;
+use gb_spelling::CommandHead;
 use gb_status::{Figure, Figures};
-use gb_types::{CommandHead, NodeId, NodeSet};
+use gb_types::{NodeId, NodeSet};
 use std::alloc::Global;
-use std::fs::{File, Files};
 use std::io::{ErrorKind, Read, Write};
 use std::net::{Net, TcpListener, TcpStream, UdpSocket};
 use std::rt::HostRuntime;
 use std::sync::Wait;
 use std::sync::atomic::{AtomicBool, Ordering};
 use std::thread;
-use std::thread::Threads;
 use std::time::{Clock, Duration};
 
 static METRICS: &[u8] = b"GET /metrics HTTP/1.1\r\nHost: localhost\r\n\r\n";
 
 static HEALTH: &[u8] = b"GET /healthz HTTP/1.1\r\nHost: localhost\r\n\r\n";
-
-// Returns whether a text has a part.
-fn has(text: &[u8], part: &[u8]) -> bool {
-    text.windows(part.len().max(1)).any(|bytes| bytes == part)
-}
 
 // What a member asks at node 0, and its replies: two of the six requests are refused.
 static TRAFFIC: [(Head, &str, &str); 6] = [
@@ -116,11 +112,6 @@ fn asks<H: Net<Stream = TcpStream> + Clock>(rt: &H, alloc: Global) -> Result<boo
     Ok(is_given && is_refused && is_sent && has_figures && is_well)
 }
 
-// The same; false where a member was not answered.
-fn is_told_of<H: Net<Stream = TcpStream> + Clock>(rt: &H, alloc: Global) -> bool {
-    asks(rt, alloc).unwrap_or(false)
-}
-
 static WATCHED: [&str; 8] = [
     "gb_serve",
     "--nodes=2",
@@ -146,28 +137,15 @@ fn is_log(errors: &[u8]) -> bool {
     rest == WATCHED_END || has(rest, WATCHED_END) && has(rest, b" as crashed\n")
 }
 
-// Returns whether a server that is watched ends in order, with its log.
-fn ends_in_order<
-    H: Net<Listener = TcpListener, Stream = TcpStream>
-        + Threads
-        + Wait
-        + Clock
-        + Sync
-        + Files<File = File>,
->(rt: &H, alloc: Global) -> bool {
-    let run = run_of(rt, alloc, &WATCHED, KEYS);
-    run.status == 0 && is_log(&run.errors)
-}
-
 #[test]
 fn figures_of_known_traffic_are_told_by_http(rt: HostRuntime) {
     let alloc = rt.alloc();
-    let (is_ended, is_told) = thread::join(
+    let (run, is_told) = thread::join(
         &rt,
-        || ends_in_order(&rt, alloc),
-        || is_told_of(&rt, alloc),
+        || run_server(&rt, alloc, &WATCHED, KEYS),
+        || asks(&rt, alloc).unwrap_or(false),
     );
-    assert!(rt; is_ended && is_told);
+    assert!(rt; run.status == 0 && is_log(&run.errors) && is_told);
 }
 
 static TAKEN: [&str; 6] = [
@@ -179,21 +157,14 @@ static TAKEN: [&str; 6] = [
     "127.0.0.1:24890",
 ];
 
-// Returns whether a server told that its address for the status could not be bound.
-fn is_told(run: &Run) -> bool {
-    let want = b"gb_serve: status address 127.0.0.1:24890 could not be bound\n".as_slice();
-    run.status == 1
-        && run.lines.as_slice() == b"host fault 3\n".as_slice()
-        && run.errors.as_slice() == want
-}
-
 // An address for the status that is bound already is told, and nothing is left bound.
 #[test]
 fn a_bound_address_for_the_status_is_told(rt: HostRuntime) {
     let holder = TcpListener::bind(&rt, address(24_890)).expect(&rt, "a listener");
-    let run = run_of(&rt, rt.alloc(), &TAKEN, KEYS);
+    let run = run_server(&rt, rt.alloc(), &TAKEN, KEYS);
     drop(holder);
-    assert!(rt; is_told(&run) && is_free(&rt, 24_800, 24_864));
+    let error = b"gb_serve: status address 127.0.0.1:24890 could not be bound\n";
+    assert!(rt; run.has_ended(1, b"host fault 3\n", error) && is_free(&rt, 24_800, 24_864));
     assert!(rt; TcpListener::bind(&rt, address(24_890)).is_ok());
 }
 

@@ -1,83 +1,19 @@
 // Servers that standard input ends, and one that ends while standard input waits.
 use crate::messages::{DENIED, OPEN};
-use crate::served::{KEYS, RUN, Run, is_told, run_of};
+use crate::runs::{KEYS, Later, run_server};
+use crate::served::is_told;
+use gb_keys::orders::{KEPT, hear};
 use gb_server::crew::keep;
-use gb_server::orders::{KEPT, hear};
-use gb_server::serve_main::serve_main;
 use gb_server::watch::watch;
-use gb_server::{Heard, Input, Signals, Why};
+use gb_server::{Heard, Signals, Why};
 use gb_types::{NodeId, OutOfMemory};
 use std::alloc::Global;
-use std::fs::{File, Files};
-use std::io::Read;
-use std::net::{Net, TcpListener, TcpStream};
 use std::sync::Wait;
 use std::sync::atomic::{AtomicBool, Ordering};
 use std::test::Fail;
-use std::thread::{JoinHandle, SpawnError, Threads};
-use std::time::{Clock, Duration};
-use std::{io, thread};
-
-// A reader of keys and, once a flag is set, of more bytes behind them. Then the input ends.
-#[derive(Drop)]
-struct Later<'a> {
-    keys: &'a [u8],
-    more: &'a [u8],
-    is_set: &'a AtomicBool,
-}
-
-impl Read for Later<'_> {
-    fn read(&mut self, buf: &mut [u8]) -> io::Result<usize> {
-        if self.keys.is_empty() {
-            self.more.read(buf)
-        } else {
-            self.keys.read(buf)
-        }
-    }
-}
-
-impl Input for Later<'_> {
-    fn is_ready(&self, _millis: u16) -> bool {
-        self.is_set.load(Ordering::SeqCst)
-    }
-}
-
-// Returns how a server with these words ends. Its standard input has the keys, and `more` once the flag is set.
-fn run_later<
-    H: Net<Listener = TcpListener, Stream = TcpStream>
-        + Threads
-        + Wait
-        + Clock
-        + Sync
-        + Files<File = File>,
->(rt: &H, alloc: Global, words: &[&str], more: &[u8], is_set: &AtomicBool) -> Run {
-    let mut reader = Later {
-        keys: KEYS,
-        more,
-        is_set,
-    };
-    let mut lines = Vec::new(alloc);
-    let mut errors = Vec::new(alloc);
-    let status = serve_main(
-        rt,
-        alloc,
-        words,
-        Some(RUN),
-        &mut reader,
-        &mut lines,
-        &mut errors,
-    );
-    Run {
-        status,
-        lines,
-        errors,
-    }
-}
-
-// Returns true if a server ended well, wrote these lines, and wrote no log.
-fn has_ended(run: &Run, lines: &[u8]) -> bool {
-    run.status == 0 && run.lines.as_slice() == lines && run.errors.is_empty()
-}
+use std::thread;
+use std::thread::{JoinHandle, SpawnError};
+use std::time::Clock;
 
 static STOPPED: [&str; 6] = [
     "gb_serve",
@@ -97,14 +33,19 @@ fn a_line_stops_a_server(rt: HostRuntime) {
     let shared = &is_set;
     let (run, is_right) = thread::join(
         &rt,
-        || run_later(&rt, alloc, &STOPPED, b"stop now\nstop\n", shared),
+        || run_server(
+            &rt,
+            alloc,
+            &STOPPED,
+            Later::new(b"stop now\nstop\n", shared),
+        ),
         || {
             let is_right = is_told(&rt, alloc, 25_064, OPEN, DENIED);
             shared.store(true, Ordering::SeqCst);
             is_right
         },
     );
-    assert!(rt; is_right && has_ended(&run, b"serving 2 nodes from port 25000\nclosed\n"));
+    assert!(rt; is_right && run.has_ended(0, b"serving 2 nodes from port 25000\nclosed\n", b""));
 }
 
 static AT_END: [&str; 7] = [
@@ -120,8 +61,8 @@ static AT_END: [&str; 7] = [
 // A server with `--stop-at-end` ends when standard input ends.
 #[test]
 fn the_end_of_input_stops_a_server(rt: HostRuntime) {
-    let run = run_of(&rt, rt.alloc(), &AT_END, KEYS);
-    assert!(rt; has_ended(&run, b"serving 1 nodes from port 25200\nclosed\n"));
+    let run = run_server(&rt, rt.alloc(), &AT_END, KEYS);
+    assert!(rt; run.has_ended(0, b"serving 1 nodes from port 25200\nclosed\n", b""));
 }
 
 static WAITING: [&str; 8] = [
@@ -143,10 +84,10 @@ fn a_server_ends_while_input_waits(rt: HostRuntime) {
     let shared = &is_set;
     let (run, is_right) = thread::join(
         &rt,
-        || run_later(&rt, alloc, &WAITING, b"", shared),
+        || run_server(&rt, alloc, &WAITING, Later::new(b"", shared)),
         || is_told(&rt, alloc, 25_464, OPEN, DENIED),
     );
-    assert!(rt; is_right && has_ended(&run, b"serving 1 nodes from port 25400\nclosed\n"));
+    assert!(rt; is_right && run.has_ended(0, b"serving 1 nodes from port 25400\nclosed\n", b""));
 }
 
 // Returns the number of these bytes that are read until a line stops the server, or 0 if the input ends first.

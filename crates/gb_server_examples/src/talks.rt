@@ -3,13 +3,13 @@ ghost use Rattle.std.specs.Prelude.{◌≡◌, vec_len, IfSome};
 ghost use Rattle.gb_host.specs.Common.{AreBlank, books_of, IsPlan};
 
 use crate::client_streams::{Asking, Held, Told};
+use crate::plans::{FIRST, SECOND, two_nodes};
 use gb_host::close::close;
 use gb_host::here::all_nodes;
 use gb_host::pasts::new_pasts;
 use gb_host::{Host, HostPlan, NodePast, Open, Seat, Tapes};
 use gb_session::{SessionEnd, SessionFault};
-use gb_types::limits::NODES;
-use gb_types::{NodeId, Plan, Version};
+use gb_types::{NodeId, Version};
 use gb_worker::session::session;
 use gb_worker::sessions::sessions;
 use gb_worker::{Ending, Stream};
@@ -20,30 +20,6 @@ use std::sync::Wait;
 use std::sync::atomic::{AtomicU64, Ordering};
 use std::thread::Threads;
 use std::time::Clock;
-
-const FIRST: NodeId = NodeId { number: 0 };
-
-const SECOND: NodeId = NodeId { number: 1 };
-
-// Returns the plan of two nodes, with tapes.
-fn two_nodes() -> HostPlan
-    ensures nodes { result.cluster.nodes ≡ 2 }
-    ensures limits { IsPlan result }
-{
-    HostPlan {
-        cluster: Plan {
-            nodes: 2,
-            versions: [Version::One; NODES],
-            silence: 1_000,
-            places: 1_024,
-            room: 16_345,
-            cluster_key: [0x11; 32],
-            admin_key: [0x22; 32],
-        },
-        tape: true,
-        ring: false,
-    }
-}
 
 /// Two clients, each of which asks once at its own node, and the counters of their replies. The one with this number is held until
 /// the other is answered.
@@ -210,7 +186,8 @@ fn hold<R: Threads + Wait + Clock + Sync>(
     held: &mut Talk<'_>,
 ) -> Option<(u64, [usize; 2])> {
     let pasts = new_pasts(alloc, 2).ok()?;
-    run::<Brand, R>(rt, alloc, two_nodes(), held, pasts)
+    let plan = two_nodes(Version::One, 16_345, true);
+    run::<Brand, R>(rt, alloc, plan, held, pasts)
 }
 
 #[test]

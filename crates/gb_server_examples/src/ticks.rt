@@ -1,42 +1,17 @@
 // Nodes whose ticks wait for one another.
 use crate::folders::{file, folder};
-use crate::refusals::KEYS;
-use gb_peer_run::peer_main::peer_main;
-use gb_server::Input;
+use crate::runs::{Later, run_node};
+use crate::socket_clients::told;
+use crate::texts::has;
 use std::alloc::{AllocGlobal, Global};
 use std::fs::{File, Files};
-use std::io::{Read, Write};
-use std::net::{Ipv4Addr, Net, SocketAddr, SocketAddrV4, TcpListener, TcpStream};
+use std::net::{Net, TcpListener, TcpStream};
 use std::rt::HostRuntime;
 use std::sync::Wait;
 use std::sync::atomic::{AtomicBool, Ordering};
 use std::thread::Threads;
 use std::time::{Clock, Duration};
-use std::{fs, io, thread};
-
-// The keys, and once this is set the line that ends a node.
-#[derive(Drop)]
-struct Later<'a> {
-    keys: &'a [u8],
-    more: &'a [u8],
-    is_set: &'a AtomicBool,
-}
-
-impl Read for Later<'_> {
-    fn read(&mut self, buf: &mut [u8]) -> io::Result<usize> {
-        if self.keys.is_empty() {
-            self.more.read(buf)
-        } else {
-            self.keys.read(buf)
-        }
-    }
-}
-
-impl Input for Later<'_> {
-    fn is_ready(&self, _millis: u16) -> bool {
-        self.is_set.load(Ordering::SeqCst)
-    }
-}
+use std::{fs, thread};
 
 // Two nodes on this machine.
 static PAIR: &[u8] =
@@ -74,30 +49,8 @@ fn serve_until<
         status,
         "--quiet",
     ];
-    let mut reader = Later {
-        keys: KEYS,
-        more: b"stop\n",
-        is_set,
-    };
-    let mut lines = Vec::new(alloc);
-    let mut errors = Vec::new(alloc);
-    peer_main(rt, alloc, &words, &mut reader, &mut lines, &mut errors)
-}
-
-// Returns what is told of a node's figures at this port, or None where nobody tells them.
-fn figures<H: Net<Stream = TcpStream>>(rt: &H, alloc: Global, port: u16) -> Option<Vec<u8>> {
-    let address = SocketAddr::V4(SocketAddrV4::new(Ipv4Addr::LOCALHOST, port));
-    let mut stream = TcpStream::connect(rt, address).ok()?;
-    let _ = stream.set_read_timeout(Some(Duration::from_secs(10)));
-    stream.write_all(b"GET /metrics HTTP/1.0\r\n\r\n").ok()?;
-    let mut text = Vec::new(alloc);
-    stream.read_to_end(&mut text).ok()?;
-    Some(text)
-}
-
-// Returns whether a text has a part.
-fn has(text: &[u8], part: &[u8]) -> bool {
-    text.windows(part.len().max(1)).any(|bytes| bytes == part)
+    let run = run_node(rt, alloc, &words, Later::new(b"stop\n", is_set));
+    run.status
 }
 
 // Returns whether the figures at a port tell soon of more ticks than none, for which they have this line.
@@ -108,7 +61,7 @@ fn ticks_soon<H: Net<Stream = TcpStream> + Clock>(
     none: &[u8],
 ) -> bool {
     for _ in 0..3_000 {
-        if let Some(text) = figures(rt, alloc, port)
+        if let Some(text) = told(rt, alloc, port, b"GET /metrics HTTP/1.0\r\n\r\n")
             && has(&text, b"\nfoqradesh_ticks_total{")
             && !has(&text, none)
         {

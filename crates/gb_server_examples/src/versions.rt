@@ -1,9 +1,10 @@
 // The version in a server's words reaches its nodes: it limits the length of a message there.
 use crate::chat::{gives, joined};
-use crate::served::{KEYS, prints};
+use crate::served::prints;
 use gb_client::ClientFault;
 use gb_session::Head;
-use gb_types::{CommandHead, NodeId};
+use gb_spelling::CommandHead;
+use gb_types::NodeId;
 use std::alloc::{AllocError, Global};
 use std::net::{Net, TcpStream};
 use std::rt::HostRuntime;
@@ -71,7 +72,6 @@ fn a_version_bounds_what_is_said(rt: HostRuntime) {
                 &rt,
                 alloc,
                 &words,
-                KEYS,
                 0,
                 b"serving 1 nodes from port 29200\nclosed\n",
             ),

@@ -59,12 +59,12 @@ fn are_answered(alloc: Global) -> Result<bool, OutOfMemory> {
     Ok(is_over && answers.asked == REQUESTS && out.as_slice() == wanted.as_slice())
 }
 
-// Returns whether a feed gives all requests of one piece, and stands between two messages then.
+// Returns whether a feed gives all requests of one piece.
 fn are_given(alloc: Global, count: u64) -> Result<bool, OutOfMemory> {
     let piece = repeated(alloc, ASKED, count)?;
     let mut feed = Feed::new(alloc)?;
     match feed.piece(&piece) {
-        Ok(fed) => Ok(fed.requests.len() as u64 == count && !fed.malformed && feed.is_between()),
+        Ok(fed) => Ok(fed.requests.len() as u64 == count && !fed.malformed),
         Err(_) => Ok(false),
     }
 }

@@ -2,8 +2,8 @@
 ghost use Rattle.std.specs.Prelude.{◌<◌};
 
 use gb_session::{Answers, Operating, Operation, Session, SessionEnd, Step};
+use gb_spelling::number::put_number;
 use gb_types::memory::put_bytes;
-use gb_types::number::put_number;
 use gb_types::{OutOfMemory, Reply, Request};
 use std::alloc::Global;
 use std::test::Fail;

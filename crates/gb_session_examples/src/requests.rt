@@ -1,6 +1,6 @@
 //! Tokens, and what the bodies of requests spell.
 use gb_session::grammar::parse_request;
-use gb_types::token_word::read_token;
+use gb_spelling::token_word::read_token;
 use gb_types::{
     Action, Addr, GroupCommand, Kind, Module, NodeId, Order, OutOfMemory, Refusal, Request, Spec,
     TenantRow,

@@ -398,7 +398,7 @@ fn is_answered(alloc: Global, case: &Asked) -> Result<bool, SessionFault> {
 
 // The last of 1,000,000 requests is answered, and nothing behind it, also in the same read; no read is made then.
 #[test]
-fn a_session_answers_so_many_requests(rt: HostRuntime) -> Result<(), Fail> {
+fn a_session_answers_a_million_requests(rt: HostRuntime) -> Result<(), Fail> {
     for case in ASKED {
         let held = is_answered(rt.alloc(), case)?;
         assert!(rt; held);
@@ -422,7 +422,7 @@ const CUTS: &[(u64, u64, SessionEnd)] = &[
 
 // The 4,000,000th read may find the end; if it gives a byte, all before it is answered and no read is made.
 #[test]
-fn a_session_makes_so_many_reads(rt: HostRuntime) -> Result<(), Fail> {
+fn a_session_makes_four_million_reads(rt: HostRuntime) -> Result<(), Fail> {
     for (bytes, reads, end) in CUTS {
         let held = is_cut(rt.alloc(), *bytes, *reads, *end)?;
         assert!(rt; held);
@@ -438,7 +438,7 @@ fn is_made_again(alloc: Global, left: u64, end: Result<SessionEnd, SessionFault>
 }
 
 #[test]
-fn a_read_is_made_again_so_many_times(rt: HostRuntime) {
+fn an_interrupted_read_is_made_again(rt: HostRuntime) {
     assert!(rt; is_made_again(rt.alloc(), 3_999_999, Ok(SessionEnd::Finished)));
     assert!(rt; is_made_again(rt.alloc(), 4_000_000, Err(SessionFault::Read)));
 }

@@ -97,25 +97,18 @@ fn compare_member(rt: &impl Abort, node: NodeId, digits: &str) -> Result<(), Fai
     Ok(())
 }
 
-const ADMIN: &str = "674e623760cac750ae766b788c59c762f116bab90bcfb901f9c20ac06448c55d";
+pub const ADMIN: &str = "674e623760cac750ae766b788c59c762f116bab90bcfb901f9c20ac06448c55d";
 
-const TENANT: &str = "86f04bb42771f115055ad668878e557e4ed8f7c54b3ec303508c086e4fccdbd2";
+pub const TENANT: &str = "86f04bb42771f115055ad668878e557e4ed8f7c54b3ec303508c086e4fccdbd2";
+
+pub const MEMBER_0: &str = "58135baf6b1807d1f390b8426f3aab76b4c50950084d39f8f60e3219822699be";
+
+pub const MEMBER_1: &str = "86bbf702100fb0f083bc373f03aa65d0602cf69962b3468624521c9eb4d0989c";
+
+pub const MEMBER_2: &str = "0f10d656f23c1eeb9826a3c21cd1d0dbe9e472f3d99e83a9d89115b620c20008";
 
 /// The nodes of members of tenant 7, and the digits of their tokens.
-const MEMBERS: &[(u8, &str)] = &[
-    (
-        0,
-        "58135baf6b1807d1f390b8426f3aab76b4c50950084d39f8f60e3219822699be",
-    ),
-    (
-        1,
-        "86bbf702100fb0f083bc373f03aa65d0602cf69962b3468624521c9eb4d0989c",
-    ),
-    (
-        2,
-        "0f10d656f23c1eeb9826a3c21cd1d0dbe9e472f3d99e83a9d89115b620c20008",
-    ),
-];
+const MEMBERS: &[(u8, &str)] = &[(0, MEMBER_0), (1, MEMBER_1), (2, MEMBER_2)];
 
 /// Tokens that another implementation made.
 #[test]

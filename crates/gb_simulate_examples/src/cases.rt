@@ -1,15 +1,20 @@
 //! Schedules and what they make a cluster answer.
+use crate::cases::Part::{Each, Once};
 use gb_simulate::{BadLine, SimEnd, SimFault};
+
+/// How a schedule ends.
+pub type Outcome = Result<SimEnd, SimFault>;
 
 /// A schedule, the text that it makes, and how it ends.
 pub type Case = (&'static str, &'static str, SimEnd);
 
-/// Lines, and the text that they make. `*` stands for a payload, `#` for a number, and `%` for a number of bytes of
-/// `UNTAGGED`.
-type Text = (&'static str, &'static str);
-
-/// Lines that are repeated, once for each number from the first one up to below the last.
-pub type Part = (Text, u16, u16);
+/// Lines, and the text that they make: once, or once for each number from the first one up to below the last. `*` stands for a payload,
+/// `#` for the number, and `%` for that number of bytes of `UNTAGGED`.
+#[derive(Clone, Copy)]
+pub enum Part {
+    Once(&'static str, &'static str),
+    Each(&'static str, &'static str, u16, u16),
+}
 
 /// How many bytes a payload has, and a schedule in parts.
 pub type Built = (usize, &'static [Part]);
@@ -17,6 +22,10 @@ pub type Built = (usize, &'static [Part]);
 /// A byte that is repeated this number of times as a schedule, the most that is read at once, the text that it makes, and how
 /// it ends.
 pub type Repeated = (u8, usize, usize, &'static str, SimEnd);
+
+const NO_CLUSTER: SimEnd = SimEnd::BadLine(1, BadLine::NoCluster);
+
+const NO_COMMAND: SimEnd = SimEnd::BadLine(2, BadLine::NoCommand);
 
 const EMPTY_PAYLOAD: Case = (
     "cluster 3 3\ntenant 0 7 4 8 4096 4\nmake 0 7 1 beb 0,1,2 8 4096 4\nopen 0 7 1\ntenant 1 7 4 8 4096 4\nmake 1 7 1 beb 0,1,2 8 4096 4\nopen 1 7 1\ntenant 2 7 4 8 4096 4\nmake 2 7 1 beb 0,1,2 8 4096 4\nopen 2 7 1\nsay 0 7 1 -\npack 0 1\npack 0 2\narrive 1\narrive 2\nfetch 0 7 1 0 16\nfetch 1 7 1 0 16\nfetch 2 7 1 0 16\n",
@@ -30,11 +39,7 @@ const PACKET_ARRIVES_TWICE: Case = (
     SimEnd::All,
 );
 
-const UNKNOWN_WORD: Case = (
-    "cluster 2 3\nhello\n",
-    "ok\nbad line 2\n",
-    SimEnd::BadLine(2, BadLine::NoCommand),
-);
+const UNKNOWN_WORD: Case = ("cluster 2 3\nhello\n", "ok\nbad line 2\n", NO_COMMAND);
 
 const NODES_WITH_UNLIKE_GROUPS: Case = (
     "cluster 2 3\ntenant 0 7 4 8 4096 4\nmake 0 7 1 beb 0,1 8 4096 4\nopen 0 7 1\ntenant 1 7 4 8 4096 4\nmake 1 7 2 beb 0,1 8 4096 4\nopen 1 7 2\nsay 0 7 1 61\npack 0 1\narrive 1\nfetch 1 7 2 0 16\nfetch 1 7 1 0 16\n",
@@ -79,55 +84,55 @@ const NOTICED_NODES_ARE_CUT_OFF: Case = (
 );
 
 // Each `*` is a payload of 1,024 bytes.
-const FULL_FRAME: Text = (
+const FULL_FRAME: Part = Once(
     "cluster 2 3\ntenant 0 7 4 8 65536 8\nmake 0 7 1 beb 0,1 8 65536 8\nopen 0 7 1\ntenant 1 7 4 8 65536 8\nmake 1 7 1 beb 0,1 8 65536 8\nopen 1 7 1\nsay 0 7 1 *\nsay 0 7 1 *\nsay 0 7 1 *\nsay 0 7 1 *\nsay 0 7 1 *\nsay 0 7 1 *\nsay 0 7 1 *\nsay 0 7 1 *\npack 0 1\narrive 1\npack 0 1\narrive 2\n",
     "ok\nok\nok\nok\nok\nok\nok\nsaid 1\nsaid 2\nsaid 3\nsaid 4\nsaid 5\nsaid 6\nsaid 7\nsaid 8\npacket 1\ngood first 7 0\npacket 2\ngood first 1 0\n",
 );
 
 // Each `*` is a payload of 1,024 bytes. The group after the last is the first one, also where another is made later.
-const CURSOR_GOES_ROUND: Text = (
+const CURSOR_GOES_ROUND: Part = Once(
     "cluster 2 3\ntenant 0 7 4 16 65536 16\ntenant 1 7 4 16 65536 16\nmake 0 7 0 beb 0,1 16 65536 16\nopen 0 7 0\nmake 0 7 1 beb 0,1 16 65536 16\nopen 0 7 1\nmake 1 7 0 beb 0,1 16 65536 16\nopen 1 7 0\nmake 1 7 1 beb 0,1 16 65536 16\nopen 1 7 1\nsay 0 7 0 61\nsay 0 7 1 61\npack 0 1\narrive 1\nmake 0 7 2 beb 0,1 16 65536 16\nopen 0 7 2\nmake 1 7 2 beb 0,1 16 65536 16\nopen 1 7 2\nsay 0 7 0 *\nsay 0 7 0 *\nsay 0 7 0 *\nsay 0 7 0 *\nsay 0 7 0 *\nsay 0 7 0 *\nsay 0 7 0 *\nsay 0 7 2 *\nsay 0 7 2 *\nsay 0 7 2 *\nsay 0 7 2 *\nsay 0 7 2 *\nsay 0 7 2 *\nsay 0 7 2 *\npack 0 1\narrive 2\nfetch 1 7 0 5 16\nfetch 1 7 0 6 16\nfetch 1 7 2 3 16\nfetch 1 7 2 4 16\n",
     "ok\nok\nok\nok\nok\nok\nok\nok\nok\nok\nok\nsaid 1\nsaid 1\npacket 1\ngood first 2 0\nok\nok\nok\nok\nsaid 2\nsaid 3\nsaid 4\nsaid 5\nsaid 6\nsaid 7\nsaid 8\nsaid 1\nsaid 2\nsaid 3\nsaid 4\nsaid 5\nsaid 6\nsaid 7\npacket 2\ngood first 7 0\nlog 0\nrefused 11 BadPlace\nlog 0\nrefused 11 BadPlace\n",
 );
 
 // Each refusal where the next one in the order holds as well. Each `*` is a payload of 1,025 bytes.
-const ORDER_OF_REFUSALS: Text = (
+const ORDER_OF_REFUSALS: Part = Once(
     "cluster 2 3\ntenant 0 0 4 8 64 4\ntenant 0 7 4 8 64 4\ntenant 0 7 0 8 64 4\ntenant 0 7 257 8 64 4\ntenant 0 7 4 0 64 4\ntenant 0 7 4 1025 64 4\ntenant 0 7 4 8 65537 4\ntenant 0 7 4 8 64 0\ntenant 0 7 4 8 64 1025\ntenant 0 7 256 8 64 4\ntenant 0 8 256 8 64 4\ntenant 0 9 256 8 64 4\ntenant 0 10 256 8 64 4\ntenant 0 11 253 8 64 4\ntenant 0 7 253 8 64 4\ntenant 0 11 252 8 64 4\ntenant 0 12 1 8 64 4\ntenant 0 12 257 8 64 4\nmake 0 99 300 beb 1 9 64 4\nmake 0 7 4 beb 1 9 64 4\nmake 0 7 1 beb 1 9 64 4\nmake 0 7 1 beb 0,2 9 64 4\nmake 0 7 1 beb 0 9 64 4\nmake 0 7 1 beb 0 0 64 4\nmake 0 7 1 beb 0 8 65 4\nmake 0 7 1 beb 0 8 64 5\nmake 0 7 1 beb 0 8 64 0\nmake 0 7 1 beb 0,1 2 3 1\nmake 0 7 1 beb 1 9 64 4\nfetch 0 7 2 9 99\nopen 0 7 2\nsay 0 7 2 *\nsay 0 7 1 *\nshut 0 7 1\nopen 0 7 1\nopen 0 7 1\nsay 0 7 1 *\nsay 0 7 1 6162\nsay 0 7 1 6162\nsay 0 7 1 61\ntick 0\ntick 0\ntick 0\nsay 0 7 1 61\nsay 0 7 1 61\nsay 0 7 1 *\nfetch 0 7 1 3 16\nfetch 0 7 1 2 17\nfetch 0 7 1 2 16\nfetch 0 7 1 0 0\nshut 0 7 1\nshut 0 7 1\nopen 0 7 1\nsay 0 7 1 *\ndrop 0 7 1\ndrop 0 7 1\nshut 0 7 1\nopen 0 7 1\nfetch 0 7 1 9 99\nsay 0 7 1 *\nmake 0 7 1 beb 1 9 64 4\nforge 0 7 1\nforge 0 7 2\nstop 0\nforge 0 7 1\nmake 0 99 300 beb 1 9 64 4\ntenant 0 7 0 8 64 4\ndrop 0 7 1\nfetch 0 7 1 9 99\npack 0 1\nagain 0 1 0\nack 0 1\npack 0 0\ntick 0\nstop 0\nnoise 0 -\narrive 0\narrive 1\n",
     "ok\nrefused 5 OverReserve\nok\nrefused 5 OverReserve\nrefused 5 OverReserve\nrefused 5 OverReserve\nrefused 5 OverReserve\nrefused 5 OverReserve\nrefused 5 OverReserve\nrefused 5 OverReserve\nrefused 13 TenantThere\nok\nok\nok\nrefused 12 NoRoom\nrefused 13 TenantThere\nok\nrefused 12 NoRoom\nrefused 5 OverReserve\nrefused 1 Denied\nrefused 2 NoGroup\nrefused 4 BadMembers\nrefused 4 BadMembers\nrefused 5 OverReserve\nrefused 5 OverReserve\nrefused 5 OverReserve\nrefused 5 OverReserve\nrefused 5 OverReserve\nok\nrefused 3 Spent\nrefused 2 NoGroup\nrefused 2 NoGroup\nrefused 2 NoGroup\nrefused 6 WrongPhase\nrefused 6 WrongPhase\nok\nrefused 6 WrongPhase\nrefused 7 TooLong\nsaid 1\nrefused 9 Bytes\nrefused 10 Window\nnoticed -\nnoticed -\nnoticed 1\nsaid 2\nrefused 8 Budget\nrefused 7 TooLong\nrefused 11 BadPlace\nrefused 11 BadPlace\nlog 0\nlog 0\nok\nrefused 6 WrongPhase\nrefused 6 WrongPhase\nrefused 6 WrongPhase\nok\nrefused 3 Spent\nrefused 3 Spent\nrefused 3 Spent\nrefused 3 Spent\nrefused 3 Spent\nrefused 3 Spent\nrefused 1 Denied\nrefused 1 Denied\nok\nrefused 15 Stopped\nrefused 15 Stopped\nrefused 15 Stopped\nrefused 15 Stopped\nrefused 15 Stopped\nrefused 15 Stopped\nrefused 15 Stopped\nrefused 15 Stopped\nrefused 15 Stopped\nrefused 15 Stopped\nrefused 15 Stopped\nrefused 15 Stopped\nno packet\nno packet\n",
 );
 
 // Each `*` is a payload of 4,096 bytes, so `*61` has one byte more.
-const FULL_FRAME_OF_VERSION_2: Text = (
+const FULL_FRAME_OF_VERSION_2: Part = Once(
     "cluster2 2 3 2,2\ntenant 0 7 4 8 65536 8\nmake 0 7 1 beb 0,1 8 65536 8\nopen 0 7 1\ntenant 1 7 4 8 65536 8\nmake 1 7 1 beb 0,1 8 65536 8\nopen 1 7 1\nsay 0 7 1 *\nsay 0 7 1 *\nsay 0 7 1 *\nsay 0 7 1 *\nsay 0 7 1 *61\npack 0 1\narrive 1\npack 0 1\narrive 2\n",
     "ok\nok\nok\nok\nok\nok\nok\nsaid 1\nsaid 2\nsaid 3\nsaid 4\nrefused 7 TooLong\npacket 1\ngood first 3 0\npacket 2\ngood first 1 0\n",
 );
 
 // The same in version 3, whose items have longer headers.
-const FULL_FRAME_OF_VERSION_3: Text = (
+const FULL_FRAME_OF_VERSION_3: Part = Once(
     "cluster2 2 3 3,3\ntenant 0 7 4 8 65536 8\nmake 0 7 1 beb 0,1 8 65536 8\nopen 0 7 1\ntenant 1 7 4 8 65536 8\nmake 1 7 1 beb 0,1 8 65536 8\nopen 1 7 1\nsay 0 7 1 *\nsay 0 7 1 *\nsay 0 7 1 *\nsay 0 7 1 *\nsay 0 7 1 *61\npack 0 1\narrive 1\npack 0 1\narrive 2\n",
     "ok\nok\nok\nok\nok\nok\nok\nsaid 1\nsaid 2\nsaid 3\nsaid 4\nrefused 7 TooLong\npacket 1\ngood first 3 0\npacket 2\ngood first 1 0\n",
 );
 
 // Packets with room for 1,400 bytes of items; each `*` is a payload of 4,096 bytes, which is longer and travels by itself.
-const NARROW_FRAMES: Text = (
+const NARROW_FRAMES: Part = Once(
     "cluster2 2 3 2,2 1400\ntenant 0 7 4 8 65536 8\nmake 0 7 1 beb 0,1 8 65536 8\nopen 0 7 1\ntenant 1 7 4 8 65536 8\nmake 1 7 1 beb 0,1 8 65536 8\nopen 1 7 1\nsay 0 7 1 61\nsay 0 7 1 62\nsay 0 7 1 *\nsay 0 7 1 *\nsay 0 7 1 63\npack 0 1\narrive 1\npack 0 1\narrive 2\npack 0 1\narrive 3\npack 0 1\narrive 4\npack 0 1\n",
     "ok\nok\nok\nok\nok\nok\nok\nsaid 1\nsaid 2\nsaid 3\nsaid 4\nsaid 5\npacket 1\ngood first 2 0\npacket 2\ngood first 1 0\npacket 3\ngood first 1 0\npacket 4\ngood first 1 0\nnothing\n",
 );
 
 // Each `*` is a payload of 1,025 bytes: node 1 sends version 1, may not say it, and lets it fall where it comes.
-const UNLIKE_VERSIONS: Text = (
+const UNLIKE_VERSIONS: Part = Once(
     "cluster2 2 3 2,1\ntenant 0 7 4 8 65536 8\nmake 0 7 1 beb 0,1 8 65536 8\nopen 0 7 1\ntenant 1 7 4 8 65536 8\nmake 1 7 1 beb 0,1 8 65536 8\nopen 1 7 1\nsay 1 7 1 *\nsay 0 7 1 *\npack 0 1\narrive 1\nfetch 1 7 1 0 16\n",
     "ok\nok\nok\nok\nok\nok\nok\nrefused 7 TooLong\nsaid 1\npacket 1\ngood first 1 0\nlog 0\n",
 );
 
 // Packets of version 2 without a right tag: eight items of 1,024 bytes, each a `*`; four of 4,096 bytes, which are too many; from node 32.
-const FAULTS_OF_VERSION_2: Text = (
+const FAULTS_OF_VERSION_2: Part = Once(
     "cluster 2 3\nnoise 1 47420200010000000000000001000000000000000000000000000000010008000700010000010400*000700010000020400*000700010000030400*000700010000040400*000700010000050400*000700010000060400*000700010000070400*000700010000080400*0000000000000000\nnoise 1 47420200010000000000000001000000000000000000000000000000010004000700010000011000****000700010000021000****000700010000031000****000700010000041000****0000000000000000\nnoise 1 47420220010000000000000001000000000000000000000000000000010008000700010000010400*000700010000020400*000700010000030400*000700010000040400*000700010000050400*000700010000060400*000700010000070400*000700010000080400*0000000000000000\n",
     "ok\nfault 10 Tag\nfault 9 TooLong\nfault 4 Node\n",
 );
 
 // A group of two nodes.
-const TWO_NODES: Text = (
+const TWO_NODES: Part = Once(
     "cluster 2 3\ntenant 0 7 4 8 4096 4\nmake 0 7 1 beb 0,1 8 4096 4\nopen 0 7 1\ntenant 1 7 4 8 4096 4\nmake 1 7 1 beb 0,1 8 4096 4\nopen 1 7 1\n",
     "ok\nok\nok\nok\nok\nok\nok\n",
 );
@@ -137,7 +142,7 @@ pub const UNTAGGED: &str =
     "47420100010000000000000001000000000000000000000000000000010001000700010000010001610000000000000000";
 
 // The same with a byte changed, in the order of the faults; in one line it has eight items of 1,024 bytes, each a `*`.
-const DAMAGED: Text = (
+const DAMAGED: Part = Once(
     "noise 1 00420100010000000000000001000000000000000000000000000000010001000700010000010001610000000000000000\nnoise 1 47420200010000000000000001000000000000000000000000000000010001000700010000010001610000000000000000\nnoise 1 47420100000000000000000001000000000000000000000000000000010001000700010000010001610000000000000000\nnoise 1 47420100010000000000000001000000000000000100000000000000010001000700010000010001610000000000000000\nnoise 1 47420100010000000000000000000000000000000000000000000000010001000700010000010001610000000000000000\nnoise 1 47420100010000000000000001000000000000000000000000000000000001000700010000010001610000000000000000\nnoise 1 47420100010000000000000001000000000000000000000000000000010000000700010000010001610000000000000000\nnoise 1 47420100010000000000000001000000000000000000000000000000010001000700010000010401610000000000000000\nnoise 1 4742010001000000000000000100000000000000000000000000000001000100070001000001000161000000000000000000\nnoise 1 47420100010000000000000001000000000000000000000000000000010008000700010000010400*000700010000020400*000700010000030400*000700010000040400*000700010000050400*000700010000060400*000700010000070400*000700010000080400*0000000000000000\nnoise 1 47420100010000000000000001000000000000000000000000000000010001000700010000010001610000000000000000\nnoise 1 47420300010000000000000001000000000000000000000000000000010001000700010000010001610000000000000000\nnoise 1 47420400010000000000000001000000000000000000000000000000010001000700010000010001610000000000000000\nfetch 1 7 1 0 16\n",
     "fault 2 Magic\nfault 10 Tag\nfault 4 Node\nfault 5 Mask\nfault 5 Mask\nfault 6 Count\nfault 6 Count\nfault 7 Length\nfault 8 Trailing\nfault 9 TooLong\nfault 10 Tag\nfault 7 Length\nfault 3 Version\nlog 0\n",
 );
@@ -159,52 +164,20 @@ pub const IN_ANY_PIECES: &[Case] = &[
 pub const AT_THEIR_EDGES: &[Case] = &[
     ("cluster 1 2", "ok\n", SimEnd::All),
     ("cluster 16 1000", "ok\n", SimEnd::All),
-    (
-        "cluster 16 1001\n",
-        "bad line 1\n",
-        SimEnd::BadLine(1, BadLine::NoCluster),
-    ),
-    (
-        "cluster 1 1\n",
-        "bad line 1\n",
-        SimEnd::BadLine(1, BadLine::NoCluster),
-    ),
-    (
-        "cluster 0 2\n",
-        "bad line 1\n",
-        SimEnd::BadLine(1, BadLine::NoCluster),
-    ),
+    ("cluster 16 1001\n", "bad line 1\n", NO_CLUSTER),
+    ("cluster 1 1\n", "bad line 1\n", NO_CLUSTER),
+    ("cluster 0 2\n", "bad line 1\n", NO_CLUSTER),
     ("\n# a comment\n\ncluster 1 2\n\n", "ok\n", SimEnd::All),
     (
         "\n# a comment\n\ncluster 1 2\ncluster 1 2\n",
         "ok\nbad line 5\n",
         SimEnd::BadLine(5, BadLine::NoCommand),
     ),
-    (
-        "cluster 1 2\r\n",
-        "bad line 1\n",
-        SimEnd::BadLine(1, BadLine::NoCluster),
-    ),
-    (
-        "cluster 1 2\nhello",
-        "ok\nbad line 2\n",
-        SimEnd::BadLine(2, BadLine::NoCommand),
-    ),
-    (
-        "cluster 17 2\n",
-        "bad line 1\n",
-        SimEnd::BadLine(1, BadLine::NoCluster),
-    ),
-    (
-        "cluster 1 2\npack 0 1\n",
-        "ok\nbad line 2\n",
-        SimEnd::BadLine(2, BadLine::NoCommand),
-    ),
-    (
-        "arrive 1\n",
-        "bad line 1\n",
-        SimEnd::BadLine(1, BadLine::NoCluster),
-    ),
+    ("cluster 1 2\r\n", "bad line 1\n", NO_CLUSTER),
+    ("cluster 1 2\nhello", "ok\nbad line 2\n", NO_COMMAND),
+    ("cluster 17 2\n", "bad line 1\n", NO_CLUSTER),
+    ("cluster 1 2\npack 0 1\n", "ok\nbad line 2\n", NO_COMMAND),
+    ("arrive 1\n", "bad line 1\n", NO_CLUSTER),
     (
         "cluster 1 2\narrive 1\narrive 01\narrive 1\n",
         "ok\nno packet\nbad line 3\n",
@@ -219,51 +192,43 @@ pub const IN_LOWER_CASE: &[Case] = &[(
 )];
 
 pub const LONG_PAYLOADS: &[Built] = &[
-    (1_024, &[(FULL_FRAME, 0, 1)]),
-    (1_024, &[(CURSOR_GOES_ROUND, 0, 1)]),
-    (1_025, &[(ORDER_OF_REFUSALS, 0, 1)]),
-    (4_096, &[(FULL_FRAME_OF_VERSION_2, 0, 1)]),
-    (4_096, &[(FULL_FRAME_OF_VERSION_3, 0, 1)]),
-    (4_096, &[(NARROW_FRAMES, 0, 1)]),
-    (1_025, &[(UNLIKE_VERSIONS, 0, 1)]),
-    (1_024, &[(FAULTS_OF_VERSION_2, 0, 1)]),
+    (1_024, &[FULL_FRAME]),
+    (1_024, &[CURSOR_GOES_ROUND]),
+    (1_025, &[ORDER_OF_REFUSALS]),
+    (4_096, &[FULL_FRAME_OF_VERSION_2]),
+    (4_096, &[FULL_FRAME_OF_VERSION_3]),
+    (4_096, &[NARROW_FRAMES]),
+    (1_025, &[UNLIKE_VERSIONS]),
+    (1_024, &[FAULTS_OF_VERSION_2]),
 ];
 
 // Each front of a packet is no packet; nor is one with a byte changed; nothing is delivered of it.
 pub const DAMAGED_PACKETS: &[Built] = &[(
     1_024,
     &[
-        (TWO_NODES, 0, 1),
-        (("noise 1 -\n", "fault 1 Short\n"), 0, 1),
-        (("noise 1 %\n", "fault 1 Short\n"), 1, 39),
-        (("noise 1 %\n", "fault 7 Length\n"), 39, 49),
-        (DAMAGED, 0, 1),
+        TWO_NODES,
+        Once("noise 1 -\n", "fault 1 Short\n"),
+        Each("noise 1 %\n", "fault 1 Short\n", 1, 39),
+        Each("noise 1 %\n", "fault 7 Length\n", 39, 49),
+        DAMAGED,
     ],
 )];
 
 // Each message is said and packed.
-const SAY_AND_PACK: Text = ("say 0 7 1 61\npack 0 1\n", "said #\npacket #\n");
+const SAY_AND_PACK: Part = Each("say 0 7 1 61\npack 0 1\n", "said #\npacket #\n", 1, 65);
 
 // What waits to be sent in a full link's frames keeps no other tenant from saying.
 pub const FULL_LINK: &[Built] = &[(
     0,
     &[
-        (
-            (
-                "cluster 2 3\ntenant 0 7 4 100 4096 100\ntenant 0 8 4 8 4096 4\nmake 0 7 1 beb 0,1 100 4096 100\nmake 0 8 1 beb 0,1 8 4096 4\nopen 0 7 1\nopen 0 8 1\n",
-                "ok\nok\nok\nok\nok\nok\nok\n",
-            ),
-            0,
-            1,
+        Once(
+            "cluster 2 3\ntenant 0 7 4 100 4096 100\ntenant 0 8 4 8 4096 4\nmake 0 7 1 beb 0,1 100 4096 100\nmake 0 8 1 beb 0,1 8 4096 4\nopen 0 7 1\nopen 0 8 1\n",
+            "ok\nok\nok\nok\nok\nok\nok\n",
         ),
-        (SAY_AND_PACK, 1, 65),
-        (
-            (
-                "say 0 7 1 61\npack 0 1\nsay 0 8 1 61\npack 0 1\nfetch 0 8 1 0 16\n",
-                "said 65\nnothing\nsaid 1\nnothing\nlog 1 0:1:61\n",
-            ),
-            0,
-            1,
+        SAY_AND_PACK,
+        Once(
+            "say 0 7 1 61\npack 0 1\nsay 0 8 1 61\npack 0 1\nfetch 0 8 1 0 16\n",
+            "said 65\nnothing\nsaid 1\nnothing\nlog 1 0:1:61\n",
         ),
     ],
 )];
@@ -272,29 +237,21 @@ pub const FULL_LINK: &[Built] = &[(
 pub const ALL_MESSAGES: &[Built] = &[(
     0,
     &[
-        (
-            (
-                "cluster 1 2\ntenant 0 7 4 1024 65536 1024\nmake 0 7 1 beb 0 1024 65536 1024\nopen 0 7 1\n",
-                "ok\nok\nok\nok\n",
-            ),
-            0,
-            1,
+        Once(
+            "cluster 1 2\ntenant 0 7 4 1024 65536 1024\nmake 0 7 1 beb 0 1024 65536 1024\nopen 0 7 1\n",
+            "ok\nok\nok\nok\n",
         ),
-        (("say 0 7 1 78\n", "said #\n"), 1, 1_025),
-        (("say 0 7 1 78\n", "refused 8 Budget\n"), 0, 1),
+        Each("say 0 7 1 78\n", "said #\n", 1, 1_025),
+        Once("say 0 7 1 78\n", "refused 8 Budget\n"),
     ],
 )];
 
 // A payload of 1,024 bytes is said and comes, and one of 1,025 is refused; so all bytes of the group are said.
 pub const LONGEST_PAYLOAD: &[Built] = &[(
     1_024,
-    &[(
-        (
-            "cluster 2 2\ntenant 0 7 4 8 65536 4\nmake 0 7 1 beb 0,1 8 1024 4\nopen 0 7 1\ntenant 1 7 4 8 65536 4\nmake 1 7 1 beb 0,1 8 1024 4\nsay 0 7 1 *61\nsay 0 7 1 *\nsay 0 7 1 61\nsay 0 7 1 -\npack 0 1\narrive 1\nfetch 1 7 1 0 16\n",
-            "ok\nok\nok\nok\nok\nok\nrefused 7 TooLong\nsaid 1\nrefused 9 Bytes\nsaid 2\npacket 1\ngood first 2 0\nlog 2 0:1:* 0:2:-\n",
-        ),
-        0,
-        1,
+    &[Once(
+        "cluster 2 2\ntenant 0 7 4 8 65536 4\nmake 0 7 1 beb 0,1 8 1024 4\nopen 0 7 1\ntenant 1 7 4 8 65536 4\nmake 1 7 1 beb 0,1 8 1024 4\nsay 0 7 1 *61\nsay 0 7 1 *\nsay 0 7 1 61\nsay 0 7 1 -\npack 0 1\narrive 1\nfetch 1 7 1 0 16\n",
+        "ok\nok\nok\nok\nok\nok\nrefused 7 TooLong\nsaid 1\nrefused 9 Bytes\nsaid 2\npacket 1\ngood first 2 0\nlog 2 0:1:* 0:2:-\n",
     )],
 )];
 
@@ -302,22 +259,14 @@ pub const LONGEST_PAYLOAD: &[Built] = &[(
 pub const WINDOW_OF_64_FRAMES: &[Built] = &[(
     0,
     &[
-        (
-            (
-                "cluster 2 3\ntenant 0 7 4 100 4096 100\nmake 0 7 1 beb 0,1 100 4096 100\nopen 0 7 1\n",
-                "ok\nok\nok\nok\n",
-            ),
-            0,
-            1,
+        Once(
+            "cluster 2 3\ntenant 0 7 4 100 4096 100\nmake 0 7 1 beb 0,1 100 4096 100\nopen 0 7 1\n",
+            "ok\nok\nok\nok\n",
         ),
-        (SAY_AND_PACK, 1, 65),
-        (
-            (
-                "say 0 7 1 61\npack 0 1\narrive 1\nack 1 0\narrive 65\npack 0 1\narrive 66\n",
-                "said 65\nnothing\ngood first 1 0\npacket 65\ngood none 0 1\npacket 66\ngood first 1 0\n",
-            ),
-            0,
-            1,
+        SAY_AND_PACK,
+        Once(
+            "say 0 7 1 61\npack 0 1\narrive 1\nack 1 0\narrive 65\npack 0 1\narrive 66\n",
+            "said 65\nnothing\ngood first 1 0\npacket 65\ngood none 0 1\npacket 66\ngood first 1 0\n",
         ),
     ],
 )];
@@ -326,10 +275,10 @@ pub const WINDOW_OF_64_FRAMES: &[Built] = &[(
 pub const MANY_PACKETS: &[Built] = &[(
     0,
     &[
-        (("cluster 2 3\n", "ok\n"), 0, 1),
-        (("ack 0 1\n", "packet #\n"), 1, 5_001),
-        (("arrive 5000\n", "good none 0 0\n"), 0, 1),
-        (("arrive 5001\n", "no packet\n"), 0, 1),
+        Once("cluster 2 3\n", "ok\n"),
+        Each("ack 0 1\n", "packet #\n", 1, 5_001),
+        Once("arrive 5000\n", "good none 0 0\n"),
+        Once("arrive 5001\n", "no packet\n"),
     ],
 )];
 
@@ -339,31 +288,36 @@ pub const MANY_PACKETS: &[Built] = &[(
 pub const LONGEST_LOG: &[Built] = &[(
     4_096,
     &[
-        (
-            (
-                "cluster2 2 3 2,2\ntenant 0 7 4 17 65536 17\nmake 0 7 1 beb 0,1 17 65536 17\nopen 0 7 1\n",
-                "ok\nok\nok\nok\n",
-            ),
-            0,
-            1,
+        Once(
+            "cluster2 2 3 2,2\ntenant 0 7 4 17 65536 17\nmake 0 7 1 beb 0,1 17 65536 17\nopen 0 7 1\n",
+            "ok\nok\nok\nok\n",
         ),
-        (("say 0 7 1 *\n", "said #\n"), 1, 17),
-        (
-            (
-                "say 0 7 1 61\nfetch 0 7 1 0 16\n",
-                "refused 9 Bytes\nlog 16",
-            ),
-            0,
-            1,
+        Each("say 0 7 1 *\n", "said #\n", 1, 17),
+        Once(
+            "say 0 7 1 61\nfetch 0 7 1 0 16\n",
+            "refused 9 Bytes\nlog 16",
         ),
-        (("", " 0:#:*"), 1, 17),
-        (("", "\n"), 0, 1),
-        (("fetch 0 7 1 0 17\n", "refused 11 BadPlace\n"), 1, 820),
-        (("fetch 0 7 1 0 16\n", "log 16"), 0, 1),
-        (("", " 0:#:*"), 1, 17),
-        (("fetch 0 7 1 0 17\n", "\nrefused 11 BadPlace\n"), 0, 1),
+        Each("", " 0:#:*", 1, 17),
+        Once("", "\n"),
+        Each("fetch 0 7 1 0 17\n", "refused 11 BadPlace\n", 1, 820),
+        Once("fetch 0 7 1 0 16\n", "log 16"),
+        Each("", " 0:#:*", 1, 17),
+        Once("fetch 0 7 1 0 17\n", "\nrefused 11 BadPlace\n"),
     ],
 )];
+
+const TWO_GROUPS: Part = Once(
+    "tenant 0 7 4 1024 65536 1024\nmake 0 7 1 beb 0,1 1024 65536 1024\nmake 0 7 2 beb 0,1 1024 65536 1024\nopen 0 7 1\nopen 0 7 2\n",
+    "ok\nok\nok\nok\nok\n",
+);
+
+// Two frames, of which the first is given again.
+const FRAMES: &str =
+    "pack 0 1\npack 0 1\nagain 0 1 1\narrive 3\narrive 1\narrive 2\nack 1 0\narrive 4\n";
+
+// What comes of them where the first has this number of messages.
+const FRAMES_ARRIVE: &str =
+    "packet 1\npacket 2\npacket 3\ngood first # 0\ngood seen 0 0\ngood first 1 0\npacket 4\ngood none 0 2\n";
 
 // A frame of as many messages of one byte as a packet of each version has room for, and of no byte in the last, which is given again, and
 // a frame of the one that is left. Both are acknowledged.
@@ -371,121 +325,107 @@ pub const SHORTEST_MESSAGES: &[Built] = &[
     (
         0,
         &[
-            (
-                (
-                    "cluster 2 3\ntenant 0 7 4 1024 65536 1024\nmake 0 7 1 beb 0,1 1024 65536 1024\nopen 0 7 1\n",
-                    "ok\nok\nok\nok\n",
-                ),
-                0,
-                1,
+            Once(
+                "cluster 2 3\ntenant 0 7 4 1024 65536 1024\nmake 0 7 1 beb 0,1 1024 65536 1024\nopen 0 7 1\n",
+                "ok\nok\nok\nok\n",
             ),
-            (("say 0 7 1 61\n", "said #\n"), 1, 817),
-            (
-                (
-                    "pack 0 1\npack 0 1\nagain 0 1 1\narrive 3\narrive 1\narrive 2\nack 1 0\narrive 4\n",
-                    "packet 1\npacket 2\npacket 3\ngood first 815 0\ngood seen 0 0\ngood first 1 0\npacket 4\ngood none 0 2\n",
-                ),
-                0,
-                1,
-            ),
+            Each("say 0 7 1 61\n", "said #\n", 1, 817),
+            Each(FRAMES, FRAMES_ARRIVE, 815, 816),
         ],
     ),
     (
         0,
         &[
-            (
-                (
-                    "cluster2 2 3 2,2\ntenant 0 7 4 1024 65536 1024\nmake 0 7 1 beb 0,1 1024 65536 1024\nmake 0 7 2 beb 0,1 1024 65536 1024\nopen 0 7 1\nopen 0 7 2\n",
-                    "ok\nok\nok\nok\nok\nok\n",
-                ),
-                0,
-                1,
-            ),
-            (("say 0 7 1 61\n", "said #\n"), 1, 1_025),
-            (("say 0 7 2 61\n", "said #\n"), 1, 612),
-            (
-                (
-                    "pack 0 1\npack 0 1\nagain 0 1 1\narrive 3\narrive 1\narrive 2\nack 1 0\narrive 4\n",
-                    "packet 1\npacket 2\npacket 3\ngood first 1634 0\ngood seen 0 0\ngood first 1 0\npacket 4\ngood none 0 2\n",
-                ),
-                0,
-                1,
-            ),
+            Once("cluster2 2 3 2,2\n", "ok\n"),
+            TWO_GROUPS,
+            Each("say 0 7 1 61\n", "said #\n", 1, 1_025),
+            Each("say 0 7 2 61\n", "said #\n", 1, 612),
+            Each(FRAMES, FRAMES_ARRIVE, 1_634, 1_635),
         ],
     ),
     (
         0,
         &[
-            (
-                (
-                    "cluster2 2 3 3,3\ntenant 0 7 4 1024 65536 1024\nmake 0 7 1 beb 0,1 1024 65536 1024\nmake 0 7 2 beb 0,1 1024 65536 1024\nopen 0 7 1\nopen 0 7 2\n",
-                    "ok\nok\nok\nok\nok\nok\n",
-                ),
-                0,
-                1,
-            ),
-            (("say 0 7 1 61\n", "said #\n"), 1, 1_025),
-            (("say 0 7 2 61\n", "said #\n"), 1, 145),
-            (
-                (
-                    "pack 0 1\npack 0 1\nagain 0 1 1\narrive 3\narrive 1\narrive 2\nack 1 0\narrive 4\n",
-                    "packet 1\npacket 2\npacket 3\ngood first 1167 0\ngood seen 0 0\ngood first 1 0\npacket 4\ngood none 0 2\n",
-                ),
-                0,
-                1,
-            ),
+            Once("cluster2 2 3 3,3\n", "ok\n"),
+            TWO_GROUPS,
+            Each("say 0 7 1 61\n", "said #\n", 1, 1_025),
+            Each("say 0 7 2 61\n", "said #\n", 1, 145),
+            Each(FRAMES, FRAMES_ARRIVE, 1_167, 1_168),
         ],
     ),
     (
         0,
         &[
-            (
-                (
-                    "cluster2 2 3 2,2\ntenant 0 7 4 1024 65536 1024\nmake 0 7 1 beb 0,1 1024 65536 1024\nmake 0 7 2 beb 0,1 1024 65536 1024\nopen 0 7 1\nopen 0 7 2\n",
-                    "ok\nok\nok\nok\nok\nok\n",
-                ),
-                0,
-                1,
-            ),
-            (("say 0 7 1 -\n", "said #\n"), 1, 1_025),
-            (("say 0 7 2 -\n", "said #\n"), 1, 794),
-            (
-                (
-                    "pack 0 1\npack 0 1\nagain 0 1 1\narrive 3\narrive 1\narrive 2\nack 1 0\narrive 4\n",
-                    "packet 1\npacket 2\npacket 3\ngood first 1816 0\ngood seen 0 0\ngood first 1 0\npacket 4\ngood none 0 2\n",
-                ),
-                0,
-                1,
-            ),
+            Once("cluster2 2 3 2,2\n", "ok\n"),
+            TWO_GROUPS,
+            Each("say 0 7 1 -\n", "said #\n", 1, 1_025),
+            Each("say 0 7 2 -\n", "said #\n", 1, 794),
+            Each(FRAMES, FRAMES_ARRIVE, 1_816, 1_817),
         ],
     ),
 ];
 
-// A node with as many tenants and groups as it has places for: 256 tenants of four groups each. Each group works.
-pub const MOST_GROUPS: &[Built] = &[(
-    0,
-    &[
-        (("cluster 1 2\n", "ok\n"), 0, 1),
-        (("tenant 0 # 4 1 1 1\n", "ok\n"), 1, 257),
-        (("tenant 0 257 1 1 1 1\n", "refused 12 NoRoom\n"), 0, 1),
-        (
-            (
+// Nodes with as many tenants and groups as they have places for: 256 tenants of four rooms each, in version 3 with four generations in
+// each room. The groups work, of version 3 those of the last tenant.
+pub const MOST_GROUPS: &[Built] = &[
+    (
+        0,
+        &[
+            Once("cluster 1 2\n", "ok\n"),
+            Each("tenant 0 # 4 1 1 1\n", "ok\n", 1, 257),
+            Once("tenant 0 257 1 1 1 1\n", "refused 12 NoRoom\n"),
+            Each(
                 "make 0 # 0 beb 0 1 1 1\nmake 0 # 1 eager 0 1 1 1\nmake 0 # 2 fallack 0 1 1 1\nmake 0 # 3 fbeb 0 1 1 1\n",
                 "ok\nok\nok\nok\n",
+                1,
+                257,
             ),
-            1,
-            257,
-        ),
-        (
-            (
+            Each(
                 "open 0 # 3\nsay 0 # 3 61\nsay 0 # 3 61\nfetch 0 # 3 0 16\n",
                 "ok\nsaid 1\nrefused 8 Budget\nlog 1 0:1:61\n",
+                1,
+                257,
             ),
-            1,
-            257,
-        ),
-    ],
-)];
+        ],
+    ),
+    (
+        0,
+        &[
+            Once("cluster2 1 2 3\n", "ok\n"),
+            Each("tenant 0 # 4 1 1 1\n", "ok\n", 1, 257),
+            Each(
+                "make 0 # 0 beb 0 1 1 1\nmake 0 # 0.1 beb 0 1 1 1\nmake 0 # 0.2 beb 0 1 1 1\nmake 0 # 0.3 beb 0 1 1 1\n",
+                "ok\nok\nok\nok\n",
+                1,
+                257,
+            ),
+            Each(
+                "make 0 # 1 fbeb 0 1 1 1\nmake 0 # 1.1 fbeb 0 1 1 1\nmake 0 # 1.2 fbeb 0 1 1 1\nmake 0 # 1.3 fbeb 0 1 1 1\n",
+                "ok\nok\nok\nok\n",
+                1,
+                257,
+            ),
+            Each(
+                "make 0 # 2 beb 0 1 1 1\nmake 0 # 2.1 beb 0 1 1 1\nmake 0 # 2.2 beb 0 1 1 1\nmake 0 # 2.3 beb 0 1 1 1\n",
+                "ok\nok\nok\nok\n",
+                1,
+                257,
+            ),
+            Each(
+                "make 0 # 3 fbeb 0 1 1 1\nmake 0 # 3.1 fbeb 0 1 1 1\nmake 0 # 3.2 fbeb 0 1 1 1\nmake 0 # 3.3 fbeb 0 1 1 1\n",
+                "ok\nok\nok\nok\n",
+                1,
+                257,
+            ),
+            Each(
+                "make 0 # 3.4 fbeb 0 1 1 1\nopen 0 # 3.3\nsay 0 # 3.3 61\nfetch 0 # 3.3 0 16\nfetch 0 # 0 0 16\n",
+                "refused 12 NoRoom\nok\nsaid 1\nlog 1 0:1:61\nlog 0\n",
+                256,
+                257,
+            ),
+        ],
+    ),
+];
 
 pub const LONGEST_LINES: &[Repeated] = &[
     (b'#', 65_536, 1, "", SimEnd::All),
@@ -520,43 +460,25 @@ pub const ASKED: &[(&str, usize)] = &[
 
 /// How a schedule ends, the bytes that a writer takes, how the run ends then, what is written behind the answers, and how often a write
 /// fails.
-pub type Want = (
-    Result<SimEnd, SimFault>,
-    usize,
-    Result<SimEnd, SimFault>,
-    &'static [u8],
-    usize,
-);
+pub type Want = (Outcome, usize, Outcome, &'static [u8], usize);
+
+const FAILED_READ: Outcome = Err(SimFault::Read);
+
+const FAILED_WRITE: Outcome = Err(SimFault::Write);
+
+const NO_MEMORY: Outcome = Err(SimFault::OutOfMemory);
 
 pub const WANTS: &[Want] = &[
     (Ok(SimEnd::All), 0, Ok(SimEnd::All), b"", 0),
-    (
-        Ok(SimEnd::BadLine(1, BadLine::NoCluster)),
-        0,
-        Ok(SimEnd::BadLine(1, BadLine::NoCluster)),
-        b"",
-        0,
-    ),
-    (Err(SimFault::Read), 0, Err(SimFault::Read), b"", 0),
-    (Err(SimFault::Write), 0, Err(SimFault::Write), b"", 0),
-    (
-        Err(SimFault::OutOfMemory),
-        14,
-        Err(SimFault::OutOfMemory),
-        b"out of memory\n",
-        0,
-    ),
-    (
-        Err(SimFault::OutOfMemory),
-        13,
-        Err(SimFault::Write),
-        b"out of memory",
-        1,
-    ),
+    (Ok(NO_CLUSTER), 0, Ok(NO_CLUSTER), b"", 0),
+    (FAILED_READ, 0, FAILED_READ, b"", 0),
+    (FAILED_WRITE, 0, FAILED_WRITE, b"", 0),
+    (NO_MEMORY, 14, NO_MEMORY, b"out of memory\n", 0),
+    (NO_MEMORY, 13, FAILED_WRITE, b"out of memory", 1),
 ];
 
 /// How a schedule ends, and the line that is told of it.
-pub const COMPLAINTS: &[(Result<SimEnd, SimFault>, &str)] = &[
+pub const COMPLAINTS: &[(Outcome, &str)] = &[
     (Ok(SimEnd::All), ""),
     (
         Ok(SimEnd::BadLine(18_446_744_073_709_551_615, BadLine::TooLong)),
@@ -567,14 +489,14 @@ pub const COMPLAINTS: &[(Result<SimEnd, SimFault>, &str)] = &[
         "bad line 1000001: there are too many lines\n",
     ),
     (
-        Ok(SimEnd::BadLine(1, BadLine::NoCluster)),
+        Ok(NO_CLUSTER),
         "bad line 1: it starts no cluster, and none was started before\n",
     ),
     (
         Ok(SimEnd::BadLine(3, BadLine::NoCommand)),
         "bad line 3: it spells no command of the cluster\n",
     ),
-    (Err(SimFault::Read), "a read failed\n"),
-    (Err(SimFault::Write), "a write failed\n"),
-    (Err(SimFault::OutOfMemory), "out of memory\n"),
+    (FAILED_READ, "a read failed\n"),
+    (FAILED_WRITE, "a write failed\n"),
+    (NO_MEMORY, "out of memory\n"),
 ];

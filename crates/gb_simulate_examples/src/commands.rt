@@ -1,11 +1,10 @@
 //! Lines, and what they spell.
-ghost use Rattle.std.specs.Prelude.{◌≤◌};
-ghost use Rattle.std.specs.Option.{ForSome};
+ghost use Rattle.std.specs.{Prelude.◌≤◌, Option.ForSome};
 
 use gb_schedule::grammar::{is_silent, read_other_command, read_start, read_step};
 use gb_schedule::{ClusterStart, Command, Keys, Step};
+use gb_spelling::number::put_number;
 use gb_types::limits::NODES;
-use gb_types::number::put_number;
 use gb_types::{
     Action, Addr, GroupCommand, Kind, Module, NewMessage, NodeId, Order, OutOfMemory, Request,
     Spec, TenantRow, Version,

@@ -6,13 +6,13 @@ use std::io::{ErrorKind, Read};
 use std::test::Fail;
 use std::{cmp, io};
 
-/// Returns a text by pieces of at most this size, and fails at one read.
+/// Returns a text by pieces of at most this size. The reads from the first number of `failing` up to below the second fail.
 #[derive(Drop)]
-struct Pieces<'a> {
+pub struct Pieces<'a> {
     text: &'a [u8],
     piece: usize,
     reads: u64,
-    failing: u64,
+    pub failing: (u64, u64),
     kind: ErrorKind,
 }
 
@@ -20,7 +20,8 @@ impl Read for Pieces<'_> {
     fn read(&mut self, buf: &mut [u8]) -> io::Result<usize> {
         let read = self.reads;
         self.reads = self.reads.wrapping_add(1);
-        if read == self.failing {
+        let (first, end) = self.failing;
+        if first <= read && read < end {
             return Err(self.kind.into());
         }
         let text = self.text;
@@ -31,12 +32,13 @@ impl Read for Pieces<'_> {
     }
 }
 
-fn in_pieces(text: &[u8], piece: usize) -> Pieces<'_> {
+/// Returns a reader of the text, at which no read fails.
+pub fn in_pieces(text: &[u8], piece: usize) -> Pieces<'_> {
     Pieces {
         text,
         piece,
         reads: 0,
-        failing: u64::MAX,
+        failing: (0, 0),
         kind: ErrorKind::Other,
     }
 }
@@ -133,7 +135,7 @@ fn lines_in_any_pieces(rt: HostRuntime) -> Result<(), Fail> {
 /// Whether these lines come where the third read fails so.
 fn shows_failing(alloc: Global, kind: ErrorKind, lines: &str) -> Result<bool, OutOfMemory> {
     let mut reader = in_pieces(b"a\nbcd\ne", 2);
-    reader.failing = 2;
+    reader.failing = (2, 3);
     reader.kind = kind;
     shows(alloc, &mut reader, lines)
 }
@@ -169,7 +171,7 @@ const AFTER_A_FAILED_READ: &[Next] = &[
 #[test]
 fn nothing_is_lost_at_a_failed_read(rt: HostRuntime) -> Result<(), Fail> {
     let mut reader = in_pieces(b"ab\nc", 1);
-    reader.failing = 1;
+    reader.failing = (1, 2);
     let mut lines = LineBuffer::new(rt.alloc())?;
     for next in AFTER_A_FAILED_READ {
         let held = gives(&mut lines, &mut reader, next);
@@ -221,34 +223,12 @@ fn the_longest_line_without_its_line_feed(rt: HostRuntime) -> Result<(), Fail> {
     Ok(())
 }
 
-/// Is interrupted this number of times, and then returns a text byte by byte.
-#[derive(Drop)]
-struct Interrupted<'a> {
-    left: u64,
-    text: &'a [u8],
-}
-
-impl Read for Interrupted<'_> {
-    fn read(&mut self, buf: &mut [u8]) -> io::Result<usize> {
-        if self.left > 0 {
-            self.left -= 1;
-            return Err(ErrorKind::Interrupted.into());
-        }
-        let text = self.text;
-        let count = cmp::min(cmp::min(1, text.len()), buf.len());
-        buf[..count].copy_from_slice(&text[..count]);
-        self.text = &text[count..];
-        Ok(count)
-    }
-}
-
 /// Returns true if the next line is told so after this number of interrupted reads.
 fn gives_after(alloc: Global, left: u64, next: &Next) -> Result<bool, OutOfMemory> {
     let mut lines = LineBuffer::new(alloc)?;
-    let mut reader = Interrupted {
-        left,
-        text: b"ab\n",
-    };
+    let mut reader = in_pieces(b"ab\n", 1);
+    reader.failing = (0, left);
+    reader.kind = ErrorKind::Interrupted;
     Ok(gives(&mut lines, &mut reader, next))
 }
 

@@ -3,41 +3,21 @@
 use crate::cases::{
     ALL_MESSAGES, ASKED, AT_THEIR_EDGES, Built, COMPLAINTS, Case, DAMAGED_PACKETS, FULL_LINK,
     IN_ANY_PIECES, IN_LOWER_CASE, LONG_PAYLOADS, LONGEST_LINES, LONGEST_LOG, LONGEST_PAYLOAD,
-    MANY_PACKETS, MOST_GROUPS, MOST_LINES, Part, Repeated, SHORTEST_MESSAGES, UNTAGGED, WANTS,
-    WINDOW_OF_64_FRAMES, Want,
+    MANY_PACKETS, MOST_GROUPS, MOST_LINES, Outcome, Part, Repeated, SHORTEST_MESSAGES, UNTAGGED,
+    WANTS, WINDOW_OF_64_FRAMES, Want,
 };
+use crate::lines::{Pieces, in_pieces};
 use gb_simulate::complaint::complain;
 use gb_simulate::simulate::simulate;
 use gb_simulate::writing::tell_want_of_memory;
 use gb_simulate::{SimEnd, SimFault};
+use gb_spelling::number::put_number;
 use gb_types::OutOfMemory;
-use gb_types::number::put_number;
 use std::alloc::Global;
 use std::cell::Cell;
 use std::io::{ErrorKind, Read, Write};
 use std::process::Abort;
 use std::{cmp, io};
-
-/// Returns a text by pieces of at most this size, and fails where `fails` is set and the text is at its end.
-#[derive(Drop)]
-struct Pieces<'a> {
-    text: &'a [u8],
-    piece: usize,
-    fails: bool,
-}
-
-impl Read for Pieces<'_> {
-    fn read(&mut self, buf: &mut [u8]) -> io::Result<usize> {
-        let text = self.text;
-        if text.is_empty() && self.fails {
-            return Err(ErrorKind::Other.into());
-        }
-        let count = cmp::min(cmp::min(self.piece, text.len()), buf.len());
-        buf[..count].copy_from_slice(&text[..count]);
-        self.text = &text[count..];
-        Ok(count)
-    }
-}
 
 /// Takes this number of bytes, by pieces of at most this size, and then fails so, or takes nothing. Where
 /// `interrupted` is set the next write is interrupted, and where `stuck` is set each flush fails. It counts the writes and flushes that
@@ -122,14 +102,6 @@ impl Write for Flushed<'_> {
     }
 }
 
-fn in_pieces(text: &[u8], piece: usize) -> Pieces<'_> {
-    Pieces {
-        text,
-        piece,
-        fails: false,
-    }
-}
-
 fn with_space(alloc: Global, left: usize, piece: usize) -> Space {
     Space {
         taken: Vec::new(alloc),
@@ -143,11 +115,7 @@ fn with_space(alloc: Global, left: usize, piece: usize) -> Space {
 }
 
 /// Runs a schedule in a cluster of its own.
-fn run<R: Read, W: Write>(
-    alloc: Global,
-    reader: &mut R,
-    writer: &mut W,
-) -> Result<SimEnd, SimFault> {
+fn run<R: Read, W: Write>(alloc: Global, reader: &mut R, writer: &mut W) -> Outcome {
     let mut cluster = None;
     simulate(alloc, reader, writer, &mut cluster)
 }
@@ -190,26 +158,6 @@ fn is_run(alloc: Global, case: &Case, piece: usize) -> Result<bool, SimFault> {
     )
 }
 
-/// Runs schedules, by pieces of this size.
-fn are_run(alloc: Global, cases: &[Case], piece: usize) -> Result<bool, SimFault> {
-    for case in cases {
-        if !is_run(alloc, case, piece)? {
-            return Ok(false);
-        }
-    }
-    Ok(true)
-}
-
-/// Runs the schedules by pieces of several sizes.
-fn are_run_in_any_pieces(alloc: Global) -> Result<bool, SimFault> {
-    for piece in [1, 7, 100_000] {
-        if !are_run(alloc, IN_ANY_PIECES, piece)? {
-            return Ok(false);
-        }
-    }
-    Ok(true)
-}
-
 /// Fails where there is a fault, and where what is asked does not hold.
 fn judge(rt: &impl Abort, held: Result<bool, SimFault>) {
     match held {
@@ -218,19 +166,28 @@ fn judge(rt: &impl Abort, held: Result<bool, SimFault>) {
     }
 }
 
+/// Runs schedules, by pieces of this size.
+fn run_each(rt: &impl Abort, alloc: Global, cases: &[Case], piece: usize) {
+    for case in cases {
+        judge(rt, is_run(alloc, case, piece));
+    }
+}
+
 #[test]
 fn worked_schedules_in_any_pieces(rt: HostRuntime) {
-    judge(&rt, are_run_in_any_pieces(rt.alloc()));
+    for piece in [1, 7, 100_000] {
+        run_each(&rt, rt.alloc(), IN_ANY_PIECES, piece);
+    }
 }
 
 #[test]
 fn lines_at_their_edges(rt: HostRuntime) {
-    judge(&rt, are_run(rt.alloc(), AT_THEIR_EDGES, 5));
+    run_each(&rt, rt.alloc(), AT_THEIR_EDGES, 5);
 }
 
 #[test]
 fn payloads_are_written_in_lower_case(rt: HostRuntime) {
-    judge(&rt, are_run(rt.alloc(), IN_LOWER_CASE, 3));
+    run_each(&rt, rt.alloc(), IN_LOWER_CASE, 3);
 }
 
 /// Appends a payload of this number of bytes.
@@ -273,7 +230,10 @@ fn spell_part(
     part: &Part,
     bytes: usize,
 ) -> Result<(), OutOfMemory> {
-    let ((lines, told), first, last) = *part;
+    let (lines, told, first, last) = match *part {
+        Part::Once(lines, told) => (lines, told, 0, 1),
+        Part::Each(lines, told, first, last) => (lines, told, first, last),
+    };
     for number in first..last {
         spell_out(schedule, lines, bytes, number)?;
         spell_out(answers, told, bytes, number)?;
@@ -305,63 +265,60 @@ fn is_built_and_run(alloc: Global, built: &Built) -> Result<bool, SimFault> {
 }
 
 /// Runs schedules that are built of parts.
-fn are_built_and_run(alloc: Global, cases: &[Built]) -> Result<bool, SimFault> {
+fn build_each(rt: &impl Abort, alloc: Global, cases: &[Built]) {
     for built in cases {
-        if !is_built_and_run(alloc, built)? {
-            return Ok(false);
-        }
+        judge(rt, is_built_and_run(alloc, built));
     }
-    Ok(true)
 }
 
 #[test]
 fn long_payloads(rt: HostRuntime) {
-    judge(&rt, are_built_and_run(rt.alloc(), LONG_PAYLOADS));
+    build_each(&rt, rt.alloc(), LONG_PAYLOADS);
 }
 
 #[test]
 fn damaged_packets(rt: HostRuntime) {
-    judge(&rt, are_built_and_run(rt.alloc(), DAMAGED_PACKETS));
+    build_each(&rt, rt.alloc(), DAMAGED_PACKETS);
 }
 
 #[test]
 fn a_full_link_refuses_no_say(rt: HostRuntime) {
-    judge(&rt, are_built_and_run(rt.alloc(), FULL_LINK));
+    build_each(&rt, rt.alloc(), FULL_LINK);
 }
 
 #[test]
 fn all_messages_of_a_member(rt: HostRuntime) {
-    judge(&rt, are_built_and_run(rt.alloc(), ALL_MESSAGES));
+    build_each(&rt, rt.alloc(), ALL_MESSAGES);
 }
 
 #[test]
 fn the_longest_payload(rt: HostRuntime) {
-    judge(&rt, are_built_and_run(rt.alloc(), LONGEST_PAYLOAD));
+    build_each(&rt, rt.alloc(), LONGEST_PAYLOAD);
 }
 
 #[test]
 fn five_thousand_packets(rt: HostRuntime) {
-    judge(&rt, are_built_and_run(rt.alloc(), MANY_PACKETS));
+    build_each(&rt, rt.alloc(), MANY_PACKETS);
 }
 
 #[test]
 fn the_longest_log(rt: HostRuntime) {
-    judge(&rt, are_built_and_run(rt.alloc(), LONGEST_LOG));
+    build_each(&rt, rt.alloc(), LONGEST_LOG);
 }
 
 #[test]
 fn a_frame_of_the_shortest_messages(rt: HostRuntime) {
-    judge(&rt, are_built_and_run(rt.alloc(), SHORTEST_MESSAGES));
+    build_each(&rt, rt.alloc(), SHORTEST_MESSAGES);
 }
 
 #[test]
 fn as_many_groups_as_there_are_places(rt: HostRuntime) {
-    judge(&rt, are_built_and_run(rt.alloc(), MOST_GROUPS));
+    build_each(&rt, rt.alloc(), MOST_GROUPS);
 }
 
 #[test]
 fn a_window_of_64_frames(rt: HostRuntime) {
-    judge(&rt, are_built_and_run(rt.alloc(), WINDOW_OF_64_FRAMES));
+    build_each(&rt, rt.alloc(), WINDOW_OF_64_FRAMES);
 }
 
 /// Returns a byte this number of times.
@@ -377,23 +334,20 @@ fn is_repeated_and_run(alloc: Global, case: &Repeated) -> Result<bool, SimFault>
 }
 
 /// Runs schedules of one byte each, repeated.
-fn are_repeated_and_run(alloc: Global, cases: &[Repeated]) -> Result<bool, SimFault> {
+fn repeat_each(rt: &impl Abort, alloc: Global, cases: &[Repeated]) {
     for case in cases {
-        if !is_repeated_and_run(alloc, case)? {
-            return Ok(false);
-        }
+        judge(rt, is_repeated_and_run(alloc, case));
     }
-    Ok(true)
 }
 
 #[test]
 fn a_line_is_as_long_as_it_may_be(rt: HostRuntime) {
-    judge(&rt, are_repeated_and_run(rt.alloc(), LONGEST_LINES));
+    repeat_each(&rt, rt.alloc(), LONGEST_LINES);
 }
 
 #[test]
 fn the_line_after_the_last_that_is_allowed_is_bad(rt: HostRuntime) {
-    judge(&rt, are_repeated_and_run(rt.alloc(), MOST_LINES));
+    repeat_each(&rt, rt.alloc(), MOST_LINES);
 }
 
 /// Whether a schedule has this outcome, and makes this text.
@@ -401,7 +355,7 @@ fn comes_to(
     alloc: Global,
     reader: &mut Pieces<'_>,
     out: &mut Space,
-    outcome: Result<SimEnd, SimFault>,
+    outcome: Outcome,
     answers: &[u8],
 ) -> bool {
     run(alloc, reader, out) == outcome && out.taken.as_slice() == answers
@@ -410,7 +364,7 @@ fn comes_to(
 /// Whether a failed read ends the run, behind the answers before it.
 fn ends_at_a_read(alloc: Global) -> bool {
     let mut reader = in_pieces(b"cluster 1 2\narrive 1\narr", 4);
-    reader.fails = true;
+    reader.failing = (6, u64::MAX);
     let mut out = with_space(alloc, 1_000, 1_000);
     comes_to(
         alloc,
@@ -501,37 +455,20 @@ fn each_answer_is_written_before_the_next_read(rt: HostRuntime) {
 }
 
 /// Whether this line is told of an outcome.
-fn tells(
-    alloc: Global,
-    outcome: &Result<SimEnd, SimFault>,
-    out: &mut Space,
-    line: &str,
-) -> Result<bool, SimFault> {
+fn tells(alloc: Global, outcome: &Outcome, out: &mut Space, line: &str) -> Result<bool, SimFault> {
     complain(alloc, outcome, out)?;
     Ok(out.taken.as_slice() == line.as_bytes())
 }
 
 /// Whether this line is told of an outcome, by pieces of seven bytes.
-fn is_complained_of(
-    alloc: Global,
-    outcome: &Result<SimEnd, SimFault>,
-    line: &str,
-) -> Result<bool, SimFault> {
+fn is_complained_of(alloc: Global, outcome: &Outcome, line: &str) -> Result<bool, SimFault> {
     let mut out = with_space(alloc, 1_000, 7);
     tells(alloc, outcome, &mut out, line)
 }
 
-/// Whether each line is told of its outcome.
-fn are_complained_of(alloc: Global) -> Result<bool, SimFault> {
-    for (outcome, line) in COMPLAINTS {
-        if !is_complained_of(alloc, outcome, line)? {
-            return Ok(false);
-        }
-    }
-    Ok(true)
-}
-
 #[test]
 fn each_end_is_complained_of_in_its_line(rt: HostRuntime) {
-    judge(&rt, are_complained_of(rt.alloc()));
+    for (outcome, line) in COMPLAINTS {
+        judge(&rt, is_complained_of(rt.alloc(), outcome, line));
+    }
 }

@@ -1,13 +1,14 @@
 //! Words and texts as they stand in requests, schedules and replies.
-use gb_types::kind_word::{read_kind, word_of};
+use gb_spelling::kind_word::{read_kind, word_of};
+use gb_spelling::laws;
+use gb_spelling::members_word::read_members;
+use gb_spelling::number::{put_number, read_number};
+use gb_spelling::payload_word::{put_payload, read_payload};
+use gb_spelling::reply_text::reply_text;
 use gb_types::limits::NODES;
-use gb_types::members_word::read_members;
-use gb_types::number::{put_number, read_number};
-use gb_types::payload_word::{put_payload, read_payload};
-use gb_types::reply_text::reply_text;
 use gb_types::{
     Entries, Entry, Kind, Module, NodeId, NodeSet, Order, OutOfMemory, Payload, Refusal, Reply,
-    Spec, laws,
+    Spec,
 };
 use std::alloc::Global;
 use std::process::Abort;

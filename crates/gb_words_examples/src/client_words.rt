@@ -11,8 +11,9 @@ use gb_client::{Asked, ClientFault, Errand, Secrets, Task};
 use gb_client_words::Plan;
 use gb_client_words::words::{command, plan_of};
 use gb_session::Head;
-use gb_types::words::split_words;
-use gb_types::{CommandHead, NodeId, OutOfMemory};
+use gb_spelling::CommandHead;
+use gb_spelling::words::split_words;
+use gb_types::{NodeId, OutOfMemory};
 use std::alloc::Global;
 use std::test::Fail;
 

@@ -37,8 +37,9 @@ fn tick<L: Tapes, R: Wait>(rt: &R, host: &Host<L>, seat: &mut Seat<L>, node: Nod
 fn left_of(closed: &Closed) -> [(bool, usize); 2] {
     let mut left = [(false, 0); 2];
     for node in [FIRST, SECOND] {
-        if let Some(there) = closed.left_of(node) {
-            left[node.index()] = (there.id == node, there.tape.as_slice().len());
+        let is_here = matches!(closed.nodes.get(node.index()), Some(Some(_)));
+        if let Some(tape) = closed.tapes.get(node.index()) {
+            left[node.index()] = (is_here, tape.as_slice().len());
         }
     }
     left

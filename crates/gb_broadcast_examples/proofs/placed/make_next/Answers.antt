@@ -3,8 +3,8 @@ use Rattle.gb_layer.specs.Common.{Names, IsNext}
 use Rattle.gb_layer.proofs.KnowsLemmas.{names_more}
 use Rattle.gb_broadcast_examples.proofs.placed.make_next.Goals as goal
 
-pub make_call-requires-clause-there : goal.make_call-requires-clause-there
-make_call-requires-clause-there g c =
+pub take-requires-clause-there : goal.take-requires-clause-there
+take-requires-clause-there g c =
     let ms = c.args.index.now.list.items in
     let ok = c.args.index.now.list.ok.0 in
     let len = c.len.ensures in
@@ -12,8 +12,8 @@ make_call-requires-clause-there g c =
     let next = subst (λ (n : ℕ). Names (IsNext c.args.told.now n) c.args.call) count (c.is_next.ensures c.if-not-is_next.false) in
     names_more (IsNext c.args.told.now (length ms)) (λ p. p < length ms) (λ p h. h.1) c.args.call next
 
-pub make_call-requires-clause-known : goal.make_call-requires-clause-known
-make_call-requires-clause-known g c =
+pub take-requires-clause-known : goal.take-requires-clause-known
+take-requires-clause-known g c =
     let ms = c.args.index.now.list.items in
     let ok = c.args.index.now.list.ok.0 in
     let len = c.len.ensures in
@@ -32,4 +32,4 @@ returns g c =
     let len = c.len.ensures in
     let count : c.len.result ≡ length ms = omega (arith, ok, len) in
     let next = subst (λ (n : ℕ). Names (IsNext c.args.told.now n) c.args.call) count (c.is_next.ensures c.if-not-is_next.false) in
-    subst (λ (n : ℕ). g.L.Layer.knows ms c.make_call.new.layer n (length ms)) (sym c.told_after.ensures) (c.in_ok-make_call.ensures.known c.args.told.now (length ms) c.requires next)
+    subst (λ (n : ℕ). g.L.Layer.knows ms c.take.new.self n (length ms)) (sym c.told_after.ensures) (c.take.ensures.known c.args.told.now (length ms) c.requires next)
