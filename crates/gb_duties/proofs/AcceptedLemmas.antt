@@ -1,8 +1,7 @@
 -- The messages that a node has said are exactly those that were accepted there.
 use Rattle.gb_types.specs.Common.{◌≡◌, ℕ, ◌-◌, Bool, true, false, nat_eq, ◌||◌, List, [], ◌∷◌, ◌++◌, Option, Some, None, refl, sym, subst, slice_get, if◌then◌else◌, AllByRecursion, eqb-true, same, version_at}
 use Rattle.gb_types.specs.declared.{entry.Entry.Entry, message.MsgId.MsgId, node.NodeId.NodeId, plan.Bounds.Bounds, reply.Reply.Reply, reply.Reply.TheVariants.Done, reply.Reply.TheVariants.Said, spec.Spec.Spec, version.Version.Version, address.Addr.Addr}
-use Rattle.gb_types.proofs.SameLemmas.{same_number, same_itself}
-use Rattle.gb_types.proofs.BoolLemmas.{or_first}
+use Rattle.gb_types.proofs.{SameLemmas.same_number, SameLemmas.same_itself, BoolLemmas.or_first}
 use Rattle.gb_layer.specs.Common.{all_weaker, all_append, was_said, numbered}
 use Rattle.gb_rules.specs.Common.{is_other, is_too_long, calls_of}
 use Rattle.gb_rules.specs.declared.{call.GroupCall.GroupCall, call.GroupCall.TheVariants.Other, call.GroupCall.TheVariants.Crashed}

@@ -2,14 +2,12 @@
 use Rattle.gb_types.specs.Common.{◌≡◌, ◌≢◌, ℕ, ◌+◌, ◌-◌, ◌<◌, ◌≤◌, Bool, true, false, ◌&&◌, ◌||◌, ◌⊎◌, inl, inr, nat_eq, List, ◌++◌, length, None, refl, sym, ap, ◌∙◌, subst, arith, slice_get, if◌then◌else◌, eqb-true, eq-eqb, not_from_false, All-from_recursion, fold-append, has_majority}
 use Rattle.std.specs.FinSet as set
 use Rattle.gb_types.specs.declared.{message.MsgId.MsgId, node.NodeId.NodeId, plan.Bounds.Bounds, spec.Spec.Spec, kind.Module.Module, address.Addr.Addr}
-use Rattle.gb_types.proofs.CoverLemmas.{all_members}
-use Rattle.gb_types.proofs.MajorityLemmas.{listed, majorities_meet, majority_more}
+use Rattle.gb_types.proofs.{CoverLemmas.all_members, MajorityLemmas.listed, MajorityLemmas.majorities_meet, MajorityLemmas.majority_more}
 use Rattle.gb_types.proofs.BoolLemmas.{and_both, and_left, and_right, both_ways, or_cases, or_first, or_second, refuted}
 use Rattle.gb_layer.specs.Common.{said_mentioned, came_mentioned, all_weaker, mentions, was_said, was_noticed, came_from, holds, is_delivered, is_broadcast, now_delivered, now_broadcast, is_in, numbered}
 use Rattle.gb_types.specs.declared.kind.Module.TheVariants.{BestEffort, Lazy, Eager, AllAck, Majority}
 use Rattle.gb_fifo.specs.Order.{upto, top, numbers_of, in_order}
-use Rattle.gb_stack.specs.Kinds.{kind_log}
-use Rattle.gb_stack.specs.LogLaws.{ModuleLogHasDelivered}
+use Rattle.gb_kinds.specs.{Kinds.kind_log, LogLaws.ModuleLogHasDelivered}
 use Rattle.gb_rules.specs.Common.{is_gone, is_member, calls_of, has}
 use Rattle.gb_alone.specs.Common.{Group, held_spec, log_at, after, nobody, alone_from, alone, is_marked, IsLegal, IsLegalFrom, Accepted, accepted}
 use Rattle.gb_alone.specs.declared.event.GroupStep.{GroupStep}

@@ -4,8 +4,7 @@ use Rattle.gb_types.specs.declared.{entry.Entry.Entry, message.MsgId.MsgId}
 use Rattle.gb_types.proofs.SameLemmas.{same-true, same_itself}
 use Rattle.gb_types.proofs.BoolLemmas.{or_first, or_left, or_right, or_second, refuted}
 use Rattle.gb_rules.specs.Common.{known, has, with_new, bytes_of}
-use Rattle.gb_rules.specs.declared.call.GroupCall.{GroupCall}
-use Rattle.gb_rules.specs.declared.call.GroupCall.TheVariants.{Own, Other, Crashed}
+use Rattle.gb_rules.specs.declared.{call.GroupCall.GroupCall, call.GroupCall.TheVariants.Own, call.GroupCall.TheVariants.Other, call.GroupCall.TheVariants.Crashed}
 use Rattle.gb_rules.proofs.MentionLemmas.{has-append}
 use Rattle.gb_alone.specs.Common.{Accepted, IsAccepted}
 use Rattle.gb_alone.proofs.KnownLemmas.{all_at}

@@ -1,8 +1,7 @@
 -- A group that settles after a crash.
 use Rattle.gb_types.specs.Common.{◌≡◌, ◌≢◌, ℕ, ◌<◌, ◌≤◌, ◌⊎◌, inl, inr, not, nat_eq, Bool, true, false, arith, List, [], ◌∷◌, ◌++◌, length, Some, refl, sym, ap, ◌∙◌, subst, slice_get, if◌then◌else◌, eqb-true, has_majority, version_at}
 use Rattle.std.specs.FinSet as set
-use Rattle.gb_types.specs.declared.{kind.Kind.Kind, reply.Reply.Reply}
-use Rattle.gb_types.specs.declared.kind.Module.TheVariants.{BestEffort, Lazy, Majority}
+use Rattle.gb_types.specs.declared.{kind.Kind.Kind, reply.Reply.Reply, kind.Module.TheVariants.BestEffort, kind.Module.TheVariants.Lazy, kind.Module.TheVariants.Majority}
 use Rattle.gb_types.specs.declared.version.Version.TheVariants as texts
 use Rattle.gb_layer.specs.Common.{was_noticed}
 use Rattle.gb_rules.specs.Common.{calls_of, known, said_in, is_gone, is_member}

@@ -2,15 +2,13 @@
 use Rattle.gb_types.specs.Common.{◌≡◌, ℕ, Bool, true, false, ◌&&◌, ◌||◌, ◌⊎◌, inl, inr, nat_eq, List, Some, None, refl, sym, ap, ◌∙◌, if◌then◌else◌, list_all, eqb-true, eq-eqb, cases_Bool, has_majority}
 use Rattle.std.specs.FinSet as set
 use Rattle.gb_types.specs.declared.{message.MsgId.MsgId, plan.Bounds.Bounds, spec.Spec.Spec, kind.Module.Module, address.Addr.Addr}
-use Rattle.gb_types.proofs.CoverLemmas.{not_all_members}
-use Rattle.gb_types.proofs.MajorityLemmas.{listed}
+use Rattle.gb_types.proofs.{CoverLemmas.not_all_members, MajorityLemmas.listed}
 use Rattle.gb_types.proofs.BoolLemmas.{and_both, and_left, and_right, or_cases, or_first, or_second}
 use Rattle.gb_layer.specs.Common.{mentions, was_noticed, came_from, holds, now_delivered, now_broadcast}
 use Rattle.gb_types.specs.declared.kind.Module.TheVariants.{BestEffort, Lazy, Eager, AllAck, Majority}
 use Rattle.gb_layer.specs.declared.call.Call.{Call}
-use Rattle.gb_fifo.specs.Order.{in_order}
-use Rattle.gb_fifo.specs.OrderLaws.{AllIn}
-use Rattle.gb_stack.specs.LogLaws.{ModuleLogHasDelivered}
+use Rattle.gb_fifo.specs.{Order.in_order, OrderLaws.AllIn}
+use Rattle.gb_kinds.specs.LogLaws.{ModuleLogHasDelivered}
 use Rattle.gb_rules.specs.Common.{is_gone, is_member, is_other, calls_of, has}
 use Rattle.gb_alone.specs.Common.{Member, Group, alone, held_spec, log_at}
 use Rattle.gb_alone.specs.declared.event.GroupStep.{GroupStep}

@@ -4,13 +4,11 @@ use Rattle.std.specs.FinSet as set
 use Rattle.gb_types.specs.declared.{entry.Entry.Entry, kind.Kind.Kind, kind.Module.Module, node.NodeId.NodeId, reply.Reply.TheVariants.Done, reply.Reply.TheVariants.Said, spec.Spec.Spec, version.Version.Version}
 use Rattle.gb_types.specs.declared.kind.Module.TheVariants.{BestEffort, Lazy, Eager, AllAck, Majority}
 use Rattle.gb_types.specs.declared.version.Version.TheVariants as texts
-use Rattle.gb_types.proofs.CoverLemmas.{all_members, not_all_members}
-use Rattle.gb_types.proofs.MajorityLemmas.{listed}
+use Rattle.gb_types.proofs.{CoverLemmas.all_members, CoverLemmas.not_all_members, MajorityLemmas.listed}
 use Rattle.gb_types.proofs.BoolLemmas.{and_both, and_left, and_right, both_ways, or_cases}
 use Rattle.gb_layer.specs.Common.{mentions, was_noticed}
 use Rattle.gb_rules.specs.Common.{is_other, can_name, calls_of, known, said_in, puts_of, falls_after}
-use Rattle.gb_rules.specs.declared.{phase.Phase.TheVariants.Opened, reserve.Reserve.Reserve}
-use Rattle.gb_rules.specs.declared.call.GroupCall.TheVariants.{Own, Other, Crashed}
+use Rattle.gb_rules.specs.declared.{phase.Phase.TheVariants.Opened, reserve.Reserve.Reserve, call.GroupCall.TheVariants.Own, call.GroupCall.TheVariants.Other, call.GroupCall.TheVariants.Crashed}
 use Rattle.gb_alone.specs.Common.{Member, Group, called, cut, falls, taken_in, took_notice, node_noticed, member_after, after, nobody, alone_from, alone, is_marked, held_spec, did, count_unfinished, MayHappen, IsLegalFrom, log_of_member}
 use Rattle.gb_alone.specs.declared.event.GroupEvent.TheVariants.{Tenant, Make, Open, Drop, Say, Took, Came, Notice}
 use Rattle.gb_alone.specs.declared.event.GroupStep.{GroupStep}

@@ -1,15 +1,12 @@
 -- An invariant of the whole group through every event that may happen: between members, each item that came was taken in.
 use Rattle.gb_types.specs.Common.{◌≡◌, ℕ, ◌+◌, ◌-◌, ◌<◌, ◌≤◌, Bool, true, false, ◌&&◌, ◌||◌, ◌⊎◌, inl, inr, nat_eq, List, [], ◌∷◌, ◌++◌, length, Option, Some, None, refl, sym, ap, ◌∙◌, subst, arith, slice_get, if◌then◌else◌, eqb-true, eq-eqb, message_of, same, version_at}
 use Rattle.gb_types.specs.declared.{entry.Entry.Entry, message.MsgId.MsgId, node.NodeId.NodeId, plan.Bounds.Bounds, reply.Reply.Reply, reply.Reply.TheVariants.Done, reply.Reply.TheVariants.Said, spec.Spec.Spec, version.Version.Version, address.Addr.Addr}
-use Rattle.gb_types.proofs.SameLemmas.{same_itself}
-use Rattle.gb_types.proofs.BoolLemmas.{and_both, or_cases, or_first}
+use Rattle.gb_types.proofs.{SameLemmas.same_itself, BoolLemmas.and_both, BoolLemmas.or_cases, BoolLemmas.or_first}
 use Rattle.gb_layer.specs.Common.{said_mentioned, mentions, was_said, came_from}
 use Rattle.gb_rules.specs.Common.{is_gone, is_member, is_other, is_too_long, calls_of, known, bytes_in, falls_after, bytes_of}
 use Rattle.gb_rules.proofs.MentionLemmas.{has-known}
 use Rattle.gb_alone.specs.Common.{Accepted, IsAccepted, Member, Group, held_spec, reply_to, called, did, falls, item_came, taken_in, cut, took_notice, member_after, after, nobody, alone_from, is_marked, MayHappen, IsLegalFrom}
-use Rattle.gb_alone.proofs.AcceptedLemmas.{own_said}
-use Rattle.gb_alone.proofs.IntegrityLemmas.{Fits}
-use Rattle.gb_alone.proofs.KnownLemmas.{all_at}
+use Rattle.gb_alone.proofs.{AcceptedLemmas.own_said, IntegrityLemmas.Fits, KnownLemmas.all_at}
 use Rattle.gb_duties.proofs.BytesLemmas.{In, in_has, of_in, bytes_most, once_known, stands}
 use Rattle.gb_rules.specs.declared.call.GroupCall.TheVariants.{Other, Crashed}
 use Rattle.gb_alone.specs.declared.{event.GroupEvent.GroupEvent, event.GroupStep.GroupStep}

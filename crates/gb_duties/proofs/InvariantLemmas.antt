@@ -6,8 +6,7 @@ use Rattle.gb_types.proofs.BoolLemmas.{and_both, and_left, and_right, or_cases, 
 use Rattle.gb_layer.specs.Common.{mentions_stays, mentions, was_said, was_noticed, came_from, now_broadcast}
 use Rattle.gb_layer.specs.declared.call.Call.{Call}
 use Rattle.gb_rules.specs.Common.{is_gone, is_member, is_other, call_of, calls_of, known, bytes_in, said_in, puts_of, has, bytes_of}
-use Rattle.gb_rules.specs.declared.call.GroupCall.{GroupCall}
-use Rattle.gb_rules.specs.declared.call.GroupCall.TheVariants.{Own, Other, Crashed}
+use Rattle.gb_rules.specs.declared.{call.GroupCall.GroupCall, call.GroupCall.TheVariants.Own, call.GroupCall.TheVariants.Other, call.GroupCall.TheVariants.Crashed}
 use Rattle.gb_rules.proofs.MentionLemmas.{bytes_of-append, has-known}
 use Rattle.gb_alone.specs.Common.{Member, put_to}
 use Rattle.gb_duties.proofs.WordLemmas.{has-append, has-entries, in_newly}

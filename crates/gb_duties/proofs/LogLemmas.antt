@@ -4,11 +4,9 @@ use Rattle.std.specs.FinSet as set
 use Rattle.gb_types.specs.declared.{kind.Module.Module, kind.Order.Order, kind.Order.TheVariants.Any, kind.Order.TheVariants.Fifo, message.MsgId.MsgId, spec.Spec.Spec}
 use Rattle.gb_layer.specs.Common.{now_delivered, log, is_in}
 use Rattle.gb_layer.specs.declared.call.Call.{Call}
-use Rattle.gb_fifo.specs.Order.{in_order}
-use Rattle.gb_fifo.specs.OrderLaws.{AllIn}
-use Rattle.gb_stack.specs.Kinds.{released, kind_log}
-use Rattle.gb_stack.specs.LogLaws.{ModuleLogHasDelivered}
-use Rattle.gb_stack.proofs.DeliveryLemmas.{holds_of}
+use Rattle.gb_fifo.specs.{Order.in_order, OrderLaws.AllIn}
+use Rattle.gb_kinds.specs.{Kinds.released, Kinds.kind_log, LogLaws.ModuleLogHasDelivered}
+use Rattle.gb_kinds.proofs.DeliveryLemmas.{holds_of}
 use Rattle.gb_rules.specs.Common.{calls_of, known, delivered, has}
 use Rattle.gb_rules.specs.declared.call.GroupCall.{GroupCall}
 use Rattle.gb_alone.specs.Common.{log_at}

@@ -6,8 +6,7 @@ use Rattle.gb_types.proofs.BoolLemmas.{or_cases, or_first, or_second}
 use Rattle.gb_layer.specs.Common.{now_delivered, log, is_in, numbered}
 use Rattle.gb_layer.specs.declared.call.Call.{Call}
 use Rattle.gb_fifo.specs.Order.{upto, top, numbers_of, in_order}
-use Rattle.gb_stack.specs.Kinds.{released, kind_log}
-use Rattle.gb_stack.specs.LogLaws.{ModuleLogHasDelivered}
+use Rattle.gb_kinds.specs.{Kinds.released, Kinds.kind_log, LogLaws.ModuleLogHasDelivered}
 use Rattle.gb_duties.proofs.LogLemmas.{in_log}
 
 range_has : (j a n : ℕ) → a ≤ j → j < a + n → list_any (λ k. nat_eq k j) (range_with_len a n) ≡ true

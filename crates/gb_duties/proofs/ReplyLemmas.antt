@@ -1,8 +1,7 @@
 -- What follows from a make or a say that is accepted, and from an item that is not let fall.
 use Rattle.gb_types.specs.Common.{◌≡◌, ℕ, ◌+◌, ◌<◌, ◌≤◌, Bool, true, false, not, ◌&&◌, ◌||◌, nat_eq, List, length, Option, Some, None, refl, arith, nat_lt, nat_le, is_some, if◌then◌else◌, eqb-true, nat_tests, message_of, version_at}
-use Rattle.gb_types.specs.declared.{entry.Entry.Entry, message.MsgId.MsgId, reply.Reply.Reply, plan.Bounds.Bounds, spec.Spec.Spec, version.Version.Version, new_message.NewMessage.NewMessage, address.Addr.Addr}
+use Rattle.gb_types.specs.declared.{entry.Entry.Entry, message.MsgId.MsgId, reply.Reply.Reply, plan.Bounds.Bounds, spec.Spec.Spec, version.Version.Version, new_message.NewMessage.NewMessage, address.Addr.Addr, reply.Reply.TheVariants.Done, reply.Reply.TheVariants.Said, reply.Reply.TheVariants.Refused}
 use Rattle.gb_types.specs.declared.refusal.Refusal.TheVariants.{NoGroup, Spent, NoRoom, BadMembers, OverReserve, Stopped}
-use Rattle.gb_types.specs.declared.reply.Reply.TheVariants.{Done, Said, Refused}
 use Rattle.gb_types.proofs.BoolLemmas.{not_false, or_left, or_right}
 use Rattle.gb_rules.specs.Common.{said_in, bytes_in, Shown, is_gone, open_answer, shut_answer, is_too_long, say_answer, is_member, on_made, is_let_fall, can_name, is_bad, is_over, make_answer, by_tenant}
 use Rattle.gb_rules.specs.declared.{room.TheConstants.GENERATIONS, phase.Phase.Phase, reserve.Reserve.Reserve}

@@ -4,12 +4,10 @@ use Rattle.gb_types.specs.declared.{entry.Entry.Entry, message.MsgId.MsgId, node
 use Rattle.gb_types.proofs.BoolLemmas.{or_left, or_right, refuted}
 use Rattle.gb_layer.specs.Common.{mentions_stays, mentions, was_said, was_noticed, now_broadcast}
 use Rattle.gb_layer.specs.declared.call.Call.{Call}
-use Rattle.gb_stack.proofs.DeliveryLemmas.{noticed_stays}
+use Rattle.gb_kinds.proofs.DeliveryLemmas.{noticed_stays}
 use Rattle.gb_rules.specs.Common.{is_gone, is_member, is_other, is_too_long, call_of, calls_of, known, bytes_in, said_in, has}
-use Rattle.gb_rules.specs.declared.{phase.Phase.Phase, call.GroupCall.GroupCall}
-use Rattle.gb_rules.specs.declared.phase.Phase.TheVariants.{Opened, Shut, Gone}
+use Rattle.gb_rules.specs.declared.{phase.Phase.Phase, call.GroupCall.GroupCall, phase.Phase.TheVariants.Opened, phase.Phase.TheVariants.Shut, phase.Phase.TheVariants.Gone, call.GroupCall.TheVariants.Own, call.GroupCall.TheVariants.Other, call.GroupCall.TheVariants.Crashed}
 use Rattle.gb_rules.proofs.LetFallLemmas.{not_fallen}
-use Rattle.gb_rules.specs.declared.call.GroupCall.TheVariants.{Own, Other, Crashed}
 use Rattle.gb_alone.specs.Common.{Member, Group, held_spec, reply_to, put_to, called, did, falls, item_came, taken_in, cut, took_notice, node_noticed, commanded, member_after, after, nobody, alone_from, alone}
 use Rattle.gb_alone.specs.declared.{event.GroupEvent.GroupEvent, event.GroupStep.GroupStep}
 use Rattle.gb_alone.specs.declared.event.GroupEvent.TheVariants.{Tenant, Make as AskMake, Open as AskOpen, Shut as AskShut, Drop as AskDrop, Say as AskSay, OtherMade, OtherDropped, Took, Came, Done as Acknowledged, Notice, Stop}

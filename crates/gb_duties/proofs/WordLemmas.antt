@@ -1,11 +1,9 @@
 -- Messages in lists of entries and in histories.
 use Rattle.gb_types.specs.Common.{◌≡◌, ℕ, zero, suc, ◌<◌, Bool, true, false, cond, not, ◌&&◌, ◌||◌, ◌⊎◌, inl, inr, nat_eq, take, List, [], ◌∷◌, ◌++◌, length, Some, refl, sym, ap, ◌∙◌, arith, slice_get, map, filter, eq-eqb, and-true, and-false, or_assoc, message_of, same}
 use Rattle.gb_types.specs.declared.{entry.Entry.Entry, message.MsgId.MsgId}
-use Rattle.gb_types.proofs.SameLemmas.{same-true, same_itself}
-use Rattle.gb_types.proofs.BoolLemmas.{or_cases, or_second}
+use Rattle.gb_types.proofs.{SameLemmas.same-true, SameLemmas.same_itself, BoolLemmas.or_cases, BoolLemmas.or_second}
 use Rattle.gb_layer.specs.Common.{first_mentions-any, mentions, was_said, came_from, first_mentions, newly, is_in}
-use Rattle.gb_layer.specs.declared.call.Call.{Call}
-use Rattle.gb_layer.specs.declared.call.Call.TheVariants.{Say, Came, Notice}
+use Rattle.gb_layer.specs.declared.{call.Call.Call, call.Call.TheVariants.Say, call.Call.TheVariants.Came, call.Call.TheVariants.Notice}
 use Rattle.gb_rules.specs.Common.{has, entry_in}
 
 -- Lists.

@@ -4,7 +4,7 @@ ghost use Rattle.gb_duties.specs.Agreement.{IsAgreed};
 ghost use Rattle.gb_duties.specs.Duties.{DeliveredAreOfMembers, IsDutiful, LoggedAreDelivered};
 
 use gb_fifo::order::{gives_up_whole_runs, top_is_the_greatest};
-use gb_stack::stands::module_logs;
+use gb_kinds::laws::module_logs;
 
 /// A law, with nothing to run, of what each node that made a group, and did not drop it, has done for each other member and each message
 /// that it delivered, after every event. An eager or majority-ack node holds the member for crashed or has queued the message for it. A

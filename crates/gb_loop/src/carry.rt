@@ -1,12 +1,12 @@
 //! The packets of a loop: those that come, and those that are owed to other nodes.
 ghost use Rattle.std.specs.Prelude.{◌≡◌};
 
-use crate::hint::Hint;
 use crate::links::Link;
-use crate::mail::Arrival;
 use crate::node_loop::NodeLoop;
-use crate::settle::Settle;
 use gb_host::Tapes;
+use gb_mail::Settle;
+use gb_mail::hint::Hint;
+use gb_mail::mail::Arrival;
 use gb_node::{Frame, Good, NodeEvent};
 use gb_port::Port;
 use gb_types::NodeId;

@@ -1,5 +1,5 @@
 //! A client's connection.
-use crate::client::Client;
+use gb_mail::Client;
 use gb_types::Addr;
 use mio::net::TcpStream;
 use std::alloc::Global;

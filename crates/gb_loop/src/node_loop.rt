@@ -1,15 +1,14 @@
 //! The loop of a node.
 ghost use Rattle.std.specs.Prelude.{◌≡◌, [], true, IfOk, IfErr};
-ghost use Rattle.gb_loop.specs.Mailed.{HasCalled, HasMailed};
+ghost use Rattle.gb_mail.specs.Mailed.{HasCalled, HasMailed};
 
 use crate::clock::LoopClock;
 use crate::connection::Connection;
 use crate::links::Link;
-use crate::mail::{Mail, Parts};
 use crate::options::LoopOptions;
 use crate::parked::Parked;
-use crate::settle::Settle;
 use gb_host::{Host, Seat, Tapes};
+use gb_mail::{Mail, Parts, Settle};
 use gb_port::Port;
 use gb_status::{Figure, Figures};
 use gb_types::{Addr, NodeId, NodeSet, OutOfMemory};

@@ -1,11 +1,10 @@
 //! The clients of a loop.
 ghost use Rattle.std.specs.Prelude.{◌≡◌};
 
-use crate::client::{Turn, Way};
 use crate::connection::Connection;
 use crate::node_loop::NodeLoop;
-use crate::settle::Settle;
 use gb_host::Tapes;
+use gb_mail::{Settle, Turn, Way};
 use gb_node::{NodeAnswer, NodeEvent, Ticked};
 use gb_port::Port;
 use gb_session::{Awaited, SessionEnd, Step};

@@ -5,10 +5,9 @@ use Rattle.gb_cluster_file.specs.declared.file.ClusterFile.{ClusterFile}
 use Rattle.gb_host.specs.declared.plan.HostPlan.{HostPlan}
 use Rattle.gb_loop.specs.declared.options.LoopOptions.{LoopOptions}
 use Rattle.gb_peer_words.specs.declared.plan.PeerPlan.{PeerPlan}
-use Rattle.gb_server.specs.Behaviour.{beat_of}
-use Rattle.gb_server.specs.Keys.{run_key}
-use Rattle.gb_server.specs.Told.{places}
-use Rattle.gb_server.specs.declared.keys.Keys.{Keys}
+use Rattle.gb_keys.specs.Keys.{run_key}
+use Rattle.gb_server.specs.{Behaviour.beat_of, Told.places}
+use Rattle.gb_keys.specs.declared.keys.Keys.{Keys}
 
 -- the host of nodes of a cluster, with keys; each node sends the version of the file, and packets are tagged under the key of the run; what
 -- happens goes through rings where records are wanted

@@ -6,9 +6,9 @@ use Rattle.gb_cluster_file.specs.Cluster.{IsFileOf}
 use Rattle.gb_cluster_file.specs.declared.file.ClusterFile.{ClusterFile}
 use Rattle.gb_peer_words.specs.Words.{IsReadOf, peer_app}
 use Rattle.gb_peer_words.specs.declared.plan.PeerWords.{PeerWords}
-use Rattle.gb_server.specs.Keys.{AreKeys}
-use Rattle.gb_server.specs.Told.{fault_line as server_line, fault_status as server_status, lined}
-use Rattle.gb_server.specs.declared.keys.Keys.{Keys}
+use Rattle.gb_keys.specs.Keys.{AreKeys}
+use Rattle.gb_server.specs.{Told.fault_line as server_line, Told.fault_status as server_status, Told.lined}
+use Rattle.gb_keys.specs.declared.keys.Keys.{Keys}
 use Rattle.gb_peer_run.specs.declared.fault.PeerFault.{PeerFault}
 use Rattle.gb_peer_run.specs.declared.fault.PeerFault.TheVariants.{RefusedFile, NoNode, Remote, NotFound, Begun, Unmarked, Packets, Sessions, Serve}
 

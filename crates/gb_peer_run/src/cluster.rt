@@ -8,11 +8,11 @@ ghost use Rattle.gb_types.specs.declared.limits.TheConstants.{NODES};
 
 use gb_cluster_file::ClusterFile;
 use gb_host::HostPlan;
+use gb_keys::Keys;
+use gb_keys::keys::keys_of_run;
 use gb_loop::LoopOptions;
 use gb_peer_words::PeerPlan;
 use gb_rules::room::ROOMS;
-use gb_server::Keys;
-use gb_server::keys::run_key;
 use gb_server::serve_main::{FIRST, beats_of};
 use gb_types::Plan;
 use gb_types::limits::NODES;
@@ -34,13 +34,14 @@ pub fn host_plan(file: &ClusterFile, keys: Keys, records: bool) -> HostPlan
     ensures is { result ≡ host_of file.now keys records }
     ensures limits { IsPlan result }
 {
+    let keys = keys_of_run(keys, file.run);
     let cluster = Plan {
         nodes: node_count(file),
         versions: [file.version; NODES],
         silence: file.silence,
         places: ROOMS,
         room: file.room,
-        cluster_key: run_key(&keys.cluster, file.run),
+        cluster_key: keys.cluster,
         admin_key: keys.admin,
     };
     HostPlan {

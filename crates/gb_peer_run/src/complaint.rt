@@ -1,7 +1,6 @@
 //! What a node tells on standard error of why it does not serve to its end.
 ghost use Rattle.std.specs.Prelude.{◌≡◌, ◌++◌, true, OnOk, IfOk, codes, decimal};
-ghost use Rattle.std.specs.Io.KnownBytes.{Appends};
-ghost use Rattle.std.specs.Net.Text.{socket_text};
+ghost use Rattle.std.specs.{Io.KnownBytes.Appends, Net.Text.socket_text};
 ghost use Rattle.gb_peer_run.specs.Complaint.{complaint, fault_words};
 ghost use Rattle.gb_server.specs.Told.{lined};
 
@@ -9,9 +8,9 @@ use crate::fault::PeerFault;
 use crate::mark::mark_name;
 use gb_server::server_log::put_address;
 use gb_server::told::tell;
+use gb_spelling::number::put_number;
 use gb_types::OutOfMemory;
 use gb_types::memory::put_bytes;
-use gb_types::number::put_number;
 use std::alloc::Global;
 use std::io::Write;
 use std::net::SocketAddr;

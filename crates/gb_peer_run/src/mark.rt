@@ -2,9 +2,9 @@
 ghost use Rattle.std.specs.Prelude.{◌≡◌, ◌++◌, OnOk, IfOk};
 ghost use Rattle.gb_peer_run.specs.Marks.{mark_name};
 
+use gb_spelling::number::put_number;
 use gb_types::OutOfMemory;
 use gb_types::memory::put_bytes;
-use gb_types::number::put_number;
 use std::alloc::Global;
 use std::fs::{Files, OpenFile, OpenOptions};
 use std::io::{ErrorKind, Write};

@@ -5,9 +5,9 @@ ghost use Rattle.gb_peer_run.specs.Told.{begun_line, closed_line, fault_line, fa
 
 use crate::fault::PeerFault;
 use gb_server::told::{status_of, tell, tell_end};
+use gb_spelling::number::put_number;
 use gb_types::OutOfMemory;
 use gb_types::memory::put_bytes;
-use gb_types::number::put_number;
 use std::alloc::Global;
 use std::io::Write;
 

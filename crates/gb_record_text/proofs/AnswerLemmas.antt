@@ -1,21 +1,20 @@
 -- Two answers to one event with one text are equal, and each turn answers its event.
-use Rattle.gb_types.specs.Common.{◌≡◌, ℕ, ◌<◌, ◌^◌, inl, inr, Bool, true, false, List, [], ◌∷◌, ◌++◌, get_or, drop, refl, sym, ap, subst, ◌∙◌, arith, decimal, append_assoc, codes, if◌then◌else◌, length, All, flat_map, All-head, All-tail, FitsEntry, FitsReply, OneTextOneReply, IsLong, payload_word, refusal_number, refusal_name, entry_text, reply_spelling}
+use Rattle.gb_types.specs.Common.{◌≡◌, ℕ, ◌<◌, ◌^◌, inl, inr, Bool, true, false, List, [], ◌∷◌, ◌++◌, get_or, drop, refl, sym, ap, subst, ◌∙◌, arith, decimal, append_assoc, codes, if◌then◌else◌, length, All, flat_map, All-head, All-tail, refusal_number, refusal_name}
 use Rattle.std.proofs.lemmas.Fmt.{decimal_injective}
+use Rattle.gb_spelling.specs.Common.{FitsEntry, FitsReply, OneTextOneReply, IsLong, payload_word, entry_text, reply_spelling}
 use Rattle.gb_types.specs.declared.{entry.Entry.Entry, refusal.Refusal.Refusal, refusal.Refusal.TheVariants.Denied, reply.Reply.Reply}
 use Rattle.gb_types.specs.declared.reply.Reply.TheVariants.{Done, Said, Log, Refused}
-use Rattle.gb_types.proofs.CutLemmas.{Without, cut, without-append, without-decimal}
-use Rattle.gb_types.proofs.PayloadLemmas.{same_payload}
+use Rattle.gb_spelling.proofs.CutLemmas.{Without, cut, without-append, without-decimal}
+use Rattle.gb_spelling.proofs.PayloadLemmas.{same_payload}
 use Rattle.gb_frame.specs.Common.{fault_number}
 use Rattle.gb_frame.specs.declared.fault.PacketFault.{PacketFault}
 use Rattle.gb_frame.specs.declared.fault.PacketFault.TheVariants.{Short, Magic, Version, Node, Mask, Count, Length, Trailing, TooLong, Tag}
 use Rattle.gb_node.specs.Common.{IsTurn, IsStarved, stopped_answer, running_turn, NodeValue}
-use Rattle.gb_node.specs.declared.{answer.Frame.Frame, answer.Good.Good, answer.Halted.Halted, answer.Halted.TheVariants.Done as HaltDone, answer.Halted.TheVariants.Refused as HaltRefused, answer.NodeAnswer.NodeAnswer, answer.PacketAnswer.PacketAnswer, answer.Sent.Sent as SentValue, answer.Ticked.Ticked as TickedValue, answer.Ticked.TheVariants.Noticed, answer.Ticked.TheVariants.Refused as TickRefused, event.NodeEvent.NodeEvent}
+use Rattle.gb_node.specs.declared.{answer.Frame.Frame, answer.Good.Good, answer.Halted.Halted, answer.Halted.TheVariants.Done as HaltDone, answer.Halted.TheVariants.Refused as HaltRefused, answer.NodeAnswer.NodeAnswer, answer.PacketAnswer.PacketAnswer, answer.Sent.Sent as SentValue, answer.Ticked.Ticked as TickedValue, answer.Ticked.TheVariants.Noticed, answer.Ticked.TheVariants.Refused as TickRefused, event.NodeEvent.NodeEvent, answer.PacketAnswer.TheVariants.Good as TakenGood, answer.PacketAnswer.TheVariants.Fault as TakenFault, answer.PacketAnswer.TheVariants.Refused as TakenRefused, answer.Sent.TheVariants.Packet as SentPacket, answer.Sent.TheVariants.Nothing, answer.Sent.TheVariants.Refused as SentRefused}
 use Rattle.gb_node.specs.declared.answer.Frame.TheVariants.{Nothing as NoFrame, First, Seen, Outside}
 use Rattle.gb_node.specs.declared.answer.NodeAnswer.TheVariants.{Reply as Replied, Taken, Sent, Ticked, Halted as Halts}
-use Rattle.gb_node.specs.declared.answer.PacketAnswer.TheVariants.{Good as TakenGood, Fault as TakenFault, Refused as TakenRefused}
-use Rattle.gb_node.specs.declared.answer.Sent.TheVariants.{Packet as SentPacket, Nothing, Refused as SentRefused}
 use Rattle.gb_node.specs.declared.event.NodeEvent.TheVariants.{Request as Asked, Packet as Came, Pack, Again, Ack, Tick, Stop}
-use Rattle.gb_simulate.specs.AnswerText.{frame_word, fault_name, fault_spelling, each_after_space, noticed_words, ticked_spelling, halted_spelling}
+use Rattle.gb_answer_text.specs.AnswerText.{frame_word, fault_name, fault_spelling, each_after_space, noticed_words, ticked_spelling, halted_spelling}
 use Rattle.gb_record_text.specs.Fits.{FitsAnswer}
 use Rattle.gb_record_text.specs.Laws.{Answers, TurnsAnswer}
 use Rattle.gb_record_text.specs.RecordText.{taken_text, sent_text, answer_text}

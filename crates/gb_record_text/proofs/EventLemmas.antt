@@ -1,12 +1,11 @@
 -- Two events with one line are equal.
-use Rattle.gb_types.specs.Common.{◌≡◌, ℕ, ◌+◌, ◌*◌, Bool, true, false, List, [], ◌∷◌, ◌++◌, get_or, drop, Option, None, Some, refl, sym, ap, subst, ◌∙◌, arith, decimal, append_assoc, codes, ◌==◌, if◌then◌else◌, ForSome, module_word, order_word, kind_word, OneWordOneKind, members_word, payload_word, IsShort, IsLong, IsGroup, group_word, with_dot, seq_words}
+use Rattle.gb_types.specs.Common.{◌≡◌, ℕ, ◌+◌, ◌*◌, Bool, true, false, List, [], ◌∷◌, ◌++◌, get_or, drop, Option, None, Some, refl, sym, ap, subst, ◌∙◌, arith, decimal, append_assoc, codes, ◌==◌, if◌then◌else◌, ForSome}
 use Rattle.std.proofs.lemmas.Fmt.{decimal_injective}
 use Rattle.hex.specs.Hex.{IsBytes, encode_lower}
+use Rattle.gb_spelling.specs.Common.{module_word, order_word, kind_word, OneWordOneKind, members_word, payload_word, IsShort, IsLong, IsGroup, group_word, with_dot, seq_words}
 use Rattle.gb_types.specs.declared.{address.Addr.Addr, kind.Kind.Kind, kind.Module.Module, kind.Module.TheVariants.BestEffort, kind.Order.Order, kind.Order.TheVariants.Any, kind.Order.TheVariants.Fifo, node.NodeId.NodeId, request.Action.Action, request.Action.TheVariants.AddTenant, request.Action.TheVariants.Group, request.GroupCommand.GroupCommand, spec.Spec.Spec, spec.TenantRow.TenantRow}
 use Rattle.gb_types.specs.declared.request.GroupCommand.TheVariants.{Make, Open, Shut, Drop, Say, Fetch}
-use Rattle.gb_types.proofs.CutLemmas.{Without, without-append, without-decimal}
-use Rattle.gb_types.proofs.GroupWordLemmas.{one_address}
-use Rattle.gb_types.proofs.PayloadLemmas.{same_payload}
+use Rattle.gb_spelling.proofs.{CutLemmas.Without, CutLemmas.without-append, CutLemmas.without-decimal, GroupWordLemmas.one_address, PayloadLemmas.same_payload}
 use Rattle.gb_node.specs.declared.event.NodeEvent.{NodeEvent}
 use Rattle.gb_node.specs.declared.event.NodeEvent.TheVariants.{Request as Asked, Packet as Came, Pack, Again, Ack, Tick, Stop}
 use Rattle.gb_record_text.specs.Fits.{FitsAddress, FitsRow, FitsSpec, FitsCommand, FitsAction, FitsEvent}

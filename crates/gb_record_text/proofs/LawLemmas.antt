@@ -1,9 +1,9 @@
 -- Lines and records that say the same.
-use Rattle.gb_types.specs.Common.{◌≡◌, ◌≢◌, ℕ, ◌<◌, ◌^◌, Bool, true, false, List, [], ◌∷◌, ◌++◌, drop, inl, inr, refl, sym, ap, subst, ◌∙◌, arith, decimal, append_assoc, append-nil, codes, if◌then◌else◌, length, All, All-head, All-tail, OneTextOneReply, OneWordOneKind, IsShort, limits_of, words_of}
+use Rattle.gb_types.specs.Common.{◌≡◌, ◌≢◌, ℕ, ◌<◌, ◌^◌, Bool, true, false, List, [], ◌∷◌, ◌++◌, drop, inl, inr, refl, sym, ap, subst, ◌∙◌, arith, decimal, append_assoc, append-nil, codes, if◌then◌else◌, length, All, All-head, All-tail, limits_of}
 use Rattle.std.proofs.lemmas.Fmt.{decimal_injective}
-use Rattle.gb_types.specs.declared.{node.NodeId.NodeId, version.Version.Version}
-use Rattle.gb_types.specs.declared.version.Version.TheVariants.{One, Two, Three}
-use Rattle.gb_types.proofs.CutLemmas.{Without, cut}
+use Rattle.gb_spelling.specs.Common.{OneTextOneReply, OneWordOneKind, IsShort, words_of}
+use Rattle.gb_types.specs.declared.{node.NodeId.NodeId, version.Version.Version, version.Version.TheVariants.One, version.Version.TheVariants.Two, version.Version.TheVariants.Three}
+use Rattle.gb_spelling.proofs.CutLemmas.{Without, cut}
 use Rattle.gb_node.specs.declared.tape.TapeEntry.{TapeEntry}
 use Rattle.gb_record_text.specs.Fits.{FitsEntry, FitsHead}
 use Rattle.gb_record_text.specs.Laws.{IsAnswered, Answers, OneLineOneEntry, SameLinesSameEntries, OneTextOneRecord}

@@ -1,18 +1,15 @@
 -- Lines that are cut at their blanks.
-use Rattle.gb_types.specs.Common.{◌≡◌, ◌≢◌, ℕ, ◌+◌, ◌<◌, ◌≤◌, ◌^◌, Bool, true, false, cond, eqb, List, [], ◌∷◌, ◌++◌, map, get_or, length, None, inl, inr, refl, sym, ap, ◌∙◌, arith, decimal, suc, zero, nat_lt, ◌&&◌, nat_eq, filter, IsInRange, All, list_any, join_with_byte, range_with_len, nat_cmp, ne_eqb, nat_tests, All-nil, All-cons, members_word, payload_word, rising, AreNodes, words_of}
+use Rattle.gb_types.specs.Common.{◌≡◌, ◌≢◌, ℕ, ◌+◌, ◌<◌, ◌≤◌, ◌^◌, Bool, true, false, cond, eqb, List, [], ◌∷◌, ◌++◌, map, get_or, length, None, inl, inr, refl, sym, ap, ◌∙◌, arith, decimal, suc, zero, nat_lt, ◌&&◌, nat_eq, filter, IsInRange, All, list_any, join_with_byte, range_with_len, nat_cmp, ne_eqb, nat_tests, All-nil, All-cons, rising, AreNodes}
 use Rattle.std.specs.FinSet as fin
-use Rattle.std.specs.Cmp.{nat_cmp_total}
-use Rattle.std.specs.FinSet.{nat_cmp-IsAntisymmetric}
-use Rattle.std.proofs.lemmas.Fmt.{decimal_injective, decimal_nonempty}
-use Rattle.std.proofs.lemmas.List.Splits.{slice_split_at, join_with_byte-slice_split}
+use Rattle.std.specs.{Cmp.nat_cmp_total, FinSet.nat_cmp-IsAntisymmetric}
+use Rattle.std.proofs.{lemmas.Fmt.decimal_injective, lemmas.Fmt.decimal_nonempty, lemmas.List.Splits.slice_split_at, lemmas.List.Splits.join_with_byte-slice_split}
 use Rattle.hex.specs.Hex.{IsBytes, decode_of, encode_lower, encode_with, hex_digit_value}
 use Rattle.hex.proofs.HexLemmas.{decode_of-encode_lower}
+use Rattle.gb_spelling.specs.Common.{members_word, payload_word, words_of}
 use Rattle.gb_types.specs.declared.{limits.TheConstants.NODES, node.NodeId.NodeId}
-use Rattle.gb_types.proofs.BoolLemmas.{and_left, and_right}
-use Rattle.gb_types.proofs.CutLemmas.{Without, Begins, cut, without-append, without-decimal}
-use Rattle.gb_types.proofs.PayloadLemmas.{without-payload_word}
-use Rattle.gb_types.proofs.RisingLemmas.{any-rising}
-use Rattle.gb_types.proofs.SameLemmas.{same_number}
+use Rattle.gb_types.proofs.{BoolLemmas.and_left, BoolLemmas.and_right, RisingLemmas.any-rising, SameLemmas.same_number}
+use Rattle.gb_spelling.proofs.CutLemmas.{Without, Begins, cut, without-append, without-decimal}
+use Rattle.gb_spelling.proofs.PayloadLemmas.{without-payload_word}
 use Rattle.gb_record_text.proofs.TextLemmas.{joined_by_commas}
 use Rattle.gb_record_text.specs.RecordText.{each_after_comma}
 

@@ -1,6 +1,7 @@
 -- How the members of a group are written.
-use Rattle.gb_types.specs.Common.{◌≡◌, ℕ, List, [], ◌∷◌, ◌++◌, refl, sym, ◌∙◌, ap, append_assoc, append-nil, join_with_byte, nat_cmp, decimal, map, members_word, rising, rising_from}
+use Rattle.gb_types.specs.Common.{◌≡◌, ℕ, List, [], ◌∷◌, ◌++◌, refl, sym, ◌∙◌, ap, append_assoc, append-nil, join_with_byte, nat_cmp, decimal, map, rising, rising_from}
 use Rattle.std.specs.FinSet as set
+use Rattle.gb_spelling.specs.Common.{members_word}
 use Rattle.gb_record_text.specs.RecordText.{each_after_comma}
 
 rising_all : (s : set.FinSet nat_cmp) → rising s ≡ rising_from s 0

@@ -1,13 +1,11 @@
 -- The numbers of an entry of a tape, and of a record's first line, are within their types.
-use Rattle.std.specs.Prelude.{◌<◌, ◌^◌, All}
-use Rattle.std.specs.Option.{ForSome}
+use Rattle.std.specs.{Prelude.◌<◌, Prelude.◌^◌, Prelude.All, Option.ForSome}
 use Rattle.hex.specs.Hex.{IsBytes}
-use Rattle.gb_types.specs.Common.{FitsReply, IsShort, IsLong, IsGroup, AreNodes}
-use Rattle.gb_types.specs.declared.{address.Addr.Addr, new_message.NewMessage.NewMessage, request.Action.Action, request.Action.TheVariants.AddTenant, request.Action.TheVariants.Group, request.GroupCommand.GroupCommand, request.Request.Request, spec.Spec.Spec, spec.TenantRow.TenantRow}
-use Rattle.gb_types.specs.declared.request.GroupCommand.TheVariants.{Make, Say, Fetch}
-use Rattle.gb_node.specs.declared.{answer.NodeAnswer.NodeAnswer, answer.PacketAnswer.TheVariants.Good as TakenGood, answer.Sent.TheVariants.Packet as SentPacket, answer.Ticked.TheVariants.Noticed, event.NodeEvent.NodeEvent, tape.TapeEntry.TapeEntry}
+use Rattle.gb_spelling.specs.Common.{FitsReply, IsShort, IsLong, IsGroup}
+use Rattle.gb_types.specs.Common.{AreNodes}
+use Rattle.gb_types.specs.declared.{address.Addr.Addr, new_message.NewMessage.NewMessage, request.Action.Action, request.Action.TheVariants.AddTenant, request.Action.TheVariants.Group, request.GroupCommand.GroupCommand, request.Request.Request, spec.Spec.Spec, spec.TenantRow.TenantRow, request.GroupCommand.TheVariants.Make, request.GroupCommand.TheVariants.Say, request.GroupCommand.TheVariants.Fetch}
+use Rattle.gb_node.specs.declared.{answer.NodeAnswer.NodeAnswer, answer.PacketAnswer.TheVariants.Good as TakenGood, answer.Sent.TheVariants.Packet as SentPacket, answer.Ticked.TheVariants.Noticed, event.NodeEvent.NodeEvent, tape.TapeEntry.TapeEntry, event.NodeEvent.TheVariants.Request as Asked, event.NodeEvent.TheVariants.Packet as Came, event.NodeEvent.TheVariants.Again}
 use Rattle.gb_node.specs.declared.answer.NodeAnswer.TheVariants.{Reply as Replied, Taken, Sent, Ticked}
-use Rattle.gb_node.specs.declared.event.NodeEvent.TheVariants.{Request as Asked, Packet as Came, Again}
 use Rattle.gb_record_text.specs.declared.{head.RecordHead.RecordHead, reader.Record.Record}
 
 abbrev pub FitsAddress : Addr → Type 0

@@ -1,17 +1,16 @@
 -- The text of a node's record: a line for each entry of its tape, in the words of a schedule and its answers, with tokens, keys and packets in full.
 use Rattle.std.specs.Prelude.{ℕ, List, [], ◌∷◌, ◌++◌, Option, Some, None, codes, decimal}
 use Rattle.hex.specs.Hex.{encode_lower}
-use Rattle.gb_types.specs.Common.{head_word, kind_word, payload_word, reply_spelling, members_word, group_word, limits_of}
+use Rattle.gb_spelling.specs.Common.{head_word, kind_word, payload_word, reply_spelling, members_word, group_word}
 use Rattle.gb_types.specs.declared.{address.Addr.Addr, node.NodeId.NodeId, reply.Reply.TheVariants.Refused, request.Action.Action, request.Action.TheVariants.AddTenant, request.Action.TheVariants.Group, request.GroupCommand.GroupCommand, request.Request.Request, spec.Spec.Spec, spec.TenantRow.TenantRow, new_message.NewMessage.NewMessage}
-use Rattle.gb_types.specs.declared.command_words.CommandHead.TheVariants as heads
+use Rattle.gb_spelling.specs.declared.command_words.CommandHead.TheVariants as heads
 use Rattle.gb_types.specs.declared.request.GroupCommand.TheVariants.{Make, Open, Shut, Drop, Say, Fetch}
-use Rattle.gb_node.specs.declared.{answer.NodeAnswer.NodeAnswer, answer.PacketAnswer.PacketAnswer, answer.Sent.Sent as SentValue, event.NodeEvent.NodeEvent, tape.TapeEntry.TapeEntry}
+use Rattle.gb_node.specs.declared.{answer.NodeAnswer.NodeAnswer, answer.PacketAnswer.PacketAnswer, answer.Sent.Sent as SentValue, event.NodeEvent.NodeEvent, tape.TapeEntry.TapeEntry, answer.PacketAnswer.TheVariants.Good as TakenGood, answer.PacketAnswer.TheVariants.Fault as TakenFault, answer.PacketAnswer.TheVariants.Refused as TakenRefused, answer.Sent.TheVariants.Packet as SentPacket, answer.Sent.TheVariants.Nothing, answer.Sent.TheVariants.Refused as SentRefused}
 use Rattle.gb_node.specs.declared.answer.NodeAnswer.TheVariants.{Reply as Replied, Taken, Sent, Ticked, Halted as Halts}
-use Rattle.gb_node.specs.declared.answer.PacketAnswer.TheVariants.{Good as TakenGood, Fault as TakenFault, Refused as TakenRefused}
-use Rattle.gb_node.specs.declared.answer.Sent.TheVariants.{Packet as SentPacket, Nothing, Refused as SentRefused}
 use Rattle.gb_node.specs.declared.event.NodeEvent.TheVariants.{Request as Asked, Packet as Came, Pack, Again, Ack, Tick, Stop}
+use Rattle.gb_types.specs.Common.{limits_of}
 use Rattle.gb_record_text.specs.declared.head.RecordHead.{RecordHead}
-use Rattle.gb_simulate.specs.AnswerText.{good_spelling, fault_spelling, ticked_spelling, halted_spelling}
+use Rattle.gb_answer_text.specs.AnswerText.{good_spelling, fault_spelling, ticked_spelling, halted_spelling}
 
 -- a word after a space
 abbrev pub after_space : List ℕ → List ℕ

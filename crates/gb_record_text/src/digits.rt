@@ -2,7 +2,7 @@
 //! up, so that it takes a few instructions for all of it.
 ghost use Rattle.std.specs.Prelude.{◌≡◌, ◌<◌, ◌*◌, ◌++◌, length, slice_index, OnOk};
 ghost use Rattle.hex.specs.Hex.{encode_lower, lower_digits};
-ghost use Rattle.gb_types.specs.Common.{payload_word};
+ghost use Rattle.gb_spelling.specs.Common.{payload_word};
 
 use gb_types::OutOfMemory;
 use gb_types::memory::put_bytes;

@@ -1,9 +1,9 @@
 //! That each number of a value is within its type, for the clauses that name it. The functions only look at the numbers.
-ghost use Rattle.std.specs.Prelude.{All};
-ghost use Rattle.std.specs.Option.{ForSome};
+ghost use Rattle.std.specs.{Prelude.All, Option.ForSome};
 ghost use Rattle.hex.specs.Hex.{IsBytes};
-ghost use Rattle.gb_types.specs.Common.{FitsReply, IsLong, AreNodes};
-ghost use Rattle.gb_types.specs.Laws.{FitsEntry as FitsLogEntry};
+ghost use Rattle.gb_spelling.specs.Common.{FitsReply, IsLong};
+ghost use Rattle.gb_spelling.specs.Laws.{FitsEntry as FitsLogEntry};
+ghost use Rattle.gb_types.specs.Common.{AreNodes};
 ghost use Rattle.gb_record_text.specs.Fits.{FitsAddress, FitsRow, FitsSpec, FitsMessage, FitsCommand, FitsAction, FitsRequest, FitsEvent, FitsAnswer, FitsEntry, FitsHead};
 
 use crate::head::RecordHead;

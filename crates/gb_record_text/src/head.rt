@@ -4,9 +4,9 @@ ghost use Rattle.gb_record_text.specs.RecordText.{head_line};
 
 use crate::reading::read_node;
 use crate::writing::put_after;
+use gb_spelling::request_words::read_u16;
+use gb_spelling::words::split_words;
 use gb_types::memory::put_bytes;
-use gb_types::request_words::read_u16;
-use gb_types::words::split_words;
 use gb_types::{NodeId, OutOfMemory, Version};
 use std::alloc::Global;
 

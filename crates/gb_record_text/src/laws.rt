@@ -1,7 +1,7 @@
 //! Laws of records: what a line or a text says is one thing alone. Each function is a law: its contract is the theorem.
 ghost use Rattle.gb_record_text.specs.Laws.{TurnsAnswer, OneLineOneEntry, SameLinesSameEntries, OneTextOneRecord};
 
-use gb_types::laws::{one_text_one_reply, one_word_one_kind};
+use gb_spelling::laws::{one_text_one_reply, one_word_one_kind};
 
 /// Each turn of a node answers its kind of event: a request by a reply, bytes that came by what became of them, and so on. So each
 /// entry of each tape has an answer to its event.

@@ -1,12 +1,13 @@
 //! The entries of a log as text, appended one after the other, with their payloads a block of digits at a time.
 ghost use Rattle.std.specs.Prelude.{◌≡◌, ◌++◌, codes, decimal, OnOk};
 ghost use Rattle.std.specs.List.{flat_map};
-ghost use Rattle.gb_types.specs.Common.{entry_text, reply_spelling};
+ghost use Rattle.gb_spelling.specs.Common.{entry_text, reply_spelling};
 
 use crate::digits::put_payload;
+use gb_spelling::number::put_number;
+use gb_spelling::reply_text;
 use gb_types::memory::put_bytes;
-use gb_types::number::put_number;
-use gb_types::{Entry, OutOfMemory, Reply, reply_text};
+use gb_types::{Entry, OutOfMemory, Reply};
 
 // Appends a colon and then a number.
 fn put_colon(out: &mut Vec<u8>, number: u64) -> Result<(), OutOfMemory>

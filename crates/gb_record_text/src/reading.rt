@@ -9,12 +9,12 @@ use gb_frame::PacketFault;
 use gb_node::{
     Frame, Good, Halted, NodeAnswer, NodeEvent, PacketAnswer, PacketText, Sent, TapeEntry, Ticked,
 };
-use gb_types::command_words::{read_command, read_head};
-use gb_types::number::read_number;
-use gb_types::payload_word::read_payload;
-use gb_types::request_words::{read_address, read_limits, read_u16, read_u32};
-use gb_types::token_word::read_token;
-use gb_types::words::split_words;
+use gb_spelling::command_words::{read_command, read_head};
+use gb_spelling::number::read_number;
+use gb_spelling::payload_word::read_payload;
+use gb_spelling::request_words::{read_address, read_limits, read_u16, read_u32};
+use gb_spelling::token_word::read_token;
+use gb_spelling::words::split_words;
 use gb_types::{
     Action, Entries, Entry, NodeId, NodeSet, OutOfMemory, Refusal, Reply, Request, TenantRow,
 };

@@ -1,20 +1,21 @@
 //! How an entry of a tape is written. If there is no memory, a part of it may have been appended.
 ghost use Rattle.std.specs.Prelude.{◌≡◌, ◌++◌, [], ◌∷◌, codes, decimal, OnOk, OnErr};
 ghost use Rattle.hex.specs.Hex.{encode_lower};
-ghost use Rattle.gb_types.specs.Common.{head_word, members_word, group_word, rising, rising_from};
+ghost use Rattle.gb_spelling.specs.Common.{head_word, members_word, group_word};
+ghost use Rattle.gb_types.specs.Common.{rising, rising_from};
 ghost use Rattle.gb_record_text.specs.RecordText.{after_space, address_text, token_text, limits_text, row_text, spec_text, message_text, each_after_comma, command_head, command_text, action_text, request_text, event_text, taken_text, sent_text, answer_text, entry_line};
 
 use crate::digits::{put_digits, put_payload};
 use crate::log::put_reply;
+use gb_answer_text::writing::{put_halted, put_packet, put_refusal, put_ticked};
 use gb_node::{NodeAnswer, NodeEvent, PacketAnswer, Sent, TapeEntry};
-use gb_simulate::answer_text::{put_halted, put_packet, put_refusal, put_ticked};
-use gb_types::command_words::head_word;
-use gb_types::kind_word::word_of;
+use gb_spelling::CommandHead;
+use gb_spelling::command_words::head_word;
+use gb_spelling::kind_word::word_of;
+use gb_spelling::number::put_number;
 use gb_types::memory::put_bytes;
-use gb_types::number::put_number;
 use gb_types::{
-    Action, Addr, CommandHead, GroupCommand, NewMessage, NodeId, NodeSet, OutOfMemory, Request,
-    Spec, TenantRow,
+    Action, Addr, GroupCommand, NewMessage, NodeId, NodeSet, OutOfMemory, Request, Spec, TenantRow,
 };
 
 /// Appends bytes.

@@ -3,7 +3,7 @@ use Rattle.gb_types.specs.Common.{◌≡◌, ℕ, ◌+◌, ◌-◌, ◌*◌, ◌
 use Rattle.hex.proofs.HexLemmas.{length-encode_with}
 use Rattle.hex.specs.Hex.{encode_lower, lower_digits}
 use Rattle.gb_types.specs.declared.{node.NodeId.NodeId, request.Action.Action, request.Action.TheVariants.AddTenant, request.Action.TheVariants.Group, request.Request.Request, version.Version.Version}
-use Rattle.gb_simulate.proofs.AnswerLemmas.{on_ok}
+use Rattle.gb_answer_text.proofs.NoticedLemmas.{on_ok}
 use Rattle.gb_record_text.specs.RecordText.{after_space, limits_text, each_after_comma, action_text, request_text, token_text}
 use Rattle.gb_schedule.specs.Versions.{versions_word}
 use Rattle.gb_replay.specs.ScheduleText.{action_line, key_text, key_behind, secret_text, version_byte}

@@ -5,8 +5,7 @@ use Rattle.gb_cluster.specs.Common.{IsStep, IsPlaced, ClusterValue, Did, ComesTo
 use Rattle.gb_cluster.specs.declared.{answer.Answer.Answer, event.Event.Event}
 use Rattle.gb_lines.specs.Lines.{ended}
 use Rattle.gb_merge.specs.Common.{is_refused}
-use Rattle.gb_simulate.specs.RunTexts.{RunStep, AreRunSteps}
-use Rattle.gb_simulate.specs.Text.{IsText}
+use Rattle.gb_simulate.specs.{RunTexts.RunStep, RunTexts.AreRunSteps, Text.IsText}
 use Rattle.gb_simulate.specs.declared.{outcome.SimEnd.SimEnd, outcome.SimEnd.TheVariants.All as AllLines, obey.TheConstants.LINES}
 use Rattle.gb_replay.specs.ScheduleText.{schedule_text, answers_text, step_line, step_answer}
 use Rattle.gb_replay.specs.declared.replay.ReplayFault.{ReplayFault}

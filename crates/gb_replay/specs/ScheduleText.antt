@@ -1,15 +1,15 @@
 -- How a run of a cluster is spelt as a schedule for gb_sim, and what gb_sim answers.
 use Rattle.std.specs.Prelude.{ℕ, Bool, true, false, List, [], ◌∷◌, ◌++◌, codes, decimal, take, if◌then◌else◌}
 use Rattle.hex.specs.Hex.{encode_lower}
-use Rattle.gb_types.specs.Common.{payload_word, limits_of}
+use Rattle.gb_spelling.specs.Common.{payload_word}
+use Rattle.gb_types.specs.Common.{limits_of}
 use Rattle.gb_types.specs.declared.{node.NodeId.NodeId, plan.Plan.Plan, refusal.Refusal.TheVariants.Denied, reply.Reply.TheVariants.Refused, request.Action.Action, request.Action.TheVariants.AddTenant, request.Action.TheVariants.Group, request.Request.Request, version.Version.Version}
 use Rattle.gb_node.specs.declared.{event.NodeEvent.NodeEvent, event.NodeEvent.TheVariants.Request as Asked, event.NodeEvent.TheVariants.Packet as Came}
 use Rattle.gb_cluster.specs.declared.{answer.Answer.Answer, answer.Answer.TheVariants.Reply, event.Event.Event, event.Event.TheVariants.At, event.Event.TheVariants.Arrive}
 use Rattle.gb_lines.specs.Lines.{ended}
 use Rattle.gb_schedule.specs.Versions.{versions_word}
 use Rattle.gb_record_text.specs.RecordText.{after_space, limits_text, token_text, action_text, event_text}
-use Rattle.gb_simulate.specs.AnswerText.{answer_spelling}
-use Rattle.gb_simulate.specs.RunTexts.{RunStep}
+use Rattle.gb_simulate.specs.{AnswerText.answer_spelling, RunTexts.RunStep}
 
 -- a request, with neither its token nor a tenant's key: gb_sim makes these anew
 abbrev pub action_line : NodeId → Action → List ℕ

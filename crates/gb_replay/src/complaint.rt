@@ -3,9 +3,9 @@ ghost use Rattle.std.specs.Prelude.{◌≡◌, ◌++◌, OnOk};
 ghost use Rattle.gb_replay.specs.Complaint.{complaint};
 
 use crate::replay::ReplayFault;
+use gb_spelling::number::put_number;
 use gb_types::OutOfMemory;
 use gb_types::memory::put_bytes;
-use gb_types::number::put_number;
 
 /// Appends to `out` the line that says why a run is no schedule for gb_sim, with its line end. `Err` if there is no memory; then a part
 /// of the line may be there.

@@ -8,9 +8,9 @@ ghost use Rattle.gb_replay.specs.ScheduleText.{action_line, key_text, secret_tex
 use gb_cluster::Event;
 use gb_node::NodeEvent;
 use gb_record_text::writing::{put_event, put_request};
+use gb_spelling::number::put_number;
+use gb_spelling::payload_word::put_payload;
 use gb_types::memory::put_bytes;
-use gb_types::number::put_number;
-use gb_types::payload_word::put_payload;
 use gb_types::{Action, NodeId, OutOfMemory, Plan, Request, Version};
 
 // Appends a number after a space.

@@ -2,8 +2,7 @@
 use Rattle.gb_types.specs.Common.{◌≡◌, ◌||◌, Bool, true, false, List, [], ◌∷◌, ◌++◌, refl, ◌∙◌, ap, if◌then◌else◌, map, AllByRecursion, message_of, same}
 use Rattle.gb_types.specs.declared.{entry.Entry.Entry, message.MsgId.MsgId}
 use Rattle.gb_types.proofs.BoolLemmas.{or_second}
-use Rattle.gb_rules.specs.declared.call.GroupCall.{GroupCall}
-use Rattle.gb_rules.specs.declared.call.GroupCall.TheVariants.{Own, Other, Crashed}
+use Rattle.gb_rules.specs.declared.{call.GroupCall.GroupCall, call.GroupCall.TheVariants.Own, call.GroupCall.TheVariants.Other, call.GroupCall.TheVariants.Crashed}
 use Rattle.gb_rules.specs.History.{with_told}
 use Rattle.gb_rules.proofs.MentionLemmas.{has-with_new}
 use Rattle.gb_rules.specs.Messages.{has, payload_in, entry_in, with_new}

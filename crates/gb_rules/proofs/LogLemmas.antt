@@ -2,8 +2,8 @@
 use Rattle.gb_types.specs.Common.{◌≡◌, ℕ, List, ap, sym, map, rising, AreNodes}
 use Rattle.std.specs.FinSet as set
 use Rattle.gb_types.specs.declared.spec.Spec.{Spec}
-use Rattle.gb_stack.specs.Kinds.{kind_log}
-use Rattle.gb_stack.proofs.DeliveryLemmas.{same_members}
+use Rattle.gb_kinds.specs.Kinds.{kind_log}
+use Rattle.gb_kinds.proofs.DeliveryLemmas.{same_members}
 use Rattle.gb_types.proofs.AllMemberLemmas.{all_rising}
 use Rattle.gb_rules.specs.declared.call.GroupCall.{GroupCall}
 use Rattle.gb_rules.specs.History.{log_of, calls_of, known}

@@ -1,11 +1,9 @@
 -- The messages of a list, the number of their bytes, and the messages that a history makes known.
 use Rattle.gb_types.specs.Common.{◌≡◌, ℕ, ◌+◌, ◌||◌, nat_eq, true, false, List, [], ◌∷◌, ◌++◌, length, refl, sym, ◌∙◌, ap, arith, if◌then◌else◌, message_of, same}
 use Rattle.gb_types.specs.declared.{entry.Entry.Entry, message.MsgId.MsgId}
-use Rattle.gb_types.proofs.SameLemmas.{same-true}
-use Rattle.gb_types.proofs.BoolLemmas.{or_swap}
+use Rattle.gb_types.proofs.{SameLemmas.same-true, BoolLemmas.or_swap}
 use Rattle.gb_layer.specs.Common.{mentions}
-use Rattle.gb_rules.specs.declared.call.GroupCall.{GroupCall}
-use Rattle.gb_rules.specs.declared.call.GroupCall.TheVariants.{Own, Other, Crashed}
+use Rattle.gb_rules.specs.declared.{call.GroupCall.GroupCall, call.GroupCall.TheVariants.Own, call.GroupCall.TheVariants.Other, call.GroupCall.TheVariants.Crashed}
 use Rattle.gb_rules.specs.History.{calls_of, known}
 use Rattle.gb_rules.specs.Messages.{has, bytes_of, with_new}
 

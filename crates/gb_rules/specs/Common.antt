@@ -9,7 +9,7 @@ pub use Rattle.gb_rules.specs.Messages.{bytes_of, entry_in, has, payload_in, wit
 pub use Rattle.gb_rules.specs.Replied.{IsReply, done_reply, log_reply, said_reply, takes_memory}
 pub use Rattle.gb_rules.specs.Room.{can_name, is_other_generation, is_reached_by, is_same_room, name_of, one_less, one_more}
 pub use Rattle.gb_rules.specs.Tenant.{by_tenant, is_bad, is_over, is_over_limits, make_answer, reserve_of, reserved, row_of, tenant_answer}
-pub use Rattle.gb_stack.specs.Kinds.{kind_broadcasts}
-pub use Rattle.gb_stack.proofs.DeliveryLemmas.{kind_broadcasts_mentioned, kind_log_in_order, kind_log_mentioned, kind_log_once}
+pub use Rattle.gb_kinds.specs.Kinds.{kind_broadcasts}
+pub use Rattle.gb_kinds.proofs.DeliveryLemmas.{kind_broadcasts_mentioned, kind_log_in_order, kind_log_mentioned, kind_log_once}
 pub use Rattle.gb_layer.specs.declared.call.Call.TheVariants.{Came, Notice}
 pub use Rattle.gb_layer.specs.Common.{count_by-append, count_by-cons, count_by-grown, count_by-map, filter-never, same_filter}

@@ -5,8 +5,7 @@ use Rattle.gb_types.specs.declared.{entry.Entry.Entry, limits.TheConstants.FETCH
 use Rattle.gb_types.specs.declared.refusal.Refusal.TheVariants.{NoGroup, Spent, WrongPhase, TooLong, Budget, Bytes, Window, BadPlace}
 use Rattle.gb_types.specs.declared.reply.Reply.TheVariants.{Done, Said, Log, Refused}
 use Rattle.gb_types.specs.Common.{limits_of}
-use Rattle.gb_rules.specs.declared.{phase.Phase.Phase, usage.Usage.Usage}
-use Rattle.gb_rules.specs.declared.phase.Phase.TheVariants.{Made, Opened, Gone}
+use Rattle.gb_rules.specs.declared.{phase.Phase.Phase, usage.Usage.Usage, phase.Phase.TheVariants.Made, phase.Phase.TheVariants.Opened, phase.Phase.TheVariants.Gone}
 
 -- what the rules read of a group at a node
 pub record Shown : Type 0 where

@@ -3,12 +3,10 @@ use Rattle.std.specs.Prelude.{ℕ, Bool, ◌+◌, List, [], ◌∷◌, map}
 use Rattle.std.specs.FinSet as set
 use Rattle.gb_types.specs.Common.{message_of}
 use Rattle.gb_types.specs.declared.{entry.Entry.Entry, message.MsgId.MsgId, spec.Spec.Spec}
-use Rattle.gb_layer.specs.declared.call.Call.{Call}
-use Rattle.gb_layer.specs.declared.call.Call.TheVariants.{Say, Came, Notice}
+use Rattle.gb_layer.specs.declared.{call.Call.Call, call.Call.TheVariants.Say, call.Call.TheVariants.Came, call.Call.TheVariants.Notice}
 use Rattle.gb_layer.specs.Common.{mentions, came_from, was_noticed}
-use Rattle.gb_stack.specs.Kinds.{kind_broadcasts, kind_log}
-use Rattle.gb_rules.specs.declared.call.GroupCall.{GroupCall}
-use Rattle.gb_rules.specs.declared.call.GroupCall.TheVariants.{Own, Other, Crashed}
+use Rattle.gb_kinds.specs.Kinds.{kind_broadcasts, kind_log}
+use Rattle.gb_rules.specs.declared.{call.GroupCall.GroupCall, call.GroupCall.TheVariants.Own, call.GroupCall.TheVariants.Other, call.GroupCall.TheVariants.Crashed}
 use Rattle.gb_rules.specs.LetFall.{is_let_fall}
 use Rattle.gb_rules.specs.Messages.{entry_in, with_new, bytes_of}
 

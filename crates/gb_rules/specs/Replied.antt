@@ -1,7 +1,6 @@
 -- The results of a slot's calls as replies.
 use Rattle.std.specs.Prelude.{ℕ, ◌≡◌, ◌⊎◌, Bool, true, false, [], Result, Ok, Err}
-use Rattle.std.specs.declared.vec.Vec.{Vec}
-use Rattle.std.specs.declared.alloc.Global.{Global}
+use Rattle.std.specs.declared.{vec.Vec.Vec, alloc.Global.Global}
 use Rattle.gb_types.specs.declared.{entry.Entry.Entry, refusal.Refusal.Refusal, refusal.Refusal.TheVariants.OutOfMemory, reply.Reply.Reply}
 use Rattle.gb_types.specs.declared.reply.Reply.TheVariants.{Done, Said, Log, Refused}
 

@@ -1,8 +1,7 @@
 -- The rooms of groups. A room is a tenant's number for a group; the groups that are made under it are its generations, one after another.
 use Rattle.std.specs.Prelude.{ℕ, ◌+◌, ◌-◌, ◌&&◌, not, Bool, true, nat_eq, nat_le, if◌then◌else◌}
-use Rattle.gb_types.specs.declared.{address.Addr.Addr, version.Version.Version}
+use Rattle.gb_types.specs.declared.{address.Addr.Addr, version.Version.Version, version.Version.TheVariants.One, version.Version.TheVariants.Two, version.Version.TheVariants.Three}
 use Rattle.gb_rules.specs.Address.{is_addr}
-use Rattle.gb_types.specs.declared.version.Version.TheVariants.{One, Two, Three}
 
 -- the address of the room's first generation, which stands for the room
 abbrev pub name_of : Addr → Addr

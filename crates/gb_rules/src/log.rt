@@ -7,8 +7,8 @@ ghost use Rattle.gb_rules.specs.History as history;
 use crate::call::{GroupCall, calls_of};
 use crate::let_fall::is_let_fall;
 use crate::messages::{bytes_of, entries_in, known};
+use gb_kinds::plain;
 use gb_layer::plain::{came_from, is_mentioned};
-use gb_stack::plain;
 use gb_types::{Entries, Entry, NodeId, OutOfMemory, Spec};
 use std::alloc::Global;
 

@@ -4,11 +4,11 @@ use Rattle.std.specs.Net.Text.{socket_text}
 use Rattle.gb_merge.specs.declared.fault.AuditFault.{AuditFault}
 use Rattle.gb_merge.specs.declared.fault.AuditFault.TheVariants as audit
 use Rattle.gb_server.specs.Told.{lined}
-use Rattle.gb_server.specs.declared.{fault.ServeFault.ServeFault, record_file.RecordTrouble.RecordTrouble, keys.KeyFault.KeyFault}
+use Rattle.gb_server.specs.declared.{fault.ServeFault.ServeFault, record_file.RecordTrouble.RecordTrouble, sockets.PortName.TheVariants.Udp, sockets.PortName.TheVariants.Tcp, sockets.PortName.TheVariants.Status}
 use Rattle.gb_server.specs.declared.fault.ServeFault.TheVariants.{RefusedWords, BadKeys, NoNode, ForeignSeat, Port, Differs, OutOfMemory, Full, Audit, Write, NoRun, Record}
 use Rattle.gb_server.specs.declared.record_file.RecordTrouble.TheVariants as record_troubles
-use Rattle.gb_server.specs.declared.sockets.PortName.TheVariants.{Udp, Tcp, Status}
-use Rattle.gb_server.specs.declared.keys.KeyFault.TheVariants as keys
+use Rattle.gb_keys.specs.declared.keys.KeyFault.{KeyFault}
+use Rattle.gb_keys.specs.declared.keys.KeyFault.TheVariants as keys
 
 -- why standard input gave no keys
 abbrev pub key_words : KeyFault → List ℕ

@@ -1,19 +1,18 @@
 //! What a server tells on standard error of why it did not serve to its end.
 ghost use Rattle.std.specs.Prelude.{◌≡◌, ◌++◌, true, OnOk, IfOk, decimal};
-ghost use Rattle.std.specs.Io.KnownBytes.{Appends};
-ghost use Rattle.std.specs.Net.Text.{socket_text};
+ghost use Rattle.std.specs.{Io.KnownBytes.Appends, Net.Text.socket_text};
 ghost use Rattle.gb_server.specs.Complaint.{audit_words, complaint, fault_words, key_words, record_words};
 
 use crate::fault::ServeFault;
-use crate::keys::KeyFault;
 use crate::record_file::RecordTrouble;
 use crate::server_log::put_address;
 use crate::sockets::PortName;
 use crate::told::tell;
+use gb_keys::KeyFault;
 use gb_merge::AuditFault;
+use gb_spelling::number::put_number;
 use gb_types::OutOfMemory;
 use gb_types::memory::put_bytes;
-use gb_types::number::put_number;
 use std::alloc::Global;
 use std::io::Write;
 use std::net::SocketAddr;

@@ -13,7 +13,6 @@ use crate::descriptors::{connections_of, descriptor_limit};
 use crate::ending::{Ended, end, end_recorded};
 use crate::fault::ServeFault;
 use crate::input::Input;
-use crate::keys::{Keys, read_keys, run_key};
 use crate::record_file::{RecordFile, RecordPlace, open_records};
 use crate::recorded::logs_of;
 use crate::run::{Given, Service, run};
@@ -23,6 +22,8 @@ use crate::told::{serving_line, status_of, tell_end};
 use gb_host::here::all_nodes;
 use gb_host::pasts::new_pasts;
 use gb_host::{Host, HostPlan, NodePast, Tapes};
+use gb_keys::Keys;
+use gb_keys::keys::{keys_of_run, read_keys};
 use gb_loop::LoopOptions;
 use gb_rules::room::ROOMS;
 use gb_serve_words::words::read_words;
@@ -49,7 +50,10 @@ fn host_plan(plan: ServePlan, keys: Keys, run: u64) -> HostPlan
     ensures is { result ≡ host_of plan keys run }
     ensures limits { IsWithin plan → IsPlan result }
 {
-    let (cluster_key, admin_key) = (run_key(&keys.cluster, run), keys.admin);
+    let Keys {
+        cluster: cluster_key,
+        admin: admin_key,
+    } = keys_of_run(keys, run);
     let cluster = Plan {
         nodes: plan.nodes,
         versions: [plan.version; NODES],

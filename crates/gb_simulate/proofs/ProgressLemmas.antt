@@ -1,15 +1,13 @@
 -- How each line moves a schedule on.
 use Rattle.gb_types.specs.Common.{ℕ, ◌+◌, ◌-◌, ◌≡◌, ◌≢◌, ◌≤◌, ◌<◌, List, [], ◌∷◌, ◌++◌, Option, Some, None, length, reverse, take, refl, sym, ap, ◌∙◌, subst, inl, inr, arith, Result, Ok, Err, IfOk, IfErr, IsErrAnd, IfSome, take-append-add, cases_lt, append_assoc, append-nil, reverse-append, take-append-le}
 use Rattle.std.specs.Io.KnownBytes.{prepend_known}
-use Rattle.gb_lines.specs.Buffered.{WhereKnown}
-use Rattle.gb_lines.specs.Lines.{lines_of, GivesLine}
+use Rattle.gb_lines.specs.{Buffered.WhereKnown, Lines.lines_of, Lines.GivesLine}
 use Rattle.gb_cluster.specs.Common.{ClusterValue}
 use Rattle.gb_simulate.specs.AnswerText.{bad_line}
 use Rattle.gb_simulate.specs.Schedule.{GoesOn}
 use Rattle.gb_simulate.specs.Text.{AreAnswered, Reaches, IsText, IsLeftOff, IsWritten, IsWrittenUpTo}
 use Rattle.gb_simulate.specs.Progress.{TakesLine, IsNext, Stops, HandsOver, IsCutShort, IsAt, IsOver}
-use Rattle.gb_simulate.specs.declared.{outcome.SimEnd.SimEnd, outcome.SimEnd.TheVariants.All, outcome.SimEnd.TheVariants.BadLine, outcome.SimFault.SimFault}
-use Rattle.gb_simulate.specs.declared.outcome.SimFault.TheVariants.{Read, Write, OutOfMemory}
+use Rattle.gb_simulate.specs.declared.{outcome.SimEnd.SimEnd, outcome.SimEnd.TheVariants.All, outcome.SimEnd.TheVariants.BadLine, outcome.SimFault.SimFault, outcome.SimFault.TheVariants.Read, outcome.SimFault.TheVariants.Write, outcome.SimFault.TheVariants.OutOfMemory}
 use Rattle.gb_simulate.proofs.RunTextLemmas.{run_of}
 use Rattle.gb_types.proofs.ReadLemmas.{some_same}
 

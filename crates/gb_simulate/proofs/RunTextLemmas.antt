@@ -6,7 +6,7 @@ use Rattle.gb_isolation.proofs.MomentLemmas.{back}
 use Rattle.gb_cluster.specs.Common.{PacketsAreHonest, PacketsAreRead, LinksHold, NothingIsOutside, CoversTaken, IsInside, IsStep, ClusterValue, IsClusterPlan, Did, ComesTo, Happens, NodesHavePasts, RunsHaveOneEnd}
 use Rattle.gb_cluster.specs.declared.{answer.Answer.Answer, event.Event.Event}
 use Rattle.gb_types.specs.declared.plan.Plan.{Plan}
-use Rattle.gb_cluster.proofs.NodesLemmas.{stays}
+use Rattle.gb_cluster.proofs.{NodesLemmas.stays, CodeLemmas.goes_on}
 use Rattle.gb_schedule.proofs.PlaceLemmas.{line_in_place}
 use Rattle.gb_schedule.specs.Grammar.{IsCommandLine, IsSilent}
 use Rattle.gb_lines.specs.Lines.{ended}
@@ -15,7 +15,6 @@ use Rattle.gb_simulate.specs.OfCluster.{plan_of, started, size, Takes}
 use Rattle.gb_simulate.specs.RunTexts.{RunStep, AreRunSteps, TellsRun}
 use Rattle.gb_simulate.specs.Schedule.{Obeys, GoesOn, event_of}
 use Rattle.gb_simulate.specs.Text.{AreAnswered, Reaches}
-use Rattle.gb_cluster.proofs.CodeLemmas.{goes_on}
 use Rattle.gb_simulate.proofs.OfClusterLemmas.{is_plan}
 use Rattle.gb_simulate.specs.TextLaws.{IsServed, KeepsPromises, TellsLawfulRun, BeginsWithRun, TextsAreOfRuns}
 

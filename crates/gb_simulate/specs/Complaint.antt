@@ -1,9 +1,8 @@
 -- What is printed on how a schedule ended.
 use Rattle.std.specs.Prelude.{List, [], ◌++◌, ℕ, Result, Ok, Err, codes, decimal}
 use Rattle.gb_lines.specs.Lines.{ended}
-use Rattle.gb_simulate.specs.declared.{outcome.BadLine.BadLine as Reason, outcome.SimEnd.SimEnd, outcome.SimEnd.TheVariants.All, outcome.SimEnd.TheVariants.BadLine, outcome.SimFault.SimFault}
+use Rattle.gb_simulate.specs.declared.{outcome.BadLine.BadLine as Reason, outcome.SimEnd.SimEnd, outcome.SimEnd.TheVariants.All, outcome.SimEnd.TheVariants.BadLine, outcome.SimFault.SimFault, outcome.SimFault.TheVariants.Read, outcome.SimFault.TheVariants.Write, outcome.SimFault.TheVariants.OutOfMemory}
 use Rattle.gb_simulate.specs.declared.outcome.BadLine.TheVariants.{TooLong, TooMany, NoCluster, NoCommand}
-use Rattle.gb_simulate.specs.declared.outcome.SimFault.TheVariants.{Read, Write, OutOfMemory}
 
 -- why a line is bad, in words
 abbrev pub reason_words : Reason → List ℕ

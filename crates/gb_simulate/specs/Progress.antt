@@ -1,18 +1,15 @@
 -- How one line changes the cluster, what is left of the text, and the gathered answers. What is left of the text and what is
 -- written may be unknown.
 use Rattle.std.specs.Prelude.{ℕ, ◌≡◌, ◌≢◌, ◌≤◌, List, [], ◌∷◌, ◌++◌, length, Option, None, Some, Result, Ok, Err, ⊤}
-use Rattle.std.specs.Option.{IfSome}
-use Rattle.std.specs.Io.KnownBytes.{Appends, Keeps, prepend_known}
-use Rattle.gb_lines.specs.Buffered.{WhereKnown}
-use Rattle.gb_lines.specs.Lines.{lines_of, GivesLine, IsLine}
+use Rattle.std.specs.{Option.IfSome, Io.KnownBytes.Appends, Io.KnownBytes.Keeps, Io.KnownBytes.prepend_known}
+use Rattle.gb_lines.specs.{Buffered.WhereKnown, Lines.lines_of, Lines.GivesLine, Lines.IsLine}
 use Rattle.gb_lines.specs.declared.lines.TheConstants.{LINE}
 use Rattle.gb_cluster.specs.Common.{ClusterValue}
 use Rattle.gb_simulate.specs.Schedule.{GoesOn, IsBadLine}
 use Rattle.gb_simulate.specs.AnswerText.{bad_line}
 use Rattle.gb_simulate.specs.Text.{Reaches, IsText, IsLeftOff, IsWrittenUpTo}
 use Rattle.gb_simulate.specs.Writing.{AppendsFront}
-use Rattle.gb_simulate.specs.declared.{obey.TheConstants.LINES, outcome.SimEnd.SimEnd, outcome.SimEnd.TheVariants.All, outcome.SimEnd.TheVariants.BadLine, outcome.SimFault.SimFault}
-use Rattle.gb_simulate.specs.declared.outcome.SimFault.TheVariants.{Read, Write, OutOfMemory}
+use Rattle.gb_simulate.specs.declared.{obey.TheConstants.LINES, outcome.SimEnd.SimEnd, outcome.SimEnd.TheVariants.All, outcome.SimEnd.TheVariants.BadLine, outcome.SimFault.SimFault, outcome.SimFault.TheVariants.Read, outcome.SimFault.TheVariants.Write, outcome.SimFault.TheVariants.OutOfMemory}
 
 -- the next line is the n-th, it asks for nothing or is executed, and its answer is gathered
 pub record TakesLine (n : ℕ) (w after : Option ClusterValue) (left left' : Option (List ℕ)) (gathered gathered' : List ℕ) : Type 0 where

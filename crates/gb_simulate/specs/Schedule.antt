@@ -4,8 +4,7 @@ use Rattle.gb_types.specs.declared.{limits.TheConstants.NODES, request.Action.Th
 use Rattle.gb_node.specs.declared.event.NodeEvent.TheVariants.{Request as AskEvent, Packet as CameEvent, Pack as PackEvent, Again as AgainEvent, Ack as AckEvent, Tick as TickEvent, Stop as StopEvent}
 use Rattle.gb_cluster.specs.Common.{ClusterValue}
 use Rattle.gb_cluster.specs.declared.{answer.Answer.Answer, event.Event.Event, event.Event.TheVariants.At, event.Event.TheVariants.Arrive as ArriveEvent}
-use Rattle.gb_schedule.specs.Grammar.{IsCommandLine, IsSilent}
-use Rattle.gb_schedule.specs.Keys.{member_token}
+use Rattle.gb_schedule.specs.{Grammar.IsCommandLine, Grammar.IsSilent, Keys.member_token}
 use Rattle.gb_lines.specs.Lines.{ended}
 use Rattle.gb_schedule.specs.declared.command.Command.{Command}
 use Rattle.gb_schedule.specs.declared.command.Command.TheVariants.{Cluster, Request, Noise, Step}

@@ -6,8 +6,7 @@ use Rattle.gb_cluster.specs.Common.{ClusterValue}
 use Rattle.gb_simulate.specs.RunTexts.{TellsRun}
 use Rattle.gb_simulate.specs.Schedule.{GoesOn, IsBadLine}
 use Rattle.gb_simulate.specs.AnswerText.{bad_line}
-use Rattle.gb_simulate.specs.declared.{obey.TheConstants.LINES, outcome.BadLine.BadLine as Reason, outcome.SimEnd.SimEnd, outcome.SimEnd.TheVariants.All, outcome.SimEnd.TheVariants.BadLine, outcome.SimFault.SimFault}
-use Rattle.gb_simulate.specs.declared.outcome.SimFault.TheVariants.{Read, Write, OutOfMemory}
+use Rattle.gb_simulate.specs.declared.{obey.TheConstants.LINES, outcome.BadLine.BadLine as Reason, outcome.SimEnd.SimEnd, outcome.SimEnd.TheVariants.All, outcome.SimEnd.TheVariants.BadLine, outcome.SimFault.SimFault, outcome.SimFault.TheVariants.Read, outcome.SimFault.TheVariants.Write, outcome.SimFault.TheVariants.OutOfMemory}
 
 -- these lines, the newest first, are the first of a schedule; their answers are this text, and they lead to the cluster `w`
 unfoldable pub AreAnswered : List (List ℕ) → List ℕ → Option ClusterValue → Type 0

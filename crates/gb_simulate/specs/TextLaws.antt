@@ -1,8 +1,7 @@
 -- What a schedule makes a cluster answer is the text of a run that keeps all promises of a cluster.
 use Rattle.std.specs.Prelude.{ℕ, ◌≡◌, ◌<◌, true, List, [], ◌++◌, reverse, Option, Some, None, All, slice_get}
 use Rattle.gb_types.specs.declared.{address.Addr.Addr, node.NodeId.NodeId, plan.Plan.Plan}
-use Rattle.gb_isolation.specs.Isolation.{IsIsolated, IsSeenAlone, is_ample}
-use Rattle.gb_isolation.specs.Project.{is_fed}
+use Rattle.gb_isolation.specs.{Isolation.IsIsolated, Isolation.IsSeenAlone, Isolation.is_ample, Project.is_fed}
 use Rattle.gb_isolation.specs.RunLaws.{RunIntegrity, RunOrder, RunDuties, RunAgreement, MayBeFetched, IsSeenAlike, AtEachMoment, AnswersNewNotices, ChangesNothing}
 use Rattle.gb_node.specs.Past.{ComesTo as NodeComesTo}
 use Rattle.gb_cluster.specs.Common.{IsHonest, IsAlwaysWhole, IsLink, CoversTaken, IsInside, AreRead, ClusterValue, node_plan, node_at, Did, ComesTo, past_at}

@@ -8,8 +8,8 @@ ghost use Rattle.gb_simulate.specs.declared.outcome.SimFault.{SimFault as Fault}
 
 use crate::outcome::{BadLine, SimEnd, SimFault};
 use crate::writing::write_text;
+use gb_spelling::number::put_number;
 use gb_types::OutOfMemory;
-use gb_types::number::put_number;
 use std::alloc::Global;
 use std::io::Write;
 

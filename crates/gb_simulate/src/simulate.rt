@@ -1,7 +1,6 @@
 //! Runs a schedule, line by line.
 ghost use Rattle.std.specs.Prelude.{◌≡◌, ◌≢◌, ◌≤◌, ℕ, List, [], length, Ok, Option, Some, None, IfOk, IfErr, OnOk, IfSome};
-ghost use Rattle.gb_lines.specs.Buffered.{left, WantsRead, WhereKnown};
-ghost use Rattle.gb_lines.specs.Lines.{GivesLine};
+ghost use Rattle.gb_lines.specs.{Buffered.left, Buffered.WantsRead, Buffered.WhereKnown, Lines.GivesLine};
 ghost use Rattle.gb_lines.specs.declared.lines.TheConstants.{LINE};
 ghost use Rattle.gb_cluster.specs.Common.{ClusterValue};
 ghost use Rattle.gb_simulate.specs.OfCluster.{size};

@@ -2,13 +2,11 @@
 use Rattle.gb_types.specs.Common.{◌≡◌, ℕ, ◌||◌, ◌&&◌, Bool, true, false, List, [], ◌∷◌, ◌++◌, refl, sym, ◌∙◌, ap, nat_eq, if◌then◌else◌, nat_cmp, and-true, and-false, same}
 use Rattle.std.specs.FinSet as set
 use Rattle.gb_types.specs.declared.{message.MsgId.MsgId, node.NodeId.NodeId}
-use Rattle.gb_types.proofs.SameLemmas.{same-true, same_itself}
-use Rattle.gb_types.proofs.BoolLemmas.{or_left, or_right}
+use Rattle.gb_types.proofs.{SameLemmas.same-true, SameLemmas.same_itself, BoolLemmas.or_left, BoolLemmas.or_right, InsertedLemmas.contains-inserted}
 use Rattle.gb_layer.specs.Common.{any_push}
 use Rattle.gb_layer.specs.declared.call.Call.TheVariants.{Came}
 use Rattle.gb_slot.specs.Arrivals.{Arrival, has_arrival, with_message, nodes_of, with_node}
 use Rattle.gb_slot.specs.Slot.{with_arrival}
-use Rattle.gb_types.proofs.InsertedLemmas.{contains-inserted}
 
 -- a message that was not taken in from a node changes nothing
 pub nodes_with_message : (arrivals : List Arrival) (m x : MsgId) → nodes_of (with_message arrivals m) x ≡ nodes_of arrivals x

@@ -3,17 +3,16 @@ use Rattle.gb_types.specs.Common.{◌≡◌, ◌≢◌, ℕ, ◌<◌, true, fals
 use Rattle.std.specs.FinSet as set
 use Rattle.gb_types.specs.declared.{entry.Entry.Entry, message.MsgId.MsgId}
 use Rattle.gb_layer.specs.Common.{all_append, all_weaker, mentions, messages, was_noticed, came_from, IsLawful}
-use Rattle.gb_stack.specs.Kinds.{kind_delivers, kind_broadcasts}
+use Rattle.gb_kinds.specs.Kinds.{kind_delivers, kind_broadcasts}
 use Rattle.gb_stack.specs.StackState.{stack_gives}
-use Rattle.gb_stack.proofs.DeliveryLemmas.{kind_broadcasts_mentioned}
+use Rattle.gb_kinds.proofs.DeliveryLemmas.{kind_broadcasts_mentioned}
 use Rattle.gb_stack.proofs.StandsLemmas as stack
 use Rattle.gb_rules.specs.declared.call.GroupCall.{GroupCall}
 use Rattle.gb_rules.specs.Common.{call_of, calls_of, with_told, known, said_in, puts_of, has, entry_in, is_other}
-use Rattle.gb_rules.proofs.MentionLemmas.{has-known}
+use Rattle.gb_rules.proofs.{MentionLemmas.has-known, KnownLemmas.still_told, KnownLemmas.entries-stay_told}
 use Rattle.gb_slot.specs.Slot.{waiting, taken_for, came_before, slot_called}
 use Rattle.gb_slot.specs.SlotState.{SlotState}
 use Rattle.gb_slot.specs.StandsFor.{StandsFor, reaches}
-use Rattle.gb_rules.proofs.KnownLemmas.{still_told, entries-stay_told}
 
 -- what holds of each element holds of each that is left
 all_drop : {X : Type 0} (P : X → Type 0) (n : ℕ) (xs : List X) → AllByRecursion P xs → AllByRecursion P (drop n xs)

@@ -2,12 +2,10 @@
 use Rattle.gb_types.specs.Common.{◌≡◌, ℕ, zero, suc, ◌+◌, ◌*◌, ◌≤◌, ◌<◌, Bool, true, false, cond, ◌||◌, ◌&&◌, List, [], ◌∷◌, ◌++◌, length, refl, sym, ◌∙◌, ap, subst, arith, nat_eq, map, count_by, if◌then◌else◌, list_any, list_all, IsDistinct, AllByRecursion, eqb-true, nat_tests, length-map, message_of, same, below}
 use Rattle.std.specs.FinSet as set
 use Rattle.std.proofs.Math.Nat.{suc-mul}
-use Rattle.gb_types.proofs.SameLemmas.{same-true, same_itself}
+use Rattle.gb_types.proofs.{SameLemmas.same-true, SameLemmas.same_itself, BoolLemmas.and_left, BoolLemmas.and_right}
 use Rattle.gb_types.specs.declared.{entry.Entry.Entry, limits.TheConstants.NODES, limits.TheConstants.BYTES, message.MsgId.MsgId, spec.Spec.Spec}
-use Rattle.gb_types.proofs.BoolLemmas.{and_left, and_right}
 use Rattle.gb_layer.specs.Common.{count_by-cons, same_swap, Limit, is_counted, message_count}
-use Rattle.gb_layer.proofs.PigeonholeLemmas.{no_more_messages}
-use Rattle.gb_layer.proofs.LimitLemmas.{counted_grown, once_grown}
+use Rattle.gb_layer.proofs.{PigeonholeLemmas.no_more_messages, LimitLemmas.counted_grown, LimitLemmas.once_grown}
 use Rattle.gb_rules.specs.Common.{has, with_new, bytes_of}
 use Rattle.gb_slot.specs.Kept.{AreCounted}
 use Rattle.gb_slot.specs.Reached.{limit_of, most_bytes}

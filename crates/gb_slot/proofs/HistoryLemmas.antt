@@ -1,27 +1,23 @@
 -- A slot stands for the history of its group's calls.
 use Rattle.gb_types.specs.Common.{◌≡◌, ◌≢◌, ℕ, ◌+◌, ◌-◌, ◌≤◌, ◌<◌, ◌||◌, ◌&&◌, not, Bool, true, false, List, [], ◌∷◌, ◌++◌, length, drop, refl, sym, ◌∙◌, ap, subst, arith, length-append, if◌then◌else◌, map, nat_eq, nat_le, slice_index_or, slice_set, nat_cmp, drop-nil, eqb-true, nat_tests, drop-map, length-replicate, length-set, message_of, same}
 use Rattle.std.specs.FinSet as set
-use Rattle.gb_types.proofs.SameLemmas.{same-true}
+use Rattle.gb_types.proofs.{SameLemmas.same-true, InsertedLemmas.contains-inserted}
 use Rattle.gb_types.specs.declared.{entry.Entry.Entry, limits.TheConstants.NODES, message.MsgId.MsgId, node.NodeId.NodeId, reply.Reply.TheVariants.Done}
 use Rattle.gb_layer.specs.Common.{mentions, was_said, came_from, IsLawful, said_mentioned, own_said}
 use Rattle.gb_layer.specs.declared.call.Call.{Call}
-use Rattle.gb_stack.specs.StackState.{new_stack}
-use Rattle.gb_stack.specs.Stands.{IsStackAfter}
+use Rattle.gb_stack.specs.{StackState.new_stack, Stands.IsStackAfter}
 use Rattle.gb_stack.proofs.StandsLemmas as stack
-use Rattle.gb_rules.specs.declared.call.GroupCall.{GroupCall}
-use Rattle.gb_rules.specs.declared.call.GroupCall.TheVariants.{Own, Other, Crashed}
+use Rattle.gb_rules.specs.declared.{call.GroupCall.GroupCall, call.GroupCall.TheVariants.Own, call.GroupCall.TheVariants.Other, call.GroupCall.TheVariants.Crashed}
 use Rattle.gb_rules.specs.Common.{call_of, calls_of, known, said_in, puts_of, bytes_in, has, entry_in, with_new, bytes_of, is_other, is_let_fall}
 use Rattle.gb_slot.specs.HistoryLaws.{FreshStands, MovedStands, SaidStands, CameStands, NoticedStands, DoneStands, TookStands, LogIs, FallsIs, WaitingSaid, WaitingCame, WaitingNoticed, WaitingTook, WaitingElsewhere}
 use Rattle.gb_slot.specs.Slot.{waiting, taken_for, came_before, own_entry, slot_called, falls, with_acknowledgement, acknowledged_by, slot_took}
 use Rattle.gb_slot.specs.SlotState.{SlotState}
 use Rattle.gb_slot.specs.StandsFor.{StandsFor, reaches}
-use Rattle.gb_rules.proofs.MentionLemmas.{has-known}
+use Rattle.gb_rules.proofs.{MentionLemmas.has-known, LetFallLemmas.not_fallen, LetFallLemmas.falls-alike}
 use Rattle.gb_slot.proofs.ArrivalLemmas.{nodes_with_message, nodes_after_came}
-use Rattle.gb_types.proofs.InsertedLemmas.{contains-inserted}
 use Rattle.gb_slot.proofs.NoticeLemmas.{other_differs, notices_lawful, none_mentioned, none_came, none_known, none_said, none_sent, none_logged, notice_calls, others_differ, notices_tell, noticed_are}
 use Rattle.gb_slot.proofs.TakenLemmas.{none_taken, drop-drop, taken_more, taken_elsewhere, waiting_few}
 use Rattle.gb_slot.proofs.CalledLemmas.{called_stands, waiting-called}
-use Rattle.gb_rules.proofs.LetFallLemmas.{not_fallen, falls-alike}
 
 pub fresh_stands : FreshStands
 fresh_stands spec me noticed qs others tell = record {

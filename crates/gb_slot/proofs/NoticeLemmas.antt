@@ -5,10 +5,8 @@ use Rattle.gb_types.specs.declared.{kind.Kind.Kind, message.MsgId.MsgId, node.No
 use Rattle.gb_types.proofs.SameLemmas.{same_itself}
 use Rattle.gb_layer.specs.Common.{count_by-cons, mentions, was_noticed, came_from, all_sends, count_sends, IsLawful, first_mentions, log, now_delivered, Nodes}
 use Rattle.gb_layer.specs.declared.{call.Call.Call, call.Call.TheVariants.Notice}
-use Rattle.gb_stack.specs.Kinds.{kind_log}
-use Rattle.gb_stack.specs.StackLemmas.{stack_sends_handed_in}
-use Rattle.gb_stack.specs.StackState.{stack_next, stack_gives, untold_stack}
-use Rattle.gb_stack.specs.Stands.{is_other_noticed}
+use Rattle.gb_kinds.specs.Kinds.{kind_log}
+use Rattle.gb_stack.specs.{StackLemmas.stack_sends_handed_in, StackState.stack_next, StackState.stack_gives, StackState.untold_stack, Stands.is_other_noticed}
 use Rattle.gb_stack.proofs.StandsLemmas as stack
 use Rattle.gb_stack.proofs.StartLemmas.{was_untold}
 use Rattle.gb_rules.specs.declared.call.GroupCall.TheVariants.{Crashed}

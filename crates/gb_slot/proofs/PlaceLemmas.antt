@@ -2,8 +2,7 @@
 use Rattle.gb_types.specs.Common.{◌≡◌, ℕ, zero, suc, ◌+◌, ◌≤◌, ◌<◌, Bool, true, false, List, [], ◌∷◌, length, map, drop, set, get_or, slice_get, Some, refl, sym, ◌∙◌, ap, subst, arith, replicate, slice_range, if◌then◌else◌, nat_cmp, list_any, length-map, get_or-replicate, list_any_at, slice_get-get_or, message_of, same}
 use Rattle.std.specs.FinSet as nodes
 use Rattle.gb_types.specs.declared.{entry.Entry.Entry, limits.TheConstants.NODES, limits.TheConstants.BYTES, message.MsgId.MsgId, node.NodeId.NodeId}
-use Rattle.gb_types.proofs.SameLemmas.{same_itself}
-use Rattle.gb_types.proofs.BoolLemmas.{and_right, or_left, or_right}
+use Rattle.gb_types.proofs.{SameLemmas.same_itself, BoolLemmas.and_right, BoolLemmas.or_left, BoolLemmas.or_right}
 use Rattle.gb_layer.specs.Common.{any_keys, no_message, message_at, all_differ, alone, apart}
 use Rattle.gb_rules.specs.Common.{has, payload_in, bytes_of}
 use Rattle.gb_slot.specs.Arrivals.{Arrival, has_arrival, nodes_of, with_node}

@@ -3,16 +3,13 @@ use Rattle.gb_types.specs.Common.{◌≡◌, ℕ, ◌+◌, ◌≤◌, ◌<◌, B
 use Rattle.std.specs.FinSet as set
 use Rattle.gb_types.specs.declared.{entry.Entry.Entry, limits.TheConstants.NODES, message.MsgId.MsgId, node.NodeId.NodeId, reply.Reply.TheVariants.Said, spec.Spec.Spec}
 use Rattle.gb_layer.specs.Common.{is_counted, all_weaker, IsFair, all_sends, IsLawful}
-use Rattle.gb_layer.specs.declared.call.Call.{Call}
-use Rattle.gb_layer.specs.declared.call.Call.TheVariants.{Say, Came, Notice}
-use Rattle.gb_stack.proofs.DeliveryLemmas.{kind_log_once, kind_log_mentioned}
-use Rattle.gb_stack.proofs.StartLemmas.{untold_me}
-use Rattle.gb_stack.specs.StackLemmas.{stack_sent_once}
+use Rattle.gb_layer.specs.declared.{call.Call.Call, call.Call.TheVariants.Say, call.Call.TheVariants.Came, call.Call.TheVariants.Notice}
+use Rattle.gb_kinds.proofs.DeliveryLemmas.{kind_log_once, kind_log_mentioned}
+use Rattle.gb_stack.proofs.StartLemmas.{untold_me, was_untold}
+use Rattle.gb_stack.specs.{StackLemmas.stack_sent_once, Stands.HasStarted}
 use Rattle.gb_stack.specs.StackState.{StackState, stack_next, stack_gives, stack_me, untold_stack}
-use Rattle.gb_stack.specs.Stands.{HasStarted}
 use Rattle.gb_rules.proofs.MentionLemmas.{bytes_of-append, has-known}
-use Rattle.gb_rules.specs.declared.call.GroupCall.{GroupCall}
-use Rattle.gb_rules.specs.declared.call.GroupCall.TheVariants.{Own, Other, Crashed}
+use Rattle.gb_rules.specs.declared.{call.GroupCall.GroupCall, call.GroupCall.TheVariants.Own, call.GroupCall.TheVariants.Other, call.GroupCall.TheVariants.Crashed}
 use Rattle.gb_rules.specs.Common.{calls_of, delivered, has, with_new, bytes_of, is_member, is_other, is_let_fall}
 use Rattle.gb_slot.specs.Reached.{IsReached, limit_of, most_messages}
 use Rattle.gb_slot.specs.Slot.{new_slot, waiting, own_entry, came_before, falls, slot_called, slot_said, slot_took}
@@ -20,7 +17,6 @@ use Rattle.gb_slot.specs.SlotState.{SlotState}
 use Rattle.gb_slot.specs.StandsFor.{StandsFor}
 use Rattle.gb_slot.proofs.FewLemmas.{ids, counted_new, once_new, few_among}
 use Rattle.gb_slot.proofs.HistoryLemmas.{fresh_stands, said_stands, came_stands, noticed_stands, took_stands, own_store}
-use Rattle.gb_stack.proofs.StartLemmas.{was_untold}
 
 -- a lawful history keeps what the laws of a layer ask for
 lawful_fair : (me : ℕ) (past : List Call) → IsLawful me past → IsFair me past

@@ -1,8 +1,7 @@
 -- The nodes from which messages were taken in.
 use Rattle.std.specs.Prelude.{Bool, List, [], ◌∷◌, ◌++◌, if◌then◌else◌}
-use Rattle.std.specs.Ordering.{nat_cmp}
+use Rattle.std.specs.{Ordering.nat_cmp, List.list_any}
 use Rattle.std.specs.FinSet as set
-use Rattle.std.specs.List.{list_any}
 use Rattle.gb_types.specs.declared.{message.MsgId.MsgId, node.NodeId.NodeId}
 use Rattle.gb_types.specs.Common.{same}
 

@@ -1,11 +1,9 @@
 -- The laws of a slot for every history that it stands for.
-use Rattle.gb_rules.specs.declared.{phase.Phase.Phase, call.GroupCall.GroupCall}
+use Rattle.gb_rules.specs.declared.{phase.Phase.Phase, call.GroupCall.GroupCall, call.GroupCall.TheVariants.Own, call.GroupCall.TheVariants.Other, call.GroupCall.TheVariants.Crashed}
 use Rattle.std.specs.Prelude.{ℕ, ◌≡◌, ◌≢◌, ◌≤◌, ◌<◌, ◌+◌, true, false, List, [], ◌∷◌, ◌++◌, length, map, drop, nat_eq, if◌then◌else◌}
-use Rattle.std.specs.Ordering.{nat_cmp}
+use Rattle.std.specs.{Ordering.nat_cmp, List.AllByRecursion, List.list_any}
 use Rattle.std.specs.FinSet as set
-use Rattle.std.specs.List.{AllByRecursion, list_any}
 use Rattle.gb_types.specs.declared.{entry.Entry.Entry, limits.TheConstants.NODES, message.MsgId.MsgId, node.NodeId.NodeId, reply.Reply.Reply, reply.Reply.TheVariants.Said, spec.Spec.Spec}
-use Rattle.gb_rules.specs.declared.call.GroupCall.TheVariants.{Own, Other, Crashed}
 use Rattle.gb_rules.specs.Common.{log_of, puts_of, falls_after, is_other}
 use Rattle.gb_slot.specs.Slot.{new_slot, shown, waiting, own_entry, slot_moved, slot_said, falls, slot_came, slot_noticed, slot_done, slot_took}
 use Rattle.gb_slot.specs.SlotState.{SlotState}

@@ -1,14 +1,12 @@
 -- The effect of each call on a slot.
 use Rattle.std.specs.Prelude.{ℕ, ◌≤◌, ◌<◌, ◌+◌, ◌-◌, ◌&&◌, ◌||◌, not, Bool, List, [], ◌∷◌, ◌++◌, length, map, drop, replicate, nat_eq, nat_le, slice_index_or, slice_set, if◌then◌else◌}
-use Rattle.std.specs.Ordering.{nat_cmp}
+use Rattle.std.specs.{Ordering.nat_cmp, List.list_all}
 use Rattle.std.specs.FinSet as set
 use Rattle.gb_types.specs.Common.{message_of}
 use Rattle.gb_types.specs.declared.{entry.Entry.Entry, message.MsgId.MsgId, node.NodeId.NodeId, reply.Reply.Reply, reply.Reply.TheVariants.Done, reply.Reply.TheVariants.Said, spec.Spec.Spec}
 use Rattle.gb_types.specs.declared.limits.TheConstants.{NODES, MESSAGES, BYTES, WINDOW}
-use Rattle.std.specs.List.{list_all}
 use Rattle.gb_layer.specs.Common.{messages}
-use Rattle.gb_layer.specs.declared.call.Call.{Call}
-use Rattle.gb_layer.specs.declared.call.Call.TheVariants.{Say, Came, Notice}
+use Rattle.gb_layer.specs.declared.{call.Call.Call, call.Call.TheVariants.Say, call.Call.TheVariants.Came, call.Call.TheVariants.Notice}
 use Rattle.gb_stack.specs.StackState.{new_stack, stack_next, stack_gives}
 use Rattle.gb_rules.specs.declared.{phase.Phase.Phase, phase.Phase.TheVariants.Made, usage.Usage.Usage}
 use Rattle.gb_rules.specs.Common.{has, entry_in, with_new, bytes_of, Shown, is_other, is_let_fall}

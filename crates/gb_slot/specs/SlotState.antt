@@ -1,6 +1,5 @@
 -- A slot as contracts see it.
-use Rattle.std.specs.Prelude.{ℕ, List}
-use Rattle.std.specs.Ordering.{nat_cmp}
+use Rattle.std.specs.{Prelude.ℕ, Prelude.List, Ordering.nat_cmp}
 use Rattle.std.specs.FinSet as set
 use Rattle.gb_types.specs.declared.{entry.Entry.Entry, message.MsgId.MsgId, node.NodeId.NodeId, spec.Spec.Spec}
 use Rattle.gb_stack.specs.StackState.{StackState}

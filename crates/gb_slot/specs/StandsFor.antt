@@ -4,8 +4,7 @@ use Rattle.std.specs.List.{AllByRecursion}
 use Rattle.std.specs.FinSet as set
 use Rattle.gb_types.specs.declared.{limits.TheConstants.NODES, message.MsgId.MsgId}
 use Rattle.gb_layer.specs.Common.{mentions, was_noticed, came_from, all_sends, IsLawful}
-use Rattle.gb_stack.specs.StackState.{stack_next, stack_gives, untold_stack}
-use Rattle.gb_stack.specs.Stands.{IsStackAfter}
+use Rattle.gb_stack.specs.{StackState.stack_next, StackState.stack_gives, StackState.untold_stack, Stands.IsStackAfter}
 use Rattle.gb_rules.specs.declared.call.GroupCall.{GroupCall}
 use Rattle.gb_rules.specs.Common.{calls_of, known, said_in, delivered, has, is_other}
 use Rattle.gb_slot.specs.Slot.{taken_for, came_before}

@@ -1,8 +1,7 @@
 //! One group at one node.
 ghost use Rattle.std.specs.Prelude.{◌≡◌, ℕ, false, ◌≢◌, OnErr, OnOk, ◌≤◌, ◌<◌, ◌&&◌, not, [], Some, take, drop, map, slice_get, length, IfOk, true, IsOkUnless, vec_capacity};
 ghost use Rattle.std.specs.FinSet as set;
-ghost use Rattle.gb_stack.specs.StackState.{new_stack};
-ghost use Rattle.gb_stack.specs.Stands.{HasStarted};
+ghost use Rattle.gb_stack.specs.{StackState.new_stack, Stands.HasStarted};
 ghost use Rattle.gb_rules.specs.Common.{entry_in, done_reply, said_reply, log_reply, IsReply, is_gone, is_member, is_other, open_answer, shut_answer, is_too_long, say_answer, fetch_answer};
 ghost use Rattle.gb_slot.specs.Reached.{most_bytes, most_messages};
 ghost use Rattle.gb_slot.specs.Slot.{IsWithinLimits};
@@ -72,8 +71,7 @@ impl Model for Slot {
     ghost use Rattle.gb_slot.specs.SlotState.{SlotState};
     ghost use Rattle.gb_slot.specs.Reached.{IsReached};
     ghost use Rattle.gb_rules.specs.Common.{is_gone};
-    ghost use Rattle.std.specs.Coded.{codes, coded_ℕ};
-    ghost use Rattle.std.specs.Ordering.{nat_cmp};
+    ghost use Rattle.std.specs.{Coded.codes, Coded.coded_ℕ, Ordering.nat_cmp};
     ghost use Rattle.std.specs.FinSet as set;
 
     ghost Value = { SlotState };

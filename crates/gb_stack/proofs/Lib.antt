@@ -1,4 +1,3 @@
 pub mod StartLemmas
 pub mod StartedLemmas
 pub mod StandsLemmas
-pub mod DeliveryLemmas

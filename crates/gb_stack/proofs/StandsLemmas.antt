@@ -11,13 +11,10 @@ use Rattle.gb_reliable.proofs.ModuleLemmas.{lazy_is_module, eager_is_module}
 use Rattle.gb_reliable.specs.Rules.{lazy_rules, eager_rules}
 use Rattle.gb_uniform.proofs.ModuleLemmas.{all_ack_is_module, majority_ack_is_module}
 use Rattle.gb_uniform.specs.Rules.{all_ack_rules, majority_ack_rules}
-use Rattle.gb_fifo.specs.FifoLemmas.{lower_after}
-use Rattle.gb_fifo.specs.FifoMachine.{FifoState, IsNew}
-use Rattle.gb_fifo.specs.Order.{ordered_after, in_order}
-use Rattle.gb_fifo.proofs.FifoOrderLemmas.{call_order, fifo_order}
-use Rattle.gb_fifo.proofs.OrderLemmas.{ordered_append}
+use Rattle.gb_fifo.specs.{FifoLemmas.lower_after, FifoMachine.FifoState, FifoMachine.IsNew, Order.ordered_after, Order.in_order}
+use Rattle.gb_fifo.proofs.{FifoOrderLemmas.call_order, FifoOrderLemmas.fifo_order, OrderLemmas.ordered_append}
 use Rattle.gb_stack.specs.InsideLemmas.{gives_into, ups_into}
-use Rattle.gb_stack.specs.Kinds.{released, kind_log}
+use Rattle.gb_kinds.specs.Kinds.{released, kind_log}
 use Rattle.gb_stack.specs.StackState.{UnorderedState, best_effort, lazy, eager, all_ack, majority_ack, unordered, fifo, relayed_next, relayed_gives, unordered_next, unordered_gives, unordered_noticing, IsUntold, stack_over, stack_next, stack_gives}
 use Rattle.gb_stack.specs.Stands.{NewStackStands, CalledStackStands, HandsUpWhatIsDelivered, SendsWhatIsBroadcast, HandsUpTheLog, LogGrows}
 use Rattle.gb_stack.specs.UnorderedLemmas.{stay, unordered_ups_handed_in}

@@ -1,8 +1,7 @@
 -- Stacks that took the notices of nodes, and no other call.
 use Rattle.gb_types.specs.Common.{◌≡◌, ℕ, ◌+◌, ◌<◌, Bool, true, false, cond, ◌&&◌, ◌||◌, not, nat_eq, nat_lt, List, [], ◌∷◌, map, refl, ap, ◌∙◌, sym, arith, list_any, nat_cmp, eqb-true, nat_tests, if◌then◌else◌, and-true, AreNodes}
-use Rattle.std.specs.Cmp.{nat_cmp_total, unsigned_tied}
+use Rattle.std.specs.{Cmp.nat_cmp_total, Cmp.unsigned_tied, FinSet.nat_cmp-IsAntisymmetric}
 use Rattle.std.specs.FinSet as set
-use Rattle.std.specs.FinSet.{nat_cmp-IsAntisymmetric}
 use Rattle.gb_types.specs.declared.{kind.Kind.Kind, kind.Order.TheVariants.Any, kind.Order.TheVariants.Fifo, limits.TheConstants.NODES, node.NodeId.NodeId, kind.Module.Module}
 use Rattle.gb_types.specs.declared.kind.Module.TheVariants.{BestEffort, Lazy, Eager, AllAck, Majority}
 use Rattle.gb_layer.specs.declared.{call.Call.Call, call.Call.TheVariants.Notice}

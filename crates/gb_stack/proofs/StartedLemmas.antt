@@ -2,8 +2,7 @@
 use Rattle.gb_types.specs.Common.{◌≡◌, ◌≢◌, ℕ, ◌+◌, ◌≤◌, false, ◌&&◌, ◌||◌, not, nat_eq, nat_lt, List, [], ◌∷◌, ◌++◌, map, count_by, refl, ap, ◌∙◌, sym, arith, subst, append_assoc, list_any, and-false, eq-eqb, append-nil, same}
 use Rattle.std.specs.FinSet as set
 use Rattle.gb_types.specs.declared.{limits.TheConstants.NODES, message.MsgId.MsgId, node.NodeId.NodeId}
-use Rattle.gb_layer.specs.declared.call.Call.{Call}
-use Rattle.gb_layer.specs.declared.call.Call.TheVariants.{Say, Came, Notice}
+use Rattle.gb_layer.specs.declared.{call.Call.Call, call.Call.TheVariants.Say, call.Call.TheVariants.Came, call.Call.TheVariants.Notice}
 use Rattle.gb_types.proofs.BoolLemmas.{or_left, or_right}
 use Rattle.gb_layer.specs.Common.{count_by-append, HandsUpEachOnce, Gives, after, all_ups, was_said, came_from, IsFair, is_of, Nodes}
 use Rattle.gb_stack.specs.StackState.{stack_next, stack_gives, stack_me, IsUntoldStack}

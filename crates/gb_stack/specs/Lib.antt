@@ -1,7 +1,5 @@
-pub mod Kinds
 pub mod StackState
 pub mod Stands
-pub mod LogLaws
 pub mod Layers
 pub mod Nothing
 pub mod StackLemmas

@@ -5,7 +5,7 @@ use Rattle.std.specs.List.{list_any}
 use Rattle.gb_types.specs.declared.{kind.Kind.Kind, limits.TheConstants.NODES, message.MsgId.MsgId, node.NodeId.NodeId}
 use Rattle.gb_layer.specs.declared.{call.Call.Call, call.Call.TheVariants.Notice}
 use Rattle.gb_layer.specs.Common.{after, all_ups, messages, IsFair, is_of, IsLawful, Nodes}
-use Rattle.gb_stack.specs.Kinds.{kind_delivers, kind_broadcasts, kind_log}
+use Rattle.gb_kinds.specs.Kinds.{kind_delivers, kind_broadcasts, kind_log}
 use Rattle.gb_stack.specs.StackState.{StackState, stack_next, stack_gives, stack_me, IsUntoldStack, untold_stack, new_stack}
 
 -- the state of a stack of a kind at the node me, in a group with these members, after these calls, the newest first

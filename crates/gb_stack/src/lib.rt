@@ -1,11 +1,9 @@
 //! The ten broadcasts that a group may choose: best-effort, lazy, eager, all-ack and majority-ack, each plain or in the order of
-//! each origin. Read `stack::Stack` first: it is made of the layers of gb_layer and gb_fifo, one over the other. specs/Kinds.antt defines
-//! what a kind delivers and broadcasts. `stands` says that each stack keeps it, and `plain` computes it slowly, straight from its
-//! definition.
+//! each origin. Read `stack::Stack` first: it is made of the layers of gb_layer and gb_fifo, one over the other. gb_kinds defines what a
+//! kind delivers and broadcasts, and `stands` says that each stack keeps it.
 #![tactic(auto)]
 
 mod nothing;
-pub mod plain;
 pub mod stack;
 pub mod stands;
 pub mod unordered;

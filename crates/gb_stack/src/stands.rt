@@ -1,6 +1,5 @@
 //! Laws: the histories that a stack stands for. They have no code.
 ghost use Rattle.gb_layer.specs.Common.{StaysAtItsNode, ComesFromItsOrigin, SendsWhatWasHandedIn, HandsUpWhatWasHandedIn, HandsUpOnce, HandsUpEachOnce, SendsOnce, NoticesOnce};
-ghost use Rattle.gb_stack.specs.LogLaws.{FifoLogRuns, KindLogMentioned, KindLogOnce, ModuleLogHasDelivered};
 ghost use Rattle.gb_stack.specs.StackState.{stack_next, stack_gives, stack_me, IsUntoldStack};
 ghost use Rattle.gb_stack.specs.Stands.{NewStackStands, CalledStackStands, HandsUpWhatIsDelivered, SendsWhatIsBroadcast, HandsUpTheLog, LogGrows, StartedHandsUpEachOnce};
 
@@ -14,20 +13,6 @@ pub fn stands()
     ensures out { SendsWhatIsBroadcast }
     ensures log { HandsUpTheLog }
     ensures grows { LogGrows }
-{}
-
-/// A law of two parts. Whatever the history, the log of a first-in first-out kind has each origin's messages as 1, 2, 3, .., without a
-/// gap. In the log of each kind, each message was said or came, and occurs once. It does nothing.
-pub fn logs()
-    ensures runs { FifoLogRuns }
-    ensures once { KindLogOnce }
-    ensures mentioned { KindLogMentioned }
-{}
-
-/// A law: whatever the history, the log of a module of broadcast has the messages that are delivered, each once. A first-in first-out
-/// kind reorders this log; another kind leaves it as it is. It does nothing.
-pub fn module_logs()
-    ensures { ModuleLogHasDelivered }
 {}
 
 /// A law: no message comes up twice from a stack that `Stack::new` returned. It does nothing.

@@ -2,8 +2,8 @@ use Rattle.gb_types.specs.Common.{List, ap, ◌∙◌, subst}
 use Rattle.gb_types.specs.declared.node.NodeId.{NodeId}
 use Rattle.gb_host.specs.Common.{SeatValue}
 use Rattle.gb_host.specs.declared.entry.SeatEntry.{SeatEntry}
-use Rattle.gb_loop.specs.Mailed.{HasCalled, HasMailed}
-use Rattle.gb_loop.specs.declared.mail.Origin.{Origin}
+use Rattle.gb_mail.specs.Mailed.{HasCalled, HasMailed}
+use Rattle.gb_mail.specs.declared.mail.Origin.{Origin}
 use Rattle.gb_loop.proofs.node_loop.run_loop.Goals as goal
 
 pub returns-in-Ok-clause-here : goal.returns-in-Ok-clause-here

@@ -1,4 +1,5 @@
-use Rattle.gb_types.specs.Common.{subst, All, take_all, All-more, FitsEntry}
+use Rattle.gb_types.specs.Common.{subst, All, take_all, All-more}
+use Rattle.gb_spelling.specs.Common.{FitsEntry}
 use Rattle.gb_record_text.proofs.fits.log_fits.Goals as goal
 
 pub loop-entry-preserved : goal.loop-entry-preserved

@@ -1,7 +1,7 @@
 use Rattle.gb_types.specs.Common.{◌+◌, ◌++◌, ◌∙◌, sym, ap, append-nil, decimal, rising_from}
 use Rattle.gb_record_text.specs.RecordText.{each_after_comma}
 use Rattle.gb_record_text.proofs.TextLemmas.{members_none, members_some, joined}
-use Rattle.gb_simulate.proofs.AnswerLemmas.{on_ok}
+use Rattle.gb_answer_text.proofs.NoticedLemmas.{on_ok}
 use Rattle.gb_record_text.proofs.writing.put_members.Goals as goal
 
 pub returns-in-None : goal.returns-in-None

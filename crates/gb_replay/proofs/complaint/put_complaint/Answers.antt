@@ -1,6 +1,6 @@
 use Rattle.gb_types.specs.Common.{◌++◌, ◌∷◌, [], ◌∙◌, sym, ap, codes, decimal}
 use Rattle.gb_record_text.proofs.TextLemmas.{joined3}
-use Rattle.gb_simulate.proofs.AnswerLemmas.{on_ok}
+use Rattle.gb_answer_text.proofs.NoticedLemmas.{on_ok}
 use Rattle.gb_replay.specs.Complaint.{complaint}
 use Rattle.gb_replay.proofs.complaint.put_complaint.Goals as goal
 

@@ -1,7 +1,7 @@
 use Rattle.gb_types.specs.Common.{refl}
 use Rattle.std.proofs.lemmas.List.Prefix.{front_rest}
 use Rattle.gb_cluster.specs.declared.event.Event.TheVariants as Events
-use Rattle.gb_simulate.proofs.AnswerLemmas.{on_ok}
+use Rattle.gb_answer_text.proofs.NoticedLemmas.{on_ok}
 use Rattle.gb_simulate.proofs.OfClusterLemmas.{takes_so}
 use Rattle.gb_simulate.proofs.obey.answer_arrival.Goals as goal
 

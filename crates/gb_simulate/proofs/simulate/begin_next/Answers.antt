@@ -1,6 +1,5 @@
 use Rattle.gb_types.specs.Common.{Ok, Some, None, ◌++◌, codes, inr, refl, ap, sym, ◌∙◌, false≢true, none-some}
-use Rattle.gb_lines.specs.Buffered.{left}
-use Rattle.gb_lines.specs.Lines.{ended}
+use Rattle.gb_lines.specs.{Buffered.left, Lines.ended}
 use Rattle.gb_schedule.specs.declared.command.Command.TheVariants.{Cluster}
 use Rattle.gb_simulate.specs.Schedule.{IsBadLine, IsNoLine}
 use Rattle.gb_simulate.specs.declared.outcome.BadLine.TheVariants.{NoCluster}

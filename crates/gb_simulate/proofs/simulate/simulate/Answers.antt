@@ -3,8 +3,7 @@ use Rattle.std.specs.Io.KnownBytes.{prepend_known}
 use Rattle.gb_types.proofs.ReadLemmas.{err_so}
 use Rattle.gb_simulate.specs.Progress.{IsAt}
 use Rattle.gb_simulate.specs.contracts.outcome.SimFaultPartialEq.TheImpl.{eq-value}
-use Rattle.gb_simulate.specs.declared.{outcome.SimEnd.SimEnd, outcome.SimFault.SimFault}
-use Rattle.gb_simulate.specs.declared.outcome.SimFault.TheVariants.{Read, Write, OutOfMemory}
+use Rattle.gb_simulate.specs.declared.{outcome.SimEnd.SimEnd, outcome.SimFault.SimFault, outcome.SimFault.TheVariants.Read, outcome.SimFault.TheVariants.Write, outcome.SimFault.TheVariants.OutOfMemory}
 use Rattle.gb_simulate.proofs.ProgressLemmas.{IsWrittenTo, over_handed, over_left, text_so, fault_so, cut_so}
 use Rattle.gb_simulate.proofs.simulate.simulate.Given.{Over}
 use Rattle.gb_simulate.proofs.simulate.simulate.Goals as goal

@@ -1,8 +1,7 @@
 use Rattle.gb_types.specs.Common.{◌≡◌, ℕ, ◌+◌, ◌<◌, ◌≤◌, ◌++◌, List, length, map, vec_capacity, ap, ◌∙◌, sym, subst, length-map, message_of}
 use Rattle.gb_types.specs.declared.message.MsgId.{MsgId}
 use Rattle.gb_layer.specs.Common.{messages, told, Names, MayTake, IsNext, told_after, message_at}
-use Rattle.gb_stack.specs.Layers.{stack_of, StackKnows}
-use Rattle.gb_stack.specs.StackState.{stack_next, stack_gives}
+use Rattle.gb_stack.specs.{Layers.stack_of, Layers.StackKnows, StackState.stack_next, StackState.stack_gives}
 use Rattle.gb_slot.specs.Outgoing.{are_below}
 use Rattle.gb_slot.proofs.broadcast.take_call.Goals as goal
 

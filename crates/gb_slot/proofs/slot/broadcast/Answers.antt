@@ -1,6 +1,5 @@
 use Rattle.gb_types.specs.Common.{◌≤◌, [], arith, sym, subst}
-use Rattle.gb_stack.specs.Layers.{StackKnows}
-use Rattle.gb_stack.specs.Stands.{HasStarted}
+use Rattle.gb_stack.specs.{Layers.StackKnows, Stands.HasStarted}
 use Rattle.gb_slot.proofs.slot.broadcast.Goals as goal
 
 pub returns-clause-started : goal.returns-clause-started

@@ -1,6 +1,6 @@
-use Rattle.gb_loop.specs.declared.mail.Mail.{Mail}
-use Rattle.gb_loop.specs.Operated.{MayTell}
-use Rattle.gb_loop.proofs.AskedLemmas.{asked_keeps}
+use Rattle.gb_mail.specs.declared.mail.Mail.{Mail}
+use Rattle.gb_mail.specs.Operated.{MayTell}
+use Rattle.gb_mail.proofs.AskedLemmas.{asked_keeps}
 use Rattle.gb_loop.proofs.node_loop.NodeLoop.turn.Goals as goal
 
 pub returns : goal.returns

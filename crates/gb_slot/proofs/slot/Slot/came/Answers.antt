@@ -3,8 +3,7 @@ use Rattle.gb_types.specs.declared.entry.Entry.{Entry}
 use Rattle.gb_layer.specs.Common.{Gives, messages, told}
 use Rattle.gb_layer.specs.declared.call.Call.TheVariants.{Came}
 use Rattle.gb_layer.specs.declared.placed_call.PlacedCall.TheVariants as placed
-use Rattle.gb_stack.specs.Layers.{stack_of, StackKnows}
-use Rattle.gb_stack.specs.StackState.{stack_next, stack_gives}
+use Rattle.gb_stack.specs.{Layers.stack_of, Layers.StackKnows, StackState.stack_next, StackState.stack_gives}
 use Rattle.gb_rules.specs.Common.{with_new, entry_in}
 use Rattle.gb_slot.specs.Outgoing.{messages_at}
 use Rattle.gb_slot.specs.Reached.{IsReached, most_messages}

@@ -3,8 +3,7 @@ use Rattle.std.specs.FinSet as set
 use Rattle.gb_layer.specs.Common.{Gives, messages, told}
 use Rattle.gb_layer.specs.declared.call.Call.TheVariants.{Say}
 use Rattle.gb_layer.specs.declared.placed_call.PlacedCall.TheVariants as placed
-use Rattle.gb_stack.specs.Layers.{stack_of, StackKnows}
-use Rattle.gb_stack.specs.StackState.{stack_next, stack_gives}
+use Rattle.gb_stack.specs.{Layers.stack_of, Layers.StackKnows, StackState.stack_next, StackState.stack_gives}
 use Rattle.gb_slot.specs.Outgoing.{messages_at}
 use Rattle.gb_slot.specs.Reached.{IsReached, most_messages}
 use Rattle.gb_slot.specs.SlotState.{SlotState}

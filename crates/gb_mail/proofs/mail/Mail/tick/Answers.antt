@@ -1,0 +1,15 @@
+use Rattle.gb_types.specs.Common.{refl}
+use Rattle.gb_node.specs.declared.event.NodeEvent.TheVariants as events
+use Rattle.gb_mail.proofs.MailLemmas.{called_more, mailed_more, quiet_call}
+use Rattle.gb_mail.proofs.mail.Mail.tick.Goals as goal
+
+pub invariant_of-self-clause-here : goal.invariant_of-self-clause-here
+invariant_of-self-clause-here g c =
+    let s = c.args.self.now in
+    called_more s.origin.node s.origin.seat.value.calls s.seat.calls c.ask.new.seat.calls s.here c.ask.ensures.here
+
+pub invariant_of-self-clause-mailed : goal.invariant_of-self-clause-mailed
+invariant_of-self-clause-mailed g c =
+    let s = c.args.self.now in
+    mailed_more g.P.Port.sends g.P.Port.receives s.lost s.lost s.origin.port.value s.port s.port s.origin.seat.value.calls s.seat.calls c.ask.new.seat.calls s.mailed (λ none. none)
+    (quiet_call g.P.Port.sends g.P.Port.receives s.lost s.port s.seat.calls c.ask.new.seat.calls s.origin.node events.Tick c.ask.result (λ _. refl) c.ask.ensures.made c.ask.ensures.none)

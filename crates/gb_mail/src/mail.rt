@@ -1,0 +1,474 @@
+//! A node with its port: all that is asked of it, comes to it and goes from it.
+ghost use Rattle.std.specs.Prelude.{◌≡◌, ◌++◌, ◌∷◌, [], true, false, Ok, Some, IfOk, IfErr, OnOk, OnErr, IfSome, IfNone};
+ghost use Rattle.gb_node.specs.declared.{answer.NodeAnswer.NodeAnswer as AnswerValue, answer.NodeAnswer.TheVariants.Sent as WasSent, answer.Sent.TheVariants.Nothing as SentNothing, answer.Sent.TheVariants.Packet as SentPacket, event.NodeEvent.TheVariants.Packet as PacketEvent};
+ghost use Rattle.gb_host.specs.Common.{IsRefused, GaveNothing};
+ghost use Rattle.gb_worker.specs.{Answered.destination, Answered.gives_packet, Asked.reply_at, Asked.reply_of, Carried.GivesNothing, Carried.HasCarried, Gained.noted};
+ghost use Rattle.gb_mail.specs.Mailed.{HasCalled, HasMailed, WasAskedToSend};
+
+use crate::counts::{
+    asked_figure, count_packet, count_reply, count_tick, places_asked, sent_figure,
+};
+use crate::hint::{Hint, hint_of, put_addresses};
+use crate::operate::operate;
+use gb_host::{Host, HostFault, Open, Seat, Tapes};
+use gb_node::{Good, NodeAnswer, NodeEvent, PacketAnswer, PacketText, Sent};
+use gb_port::Port;
+use gb_session::{Answers, Operation};
+use gb_status::{Figure, Figures};
+use gb_types::{Action, Addr, GroupCommand, NodeId, OutOfMemory, Refusal, Reply, Request};
+use std::alloc::Global;
+use std::snapshot::Snapshot;
+use std::sync::Wait;
+use std::sync::atomic::AtomicBool;
+
+/// A node, and its port and its seat as they were at first.
+pub struct Origin<L: Tapes, P> {
+    pub node: NodeId,
+    pub port: Snapshot<P>,
+    pub seat: Snapshot<Seat<L>>,
+}
+
+/// What a packet that came was.
+pub struct Arrival {
+    /// None if it was no packet for this node, or there was no memory for it.
+    pub good: Option<Good>,
+    pub hint: Hint,
+}
+
+/// What is left when no more is asked of a node: the node, its seat and its port. `lost` is the number of packets that came and for
+/// which there was no memory, up to 2^64 - 1.
+#[derive(Drop)]
+pub struct Parts<L: Tapes, P> {
+    pub node: NodeId,
+    pub seat: Seat<L>,
+    pub port: P,
+    pub lost: u64,
+}
+
+/// A node of a host that is asked from one seat, and its port.
+pub struct Mail<'a, L: Tapes, H, P: Port> {
+    rt: &'a H,
+    pub host: &'a Host<L>,
+    pub origin: Origin<L, P>,
+    pub seat: Seat<L>,
+    pub port: P,
+    pub lost: u64,
+    /// The groups that requests changed, and whether some could not be noted. The loop empties this.
+    pub touched: Vec<Addr>,
+    pub is_touched: bool,
+    /// Something was left undone since the last tick for which there was no memory. The loop empties this, and looks at all again.
+    pub is_short: bool,
+    /// An administrator has asked for the end of the server.
+    pub ends: AtomicBool,
+    /// What the node counted since the server's start. The loop adds what it counts of its connections.
+    pub figures: Figures,
+    pub ghost here: { ∥ HasCalled origin.node origin.seat.value.calls seat.calls ∥₁ },
+    pub ghost mailed: { ∥ HasMailed P.sends P.receives lost origin.port.value port origin.seat.value.calls seat.calls ∥₁ },
+}
+
+// One event at a node.
+fn ask<L: Tapes, H: Wait>(
+    rt: &H,
+    host: &Host<L>,
+    seat: &mut Seat<L>,
+    node: NodeId,
+    event: NodeEvent,
+) -> Result<NodeAnswer, HostFault>
+    ensures made { IfOk result (λ a. seat.new.calls ≡ seat.old.calls ++ noted node event a ∷ []) }
+    ensures none { OnErr result (seat.new.calls ≡ seat.old.calls) }
+    ensures err { OnErr result (seat.new ≡ seat.old) }
+    ensures fault { IfErr result (IsRefused L.plan host.now.here seat.old node) }
+    ensures here { HasCalled node seat.old.calls seat.new.calls }
+{
+    host.call(rt, seat, node, event)
+}
+
+// One event by which a node sends to another, unless it gives nothing. Returns its answer, or `None` if it gave nothing: then no event
+// has happened.
+fn ask_to_send<L: Tapes, H: Wait>(
+    rt: &H,
+    host: &Host<L>,
+    seat: &mut Seat<L>,
+    node: NodeId,
+    event: NodeEvent,
+) -> Result<Option<NodeAnswer>, HostFault>
+    ensures made { IfOk result (λ o. IfSome o (λ a. seat.new.calls ≡ seat.old.calls ++ noted node event a ∷ [])) }
+    ensures nothing { IfOk result (λ o. IfNone o (seat.new.calls ≡ seat.old.calls)) }
+    ensures gave_nothing { IfOk result (λ o. IfNone o (GaveNothing L.plan node seat.old event)) }
+    ensures none { OnErr result (seat.new.calls ≡ seat.old.calls) }
+    ensures fault { IfErr result (IsRefused L.plan host.now.here seat.old node) }
+    ensures here { HasCalled node seat.old.calls seat.new.calls }
+{
+    host.call_to_send(rt, seat, node, event, &mut Open)
+}
+
+// Returns the answer to an event by which a node sends: that nothing is sent, if the event gave nothing.
+fn answer_of(asked: Option<NodeAnswer>) -> NodeAnswer
+    ensures some { IfSome asked (λ a. result ≡ a) }
+    ensures none { IfNone asked (result ≡ WasSent SentNothing) }
+{
+    match asked {
+        Some(answer) => answer,
+        None => NodeAnswer::Sent(Sent::Nothing),
+    }
+}
+
+// What a client is told of a call.
+fn reply_of(outcome: Result<NodeAnswer, HostFault>) -> Reply
+    ensures answered { IfOk outcome (λ a. result ≡ reply_of a) }
+    ensures fault { IfErr outcome (λ why. result ≡ reply_at why) }
+{
+    match outcome {
+        Ok(NodeAnswer::Reply(reply)) => reply,
+        Err(HostFault::OutOfMemory) => Reply::Refused(Refusal::OutOfMemory),
+        Err(HostFault::Behind) => Reply::Refused(Refusal::OutOfMemory),
+        _ => Reply::Refused(Refusal::Stopped),
+    }
+}
+
+// Returns the group that a request may change.
+fn changed_by(request: &Request) -> Option<Addr> {
+    match &request.what {
+        Action::AddTenant(_) | Action::Group(_, GroupCommand::Fetch(_, _)) => None,
+        Action::Group(address, _) => Some(*address),
+    }
+}
+
+// Returns the packet that came next. None: none came, or the port failed, which is counted.
+fn next_packet<P: Port>(port: &mut P, figures: &mut Figures) -> Option<Vec<u8>>
+    ensures some { IfSome result (λ bytes. P.receives port.old (Ok (Some bytes)) port.new) }
+    ensures none { IfNone result (GivesNothing P.receives port.old port.new) }
+{
+    match port.recv() {
+        Ok(Some(bytes)) => Some(bytes),
+        Ok(None) => None,
+        Err(_) => {
+            figures.add(Figure::PortFailures, 1);
+            None
+        }
+    }
+}
+
+// Returns the packet that an answer gives.
+fn packet_of(answer: NodeAnswer) -> Option<PacketText>
+    ensures some { IfSome result (λ text. answer ≡ WasSent (SentPacket text)) }
+    ensures none { IfNone result (gives_packet answer ≡ false) }
+{
+    match answer {
+        NodeAnswer::Sent(Sent::Packet(text)) => Some(text),
+        _ => None,
+    }
+}
+
+// Returns what a node made of a good packet.
+fn good_of(answer: NodeAnswer) -> Option<Good> {
+    match answer {
+        NodeAnswer::Taken(PacketAnswer::Good(good)) => Some(good),
+        _ => None,
+    }
+}
+
+// A packet that came is one event at a node. Returns what the node made of it if it was a good one. If the host refuses the call,
+// the packet is lost and counted.
+fn take_packet<L: Tapes, H: Wait>(
+    rt: &H,
+    host: &Host<L>,
+    seat: &mut Seat<L>,
+    node: NodeId,
+    bytes: Vec<u8>,
+    lost: &mut u64,
+    figures: &mut Figures,
+) -> Option<Good>
+    ensures made { lost.new ≡ 0 → (a : AnswerValue)
+        × (seat.new.calls ≡ seat.old.calls ++ noted node (PacketEvent bytes.items) a ∷ []) }
+    ensures lost { lost.new ≡ 0 → lost.old ≡ 0 }
+    ensures here { HasCalled node seat.old.calls seat.new.calls }
+{
+    let event = NodeEvent::Packet(PacketText::from(bytes));
+    match ask(rt, host, seat, node, event) {
+        Ok(answer) => {
+            count_packet(figures, &answer);
+            good_of(answer)
+        }
+        Err(_) => {
+            *lost = lost.saturating_add(1);
+            figures.add(Figure::Lost, 1);
+            None
+        }
+    }
+}
+
+// Notes whether there was no memory for a packet.
+fn note_lack(answer: &NodeAnswer, is_short: &mut bool) {
+    let NodeAnswer::Sent(sent) = answer else {
+        return;
+    };
+    let Sent::Refused(why) = sent else {
+        return;
+    };
+    if *why == Refusal::OutOfMemory {
+        *is_short = true;
+    }
+}
+
+// One event by which a node sends to another. What it gives is handed to the port at once. Returns true if it gave a packet. A pack
+// or an again that gives nothing is no event.
+fn send_at<L: Tapes, H: Wait, P: Port>(
+    rt: &H,
+    host: &Host<L>,
+    seat: &mut Seat<L>,
+    node: NodeId,
+    event: NodeEvent,
+    to: NodeId,
+    port: &mut P,
+    is_short: &mut bool,
+    figures: &mut Figures,
+) -> bool
+    requires { destination event ≡ Some to }
+    ensures asked { WasAskedToSend L.plan host.now.here node event seat.old seat.new result }
+    ensures carried { HasCarried P.sends P.receives port.old port.new seat.old.calls seat.new.calls }
+    ensures here { HasCalled node seat.old.calls seat.new.calls }
+{
+    let figure = sent_figure(&event);
+    let asked = match ask_to_send(rt, host, seat, node, event) {
+        Ok(asked) => asked,
+        Err(_) => {
+            *is_short = true;
+            return false;
+        }
+    };
+    let answer = answer_of(asked);
+    note_lack(&answer, is_short);
+    let text = match packet_of(answer) {
+        Some(text) => text,
+        None => return false,
+    };
+    figures.add(figure, 1);
+    if port.send(to, text.as_slice()).is_err() {
+        figures.add(Figure::PortFailures, 1);
+    }
+    true
+}
+
+impl<'a, L: Tapes, H: Wait, P: Port> Mail<'a, L, H, P> {
+    /// Returns the access of a loop to its node: each event goes to the host from this seat, and each packet that the node sends to this
+    /// port. No group is touched yet, and all counts are 0.
+    pub fn new(
+        rt: &'a H,
+        host: &'a Host<L>,
+        alloc: Global,
+        node: NodeId,
+        seat: Seat<L>,
+        port: P,
+    ) -> Mail<'a, L, H, P>
+        ensures origin { (result.origin.node ≡ node) × (result.origin.port.value ≡ port) × (result.origin.seat.value ≡ seat) }
+    {
+        let origin = Origin {
+            node,
+            port: Snapshot::of(&port),
+            seat: Snapshot::of(&seat),
+        };
+        let mut figures = Figures::new();
+        figures.set(Figure::PlacesLeft, u64::from(host.plan().cluster.places));
+        Mail {
+            rt,
+            host,
+            origin,
+            seat,
+            port,
+            lost: 0,
+            touched: Vec::new(alloc),
+            is_touched: false,
+            is_short: false,
+            ends: AtomicBool::new(false),
+            figures,
+        }
+    }
+
+    /// Gives up the access. Returns the seat and the port.
+    pub fn into_parts(self) -> Parts<L, P>
+        ensures node { result.node ≡ self.entry.origin.node }
+        ensures here { ∥ HasCalled result.node self.entry.origin.seat.value.calls result.seat.calls ∥₁ }
+        ensures mailed { ∥ HasMailed P.sends P.receives result.lost self.entry.origin.port.value result.port self.entry.origin.seat.value.calls result.seat.calls ∥₁ }
+    {
+        let Mail {
+            rt: _,
+            host: _,
+            origin,
+            seat,
+            port,
+            lost,
+            touched: _,
+            is_touched: _,
+            is_short: _,
+            ends: _,
+            figures: _,
+        } = self;
+        let Origin {
+            node,
+            port: _,
+            seat: _,
+        } = origin;
+        Parts {
+            node,
+            seat,
+            port,
+            lost,
+        }
+    }
+
+    /// Makes the node tick and returns its answer. `None` if the host refused the call.
+    pub fn tick(&mut self) -> Option<NodeAnswer>
+        ensures origin { self.new.origin ≡ self.old.origin }
+    {
+        match ask(
+            self.rt,
+            self.host,
+            &mut self.seat,
+            self.origin.node,
+            NodeEvent::Tick,
+        ) {
+            Ok(answer) => Some(answer),
+            Err(_) => None,
+        }
+    }
+
+    /// Counts a tick by its answer.
+    pub fn count_tick(&mut self, answer: &NodeAnswer)
+        ensures origin { self.new.origin ≡ self.old.origin }
+    {
+        count_tick(&mut self.figures, answer);
+    }
+
+    /// Takes the next packet that came, which is one event at the node, and returns what it was. If `is_wanted`, the groups of its items
+    /// are put into `came`. `None` if no packet came, or the port failed.
+    pub fn receive(&mut self, is_wanted: bool, came: &mut Vec<Addr>) -> Option<Arrival>
+        ensures mailed { HasMailed P.sends P.receives self.new.lost self.old.port self.new.port self.old.seat.calls self.new.seat.calls }
+        ensures lost { self.new.lost ≡ 0 → self.old.lost ≡ 0 }
+        ensures origin { self.new.origin ≡ self.old.origin }
+    {
+        let bytes = match next_packet(&mut self.port, &mut self.figures) {
+            Some(bytes) => bytes,
+            None => return None,
+        };
+        let hint = hint_of(&bytes);
+        if is_wanted && !put_addresses(&bytes, came) {
+            self.is_short = true;
+        }
+        let node = self.origin.node;
+        let good = take_packet(
+            self.rt,
+            self.host,
+            &mut self.seat,
+            node,
+            bytes,
+            &mut self.lost,
+            &mut self.figures,
+        );
+        Some(Arrival { good, hint })
+    }
+
+    /// Makes one event happen at the node by which it sends to node `to`: a pack, an acknowledgement, or a frame once more. Waits for the
+    /// node's lock; the host may take memory to keep the call. If the node answers with a packet, it is handed to the port at once; the
+    /// port may lose it, as a network may. `lost`, which counts packets that came and were not handed in, stays as it was, and so does
+    /// `origin`, the seat and the port as they were at first. Returns true if the node answered with a packet; false if it answered
+    /// otherwise or the host refused the call. A pack or a frame once more that gives nothing is no event.
+    pub fn send(&mut self, event: NodeEvent, to: NodeId) -> bool
+        requires { destination event ≡ Some to }
+        ensures asked { WasAskedToSend L.plan self.old.host.now.here self.old.origin.node event self.old.seat self.new.seat result }
+        ensures mailed { HasMailed P.sends P.receives self.new.lost self.old.port self.new.port self.old.seat.calls self.new.seat.calls }
+        ensures lost { self.new.lost ≡ self.old.lost }
+        ensures origin { self.new.origin ≡ self.old.origin }
+    {
+        let node = self.origin.node;
+        send_at(
+            self.rt,
+            self.host,
+            &mut self.seat,
+            node,
+            event,
+            to,
+            &mut self.port,
+            &mut self.is_short,
+            &mut self.figures,
+        )
+    }
+
+    /// Counts one more of a figure.
+    pub fn count(&mut self, figure: Figure)
+        ensures origin { self.new.origin ≡ self.old.origin }
+    {
+        self.figures.add(figure, 1);
+    }
+
+    /// Sets a figure to a number.
+    pub fn set(&mut self, figure: Figure, number: u64)
+        ensures origin { self.new.origin ≡ self.old.origin }
+    {
+        self.figures.set(figure, number);
+    }
+
+    // Notes a group that a request changed.
+    fn touch(&mut self, address: Addr)
+        ensures seat { self.new.seat ≡ self.old.seat }
+        ensures origin { self.new.origin ≡ self.old.origin }
+    {
+        self.is_touched = true;
+        if self.touched.last() != Some(&address) && self.touched.push(address).is_err() {
+            self.is_short = true;
+        }
+    }
+
+    /// Forgets the groups that requests changed.
+    pub fn forget_touched(&mut self)
+        ensures origin { self.new.origin ≡ self.old.origin }
+    {
+        self.is_touched = false;
+        self.touched.clear();
+    }
+
+    /// Takes and returns the groups that requests changed since the last call.
+    pub fn take_touched(&mut self, alloc: Global) -> Vec<Addr>
+        ensures origin { self.new.origin ≡ self.old.origin }
+    {
+        self.is_touched = false;
+        std::mem::replace(&mut self.touched, Vec::new(alloc))
+    }
+}
+
+impl<'a, L: Tapes, H: Wait, P: Port> Answers for Mail<'a, L, H, P> {
+    ghost use Rattle.std.specs.Prelude.{◌≡◌, true};
+    ghost use Rattle.gb_mail.specs.Operated.{MayTell};
+    ghost use Rattle.gb_worker.specs.Asked.{AnswersAt};
+
+    ghost answers = { record {
+      replies = λ s request reply t. (t.origin ≡ s.origin) × AnswersAt L.plan s.origin.node s.seat.calls request reply t.seat.calls;
+      tells = MayTell L.plan.cluster.admin_key;
+    } };
+
+    fn answer(&mut self, request: Request) -> Reply {
+        let address = changed_by(&request);
+        let asked = asked_figure(&request);
+        let places = places_asked(&request);
+        let event = NodeEvent::Request(request);
+        let reply = reply_of(ask(self.rt, self.host, &mut self.seat, self.origin.node, event));
+        count_reply(&mut self.figures, asked, places, &reply);
+        if let Some(address) = address {
+            self.touch(address);
+        }
+        reply
+    }
+
+    fn operate(&self, operation: Operation, out: &mut Vec<u8>) -> Result<(), OutOfMemory> {
+        operate(
+            self.rt,
+            *out.allocator(),
+            self.host,
+            self.origin.node,
+            &self.figures,
+            &self.ends,
+            operation,
+            out,
+        )
+    }
+}
