@@ -34,7 +34,7 @@ NEEDS = {
     "group": "gb_types gb_rules gb_alone gb_group_run anyhow",
     "groups": "gb_types gb_cap gb_table anyhow",
     "host": "gb_types gb_cap gb_node gb_port gb_host gb_worker anyhow",
-    "layers": "gb_types gb_layer gb_stack anyhow",
+    "layers": "gb_types gb_spelling gb_layer gb_stack anyhow",
     "long_life": "gb_types gb_cap gb_node anyhow",
     "merge": "gb_types gb_cap gb_node gb_cluster gb_merge anyhow",
     "nodes": "gb_types gb_cap gb_node anyhow",

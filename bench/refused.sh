@@ -17,9 +17,9 @@ if [ -z "${PROGRAMS:-}" ]; then
     done
     grep -E '^gb_' "$top/crates.txt" | grep -v '_examples:' >"$work/crates.txt"
     cat >>"$work/crates.txt" <<'CRATES'
-refused: gb_types gb_node gb_cluster gb_schedule gb_simulate anyhow
-refused_host: gb_types gb_cap gb_node gb_host gb_merge anyhow
-refused_makers: gb_types gb_layer gb_slot gb_stack gb_session gb_lines gb_schedule gb_port gb_node gb_host gb_client gb_client_words gb_serve_words anyhow
+refused: gb_types gb_spelling gb_node gb_cluster gb_schedule gb_simulate anyhow
+refused_host: gb_types gb_spelling gb_cap gb_node gb_host gb_merge anyhow
+refused_makers: gb_types gb_spelling gb_layer gb_slot gb_stack gb_session gb_lines gb_schedule gb_port gb_node gb_host gb_client gb_client_words gb_serve_words anyhow
 CRATES
     cp "$top/HANDLES" "$work/HANDLES"
     for program in main host makers; do

@@ -17,8 +17,17 @@ HEAD = re.compile(r"^( *)(?:pub(?:\([a-z]+\))? )?(?:const )?(?:unsafe )?fn (\w+)
 WORD = re.compile(r"[A-Za-z_]\w*")
 # What the scope names for embedding: threads of a host with no loop, sessions over a stream, and the group by itself.
 EMBEDDING = ("gb_trace", "gb_alone", "gb_worker", "gb_duties")
-# The same by file: the rings that join such threads, and a packet written in one call, where a node writes it as it packs.
-EMBEDDED = {"crates/gb_port/src/mesh.rt": ("mesh", "connect", "unconnected", "add_inlet", "add_outlet"), "crates/gb_frame/src/writing.rt": ("encode",), "crates/gb_frame/src/item.rt": ("put_items", "view")}
+# The same by file: the rings that join such threads; a packet written in one call, where a node writes it as it packs; what a seat has
+# of its calls; and merging the tapes of a host that lacked memory for some events, which the programs tell as an audit fault.
+EMBEDDED = {
+    "crates/gb_port/src/mesh.rt": ("mesh", "connect", "unconnected", "add_inlet", "add_outlet"),
+    "crates/gb_frame/src/writing.rt": ("encode",),
+    "crates/gb_frame/src/item.rt": ("put_items", "view"),
+    "crates/gb_host/src/seat.rt": ("mine",),
+    "crates/gb_merge/src/fed.rt": ("merge_fed",),
+    "crates/gb_merge/src/rest.rt": ("fed",),
+    "crates/gb_merge/src/weave.rt": ("whole_fed",),
+}
 
 
 def needs():

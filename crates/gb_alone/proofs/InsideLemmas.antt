@@ -1,11 +1,9 @@
 -- Only nodes of the cluster make groups, and so only they say messages.
 use Rattle.gb_types.specs.Common.{◌≡◌, ℕ, ◌-◌, ◌≤◌, ◌<◌, Bool, true, false, not, ◌||◌, nat_eq, List, [], ◌∷◌, ◌++◌, Option, Some, None, refl, sym, ap, ◌∙◌, subst, arith, slice_get, is_some, nat_lt, nat_le, if◌then◌else◌, list_all, eqb-true, nat_tests, version_at}
 use Rattle.std.specs.FinSet as set
-use Rattle.gb_types.specs.declared.{entry.Entry.Entry, node.NodeId.NodeId, plan.Bounds.Bounds, reply.Reply.Reply, spec.Spec.Spec, version.Version.Version, address.Addr.Addr}
+use Rattle.gb_types.specs.declared.{entry.Entry.Entry, node.NodeId.NodeId, plan.Bounds.Bounds, reply.Reply.Reply, spec.Spec.Spec, version.Version.Version, address.Addr.Addr, reply.Reply.TheVariants.Done, reply.Reply.TheVariants.Said, reply.Reply.TheVariants.Refused}
 use Rattle.gb_types.specs.declared.refusal.Refusal.TheVariants.{NoGroup, Spent, NoRoom, BadMembers, OverReserve, Stopped}
-use Rattle.gb_types.specs.declared.reply.Reply.TheVariants.{Done, Said, Refused}
-use Rattle.gb_types.proofs.CoverLemmas.{not_all_members}
-use Rattle.gb_types.proofs.ReadLemmas.{some_same}
+use Rattle.gb_types.proofs.{CoverLemmas.not_all_members, ReadLemmas.some_same}
 use Rattle.gb_rules.specs.Common.{say_answer, is_member, is_other, is_too_long, on_made, can_name, is_bad, is_over, make_answer, by_tenant}
 use Rattle.gb_rules.specs.declared.{call.GroupCall.TheVariants.Other, call.GroupCall.TheVariants.Crashed, room.TheConstants.GENERATIONS, reserve.Reserve.Reserve}
 use Rattle.gb_alone.specs.Alone.{held_spec, Member, Group, reply_to, called, did, falls, taken_in, cut, took_notice, member_after, after, alone_from}

@@ -6,8 +6,7 @@ use Rattle.gb_types.proofs.SameLemmas.{same-true}
 use Rattle.gb_layer.specs.Common.{mentions}
 use Rattle.gb_rules.proofs.MentionLemmas.{has-known}
 use Rattle.gb_rules.specs.Common.{call_of, calls_of, known, delivered, log_of, puts_of, has, payload_in, entry_in, with_new, kind_broadcasts, kind_log_once, kind_log_mentioned, kind_broadcasts_mentioned}
-use Rattle.gb_rules.specs.declared.call.GroupCall.{GroupCall}
-use Rattle.gb_rules.specs.declared.call.GroupCall.TheVariants.{Own, Other, Crashed}
+use Rattle.gb_rules.specs.declared.{call.GroupCall.GroupCall, call.GroupCall.TheVariants.Own, call.GroupCall.TheVariants.Other, call.GroupCall.TheVariants.Crashed}
 use Rattle.gb_alone.specs.Laws.{copies}
 
 -- what holds of each message of a list holds of the entry that is found there

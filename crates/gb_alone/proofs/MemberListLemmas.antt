@@ -1,11 +1,9 @@
 -- The plain program's lists stand for the group alone.
 use Rattle.gb_types.specs.Common.{◌≡◌, ℕ, zero, suc, ◌+◌, ◌-◌, ◌<◌, ◌≤◌, ◌⊎◌, inl, inr, List, [], ◌∷◌, ◌++◌, length, take, get_or, nat_eq, Bool, true, false, not, ◌&&◌, ◌||◌, ◌∙◌, ap, sym, subst, refl, arith, length-append, range_with_len, map, fold, replicate, slice_get, slice_index_or, slice_set, Option, Some, None, is_some, nat_lt, if◌then◌else◌, get_or-replicate, get_or-set_same, get_or-set_other, get_or_append_left, length-set, length-map, map-append, take_more, fold-append, get_or-append_seam, take-nil, cases_lt, eqb_tells, version_at}
-use Rattle.gb_types.specs.declared.{entry.Entry.Entry, limits.TheConstants.NODES, node.NodeId.NodeId, plan.Bounds.Bounds, reply.Reply.Reply, refusal.Refusal.TheVariants.Stopped, spec.Spec.Spec, version.Version.Version, address.Addr.Addr}
-use Rattle.gb_types.specs.declared.reply.Reply.TheVariants.{Done, Said, Refused}
+use Rattle.gb_types.specs.declared.{entry.Entry.Entry, limits.TheConstants.NODES, node.NodeId.NodeId, plan.Bounds.Bounds, reply.Reply.Reply, refusal.Refusal.TheVariants.Stopped, spec.Spec.Spec, version.Version.Version, address.Addr.Addr, reply.Reply.TheVariants.Done, reply.Reply.TheVariants.Said, reply.Reply.TheVariants.Refused}
 use Rattle.gb_rules.specs.Common.{puts_of, calls_of, Shown, is_other, is_too_long, open_answer, shut_answer, drop_answer, say_answer, fetch_answer, on_made, make_answer, by_tenant}
-use Rattle.gb_rules.specs.declared.{call.GroupCall.GroupCall, phase.Phase.Phase, phase.Phase.TheVariants.Gone, reserve.Reserve.Reserve}
+use Rattle.gb_rules.specs.declared.{call.GroupCall.GroupCall, phase.Phase.Phase, phase.Phase.TheVariants.Gone, reserve.Reserve.Reserve, call.GroupCall.TheVariants.Own, call.GroupCall.TheVariants.Other, call.GroupCall.TheVariants.Crashed}
 use Rattle.gb_layer.specs.Common.{was_noticed}
-use Rattle.gb_rules.specs.declared.call.GroupCall.TheVariants.{Own, Other, Crashed}
 use Rattle.gb_alone.specs.Alone.{Member, Group, held_spec, shown, running_reply, reply_to, cut, item_done, took_notice, put_to, called, did, commanded, falls, item_came, taken_in, member_after, after, nobody, alone, alone_from}
 use Rattle.gb_alone.specs.MemberLists.{MemberValue, new_member, member_of, row_with, rows_with, value_called, value_dropped, carried_row, value_did, value_commanded, value_came, value_taken_in, value_took, value_done, value_cut, value_noticed, value_at, value_after, values_after, StandsForMember, StandForMembers}
 use Rattle.gb_alone.specs.Observation.{numbers_below}

@@ -1,14 +1,11 @@
 -- One group, by itself: no links, frames, packets or other groups. Histories have the newest first.
 use Rattle.std.specs.Prelude.{ℕ, zero, suc, ◌+◌, ◌-◌, ◌≡◌, ◌≤◌, ◌<◌, ◌&&◌, ◌||◌, not, Bool, true, false, List, [], ◌∷◌, ◌++◌, length, fold, take, Option, Some, None, is_some, option_map, slice_get, nat_eq, nat_lt, if◌then◌else◌}
-use Rattle.std.specs.List.{list_all, list_any, range_with_len}
-use Rattle.std.specs.Option.{option_map_or}
+use Rattle.std.specs.{List.list_all, List.list_any, List.range_with_len, Option.option_map_or}
 use Rattle.gb_types.specs.Common.{rising, version_at}
-use Rattle.gb_types.specs.declared.{entry.Entry.Entry, node.NodeId.NodeId, plan.Bounds.Bounds, refusal.Refusal.TheVariants.Stopped, reply.Reply.Reply, spec.Spec.Spec, version.Version.Version, address.Addr.Addr}
-use Rattle.gb_types.specs.declared.reply.Reply.TheVariants.{Done, Said, Refused}
+use Rattle.gb_types.specs.declared.{entry.Entry.Entry, node.NodeId.NodeId, plan.Bounds.Bounds, refusal.Refusal.TheVariants.Stopped, reply.Reply.Reply, spec.Spec.Spec, version.Version.Version, address.Addr.Addr, reply.Reply.TheVariants.Done, reply.Reply.TheVariants.Said, reply.Reply.TheVariants.Refused}
 use Rattle.gb_layer.specs.Common.{was_noticed}
 use Rattle.gb_rules.specs.Common.{calls_of, said_in, bytes_in, log_of, puts_of, falls_after, Shown, is_gone, is_other, is_too_long, open_answer, shut_answer, drop_answer, say_answer, fetch_answer, on_made, make_answer, by_tenant}
-use Rattle.gb_rules.specs.declared.{call.GroupCall.GroupCall, phase.Phase.Phase, usage.Usage.Usage, reserve.Reserve.Reserve}
-use Rattle.gb_rules.specs.declared.call.GroupCall.TheVariants.{Own, Other, Crashed}
+use Rattle.gb_rules.specs.declared.{call.GroupCall.GroupCall, phase.Phase.Phase, usage.Usage.Usage, reserve.Reserve.Reserve, call.GroupCall.TheVariants.Own, call.GroupCall.TheVariants.Other, call.GroupCall.TheVariants.Crashed}
 use Rattle.gb_rules.specs.declared.phase.Phase.TheVariants.{Made, Opened, Shut, Gone}
 use Rattle.gb_alone.specs.declared.{event.GroupEvent.GroupEvent, event.GroupStep.GroupStep}
 use Rattle.gb_alone.specs.declared.event.GroupEvent.TheVariants.{Tenant, Make as AskMake, Open as AskOpen, Shut as AskShut, Drop as AskDrop, Say as AskSay, Fetch as AskFetch, OtherMade, OtherDropped, Took, Came, Done as Acknowledged, Notice, Stop}

@@ -5,8 +5,7 @@ use Rattle.gb_types.specs.declared.{entry.Entry.Entry, limits.TheConstants.NODES
 use Rattle.gb_types.specs.Common.{version_at}
 use Rattle.gb_layer.specs.Common.{was_noticed}
 use Rattle.gb_rules.specs.Common.{calls_of, puts_of, is_other, is_too_long}
-use Rattle.gb_rules.specs.declared.call.GroupCall.TheVariants.{Own, Other, Crashed}
-use Rattle.gb_rules.specs.declared.{call.GroupCall.GroupCall, phase.Phase.Phase, reserve.Reserve.Reserve}
+use Rattle.gb_rules.specs.declared.{call.GroupCall.TheVariants.Own, call.GroupCall.TheVariants.Other, call.GroupCall.TheVariants.Crashed, call.GroupCall.GroupCall, phase.Phase.Phase, reserve.Reserve.Reserve}
 use Rattle.gb_rules.specs.declared.phase.Phase.TheVariants.{Made, Opened, Shut, Gone}
 use Rattle.gb_alone.specs.Alone.{Group, Member, held_spec, falls, reply_to}
 use Rattle.gb_alone.specs.Observation.{numbers_below}

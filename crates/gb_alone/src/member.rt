@@ -76,9 +76,8 @@ pub(crate) struct Member {
 }
 
 impl Model for Member {
-    ghost use Rattle.std.specs.Coded.{codes, coded_ℕ};
+    ghost use Rattle.std.specs.{Coded.codes, Coded.coded_ℕ, Ordering.nat_cmp};
     ghost use Rattle.std.specs.FinSet as set;
-    ghost use Rattle.std.specs.Ordering.{nat_cmp};
     ghost use Rattle.gb_alone.specs.MemberLists.{MemberValue};
 
     ghost Value = { MemberValue };

@@ -3,9 +3,8 @@ use Rattle.gb_types.specs.Common.{◌≡◌, List, [], ◌∷◌, ◌++◌, map,
 use Rattle.gb_types.specs.declared.{plan.Plan.Plan, node.NodeId.NodeId}
 use Rattle.gb_node.specs.declared.{answer.NodeAnswer.NodeAnswer, answer.NodeAnswer.TheVariants.Sent, answer.Sent.TheVariants.Packet as SentPacket, event.NodeEvent.NodeEvent, event.NodeEvent.TheVariants.Packet as Came, tape.TapeEntry.TapeEntry}
 use Rattle.gb_cluster.specs.Common.{packet_numbered, ClusterValue, new_cluster, PacketsAreHonest, Did, IsOf}
-use Rattle.gb_cluster.specs.declared.{answer.Answer.Answer, event.Event.Event, event.Event.TheVariants.At, event.Event.TheVariants.Arrive, posted.Posted.Posted}
+use Rattle.gb_cluster.specs.declared.{answer.Answer.Answer, event.Event.Event, event.Event.TheVariants.At, event.Event.TheVariants.Arrive, posted.Posted.Posted, answer.Sending.TheVariants.Packet as SendingPacket, answer.Sending.TheVariants.Nothing as SendingNothing, answer.Sending.TheVariants.Refused as SendingRefused}
 use Rattle.gb_cluster.specs.declared.answer.Answer.TheVariants.{Reply as AnswerReply, Taken as AnswerTaken, Sent as AnswerSent, Ticked as AnswerTicked, Halted as AnswerHalted, NoPacket, NotNoise}
-use Rattle.gb_cluster.specs.declared.answer.Sending.TheVariants.{Packet as SendingPacket, Nothing as SendingNothing, Refused as SendingRefused}
 use Rattle.gb_merge.specs.Common.{IsMergedFront, Pick, told, did, Leads, AreTold, is_refused}
 use Rattle.gb_merge.specs.Merged as merged
 use Rattle.gb_merge.proofs.RerunLemmas.{NodeLaws, rerun}

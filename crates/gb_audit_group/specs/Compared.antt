@@ -6,7 +6,8 @@ use Rattle.gb_node.specs.declared.tape.TapeEntry.{TapeEntry}
 use Rattle.gb_alone.specs.Common.{IsLegal, observed_alone}
 use Rattle.gb_cluster.specs.Common.{Did}
 use Rattle.gb_cluster.specs.declared.event.Event.{Event}
-use Rattle.gb_merge.specs.Common.{alone_in, project, IsMergedFront, run_of}
+use Rattle.gb_isolation.specs.{Isolation.alone_in, Project.project}
+use Rattle.gb_merge.specs.Common.{IsMergedFront, run_of}
 use Rattle.gb_trace.specs.Observed.{observed}
 use Rattle.gb_audit_group.specs.declared.compare.GroupSeen.{GroupSeen}
 

@@ -1,6 +1,6 @@
 -- The lines that tell what an audited run shows of a group.
 use Rattle.std.specs.Prelude.{ℕ, ◌+◌, List, [], ◌∷◌, ◌++◌, codes, decimal, length, map, if◌then◌else◌}
-use Rattle.gb_types.specs.Common.{group_word}
+use Rattle.gb_spelling.specs.Common.{group_word}
 use Rattle.gb_types.specs.declared.{address.Addr.Addr, entry.Entry.Entry}
 use Rattle.gb_alone.specs.Common.{SeenAt}
 use Rattle.gb_record_text.specs.RecordText.{after_space, each_after_comma}

@@ -1,13 +1,13 @@
 //! The lines that tell what an audited run shows of a group. If there is no memory, a part of them may have been appended.
 ghost use Rattle.std.specs.Prelude.{◌≡◌, ◌++◌, codes, decimal, length, map, OnOk};
-ghost use Rattle.gb_types.specs.Common.{group_word};
+ghost use Rattle.gb_spelling.specs.Common.{group_word};
 ghost use Rattle.gb_record_text.specs.RecordText.{after_space, each_after_comma};
 ghost use Rattle.gb_audit_group.specs.GroupText.{counts_text, fact_text, group_head, group_text, node_line, node_lines, seen_text, verdict_text};
 
 use crate::compare::GroupSeen;
 use gb_alone::{NodeSeen, Observation};
+use gb_spelling::number::put_number;
 use gb_types::memory::put_bytes;
-use gb_types::number::put_number;
 use gb_types::{Addr, Entries, OutOfMemory};
 
 // Appends a number after a space.

@@ -1,15 +1,12 @@
 -- Records, one after another, and the tapes that they make.
 use Rattle.gb_types.specs.Common.{◌≡◌, ◌≢◌, ℕ, zero, suc, ◌+◌, ◌<◌, ◌≤◌, List, [], ◌∷◌, ◌++◌, length, map, take, get_or, All, ◌↔◌, refl, sym, ap, ◌∙◌, subst, arith, Option, Some, None, IsSome, Vec, vec_len, AllPairs, sum, slice_get, range_with_len, AllZip, set, take_more, take_all, take-map, get_or-take, length-take-le, map-append, get_or-set_same, get_or-set_other, length-map, same_lists, get_or_default, append-nil, All-append, All-get_or, All-head, All-tail, sum_by-take-le, sum_by-append, sum_by-cons, version_at}
-use Rattle.std.proofs.Math.ListN.{get_or-map}
-use Rattle.std.proofs.lemmas.Slice.Zip.{all_zipped_more}
-use Rattle.std.proofs.lemmas.List.FromFn.{length-map-range_with_len, get_or-map-range_with_len}
+use Rattle.std.proofs.{Math.ListN.get_or-map, lemmas.Slice.Zip.all_zipped_more, lemmas.List.FromFn.length-map-range_with_len, lemmas.List.FromFn.get_or-map-range_with_len}
 use Rattle.std.specs.declared.alloc.Global.{Global}
 use Rattle.gb_types.specs.declared.{version.Version.Version, version.Version.TheVariants.One}
 use Rattle.gb_node.specs.declared.tape.TapeEntry.{TapeEntry}
 use Rattle.gb_record_text.specs.declared.{head.RecordHead.RecordHead, reader.Record.Record}
 use Rattle.gb_audit_run.specs.declared.audit.Source.{Source}
-use Rattle.gb_record_text.specs.Fits.{FitsRecord}
-use Rattle.gb_record_text.specs.Laws.{AreSame, OneTextOneRecord}
+use Rattle.gb_record_text.specs.{Fits.FitsRecord, Laws.AreSame, Laws.OneTextOneRecord}
 use Rattle.gb_audit_run.specs.Audits.{AreOfOne, HasText, entries_of, IsAllAnswered, AreTheOnly}
 
 -- a test of each element of a list, from the first on

@@ -1,15 +1,12 @@
 -- What an audit returns, from the texts of records that it was given.
 use Rattle.std.specs.Prelude.{◌≡◌, ◌≢◌, ◌↔◌, ℕ, ◌<◌, List, [], length, map, sum, find, nat_eq, All, AllPairs, Bool}
-use Rattle.std.specs.List.{AllZip, range_with_len}
-use Rattle.std.specs.Option.{option_map_or}
+use Rattle.std.specs.{List.AllZip, List.range_with_len, Option.option_map_or}
 use Rattle.gb_types.specs.Common.{version_at}
 use Rattle.gb_types.specs.declared.plan.Plan.{Plan}
 use Rattle.gb_node.specs.declared.tape.TapeEntry.{TapeEntry}
 use Rattle.gb_cluster.specs.Common.{IsClusterPlan}
 use Rattle.gb_merge.specs.Common.{IsMergedFront}
-use Rattle.gb_record_text.specs.Fits.{FitsRecord}
-use Rattle.gb_record_text.specs.Laws.{IsAnswered, AreSame}
-use Rattle.gb_record_text.specs.Records.{IsRecord}
+use Rattle.gb_record_text.specs.{Fits.FitsRecord, Laws.IsAnswered, Laws.AreSame, Records.IsRecord}
 use Rattle.gb_record_text.specs.declared.{head.RecordHead.RecordHead, reader.Record.Record}
 use Rattle.gb_audit_run.specs.Counts.{AreCounted}
 use Rattle.gb_audit_run.specs.declared.{audit.Audited.Audited, audit.Source.Source, audit.Verdict.TheVariants.Whole, cluster.ClusterKeys.ClusterKeys}

@@ -2,8 +2,7 @@
 ghost use Rattle.std.specs.Prelude.{◌≡◌, ◌≢◌, ◌<◌, ◌↔◌, length, map, sum, AllPairs, All, IfOk, IfSome, IfNone, IsTrue};
 ghost use Rattle.std.specs.List.{range_with_len};
 ghost use Rattle.gb_cluster.specs.Common.{IsClusterPlan};
-ghost use Rattle.gb_record_text.specs.Fits.{FitsRecord};
-ghost use Rattle.gb_record_text.specs.Laws.{IsAnswered};
+ghost use Rattle.gb_record_text.specs.{Fits.FitsRecord, Laws.IsAnswered};
 ghost use Rattle.gb_audit_run.specs.Counts.{AreCounted};
 ghost use Rattle.gb_audit_run.specs.Audits.{AreOfOne, AreRecords, IsAudit, IsOfPlan, entries_of};
 ghost use Rattle.gb_audit_run.specs.declared.audit.Verdict.TheVariants.{Whole};

@@ -1,7 +1,7 @@
 //! The lines that an audit prints. Each function appends a line, or a part of one, to the text `out`.
+use gb_spelling::number::put_number;
 use gb_types::OutOfMemory;
 use gb_types::memory::put_bytes;
-use gb_types::number::put_number;
 
 /// Appends a space, `name`, a space and the number in decimal. `Err` if memory runs out; then `out` may have a part of it.
 pub fn put_field(out: &mut Vec<u8>, name: &[u8], number: u64) -> Result<(), OutOfMemory> {

@@ -2,8 +2,7 @@
 use Rattle.gb_types.specs.Common.{◌≡◌, ℕ, ◌<◌, ◌^◌, refl, sym, ap, ◌∙◌, w16, to_be_bytes, from_be_bytes}
 use Rattle.std.proofs.lemmas.Nat.{from_be_bytes-to_be_bytes_2}
 use Rattle.gb_types.proofs.SameLemmas.{same_number}
-use Rattle.gb_cap.specs.declared.token.Need.{Need}
-use Rattle.gb_cap.specs.declared.token.Need.TheVariants.{Admin, Tenant, Member}
+use Rattle.gb_cap.specs.declared.{token.Need.Need, token.Need.TheVariants.Admin, token.Need.TheVariants.Tenant, token.Need.TheVariants.Member}
 use Rattle.gb_cap.specs.Token.{text_of, Fits}
 
 -- a number in two bytes is read back

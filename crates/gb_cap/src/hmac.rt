@@ -1,7 +1,6 @@
 // HMAC-SHA-256 (RFC 2104).
 ghost use Rattle.std.specs.Prelude.{◌≡◌, ℕ, ◌≤◌, List, ◌++◌, length};
-ghost use Rattle.sha2.specs.Hashers.{Holds256};
-ghost use Rattle.sha2.specs.Sha256.{sha256};
+ghost use Rattle.sha2.specs.{Hashers.Holds256, Sha256.sha256};
 ghost use Rattle.gb_cap.specs.Hmac.{filled, padded, hmac_of};
 
 use sha2::{Digest, Sha256};

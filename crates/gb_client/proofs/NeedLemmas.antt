@@ -1,12 +1,14 @@
 -- What the words of a request need, and what a reader of words answers.
-use Rattle.gb_types.specs.Common.{◌≡◌, ℕ, List, ◌∷◌, ◌∙◌, decimal, refl, sym, ap, IsShort, group_word}
+use Rattle.gb_types.specs.Common.{◌≡◌, ℕ, List, ◌∷◌, ◌∙◌, decimal, refl, sym, ap}
 use Rattle.gb_types.proofs.ReadLemmas.{Reads, found, only, reads_one}
-use Rattle.gb_types.specs.declared.{command_words.CommandHead.CommandHead, node.NodeId.NodeId, address.Addr.Addr}
-use Rattle.gb_types.specs.declared.command_words.CommandHead.TheVariants.{Make, Open, Shut, Drop, Say, Fetch}
+use Rattle.gb_spelling.specs.Common.{IsShort, group_word}
+use Rattle.gb_spelling.specs.declared.command_words.CommandHead.{CommandHead}
+use Rattle.gb_spelling.specs.declared.command_words.CommandHead.TheVariants.{Make, Open, Shut, Drop, Say, Fetch}
+use Rattle.gb_types.specs.declared.{node.NodeId.NodeId, address.Addr.Addr}
 use Rattle.gb_cap.specs.declared.{token.Need.Need, token.Need.TheVariants.Tenant, token.Need.TheVariants.Member}
 use Rattle.gb_session.specs.declared.head.Head.TheVariants.{Group}
 use Rattle.gb_client.specs.Requests.{NeedsTenant, NeedsMember, Needs}
-use Rattle.gb_types.proofs.RequestWordLemmas.{AreAddressWords}
+use Rattle.gb_spelling.proofs.RequestWordLemmas.{AreAddressWords}
 
 -- a word of a number of two bytes
 abbrev pub IsShortWord : List ℕ → ℕ → Type 0

@@ -1,10 +1,10 @@
 -- What the text of a log is, word for word.
-use Rattle.gb_types.specs.Common.{◌≡◌, ℕ, zero, suc, ◌+◌, ◌^◌, ◌<◌, get_or, take, List, [], ◌∷◌, ◌++◌, false, eqb, length, map, codes, refl, ap, sym, ◌∙◌, arith, decimal, append_assoc, append-nil, Option, Some, None, IfSome, IfNone, All, flat_map, slice_split, join_with_byte, ne_eqb, map-append, All-nil, All-cons, All-head, All-tail, refusal_number, refusal_name, FitsEntry, FitsReply, payload_word, entry_text, reply_spelling, words_of}
+use Rattle.gb_types.specs.Common.{◌≡◌, ℕ, zero, suc, ◌+◌, ◌^◌, ◌<◌, get_or, take, List, [], ◌∷◌, ◌++◌, false, eqb, length, map, codes, refl, ap, sym, ◌∙◌, arith, decimal, append_assoc, append-nil, Option, Some, None, IfSome, IfNone, All, flat_map, slice_split, join_with_byte, ne_eqb, map-append, All-nil, All-cons, All-head, All-tail, refusal_number, refusal_name}
 use Rattle.std.proofs.lemmas.List.Splits.{slice_split_none, slice_split_at, join_with_byte-slice_split}
 use Rattle.gb_types.specs.declared.{entry.Entry.Entry, refusal.Refusal.Refusal, reply.Reply.TheVariants.Log, reply.Reply.TheVariants.Refused}
 use Rattle.gb_types.specs.declared.refusal.Refusal.TheVariants as refusals
-use Rattle.gb_types.proofs.CutLemmas.{Without, without-append, without-decimal}
-use Rattle.gb_types.proofs.PayloadLemmas.{without-payload_word}
+use Rattle.gb_spelling.specs.Common.{FitsEntry, FitsReply, payload_word, entry_text, reply_spelling, words_of}
+use Rattle.gb_spelling.proofs.{CutLemmas.Without, CutLemmas.without-append, CutLemmas.without-decimal, PayloadLemmas.without-payload_word}
 use Rattle.gb_client.specs.Answers.{parts_of, log_words, refusal_words}
 use denote.Ref.{Bor}
 

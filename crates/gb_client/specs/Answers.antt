@@ -2,7 +2,8 @@
 use Rattle.std.specs.Prelude.{ℕ, List, [], ◌∷◌, ◌++◌, codes, decimal, length, map}
 use Rattle.std.specs.List.{flat_map}
 use Rattle.gb_types.specs.declared.{entry.Entry.Entry, refusal.Refusal.Refusal, reply.Reply.Reply, reply.Reply.TheVariants.Refused}
-use Rattle.gb_types.specs.Common.{refusal_number, refusal_name, payload_word, entry_text}
+use Rattle.gb_types.specs.Common.{refusal_number, refusal_name}
+use Rattle.gb_spelling.specs.Common.{payload_word, entry_text}
 use Rattle.gb_client.specs.declared.fault.ClientFault.{ClientFault}
 use Rattle.gb_client.specs.declared.fault.ClientFault.TheVariants.{Words, Secrets, Missing, NoExport, Connection, Lost, Late, NoReply, Output, OutOfMemory}
 

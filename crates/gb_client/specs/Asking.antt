@@ -1,8 +1,9 @@
 -- From words to a request.
 use Rattle.std.specs.Prelude.{◌≡◌, ℕ, Bool, true, false, List, ◌∷◌, Option, Some, None}
 use Rattle.hex.specs.Hex.{encode_lower}
-use Rattle.gb_types.specs.Common.{payload_word}
-use Rattle.gb_types.specs.declared.{command_words.CommandHead.TheVariants.Say, node.NodeId.NodeId, request.Request.Request}
+use Rattle.gb_spelling.specs.Common.{payload_word}
+use Rattle.gb_spelling.specs.declared.command_words.CommandHead.TheVariants.{Say}
+use Rattle.gb_types.specs.declared.{node.NodeId.NodeId, request.Request.Request}
 use Rattle.gb_cap.specs.declared.token.Need.{Need}
 use Rattle.gb_session.specs.Grammar.{IsRequestText}
 use Rattle.gb_session.specs.declared.head.Head.{Head}

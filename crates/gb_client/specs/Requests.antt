@@ -2,10 +2,10 @@
 use Rattle.std.specs.Prelude.{◌≡◌, ℕ, List, ◌∷◌, ◌++◌, codes, decimal, drop}
 use Rattle.std.specs.List.{flat_map}
 use Rattle.hex.specs.Hex.{encode_lower}
-use Rattle.gb_types.specs.Common.{IsShort, IsGroup, group_word}
-use Rattle.gb_types.specs.declared.{address.Addr.Addr, command_words.CommandHead.TheVariants.Say, command_words.CommandHead.TheVariants.Fetch, node.NodeId.NodeId}
-use Rattle.gb_cap.specs.declared.token.Need.{Need}
-use Rattle.gb_cap.specs.declared.token.Need.TheVariants.{Admin, Tenant, Member}
+use Rattle.gb_spelling.specs.Common.{IsShort, IsGroup, group_word}
+use Rattle.gb_types.specs.declared.{address.Addr.Addr, node.NodeId.NodeId}
+use Rattle.gb_spelling.specs.declared.command_words.CommandHead.TheVariants.{Say, Fetch}
+use Rattle.gb_cap.specs.declared.{token.Need.Need, token.Need.TheVariants.Admin, token.Need.TheVariants.Tenant, token.Need.TheVariants.Member}
 use Rattle.gb_session.specs.declared.head.Head.{Head}
 use Rattle.gb_session.specs.declared.head.Head.TheVariants as heads
 use Rattle.gb_session.specs.Head.{head_word}

@@ -1,10 +1,9 @@
 -- The keys and the token that a client is given.
 use Rattle.std.specs.Prelude.{ℕ, ◌==◌, List, codes, length, drop, fold, nat_eq, Option, Some, None, if◌then◌else◌, option_map, option_and_then}
 use Rattle.std.specs.List.{starts_with, slice_split}
-use Rattle.gb_types.specs.TokenWord.{token_of as word_token}
+use Rattle.gb_spelling.specs.TokenWord.{token_of as word_token}
 use Rattle.gb_cap.specs.Token.{token_of}
-use Rattle.gb_cap.specs.declared.token.Need.{Need}
-use Rattle.gb_cap.specs.declared.token.Need.TheVariants.{Admin, Tenant, Member}
+use Rattle.gb_cap.specs.declared.{token.Need.Need, token.Need.TheVariants.Admin, token.Need.TheVariants.Tenant, token.Need.TheVariants.Member}
 use Rattle.gb_client.specs.declared.secrets.Secrets.{Secrets}
 
 -- the secrets with those of one more line: `admin KEY`, `tenant KEY` or `token TOKEN`; an empty line has none

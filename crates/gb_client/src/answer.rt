@@ -2,16 +2,17 @@
 ghost use Rattle.std.specs.Prelude.{◌≡◌, ◌==◌, ◌<◌, ◌^◌, ℕ, List, true, false, decimal, All, IfOk, IfSome, IfNone, map};
 ghost use Rattle.std.specs.List.{slice_split};
 ghost use Rattle.gb_types.specs.declared.{limits.TheConstants.NODES, entry.Entry.Entry as TheEntry, refusal.Refusal.Refusal as TheRefusal, reply.Reply.Reply as TheReply};
-ghost use Rattle.gb_types.specs.Common.{FitsEntry, FitsReply, payload_word, entry_text, reply_spelling, refusal_number};
+ghost use Rattle.gb_spelling.specs.Common.{FitsEntry, FitsReply, payload_word, entry_text, reply_spelling};
 ghost use Rattle.hex.specs.Hex.{IsBytes};
 ghost use Rattle.gb_client.specs.Answers.{reply_status, parts_of, log_words, refusal_words};
+ghost use Rattle.gb_types.specs.Common.{refusal_number};
 
+use gb_spelling::number::read_number;
+use gb_spelling::payload_word::{put_payload, read_payload};
+use gb_spelling::reply_text::reply_text;
+use gb_spelling::request_words::read_u16;
+use gb_spelling::words::split_words;
 use gb_types::limits::NODES;
-use gb_types::number::read_number;
-use gb_types::payload_word::{put_payload, read_payload};
-use gb_types::reply_text::reply_text;
-use gb_types::request_words::read_u16;
-use gb_types::words::split_words;
 use gb_types::{Entries, Entry, NodeId, OutOfMemory, Payload, Refusal, Reply};
 use std::alloc::Global;
 

@@ -7,8 +7,8 @@ ghost use Rattle.gb_client.specs.Requests.{await_of};
 use crate::fault::ClientFault;
 use gb_session::ask::read_ask;
 use gb_session::{Ask, Awaited};
+use gb_spelling::number::put_number;
 use gb_types::OutOfMemory;
-use gb_types::number::put_number;
 use std::alloc::Global;
 
 // The bytes of the word `fetch`.

@@ -1,11 +1,12 @@
 //! Why the words of a request spell no request: which word is wrong, and what it takes.
 use crate::task::Asked;
 use gb_session::Head;
-use gb_types::kind_word::read_kind;
-use gb_types::members_word::read_members;
-use gb_types::payload_word::read_payload;
-use gb_types::request_words::{read_group, read_u16, read_u32};
-use gb_types::{CommandHead, OutOfMemory};
+use gb_spelling::CommandHead;
+use gb_spelling::kind_word::read_kind;
+use gb_spelling::members_word::read_members;
+use gb_spelling::payload_word::read_payload;
+use gb_spelling::request_words::{read_group, read_u16, read_u32};
+use gb_types::OutOfMemory;
 use std::alloc::Global;
 
 /// What a word takes.

@@ -1,7 +1,6 @@
 //! Messages of a session: a length, four bytes with the high byte first, and a body.
 ghost use Rattle.std.specs.Prelude.{◌≡◌, ◌≤◌, ◌⊎◌, take, length, vec_len, IfOk, IfErr, OnOk};
-ghost use Rattle.std.specs.Io.KnownBytes.{Appends, Consumes};
-ghost use Rattle.std.specs.Int.{from_be_bytes, to_be_bytes, w32};
+ghost use Rattle.std.specs.{Io.KnownBytes.Appends, Io.KnownBytes.Consumes, Int.from_be_bytes, Int.to_be_bytes, Int.w32};
 ghost use Rattle.gb_session.specs.Streams.{framed};
 
 use crate::fault::ClientFault;

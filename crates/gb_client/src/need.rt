@@ -6,8 +6,9 @@ ghost use Rattle.gb_client.specs.Requests.{NeedsTenant, NeedsMember, Needs};
 
 use gb_cap::Need;
 use gb_session::Head;
-use gb_types::request_words::{read_address, read_u16};
-use gb_types::{CommandHead, NodeId};
+use gb_spelling::CommandHead;
+use gb_spelling::request_words::{read_address, read_u16};
+use gb_types::NodeId;
 
 // Words that begin with a tenant.
 fn tenant_need(words: &[&[u8]]) -> Option<Need>

@@ -3,9 +3,9 @@ ghost use Rattle.std.specs.Prelude.{◌≡◌, ◌++◌, ◌≤◌, codes, decim
 ghost use Rattle.hex.specs.Hex.{encode_lower};
 ghost use Rattle.gb_session.specs.declared.grammar.TheConstants.{BODY};
 
-use gb_types::number::{put_number, read_number};
-use gb_types::request_words::{read_address, read_u32};
-use gb_types::words::split_words;
+use gb_spelling::number::{put_number, read_number};
+use gb_spelling::request_words::{read_address, read_u32};
+use gb_spelling::words::split_words;
 use gb_types::{Addr, OutOfMemory};
 use std::alloc::Global;
 

@@ -5,8 +5,8 @@ ghost use Rattle.std.specs.List.{slice_split};
 use crate::fault::ClientFault;
 use gb_cap::token::token;
 use gb_cap::{Need, Token};
+use gb_spelling::token_word::read_token;
 use gb_types::OutOfMemory;
-use gb_types::token_word::read_token;
 use std::alloc::Global;
 
 /// What a client knows to make tokens of, or to give as a token.

@@ -1,12 +1,12 @@
 //! Replies, log entries and tokens as text that people read.
 ghost use Rattle.std.specs.Prelude.{◌≡◌, ◌++◌, [], ◌∷◌, false, IfOk, OnOk};
 ghost use Rattle.hex.specs.Hex.{encode_lower};
-ghost use Rattle.gb_types.specs.Common.{payload_word, entry_text, reply_spelling};
+ghost use Rattle.gb_spelling.specs.Common.{payload_word, entry_text, reply_spelling};
 ghost use Rattle.gb_client.specs.Answers.{lines_of};
 
-use gb_types::number::put_number;
-use gb_types::payload_word::put_payload;
-use gb_types::reply_text::put_reply;
+use gb_spelling::number::put_number;
+use gb_spelling::payload_word::put_payload;
+use gb_spelling::reply_text::put_reply;
 use gb_types::{Entry, OutOfMemory, Reply};
 use std::alloc::Global;
 

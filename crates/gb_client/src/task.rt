@@ -1,11 +1,11 @@
 //! What a client is told to do, and the bodies of the requests that this takes.
 ghost use Rattle.std.specs.Prelude.{◌≡◌, ◌≤◌, ◌<◌, ◌+◌, ℕ, List, [], ◌∷◌, Some, codes, decimal, map, vec_len, IfOk, IfSome, IfNone};
 ghost use Rattle.hex.specs.Hex.{encode_lower};
-ghost use Rattle.gb_types.specs.Common.{payload_word};
+ghost use Rattle.gb_spelling.specs.Common.{payload_word};
 ghost use Rattle.gb_client.specs.Errands.{nodes_named};
 ghost use Rattle.gb_client.specs.Asking.{Asks, IsAsked, with_key, with_payload, words_told};
 ghost use Rattle.gb_session.specs.declared.{grammar.TheConstants.BODY, head.Head.Head};
-ghost use Rattle.gb_types.specs.declared.command_words.CommandHead.{CommandHead};
+ghost use Rattle.gb_spelling.specs.declared.command_words.CommandHead.{CommandHead};
 
 use crate::fault::ClientFault;
 use crate::need::need_of;
@@ -13,9 +13,10 @@ use crate::request::request_text;
 use crate::secrets::Secrets;
 use gb_cap::Need;
 use gb_session::Head;
-use gb_types::number::put_number;
-use gb_types::payload_word::put_payload;
-use gb_types::{Addr, CommandHead, NodeId, OutOfMemory};
+use gb_spelling::CommandHead;
+use gb_spelling::number::put_number;
+use gb_spelling::payload_word::put_payload;
+use gb_types::{Addr, NodeId, OutOfMemory};
 use std::alloc::Global;
 
 /// A request as it is told: a head, and the words behind it, without the token and without a new tenant's key.

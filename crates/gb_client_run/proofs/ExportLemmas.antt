@@ -1,7 +1,8 @@
 -- A log that is exported: what was fetched and printed so far.
-use Rattle.gb_types.specs.Common.{◌≡◌, ℕ, ◌+◌, List, [], ◌∷◌, ◌++◌, length, refl, sym, ap, subst, ◌∙◌, length-append, Option, Some, flat_map-append, entry_text, reply_spelling}
+use Rattle.gb_types.specs.Common.{◌≡◌, ℕ, ◌+◌, List, [], ◌∷◌, ◌++◌, length, refl, sym, ap, subst, ◌∙◌, length-append, Option, Some, flat_map-append}
 use Rattle.std.specs.Io.KnownBytes.{Appends}
 use Rattle.gb_types.specs.declared.{entry.Entry.Entry, node.NodeId.NodeId, refusal.Refusal.Refusal, reply.Reply.TheVariants.Log, reply.Reply.TheVariants.Refused}
+use Rattle.gb_spelling.specs.Common.{entry_text, reply_spelling}
 use Rattle.gb_session.proofs.RunLemmas.{Appends-join}
 use Rattle.gb_client.specs.declared.secrets.Secrets.{Secrets}
 use Rattle.gb_client.specs.Answers.{lines_of}

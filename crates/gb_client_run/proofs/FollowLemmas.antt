@@ -1,7 +1,8 @@
 -- A log that is followed: what was read and printed so far.
-use Rattle.gb_types.specs.Common.{◌≡◌, ℕ, List, [], ◌∷◌, ◌++◌, Bool, false, refl, sym, ap, subst, ◌∙◌, append-nil, Option, Some, flat_map, flat_map-append, reply_spelling}
+use Rattle.gb_types.specs.Common.{◌≡◌, ℕ, List, [], ◌∷◌, ◌++◌, Bool, false, refl, sym, ap, subst, ◌∙◌, append-nil, Option, Some, flat_map, flat_map-append}
 use Rattle.std.specs.Io.KnownBytes.{Appends, Consumes}
 use Rattle.gb_types.specs.declared.{entry.Entry.Entry, refusal.Refusal.Refusal, reply.Reply.TheVariants.Log, reply.Reply.TheVariants.Refused}
+use Rattle.gb_spelling.specs.Common.{reply_spelling}
 use Rattle.gb_session.specs.Streams.{framed}
 use Rattle.gb_session.proofs.RunLemmas.{Consumes-join, Appends-join}
 use Rattle.gb_client.specs.Answers.{lines_of}

@@ -1,8 +1,9 @@
 -- A log that is imported: what was said and printed so far.
-use Rattle.gb_types.specs.Common.{◌≡◌, ℕ, true, ◌+◌, ◌<◌, List, [], ◌∷◌, ◌++◌, length, take, drop, get_or, sym, ap, subst, ◌∙◌, arith, append_assoc, append-nil, Option, take_more, take-append-drop, reply_spelling}
+use Rattle.gb_types.specs.Common.{◌≡◌, ℕ, true, ◌+◌, ◌<◌, List, [], ◌∷◌, ◌++◌, length, take, drop, get_or, sym, ap, subst, ◌∙◌, arith, append_assoc, append-nil, Option, take_more, take-append-drop}
 use Rattle.std.specs.Io.KnownBytes.{Appends}
 use Rattle.gb_types.specs.declared.{entry.Entry.Entry, node.NodeId.NodeId, refusal.Refusal.Refusal}
 use Rattle.gb_types.specs.declared.reply.Reply.TheVariants as replies
+use Rattle.gb_spelling.specs.Common.{reply_spelling}
 use Rattle.gb_session.proofs.RunLemmas.{Appends-join}
 use Rattle.gb_client.specs.declared.{fault.ClientFault.ClientFault, secrets.Secrets.Secrets}
 use Rattle.gb_client_run.specs.declared.importing.Told.TheVariants.{Said, Refused}

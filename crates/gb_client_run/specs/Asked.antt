@@ -1,8 +1,9 @@
 -- What was asked of nodes, and what came back.
 use Rattle.std.specs.Prelude.{◌≡◌, ℕ, ◌+◌, Bool, true, false, List, [], ◌∷◌}
-use Rattle.gb_types.specs.declared.{command_words.CommandHead.TheVariants.Say, command_words.CommandHead.TheVariants.Fetch, node.NodeId.NodeId, reply.Reply.Reply}
+use Rattle.gb_spelling.specs.declared.command_words.CommandHead.TheVariants.{Say, Fetch}
+use Rattle.gb_types.specs.declared.{node.NodeId.NodeId, reply.Reply.Reply}
 use Rattle.gb_types.specs.declared.reply.Reply.TheVariants.{Done, Said, Log, Refused}
-use Rattle.gb_types.specs.Common.{reply_spelling}
+use Rattle.gb_spelling.specs.Common.{reply_spelling}
 use Rattle.gb_session.specs.declared.head.Head.{Head}
 use Rattle.gb_session.specs.declared.head.Head.TheVariants as heads
 use Rattle.gb_client.specs.declared.{secrets.Secrets.Secrets, task.Asked.Asked}

@@ -1,12 +1,12 @@
 -- What is asked and printed while a log is exported.
 use Rattle.std.specs.Prelude.{◌≡◌, ℕ, ◌+◌, List, [], ◌∷◌, ◌++◌, Option, Some, None, codes, decimal, length}
 use Rattle.std.specs.Io.KnownBytes.{Appends}
-use Rattle.gb_types.specs.declared.{command_words.CommandHead.TheVariants.Fetch, entry.Entry.Entry, node.NodeId.NodeId, refusal.Refusal.Refusal, reply.Reply.Reply, reply.Reply.TheVariants.Log, reply.Reply.TheVariants.Refused}
-use Rattle.gb_types.specs.Common.{reply_spelling}
+use Rattle.gb_spelling.specs.declared.command_words.CommandHead.TheVariants.{Fetch}
+use Rattle.gb_types.specs.declared.{entry.Entry.Entry, node.NodeId.NodeId, refusal.Refusal.Refusal, reply.Reply.Reply, reply.Reply.TheVariants.Log, reply.Reply.TheVariants.Refused}
+use Rattle.gb_spelling.specs.Common.{reply_spelling}
 use Rattle.gb_session.specs.declared.head.Head.TheVariants.{Group}
 use Rattle.gb_client.specs.declared.secrets.Secrets.{Secrets}
-use Rattle.gb_client.specs.Answers.{lines_of}
-use Rattle.gb_client.specs.Asking.{Asks}
+use Rattle.gb_client.specs.{Answers.lines_of, Asking.Asks}
 use Rattle.gb_client_run.specs.ExportText.{end_line}
 use Rattle.gb_client_run.specs.Asked.{Exchange}
 use Rattle.gb_client_run.specs.Following.{end_status}

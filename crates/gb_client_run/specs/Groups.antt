@@ -2,7 +2,7 @@
 use Rattle.std.specs.Prelude.{◌≡◌, ◌⊎◌, ℕ, List, [], ◌∷◌, ◌++◌, All}
 use Rattle.gb_types.specs.declared.{node.NodeId.NodeId, refusal.Refusal.Refusal}
 use Rattle.gb_types.specs.declared.reply.Reply.TheVariants as replies
-use Rattle.gb_types.specs.Common.{reply_spelling}
+use Rattle.gb_spelling.specs.Common.{reply_spelling}
 use Rattle.gb_client.specs.declared.{secrets.Secrets.Secrets, task.Asked.Asked}
 use Rattle.gb_client.specs.Answers.{status_of_fault}
 use Rattle.gb_client_run.specs.Asked.{Exchange, HasAsked, AsksNode}

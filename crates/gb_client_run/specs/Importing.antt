@@ -1,15 +1,15 @@
 -- What is said and printed while a log is imported.
 use Rattle.std.specs.Prelude.{◌≡◌, ℕ, ◌+◌, ◌-◌, ◌||◌, ◌==◌, Bool, true, false, List, [], ◌∷◌, ◌++◌, Option, codes, decimal, drop, filter, length}
 use Rattle.std.specs.Io.KnownBytes.{Appends}
-use Rattle.gb_types.specs.declared.{command_words.CommandHead.TheVariants.Say, entry.Entry.Entry, node.NodeId.NodeId, refusal.Refusal.Refusal, reply.Reply.Reply}
+use Rattle.gb_spelling.specs.declared.command_words.CommandHead.TheVariants.{Say}
+use Rattle.gb_types.specs.declared.{entry.Entry.Entry, node.NodeId.NodeId, refusal.Refusal.Refusal, reply.Reply.Reply}
 use Rattle.gb_types.specs.declared.refusal.Refusal.TheVariants as refusals
 use Rattle.gb_types.specs.declared.reply.Reply.TheVariants as replies
-use Rattle.gb_types.specs.Common.{payload_word, reply_spelling}
+use Rattle.gb_spelling.specs.Common.{payload_word, reply_spelling}
 use Rattle.gb_session.specs.declared.head.Head.TheVariants.{Group}
 use Rattle.gb_client.specs.declared.{secrets.Secrets.Secrets, task.Choice.Choice}
-use Rattle.gb_client.specs.Asking.{Asks}
+use Rattle.gb_client.specs.{Asking.Asks, Answers.status_of_fault}
 use Rattle.gb_client_run.specs.Asked.{Exchange}
-use Rattle.gb_client.specs.Answers.{status_of_fault}
 use Rattle.gb_client_run.specs.ExportText.{export_text}
 use Rattle.gb_client_run.specs.declared.{importing.End.End, importing.End.TheVariants.Whole, importing.End.TheVariants.Failed, importing.Told.Told, importing.Told.TheVariants.Said, importing.Told.TheVariants.Refused}
 use Rattle.gb_client_run.specs.declared.importing.End.TheVariants as ends

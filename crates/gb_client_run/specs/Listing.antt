@@ -1,8 +1,7 @@
 -- Where the nodes of a server are, by a directory file.
 use Rattle.std.specs.Prelude.{ℕ}
 use Rattle.toml.specs.Data.{Data}
-use Rattle.gb_directory_file.specs.Directory.{IsListed}
-use Rattle.gb_directory_file.specs.Faults.{IsFault}
+use Rattle.gb_directory_file.specs.{Directory.IsListed, Faults.IsFault}
 use Rattle.gb_client_run.specs.declared.{listed.Listed.Listed, listed.ListFault.ListFault, listed.ListFault.TheVariants.OutOfMemory, listed.ListFault.TheVariants.Node}
 
 -- the directory says of the node of a tenant's cluster that its sessions are there

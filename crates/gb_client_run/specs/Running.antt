@@ -3,12 +3,11 @@ use Rattle.std.specs.Prelude.{◌≡◌, ℕ, false, List, [], ◌∷◌, ◌++�
 use Rattle.std.specs.Io.KnownBytes.{Appends}
 use Rattle.hex.specs.Hex.{encode_lower}
 use Rattle.gb_types.specs.declared.{reply.Reply.Reply, node.NodeId.NodeId}
-use Rattle.gb_types.specs.Common.{reply_spelling}
+use Rattle.gb_spelling.specs.Common.{reply_spelling}
 use Rattle.gb_cap.specs.declared.token.Need.{Need}
 use Rattle.gb_client.specs.declared.{fault.ClientFault.ClientFault, secrets.Secrets.Secrets, task.Asked.Asked, task.Errand.Errand, task.Task.Task, task.Task.TheVariants.Token, task.Task.TheVariants.At}
 use Rattle.gb_client.specs.declared.task.Errand.TheVariants as errands
-use Rattle.gb_client.specs.Answers.{reply_status, status_of_fault}
-use Rattle.gb_client.specs.Secrets.{token_for}
+use Rattle.gb_client.specs.{Answers.reply_status, Answers.status_of_fault, Secrets.token_for}
 use Rattle.gb_client_run.specs.Asked.{HasReplied}
 use Rattle.gb_client_run.specs.Exporting.{HasExported}
 use Rattle.gb_client_run.specs.Following.{HasFollowed}

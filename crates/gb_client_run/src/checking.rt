@@ -7,7 +7,7 @@ use crate::target::Target;
 use gb_cap::{Need, Token};
 use gb_client::ClientFault;
 use gb_client::fault::fault_status;
-use gb_types::number::put_number;
+use gb_spelling::number::put_number;
 use gb_types::{Addr, NodeId};
 use std::alloc::Global;
 use std::io::Write;

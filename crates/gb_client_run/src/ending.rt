@@ -1,6 +1,5 @@
 //! How a run of the client ends: its exit status, and what is told where complaints go.
-ghost use Rattle.std.specs.Prelude.{◌≡◌, IfOk};
-ghost use Rattle.std.specs.Io.KnownBytes.{Keeps};
+ghost use Rattle.std.specs.{Prelude.◌≡◌, Prelude.IfOk, Io.KnownBytes.Keeps};
 ghost use Rattle.gb_client_run.specs.Running.{run_status};
 
 use gb_client::blame::blame;

@@ -4,7 +4,7 @@ ghost use Rattle.gb_client_run.specs.ExportText.{end_line, export_text};
 
 use gb_client::answer::read_reply;
 use gb_client::show::entry_lines;
-use gb_types::number::put_number;
+use gb_spelling::number::put_number;
 use gb_types::{Entries, Entry, OutOfMemory, Reply};
 use std::alloc::Global;
 

@@ -1,8 +1,7 @@
 //! Following a group's log at a node: its entries are printed as they come.
-ghost use Rattle.std.specs.Prelude.{◌≡◌, false, IfOk};
-ghost use Rattle.std.specs.Io.KnownBytes.{Consumes};
+ghost use Rattle.std.specs.{Prelude.◌≡◌, Prelude.false, Prelude.IfOk, Io.KnownBytes.Consumes};
 ghost use Rattle.gb_session.specs.Streams.{framed};
-ghost use Rattle.gb_types.specs.Common.{reply_spelling};
+ghost use Rattle.gb_spelling.specs.Common.{reply_spelling};
 ghost use Rattle.gb_client_run.specs.Following.{HasFollowed};
 
 use crate::printing::print;

@@ -15,9 +15,10 @@ use gb_client::operating::read_row;
 use gb_client::show::reply_lines;
 use gb_client::{Asked, ClientFault, Row};
 use gb_session::Head;
-use gb_types::number::put_number;
-use gb_types::request_words::read_address;
-use gb_types::{Addr, CommandHead, NodeId, Refusal, Reply};
+use gb_spelling::CommandHead;
+use gb_spelling::number::put_number;
+use gb_spelling::request_words::read_address;
+use gb_types::{Addr, NodeId, Refusal, Reply};
 use std::alloc::Global;
 use std::io::Write;
 

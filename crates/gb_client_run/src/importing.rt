@@ -11,9 +11,10 @@ use gb_client::answer::read_reply;
 use gb_client::task::ask;
 use gb_client::{Asked, Choice, ClientFault, Secrets};
 use gb_session::Head;
-use gb_types::number::put_number;
-use gb_types::payload_word::put_payload;
-use gb_types::{CommandHead, Entries, Entry, NodeId, OutOfMemory, Refusal, Reply};
+use gb_spelling::CommandHead;
+use gb_spelling::number::put_number;
+use gb_spelling::payload_word::put_payload;
+use gb_types::{Entries, Entry, NodeId, OutOfMemory, Refusal, Reply};
 use std::alloc::Global;
 use std::io::Write;
 

@@ -10,7 +10,7 @@ use gb_client::answer::{read_reply, status_of};
 use gb_client::operating::{is_status, list_body, read_page, status_body, stop_body};
 use gb_client::show::reply_lines;
 use gb_client::{ClientFault, Page};
-use gb_types::number::put_number;
+use gb_spelling::number::put_number;
 use gb_types::{Addr, NodeId, Reply};
 use std::alloc::Global;
 use std::io::Write;

@@ -11,7 +11,8 @@ use crate::once::ask_once;
 use crate::target::Target;
 use gb_client::{Asked, ClientFault, Errand};
 use gb_session::Head;
-use gb_types::{CommandHead, NodeId};
+use gb_spelling::CommandHead;
+use gb_types::NodeId;
 use std::alloc::Global;
 use std::io::Write;
 

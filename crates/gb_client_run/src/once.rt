@@ -2,7 +2,7 @@
 ghost use Rattle.std.specs.Prelude.{◌≡◌, ◌++◌, ◌∷◌, [], false, map, IfOk};
 ghost use Rattle.std.specs.Io.KnownBytes.{Appends};
 ghost use Rattle.gb_types.specs.declared.reply.Reply.{Reply as TheReply};
-ghost use Rattle.gb_types.specs.Common.{reply_spelling};
+ghost use Rattle.gb_spelling.specs.Common.{reply_spelling};
 ghost use Rattle.gb_client.specs.Answers.{reply_status};
 ghost use Rattle.gb_client_run.specs.Asked.{HasReplied, answers};
 
@@ -14,7 +14,8 @@ use gb_client::show::reply_lines;
 use gb_client::task::request_of;
 use gb_client::{Asked, ClientFault};
 use gb_session::Head;
-use gb_types::{CommandHead, NodeId, Reply};
+use gb_spelling::CommandHead;
+use gb_types::{NodeId, Reply};
 use std::alloc::Global;
 use std::io::Write;
 

@@ -1,7 +1,7 @@
 //! Printing, to any writer.
 ghost use Rattle.std.specs.Prelude.{◌≡◌, ◌++◌, ◌∷◌, [], IfErr, OnOk};
 ghost use Rattle.std.specs.Io.KnownBytes.{Appends};
-ghost use Rattle.gb_types.specs.Common.{reply_spelling};
+ghost use Rattle.gb_spelling.specs.Common.{reply_spelling};
 
 use gb_client::ClientFault;
 use gb_client::show::reply_lines;

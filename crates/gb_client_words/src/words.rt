@@ -6,10 +6,11 @@ use gb_cap::Need;
 use gb_client::task::LISTED;
 use gb_client::{Asked, Choice, Errand, Server, Task};
 use gb_session::Head;
+use gb_spelling::CommandHead;
+use gb_spelling::members_word::read_members;
+use gb_spelling::request_words::{read_address, read_u16, read_u32};
+use gb_types::NodeId;
 use gb_types::limits::NODES;
-use gb_types::members_word::read_members;
-use gb_types::request_words::{read_address, read_u16, read_u32};
-use gb_types::{CommandHead, NodeId};
 use gb_version::VERSION;
 use std::alloc::{AllocError, Global};
 

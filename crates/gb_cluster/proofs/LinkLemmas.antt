@@ -2,24 +2,21 @@
 use Rattle.gb_types.specs.Common.{◌≡◌, ◌≢◌, ℕ, ◌-◌, ◌<◌, ◌≤◌, inl, inr, true, false, Bool, List, [], ◌∷◌, length, Some, Result, Ok, Err, refl, sym, ap, subst, ◌∙◌, arith, ◌⊎◌, ◌&&◌, is_ok, nat_eq, nat_le, slice_get, if◌then◌else◌, list_any, cases_eq, eqb-true, nat_tests, slice_get_within, length-append}
 use Rattle.std.specs.FinSet as set
 use Rattle.gb_types.specs.declared.{limits.TheConstants.NODES, node.NodeId.NodeId, plan.Plan.Plan}
-use Rattle.gb_types.proofs.SameLemmas.{same_number}
+use Rattle.gb_types.proofs.{SameLemmas.same_number, BoolLemmas.and_sides, BoolLemmas.or_cases}
 use Rattle.gb_frame.specs.declared.{fault.PacketFault.PacketFault, fault.PacketFault.TheVariants.Node as NodeFault}
 use Rattle.gb_frame.specs.Common.{Content, reading, is_packet, content_in}
 use Rattle.gb_link.specs.Common.{Received, admission, is_awaited, covers}
 use Rattle.gb_link.specs.declared.receiver.Admission.TheVariants.{First, Seen, Outside}
 use Rattle.gb_node.specs.Common.{NodeValue, running_turn, stopped_answer, node_numbered, receiver_from, is_here, if_here, read_at, taken_answer, good_of, fate, kind_of, IsStarved, IsTurn, read, came, frames_to, is_first, is_taken, is_taken_by, is_frame, is_acked, is_ack, PastsSay, packed_for}
-use Rattle.gb_node.proofs.PacketLemmas.{read_one}
-use Rattle.gb_node.specs.declared.{answer.NodeAnswer.NodeAnswer, answer.Good.Good, answer.Frame.TheVariants.Nothing as NoFrame, event.NodeEvent.NodeEvent}
+use Rattle.gb_node.proofs.{PacketLemmas.read_one, TookLemmas.numbered_is}
+use Rattle.gb_node.specs.declared.{answer.NodeAnswer.NodeAnswer, answer.Good.Good, answer.Frame.TheVariants.Nothing as NoFrame, event.NodeEvent.NodeEvent, answer.PacketAnswer.TheVariants.Good as TakenGood, answer.PacketAnswer.TheVariants.Fault, answer.PacketAnswer.TheVariants.Refused as TakenRefused}
 use Rattle.gb_node.specs.declared.answer.NodeAnswer.TheVariants.{Reply as Replied, Taken, Sent, Ticked, Halted}
-use Rattle.gb_node.specs.declared.answer.PacketAnswer.TheVariants.{Good as TakenGood, Fault, Refused as TakenRefused}
 use Rattle.gb_node.specs.declared.event.NodeEvent.TheVariants.{Request as Asked, Packet as Came, Pack, Again, Ack, Tick, Stop}
 use Rattle.gb_cluster.specs.ClusterValue.{ClusterValue, node_plan, node_at}
 use Rattle.gb_cluster.specs.Run.{Did, ComesTo, past_at, IsSent}
 use Rattle.gb_cluster.specs.Links.{IsHonest, PacketsAreHonest, first_taken, IsWhole, IsAlwaysWhole, LinksHold}
-use Rattle.gb_types.proofs.BoolLemmas.{and_sides, or_cases}
 use Rattle.gb_cluster.proofs.NodesLemmas.{stays, past_same, past_other, have_pasts}
 use Rattle.gb_cluster.proofs.HonestLemmas.{contains_get, frames_more, taken_more}
-use Rattle.gb_node.proofs.TookLemmas.{numbered_is}
 
 -- What a node takes.
 

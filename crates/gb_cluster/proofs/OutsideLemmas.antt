@@ -9,9 +9,8 @@ use Rattle.gb_link.specs.declared.receiver.Admission.TheVariants.{First, Seen, O
 use Rattle.gb_link.proofs.BaseLemmas.{base_of_from, base_of_below, base_of_lacks}
 use Rattle.gb_node.specs.Common.{NodeValue, window_to, receiver_from, is_reached, batch_to, room_to, unless_empty, content_to, pack_content, sent, fate, kind_of, IsTurn, Happened, read, came, packed_for, frames_to, numbered, is_taken, is_acked, is_ack, PastsSay, SendersRun}
 use Rattle.gb_node.specs.Past.{ComesTo as NodeComesTo}
-use Rattle.gb_node.specs.declared.{answer.NodeAnswer.NodeAnswer, answer.PacketAnswer.TheVariants.Good as TakenGood, answer.Good.Good, answer.Frame.TheVariants.Nothing as NoFrame, answer.Frame.TheVariants.Outside as Beyond, event.NodeEvent.NodeEvent, plan.NodePlan.NodePlan}
+use Rattle.gb_node.specs.declared.{answer.NodeAnswer.NodeAnswer, answer.PacketAnswer.TheVariants.Good as TakenGood, answer.Good.Good, answer.Frame.TheVariants.Nothing as NoFrame, answer.Frame.TheVariants.Outside as Beyond, event.NodeEvent.NodeEvent, plan.NodePlan.NodePlan, answer.Sent.TheVariants.Packet as SentPacket, answer.Sent.TheVariants.Nothing, answer.Sent.TheVariants.Refused as SentRefused}
 use Rattle.gb_node.specs.declared.answer.NodeAnswer.TheVariants.{Reply as Replied, Taken, Sent, Ticked, Halted}
-use Rattle.gb_node.specs.declared.answer.Sent.TheVariants.{Packet as SentPacket, Nothing, Refused as SentRefused}
 use Rattle.gb_node.specs.declared.event.NodeEvent.TheVariants.{Request as Asked, Packet as Came, Pack, Again, Ack, Tick, Stop}
 use Rattle.gb_cluster.specs.ClusterValue.{ClusterValue, node_plan, node_at}
 use Rattle.gb_cluster.specs.Run.{Did, ComesTo, past_at, IsSent}

@@ -1,9 +1,8 @@
 -- A cluster as contracts see it.
 use Rattle.std.specs.Prelude.{ℕ, ◌<◌, ◌≤◌, List, [], false, map, slice_index_or}
 use Rattle.std.specs.List.{range_with_len}
-use Rattle.gb_types.specs.declared.limits.TheConstants.{NODES, SILENCE_MIN, SILENCE_MAX}
+use Rattle.gb_types.specs.declared.{limits.TheConstants.NODES, limits.TheConstants.SILENCE_MIN, limits.TheConstants.SILENCE_MAX, node.NodeId.NodeId, plan.Plan.Plan}
 use Rattle.gb_node.specs.Common.{ROOMS, node_numbered, NodeValue, new_node}
-use Rattle.gb_types.specs.declared.{node.NodeId.NodeId, plan.Plan.Plan}
 use Rattle.gb_types.specs.Common.{limits_of, version_at}
 use Rattle.gb_node.specs.declared.plan.NodePlan.{NodePlan}
 use Rattle.gb_cluster.specs.declared.posted.Posted.{Posted}

@@ -39,8 +39,7 @@ impl Drop for Cluster {
 }
 
 impl Model for Cluster {
-    ghost use Rattle.std.specs.Coded.{codes, coded_ℕ};
-    ghost use Rattle.std.specs.Ordering.{nat_cmp};
+    ghost use Rattle.std.specs.{Coded.codes, Coded.coded_ℕ, Ordering.nat_cmp};
     ghost use Rattle.std.specs.FinSet as set;
     ghost use Rattle.gb_cluster.specs.ClusterValue.{ClusterValue};
     ghost use Rattle.gb_cluster.specs.Run.{IsReached};

@@ -1,10 +1,7 @@
 -- How the text of a place is taken apart.
 use Rattle.gb_types.specs.Common.{◌≡◌, ℕ, zero, suc, ◌+◌, ◌<◌, ◌≤◌, ◌^◌, List, [], ◌∷◌, ◌++◌, length, take, drop, get_or, Option, Some, None, MatchOption, Bor, refl, sym, ap, ap₂, ◌∙◌, subst, arith, append_assoc}
-use Rattle.std.specs.Char.{digit_value}
-use Rattle.std.specs.Str.Parse.{AllDigits}
-use Rattle.std.specs.Str.Pattern.{RFindsChar}
-use Rattle.std.proofs.lemmas.Str.Pattern.{NoCharPasses-char, drop_at_char}
-use Rattle.std.proofs.lemmas.Fmt.{decimal_is_IsNumeral}
+use Rattle.std.specs.{Char.digit_value, Str.Parse.AllDigits, Str.Pattern.RFindsChar}
+use Rattle.std.proofs.{lemmas.Str.Pattern.NoCharPasses-char, lemmas.Str.Pattern.drop_at_char, lemmas.Fmt.decimal_is_IsNumeral}
 use Rattle.gb_cluster_file.specs.Places.{IsPlaceText, IsPortNumber, IsHostText}
 
 -- what stands between two brackets, and what does not

@@ -1,8 +1,6 @@
 -- The text of a place, HOST:PORT.
 use Rattle.std.specs.Prelude.{◌≡◌, ◌≤◌, ◌==◌, ◌||◌, ◌⊎◌, ℕ, Bool, true, List, ◌++◌, length, codes, decimal}
-use Rattle.std.specs.List.{list_all}
-use Rattle.std.specs.Char.{is_ascii_alphanumeric}
-use Rattle.std.specs.Net.Grammar.{IsIpv6Text}
+use Rattle.std.specs.{List.list_all, Char.is_ascii_alphanumeric, Net.Grammar.IsIpv6Text}
 use Rattle.std.specs.declared.net.ipv6_addr.Ipv6Addr.{Ipv6Addr}
 
 -- a letter, a digit, a hyphen, a dot or an underscore

@@ -3,7 +3,7 @@ ghost use Rattle.std.specs.Prelude.{◌≡◌, ℕ, true, false, List, [], ◌�
 ghost use Rattle.std.specs.List.{list_all};
 ghost use Rattle.gb_cluster_file.specs.Places.{is_name_byte, IsName, IsHostText, IsPlaceText, IsPortNumber, IsIpv6};
 
-use gb_types::number::read_number;
+use gb_spelling::number::read_number;
 use std::net::Ipv6Addr;
 
 /// The parts of a place's text.

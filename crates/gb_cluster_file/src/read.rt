@@ -1,9 +1,6 @@
 //! Reading a cluster file: from its text to what it says of the cluster.
 ghost use Rattle.std.specs.Prelude.{◌≡◌, ◌≢◌, ℕ, List, [], ◌∷◌, ◌++◌, None, Some, IfOk, IfErr, OnOk, string_bytes};
-ghost use Rattle.toml.specs.Data.{Items, get_item};
-ghost use Rattle.toml.specs.Errors.{IsMemory, IsWithin as IsSpanWithin};
-ghost use Rattle.toml.specs.Parse.{parse_document};
-ghost use Rattle.toml.specs.View.{view, table_view, items_view};
+ghost use Rattle.toml.specs.{Data.Items, Data.get_item, Errors.IsMemory, Errors.IsWithin as IsSpanWithin, Parse.parse_document, View.view, View.table_view, View.items_view};
 ghost use Rattle.gb_cluster_file.specs.declared.{file.ClusterFile.ClusterFile, file.NodePlaces.NodePlaces};
 ghost use Rattle.gb_cluster_file.specs.Cluster.{AreNodes, IsClusterOf, IsFileOf, IsNode, IsWithin};
 ghost use Rattle.gb_cluster_file.specs.Faults.{IsFault, IsDocumentFault, IsItemsFault};

@@ -1,11 +1,8 @@
 -- Sets of the nodes that pass a test.
 use Rattle.gb_types.specs.Common.{◌≡◌, ℕ, ◌+◌, ◌<◌, Bool, true, false, ◌&&◌, ◌||◌, nat_eq, nat_lt, refl, ap, sym, ◌∙◌, arith, not, nat_le, get_or, List, nat_cmp, nat_tests, and-false, or-false, below}
 use Rattle.std.specs.FinSet as set
-use Rattle.std.specs.FinSet.{nat_cmp-IsAntisymmetric}
-use Rattle.std.specs.Cmp.{nat_cmp_total}
-use Rattle.gb_types.proofs.InsertedLemmas.{contains-insert}
-use Rattle.gb_types.proofs.PlaceLemmas.{any-below}
-use Rattle.gb_types.proofs.BoolLemmas.{or_swap}
+use Rattle.std.specs.{FinSet.nat_cmp-IsAntisymmetric, Cmp.nat_cmp_total}
+use Rattle.gb_types.proofs.{InsertedLemmas.contains-insert, PlaceLemmas.any-below, BoolLemmas.or_swap}
 use Rattle.gb_detect.specs.Watch.{nodes_where, is_due}
 
 same_nodes : (s t : set.FinSet nat_cmp) → ((q : ℕ) → set.contains s q ≡ set.contains t q) → s ≡ t

@@ -1,8 +1,7 @@
 -- What a fault of a directory rules out.
 use Rattle.gb_types.specs.Common.{◌≡◌, ℕ, List, Option, Some, None, String, BTreeMap, Global, codes, decimal, option_and_then, refl, sym, ap, subst, ◌∙◌, is_some, same_Some, none-some}
 use Rattle.toml.specs.Data.{Data, string, integer, float, boolean, datetime, array, table, get, at, as_str, as_table, as_array}
-use Rattle.toml.specs.Parse.{parse_document}
-use Rattle.toml.specs.View.{view, members_view}
+use Rattle.toml.specs.{Parse.parse_document, View.view, View.members_view}
 use Rattle.toml.specs.declared.value.Value.{Value, Table}
 use Rattle.toml.proofs.Views.{view-Table}
 use Rattle.gb_cluster_file.specs.Places.{IsPlaceText}

@@ -3,9 +3,8 @@ use Rattle.std.specs.Prelude.{◌≡◌, ◌≤◌, ◌<◌, ℕ, List, None, So
 use Rattle.toml.specs.Data.{Data, get, at, as_array}
 use Rattle.toml.specs.Parse.{parse_document}
 use Rattle.gb_directory_file.specs.Directory.{IsEntry, table_at, cluster_name, cluster_nodes}
-use Rattle.gb_directory_file.specs.declared.{fault.DirectoryFault.DirectoryFault, fault.TextFault.TextFault}
+use Rattle.gb_directory_file.specs.declared.{fault.DirectoryFault.DirectoryFault, fault.TextFault.TextFault, fault.TextFault.TheVariants.OutOfMemory, fault.TextFault.TheVariants.TooLong, fault.TextFault.TheVariants.NoDocument}
 use Rattle.gb_directory_file.specs.declared.fault.DirectoryFault.TheVariants.{NoTenants, NoTenant, NoClusters, NoCluster, NoNodes, NoNode, NoPlace}
-use Rattle.gb_directory_file.specs.declared.fault.TextFault.TheVariants.{OutOfMemory, TooLong, NoDocument}
 
 -- why a text is no directory; lack of memory says nothing of the text
 abbrev pub IsTextFault : List ℕ → TextFault → Type 0

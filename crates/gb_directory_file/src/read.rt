@@ -1,9 +1,6 @@
 //! Reading a directory file: which cluster a tenant lives in, and where the sessions of a node of that cluster are.
 ghost use Rattle.std.specs.Prelude.{◌≡◌, ◌≤◌, ℕ, List, None, Some, IfSome, IfNone, IfOk, IfErr, decimal, length, option_copied, option_map};
-ghost use Rattle.toml.specs.Data.{Data, get, at};
-ghost use Rattle.toml.specs.Errors.{IsMemory, IsWithin as IsSpanWithin};
-ghost use Rattle.toml.specs.Parse.{parse_document};
-ghost use Rattle.toml.specs.View.{view};
+ghost use Rattle.toml.specs.{Data.Data, Data.get, Data.at, Errors.IsMemory, Errors.IsWithin as IsSpanWithin, Parse.parse_document, View.view};
 ghost use Rattle.gb_directory_file.specs.Directory.{IsDocument, IsEntry, IsListed, table_at, text_at, list_at, cluster_name, cluster_nodes};
 ghost use Rattle.gb_directory_file.specs.Faults.{IsTextFault, IsFault};
 

@@ -1,10 +1,7 @@
 -- What is asked for by HTTP. Source: RFC 9112 (messages), RFC 9110 (methods), and RFC 6455, section 10.2, for the test of the Origin.
 use Rattle.std.specs.Prelude.{◌≡◌, ◌≢◌, ℕ, Bool, not, ◌||◌, List, codes, if◌then◌else◌, map}
-use Rattle.std.specs.Char.{to_ascii_lowercase}
-use Rattle.std.specs.List.{list_all, list_any}
-use Rattle.std.specs.Str.{bytes_eq}
-use Rattle.httparse.specs.Grammar.{HasNoRequest, ReadsRequest, RequestHead}
-use Rattle.httparse.specs.Spans.{RequestOverflows, name_and_value}
+use Rattle.std.specs.{Char.to_ascii_lowercase, List.list_all, List.list_any, Str.bytes_eq}
+use Rattle.httparse.specs.{Grammar.HasNoRequest, Grammar.ReadsRequest, Grammar.RequestHead, Spans.RequestOverflows, Spans.name_and_value}
 use Rattle.gb_door.specs.declared.asked.Asked.{Asked}
 use Rattle.gb_door.specs.declared.asked.Asked.TheVariants.{Page, Script, Style, Session, Foreign, OtherPlace, OtherMethod, More, NoRequest}
 

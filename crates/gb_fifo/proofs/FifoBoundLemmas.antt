@@ -1,8 +1,7 @@
 -- The greatest number of pairs of one call of a fifo.
 use Rattle.gb_types.specs.Common.{◌≡◌, ℕ, ◌+◌, ◌≤◌, Bool, true, false, cond, not, List, [], ◌∷◌, ◌++◌, length, map, count_by, refl, ap, arith, zero, suc, length-append, list_any, count_by-le-length}
 use Rattle.gb_types.specs.declared.message.MsgId.{MsgId}
-use Rattle.gb_layer.specs.declared.{effects.Up.Up, call.Call.Call}
-use Rattle.gb_layer.specs.declared.call.Call.TheVariants.{Say, Came, Notice}
+use Rattle.gb_layer.specs.declared.{effects.Up.Up, call.Call.Call, call.Call.TheVariants.Say, call.Call.TheVariants.Came, call.Call.TheVariants.Notice}
 use Rattle.gb_layer.specs.Common.{count_by-cons, count_by-map}
 use Rattle.gb_layer.proofs.BoundLemmas.{length-added}
 use Rattle.gb_fifo.specs.declared.entry.Entry.{Entry}

@@ -1,7 +1,6 @@
 -- What a fifo knows after each step.
 use Rattle.gb_types.specs.Common.{◌≡◌, ℕ, ◌≤◌, ◌<◌, nat_eq, List, slice_index, ap, sym, ◌∙◌, and-false}
-use Rattle.gb_layer.specs.declared.{call.Call.Call, placed_call.PlacedCall.PlacedCall}
-use Rattle.gb_layer.specs.declared.placed_call.PlacedCall.TheVariants.{Say, Came, Notice}
+use Rattle.gb_layer.specs.declared.{call.Call.Call, placed_call.PlacedCall.PlacedCall, placed_call.PlacedCall.TheVariants.Say, placed_call.PlacedCall.TheVariants.Came, placed_call.PlacedCall.TheVariants.Notice}
 use Rattle.gb_layer.specs.Common.{Names, IsNext, told_after}
 use Rattle.gb_layer.proofs.KnowsLemmas.{reached_most}
 use Rattle.gb_fifo.specs.declared.entry.Entry.{Entry}

@@ -1,10 +1,8 @@
 -- A fifo hands up, in order, the messages that the layer below brings up.
 use Rattle.gb_types.specs.Common.{◌≡◌, ℕ, ◌+◌, ◌<◌, ◌≤◌, Bool, true, false, cond, not, ◌&&◌, ◌||◌, nat_eq, nat_lt, List, [], ◌∷◌, ◌++◌, length, map, filter, count_by, drop, refl, ap, ◌∙◌, sym, arith, subst, zero, suc, append_assoc, list_any, AllByRecursion, or-true, and-false, eqb-true, eq-eqb, nat_tests, append-nil, count_by-le-length, same}
 use Rattle.gb_types.specs.declared.{node.NodeId.NodeId, message.MsgId.MsgId}
-use Rattle.gb_types.proofs.SameLemmas.{same_itself, same_number}
-use Rattle.gb_types.proofs.BoolLemmas.{and_left, and_right, refuted}
-use Rattle.gb_layer.specs.declared.{effects.Up.Up, call.Call.Call}
-use Rattle.gb_layer.specs.declared.call.Call.TheVariants.{Say, Came, Notice}
+use Rattle.gb_types.proofs.{SameLemmas.same_itself, SameLemmas.same_number, BoolLemmas.and_left, BoolLemmas.and_right, BoolLemmas.refuted}
+use Rattle.gb_layer.specs.declared.{effects.Up.Up, call.Call.Call, call.Call.TheVariants.Say, call.Call.TheVariants.Came, call.Call.TheVariants.Notice}
 use Rattle.gb_layer.specs.Common.{Gives, after, all_ups, mentions, is_of, messages, first_mentions, HandsUpWhatWasHandedIn, count_by-cons, count_by-append, count_by-map, count_by-grown, any_keys, has_mentioned, any_marked, all_append, any_weaker, any_push, is_in, numbered}
 use Rattle.gb_fifo.specs.declared.entry.Entry.{Entry}
 use Rattle.gb_fifo.specs.Entries.{is_for, blank, noted, noted_by, brought, brought_entry, given_entry, up_of, is_ungiven, is_next, next_of, is_given_of, given_of, pick, give, released, released_ups, taken_one, taken_one_ups, taken, taken_ups}

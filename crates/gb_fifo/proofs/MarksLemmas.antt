@@ -1,13 +1,11 @@
 -- What a fifo's marks say of the messages that wait.
 use Rattle.gb_types.specs.Common.{◌≡◌, ℕ, ◌+◌, ◌≤◌, ◌<◌, true, false, cond, not, ◌&&◌, nat_lt, List, [], ◌∷◌, length, set, get_or, slice_get, refl, ap, sym, ◌∙◌, arith, Some, list_any, and-false, get_or_past, ltb-true, ltb-false, get_or_from_slice_get, same}
 use Rattle.gb_types.specs.declared.{node.NodeId.NodeId, limits.TheConstants.NODES, message.MsgId.MsgId}
-use Rattle.gb_types.proofs.SameLemmas.{same_itself, same-true}
-use Rattle.gb_types.proofs.BoolLemmas.{and_left, and_right}
+use Rattle.gb_types.proofs.{SameLemmas.same_itself, SameLemmas.same-true, BoolLemmas.and_left, BoolLemmas.and_right}
 use Rattle.gb_layer.specs.Common.{is_in, numbered, message_at, all_differ, paired_within, paired_get, paired_set, found_nowhere, found_there, found_beyond, first_there}
-use Rattle.gb_fifo.specs.declared.{entry.Entry.Entry, marks.Mark.Mark}
+use Rattle.gb_fifo.specs.declared.{entry.Entry.Entry, marks.Mark.Mark, marks.Mark.TheVariants.Missing, marks.Mark.TheVariants.Waiting, marks.Mark.TheVariants.Delivered}
 use Rattle.gb_fifo.specs.Entries.{brought, brought_entry, given_entry, is_next, given_of, give, pick, IsPlace}
 use Rattle.gb_fifo.proofs.PlacedLemmas.{given_at, picked_at, any_at, one_more, counted_more, next_number}
-use Rattle.gb_fifo.specs.declared.marks.Mark.TheVariants.{Missing, Waiting, Delivered}
 use Rattle.gb_fifo.specs.Marks.{came_up, was_delivered, come_up, entry_of, marked, AreCounted}
 
 -- the mark of a message that comes up is that of the entry

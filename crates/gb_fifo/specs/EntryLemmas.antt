@@ -4,8 +4,7 @@ use Rattle.std.specs.List.{list_any, AllByRecursion}
 use Rattle.std.proofs.Math.Bool.{and-true, and-false}
 use Rattle.gb_types.specs.declared.message.MsgId.{MsgId}
 use Rattle.gb_types.specs.Common.{same}
-use Rattle.gb_layer.specs.declared.{effects.Up.Up, call.Call.Call}
-use Rattle.gb_layer.specs.declared.call.Call.TheVariants.{Say, Came, Notice}
+use Rattle.gb_layer.specs.declared.{effects.Up.Up, call.Call.Call, call.Call.TheVariants.Say, call.Call.TheVariants.Came, call.Call.TheVariants.Notice}
 use Rattle.gb_layer.specs.Common.{is_of, first_mentions, keys_noted, all_append, map_same, count_by-cons, count_by-append, count_by-map, count_by-grown}
 use Rattle.gb_fifo.specs.declared.entry.Entry.{Entry}
 use Rattle.gb_fifo.specs.Entries.{is_for, blank, noted_by, brought, brought_entry, given_entry, up_of, is_next, next_of, given_of, pick, give, released, released_ups, taken_one, taken_one_ups, taken, taken_ups}

@@ -2,9 +2,8 @@
 use Rattle.std.specs.Prelude.{◌≡◌, ℕ, ◌<◌, Bool, true, false, List, slice_index}
 use Rattle.gb_types.specs.declared.{limits.TheConstants.NODES, message.MsgId.MsgId}
 use Rattle.gb_layer.specs.Common.{paired}
-use Rattle.gb_fifo.specs.declared.{entry.Entry.Entry, marks.Mark.Mark}
+use Rattle.gb_fifo.specs.declared.{entry.Entry.Entry, marks.Mark.Mark, marks.Mark.TheVariants.Missing, marks.Mark.TheVariants.Waiting, marks.Mark.TheVariants.Delivered}
 use Rattle.gb_fifo.specs.Entries.{given_of}
-use Rattle.gb_fifo.specs.declared.marks.Mark.TheVariants.{Missing, Waiting, Delivered}
 
 -- the message came up from the layer below
 abbrev pub came_up : Mark → Bool

@@ -1,8 +1,7 @@
 -- The sink that a fifo makes for the layer below.
 use Rattle.std.proofs.Common.{◌≡◌, ℕ, ◌≤◌, ◌<◌, Bool, true, false, not, ◌&&◌, nat_eq, nat_lt, List, [], ◌∷◌, ◌++◌, length, slice_index, fold, refl, ap, ◌∙◌, subst, sym, arith, zero, suc, append_assoc}
 use Rattle.std.proofs.lemmas.Bool.{eqb-true, eq-eqb, le-ltb, ltb-false}
-use Rattle.std.proofs.lemmas.List.{append-nil}
-use Rattle.std.proofs.lemmas.List.Sums.{fold-append}
+use Rattle.std.proofs.{lemmas.List.append-nil, lemmas.List.Sums.fold-append}
 use Rattle.gb_types.proofs.BoolLemmas.{and_left, and_right, and_both, not_true}
 use Rattle.gb_types.specs.declared.{limits.TheConstants.NODES, message.MsgId.MsgId}
 use Rattle.gb_layer.specs.declared.effects.Up.{Up}

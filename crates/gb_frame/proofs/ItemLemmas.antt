@@ -1,11 +1,8 @@
 -- The bytes that are read as items are their text, and their text is read as those items.
 use Rattle.gb_types.specs.Common.{◌≡◌, ℕ, zero, suc, ◌+◌, ◌-◌, ◌^◌, ◌≤◌, Bool, true, false, ◌||◌, cond, ltb, List, [], ◌∷◌, ◌++◌, length, get_or, take, drop, All, Option, Some, None, refl, sym, ap, subst, ◌∙◌, append_assoc, arith, option_and_then, w16, w32, to_be_bytes, drop-cons, ltb-false, le-ltb, take_at, drop_at, take-append-drop, length-append, length-take, length-drop, All-nil, All-cons, All-head, All-tail, limits_of, limits_are_within}
 use Rattle.std.proofs.lemmas.List.Concat.{flat_map-cons}
-use Rattle.gb_types.specs.declared.{limits.TheConstants.PAYLOAD, version.Version.Version}
-use Rattle.gb_types.specs.declared.version.Version.TheVariants.{One, Two, Three}
-use Rattle.gb_types.proofs.VersionLemmas.{header_least}
-use Rattle.gb_types.proofs.BoolLemmas.{or_sides}
-use Rattle.gb_types.proofs.ReadLemmas.{some_same}
+use Rattle.gb_types.specs.declared.{limits.TheConstants.PAYLOAD, version.Version.Version, version.Version.TheVariants.One, version.Version.TheVariants.Two, version.Version.TheVariants.Three}
+use Rattle.gb_types.proofs.{VersionLemmas.header_least, BoolLemmas.or_sides, ReadLemmas.some_same}
 use Rattle.gb_frame.specs.declared.item.Item.{Item}
 use Rattle.gb_frame.specs.Spelling.{generation_text, item_head, item_text, items_text, HasGeneration, IsBytes, IsItem}
 use Rattle.gb_frame.specs.Fields.{number_at}

@@ -2,10 +2,8 @@
 use Rattle.gb_types.specs.Common.{◌≡◌, ◌≢◌, ℕ, ◌-◌, ◌^◌, ◌≤◌, Bool, true, false, cond, List, [], ◌∷◌, ◌++◌, length, take, drop, codes, Option, Some, None, Ok, refl, sym, ap, subst, ◌∙◌, arith, inl, inr, ◌⊎◌, find, is_ok, not, ◌&&◌, ◌==◌, ◌%◌, nat_lt, is_none, if◌then◌else◌, w16, w64, to_be_bytes, drop-cons, eqb-true, eq-eqb, ltb-false, ltb-true, lt-ltb, take-append-drop, drop-append-le, take_at, length-take, length-drop, length-append, append-nil, nil_from_length, limits_of, limits_are_within}
 use Rattle.std.specs.Cmp.Lexicographic.{same_text, other_text}
 use Rattle.gb_types.specs.declared.version.Version.{Version as TextVersion}
-use Rattle.gb_types.proofs.BoolLemmas.{not_false, not_true}
-use Rattle.gb_types.proofs.ReadLemmas.{some_same}
-use Rattle.gb_frame.specs.declared.limits.TheConstants.{SHORTEST, HEADER, TAG}
-use Rattle.gb_frame.specs.declared.{fault.PacketFault.PacketFault, item.Item.Item}
+use Rattle.gb_types.proofs.{BoolLemmas.not_false, BoolLemmas.not_true, ReadLemmas.some_same, VersionLemmas.byte_of_named}
+use Rattle.gb_frame.specs.declared.{limits.TheConstants.SHORTEST, limits.TheConstants.HEADER, limits.TheConstants.TAG, fault.PacketFault.PacketFault, item.Item.Item}
 use Rattle.gb_frame.specs.declared.fault.PacketFault.TheVariants.{Short, Magic, Version, Node, Mask, Count, Length, Trailing, TooLong, Tag}
 use Rattle.gb_frame.specs.Packet.{Content}
 use Rattle.gb_frame.specs.Spelling.{items_text, header_text, tagged_text, tag_of, packet_text, IsBytes, IsWithinLimits, IsText}
@@ -13,7 +11,6 @@ use Rattle.gb_frame.specs.Fields.{version_in, from_in, to_in, base_in, mask_in, 
 use Rattle.gb_frame.specs.Reading.{version_read, unless, faults, test, fault_in, reading, content_in, parsed, left_over, items_of}
 use Rattle.gb_frame.specs.Faults.{Stand, HasFault, IsFirstFault}
 use Rattle.gb_frame.specs.Laws.{WhatIsWrittenIsRead}
-use Rattle.gb_types.proofs.VersionLemmas.{byte_of_named}
 use Rattle.gb_frame.proofs.VersionLemmas.{shortest_fits}
 use Rattle.gb_frame.proofs.NumberLemmas.{IsBytes-take, IsBytes-drop, wide16, wide64, cut, number_below}
 use Rattle.gb_frame.proofs.ItemLemmas.{items_take, stand_again}

@@ -8,12 +8,11 @@ use Rattle.gb_frame.specs.Spelling.{items_text, tagged_text, tag_of, header_text
 use Rattle.gb_frame.specs.Laws.{OneTextHasOnePacket, OnePacketHasOneText}
 use Rattle.gb_frame.specs.Fields.{version_in, from_in, to_in, base_in, mask_in, frame_in, count_in, items_in, tagged_in, tag_in}
 use Rattle.gb_frame.specs.Reading.{version_read, parsed, items_at}
-use Rattle.gb_types.proofs.VersionLemmas.{named_by_byte}
+use Rattle.gb_types.proofs.{VersionLemmas.named_by_byte, ReadLemmas.some_same}
 use Rattle.gb_frame.proofs.VersionLemmas.{room_within}
 use Rattle.gb_frame.proofs.RoomLemmas.{count_fits}
 use Rattle.gb_frame.proofs.NumberLemmas.{wide16, wide64, number_again}
 use Rattle.gb_frame.proofs.ItemLemmas.{items_again}
-use Rattle.gb_types.proofs.ReadLemmas.{some_same}
 
 pub length-tag_of : (key text : List ℕ) → length (tag_of key text) ≡ 8
 unfolding tag_of

@@ -1,7 +1,6 @@
 -- The room in a packet of a version.
 use Rattle.gb_types.specs.Common.{◌≤◌, arith, limits_of, limits_are_within}
-use Rattle.gb_types.specs.declared.version.Version.{Version}
-use Rattle.gb_types.specs.declared.version.Version.TheVariants.{One, Two, Three}
+use Rattle.gb_types.specs.declared.{version.Version.Version, version.Version.TheVariants.One, version.Version.TheVariants.Two, version.Version.TheVariants.Three}
 use Rattle.gb_frame.specs.declared.limits.TheConstants.{SHORTEST, ROOM}
 use Rattle.gb_frame.specs.Room.{room_of}
 

@@ -1,9 +1,7 @@
 -- Reading bytes as a packet, as a function on lists.
 use Rattle.std.specs.Prelude.{ℕ, zero, suc, ◌%◌, ◌-◌, Bool, ◌||◌, ◌&&◌, not, nat_lt, nat_eq, List, [], ◌∷◌, length, take, drop, is_none, is_some, nat_le, find, ◌==◌, Option, Some, None, unwrap_or, option_and_then, Result, Ok, Err, if◌then◌else◌, slice_index}
-use Rattle.std.specs.Cmp.Lexicographic.{pointwise}
-use Rattle.std.specs.Int.{w16, w32}
-use Rattle.gb_types.specs.declared.version.Version.{Version as TextVersion}
-use Rattle.gb_types.specs.declared.version.Version.TheVariants.{One, Two, Three}
+use Rattle.std.specs.{Cmp.Lexicographic.pointwise, Int.w16, Int.w32}
+use Rattle.gb_types.specs.declared.{version.Version.Version as TextVersion, version.Version.TheVariants.One, version.Version.TheVariants.Two, version.Version.TheVariants.Three}
 use Rattle.gb_types.specs.Common.{limits_of, version_named}
 use Rattle.gb_frame.specs.declared.{limits.TheConstants.SHORTEST, item.Item.Item, fault.PacketFault.PacketFault}
 use Rattle.gb_frame.specs.declared.fault.PacketFault.TheVariants.{Short, Magic, Version, Node, Mask, Count, Length, Trailing, TooLong, Tag}

@@ -2,10 +2,9 @@
 use Rattle.std.specs.Prelude.{◌≡◌, ◌≢◌, ℕ, ◌%◌, ◌^◌, ◌<◌, ◌≤◌, ◌↔◌, List, [], ◌∷◌, ◌++◌, length, take, slice_index_or, codes, All}
 use Rattle.std.specs.Int.{w16, w32, w64, to_be_bytes}
 use Rattle.std.specs.List.{flat_map}
-use Rattle.gb_types.specs.declared.{limits.TheConstants.NODES, limits.TheConstants.PAYLOAD, version.Version.Version}
+use Rattle.gb_types.specs.declared.{limits.TheConstants.NODES, limits.TheConstants.PAYLOAD, version.Version.Version, version.Version.TheVariants.One, version.Version.TheVariants.Two, version.Version.TheVariants.Three}
 use Rattle.gb_cap.specs.Hmac.{hmac_of}
 use Rattle.gb_types.specs.Common.{limits_of}
-use Rattle.gb_types.specs.declared.version.Version.TheVariants.{One, Two, Three}
 use Rattle.gb_frame.specs.declared.{limits.TheConstants.TAG, item.Item.Item}
 use Rattle.gb_frame.specs.Packet.{Content}
 use Rattle.gb_frame.specs.Room.{room_of}

@@ -1,7 +1,6 @@
 //! Writing packets as bytes.
 ghost use Rattle.std.specs.Prelude.{◌≡◌, ◌+◌, ◌≤◌, ◌++◌, List, length, drop, All, IfOk, vec_len, vec_capacity};
-ghost use Rattle.gb_frame.specs.declared.limits.TheConstants.{HEADER, TAG, SHORTEST};
-ghost use Rattle.gb_frame.specs.declared.item.Item.{Item};
+ghost use Rattle.gb_frame.specs.declared.{limits.TheConstants.HEADER, limits.TheConstants.TAG, limits.TheConstants.SHORTEST, item.Item.Item};
 ghost use Rattle.gb_frame.specs.Packet.{content, packet_of};
 ghost use Rattle.gb_frame.specs.Spelling.{header_text, tag_of, packet_text, AreTexts, HasGeneration, IsWithinLimits, FitsFields, IsPacket, IsText};
 

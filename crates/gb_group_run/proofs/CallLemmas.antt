@@ -2,13 +2,11 @@
 use Rattle.gb_types.specs.Common.{◌≡◌, ℕ, ◌+◌, ◌<◌, List, [], ◌∷◌, ◌++◌, length, take, Bool, true, false, not, ◌&&◌, ◌||◌, ◌⊎◌, inl, inr, nat_eq, Option, Some, None, refl, sym, ◌∙◌, ap, subst, arith, if◌then◌else◌, cases_eq, nat_tests, append-nil, append_assoc, take_at, message_of}
 use Rattle.std.specs.FinSet as set
 use Rattle.gb_types.specs.declared.{entry.Entry.Entry, limits.TheConstants.NODES, node.NodeId.NodeId, reply.Reply.TheVariants.Said, spec.Spec.Spec}
-use Rattle.gb_types.proofs.SameLemmas.{same_number}
-use Rattle.gb_types.proofs.InsertedLemmas.{contains-inserted}
+use Rattle.gb_types.proofs.{SameLemmas.same_number, InsertedLemmas.contains-inserted}
 use Rattle.gb_layer.specs.Common.{was_noticed}
 use Rattle.gb_layer.specs.declared.call.Call.TheVariants.{Came, Notice}
 use Rattle.gb_rules.specs.Common.{calls_of, puts_of, falls_after, is_other, with_new}
-use Rattle.gb_rules.specs.declared.{call.GroupCall.GroupCall, phase.Phase.Phase}
-use Rattle.gb_rules.specs.declared.call.GroupCall.TheVariants.{Own, Other, Crashed}
+use Rattle.gb_rules.specs.declared.{call.GroupCall.GroupCall, phase.Phase.Phase, call.GroupCall.TheVariants.Own, call.GroupCall.TheVariants.Other, call.GroupCall.TheVariants.Crashed}
 use Rattle.gb_slot.specs.Common.{own_entry, falls, waiting, slot_called, slot_said, slot_came, slot_noticed, SlotState, StandsFor, reaches}
 use Rattle.gb_slot.proofs.SpecLemmas.{reaches-said}
 use Rattle.gb_alone.specs.Common.{Member, held_spec, put_to, called, cut, took_notice}

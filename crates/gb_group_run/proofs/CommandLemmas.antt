@@ -1,13 +1,11 @@
 -- A command with its reply: the slot stands for the group alone after it.
 use Rattle.gb_types.specs.Common.{◌≡◌, ℕ, ◌+◌, ◌<◌, List, [], ◌∷◌, ◌++◌, length, take, Bool, true, false, not, ◌&&◌, ◌||◌, Option, Some, None, refl, sym, ◌∙◌, ap, subst, arith, map, drop, is_some, nat_le, option_map, if◌then◌else◌, nat_cmp, list_any, append-nil, take_at, drop_all, version_at}
 use Rattle.std.specs.FinSet as set
-use Rattle.gb_types.specs.declared.{address.Addr.Addr, entry.Entry.Entry, limits.TheConstants.NODES, node.NodeId.NodeId, plan.Bounds.Bounds, reply.Reply.Reply, new_message.NewMessage.NewMessage, spec.Spec.Spec, version.Version.Version}
+use Rattle.gb_types.specs.declared.{address.Addr.Addr, entry.Entry.Entry, limits.TheConstants.NODES, node.NodeId.NodeId, plan.Bounds.Bounds, reply.Reply.Reply, new_message.NewMessage.NewMessage, spec.Spec.Spec, version.Version.Version, reply.Reply.TheVariants.Done, reply.Reply.TheVariants.Said, reply.Reply.TheVariants.Refused}
 use Rattle.gb_types.specs.declared.refusal.Refusal.TheVariants.{NoGroup, Spent, NoRoom, BadMembers, OverReserve, Stopped}
-use Rattle.gb_types.specs.declared.reply.Reply.TheVariants.{Done, Said, Refused}
 use Rattle.gb_types.proofs.BoolLemmas.{or_left}
 use Rattle.gb_rules.specs.Common.{entry_in, Shown, is_gone, is_other, open_answer, shut_answer, drop_answer, say_answer, can_name, is_bad, is_over, make_answer, by_tenant}
-use Rattle.gb_rules.specs.declared.{call.GroupCall.GroupCall, call.GroupCall.TheVariants.Own, phase.Phase.Phase, reserve.Reserve.Reserve, room.TheConstants.GENERATIONS}
-use Rattle.gb_rules.specs.declared.phase.Phase.TheVariants.{Opened, Shut, Gone}
+use Rattle.gb_rules.specs.declared.{call.GroupCall.GroupCall, call.GroupCall.TheVariants.Own, phase.Phase.Phase, reserve.Reserve.Reserve, room.TheConstants.GENERATIONS, phase.Phase.TheVariants.Opened, phase.Phase.TheVariants.Shut, phase.Phase.TheVariants.Gone}
 use Rattle.gb_rules.proofs.SayLemmas.{said_is}
 use Rattle.gb_slot.specs.Common.{new_slot, shown, taken_for, waiting, slot_moved, slot_said, SlotState, StandsFor}
 use Rattle.gb_alone.specs.Common.{Member, called, did, commanded, is_message}

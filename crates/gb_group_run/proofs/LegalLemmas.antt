@@ -2,8 +2,7 @@
 use Rattle.gb_types.specs.Common.{◌≡◌, ℕ, ◌+◌, ◌-◌, ◌≤◌, ◌<◌, true, arith}
 use Rattle.gb_types.specs.declared.node.NodeId.{NodeId}
 use Rattle.gb_alone.specs.Common.{Group, is_marked, MayHappen}
-use Rattle.gb_alone.specs.declared.event.GroupEvent.{GroupEvent}
-use Rattle.gb_alone.specs.declared.event.GroupEvent.TheVariants.{Took, Came, Done as Acknowledged}
+use Rattle.gb_alone.specs.declared.{event.GroupEvent.GroupEvent, event.GroupEvent.TheVariants.Took, event.GroupEvent.TheVariants.Came, event.GroupEvent.TheVariants.Done as Acknowledged}
 use Rattle.gb_group_run.specs.Legal.{HasItemsAlone}
 
 -- where only carried items have come

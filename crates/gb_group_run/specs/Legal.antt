@@ -2,8 +2,7 @@
 use Rattle.std.specs.Prelude.{◌+◌, ◌≤◌, ◌<◌, List, ◌∷◌, ◌++◌, length}
 use Rattle.gb_types.specs.declared.{address.Addr.Addr, node.NodeId.NodeId, plan.Bounds.Bounds}
 use Rattle.gb_alone.specs.Common.{Group, alone, IsLegal}
-use Rattle.gb_alone.specs.declared.{event.GroupEvent.GroupEvent, event.GroupStep.GroupStep}
-use Rattle.gb_alone.specs.declared.event.GroupEvent.TheVariants.{Took, Came, Done as Acknowledged}
+use Rattle.gb_alone.specs.declared.{event.GroupEvent.GroupEvent, event.GroupStep.GroupStep, event.GroupEvent.TheVariants.Took, event.GroupEvent.TheVariants.Came, event.GroupEvent.TheVariants.Done as Acknowledged}
 
 -- as `HasItems`, in the words of the group alone: the items that a step carries wait, and those that come or are acknowledged were carried
 abbrev pub HasItemsAlone : NodeId → GroupEvent → Group → Type 0

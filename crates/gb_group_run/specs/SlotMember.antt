@@ -2,8 +2,7 @@
 use Rattle.std.specs.Prelude.{ℕ, ◌+◌, ◌-◌, ◌≤◌, ◌<◌, ◌||◌, Bool, false, true, List, [], ◌∷◌, ◌++◌, fold, length, replicate, take, drop, slice_get, slice_index_or, slice_set, nat_lt, Option, Some, None, option_map, if◌then◌else◌}
 use Rattle.std.specs.FinSet as set
 use Rattle.gb_types.specs.Common.{message_of, version_at}
-use Rattle.gb_types.specs.declared.{address.Addr.Addr, entry.Entry.Entry, limits.TheConstants.NODES, node.NodeId.NodeId, plan.Bounds.Bounds, refusal.Refusal.TheVariants.Stopped, reply.Reply.Reply, version.Version.Version}
-use Rattle.gb_types.specs.declared.reply.Reply.TheVariants.{Done, Said, Refused}
+use Rattle.gb_types.specs.declared.{address.Addr.Addr, entry.Entry.Entry, limits.TheConstants.NODES, node.NodeId.NodeId, plan.Bounds.Bounds, refusal.Refusal.TheVariants.Stopped, reply.Reply.Reply, version.Version.Version, reply.Reply.TheVariants.Done, reply.Reply.TheVariants.Said, reply.Reply.TheVariants.Refused}
 use Rattle.gb_rules.specs.Common.{Shown, is_too_long, open_answer, shut_answer, drop_answer, say_answer, fetch_answer, absent_answer, make_answer, by_tenant}
 use Rattle.gb_rules.specs.declared.{phase.Phase.TheVariants.Opened, phase.Phase.TheVariants.Shut, reserve.Reserve.Reserve}
 use Rattle.gb_slot.specs.Common.{new_slot, shown, waiting, slot_moved, slot_said, slot_came, slot_noticed, slot_done, slot_took, SlotState}

@@ -83,10 +83,8 @@ pub(crate) struct Member {
 }
 
 impl Model for Member {
-    ghost use Rattle.std.specs.Prelude.{◌≡◌, vec_len};
-    ghost use Rattle.std.specs.Coded.{codes, coded_ℕ};
+    ghost use Rattle.std.specs.{Prelude.◌≡◌, Prelude.vec_len, Coded.codes, Coded.coded_ℕ, Ordering.nat_cmp};
     ghost use Rattle.std.specs.FinSet as set;
-    ghost use Rattle.std.specs.Ordering.{nat_cmp};
     ghost use Rattle.gb_types.specs.declared.limits.TheConstants.{NODES};
     ghost use Rattle.gb_group_run.specs.SlotMember.{SlotMember};
 

@@ -12,10 +12,8 @@ use Rattle.gb_host.specs.Plans.{is_kept, plan_of}
 use Rattle.gb_host.specs.Replay.{past_of, IsReplay}
 use Rattle.gb_host.specs.RingValues.{OutletValue}
 use Rattle.gb_host.specs.Rings.{IsPast}
-use Rattle.gb_host.specs.declared.{copies.Copies.Copies, copies.Way.TheVariants.Nowhere, fault.HostFault.HostFault, kept.Kept.Kept, plan.HostPlan.HostPlan}
-use Rattle.gb_host.specs.declared.copies.Copies.TheVariants.{No, ForMemory, ForRing}
+use Rattle.gb_host.specs.declared.{copies.Copies.Copies, copies.Way.TheVariants.Nowhere, fault.HostFault.HostFault, kept.Kept.Kept, plan.HostPlan.HostPlan, copies.Copies.TheVariants.No, copies.Copies.TheVariants.ForMemory, copies.Copies.TheVariants.ForRing, kept.Kept.TheVariants.Nothing, kept.Kept.TheVariants.Memory, kept.Kept.TheVariants.Ring}
 use Rattle.gb_host.specs.declared.fault.HostFault.TheVariants.{NoNode, ForeignSeat, Differs, OutOfMemory, Full, Behind}
-use Rattle.gb_host.specs.declared.kept.Kept.TheVariants.{Nothing, Memory, Ring}
 
 taped : (t r : Bool) → t ≡ true → (t || r) ≡ true
 taped true r h = refl

@@ -1,9 +1,8 @@
 -- A pack or an again that gives nothing changes nothing.
 use Rattle.gb_types.specs.Common.{◌≡◌, inl, inr, ◌∙◌, Bool, true, false, Some, None, refl, sym, ap, subst, option_map, if◌then◌else◌}
 use Rattle.gb_node.specs.Common.{running_turn, stopped_answer, sent, sent_batch, content_to, window_to, next_batch, IsTurn, NodeValue}
-use Rattle.gb_node.specs.declared.{answer.NodeAnswer.NodeAnswer, event.NodeEvent.NodeEvent}
+use Rattle.gb_node.specs.declared.{answer.NodeAnswer.NodeAnswer, event.NodeEvent.NodeEvent, answer.Sent.TheVariants.Packet as SentPacket, answer.Sent.TheVariants.Nothing, answer.Sent.TheVariants.Refused}
 use Rattle.gb_node.specs.declared.answer.NodeAnswer.TheVariants.{Reply, Taken, Sent, Ticked, Halted}
-use Rattle.gb_node.specs.declared.answer.Sent.TheVariants.{Packet as SentPacket, Nothing, Refused}
 use Rattle.gb_node.specs.declared.event.NodeEvent.TheVariants.{Request as Asked, Packet as Came, Pack, Again, Ack, Tick, Stop}
 use Rattle.gb_host.specs.Nothing.{is_nothing, gives_nothing, NothingChanges}
 

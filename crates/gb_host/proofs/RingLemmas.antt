@@ -8,8 +8,7 @@ use Rattle.gb_host.specs.Pasts.{BookName, book_at}
 use Rattle.gb_host.specs.Plans.{plan_of, IsPlan}
 use Rattle.gb_host.specs.Replay.{past_of}
 use Rattle.gb_host.specs.Rings.{entries_of, AreEntries, Follows, HasBegun, HasTaken, IsPast}
-use Rattle.gb_host.specs.declared.{noted.Noted.Noted, plan.HostPlan.HostPlan}
-use Rattle.gb_host.specs.declared.noted.Noted.TheVariants.{Begin, Entry, End}
+use Rattle.gb_host.specs.declared.{noted.Noted.Noted, plan.HostPlan.HostPlan, noted.Noted.TheVariants.Begin, noted.Noted.TheVariants.Entry, noted.Noted.TheVariants.End}
 use Rattle.gb_host.proofs.ReplayLemmas.{comes_new, node_plan_right, replay_more}
 
 entries_push : (xs : List Noted) (e : TapeEntry) (s : Known TapeEntry) → entries_of (xs ++ Entry e s ∷ []) ≡ entries_of xs ++ e ∷ []

@@ -33,14 +33,6 @@ IsClosed p is_here b None tape = (is_here ≡ false) × (tape ≡ [])
 abbrev pub AreReplays : HostPlan → set.FinSet nat_cmp → ℕ → List (Option NodeValue) → List (List TapeEntry) → Type 0
 AreReplays p here n nodes tapes = (b : NodeId) (d : Option NodeValue) → b.number < n → IsClosed p (set.contains here b.number) b (slice_index_or nodes b.number d) (tape_at tapes b.number)
 
--- this node and this tape are what is left of the node with the number k
-abbrev pub IsLeftOf : ℕ → NodeValue → List TapeEntry → List (Option NodeValue) → List (List TapeEntry) → Type 0
-IsLeftOf k node tape nodes tapes = (slice_index_or nodes k None ≡ Some node) × (k < length tapes) × (tape_at tapes k ≡ tape)
-
--- nothing is left of the node with the number k: no node, or no tape
-abbrev pub IsNotLeft : ℕ → List (Option NodeValue) → List (List TapeEntry) → Type 0
-IsNotLeft k nodes tapes = (slice_index_or nodes k None ≡ None) ⊎ (length tapes ≤ k)
-
 -- At each node the seat's entries in the tape are its calls there, in its order, each once and with its number among them.
 abbrev pub IsSame : List (List TapeEntry) → ℕ → List SeatEntry → Type 0
 IsSame tapes s list = (k : ℕ) → calls_of s (tape_at tapes k) ≡ numbered 0 (calls_at k list)

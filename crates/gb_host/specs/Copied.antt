@@ -2,9 +2,7 @@
 use Rattle.std.specs.Prelude.{ℕ, ◌≡◌, List, [], ◌∷◌}
 use Rattle.gb_types.specs.declared.node.NodeId.{NodeId}
 use Rattle.gb_node.specs.declared.{answer.NodeAnswer.NodeAnswer, event.NodeEvent.NodeEvent, tape.TapeEntry.TapeEntry}
-use Rattle.gb_host.specs.declared.{copies.Copies.Copies, copies.Way.Way, entry.SeatEntry.SeatEntry}
-use Rattle.gb_host.specs.declared.copies.Copies.TheVariants.{No, ForMemory, ForRing}
-use Rattle.gb_host.specs.declared.copies.Way.TheVariants.{Nowhere, InMemory, InRing}
+use Rattle.gb_host.specs.declared.{copies.Copies.Copies, copies.Way.Way, entry.SeatEntry.SeatEntry, copies.Copies.TheVariants.No, copies.Copies.TheVariants.ForMemory, copies.Copies.TheVariants.ForRing, copies.Way.TheVariants.Nowhere, copies.Way.TheVariants.InMemory, copies.Way.TheVariants.InRing}
 
 -- the copies that are kept of this event and of this answer
 abbrev pub AreCopies : Way → NodeEvent → NodeAnswer → Copies → Type 0

@@ -1,17 +1,13 @@
 -- How the past of a node is kept.
 use Rattle.std.specs.Prelude.{ℕ, ◌≡◌, ◌<◌, ◌++◌, true, false, List, [], ◌∷◌, vec_len, vec_capacity}
-use Rattle.std.specs.declared.vec.Vec.{Vec}
-use Rattle.std.specs.declared.alloc.Global.{Global}
+use Rattle.std.specs.declared.{vec.Vec.Vec, alloc.Global.Global}
 use Rattle.gb_past.specs.Story.{Known}
 use Rattle.gb_types.specs.declared.node.NodeId.{NodeId}
 use Rattle.gb_node.specs.declared.{event.NodeEvent.NodeEvent, tape.TapeEntry.TapeEntry}
 use Rattle.gb_host.specs.Pasts.{BookName}
 use Rattle.gb_host.specs.Plans.{is_kept}
 use Rattle.gb_host.specs.Rings.{IsPast}
-use Rattle.gb_host.specs.declared.{copies.Copies.Copies, copies.Way.Way, entry.SeatEntry.SeatEntry, fault.HostFault.HostFault, fault.HostFault.TheVariants.OutOfMemory, fault.HostFault.TheVariants.Behind, kept.Kept.Kept, plan.HostPlan.HostPlan}
-use Rattle.gb_host.specs.declared.copies.Copies.TheVariants.{No, ForMemory, ForRing}
-use Rattle.gb_host.specs.declared.copies.Way.TheVariants.{Nowhere, InMemory, InRing}
-use Rattle.gb_host.specs.declared.kept.Kept.TheVariants.{Nothing, Memory, Ring}
+use Rattle.gb_host.specs.declared.{copies.Copies.Copies, copies.Way.Way, entry.SeatEntry.SeatEntry, fault.HostFault.HostFault, fault.HostFault.TheVariants.OutOfMemory, fault.HostFault.TheVariants.Behind, kept.Kept.Kept, plan.HostPlan.HostPlan, copies.Copies.TheVariants.No, copies.Copies.TheVariants.ForMemory, copies.Copies.TheVariants.ForRing, copies.Way.TheVariants.Nowhere, copies.Way.TheVariants.InMemory, copies.Way.TheVariants.InRing, kept.Kept.TheVariants.Nothing, kept.Kept.TheVariants.Memory, kept.Kept.TheVariants.Ring}
 
 module _ {L : Type 0} where
   -- the entries that were kept

@@ -7,8 +7,7 @@ use Rattle.gb_node.specs.declared.tape.TapeEntry.{TapeEntry}
 use Rattle.gb_host.specs.Pasts.{BookName, book_at}
 use Rattle.gb_host.specs.Plans.{plan_of}
 use Rattle.gb_host.specs.Replay.{past_of}
-use Rattle.gb_host.specs.declared.{noted.Noted.Noted, plan.HostPlan.HostPlan}
-use Rattle.gb_host.specs.declared.noted.Noted.TheVariants.{Begin, Entry, End}
+use Rattle.gb_host.specs.declared.{noted.Noted.Noted, plan.HostPlan.HostPlan, noted.Noted.TheVariants.Begin, noted.Noted.TheVariants.Entry, noted.Noted.TheVariants.End}
 
 -- These entries are all that is known of the past of a node of the plan, and by them the node comes to a state.
 pub record IsPast (p : HostPlan) (books : List BookName) (b : NodeId) (entries : List TapeEntry) (known : Known TapeEntry) : Type 0 where

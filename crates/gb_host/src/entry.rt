@@ -21,10 +21,8 @@ pub struct CallList {
 }
 
 impl Model for CallList {
-    ghost use Rattle.std.specs.Coded.{codes, coded_ℕ};
-    ghost use Rattle.std.specs.Ordering.{nat_cmp};
+    ghost use Rattle.std.specs.{Coded.codes, Coded.coded_ℕ, Ordering.nat_cmp, Prelude.List};
     ghost use Rattle.std.specs.FinSet as set;
-    ghost use Rattle.std.specs.Prelude.{List};
     ghost use Rattle.gb_host.specs.declared.entry.SeatEntry.{SeatEntry};
 
     ghost Value = { List SeatEntry };

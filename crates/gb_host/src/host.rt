@@ -38,10 +38,8 @@ pub struct Host<L: Tapes> {
 }
 
 impl<L: Tapes> Model for Host<L> {
-    ghost use Rattle.std.specs.Coded.{codes, coded_ℕ};
-    ghost use Rattle.std.specs.Ordering.{nat_cmp};
+    ghost use Rattle.std.specs.{Coded.codes, Coded.coded_ℕ, Ordering.nat_cmp, Prelude.◌≡◌};
     ghost use Rattle.std.specs.FinSet as set;
-    ghost use Rattle.std.specs.Prelude.{◌≡◌};
     ghost use Rattle.gb_host.specs.HostValue.{AreHere, HostValue};
     ghost use Rattle.gb_host.specs.Plans.{IsPlan};
 

@@ -35,8 +35,7 @@ pub struct Recorder<L: Tapes> {
 }
 
 impl<L: Tapes> Model for Recorder<L> {
-    ghost use Rattle.std.specs.Coded.{codes, coded_ℕ};
-    ghost use Rattle.std.specs.Ordering.{nat_cmp};
+    ghost use Rattle.std.specs.{Coded.codes, Coded.coded_ℕ, Ordering.nat_cmp};
     ghost use Rattle.std.specs.FinSet as set;
     ghost use Rattle.gb_host.specs.RingValues.{RecorderValue};
 

@@ -25,8 +25,7 @@ pub struct Seat<L: Tapes> {
 }
 
 impl<L: Tapes> Model for Seat<L> {
-    ghost use Rattle.std.specs.Coded.{codes, coded_ℕ};
-    ghost use Rattle.std.specs.Ordering.{nat_cmp};
+    ghost use Rattle.std.specs.{Coded.codes, Coded.coded_ℕ, Ordering.nat_cmp};
     ghost use Rattle.std.specs.FinSet as set;
     ghost use Rattle.gb_host.specs.SeatValue.{SeatValue};
 

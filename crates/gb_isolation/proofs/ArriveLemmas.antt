@@ -5,8 +5,7 @@ use Rattle.gb_types.specs.declared.{address.Addr.Addr, limits.TheConstants.NODES
 use Rattle.gb_frame.specs.declared.item.Item.{Item}
 use Rattle.gb_frame.specs.Common.{Content, items_for}
 use Rattle.gb_link.specs.Common.{covers}
-use Rattle.gb_detect.specs.Silence.{Heard}
-use Rattle.gb_detect.specs.Watch.{start, replay}
+use Rattle.gb_detect.specs.{Silence.Heard, Watch.start, Watch.replay}
 use Rattle.gb_rules.specs.Common.{reserve_of, row_of}
 use Rattle.gb_alone.specs.Common.{Member, Group, alone_from}
 use Rattle.gb_node.specs.Common.{node_numbered, Happened, read, frames_to, is_ack, is_acked, is_frame, is_first, is_taken, is_stopped, tenants_in, watched, waiting_of, came_told, taken_told, told_of, living_of, IsTakenIn}

@@ -1,8 +1,7 @@
 -- The view of a group after a request, and what one command does to the group alone.
 use Rattle.gb_types.specs.Common.{◌≡◌, ℕ, ◌<◌, List, [], ◌∷◌, ◌++◌, length, Option, Some, None, Bool, true, false, ◌&&◌, ◌||◌, refl, sym, ◌∙◌, ap, subst, option_or, if◌then◌else◌, nat_le, option_map, and_parts, and_right, append-nil}
 use Rattle.std.specs.FinSet as set
-use Rattle.gb_types.specs.declared.{address.Addr.Addr, entry.Entry.Entry, node.NodeId.NodeId, refusal.Refusal.Refusal, reply.Reply.Reply, request.Request.Request, spec.Spec.Spec, plan.Bounds.Bounds, version.Version.Version}
-use Rattle.gb_types.specs.declared.reply.Reply.TheVariants.{Done, Said, Refused}
+use Rattle.gb_types.specs.declared.{address.Addr.Addr, entry.Entry.Entry, node.NodeId.NodeId, refusal.Refusal.Refusal, reply.Reply.Reply, request.Request.Request, spec.Spec.Spec, plan.Bounds.Bounds, version.Version.Version, reply.Reply.TheVariants.Done, reply.Reply.TheVariants.Said, reply.Reply.TheVariants.Refused}
 use Rattle.gb_frame.specs.declared.item.Item.{Item}
 use Rattle.gb_rules.specs.Common.{is_gone, passed, where_so, reserve_of, row_of}
 use Rattle.gb_rules.specs.declared.reserve.Reserve.{Reserve}

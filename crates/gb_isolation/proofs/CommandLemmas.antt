@@ -1,14 +1,11 @@
 -- What opening, shutting, dropping, saying and fetching do to a group at a running node.
 use Rattle.gb_types.specs.Common.{◌≡◌, ◌≢◌, ℕ, ◌+◌, ◌<◌, ◌≤◌, List, [], ◌∷◌, ◌++◌, length, take, Option, Some, None, Bool, true, false, ◌||◌, ◌⊎◌, inl, inr, refl, sym, ◌∙◌, ap, subst, arith, option_or, if◌then◌else◌, is_some, option_map, list_any, nat_cmp, take-length, and_parts, cases_lt, append-nil, take-append-le, version_at}
 use Rattle.std.specs.FinSet as set
-use Rattle.gb_types.specs.declared.{address.Addr.Addr, entry.Entry.Entry, limits.TheConstants.NODES, node.NodeId.NodeId, refusal.Refusal.Refusal, reply.Reply.Reply, request.Request.Request, request.Action.Action, request.Action.TheVariants.AddTenant, request.Action.TheVariants.Group as AtGroup, request.GroupCommand.GroupCommand, spec.Spec.Spec, spec.TenantRow.TenantRow, version.Version.Version, new_message.NewMessage.NewMessage}
-use Rattle.gb_types.specs.declared.refusal.Refusal.TheVariants.{NoGroup, Spent, Stopped}
-use Rattle.gb_types.specs.declared.reply.Reply.TheVariants.{Done, Said, Refused}
+use Rattle.gb_types.specs.declared.{address.Addr.Addr, entry.Entry.Entry, limits.TheConstants.NODES, node.NodeId.NodeId, refusal.Refusal.Refusal, reply.Reply.Reply, request.Request.Request, request.Action.Action, request.Action.TheVariants.AddTenant, request.Action.TheVariants.Group as AtGroup, request.GroupCommand.GroupCommand, spec.Spec.Spec, spec.TenantRow.TenantRow, version.Version.Version, new_message.NewMessage.NewMessage, refusal.Refusal.TheVariants.NoGroup, refusal.Refusal.TheVariants.Spent, refusal.Refusal.TheVariants.Stopped, reply.Reply.TheVariants.Done, reply.Reply.TheVariants.Said, reply.Reply.TheVariants.Refused}
 use Rattle.gb_types.specs.declared.request.GroupCommand.TheVariants.{Open, Shut, Drop, Say, Fetch}
 use Rattle.gb_frame.specs.declared.item.Item.{Item}
 use Rattle.gb_rules.specs.Common.{is_addr, Shown, is_gone, is_member, on_made, open_answer, shut_answer, drop_answer, say_answer, fetch_answer, by_tenant, reserve_of, row_of, said_in, stepped, where_so}
-use Rattle.gb_rules.specs.declared.{phase.Phase.Phase, reserve.Reserve.Reserve, call.GroupCall.GroupCall, call.GroupCall.TheVariants.Own}
-use Rattle.gb_rules.specs.declared.phase.Phase.TheVariants.{Opened, Shut as Closed, Gone}
+use Rattle.gb_rules.specs.declared.{phase.Phase.Phase, reserve.Reserve.Reserve, call.GroupCall.GroupCall, call.GroupCall.TheVariants.Own, phase.Phase.TheVariants.Opened, phase.Phase.TheVariants.Shut as Closed, phase.Phase.TheVariants.Gone}
 use Rattle.gb_alone.specs.declared.event.GroupEvent.{GroupEvent}
 use Rattle.gb_alone.specs.declared.event.GroupEvent.TheVariants.{Open as AskOpen, Shut as AskShut, Drop as AskDrop, Say as AskSay, Fetch as AskFetch}
 use Rattle.gb_alone.specs.Common.{Member, Group, called, commanded, did, is_acknowledged, member_after, on_group, reply_to, running_reply, MayHappen}

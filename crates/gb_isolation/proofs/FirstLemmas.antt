@@ -2,18 +2,16 @@
 use Rattle.gb_types.specs.Common.{◌≡◌, ◌≢◌, ℕ, ◌<◌, ◌≤◌, inl, inr, true, false, Bool, List, [], ◌∷◌, refl, sym, ap, subst, ◌∙◌, arith, ◌&&◌, ◌||◌, not, nat_eq, nat_lt, if◌then◌else◌, list_any, cases_eq, eqb-true, nat_tests}
 use Rattle.std.specs.FinSet as set
 use Rattle.gb_types.specs.declared.{node.NodeId.NodeId, plan.Plan.Plan}
-use Rattle.gb_types.proofs.SameLemmas.{same_number}
+use Rattle.gb_types.proofs.{SameLemmas.same_number, BoolLemmas.and_right}
 use Rattle.gb_frame.specs.Common.{Content}
 use Rattle.gb_link.specs.Common.{Received, admission, is_awaited}
 use Rattle.gb_link.specs.declared.receiver.Admission.TheVariants.{First, Seen, Outside}
 use Rattle.gb_node.specs.Common.{node_numbered, receiver_from, fate, kind_of, IsTurn, Happened, read, came, is_first, is_taken, is_taken_by, is_frame, PastsSay}
 use Rattle.gb_node.proofs.PacketLemmas.{read_one}
-use Rattle.gb_node.specs.declared.{answer.NodeAnswer.NodeAnswer, answer.Good.Good, answer.Frame.TheVariants.Nothing as NoFrame, answer.Frame.TheVariants.Outside as Beyond, event.NodeEvent.NodeEvent}
+use Rattle.gb_node.specs.declared.{answer.NodeAnswer.NodeAnswer, answer.Good.Good, answer.Frame.TheVariants.Nothing as NoFrame, answer.Frame.TheVariants.Outside as Beyond, event.NodeEvent.NodeEvent, answer.PacketAnswer.TheVariants.Good as TakenGood, answer.PacketAnswer.TheVariants.Fault, answer.PacketAnswer.TheVariants.Refused as TakenRefused}
 use Rattle.gb_node.specs.declared.answer.NodeAnswer.TheVariants.{Reply as Replied, Taken, Sent, Ticked, Halted}
-use Rattle.gb_node.specs.declared.answer.PacketAnswer.TheVariants.{Good as TakenGood, Fault, Refused as TakenRefused}
 use Rattle.gb_node.specs.declared.event.NodeEvent.TheVariants.{Request as Asked, Packet as Came, Pack, Again, Ack, Tick, Stop}
 use Rattle.gb_cluster.specs.Common.{ClusterValue, node_plan, node_at, Did, ComesTo, past_at, NothingIsOutside, LinksHold}
-use Rattle.gb_types.proofs.BoolLemmas.{and_right}
 use Rattle.gb_cluster.proofs.NodesLemmas.{stays, past_same, past_other, have_pasts}
 use Rattle.gb_cluster.proofs.LinkLemmas.{takes}
 use Rattle.gb_isolation.specs.Project.{has_come, is_new_frame}

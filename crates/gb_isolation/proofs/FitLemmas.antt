@@ -7,8 +7,7 @@ use Rattle.gb_node.specs.Common.{Happened, read, frames_to, packed_for, waiting_
 use Rattle.gb_node.specs.Past.{ComesTo as NodeComesTo}
 use Rattle.gb_node.specs.declared.{answer.NodeAnswer.NodeAnswer, answer.NodeAnswer.TheVariants.Sent, answer.Sent.TheVariants.Packet as SentPacket, event.NodeEvent.NodeEvent, event.NodeEvent.TheVariants.Pack, plan.NodePlan.NodePlan}
 use Rattle.gb_cluster.specs.Common.{ClusterValue, node_plan, node_at, Did, ComesTo, past_at}
-use Rattle.gb_cluster.proofs.HonestLemmas.{get_either}
-use Rattle.gb_cluster.proofs.NodesLemmas.{have_pasts, past_same, past_other}
+use Rattle.gb_cluster.proofs.{HonestLemmas.get_either, NodesLemmas.have_pasts, NodesLemmas.past_same, NodesLemmas.past_other}
 use Rattle.gb_isolation.proofs.DoneLemmas.{IsOfNode}
 
 all_of_nodes : (g : Addr) (es : List Entry) → AllByRecursion IsOfNode (map (item_for g) es)

@@ -2,16 +2,14 @@
 use Rattle.gb_types.specs.Common.{◌≡◌, ◌≢◌, ℕ, ◌+◌, ◌-◌, ◌<◌, ◌≤◌, List, [], ◌∷◌, ◌++◌, Option, Some, None, Bool, true, false, ◌&&◌, ◌||◌, ◌⊎◌, inl, inr, refl, sym, ◌∙◌, ap, subst, arith, option_or, if◌then◌else◌, is_some, nat_eq, nat_lt, option_map, list_any, cases_Bool, and_parts, nat_tests, append-nil, version_at}
 use Rattle.std.specs.FinSet as set
 use Rattle.gb_types.proofs.BoolLemmas.{and_both}
-use Rattle.gb_types.specs.declared.{address.Addr.Addr, limits.TheConstants.NODES, refusal.Refusal.Refusal, reply.Reply.Reply, request.Action.Action, request.Action.TheVariants.AddTenant, request.Action.TheVariants.Group as AtGroup, request.GroupCommand.GroupCommand, request.Request.Request, spec.Spec.Spec, spec.TenantRow.TenantRow, version.Version.Version}
+use Rattle.gb_types.specs.declared.{address.Addr.Addr, limits.TheConstants.NODES, refusal.Refusal.Refusal, reply.Reply.Reply, request.Action.Action, request.Action.TheVariants.AddTenant, request.Action.TheVariants.Group as AtGroup, request.GroupCommand.GroupCommand, request.Request.Request, spec.Spec.Spec, spec.TenantRow.TenantRow, version.Version.Version, reply.Reply.TheVariants.Done, reply.Reply.TheVariants.Said, reply.Reply.TheVariants.Refused}
 use Rattle.gb_types.specs.declared.refusal.Refusal.TheVariants.{Denied, OverReserve, NoRoom, TenantThere, Stopped, OutOfMemory}
-use Rattle.gb_types.specs.declared.reply.Reply.TheVariants.{Done, Said, Refused}
 use Rattle.gb_types.specs.declared.request.GroupCommand.TheVariants.{Make, Open, Shut, Drop, Say, Fetch}
 use Rattle.gb_frame.specs.declared.item.Item.{Item}
 use Rattle.gb_rules.specs.Common.{said_in, is_over_limits, reserve_of, reserved, row_of, tenant_answer, is_addr, is_reached_by, is_other_generation, dropped, or_added, passed, where_so, takes_memory}
 use Rattle.gb_alone.specs.Common.{Group, MayHappen, member_after}
 use Rattle.gb_alone.specs.Alone as alone
-use Rattle.gb_alone.specs.declared.event.GroupEvent.{GroupEvent}
-use Rattle.gb_alone.specs.declared.event.GroupEvent.TheVariants.{Tenant, OtherMade, OtherDropped}
+use Rattle.gb_alone.specs.declared.{event.GroupEvent.GroupEvent, event.GroupEvent.TheVariants.Tenant, event.GroupEvent.TheVariants.OtherMade, event.GroupEvent.TheVariants.OtherDropped}
 use Rattle.gb_node.specs.Common.{Happened, added, added_by, frames_to, is_stopped, tenants_in, Told, noticed_after, told_first, asked_told, told_of, living_after, living_done, living_of, IsAsked, admitted_answer, is_admitted_by, past_answer, has_group_token}
 use Rattle.gb_node.specs.declared.{answer.NodeAnswer.TheVariants.Reply as Replied, event.NodeEvent.TheVariants.Request as Asked, plan.NodePlan.NodePlan}
 use Rattle.gb_isolation.specs.Project.{is_met, is_named, is_own_request, is_starved_by, group_items_of, makes, made_by, made_with, replies_in, tenant_of, tenant_given, other_of, other_given}

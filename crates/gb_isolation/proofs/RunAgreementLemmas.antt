@@ -8,8 +8,7 @@ use Rattle.gb_alone.specs.declared.event.GroupStep.{GroupStep}
 use Rattle.gb_alone.proofs.InsideLemmas.{none_beyond}
 use Rattle.gb_duties.specs.Agreement.{IsRunning, AreEnough, IsSettled, IsAgreed, KeepsAgreement, logs_of}
 use Rattle.gb_duties.proofs.FlowLemmas.{nobody_flows, run_flows, legal_parts, made_stays}
-use Rattle.gb_duties.proofs.NoticeLemmas.{AllMarked}
-use Rattle.gb_duties.proofs.SeenLemmas.{noticed_seen, seen_noticed, agreement_seen}
+use Rattle.gb_duties.proofs.{NoticeLemmas.AllMarked, SeenLemmas.noticed_seen, SeenLemmas.seen_noticed, SeenLemmas.agreement_seen}
 use Rattle.gb_node.specs.Common.{waiting_at, node_numbered, frames_to, is_taken}
 use Rattle.gb_cluster.specs.Common.{ClusterValue, node_at, Did, ComesTo, past_at}
 use Rattle.gb_types.proofs.BoolLemmas.{and_both}

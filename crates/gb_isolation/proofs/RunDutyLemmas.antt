@@ -8,8 +8,7 @@ use Rattle.gb_rules.specs.Common.{is_gone, is_member, is_other, has}
 use Rattle.gb_alone.specs.Common.{Group, nobody, alone, is_marked}
 use Rattle.gb_alone.proofs.InsideLemmas.{run_inside}
 use Rattle.gb_duties.specs.Duties.{HasHad, KeepsDuties, IsDutiful, DeliveredAreOfMembers, LoggedAreDelivered, noticed_at, delivered_at}
-use Rattle.gb_duties.proofs.NoticeLemmas.{AllMarked}
-use Rattle.gb_duties.proofs.SeenLemmas.{duties_seen}
+use Rattle.gb_duties.proofs.{NoticeLemmas.AllMarked, SeenLemmas.duties_seen}
 use Rattle.gb_cluster.specs.Common.{ClusterValue, node_plan, Did, past_at}
 use Rattle.gb_cluster.proofs.NodesLemmas.{stays}
 use Rattle.gb_isolation.specs.Isolation.{Seen, seen_in, IsIsolated, GroupsAreIsolated}

@@ -1,13 +1,12 @@
 -- A group behaves in every run as it does alone.
 use Rattle.gb_types.specs.Common.{◌≡◌, ◌≢◌, ℕ, ◌+◌, ◌-◌, ◌<◌, ◌≤◌, List, [], ◌∷◌, ◌++◌, length, Some, None, Bool, true, false, not, ◌⊎◌, inl, inr, refl, sym, ◌∙◌, ap, subst, arith, map, nat_eq, slice_get, if◌then◌else◌, list_any, and_parts, cases_eq, ne_eqb, nat_tests, append-nil, fold-append, bounds_of}
 use Rattle.gb_types.specs.declared.{address.Addr.Addr, limits.TheConstants.NODES, limits.TheConstants.SILENCE_MIN, node.NodeId.NodeId, plan.Plan.Plan, request.Request.Request}
-use Rattle.gb_types.proofs.SameLemmas.{same_number}
+use Rattle.gb_types.proofs.{SameLemmas.same_number, BoolLemmas.not_true}
 use Rattle.gb_frame.specs.declared.item.Item.{Item}
 use Rattle.gb_frame.specs.Common.{Content}
 use Rattle.gb_rules.specs.Common.{said_in}
 use Rattle.gb_alone.specs.Common.{Group, Member, nobody, after, alone, alone_from, is_message, accepted}
-use Rattle.gb_alone.proofs.AcceptedLemmas.{alone_said, length-own_said}
-use Rattle.gb_alone.proofs.IntegrityLemmas.{is_integral}
+use Rattle.gb_alone.proofs.{AcceptedLemmas.alone_said, AcceptedLemmas.length-own_said, IntegrityLemmas.is_integral}
 use Rattle.gb_node.specs.Common.{node_numbered, Happened, read, frames_to, is_acked, is_first, is_taken, is_stopped, packed_for, Told, waiting_of, told_of, living_of, living_after, IsAnswered, AnswersSay, added, tenants_in}
 use Rattle.gb_node.specs.Past.{ComesTo as NodeComesTo}
 use Rattle.gb_node.specs.declared.{answer.Good.Good, answer.NodeAnswer.NodeAnswer, answer.PacketAnswer.TheVariants.Good as TakenGood, answer.Sent.TheVariants.Packet as SentPacket, answer.Ticked.TheVariants.Noticed, event.NodeEvent.NodeEvent, plan.NodePlan.NodePlan}
@@ -26,7 +25,6 @@ use Rattle.gb_isolation.proofs.GoesLemmas.{legal-append}
 use Rattle.gb_isolation.proofs.MarkLemmas.{marks_more, offset_none}
 use Rattle.gb_isolation.proofs.PackLemmas.{packed_goes}
 use Rattle.gb_isolation.proofs.PastLemmas.{running_unmet}
-use Rattle.gb_types.proofs.BoolLemmas.{not_true}
 use Rattle.gb_isolation.proofs.UnrelatedLemmas.{unrelated_goes}
 use Rattle.gb_isolation.proofs.TickLemmas.{ticked_goes}
 use Rattle.gb_isolation.proofs.SilenceLemmas.{silent_is}

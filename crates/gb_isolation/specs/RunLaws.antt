@@ -3,14 +3,12 @@ use Rattle.std.specs.Prelude.{ℕ, ◌+◌, ◌≡◌, ◌≢◌, ◌<◌, ◌||
 use Rattle.std.specs.FinSet as set
 use Rattle.std.specs.Ordering.{nat_cmp}
 use Rattle.gb_types.specs.Common.{bounds_of, version_at}
-use Rattle.gb_types.specs.declared.{address.Addr.Addr, entry.Entry.Entry, message.MsgId.MsgId, node.NodeId.NodeId, refusal.Refusal.Refusal, reply.Reply.Reply, reply.Reply.TheVariants.Said, reply.Reply.TheVariants.Refused, request.Request.Request, request.Action.Action, request.Action.TheVariants.Group as AtGroup, spec.Spec.Spec, version.Version.Version, plan.Plan.Plan}
-use Rattle.gb_types.specs.declared.request.GroupCommand.TheVariants.{Drop, Say, Fetch}
+use Rattle.gb_types.specs.declared.{address.Addr.Addr, entry.Entry.Entry, message.MsgId.MsgId, node.NodeId.NodeId, refusal.Refusal.Refusal, reply.Reply.Reply, reply.Reply.TheVariants.Said, reply.Reply.TheVariants.Refused, request.Request.Request, request.Action.Action, request.Action.TheVariants.Group as AtGroup, spec.Spec.Spec, version.Version.Version, plan.Plan.Plan, request.GroupCommand.TheVariants.Drop, request.GroupCommand.TheVariants.Say, request.GroupCommand.TheVariants.Fetch}
 use Rattle.gb_frame.specs.declared.item.Item.{Item}
 use Rattle.gb_rules.specs.Common.{is_addr, is_member, has}
 use Rattle.gb_alone.specs.Common.{running_reply, Accepted, IsAccepted, KeepsIntegrity, KeepsOrder}
 use Rattle.gb_alone.specs.declared.event.GroupEvent.TheVariants.{Fetch as AskFetch}
-use Rattle.gb_duties.specs.Agreement.{IsRunning, AreEnough, KeepsAgreement}
-use Rattle.gb_duties.specs.Duties.{HasHad, KeepsDuties, delivered_at}
+use Rattle.gb_duties.specs.{Agreement.IsRunning, Agreement.AreEnough, Agreement.KeepsAgreement, Duties.HasHad, Duties.KeepsDuties, Duties.delivered_at}
 use Rattle.gb_node.specs.Common.{waiting_at, node_numbered, if_done, Happened, frames_to, is_stopped, is_taken}
 use Rattle.gb_node.specs.declared.{answer.NodeAnswer.NodeAnswer, answer.NodeAnswer.TheVariants.Reply as Replied, answer.NodeAnswer.TheVariants.Ticked, answer.Ticked.TheVariants.Noticed, event.NodeEvent.NodeEvent, event.NodeEvent.TheVariants.Request as Asked, event.NodeEvent.TheVariants.Tick, plan.NodePlan.NodePlan}
 use Rattle.gb_cluster.specs.Common.{ClusterValue, node_plan, node_at, Did, ComesTo, past_at}

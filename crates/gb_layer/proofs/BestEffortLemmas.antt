@@ -1,10 +1,8 @@
 -- `Direct` over `Beb` is best-effort broadcast.
 use Rattle.gb_types.specs.Common.{◌≡◌, ℕ, Bool, true, false, cond, not, ◌&&◌, ◌||◌, nat_eq, List, [], ◌∷◌, ◌++◌, refl, ap, ◌∙◌, sym, subst, and-true, and-false, and-not_self, eqb-true, eq-eqb, map-append, same}
 use Rattle.gb_types.specs.declared.{node.NodeId.NodeId, message.MsgId.MsgId, kind.Module.TheVariants.BestEffort}
-use Rattle.gb_types.proofs.SameLemmas.{same-true, same_itself}
-use Rattle.gb_layer.specs.declared.{effects.Up.Up, call.Call.Call}
-use Rattle.gb_layer.specs.declared.call.Call.TheVariants.{Say, Came, Notice}
-use Rattle.gb_types.proofs.BoolLemmas.{and_both, or_first}
+use Rattle.gb_types.proofs.{SameLemmas.same-true, SameLemmas.same_itself, BoolLemmas.and_both, BoolLemmas.or_first}
+use Rattle.gb_layer.specs.declared.{effects.Up.Up, call.Call.Call, call.Call.TheVariants.Say, call.Call.TheVariants.Came, call.Call.TheVariants.Notice}
 use Rattle.gb_layer.specs.Lists.{same_filter, filter-never}
 use Rattle.gb_layer.specs.Histories.{said_mentioned, came_mentioned, own_said}
 use Rattle.gb_layer.specs.FirstMentionLemmas.{picked}

@@ -1,8 +1,7 @@
 -- The greatest number of sends and pairs of one call of a relay.
 use Rattle.gb_types.specs.Common.{◌≡◌, ℕ, ◌+◌, ◌≤◌, Bool, true, false, cond, List, [], ◌∷◌, ◌++◌, length, map, filter, slice_get, refl, ◌∙◌, arith, zero, suc, length-append, Option, None, Some, list_any, length-map}
 use Rattle.gb_types.specs.declared.{node.NodeId.NodeId, message.MsgId.MsgId}
-use Rattle.gb_layer.specs.declared.{effects.Up.Up, entries.Entry.Entry, call.Call.Call}
-use Rattle.gb_layer.specs.declared.call.Call.TheVariants.{Say, Came, Notice}
+use Rattle.gb_layer.specs.declared.{effects.Up.Up, entries.Entry.Entry, call.Call.Call, call.Call.TheVariants.Say, call.Call.TheVariants.Came, call.Call.TheVariants.Notice}
 use Rattle.gb_layer.specs.Machine.{Gives, nothing}
 use Rattle.gb_layer.specs.Rule.{Rules}
 use Rattle.gb_layer.specs.Relay.{State, is_for, new_entry, noted, held, marked_sent, taken_in, is_sent, is_repeat, up_of, noting, relay, relay_sends, begun, begun_sends, wants_delivery, given_ups, due_message, relay_any, relay_any_sends, relay_if, relay_from, relay_from_sends, relayed, relayed_sends, relay_gives}

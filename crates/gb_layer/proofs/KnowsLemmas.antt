@@ -3,8 +3,7 @@ use Rattle.gb_types.specs.Common.{◌≡◌, ℕ, ◌+◌, ◌≤◌, ◌<◌, t
 use Rattle.gb_types.specs.declared.message.MsgId.{MsgId}
 use Rattle.gb_layer.specs.Relay.{is_for, is_sent}
 use Rattle.gb_layer.specs.EntryLemmas.{sent_has}
-use Rattle.gb_layer.specs.declared.{placed_call.PlacedCall.PlacedCall, column.Held.Held, relay.Relay.Relay}
-use Rattle.gb_layer.specs.declared.placed_call.PlacedCall.TheVariants.{Say, Came, Notice}
+use Rattle.gb_layer.specs.declared.{placed_call.PlacedCall.PlacedCall, column.Held.Held, relay.Relay.Relay, placed_call.PlacedCall.TheVariants.Say, placed_call.PlacedCall.TheVariants.Came, placed_call.PlacedCall.TheVariants.Notice}
 use Rattle.gb_layer.specs.PlacedCalls.{message_at, all_differ, Names, reached}
 use Rattle.gb_layer.specs.Column.{zipped}
 use Rattle.gb_layer.specs.RelayColumn.{Knows}

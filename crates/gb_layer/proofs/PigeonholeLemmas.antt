@@ -2,12 +2,9 @@
 use Rattle.gb_types.specs.Common.{◌≡◌, ℕ, ◌+◌, ◌*◌, ◌≤◌, Bool, true, false, cond, ◌&&◌, ◌||◌, nat_eq, nat_le, List, [], ◌∷◌, ◌++◌, length, map, count_by, refl, ap, ◌∙◌, sym, arith, zero, suc, length-map, list_any, list_all, IsDistinct, AllByRecursion, eqb-true, nat_tests, length-append, list_any-append, or-true, same, below}
 use Rattle.std.specs.FinSet as set
 use Rattle.std.specs.Cmp.{IsEquivalence}
-use Rattle.std.proofs.lemmas.Cmp.{nat_eq_equiv}
-use Rattle.std.proofs.lemmas.Map.Made.{length-le_from_is_member}
-use Rattle.std.proofs.Math.Nat.{suc-mul}
+use Rattle.std.proofs.{lemmas.Cmp.nat_eq_equiv, lemmas.Map.Made.length-le_from_is_member, Math.Nat.suc-mul}
 use Rattle.gb_types.specs.declared.{limits.TheConstants.NODES, message.MsgId.MsgId}
-use Rattle.gb_types.proofs.BoolLemmas.{and_left, and_right}
-use Rattle.gb_types.proofs.PlaceLemmas.{any-below}
+use Rattle.gb_types.proofs.{BoolLemmas.and_left, BoolLemmas.and_right, PlaceLemmas.any-below}
 use Rattle.gb_layer.specs.Rule.{Nodes}
 use Rattle.gb_layer.specs.Counts.{count_by-cons}
 use Rattle.gb_layer.specs.Limit.{Limit, is_counted, message_count}

@@ -2,10 +2,8 @@
 use Rattle.gb_types.specs.Common.{◌≡◌, ℕ, Bool, true, false, cond, not, ◌&&◌, ◌||◌, List, [], ◌∷◌, ◌++◌, map, filter, refl, ap, ◌∙◌, sym, subst, list_any, nat_cmp, and-not_self, map-append, same}
 use Rattle.std.specs.FinSet as set
 use Rattle.gb_types.specs.declared.{node.NodeId.NodeId, message.MsgId.MsgId}
-use Rattle.gb_types.proofs.SameLemmas.{same-true, same_itself}
-use Rattle.gb_layer.specs.declared.{effects.Up.Up, call.Call.Call, entries.Entry.Entry}
-use Rattle.gb_layer.specs.declared.call.Call.TheVariants.{Say, Came, Notice}
-use Rattle.gb_types.proofs.BoolLemmas.{and_more, or_left, or_right}
+use Rattle.gb_types.proofs.{SameLemmas.same-true, SameLemmas.same_itself, BoolLemmas.and_more, BoolLemmas.or_left, BoolLemmas.or_right}
+use Rattle.gb_layer.specs.declared.{effects.Up.Up, call.Call.Call, entries.Entry.Entry, call.Call.TheVariants.Say, call.Call.TheVariants.Came, call.Call.TheVariants.Notice}
 use Rattle.gb_layer.specs.Lists.{map_same, same_filter, filter-never}
 use Rattle.gb_layer.specs.FirstMentionLemmas.{picked, same_swap}
 use Rattle.gb_layer.specs.Histories.{mentions_stays}

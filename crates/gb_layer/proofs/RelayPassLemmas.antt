@@ -3,8 +3,7 @@ use Rattle.gb_types.specs.Common.{◌≡◌, ℕ, ◌+◌, Bool, true, false, co
 use Rattle.std.specs.FinSet as set
 use Rattle.gb_types.specs.declared.{node.NodeId.NodeId, message.MsgId.MsgId}
 use Rattle.gb_types.proofs.SameLemmas.{same-true, same_itself}
-use Rattle.gb_layer.specs.declared.{call.Call.Call, entries.Entry.Entry}
-use Rattle.gb_layer.specs.declared.call.Call.TheVariants.{Say, Came, Notice}
+use Rattle.gb_layer.specs.declared.{call.Call.Call, entries.Entry.Entry, call.Call.TheVariants.Say, call.Call.TheVariants.Came, call.Call.TheVariants.Notice}
 use Rattle.gb_layer.specs.Machine.{mentions}
 use Rattle.gb_layer.specs.BebMachine.{beb_gives}
 use Rattle.gb_layer.specs.Modules.{first_mentions}

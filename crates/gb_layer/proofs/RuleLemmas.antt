@@ -3,8 +3,7 @@ use Rattle.gb_types.specs.Common.{◌≡◌, ℕ, Bool, true, false, cond, ◌&&
 use Rattle.std.specs.FinSet as set
 use Rattle.std.specs.Cmp.{nat_cmp_total, unsigned_tied, nat_eq_equiv}
 use Rattle.gb_types.specs.declared.message.MsgId.{MsgId}
-use Rattle.gb_layer.specs.declared.call.Call.{Call}
-use Rattle.gb_layer.specs.declared.call.Call.TheVariants.{Say, Came, Notice}
+use Rattle.gb_layer.specs.declared.{call.Call.Call, call.Call.TheVariants.Say, call.Call.TheVariants.Came, call.Call.TheVariants.Notice}
 use Rattle.gb_layer.specs.FirstMentionLemmas.{same_swap}
 use Rattle.gb_layer.specs.Machine.{mentions, was_noticed, came_from}
 use Rattle.gb_layer.specs.Modules.{holds}

@@ -1,8 +1,7 @@
 -- A relay settles one place, or all of them.
 use Rattle.gb_types.specs.Common.{◌≡◌, ℕ, ◌+◌, ◌-◌, ◌≤◌, ◌<◌, Bool, true, false, cond, not, ◌&&◌, ◌||◌, nat_lt, List, [], ◌∷◌, ◌++◌, length, map, filter, set, get_or, slice_get, refl, ap, sym, subst, ◌∙◌, arith, add-one, zero, suc, nat_tests, append-nil, Option, None, Some, same}
 use Rattle.gb_types.specs.declared.{message.MsgId.MsgId, node.NodeId.NodeId}
-use Rattle.gb_types.proofs.SameLemmas.{same-true, same_itself}
-use Rattle.gb_types.proofs.BoolLemmas.{and_left, and_right}
+use Rattle.gb_types.proofs.{SameLemmas.same-true, SameLemmas.same_itself, BoolLemmas.and_left, BoolLemmas.and_right}
 use Rattle.gb_layer.specs.declared.{call.Call.Call, call.Call.TheVariants.Say, call.Call.TheVariants.Came, effects.Up.Up, entries.Entry.Entry, column.Held.Held}
 use Rattle.gb_layer.specs.EntryLemmas.{held_same, marked_same, handed_same}
 use Rattle.gb_layer.specs.Laws.{StaysAtItsNode}

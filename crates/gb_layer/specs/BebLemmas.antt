@@ -1,13 +1,10 @@
 -- The laws of `Beb`.
 use Rattle.std.proofs.Common.{◌≡◌, ℕ, ◌≤◌, true, false, cond, ◌&&◌, nat_eq, List, [], ◌∷◌, count_by, refl, ap, ◌∙◌, sym, arith}
-use Rattle.std.proofs.lemmas.Bool.{eqb-true, or_from}
-use Rattle.std.proofs.lemmas.Bool.Decides.{nat_tests}
-use Rattle.std.proofs.Math.Bool.{and-false}
+use Rattle.std.proofs.{lemmas.Bool.eqb-true, lemmas.Bool.or_from, lemmas.Bool.Decides.nat_tests, Math.Bool.and-false}
 use Rattle.gb_types.specs.declared.{node.NodeId.NodeId, message.MsgId.MsgId}
 use Rattle.gb_types.specs.Common.{same}
 use Rattle.gb_types.proofs.SameLemmas.{same-true}
-use Rattle.gb_layer.specs.declared.{effects.Up.Up, call.Call.Call}
-use Rattle.gb_layer.specs.declared.call.Call.TheVariants.{Say, Came, Notice}
+use Rattle.gb_layer.specs.declared.{effects.Up.Up, call.Call.Call, call.Call.TheVariants.Say, call.Call.TheVariants.Came, call.Call.TheVariants.Notice}
 use Rattle.gb_layer.specs.Machine.{nothing, after, all_sends, all_ups, mentions, was_said, came_from, IsFair, count_sends, is_up, is_of}
 use Rattle.gb_types.proofs.BoolLemmas.{and_left, and_right, or_left, or_right}
 use Rattle.gb_layer.specs.Counts.{count_by-append_nil, none_more, once_more, at_most_once}

@@ -5,8 +5,7 @@ use Rattle.std.specs.List.{list_any}
 use Rattle.std.proofs.Math.Bool.{and-true, and-false, or-true}
 use Rattle.gb_types.specs.declared.{node.NodeId.NodeId, message.MsgId.MsgId}
 use Rattle.gb_types.specs.Common.{same}
-use Rattle.gb_types.proofs.SameLemmas.{same_itself}
-use Rattle.gb_types.proofs.BoolLemmas.{and_left}
+use Rattle.gb_types.proofs.{SameLemmas.same_itself, BoolLemmas.and_left}
 use Rattle.gb_layer.specs.declared.{effects.Up.Up, call.Call.Call, entries.Entry.Entry}
 use Rattle.gb_layer.specs.Machine.{mentions, is_of}
 use Rattle.gb_layer.specs.Modules.{first_mentions}

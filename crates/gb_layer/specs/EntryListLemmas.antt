@@ -1,8 +1,7 @@
 -- Entries of messages, whatever else an entry holds: which messages have one, and which of them are marked.
 use Rattle.std.proofs.Common.{◌≡◌, ℕ, ◌≤◌, Bool, true, false, cond, ◌&&◌, ◌||◌, List, [], ◌∷◌, ◌++◌, map, count_by, refl, ap, ◌∙◌, sym, subst}
 use Rattle.std.specs.List.{list_any}
-use Rattle.std.proofs.Math.Bool.{and-true}
-use Rattle.std.proofs.lemmas.List.{map-append}
+use Rattle.std.proofs.{Math.Bool.and-true, lemmas.List.map-append}
 use Rattle.gb_types.specs.declared.message.MsgId.{MsgId}
 use Rattle.gb_types.specs.Common.{same}
 use Rattle.gb_types.proofs.SameLemmas.{same-true}

@@ -1,6 +1,5 @@
 -- Messages by origin and number, and whether a list has one.
-use Rattle.std.specs.Prelude.{ℕ, Bool, List}
-use Rattle.std.specs.List.{list_any}
+use Rattle.std.specs.{Prelude.ℕ, Prelude.Bool, Prelude.List, List.list_any}
 use Rattle.gb_types.specs.declared.{node.NodeId.NodeId, message.MsgId.MsgId}
 use Rattle.gb_types.specs.Common.{same}
 

@@ -2,8 +2,7 @@
 use Rattle.std.proofs.Common.{◌≡◌, ℕ, ◌≤◌, ◌<◌, Bool, true, false, ◌||◌, List, [], ◌∷◌, ◌++◌, length, map, take, set, get_or, slice_get, refl, ap, sym, ◌∙◌, arith, zero, suc}
 use Rattle.std.specs.declared.option.Option.TheVariants.{Some}
 use Rattle.std.specs.List.{list_any}
-use Rattle.std.proofs.lemmas.List.Folds.{list_any_at}
-use Rattle.std.proofs.Math.Bool.{or-false}
+use Rattle.std.proofs.{lemmas.List.Folds.list_any_at, Math.Bool.or-false}
 use Rattle.gb_types.specs.declared.message.MsgId.{MsgId}
 use Rattle.gb_types.specs.Common.{same}
 use Rattle.gb_types.proofs.BoolLemmas.{and_left, and_right, or_left, or_right, not_true}

@@ -4,9 +4,8 @@ use Rattle.std.specs.List.{list_any}
 use Rattle.std.proofs.Common.{lit<}
 use Rattle.gb_types.specs.declared.message.MsgId.{MsgId}
 use Rattle.gb_types.specs.Common.{same}
-use Rattle.gb_layer.specs.declared.{call.Call.Call, placed_call.PlacedCall.PlacedCall}
+use Rattle.gb_layer.specs.declared.{call.Call.Call, placed_call.PlacedCall.PlacedCall, placed_call.PlacedCall.TheVariants.Say, placed_call.PlacedCall.TheVariants.Came, placed_call.PlacedCall.TheVariants.Notice}
 use Rattle.gb_layer.specs.declared.call.Call.TheVariants as call
-use Rattle.gb_layer.specs.declared.placed_call.PlacedCall.TheVariants.{Say, Came, Notice}
 
 -- what is read at a place where no message is
 abbrev pub no_message : MsgId

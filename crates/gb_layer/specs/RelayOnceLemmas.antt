@@ -1,10 +1,8 @@
 -- The number of times that a relay sends a message, and hands it up.
 use Rattle.std.proofs.Common.{◌≡◌, ℕ, ◌+◌, ◌≤◌, true, false, cond, List, [], ◌∷◌, ◌++◌, length, map, slice_get, count_by, refl, ap, ◌∙◌, sym, arith, subst, zero, suc}
-use Rattle.std.specs.declared.option.Option.{Option}
-use Rattle.std.specs.declared.option.Option.TheVariants.{None, Some}
+use Rattle.std.specs.declared.{option.Option.Option, option.Option.TheVariants.None, option.Option.TheVariants.Some}
 use Rattle.gb_types.specs.declared.{node.NodeId.NodeId, message.MsgId.MsgId}
-use Rattle.gb_layer.specs.declared.call.Call.{Call}
-use Rattle.gb_layer.specs.declared.call.Call.TheVariants.{Say, Came, Notice}
+use Rattle.gb_layer.specs.declared.{call.Call.Call, call.Call.TheVariants.Say, call.Call.TheVariants.Came, call.Call.TheVariants.Notice}
 use Rattle.gb_types.proofs.BoolLemmas.{first_not, refuted_by}
 use Rattle.gb_layer.specs.Counts.{cond_most, count_by-append, count_by-is_up}
 use Rattle.gb_layer.specs.Machine.{Gives, nothing, after, all_ups, mentions, count_sends, is_of}

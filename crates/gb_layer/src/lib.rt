@@ -12,7 +12,7 @@
 //! Of what runs read `layer::Layer` first, then `sink::Sink`. `laws::Lawful` has the laws that each layer obeys. `index::Index` has the
 //! messages by place. `beb::Beb` is the lowest layer. `direct::Direct` over it is best-effort broadcast. `relay::Relay` relays by a
 //! `rule::Rule`, over a layer of which a call about a message brings up that message alone (`layer::Focused`). `modules` says which of
-//! these layers are which module. `lists::Lists` is the uppermost sink, and `calls::make_call` makes one call of a layer over it.
+//! these layers are which module. `lists::Lists` is the uppermost sink.
 //!
 //! gb_fifo has the layer that hands up each origin's messages in order. gb_stack makes the ten broadcasts of a group of these layers.
 #![tactic(auto)]
@@ -20,7 +20,6 @@
 pub mod beb;
 mod below;
 pub mod call;
-pub mod calls;
 pub mod column;
 pub mod direct;
 pub mod effects;

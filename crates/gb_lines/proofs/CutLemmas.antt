@@ -1,7 +1,6 @@
 -- A cut of bytes by places, as a cut of a list.
 use Rattle.gb_types.specs.Common.{◌≡◌, ◌≢◌, ℕ, suc, ◌+◌, ◌-◌, ◌<◌, ◌≤◌, Bool, true, List, [], ◌∷◌, ◌++◌, length, take, drop, get_or, Some, None, refl, sym, ap, ◌∙◌, inl, inr, arith, between, cases_lt, eqb-true, eq-eqb, take-append-drop, take-take, drop-take, drop-drop, drop_more, take_at, take-append-le, length-append, length-drop, length-take-le, take-append-add, All-from_get_or, All-get_or, copy_within}
-use Rattle.std.proofs.lemmas.List.Edits.{length-between, get_or-between}
-use Rattle.std.proofs.lemmas.Slice.{between_from_start}
+use Rattle.std.proofs.{lemmas.List.Edits.length-between, lemmas.List.Edits.get_or-between, lemmas.Slice.between_from_start}
 use borrow.Rule.Slice.PartMut.{put_mid, post_of}
 use Rattle.memchr.specs.Find.{IsFirst, Passes, is_byte}
 use Rattle.gb_lines.specs.Lines.{IsLine}

@@ -1,8 +1,6 @@
 //! The lines of a text, read from any reader.
 ghost use Rattle.std.specs.Prelude.{◌≡◌, ◌≢◌, ◌≤◌, ◌<◌, ◌+◌, ◌↔◌, ◌⊎◌, ℕ, [], ◌∷◌, ◌++◌, true, false, length, slice_index, vec_len, IfSome, IfNone, IfOk, OnErr, IsTrue};
-ghost use Rattle.std.specs.IoError.{error_kind};
-ghost use Rattle.std.specs.List.{copy_within};
-ghost use Rattle.std.specs.Io.KnownBytes.{Keeps};
+ghost use Rattle.std.specs.{IoError.error_kind, List.copy_within, Io.KnownBytes.Keeps};
 ghost use Rattle.gb_lines.specs.Lines.{IsLine, GivesLine, BeginsLonger};
 ghost use Rattle.gb_lines.specs.LineLaws.{WrittenLinesAreRead, LastMayLackItsLineFeed, EachTextIsItsLines};
 ghost use Rattle.gb_lines.specs.Buffered.{left, WhereKnown, WantsRead, NoLineFeed, CutsLine, IsTooLong};

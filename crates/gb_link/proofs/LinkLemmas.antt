@@ -7,8 +7,7 @@ use Rattle.gb_link.specs.Ack.{covers}
 use Rattle.gb_link.specs.SendWindow.{AreAscending, AreRecent, has_room, pushed, without_first, lowest_covered, acknowledged}
 use Rattle.gb_link.specs.Received.{Received, base_of, mask_of, admission, admitted, taken, is_first}
 use Rattle.gb_link.specs.Link.{LinkEvent, push, arrive, make_ack, take_ack, Link, new_link, is_outside, is_number, is_undone, was_pushed, was_made, with_done, step, run_from, run, IsSound}
-use Rattle.gb_types.proofs.InsertedLemmas.{contains-inserted}
-use Rattle.gb_types.proofs.BoolLemmas.{not_true}
+use Rattle.gb_types.proofs.{InsertedLemmas.contains-inserted, BoolLemmas.not_true}
 use Rattle.gb_link.proofs.BaseLemmas.{count-cons, base_of_from, base_of_below, base_of_lacks, word_of_bit}
 use Rattle.gb_link.proofs.WindowLemmas.{IsWindow-pushed, IsWindow-acknowledged}
 use Rattle.gb_link.proofs.TestLemmas.{lt_true, lt_false, eq_true, eq_more}

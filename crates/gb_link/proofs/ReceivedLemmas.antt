@@ -1,13 +1,11 @@
 -- The set that a base and a mask represent.
 use Rattle.gb_types.specs.Common.{◌≡◌, ◌≢◌, ℕ, ◌+◌, ◌-◌, ◌*◌, ◌/◌, ◌%◌, ◌^◌, ◌<◌, ◌≤◌, Bool, true, false, not, ◌&&◌, ◌||◌, cond, nat_eq, nat_lt, nat_le, refl, ap, sym, ◌∙◌, arith, zero, suc, bit_or, w64, ◌⊎◌, inl, inr, bit_at, nat_cmp, nat_tests, or-true, and-false, below}
 use Rattle.std.proofs.lemmas.Nat.{or_lt}
-use Rattle.std.specs.Cmp.{nat_cmp_total}
+use Rattle.std.specs.{Cmp.nat_cmp_total, FinSet.nat_cmp-IsAntisymmetric}
 use Rattle.std.specs.FinSet as set
-use Rattle.std.specs.FinSet.{nat_cmp-IsAntisymmetric}
 use Rattle.std.proofs.lemmas.Nat.Bits.{bit_at_lowest, bit_at-suc, bit_at-zero, bit_at_set_same, bit_at_set_other}
 use Rattle.gb_types.specs.declared.limits.TheConstants.{LAST_FRAME}
-use Rattle.gb_types.proofs.PlaceLemmas.{any-below}
-use Rattle.gb_types.proofs.InsertedLemmas.{contains-insert}
+use Rattle.gb_types.proofs.{PlaceLemmas.any-below, InsertedLemmas.contains-insert}
 use Rattle.gb_link.specs.Ack.{covers}
 use Rattle.gb_link.specs.declared.receiver.Admission.TheVariants.{First, Seen, Outside}
 use Rattle.gb_link.specs.Received.{Received, admission, base_of, word_of, mask_of}

@@ -3,8 +3,7 @@ use Rattle.std.specs.Prelude.{ℕ, ◌+◌, ◌*◌, Bool, true, false, ◌&&◌
 use Rattle.std.specs.Ordering.{nat_cmp}
 use Rattle.std.specs.FinSet as set
 use Rattle.gb_types.specs.declared.limits.TheConstants.{LAST_FRAME}
-use Rattle.gb_link.specs.declared.receiver.Admission.{Admission}
-use Rattle.gb_link.specs.declared.receiver.Admission.TheVariants.{First, Seen, Outside}
+use Rattle.gb_link.specs.declared.{receiver.Admission.Admission, receiver.Admission.TheVariants.First, receiver.Admission.TheVariants.Seen, receiver.Admission.TheVariants.Outside}
 use Prim.Native.Nat.{zero, suc}
 
 -- the numbers received

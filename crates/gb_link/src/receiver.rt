@@ -30,9 +30,8 @@ pub struct Receiver {
 }
 
 impl Model for Receiver {
-    ghost use Rattle.std.specs.Ordering.{nat_cmp};
+    ghost use Rattle.std.specs.{Ordering.nat_cmp, Coded.coded_ℕ};
     ghost use Rattle.std.specs.FinSet as set;
-    ghost use Rattle.std.specs.Coded.{coded_ℕ};
     ghost use Rattle.gb_link.specs.Words.{covered, IsReceiver};
 
     ghost Value = { set.FinSet nat_cmp };

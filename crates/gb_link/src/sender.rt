@@ -1,7 +1,6 @@
 //! The sending end of a link between two nodes: the frames that are not acknowledged.
 ghost use Rattle.std.specs.Prelude.{◌≡◌, ◌≤◌, [], ◌∷◌, IsTrue, OnOk, OnErr, IfOk, IfSome, Some, MatchOption, position, nat_eq, find};
-ghost use Rattle.std.specs.VecDeque.{deque_len, deque_capacity};
-ghost use Rattle.std.specs.Option.{option_map, option_copied};
+ghost use Rattle.std.specs.{VecDeque.deque_len, VecDeque.deque_capacity, Option.option_map, Option.option_copied};
 ghost use Rattle.gb_link.specs.Ack.{covers};
 ghost use Rattle.gb_link.specs.SendWindow.{IsWindow, AreAscending, new_window, has_room, pushed, frame_again, lowest_covered, acknowledged, without_first, freed};
 

@@ -1,7 +1,6 @@
 //! The sending end of a link between two nodes, whose frames are built where they stay, without a copy.
 ghost use Rattle.std.specs.Prelude.{◌≡◌, ◌≤◌, ◌<◌, true, false, [], ◌∷◌, length, IsTrue, OnOk, OnErr, IfOk, MatchOption, Some, vec_capacity};
-ghost use Rattle.std.specs.Option.{option_map};
-ghost use Rattle.std.specs.Borrow.{Lends, sem};
+ghost use Rattle.std.specs.{Option.option_map, Borrow.Lends, Borrow.sem};
 ghost use Rattle.gb_link.specs.SendWindow.{IsWindow, AreAscending, new_window, has_room, pushed, frame_again, lowest_covered, acknowledged, freed};
 
 use crate::sender::{held_under, is_open, parts, take_covered};
@@ -24,8 +23,7 @@ pub struct SpacedSender<F> {
 }
 
 impl<F> Model for SpacedSender<F> {
-    ghost use Rattle.std.specs.Prelude.{◌≡◌, ◌<◌, true};
-    ghost use Rattle.std.specs.VecDeque.{deque_len, deque_capacity};
+    ghost use Rattle.std.specs.{Prelude.◌≡◌, Prelude.◌<◌, Prelude.true, VecDeque.deque_len, VecDeque.deque_capacity};
     ghost use Rattle.gb_link.specs.SendWindow.{IsWindow};
     ghost use Rattle.gb_link.specs.Spaced.{Spaced, spaced_code};
 

@@ -6,16 +6,13 @@ use Rattle.gb_frame.specs.declared.{fault.PacketFault.PacketFault, fault.PacketF
 use Rattle.gb_frame.specs.Common.{Content, reading}
 use Rattle.gb_node.specs.Common.{turn, if_here, IsTurn, NodeValue, new_node, read, IsOfPast, PastsSay, SendersRun, StarvedSays}
 use Rattle.gb_node.proofs.PacketLemmas.{packet_in, read_in}
-use Rattle.gb_node.specs.declared.{answer.NodeAnswer.NodeAnswer, event.NodeEvent.NodeEvent}
+use Rattle.gb_node.specs.declared.{answer.NodeAnswer.NodeAnswer, event.NodeEvent.NodeEvent, answer.Sent.TheVariants.Packet as SentPacket, answer.Sent.TheVariants.Nothing, answer.Sent.TheVariants.Refused as Unsent}
 use Rattle.gb_node.specs.declared.answer.NodeAnswer.TheVariants.{Reply, Taken, Sent, Ticked, Halted}
-use Rattle.gb_node.specs.declared.answer.Sent.TheVariants.{Packet as SentPacket, Nothing, Refused as Unsent}
 use Rattle.gb_node.specs.declared.event.NodeEvent.TheVariants.{Request as Asked, Packet as Came, Pack, Again, Ack, Tick, Stop}
 use Rattle.gb_cluster.specs.Common.{PacketsAreHonest, NodeActs, receiver_of, posted_by, posted, answer_of, packet_numbered, is_packet_for, IsAt, IsArrival, IsStep, IsPlaced, ClusterValue, node_plan, node_at, Did, ComesTo, IsSent, past_at}
-use Rattle.gb_cluster.specs.declared.{answer.Answer.Answer, event.Event.Event, posted.Posted.Posted}
+use Rattle.gb_cluster.specs.declared.{answer.Answer.Answer, event.Event.Event, posted.Posted.Posted, answer.Sending.TheVariants.Packet as SendingPacket, answer.Sending.TheVariants.Nothing as SendingNothing, answer.Sending.TheVariants.Refused as SendingRefused}
 use Rattle.gb_cluster.specs.declared.answer.Answer.TheVariants.{Reply as AnswerReply, Taken as AnswerTaken, Sent as AnswerSent, Ticked as AnswerTicked, Halted as AnswerHalted, NoPacket, NotNoise}
-use Rattle.gb_cluster.specs.declared.answer.Sending.TheVariants.{Packet as SendingPacket, Nothing as SendingNothing, Refused as SendingRefused}
-use Rattle.gb_cluster.proofs.NodesLemmas.{have_pasts}
-use Rattle.gb_cluster.proofs.CodeLemmas.{numbered_contains}
+use Rattle.gb_cluster.proofs.{NodesLemmas.have_pasts, CodeLemmas.numbered_contains}
 use Rattle.gb_isolation.specs.Isolation.{wants_memory}
 use Rattle.gb_merge.specs.Interleaving.{is_good, sent_by, text_numbered, IsEventOf}
 use Rattle.gb_merge.specs.Merged.{told}

@@ -5,13 +5,11 @@ use Rattle.gb_frame.specs.declared.fault.PacketFault.{PacketFault}
 use Rattle.gb_frame.specs.Common.{Content}
 use Rattle.gb_node.specs.Common.{turn, running_turn, stopped_answer, node_did, sent, taken_answer, IsTurn, NodeValue, new_node, Happened, added, tenants_in, StarvedSays}
 use Rattle.gb_node.specs.Past.{ComesTo as NodeComesTo}
-use Rattle.gb_node.specs.declared.{answer.NodeAnswer.NodeAnswer, event.NodeEvent.NodeEvent, plan.NodePlan.NodePlan, tape.TapeEntry.TapeEntry}
-use Rattle.gb_node.specs.declared.answer.NodeAnswer.TheVariants.{Reply as Replied, Taken, Sent}
+use Rattle.gb_node.specs.declared.{answer.NodeAnswer.NodeAnswer, event.NodeEvent.NodeEvent, plan.NodePlan.NodePlan, tape.TapeEntry.TapeEntry, answer.NodeAnswer.TheVariants.Reply as Replied, answer.NodeAnswer.TheVariants.Taken, answer.NodeAnswer.TheVariants.Sent}
 use Rattle.gb_node.specs.declared.event.NodeEvent.TheVariants.{Request as Asked, Packet as Came, Pack, Again, Ack, Tick, Stop}
 use Rattle.gb_cluster.specs.Common.{ClusterValue, node_plan, node_at, ComesTo, past_at}
 use Rattle.gb_cluster.proofs.NodesLemmas.{have_pasts}
-use Rattle.gb_isolation.specs.Isolation.{wants_memory}
-use Rattle.gb_isolation.specs.Project.{is_starved_by, reply_in, replies_in}
+use Rattle.gb_isolation.specs.{Isolation.wants_memory, Project.is_starved_by, Project.reply_in, Project.replies_in}
 use Rattle.gb_merge.specs.Interleaving.{Pick, tape_of}
 use Rattle.gb_merge.specs.Merged.{happened, past_of, run_of}
 use Rattle.gb_merge.specs.Faults.{node_after, after_entry, replay}

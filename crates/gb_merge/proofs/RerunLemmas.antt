@@ -6,9 +6,8 @@ use Rattle.gb_node.specs.Common.{NodeValue, read, PastsSay, SendersRun, StarvedS
 use Rattle.gb_node.specs.declared.{answer.NodeAnswer.NodeAnswer, answer.NodeAnswer.TheVariants.Sent, answer.Sent.TheVariants.Packet as SentPacket, event.NodeEvent.NodeEvent, tape.TapeEntry.TapeEntry}
 use Rattle.gb_node.specs.declared.event.NodeEvent.TheVariants.{Request as Asked, Packet as Came, Pack, Again, Ack, Tick, Stop}
 use Rattle.gb_cluster.specs.Common.{PacketsAreHonest, NodeActs, posted, answer_of, packet_numbered, IsStep, ClusterValue, cluster, new_cluster, node_at, Did, ComesTo, IsOf, IsSent}
-use Rattle.gb_cluster.specs.declared.{answer.Answer.Answer, event.Event.Event, event.Event.TheVariants.At, event.Event.TheVariants.Arrive, posted.Posted.Posted}
+use Rattle.gb_cluster.specs.declared.{answer.Answer.Answer, event.Event.Event, event.Event.TheVariants.At, event.Event.TheVariants.Arrive, posted.Posted.Posted, answer.Sending.TheVariants.Packet as SendingPacket, answer.Sending.TheVariants.Nothing as SendingNothing, answer.Sending.TheVariants.Refused as SendingRefused}
 use Rattle.gb_cluster.specs.declared.answer.Answer.TheVariants.{Reply as AnswerReply, Taken as AnswerTaken, Sent as AnswerSent, Ticked as AnswerTicked, Halted as AnswerHalted, NoPacket, NotNoise}
-use Rattle.gb_cluster.specs.declared.answer.Sending.TheVariants.{Packet as SendingPacket, Nothing as SendingNothing, Refused as SendingRefused}
 use Rattle.gb_cluster.proofs.NodesLemmas.{stays}
 use Rattle.gb_isolation.specs.Isolation.{wants_memory}
 use Rattle.gb_isolation.proofs.MomentLemmas.{back, placed}

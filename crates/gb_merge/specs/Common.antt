@@ -8,6 +8,4 @@ pub use Rattle.gb_merge.specs.Merged.{IsMerged, did, past_of, run_of, told}
 unfoldable pub use Rattle.gb_merge.specs.Rerun.{AreTold, Leads, answers_to}
 pub use Rattle.gb_merge.specs.Woven.{is_refused}
 pub use Rattle.gb_isolation.specs.Isolation.{wants_memory}
-pub use Rattle.gb_isolation.specs.Isolation.{alone_in}
-unfoldable pub use Rattle.gb_isolation.specs.Project.{project}
 pub use Rattle.gb_cluster.specs.declared.event.Event.{Event}

@@ -5,8 +5,7 @@ use Rattle.gb_node.specs.Common.{IsTurn, NodeValue, Happened}
 use Rattle.gb_node.specs.declared.{answer.NodeAnswer.NodeAnswer, event.NodeEvent.NodeEvent, tape.TapeEntry.TapeEntry}
 use Rattle.gb_cluster.specs.Common.{node_at, past_at}
 use Rattle.gb_cluster.specs.declared.event.Event.{Event}
-use Rattle.gb_isolation.specs.Isolation.{IsIsolated, wants_memory}
-use Rattle.gb_isolation.specs.Project.{is_starved_by, replies_in}
+use Rattle.gb_isolation.specs.{Isolation.IsIsolated, Isolation.wants_memory, Project.is_starved_by, Project.replies_in}
 use Rattle.gb_merge.specs.Interleaving.{tape_of}
 use Rattle.gb_merge.specs.Merged.{IsMerged, run_of, past_of}
 use Rattle.gb_merge.specs.Faults.{replay, IsFault}

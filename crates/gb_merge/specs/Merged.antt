@@ -2,13 +2,11 @@
 use Rattle.std.specs.Prelude.{ℕ, ◌≡◌, false, List, [], ◌∷◌, map, reverse, Option, Some, None, option_map}
 use Rattle.gb_types.specs.declared.{address.Addr.Addr, node.NodeId.NodeId, plan.Plan.Plan}
 use Rattle.gb_node.specs.Common.{Happened}
-use Rattle.gb_node.specs.declared.{answer.NodeAnswer.NodeAnswer, tape.TapeEntry.TapeEntry}
+use Rattle.gb_node.specs.declared.{answer.NodeAnswer.NodeAnswer, tape.TapeEntry.TapeEntry, answer.Sent.TheVariants.Packet as SentPacket, answer.Sent.TheVariants.Nothing, answer.Sent.TheVariants.Refused as SentRefused}
 use Rattle.gb_node.specs.declared.answer.NodeAnswer.TheVariants.{Reply as Replied, Taken, Sent, Ticked, Halted}
-use Rattle.gb_node.specs.declared.answer.Sent.TheVariants.{Packet as SentPacket, Nothing, Refused as SentRefused}
 use Rattle.gb_cluster.specs.Common.{packet_numbered, IsStep, ClusterValue, new_cluster, Did, ComesTo, past_at}
-use Rattle.gb_cluster.specs.declared.{answer.Answer.Answer, event.Event.Event, posted.Posted.Posted}
+use Rattle.gb_cluster.specs.declared.{answer.Answer.Answer, event.Event.Event, posted.Posted.Posted, answer.Sending.TheVariants.Packet as SendingPacket, answer.Sending.TheVariants.Nothing as SendingNothing, answer.Sending.TheVariants.Refused as SendingRefused}
 use Rattle.gb_cluster.specs.declared.answer.Answer.TheVariants.{Reply as AnswerReply, Taken as AnswerTaken, Sent as AnswerSent, Ticked as AnswerTicked, Halted as AnswerHalted, NoPacket, NotNoise}
-use Rattle.gb_cluster.specs.declared.answer.Sending.TheVariants.{Packet as SendingPacket, Nothing as SendingNothing, Refused as SendingRefused}
 use Rattle.gb_isolation.specs.Isolation.{IsIsolated, wants_memory}
 use Rattle.gb_merge.specs.Interleaving.{Pick, entries_at, AreEvents, tape_of}
 

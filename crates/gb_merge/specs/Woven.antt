@@ -11,8 +11,7 @@ use Rattle.gb_merge.specs.Interleaving.{Pick, is_good, entries_at, sent_by, tape
 use Rattle.gb_isolation.specs.Isolation.{wants_memory}
 use Rattle.gb_merge.specs.Merged.{told, run_of, Replays, AreFed}
 use Rattle.gb_merge.specs.Faults.{IsBlocked, IsStuck, node_answer, replay}
-use Rattle.gb_merge.specs.declared.fault.AuditFault.{AuditFault}
-use Rattle.gb_merge.specs.declared.fault.AuditFault.TheVariants.{Stuck, Differs, OutOfMemory}
+use Rattle.gb_merge.specs.declared.{fault.AuditFault.AuditFault, fault.AuditFault.TheVariants.Stuck, fault.AuditFault.TheVariants.Differs, fault.AuditFault.TheVariants.OutOfMemory}
 
 -- the packets that the taken entries sent
 unfoldable pub sent_with : List Pick → List (List ℕ)

@@ -1,7 +1,6 @@
 //! Packets that were sent, found by their bytes.
 ghost use Rattle.std.specs.Prelude.{◌≡◌, ◌+◌, ◌∷◌, ◌++◌, [], ℕ, List, length, position, Some, None, cond, OnOk, OnErr};
-ghost use Rattle.std.specs.Option.{option_or, option_map};
-ghost use Rattle.std.specs.Str.{bytes_eq};
+ghost use Rattle.std.specs.{Option.option_or, Option.option_map, Str.bytes_eq};
 ghost use Rattle.indexmap.specs.IndexMap.{get_by};
 
 use gb_types::OutOfMemory;

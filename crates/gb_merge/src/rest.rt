@@ -59,10 +59,8 @@ pub(crate) struct Rest<'a> {
 }
 
 impl<'a> Model for Rest<'a> {
-    ghost use Rattle.std.specs.Coded.{codes, coded_ℕ};
-    ghost use Rattle.std.specs.Ordering.{nat_cmp};
+    ghost use Rattle.std.specs.{Coded.codes, Coded.coded_ℕ, Ordering.nat_cmp, Prelude.List};
     ghost use Rattle.std.specs.FinSet as set;
-    ghost use Rattle.std.specs.Prelude.{List};
     ghost use Rattle.gb_node.specs.declared.tape.TapeEntry.{TapeEntry};
     ghost use Rattle.gb_merge.specs.Fed.{kept, IsReady};
 
@@ -137,8 +135,7 @@ pub(crate) struct Taking<'a> {
 }
 
 impl<'a> Model for Taking<'a> {
-    ghost use Rattle.std.specs.Coded.{codes, coded_ℕ};
-    ghost use Rattle.std.specs.Ordering.{nat_cmp};
+    ghost use Rattle.std.specs.{Coded.codes, Coded.coded_ℕ, Ordering.nat_cmp};
     ghost use Rattle.std.specs.FinSet as set;
     ghost use Rattle.gb_merge.specs.Interleaving.{Pick};
 

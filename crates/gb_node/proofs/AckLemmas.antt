@@ -1,7 +1,6 @@
 -- Taking an acknowledgement, frame by frame.
 use Rattle.gb_types.specs.Common.{◌≡◌, ℕ, ◌+◌, ◌≤◌, Bool, true, false, cond, inl, inr, List, [], ◌∷◌, map, length, refl, sym, ap, ◌∙◌, arith, filter, fold, not, cases_Bool}
-use Rattle.std.specs.declared.vec.Vec.{Vec}
-use Rattle.std.specs.declared.alloc.Global.{Global}
+use Rattle.std.specs.declared.{vec.Vec.Vec, alloc.Global.Global}
 use Rattle.gb_types.specs.declared.{node.NodeId.NodeId, version.Version.Version}
 use Rattle.gb_table.specs.Common.{TableValue}
 use Rattle.gb_frame.specs.declared.item.Item.{Item}

@@ -6,8 +6,7 @@ use Rattle.gb_rules.specs.Common.{drop_answer, is_over_limits, row_of, reserve_o
 use Rattle.gb_slot.specs.Common.{SlotState}
 use Rattle.gb_table.specs.Common.{group_in, answer_in, CanBeMade, others_living, TableValue, is_admitted, admitted_reply, table_reply}
 use Rattle.gb_node.specs.Past.{if_done}
-use Rattle.gb_table.proofs.RequestLemmas.{not_some}
-use Rattle.gb_table.proofs.TenantLemmas.{tenant_done, make_done, tenant_above}
+use Rattle.gb_table.proofs.{RequestLemmas.not_some, TenantLemmas.tenant_done, TenantLemmas.make_done, TenantLemmas.tenant_above}
 
 -- the tenants are within the limits of the service
 abbrev pub AreWithinLimits : List TenantRow → Type 0

@@ -3,8 +3,7 @@ use Rattle.gb_types.specs.Common.{◌≡◌, ℕ, false, ◌||◌, List, [], ◌
 use Rattle.std.specs.FinSet as set
 use Rattle.gb_types.specs.declared.{address.Addr.Addr, refusal.Refusal.TheVariants.OutOfMemory, reply.Reply.Reply, request.Request.Request, request.Action.Action, request.Action.TheVariants.AddTenant, request.Action.TheVariants.Group}
 use Rattle.gb_types.specs.declared.reply.Reply.TheVariants.{Done, Said, Log, Refused}
-use Rattle.gb_detect.specs.Silence.{Heard}
-use Rattle.gb_detect.specs.Watch.{replay}
+use Rattle.gb_detect.specs.{Silence.Heard, Watch.replay}
 use Rattle.gb_frame.specs.Common.{Content}
 use Rattle.gb_link.specs.Common.{new_window}
 use Rattle.gb_slot.specs.Common.{SlotState}
@@ -14,9 +13,8 @@ use Rattle.gb_node.specs.NodeStep.{window_to, receiver_from, node_did, stopped_a
 use Rattle.gb_node.specs.Past.{Happened, came, packed_for, numbered, is_ack, is_taken_by, ticks, added, added_by, stops}
 use Rattle.gb_node.specs.PastGroups.{Told, told_after, living_after}
 use Rattle.gb_node.specs.SendLaw.{StarvedSays}
-use Rattle.gb_node.specs.declared.{plan.NodePlan.NodePlan, answer.NodeAnswer.NodeAnswer, event.NodeEvent.NodeEvent}
+use Rattle.gb_node.specs.declared.{plan.NodePlan.NodePlan, answer.NodeAnswer.NodeAnswer, event.NodeEvent.NodeEvent, answer.Sent.TheVariants.Packet as SentPacket, answer.Sent.TheVariants.Nothing, answer.Sent.TheVariants.Refused as SentRefused}
 use Rattle.gb_node.specs.declared.answer.NodeAnswer.TheVariants.{Reply as Replied, Taken, Sent, Ticked, Halted}
-use Rattle.gb_node.specs.declared.answer.Sent.TheVariants.{Packet as SentPacket, Nothing, Refused as SentRefused}
 use Rattle.gb_node.specs.declared.event.NodeEvent.TheVariants.{Request as Asked, Packet as Came, Pack, Again, Ack, Tick, Stop}
 use Rattle.gb_node.proofs.SlotGroups.{group_after}
 use Rattle.gb_node.proofs.PastLemmas.{Moved, filter_all}

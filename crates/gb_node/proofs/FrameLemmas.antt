@@ -1,7 +1,6 @@
 -- Frames as batches of items.
 use Rattle.gb_types.specs.Common.{◌≡◌, ℕ, Bool, true, false, cond, List, [], ◌∷◌, ◌++◌, map, Option, None, Some, ◌+◌, ◌<◌, ◌≤◌, refl, sym, ap, subst, nat_eq, ◌∙◌, arith, same_Some, MatchOption, option_map, find, filter, slice_get}
-use Rattle.std.specs.declared.vec.Vec.{Vec}
-use Rattle.std.specs.declared.alloc.Global.{Global}
+use Rattle.std.specs.declared.{vec.Vec.Vec, alloc.Global.Global}
 use Rattle.gb_frame.specs.Common.{batch_in, IsBatch}
 use Rattle.gb_types.specs.declared.version.Version.{Version}
 use Rattle.gb_link.specs.Common.{SendWindow, IsWindow, AreAscending, frame_again, without_first, acknowledged, freed, covers}

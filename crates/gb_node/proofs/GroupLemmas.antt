@@ -9,8 +9,7 @@ use Rattle.gb_frame.specs.declared.item.Item.{Item}
 use Rattle.gb_frame.specs.Common.{Content, reading, packet_text, IsPacket, WhatIsWrittenIsRead, address_of, entry_of, names, items_for, item_for}
 use Rattle.gb_link.specs.Common.{covers, SendWindow, new_window, has_room, Received, admission}
 use Rattle.gb_detect.specs.Watch.{Watch, due}
-use Rattle.gb_link.specs.declared.receiver.Admission.{Admission}
-use Rattle.gb_link.specs.declared.receiver.Admission.TheVariants.{First, Seen, Outside}
+use Rattle.gb_link.specs.declared.{receiver.Admission.Admission, receiver.Admission.TheVariants.First, receiver.Admission.TheVariants.Seen, receiver.Admission.TheVariants.Outside}
 use Rattle.gb_slot.specs.Common.{SlotState, new_slot, slot_moved, slot_said, slot_noticed, slot_done, slot_took}
 use Rattle.gb_table.specs.Common.{AreApart, item_came, GroupsValue, group_in, waiting_in, came_for, with_rows, AreInOrder, EachGroup, TableValue, table_noticed, table_packed, admitted_reply, groups_done, groups_said, request_done, table_did, table_reply}
 use Rattle.gb_rules.specs.Common.{is_addr, stepped, or_added, passed, where_so, is_reached_by}
@@ -21,9 +20,8 @@ use Rattle.gb_node.proofs.PacketLemmas.{read_one}
 use Rattle.gb_node.specs.Past.{Happened, read, packed_for, frames_to, numbered, is_acked, is_first}
 use Rattle.gb_node.specs.PastGroups.{freed_by, items_freed}
 use Rattle.gb_node.proofs.SlotGroups.{command_slot, done_slot, said_slot, asked_for, done_for, taken_for, packed_from, noticed_for, group_after, StandsForPast}
-use Rattle.gb_node.specs.declared.{plan.NodePlan.NodePlan, answer.NodeAnswer.NodeAnswer, answer.PacketAnswer.TheVariants.Good as TakenGood, answer.Ticked.TheVariants.Noticed, event.NodeEvent.NodeEvent}
+use Rattle.gb_node.specs.declared.{plan.NodePlan.NodePlan, answer.NodeAnswer.NodeAnswer, answer.PacketAnswer.TheVariants.Good as TakenGood, answer.Ticked.TheVariants.Noticed, event.NodeEvent.NodeEvent, answer.Sent.TheVariants.Packet as SentPacket, answer.Sent.TheVariants.Nothing, answer.Sent.TheVariants.Refused as SentRefused}
 use Rattle.gb_node.specs.declared.answer.NodeAnswer.TheVariants.{Reply as Replied, Taken, Sent, Ticked, Halted}
-use Rattle.gb_node.specs.declared.answer.Sent.TheVariants.{Packet as SentPacket, Nothing, Refused as SentRefused}
 use Rattle.gb_node.specs.declared.event.NodeEvent.TheVariants.{Request as Asked, Packet as Came, Pack, Again, Ack, Tick, Stop}
 use Rattle.gb_node.proofs.LinkLemmas.{told, keeps_all, keeps_frame}
 use Rattle.gb_node.proofs.AskedLemmas.{AreWithinLimits, can_make, done_is}

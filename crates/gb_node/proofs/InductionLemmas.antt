@@ -6,11 +6,9 @@ use Rattle.gb_rules.specs.Common.{is_over_limits}
 use Rattle.gb_frame.specs.declared.{fault.PacketFault.PacketFault, fault.PacketFault.TheVariants.Node, item.Item.Item}
 use Rattle.gb_frame.specs.Common.{Content, reading, packet_text, IsPacket, WhatIsWrittenIsRead, items_for}
 use Rattle.gb_link.specs.Common.{SendWindow, new_window, pushed}
-use Rattle.gb_detect.specs.Watch.{due}
+use Rattle.gb_detect.specs.{Watch.due, Silence.is_noticed, Laws.NoticedByCalls}
 use Rattle.gb_slot.specs.Common.{shown}
 use Rattle.gb_table.specs.Common.{no_groups, group_in, waiting_in, AreInOrder, EachGroup, EachCount, StayInOrder, others_living, admitted_reply, table_reply}
-use Rattle.gb_detect.specs.Silence.{is_noticed}
-use Rattle.gb_detect.specs.Laws.{NoticedByCalls}
 use Rattle.gb_node.specs.NodeValue.{NodeValue, new_node, IsNodePlan}
 use Rattle.gb_node.specs.NodeStep.{fate, Turn, turn, running_turn, stopped_answer, IsTurn, IsSpelt, is_here, if_here, taken_answer, node_read, next_batch, room_to, sent, sent_batch, content_to, window_to, receiver_from, node_numbered, newly_done, heard, took_ack, without_done, receives, again_content, ack_content}
 use Rattle.gb_node.proofs.PacketLemmas.{read_one}
@@ -18,8 +16,7 @@ use Rattle.gb_node.specs.Past.{Happened, ComesTo, read, frames_to, numbered, is_
 use Rattle.gb_node.specs.PastGroups.{noticed_after, taken_told, packed_told, told_after, told_of, living_after, living_of}
 use Rattle.gb_node.specs.PastLaw.{IsOfPast, PastsSay}
 use Rattle.gb_node.proofs.SlotGroups.{taken_for, packed_from, group_after, group_of, IsTold, StandsForPast}
-use Rattle.gb_node.specs.declared.{plan.NodePlan.NodePlan, answer.NodeAnswer.NodeAnswer, answer.PacketAnswer.TheVariants.Fault, answer.Sent.TheVariants.Refused as SentRefused, event.NodeEvent.NodeEvent}
-use Rattle.gb_node.specs.declared.answer.NodeAnswer.TheVariants.{Reply as Replied, Taken, Sent}
+use Rattle.gb_node.specs.declared.{plan.NodePlan.NodePlan, answer.NodeAnswer.NodeAnswer, answer.PacketAnswer.TheVariants.Fault, answer.Sent.TheVariants.Refused as SentRefused, event.NodeEvent.NodeEvent, answer.NodeAnswer.TheVariants.Reply as Replied, answer.NodeAnswer.TheVariants.Taken, answer.NodeAnswer.TheVariants.Sent}
 use Rattle.gb_node.specs.declared.event.NodeEvent.TheVariants.{Request as Asked, Packet as Came, Pack, Again, Ack, Tick, Stop}
 use Rattle.gb_node.proofs.PlanLemmas.{few_nodes}
 use Rattle.gb_node.proofs.PastLemmas.{Moved, moved_says}

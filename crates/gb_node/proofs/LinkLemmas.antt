@@ -2,14 +2,12 @@
 use Rattle.gb_types.specs.Common.{◌≡◌, ◌≢◌, ℕ, ◌+◌, ◌<◌, true, false, ◌&&◌, ◌||◌, ◌⊎◌, inl, inr, List, [], ◌∷◌, ◌++◌, length, map, Some, Ok, refl, sym, ap, ◌∙◌, arith, nat_eq, nat_lt, get_or, filter, fold, not, slice_set, list_any, cases_Bool, eqb_tells, append-nil, get_or-set_same, get_or-set_other, and-false, or-false, rising}
 use Rattle.std.specs.FinSet as set
 use Rattle.gb_types.specs.declared.{limits.TheConstants.NODES, node.NodeId.NodeId}
-use Rattle.gb_detect.specs.Silence.{Heard}
-use Rattle.gb_detect.specs.Watch.{due, replay}
+use Rattle.gb_detect.specs.{Silence.Heard, Watch.due, Watch.replay}
 use Rattle.gb_frame.specs.declared.item.Item.{Item}
 use Rattle.gb_frame.specs.Common.{Content, reading, packet_text, IsPacket, WhatIsWrittenIsRead}
 use Rattle.gb_types.proofs.InsertedLemmas.{contains-inserted}
 use Rattle.gb_link.specs.Common.{covers, Received, admission, taken, SendWindow, new_window, pushed}
-use Rattle.gb_link.specs.declared.receiver.Admission.{Admission}
-use Rattle.gb_link.specs.declared.receiver.Admission.TheVariants.{First, Seen, Outside}
+use Rattle.gb_link.specs.declared.{receiver.Admission.Admission, receiver.Admission.TheVariants.First, receiver.Admission.TheVariants.Seen, receiver.Admission.TheVariants.Outside}
 use Rattle.gb_table.specs.Common.{TableValue, table_noticed}
 use Rattle.gb_node.specs.NodeValue.{NodeValue}
 use Rattle.gb_node.specs.NodeStep.{window_to, receiver_from, node_numbered, content_to, sent_batch, without_done, newly_done, item_done, frame_done, item_comes, items_come, frame_comes, receives, fate, kind_of, took_ack, heard, node_took, node_ticked, good_of, notice_each}

@@ -9,8 +9,7 @@ use Rattle.gb_rules.specs.declared.phase.Phase.TheVariants.{Opened, Shut as Clos
 use Rattle.gb_frame.specs.declared.item.Item.{Item}
 use Rattle.gb_frame.specs.Common.{address_of, entry_of}
 use Rattle.gb_link.specs.Common.{Received, admission}
-use Rattle.gb_link.specs.declared.receiver.Admission.{Admission}
-use Rattle.gb_link.specs.declared.receiver.Admission.TheVariants.{First, Seen, Outside}
+use Rattle.gb_link.specs.declared.{receiver.Admission.Admission, receiver.Admission.TheVariants.First, receiver.Admission.TheVariants.Seen, receiver.Admission.TheVariants.Outside}
 use Rattle.gb_slot.specs.Common.{new_slot, slot_moved, slot_said, slot_noticed, slot_came, slot_done}
 use Rattle.gb_table.specs.Common.{item_came, AreInOrder, StayInOrder, EachCount, GroupsValue, others_living, TableValue, table_noticed, admitted_reply, groups_done, groups_said, request_done, table_did, table_reply}
 use Rattle.gb_node.specs.NodeStep.{node_numbered, item_done, frame_done, item_comes, items_come, frame_comes, notice_each}

@@ -1,7 +1,6 @@
 -- A batch that is written is a frame.
 use Rattle.gb_types.specs.Common.{nat_tests, find, option_map, ◌≡◌, true, false, Some, nat_eq, ℕ, ◌+◌, ◌<◌, ◌≤◌, List, [], ◌∷◌, ◌++◌, length, refl, sym, ap, subst, ◌∙◌, arith, All, sum_by, sum_by-cons}
-use Rattle.std.specs.declared.vec.Vec.{Vec}
-use Rattle.std.specs.declared.alloc.Global.{Global}
+use Rattle.std.specs.declared.{vec.Vec.Vec, alloc.Global.Global}
 use Rattle.gb_node.specs.Frames.{frame_of, window_of}
 use Rattle.gb_node.proofs.FrameLemmas.{again_frame}
 use Rattle.gb_link.specs.Common.{SendWindow, IsWindow, AreRecent, pushed, frame_again}

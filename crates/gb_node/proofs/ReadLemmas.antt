@@ -7,8 +7,7 @@ use Rattle.gb_types.specs.declared.reply.Reply.TheVariants.{Done, Said, Log, Ref
 use Rattle.gb_types.specs.declared.request.GroupCommand.TheVariants.{Make, Open, Shut, Drop, Say, Fetch}
 use Rattle.gb_frame.specs.Common.{Content, tagged_text, header_text, tag_of, packet_text, IsPacket}
 use Rattle.gb_frame.specs.declared.item.Item.{Item}
-use Rattle.gb_frame.proofs.VersionLemmas.{shortest_fits}
-use Rattle.gb_frame.proofs.TextLemmas.{length-tag_of}
+use Rattle.gb_frame.proofs.{VersionLemmas.shortest_fits, TextLemmas.length-tag_of}
 use Rattle.gb_rules.specs.Common.{is_out_of_turn, Shown, is_too_long, open_in, open_answer, shut_in, shut_answer, drop_answer, say_answer, can_name, is_over_limits, is_bad, is_over, tenant_answer, make_answer, by_tenant}
 use Rattle.gb_rules.specs.declared.{room.TheConstants.GENERATIONS, phase.Phase.Phase, reserve.Reserve.Reserve, usage.Usage.Usage}
 use Rattle.gb_rules.specs.declared.phase.Phase.TheVariants.{Made, Opened, Shut as Closed, Gone}

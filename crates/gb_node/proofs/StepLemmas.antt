@@ -8,9 +8,8 @@ use Rattle.gb_frame.specs.Common.{Content, reading, unless, fault_in, content_in
 use Rattle.gb_frame.proofs.ReadingLemmas.{good}
 use Rattle.gb_link.specs.Common.{Received, admission, is_awaited}
 use Rattle.gb_link.specs.declared.receiver.Admission.TheVariants.{First, Seen, Outside}
-use Rattle.gb_detect.specs.Silence.{is_noticed}
+use Rattle.gb_detect.specs.{Silence.is_noticed, Laws.NoticedByCalls}
 use Rattle.gb_detect.specs.Watch.{start, replay, due, is_due}
-use Rattle.gb_detect.specs.Laws.{NoticedByCalls}
 use Rattle.gb_detect.proofs.SetLemmas.{contains-either, contains-nodes_where}
 use Rattle.gb_rules.specs.Common.{Shown, open_answer, shut_answer, drop_answer, say_answer, fetch_answer, reserve_of, row_of, make_answer, by_tenant}
 use Rattle.gb_slot.specs.Common.{shown, SlotState}
@@ -22,10 +21,8 @@ use Rattle.gb_node.proofs.PacketLemmas.{read_one}
 use Rattle.gb_node.specs.PastGroups.{Told, noticed_after, shown_in, told_of}
 use Rattle.gb_node.specs.PastLaw.{IsOfPast}
 use Rattle.gb_node.specs.StepLaw.{is_admitted_by, group_answer, admitted_answer, past_answer, IsAsked, IsPacked, IsTakenIn, IsTicked, IsAnswered, AnswersSay}
-use Rattle.gb_node.specs.declared.{plan.NodePlan.NodePlan, answer.Good.Good, answer.Frame.TheVariants.Nothing as NoFrame, answer.NodeAnswer.NodeAnswer, answer.Ticked.TheVariants.Noticed, answer.Ticked.TheVariants.Refused as TickRefused, event.NodeEvent.NodeEvent}
+use Rattle.gb_node.specs.declared.{plan.NodePlan.NodePlan, answer.Good.Good, answer.Frame.TheVariants.Nothing as NoFrame, answer.NodeAnswer.NodeAnswer, answer.Ticked.TheVariants.Noticed, answer.Ticked.TheVariants.Refused as TickRefused, event.NodeEvent.NodeEvent, answer.PacketAnswer.TheVariants.Good as TakenGood, answer.PacketAnswer.TheVariants.Fault, answer.PacketAnswer.TheVariants.Refused as TakenRefused, answer.Sent.TheVariants.Packet as SentPacket, answer.Sent.TheVariants.Nothing, answer.Sent.TheVariants.Refused as SentRefused}
 use Rattle.gb_node.specs.declared.answer.NodeAnswer.TheVariants.{Reply as Replied, Taken, Sent, Ticked, Halted}
-use Rattle.gb_node.specs.declared.answer.PacketAnswer.TheVariants.{Good as TakenGood, Fault, Refused as TakenRefused}
-use Rattle.gb_node.specs.declared.answer.Sent.TheVariants.{Packet as SentPacket, Nothing, Refused as SentRefused}
 use Rattle.gb_node.specs.declared.event.NodeEvent.TheVariants.{Request as Asked, Packet as Came, Pack, Again, Ack, Tick, Stop}
 use Rattle.gb_node.proofs.GroupLemmas.{front_taken, waiting_enough, next_items}
 use Rattle.gb_node.proofs.InductionLemmas.{started, stands, of_past}

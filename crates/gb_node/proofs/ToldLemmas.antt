@@ -4,12 +4,11 @@ use Rattle.std.specs.FinSet as set
 use Rattle.gb_types.specs.declared.{address.Addr.Addr, entry.Entry.Entry, limits.TheConstants.NODES, message.MsgId.MsgId, node.NodeId.NodeId, version.Version.Version, reply.Reply.Reply, request.Request.Request, request.Action.Action, request.Action.TheVariants.AddTenant, request.Action.TheVariants.Group, request.GroupCommand.GroupCommand, spec.Spec.Spec, new_message.NewMessage.NewMessage}
 use Rattle.gb_types.specs.declared.reply.Reply.TheVariants.{Done, Said, Log, Refused}
 use Rattle.gb_types.specs.declared.request.GroupCommand.TheVariants.{Make, Open, Shut, Drop, Say, Fetch}
-use Rattle.gb_rules.proofs.AddressLemmas.{addr_is}
+use Rattle.gb_rules.proofs.{AddressLemmas.addr_is, SayLemmas.said_is}
 use Rattle.gb_rules.specs.Common.{is_addr, is_other, is_too_long, say_answer, Shown, falls_after, puts_of, stepped, dropped, or_added, passed, where_so, is_reached_by}
-use Rattle.gb_rules.specs.declared.{phase.Phase.Phase, phase.Phase.TheVariants.Opened, phase.Phase.TheVariants.Shut as Closed}
+use Rattle.gb_rules.specs.declared.{phase.Phase.Phase, phase.Phase.TheVariants.Opened, phase.Phase.TheVariants.Shut as Closed, call.GroupCall.TheVariants.Own, call.GroupCall.TheVariants.Other, call.GroupCall.TheVariants.Crashed}
 use Rattle.gb_frame.specs.declared.item.Item.{Item}
 use Rattle.gb_frame.specs.Common.{Content, entry_of, items_for}
-use Rattle.gb_rules.specs.declared.call.GroupCall.TheVariants.{Own, Other, Crashed}
 use Rattle.gb_slot.specs.Common.{SlotState, new_slot, slot_moved, slot_said, slot_came, slot_noticed, slot_done, slot_took, shown, falls, waiting, own_entry, StandsFor, reaches, FreshStands, MovedStands, SaidStands, CameStands, NoticedStands, DoneStands, TookStands, LogIs, FallsIs, WaitingSaid, WaitingCame, WaitingNoticed, WaitingTook, WaitingElsewhere}
 use Rattle.gb_table.specs.Common.{group_in, answer_in, group_reply, came_for, TableValue, admitted_reply, table_reply}
 use Rattle.gb_node.specs.NodeStep.{node_numbered}
@@ -22,7 +21,6 @@ use Rattle.gb_node.proofs.WaitsLemmas.{waits_told, waits_noticed, own_unnoticed,
 use Rattle.gb_node.proofs.AcknowledgedLemmas.{acks_said, acks_done}
 use Rattle.gb_node.specs.StepLaw.{group_answer}
 use Rattle.gb_node.specs.declared.answer.Frame.{Frame}
-use Rattle.gb_rules.proofs.SayLemmas.{said_is}
 
 -- What holds of a slot for every history that it stands for.
 pub record SlotLaws : Type 0 where

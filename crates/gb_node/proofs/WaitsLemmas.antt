@@ -2,8 +2,7 @@
 use Rattle.gb_types.specs.Common.{◌≡◌, ℕ, List, [], ◌∷◌, ◌++◌, Bool, true, false, not, ◌&&◌, refl, sym, ap, ◌∙◌, arith, nat_eq, if◌then◌else◌, nat_tests, and_right, append-nil}
 use Rattle.std.specs.FinSet as set
 use Rattle.gb_types.specs.declared.{entry.Entry.Entry, node.NodeId.NodeId}
-use Rattle.gb_rules.specs.declared.call.GroupCall.{GroupCall}
-use Rattle.gb_rules.specs.declared.call.GroupCall.TheVariants.{Own, Other, Crashed}
+use Rattle.gb_rules.specs.declared.{call.GroupCall.GroupCall, call.GroupCall.TheVariants.Own, call.GroupCall.TheVariants.Other, call.GroupCall.TheVariants.Crashed}
 use Rattle.gb_rules.specs.Common.{calls_of, puts_of, has_noticed, is_other}
 use Rattle.gb_slot.specs.Common.{waiting, SlotState, reaches}
 use Rattle.gb_node.specs.PastGroups.{Told, waits_with, cut_off}

@@ -1,8 +1,7 @@
 -- Frames of a link whose texts are batches of items.
 use Rattle.std.specs.Prelude.{ℕ, ◌≡◌, ◌≢◌, ◌<◌, ◌≤◌, ◌%◌, List, [], map, slice_index_or, Option, Some, None}
 use Rattle.std.specs.List.{AllByRecursion}
-use Rattle.std.specs.declared.vec.Vec.{Vec}
-use Rattle.std.specs.declared.alloc.Global.{Global}
+use Rattle.std.specs.declared.{vec.Vec.Vec, alloc.Global.Global}
 use Rattle.gb_frame.specs.declared.{item.Item.Item, packet.Head.Head}
 use Rattle.gb_types.specs.Common.{limits_of}
 use Rattle.gb_types.specs.declared.version.Version.{Version}

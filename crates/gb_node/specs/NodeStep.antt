@@ -6,16 +6,13 @@ use Rattle.gb_types.specs.declared.{limits.TheConstants.NODES, node.NodeId.NodeI
 use Rattle.gb_frame.specs.declared.{fault.PacketFault.PacketFault, fault.PacketFault.TheVariants.Node, item.Item.Item}
 use Rattle.gb_frame.specs.Common.{room_of, Content, reading, packet_text, IsPacket, address_of, entry_of, rest_is_node}
 use Rattle.gb_link.specs.Common.{Received, base_of, mask_of, admission, taken, SendWindow, new_window, has_room, pushed, frame_again, freed, covers}
-use Rattle.gb_link.specs.declared.receiver.Admission.{Admission}
-use Rattle.gb_link.specs.declared.receiver.Admission.TheVariants.{First, Seen, Outside}
+use Rattle.gb_link.specs.declared.{receiver.Admission.Admission, receiver.Admission.TheVariants.First, receiver.Admission.TheVariants.Seen, receiver.Admission.TheVariants.Outside}
 use Rattle.gb_detect.specs.Watch.{due, after_heard, after_tick}
 use Rattle.gb_table.specs.Common.{batch, longest_item, NothingWaits, Visit, items, TableValue, table_came, table_done, table_noticed, table_packed, TakesMemory, table_reply, table_did}
 use Rattle.gb_node.specs.NodeValue.{NodeValue}
-use Rattle.gb_node.specs.declared.{answer.NodeAnswer.NodeAnswer, answer.PacketAnswer.PacketAnswer, answer.Good.Good, answer.Frame.Frame, answer.Sent.Sent as SentValue, answer.Ticked.TheVariants.Noticed, answer.Ticked.TheVariants.Refused as TickRefused, answer.Halted.TheVariants.Done as HaltDone, answer.Halted.TheVariants.Refused as HaltRefused, event.NodeEvent.NodeEvent}
+use Rattle.gb_node.specs.declared.{answer.NodeAnswer.NodeAnswer, answer.PacketAnswer.PacketAnswer, answer.Good.Good, answer.Frame.Frame, answer.Sent.Sent as SentValue, answer.Ticked.TheVariants.Noticed, answer.Ticked.TheVariants.Refused as TickRefused, answer.Halted.TheVariants.Done as HaltDone, answer.Halted.TheVariants.Refused as HaltRefused, event.NodeEvent.NodeEvent, answer.PacketAnswer.TheVariants.Good as TakenGood, answer.PacketAnswer.TheVariants.Fault, answer.PacketAnswer.TheVariants.Refused as TakenRefused, answer.Sent.TheVariants.Packet as SentPacket, answer.Sent.TheVariants.Nothing, answer.Sent.TheVariants.Refused as SentRefused}
 use Rattle.gb_node.specs.declared.answer.NodeAnswer.TheVariants.{Reply as Replied, Taken, Sent, Ticked, Halted}
-use Rattle.gb_node.specs.declared.answer.PacketAnswer.TheVariants.{Good as TakenGood, Fault, Refused as TakenRefused}
 use Rattle.gb_node.specs.declared.answer.Frame.TheVariants.{Nothing as NoFrame, First as CameFirst, Seen as CameBefore, Outside as Beyond}
-use Rattle.gb_node.specs.declared.answer.Sent.TheVariants.{Packet as SentPacket, Nothing, Refused as SentRefused}
 use Rattle.gb_node.specs.declared.event.NodeEvent.TheVariants.{Request as Asked, Packet as Came, Pack, Again, Ack, Tick, Stop}
 
 -- the node with this number, reduced modulo the greatest number of nodes

@@ -1,8 +1,7 @@
 -- What the past of a node says of each group. What happened to other groups changes nothing in it.
 use Rattle.std.specs.Prelude.{ℕ, ◌&&◌, ◌||◌, not, List, [], ◌∷◌, ◌++◌, length, drop, filter, flat_map, fold, Option, Some, None, Bool, false, nat_eq, nat_le, nat_lt, option_map, if◌then◌else◌}
 use Rattle.std.specs.FinSet as set
-use Rattle.std.specs.List.{list_all, range_with_len}
-use Rattle.std.specs.Ordering.{nat_cmp}
+use Rattle.std.specs.{List.list_all, List.range_with_len, Ordering.nat_cmp}
 use Rattle.gb_types.specs.Common.{message_of, rising}
 use Rattle.gb_types.specs.declared.{address.Addr.Addr, entry.Entry.Entry, limits.TheConstants.NODES, message.MsgId.MsgId, node.NodeId.NodeId, reply.Reply.Reply, request.Action.Action, request.Action.TheVariants.AddTenant, request.Action.TheVariants.Group, request.GroupCommand.GroupCommand, spec.Spec.Spec, version.Version.Version}
 use Rattle.gb_types.specs.declared.reply.Reply.TheVariants.{Done, Said, Log, Refused}
@@ -12,9 +11,7 @@ use Rattle.gb_frame.specs.Common.{Content, entry_of, items_for}
 use Rattle.gb_link.specs.Common.{covers}
 use Rattle.gb_detect.specs.Watch.{start, replay}
 use Rattle.gb_rules.specs.Common.{is_addr, Shown, is_other, is_too_long, said_in, bytes_in, log_of, puts_of, falls_after, has_noticed, stepped, dropped, or_added, passed, where_so, is_reached_by, one_more, one_less}
-use Rattle.gb_rules.specs.declared.{phase.Phase.Phase, usage.Usage.Usage, call.GroupCall.GroupCall}
-use Rattle.gb_rules.specs.declared.phase.Phase.TheVariants.{Made, Opened, Shut as Closed}
-use Rattle.gb_rules.specs.declared.call.GroupCall.TheVariants.{Own, Other, Crashed}
+use Rattle.gb_rules.specs.declared.{phase.Phase.Phase, usage.Usage.Usage, call.GroupCall.GroupCall, phase.Phase.TheVariants.Made, phase.Phase.TheVariants.Opened, phase.Phase.TheVariants.Shut as Closed, call.GroupCall.TheVariants.Own, call.GroupCall.TheVariants.Other, call.GroupCall.TheVariants.Crashed}
 use Rattle.gb_node.specs.NodeStep.{node_numbered}
 use Rattle.gb_node.specs.declared.{plan.NodePlan.NodePlan, answer.NodeAnswer.NodeAnswer, answer.PacketAnswer.TheVariants.Good as TakenGood, answer.Frame.Frame, answer.Sent.TheVariants.Packet as SentPacket, answer.Ticked.TheVariants.Noticed, event.NodeEvent.NodeEvent}
 use Rattle.gb_node.specs.declared.answer.NodeAnswer.TheVariants.{Reply as Replied, Taken, Sent, Ticked}

@@ -69,8 +69,7 @@ impl Drop for Node {
 }
 
 impl Model for Node {
-    ghost use Rattle.std.specs.Coded.{codes, coded_ℕ};
-    ghost use Rattle.std.specs.Ordering.{nat_cmp};
+    ghost use Rattle.std.specs.{Coded.codes, Coded.coded_ℕ, Ordering.nat_cmp};
     ghost use Rattle.std.specs.FinSet as set;
     ghost use Rattle.gb_node.specs.NodeValue.{NodeValue};
     ghost use Rattle.gb_node.specs.Frames.{windows_of};

@@ -29,10 +29,8 @@ impl Drop for Tape {
 }
 
 impl Model for Tape {
-    ghost use Rattle.std.specs.Coded.{codes, coded_ℕ};
-    ghost use Rattle.std.specs.Ordering.{nat_cmp};
+    ghost use Rattle.std.specs.{Coded.codes, Coded.coded_ℕ, Ordering.nat_cmp, Prelude.List};
     ghost use Rattle.std.specs.FinSet as set;
-    ghost use Rattle.std.specs.Prelude.{List};
     ghost use Rattle.gb_node.specs.declared.tape.TapeEntry.{TapeEntry};
 
     ghost Value = { List TapeEntry };

@@ -3,8 +3,7 @@ use Rattle.std.specs.Prelude.{◌≡◌, ◌≤◌, true, false, List, Some, is_
 use Rattle.clap.specs.Words.{App, Row, Rule, Text, first_of, new_app, one_of, with_rule}
 use Rattle.gb_serve_words.specs.Options.{HasFlag, HasNumber, IsAddressOf, connections_rule, flag_rule, given, idle_rule, is_set, named_rule, requests_rule, sessions_rule, status_rule, text_rule}
 use Rattle.gb_serve_words.specs.declared.options.TheConstants.{CONNECTIONS, MOST_CONNECTIONS, MOST_IDLE, MOST_REQUESTS, MOST_SESSIONS}
-use Rattle.gb_peer_words.specs.declared.{plan.PeerPlan.PeerPlan, plan.PeerWords.PeerWords}
-use Rattle.gb_peer_words.specs.declared.words.TheConstants.{LAST_NODE, MOST_WAIT, WAIT}
+use Rattle.gb_peer_words.specs.declared.{plan.PeerPlan.PeerPlan, plan.PeerWords.PeerWords, words.TheConstants.LAST_NODE, words.TheConstants.MOST_WAIT, words.TheConstants.WAIT}
 
 -- an option `--name` with a text that must be given
 abbrev pub required_text : Text → Rule

@@ -1,7 +1,6 @@
 -- What a record has of a node, and which packets its entries sent.
 use Rattle.std.specs.Prelude.{ℕ, ◌≡◌, Bool, true, false, List, [], ◌++◌, Option, bytes_eq, if◌then◌else◌}
-use Rattle.std.specs.Io.KnownBytes.{Appends}
-use Rattle.std.specs.List.{list_any}
+use Rattle.std.specs.{Io.KnownBytes.Appends, List.list_any}
 use Rattle.gb_node.specs.declared.{answer.NodeAnswer.NodeAnswer, answer.NodeAnswer.TheVariants.Sent, answer.Sent.TheVariants.Packet as SentPacket, tape.TapeEntry.TapeEntry}
 use Rattle.gb_host.specs.Common.{RecorderValue}
 use Rattle.gb_record_text.specs.RecordText.{entry_lines, last_line}

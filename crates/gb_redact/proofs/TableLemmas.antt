@@ -6,8 +6,7 @@ use Rattle.gb_types.specs.declared.reply.Reply.TheVariants.{Done, Said, Log, Ref
 use Rattle.gb_frame.specs.Common.{address_of, entry_of}
 use Rattle.gb_frame.specs.declared.item.Item.{Item}
 use Rattle.gb_link.specs.Common.{Received, admission}
-use Rattle.gb_link.specs.declared.receiver.Admission.{Admission}
-use Rattle.gb_link.specs.declared.receiver.Admission.TheVariants.{First, Seen, Outside}
+use Rattle.gb_link.specs.declared.{receiver.Admission.Admission, receiver.Admission.TheVariants.First, receiver.Admission.TheVariants.Seen, receiver.Admission.TheVariants.Outside}
 use Rattle.gb_rules.specs.Common.{row_of, reserve_of, tenant_answer, by_tenant, make_answer}
 use Rattle.gb_table.specs.Common.{group_in, others_living, is_admitted, admitted_reply, table_reply, table_did, TableValue, reserve_for, table_done, table_noticed}
 use Rattle.gb_node.specs.declared.event.NodeEvent.TheVariants.{Request as Asked}

@@ -2,8 +2,7 @@
 use Rattle.std.specs.Prelude.{◌≡◌, ℕ, ◌<◌, List, length, take, get_or, codes, replicate, Option, Some, None, option_map, if◌then◌else◌}
 use Rattle.std.specs.List.{flat_map}
 use Rattle.gb_types.specs.declared.{node.NodeId.NodeId, request.Action.Action, request.Action.TheVariants.AddTenant, request.Action.TheVariants.Group, request.Request.Request, spec.TenantRow.TenantRow}
-use Rattle.gb_cap.specs.Hmac.{hmac_of}
-use Rattle.gb_cap.specs.Token.{token_of}
+use Rattle.gb_cap.specs.{Hmac.hmac_of, Token.token_of}
 use Rattle.gb_cap.specs.declared.{token.Need.Need, token.Need.TheVariants.Admin}
 use Rattle.gb_rules.specs.Common.{row_of}
 use Rattle.gb_table.specs.Common.{is_token, command_need}

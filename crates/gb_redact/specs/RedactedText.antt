@@ -2,8 +2,7 @@
 use Rattle.std.specs.Prelude.{◌≡◌, ℕ, Bool, List, [], ◌∷◌, ◌++◌, take, drop, bytes_eq, codes, Option, Some, None, if◌then◌else◌}
 use Rattle.hex.specs.Hex.{encode_lower}
 use Rattle.gb_node.specs.declared.tape.TapeEntry.{TapeEntry}
-use Rattle.gb_record_text.specs.RecordText.{head_line, entry_lines, last_line}
-use Rattle.gb_record_text.specs.Records.{IsRecord}
+use Rattle.gb_record_text.specs.{RecordText.head_line, RecordText.entry_lines, RecordText.last_line, Records.IsRecord}
 use Rattle.gb_record_text.specs.declared.{head.RecordHead.RecordHead, reader.Record.Record}
 use Rattle.gb_redact.specs.Redacted.{redacted_key, AreRedacted}
 

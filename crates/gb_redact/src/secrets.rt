@@ -1,6 +1,5 @@
 //! What stands for a key, for a token, and for a request with both.
-ghost use Rattle.std.specs.Prelude.{◌≡◌};
-ghost use Rattle.std.specs.Option.{option_copied};
+ghost use Rattle.std.specs.{Prelude.◌≡◌, Option.option_copied};
 ghost use Rattle.gb_redact.specs.Redacted.{redacted_key, redacted_token, key_in, token_for, redacted_request};
 
 use gb_cap::hmac::hmac;

@@ -1,7 +1,8 @@
 -- The command of a line, from its head and what is behind it.
-use Rattle.gb_types.specs.Common.{◌≡◌, ◌↔◌, ℕ, List, ◌∷◌, Option, Some, Result, Ok, Err, sym, ◌∙◌, subst, IfOk, words_of}
+use Rattle.gb_types.specs.Common.{◌≡◌, ◌↔◌, ℕ, List, ◌∷◌, Option, Some, Result, Ok, Err, sym, ◌∙◌, subst, IfOk}
 use Rattle.gb_schedule.specs.declared.{command.Command.Command, head.Head.Head}
 use Rattle.gb_schedule.specs.Head.{head_word}
+use Rattle.gb_spelling.specs.Common.{words_of}
 use Rattle.gb_schedule.specs.Grammar.{Spells, IsCommandLine}
 use Rattle.gb_types.proofs.ReadLemmas.{Reads, found, only}
 

@@ -1,13 +1,13 @@
 -- What is asked for by a command in a group, from what the readers of its words found.
-use Rattle.gb_types.specs.Common.{◌≡◌, ◌↔◌, ℕ, ◌+◌, ◌<◌, ◌≤◌, List, [], ◌∷◌, Some, None, get_or, refl, sym, ◌∙◌, subst, decimal, arith, ap, SpellsFetch, SpellsCommand, IsShort, IsLong, IsGroup, group_word, words_of}
+use Rattle.gb_types.specs.Common.{◌≡◌, ◌↔◌, ℕ, ◌+◌, ◌<◌, ◌≤◌, List, [], ◌∷◌, Some, None, get_or, refl, sym, ◌∙◌, subst, decimal, arith, ap}
 use Rattle.std.proofs.lemmas.Fmt.{decimal_injective}
-use Rattle.gb_types.specs.declared.{address.Addr.Addr, command_words.CommandHead.CommandHead, node.NodeId.NodeId, request.GroupCommand.GroupCommand}
-use Rattle.gb_types.specs.declared.command_words.CommandHead.TheVariants as heads
+use Rattle.gb_spelling.specs.Common.{SpellsFetch, SpellsCommand, IsShort, IsLong, IsGroup, group_word, words_of}
+use Rattle.gb_types.specs.declared.{address.Addr.Addr, node.NodeId.NodeId, request.GroupCommand.GroupCommand}
+use Rattle.gb_spelling.specs.declared.command_words.CommandHead.{CommandHead}
+use Rattle.gb_spelling.specs.declared.command_words.CommandHead.TheVariants as heads
 use Rattle.gb_types.specs.declared.request.GroupCommand.TheVariants as commands
-use Rattle.gb_types.proofs.CommandLemmas.{fetch_reads as own_fetch}
-use Rattle.gb_types.proofs.GroupWordLemmas.{one_address}
+use Rattle.gb_spelling.proofs.{CommandLemmas.fetch_reads as own_fetch, GroupWordLemmas.one_address, RequestWordLemmas.IsLongWord}
 use Rattle.gb_types.proofs.ReadLemmas.{Reads, found, only, reads_one, made_reads, some_same}
-use Rattle.gb_types.proofs.RequestWordLemmas.{IsLongWord}
 use Rattle.gb_schedule.specs.declared.{command.Command.Command, command.Command.TheVariants.Step, command.Step.Step as AnyStep}
 use Rattle.gb_schedule.specs.declared.command.Step.TheVariants as steps
 use Rattle.gb_schedule.specs.Grammar.{asked_at, SpellsGroup}

@@ -1,15 +1,15 @@
 -- A line begins with its head: heads are told apart by their words, and a line whose words begin with a head begins with
 -- its bytes and a space.
-use Rattle.gb_types.specs.Common.{◌≡◌, ◌↔◌, ◌==◌, ◌+◌, ◌*◌, if◌then◌else◌, ℕ, suc, false, true, length, drop, ap₂, List, [], ◌∷◌, ◌++◌, Option, Some, None, codes, get_or, take, refl, sym, ap, ◌∙◌, subst, join_with_byte, MatchOption, IfSome, take-append-drop, Decides-eqb, words_of}
-use Rattle.std.specs.Io.{StartsWith}
-use Rattle.std.specs.Cmp.Lexicographic.{pointwise}
+use Rattle.gb_types.specs.Common.{◌≡◌, ◌↔◌, ◌==◌, ◌+◌, ◌*◌, if◌then◌else◌, ℕ, suc, false, true, length, drop, ap₂, List, [], ◌∷◌, ◌++◌, Option, Some, None, codes, get_or, take, refl, sym, ap, ◌∙◌, subst, join_with_byte, MatchOption, IfSome, take-append-drop, Decides-eqb}
+use Rattle.std.specs.{Io.StartsWith, Cmp.Lexicographic.pointwise}
 use Rattle.std.proofs.lemmas.Slice.Eq.{slice_eq-Decides}
 use denote.Ref.{Bor}
-use Rattle.gb_types.proofs.WordLemmas.{each_line_is_its_words}
+use Rattle.gb_spelling.specs.Common.{words_of}
+use Rattle.gb_spelling.proofs.WordLemmas.{each_line_is_its_words}
 use Rattle.gb_types.proofs.ReadLemmas.{Reads, found}
 use Rattle.gb_schedule.specs.declared.{command.Command.TheVariants.Step as StepCommand, command.Step.Step, head.Head.Head}
-use Rattle.gb_types.specs.declared.command_words.CommandHead.{CommandHead}
-use Rattle.gb_types.specs.declared.command_words.CommandHead.TheVariants as commands
+use Rattle.gb_spelling.specs.declared.command_words.CommandHead.{CommandHead}
+use Rattle.gb_spelling.specs.declared.command_words.CommandHead.TheVariants as commands
 use Rattle.gb_schedule.specs.declared.head.Head.TheVariants.{Cluster, Cluster2, Tenant, Group, Forge, Pack, Again, Ack, Arrive, Noise, Tick, Stop}
 use Rattle.gb_schedule.specs.Head.{head_word}
 use Rattle.gb_schedule.specs.Grammar.{asked_at, SpellsGroup, Spells, IsCommandLine}

@@ -1,12 +1,11 @@
 -- The numbers that the words of a text write, read one after the other.
-use Rattle.gb_types.specs.Common.{◌≡◌, ◌↔◌, ◌==◌, ◌⊎◌, ◌*◌, ◌-◌, ◌%◌, ℕ, zero, suc, ◌+◌, ◌<◌, ◌≤◌, ◌^◌, List, [], ◌∷◌, ◌++◌, Some, None, length, take, drop, get_or, map, decimal, refl, sym, ap, ◌∙◌, subst, slice_index, inl, inr, false, length-drop, arith, IsInRange, join_with_byte, cases_lt, cases_eq, ne_eqb, take_all, length-take-le, get_or-take, get_or_append_left, get_or-append-add, get_or-drop, drop-drop, All-head, All-tail, All-get_or, All-from_get_or, words_of}
+use Rattle.gb_types.specs.Common.{◌≡◌, ◌↔◌, ◌==◌, ◌⊎◌, ◌*◌, ◌-◌, ◌%◌, ℕ, zero, suc, ◌+◌, ◌<◌, ◌≤◌, ◌^◌, List, [], ◌∷◌, ◌++◌, Some, None, length, take, drop, get_or, map, decimal, refl, sym, ap, ◌∙◌, subst, slice_index, inl, inr, false, length-drop, arith, IsInRange, join_with_byte, cases_lt, cases_eq, ne_eqb, take_all, length-take-le, get_or-take, get_or_append_left, get_or-append-add, get_or-drop, drop-drop, All-head, All-tail, All-get_or, All-from_get_or}
 use Rattle.std.specs.Str.Parse.{AllDigits, digits_value}
-use Rattle.std.proofs.Math.Nat.{mod-eq_of_lt}
+use Rattle.std.proofs.{Math.Nat.mod-eq_of_lt, lemmas.Fmt.decimal_injective, lemmas.Fmt.decimal_is_IsNumeral, lemmas.Fmt.decimal_digit, lemmas.List.Splits.length-slice_split}
 use Rattle.std.proofs.lemmas.Str.Parse.{digit_at, digits_value_short, numerals_by_value, tells_digits}
-use Rattle.std.proofs.lemmas.Fmt.{decimal_injective, decimal_is_IsNumeral, decimal_digit}
-use Rattle.std.proofs.lemmas.List.Splits.{length-slice_split}
-use Rattle.gb_types.proofs.NumberLemmas.{BeginsBadly, not_badly, read_more, reads_back}
-use Rattle.gb_types.proofs.WordLemmas.{each_line_is_its_words}
+use Rattle.gb_spelling.specs.Common.{words_of}
+use Rattle.gb_spelling.proofs.NumberLemmas.{BeginsBadly, not_badly, read_more, reads_back}
+use Rattle.gb_spelling.proofs.WordLemmas.{each_line_is_its_words}
 use Rattle.gb_types.proofs.ReadLemmas.{Reads, reads_one}
 use Rattle.gb_schedule.specs.Numbers.{IsNumberAt, BeginsWithNoNumber, AllFit, AreAtMost, AreNumbers}
 use Rattle.gb_schedule.proofs.WordLemmas.{first_space, more_words, last_word}

@@ -1,10 +1,9 @@
 -- For each head: the command that its words spell, from what the readers of its words found.
-use Rattle.gb_types.specs.Common.{◌≡◌, ◌↔◌, ℕ, ◌<◌, ◌≤◌, List, [], ◌∷◌, replicate, Some, None, refl, sym, ap, ◌∙◌, subst, decimal, payload_of, limits_of, IsShort, group_word, IsGroup}
-use Rattle.gb_types.specs.declared.limits.TheConstants.{NODES, SILENCE_MIN, SILENCE_MAX}
-use Rattle.gb_types.specs.declared.{new_message.NewMessage.NewMessage, node.NodeId.NodeId, address.Addr.Addr, request.Action.TheVariants.AddTenant, request.Action.TheVariants.Group, request.GroupCommand.TheVariants.Say, spec.TenantRow.TenantRow, version.Version.Version, version.Version.TheVariants.One}
-use Rattle.gb_schedule.specs.declared.{command.ClusterStart.ClusterStart, command.Command.Command}
-use Rattle.gb_schedule.specs.declared.command.Command.TheVariants.{Cluster, Request, Noise}
-use Rattle.gb_types.proofs.RequestWordLemmas.{IsShortWord, IsLongWord, AreAddressWords, AreLimitWords}
+use Rattle.gb_types.specs.Common.{◌≡◌, ◌↔◌, ℕ, ◌<◌, ◌≤◌, List, [], ◌∷◌, replicate, Some, None, refl, sym, ap, ◌∙◌, subst, decimal, limits_of}
+use Rattle.gb_types.specs.declared.{limits.TheConstants.NODES, limits.TheConstants.SILENCE_MIN, limits.TheConstants.SILENCE_MAX, new_message.NewMessage.NewMessage, node.NodeId.NodeId, address.Addr.Addr, request.Action.TheVariants.AddTenant, request.Action.TheVariants.Group, request.GroupCommand.TheVariants.Say, spec.TenantRow.TenantRow, version.Version.Version, version.Version.TheVariants.One}
+use Rattle.gb_spelling.specs.Common.{payload_of, IsShort, group_word, IsGroup}
+use Rattle.gb_schedule.specs.declared.{command.ClusterStart.ClusterStart, command.Command.Command, command.Command.TheVariants.Cluster, command.Command.TheVariants.Request, command.Command.TheVariants.Noise}
+use Rattle.gb_spelling.proofs.RequestWordLemmas.{IsShortWord, IsLongWord, AreAddressWords, AreLimitWords}
 use Rattle.gb_schedule.specs.Grammar.{AreRoomWords, SpellsCluster, SpellsCluster2, SpellsTenant, SpellsForge, SpellsNoise}
 use Rattle.gb_schedule.specs.Versions.{AreVersions}
 use Rattle.gb_schedule.specs.Keys.{tenant_key, no_token, admin_token}

@@ -1,9 +1,10 @@
 -- What is said behind `say `: the numbers of a member, read one after the other, and the payload behind them.
-use Rattle.gb_types.specs.Common.{◌≡◌, ◌↔◌, ℕ, ◌<◌, ◌≤◌, List, [], ◌∷◌, ◌++◌, Option, Some, None, Result, Ok, Err, codes, drop, decimal, refl, sym, ap, ◌∙◌, arith, join_with_byte, IfOk, IsShort, SpellsMessage, words_of}
-use Rattle.gb_types.specs.declared.{address.Addr.Addr, command_words.CommandHead.TheVariants.Say as SayHead, new_message.NewMessage.NewMessage, node.NodeId.NodeId, request.GroupCommand.TheVariants.Say}
+use Rattle.gb_types.specs.Common.{◌≡◌, ◌↔◌, ℕ, ◌<◌, ◌≤◌, List, [], ◌∷◌, ◌++◌, Option, Some, None, Result, Ok, Err, codes, drop, decimal, refl, sym, ap, ◌∙◌, arith, join_with_byte, IfOk}
+use Rattle.gb_spelling.specs.Common.{IsShort, SpellsMessage, words_of}
+use Rattle.gb_types.specs.declared.{address.Addr.Addr, new_message.NewMessage.NewMessage, node.NodeId.NodeId, request.GroupCommand.TheVariants.Say}
+use Rattle.gb_spelling.specs.declared.command_words.CommandHead.TheVariants.{Say as SayHead}
 use Rattle.gb_types.proofs.ReadLemmas.{Reads, made_reads, reads_one}
-use Rattle.gb_types.proofs.NumberLemmas.{number_is_one_word}
-use Rattle.gb_types.proofs.WordLemmas.{each_line_is_its_words}
+use Rattle.gb_spelling.proofs.{NumberLemmas.number_is_one_word, WordLemmas.each_line_is_its_words}
 use Rattle.gb_schedule.specs.declared.head.Head.TheVariants.{Group}
 use Rattle.gb_schedule.specs.Head.{head_word}
 use Rattle.gb_schedule.specs.Numbers.{IsNumberAt}

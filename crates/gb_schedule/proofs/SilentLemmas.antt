@@ -1,9 +1,10 @@
 -- A line that asks for nothing begins with no head.
-use Rattle.gb_types.specs.Common.{◌≡◌, ℕ, List, [], ◌∷◌, get_or, refl, sym, ap, ◌∙◌, arith, onto_first, words_of}
-use Rattle.gb_types.specs.declared.command_words.CommandHead.TheVariants as commands
+use Rattle.gb_types.specs.Common.{◌≡◌, ℕ, List, [], ◌∷◌, get_or, refl, sym, ap, ◌∙◌, arith, onto_first}
+use Rattle.gb_spelling.specs.declared.command_words.CommandHead.TheVariants as commands
 use Rattle.gb_schedule.specs.declared.head.Head.{Head}
 use Rattle.gb_schedule.specs.declared.head.Head.TheVariants.{Cluster, Cluster2, Tenant, Group, Forge, Pack, Again, Ack, Arrive, Noise, Tick, Stop}
 use Rattle.gb_schedule.specs.Head.{head_word}
+use Rattle.gb_spelling.specs.Common.{words_of}
 use Rattle.gb_schedule.specs.Grammar.{SilentLinesSpellNothing}
 
 -- heads begin with letters

@@ -1,9 +1,9 @@
 -- The steps that the words behind a head spell, from the numbers that the words write.
-use Rattle.gb_types.specs.Common.{◌≡◌, ◌↔◌, ℕ, ◌+◌, ◌<◌, ◌≤◌, ◌^◌, List, [], ◌∷◌, Some, None, drop, get_or, refl, sym, ◌∙◌, decimal, arith, words_of}
+use Rattle.gb_types.specs.Common.{◌≡◌, ◌↔◌, ℕ, ◌+◌, ◌<◌, ◌≤◌, ◌^◌, List, [], ◌∷◌, Some, None, drop, get_or, refl, sym, ◌∙◌, decimal, arith}
 use Rattle.std.proofs.lemmas.Fmt.{decimal_injective}
+use Rattle.gb_spelling.specs.Common.{words_of}
 use Rattle.gb_types.specs.declared.{limits.TheConstants.NODES, node.NodeId.NodeId}
-use Rattle.gb_types.proofs.ReadLemmas.{Reads, found, reads_one}
-use Rattle.gb_types.proofs.SameLemmas.{same_number}
+use Rattle.gb_types.proofs.{ReadLemmas.Reads, ReadLemmas.found, ReadLemmas.reads_one, SameLemmas.same_number}
 use Rattle.gb_schedule.specs.declared.{command.Command.TheVariants.Step, command.Step.Step as AnyStep}
 use Rattle.gb_schedule.specs.declared.command.Step.TheVariants.{Pack, Again, Ack, Arrive, Tick, Stop}
 use Rattle.gb_schedule.specs.Grammar.{NamesTwoNodes, SpellsPack, SpellsAgain, SpellsAck, SpellsArrive, SpellsTick, SpellsStop}

@@ -1,6 +1,7 @@
 -- The first word of a text, and the words of a line one after the other.
-use Rattle.gb_types.specs.Common.{◌≡◌, ◌≤◌, ◌<◌, ◌==◌, ◌+◌, ℕ, List, [], ◌∷◌, ◌++◌, false, length, get_or, set, slice_index, take, drop, map, not, sym, ap, ◌∙◌, append_assoc, length-append, arith, position_or_len, position_or_len_is, prefix_len_passes, take_more_set, map-append, length-map, take_all, words_of}
+use Rattle.gb_types.specs.Common.{◌≡◌, ◌≤◌, ◌<◌, ◌==◌, ◌+◌, ℕ, List, [], ◌∷◌, ◌++◌, false, length, get_or, set, slice_index, take, drop, map, not, sym, ap, ◌∙◌, append_assoc, length-append, arith, position_or_len, position_or_len_is, prefix_len_passes, take_more_set, map-append, length-map, take_all}
 use Rattle.std.proofs.lemmas.List.Splits.{slice_split_first, slice_split_none, length-slice_split}
+use Rattle.gb_spelling.specs.Common.{words_of}
 use Rattle.gb_types.proofs.BoolLemmas.{not_true}
 
 -- the first space of a text

@@ -1,11 +1,12 @@
 -- The grammar of a schedule: for each head, the words behind it and the command that they spell. Numbers are decimal,
 -- without a leading zero.
 use Rattle.std.specs.Prelude.{◌≡◌, ◌⊎◌, ℕ, ◌<◌, ◌≤◌, List, [], ◌∷◌, Option, None, Some, replicate, decimal}
-use Rattle.gb_types.specs.declared.limits.TheConstants.{NODES, SILENCE_MIN, SILENCE_MAX}
-use Rattle.gb_types.specs.Common.{SpellsCommand, payload_of, IsShort, IsLong, group_word, IsGroup, limits_of, version_at, words_of}
-use Rattle.gb_types.specs.declared.{node.NodeId.NodeId, address.Addr.Addr, command_words.CommandHead.CommandHead, request.GroupCommand.GroupCommand, spec.TenantRow.TenantRow, version.Version.TheVariants.One}
+use Rattle.gb_types.specs.declared.{limits.TheConstants.NODES, limits.TheConstants.SILENCE_MIN, limits.TheConstants.SILENCE_MAX, node.NodeId.NodeId, address.Addr.Addr, request.GroupCommand.GroupCommand, spec.TenantRow.TenantRow, version.Version.TheVariants.One}
+use Rattle.gb_spelling.specs.Common.{SpellsCommand, payload_of, IsShort, IsLong, group_word, IsGroup, words_of}
+use Rattle.gb_spelling.specs.declared.command_words.CommandHead.{CommandHead}
 use Rattle.gb_types.specs.declared.request.Action.TheVariants as actions
 use Rattle.gb_types.specs.declared.request.GroupCommand.TheVariants as commands
+use Rattle.gb_types.specs.Common.{limits_of, version_at}
 use Rattle.gb_schedule.specs.declared.{command.ClusterStart.ClusterStart, command.Command.Command, head.Head.Head}
 use Rattle.gb_schedule.specs.declared.command.Command.TheVariants.{Cluster, Request, Noise, Step}
 use Rattle.gb_schedule.specs.declared.command.Step.TheVariants.{Pack, Again, Ack, Arrive, Tick, Stop, Fetch}

@@ -1,6 +1,6 @@
 -- The numbers that the words of a text write.
 use Rattle.std.specs.Prelude.{◌≡◌, ℕ, ◌<◌, ◌≤◌, ◌^◌, List, [], ◌∷◌, length, drop, map, All, Option, Some, None, decimal}
-use Rattle.gb_types.specs.Common.{words_of}
+use Rattle.gb_spelling.specs.Common.{words_of}
 
 -- the word at an index of a text is a number, and this is the index of the next word, if there is one
 abbrev pub IsNumberAt : List ℕ → ℕ → ℕ → Option ℕ → Type 0

@@ -1,11 +1,11 @@
 //! The grammar of a schedule: the words behind each head, and the command that they spell.
 ghost use Rattle.std.specs.Prelude.{◌≡◌, ◌≤◌, ◌<◌, ◌↔◌, ℕ, List, [], ◌∷◌, ◌++◌, None, Some, IfOk, IfSome, IfNone, IsTrue, decimal, map, slice_index};
-ghost use Rattle.std.specs.Option.{option_map};
-ghost use Rattle.std.specs.Io.{StartsWith};
-ghost use Rattle.gb_types.specs.Common.{words_of, IsShort, SpellsMessage, group_word, IsGroup};
-ghost use Rattle.gb_types.specs.declared.{address.Addr.Addr as TheAddress, new_message.NewMessage.NewMessage as TheMessage, node.NodeId.NodeId as TheNode, command_words.CommandHead.TheVariants.Fetch as FetchHead};
+ghost use Rattle.std.specs.{Option.option_map, Io.StartsWith};
+ghost use Rattle.gb_spelling.specs.Common.{words_of, IsShort, SpellsMessage, group_word, IsGroup};
+ghost use Rattle.gb_types.specs.declared.{address.Addr.Addr as TheAddress, new_message.NewMessage.NewMessage as TheMessage, node.NodeId.NodeId as TheNode};
 ghost use Rattle.gb_schedule.specs.declared.{command.Step.Step as TheStep, command.Command.Command as TheCommand};
 ghost use Rattle.gb_schedule.specs.declared.command.Command.TheVariants as Commands;
+ghost use Rattle.gb_spelling.specs.declared.command_words.CommandHead.TheVariants.{Fetch as FetchHead};
 ghost use Rattle.gb_schedule.specs.Grammar.{NamesMember, NamesTwoNodes, AreRoomWords, SpellsCluster, SpellsCluster2, SpellsTenant, asked_at, SpellsGroup, SpellsForge, SpellsPack, SpellsAgain, SpellsAck, SpellsArrive, SpellsNoise, SpellsTick, SpellsStop, Spells, IsCommandLine, IsInPlace, IsStart, IsSilent, SilentLinesSpellNothing};
 
 use crate::command::{ClusterStart, Command, Step};
@@ -13,13 +13,14 @@ use crate::head::{Head, read_head};
 use crate::keys::{Keys, NO_TOKEN, tenant_key};
 use crate::versions::read_versions;
 use crate::words::{WORDS, cut_word, last_number_at, number_at, numbers_in, words_in};
+use gb_spelling::number::read_number;
+use gb_spelling::payload_word::read_payload;
+use gb_spelling::request_words::{read_address, read_limits, read_message, read_u16, read_u32};
+use gb_spelling::{CommandHead, command_words};
 use gb_types::limits::{NODES, SILENCE_MAX, SILENCE_MIN};
-use gb_types::number::read_number;
-use gb_types::payload_word::read_payload;
-use gb_types::request_words::{read_address, read_limits, read_message, read_u16, read_u32};
 use gb_types::{
-    Action, Addr, CommandHead, GroupCommand, NewMessage, NodeId, OutOfMemory, Payload, Request,
-    TenantRow, Version, command_words,
+    Action, Addr, GroupCommand, NewMessage, NodeId, OutOfMemory, Payload, Request, TenantRow,
+    Version,
 };
 use std::alloc::Global;
 

@@ -3,7 +3,7 @@ ghost use Rattle.std.specs.Prelude.{◌≡◌, ◌↔◌, Some};
 ghost use Rattle.gb_schedule.specs.declared.head.Head.{Head};
 ghost use Rattle.gb_schedule.specs.Head.{head_word};
 
-use gb_types::{CommandHead, command_words};
+use gb_spelling::{CommandHead, command_words};
 
 /// The first word of a line.
 #[derive(Clone, Copy)]

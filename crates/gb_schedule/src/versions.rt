@@ -4,9 +4,9 @@ ghost use Rattle.gb_types.specs.Common.{limits_of};
 ghost use Rattle.gb_types.specs.declared.version.Version.{Version as TheVersion};
 ghost use Rattle.gb_schedule.specs.Versions.{AreVersions};
 
+use gb_spelling::number::read_number;
 use gb_types::Version;
 use gb_types::limits::NODES;
-use gb_types::number::read_number;
 
 /// The largest byte.
 const BYTE: u64 = 255;

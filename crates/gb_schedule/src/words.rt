@@ -1,12 +1,10 @@
 //! The words of a line, read without allocating memory.
 ghost use Rattle.std.specs.Prelude.{◌≡◌, ◌≤◌, ◌<◌, ◌==◌, ◌∷◌, ◌^◌, ◌↔◌, ℕ, List, [], Some, false, length, slice_index, decimal, map, take, drop, IfSome, IfNone};
-ghost use Rattle.std.specs.List.{position_or_len};
-ghost use Rattle.std.specs.Char.{is_ascii_digit};
-ghost use Rattle.std.specs.Str.Parse.{AllDigits, digits_value};
-ghost use Rattle.gb_types.specs.Common.{words_of};
+ghost use Rattle.std.specs.{List.position_or_len, Char.is_ascii_digit, Str.Parse.AllDigits, Str.Parse.digits_value};
+ghost use Rattle.gb_spelling.specs.Common.{words_of};
 ghost use Rattle.gb_schedule.specs.Numbers.{IsNumberAt, BeginsWithNoNumber, AllFit, AreNumbers};
 
-use gb_types::number::read_number;
+use gb_spelling::number::read_number;
 use memchr::memchr;
 
 /// The most words of a line that spells a command, its head included.

@@ -1,16 +1,13 @@
 -- What a parse by a command of options alone leaves of them.
 use Rattle.gb_types.specs.Common.{◌≡◌, ◌∙◌, ◌<◌, ◌≤◌, ◌&&◌, ◌||◌, ℕ, Bool, zero, suc, true, false, not, List, [], ◌∷◌, map, length, Option, Some, None, is_some, IfSome, refl, sym, ap, subst, inl, inr, arith, codes, true≢false, option_map, slice_get, pos, All, list_all, list_any, slice_index_or}
-use Rattle.std.specs.Str.{bytes_eq}
-use Rattle.std.specs.Borrow.{Bor}
+use Rattle.std.specs.{Str.bytes_eq, Borrow.Bor}
 use Rattle.std.proofs.lemmas.Slice.Eq.{bytes_eq-Decides}
 use Rattle.clap.specs.Facts.{Entry, EntryPasses, HasReading, PassesArg, ValuesPass, args_of, groups_of, least_values, parser_of, parser_of_value, unwrap_or_range}
 use Rattle.clap.specs.Built.{IsAuto}
 use Rattle.clap.specs.Walk.{first_of, is_empty, is_free_arg, is_simple_arg}
 use Rattle.clap.specs.declared.{builder.command.Command.TheViews.out-Command, builder.action.ArgAction.TheVariants.Set, builder.arg.Arg.Arg, builder.command.Command.Command, builder.range.ValueRange.ValueRange, builder.value_parser.Reading.Reading, builder.value_parser.ValueParser.ValueParser, builder.value_parser.ValueParser.TheVariants.Signed, builder.value_parser.ValueParser.TheVariants.Bool as Flag, parser.matches.ArgMatches.ArgMatches, parser.matches.Found.Found, parser.matches.MatchedArg.MatchedArg}
 use Rattle.clap.specs.Words.{Accepts, App, IsParsedFrom, IsPlain, IsPlainArg, IsSignedIn, Rule, Text, app_of, first_value, found_of, matched_of, one_of, one_text, read_as, reading_of, rows_of, rule_of, without_minus}
-use Rattle.clap.proofs.CallerLemmas.{entry_by_id, required_has_value, same_rules_by_id}
-use Rattle.clap.proofs.SimpleLemmas.{is_false, is_nil, plain_fields}
-use Rattle.clap.proofs.WalkLemmas.{both, first_value-rows, one_text-rows}
+use Rattle.clap.proofs.{CallerLemmas.entry_by_id, CallerLemmas.required_has_value, CallerLemmas.same_rules_by_id, SimpleLemmas.is_false, SimpleLemmas.is_nil, SimpleLemmas.plain_fields, WalkLemmas.both, WalkLemmas.first_value-rows, WalkLemmas.one_text-rows}
 use Rattle.gb_serve_words.specs.Options.{HasFlag, HasNumber}
 
 -- the id is not empty, and is none of those that building adds

@@ -1,13 +1,9 @@
 -- The options of a command line: the rule of each, as `clap` reads it, and the value of its entry in the matches.
 use Rattle.std.specs.Prelude.{◌≡◌, ◌||◌, ℕ, Bool, true, false, List, Option, None, Some, IfSome, option_map, codes, pos}
-use Rattle.std.specs.Option.{option_map_or}
-use Rattle.std.specs.Net.Grammar.{IsSocketText}
-use Rattle.std.specs.Str.{bytes_eq}
-use Rattle.std.specs.Str.Parse.{digits_value, without_leading_plus}
+use Rattle.std.specs.{Option.option_map_or, Net.Grammar.IsSocketText, Str.bytes_eq, Str.Parse.digits_value, Str.Parse.without_leading_plus}
 use Rattle.std.specs.declared.net.socket_addr.SocketAddr.{SocketAddr}
 use Rattle.clap.specs.Words.{IsSignedIn, Row, Rule, Text, new_rule, one_of, without_minus}
-use Rattle.clap.specs.declared.builder.action.ArgAction.TheVariants.{Set, SetTrue}
-use Rattle.clap.specs.declared.builder.value_parser.ValueParser.TheVariants.{Signed, Bool as Flag, String as AnyText}
+use Rattle.clap.specs.declared.{builder.action.ArgAction.TheVariants.Set, builder.action.ArgAction.TheVariants.SetTrue, builder.value_parser.ValueParser.TheVariants.Signed, builder.value_parser.ValueParser.TheVariants.Bool as Flag, builder.value_parser.ValueParser.TheVariants.String as AnyText}
 use Rattle.gb_serve_words.specs.declared.options.TheConstants.{MOST_CONNECTIONS, MOST_IDLE, MOST_REQUESTS, MOST_SESSIONS}
 
 -- an option `--name` with one number from `least` to `most`

@@ -1,7 +1,7 @@
 -- What is asked: read from words, and found at the front of bytes.
-use Rattle.gb_types.specs.Common.{◌≡◌, ◌↔◌, ℕ, ◌+◌, ◌-◌, ◌<◌, ◌≤◌, List, [], ◌∷◌, ◌++◌, Option, Some, None, refl, sym, ap, ◌∙◌, subst, inr, decimal, codes, length, take, drop, arith, IfSome, IfNone, append_assoc, append-nil, take-append-drop, none-some, IsLong, words_of}
-use Rattle.std.specs.declared.alloc.Global.{Global}
-use Rattle.std.specs.declared.vec.Vec.{Vec}
+use Rattle.gb_types.specs.Common.{◌≡◌, ◌↔◌, ℕ, ◌+◌, ◌-◌, ◌<◌, ◌≤◌, List, [], ◌∷◌, ◌++◌, Option, Some, None, refl, sym, ap, ◌∙◌, subst, inr, decimal, codes, length, take, drop, arith, IfSome, IfNone, append_assoc, append-nil, take-append-drop, none-some}
+use Rattle.std.specs.declared.{alloc.Global.Global, vec.Vec.Vec}
+use Rattle.gb_spelling.specs.Common.{IsLong, words_of}
 use Rattle.gb_session.specs.declared.{ask.Ask.Ask, ask.Awaited.Awaited, ask.Place.Place, grammar.TheConstants.BODY}
 use Rattle.gb_session.specs.Asks.{IsPlace, SpellsPlaces, SpellsAwait, IsAwaitText, IsAskText, IsAskMessage, AsksNothing, SpellsAsks}
 use Rattle.gb_session.specs.Streams.{framed, said_length}

@@ -2,8 +2,7 @@
 use Rattle.gb_types.specs.Common.{◌≡◌, ℕ, ◌<◌, Bool, List, [], ◌∷◌, ◌++◌, Option, length, refl, sym, ap, ◌∙◌, subst, inl, inr, arith, append_assoc, append-nil, length-append}
 use Rattle.gb_types.specs.declared.{reply.Reply.Reply, request.Request.Request}
 use Rattle.gb_session.specs.Answering.{Answering}
-use Rattle.gb_session.specs.declared.{ask.Ask.Ask, operation.Operation.Operation, serve.SessionEnd.SessionEnd, session.Next.Next, session.Next.TheVariants.Answered, session.Next.TheVariants.Ended, session.Outcome.Outcome, session.Outcome.TheVariants.Replied}
-use Rattle.gb_session.specs.declared.ask.Ask.TheVariants.{Now, Await, Operate}
+use Rattle.gb_session.specs.declared.{ask.Ask.Ask, operation.Operation.Operation, serve.SessionEnd.SessionEnd, session.Next.Next, session.Next.TheVariants.Answered, session.Next.TheVariants.Ended, session.Outcome.Outcome, session.Outcome.TheVariants.Replied, ask.Ask.TheVariants.Now, ask.Ask.TheVariants.Await, ask.Ask.TheVariants.Operate}
 use Rattle.gb_session.specs.declared.serve.SessionEnd.TheVariants.{Finished, Cut, Malformed, Limit}
 use Rattle.gb_session.specs.declared.session.Step.TheVariants as steps
 use Rattle.gb_session.specs.SessionValue.{SessionValue}

@@ -2,8 +2,7 @@
 use Rattle.gb_types.specs.Common.{◌≡◌, ℕ, zero, suc, ◌+◌, ◌<◌, Bool, true, false, List, [], ◌∷◌, ◌++◌, Option, None, length, map, take, drop, get_or, All, refl, sym, ap, ◌∙◌, subst, inl, inr, add-one, arith, append_assoc, append-nil, length-append, take-append-drop, All-nil, All-append, take-suc, drop-cons}
 use Rattle.gb_types.specs.declared.{reply.Reply.Reply, request.Request.Request}
 use Rattle.gb_session.specs.Answering.{Answering}
-use Rattle.gb_session.specs.declared.{ask.Ask.Ask, ask.Place.Place}
-use Rattle.gb_session.specs.declared.ask.Ask.TheVariants.{Now, Await, Operate}
+use Rattle.gb_session.specs.declared.{ask.Ask.Ask, ask.Place.Place, ask.Ask.TheVariants.Now, ask.Ask.TheVariants.Await, ask.Ask.TheVariants.Operate}
 use Rattle.gb_session.specs.Settled.{fetch_of, is_empty_log, FindsNone, Finds, SettlesBy, Telling, Settles, SettlesAll}
 use Rattle.gb_session.specs.Takes.{AnswersFront}
 use Rattle.gb_session.specs.Nexts.{SettlesFront}

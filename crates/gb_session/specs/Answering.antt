@@ -1,6 +1,6 @@
 -- What may be told to a client.
 use Rattle.std.specs.Prelude.{◌≡◌, ℕ, List}
-use Rattle.gb_types.specs.Common.{reply_spelling}
+use Rattle.gb_spelling.specs.Common.{reply_spelling}
 use Rattle.gb_types.specs.declared.{refusal.Refusal.TheVariants.Denied, reply.Reply.TheVariants.Refused, reply.Reply.Reply, request.Request.Request}
 use Rattle.gb_session.specs.declared.operation.Operation.{Operation}
 

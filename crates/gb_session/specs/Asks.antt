@@ -1,8 +1,7 @@
 -- What a client asks, and how it is spelt.
 use Rattle.std.specs.Prelude.{◌≡◌, ℕ, ◌+◌, ◌<◌, ◌≤◌, ◌⊎◌, List, [], ◌∷◌, ◌++◌, length, take, drop, Some, decimal, codes}
-use Rattle.gb_types.specs.Common.{IsShort, IsLong, group_word, IsGroup, token_of, words_of}
-use Rattle.gb_session.specs.declared.{ask.Ask.Ask, ask.Awaited.Awaited, ask.Place.Place, ask.TheConstants.PLACES, ask.TheConstants.WAIT, grammar.TheConstants.BODY}
-use Rattle.gb_session.specs.declared.ask.Ask.TheVariants.{Now, Await, Operate}
+use Rattle.gb_spelling.specs.Common.{IsShort, IsLong, group_word, IsGroup, token_of, words_of}
+use Rattle.gb_session.specs.declared.{ask.Ask.Ask, ask.Awaited.Awaited, ask.Place.Place, ask.TheConstants.PLACES, ask.TheConstants.WAIT, grammar.TheConstants.BODY, ask.Ask.TheVariants.Now, ask.Ask.TheVariants.Await, ask.Ask.TheVariants.Operate}
 use Rattle.gb_session.specs.Grammar.{IsRequestText}
 use Rattle.gb_session.specs.Operations.{IsOperationText}
 use Rattle.gb_session.specs.Streams.{framed, said_length}

@@ -2,10 +2,8 @@
 use Rattle.std.specs.Prelude.{◌≡◌, ℕ, ◌-◌, ◌<◌, ◌≤◌, ◌⊎◌, Bool, false, List, [], ◌++◌, drop, length}
 use Rattle.gb_types.specs.declared.{reply.Reply.Reply, request.Request.Request}
 use Rattle.gb_session.specs.Answering.{Answering}
-use Rattle.gb_session.specs.declared.{ask.Ask.Ask, ask.Ask.TheVariants.Await, ask.Ask.TheVariants.Operate, serve.SessionEnd.TheVariants.Malformed, serve.SessionEnd.TheVariants.Limit, session.AskFront.AskFront, session.Next.Next, session.Outcome.Outcome}
-use Rattle.gb_session.specs.declared.session.AskFront.TheVariants.{Begun, Malformed as BadFront, Message}
+use Rattle.gb_session.specs.declared.{ask.Ask.Ask, ask.Ask.TheVariants.Await, ask.Ask.TheVariants.Operate, serve.SessionEnd.TheVariants.Malformed, serve.SessionEnd.TheVariants.Limit, session.AskFront.AskFront, session.Next.Next, session.Outcome.Outcome, session.AskFront.TheVariants.Begun, session.AskFront.TheVariants.Malformed as BadFront, session.AskFront.TheVariants.Message, session.Outcome.TheVariants.Replied, session.Outcome.TheVariants.Waits, session.Outcome.TheVariants.Operates}
 use Rattle.gb_session.specs.declared.session.Next.TheVariants.{Answered, Hungry, Parked, Ended}
-use Rattle.gb_session.specs.declared.session.Outcome.TheVariants.{Replied, Waits, Operates}
 use Rattle.gb_session.specs.Asks.{IsAskMessage, AsksNothing}
 use Rattle.gb_session.specs.Runs.{IsRun, malformed_message}
 use Rattle.gb_session.specs.Settled.{SettlesBy, Settles, FindsNone}

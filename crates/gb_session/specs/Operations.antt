@@ -1,8 +1,7 @@
 -- What an administrator asks, and how it is spelt.
 use Rattle.std.specs.Prelude.{◌≡◌, ℕ, ◌≤◌, List, [], ◌∷◌, length, Some, decimal, codes}
-use Rattle.gb_types.specs.Common.{IsLong, token_of, words_of}
-use Rattle.gb_session.specs.declared.{grammar.TheConstants.BODY, operation.Operating.Operating, operation.Operation.Operation}
-use Rattle.gb_session.specs.declared.operation.Operating.TheVariants.{Status, List as Listing, Stop}
+use Rattle.gb_spelling.specs.Common.{IsLong, token_of, words_of}
+use Rattle.gb_session.specs.declared.{grammar.TheConstants.BODY, operation.Operating.Operating, operation.Operation.Operation, operation.Operating.TheVariants.Status, operation.Operating.TheVariants.List as Listing, operation.Operating.TheVariants.Stop}
 
 -- the first word of an operation, and the words behind its token: `FROM MAX` behind `list`, none behind the others
 abbrev pub IsOperating : Operating → List ℕ → List (List ℕ) → Type 0

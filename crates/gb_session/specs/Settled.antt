@@ -1,10 +1,9 @@
 -- The requests that settle an ask, and its reply.
 use Rattle.std.specs.Prelude.{◌≡◌, ℕ, ◌==◌, ◌⊎◌, Bool, true, false, List, [], ◌∷◌, ◌++◌, length, map, All, Option, Some, None, decimal, codes, if◌then◌else◌}
 use Rattle.std.specs.List.{flat_map}
-use Rattle.gb_types.specs.Common.{reply_spelling}
+use Rattle.gb_spelling.specs.Common.{reply_spelling}
 use Rattle.gb_types.specs.declared.{reply.Reply.Reply, reply.Reply.TheVariants.Log, request.Action.TheVariants.Group, request.GroupCommand.TheVariants.Fetch, request.Request.Request}
-use Rattle.gb_session.specs.declared.{ask.Ask.Ask, ask.Place.Place, operation.Operation.Operation}
-use Rattle.gb_session.specs.declared.ask.Ask.TheVariants.{Now, Await, Operate}
+use Rattle.gb_session.specs.declared.{ask.Ask.Ask, ask.Place.Place, operation.Operation.Operation, ask.Ask.TheVariants.Now, ask.Ask.TheVariants.Await, ask.Ask.TheVariants.Operate}
 use Rattle.gb_session.specs.Asks.{SpellsAsks}
 use Rattle.gb_session.specs.Streams.{framed}
 

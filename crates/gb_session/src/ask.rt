@@ -5,9 +5,9 @@ ghost use Rattle.gb_session.specs.Asks.{IsPlace, IsAskText, IsAwaitText, SpellsA
 
 use crate::grammar::{BODY, read_request};
 use crate::operation::{Operation, read_operation};
-use gb_types::request_words::{read_address, read_u32};
-use gb_types::token_word::read_token;
-use gb_types::words::split_words;
+use gb_spelling::request_words::{read_address, read_u32};
+use gb_spelling::token_word::read_token;
+use gb_spelling::words::split_words;
 use gb_types::{Addr, OutOfMemory, Request};
 use std::alloc::Global;
 

@@ -4,10 +4,10 @@ ghost use Rattle.gb_session.specs.declared.{operation.Operating.Operating as The
 ghost use Rattle.gb_session.specs.Operations.{IsOperating, IsOperationText};
 
 use crate::grammar::BODY;
+use gb_spelling::request_words::read_u32;
+use gb_spelling::token_word::read_token;
+use gb_spelling::words::split_words;
 use gb_types::OutOfMemory;
-use gb_types::request_words::read_u32;
-use gb_types::token_word::read_token;
-use gb_types::words::split_words;
 use std::alloc::Global;
 
 /// What an operation asks.

@@ -1,12 +1,8 @@
 -- What a run of the program reads and writes, and the status with which it ends.
 use Rattle.std.specs.Prelude.{◌≡◌, ◌≢◌, ℕ, List, Option, Result, Ok, Err, OnOk, codes}
-use Rattle.std.specs.Option.{IfSome}
-use Rattle.std.specs.Io.KnownBytes.{Appends, Keeps}
+use Rattle.std.specs.{Option.IfSome, Io.KnownBytes.Appends, Io.KnownBytes.Keeps}
 use Rattle.gb_lines.specs.Lines.{ended}
-use Rattle.gb_simulate.specs.Complaint.{complaint}
-use Rattle.gb_simulate.specs.Status.{status}
-use Rattle.gb_simulate.specs.Text.{IsWritten, IsWrittenUpTo}
-use Rattle.gb_simulate.specs.Writing.{AppendsFront}
+use Rattle.gb_simulate.specs.{Complaint.complaint, Status.status, Text.IsWritten, Text.IsWrittenUpTo, Writing.AppendsFront}
 use Rattle.gb_simulate.specs.declared.{outcome.SimEnd.SimEnd, outcome.SimFault.SimFault, outcome.SimFault.TheVariants.Write, outcome.SimFault.TheVariants.OutOfMemory}
 use Rattle.gb_sim.specs.declared.run.Ended.{Ended}
 

@@ -1,9 +1,7 @@
 -- What is asked for by HTTP, and how it is answered. Source: RFC 9112 (messages) and RFC 9110 (methods and status codes).
 use Rattle.std.specs.Prelude.{◌≡◌, ◌≢◌, ◌==◌, ℕ, Bool, false, List, [], ◌++◌, ◌∷◌, codes, decimal, length, if◌then◌else◌}
-use Rattle.std.specs.Str.{bytes_eq}
-use Rattle.httparse.specs.Grammar.{HasNoRequest, ReadsRequest, RequestHead}
-use Rattle.httparse.specs.Spans.{RequestOverflows}
-use Rattle.std.specs.List.{list_all}
+use Rattle.std.specs.{Str.bytes_eq, List.list_all}
+use Rattle.httparse.specs.{Grammar.HasNoRequest, Grammar.ReadsRequest, Grammar.RequestHead, Spans.RequestOverflows}
 use Rattle.gb_status.specs.Figures.{metrics_text, value_of}
 use Rattle.gb_status.specs.Names.{line_feed}
 use Rattle.gb_status.specs.declared.{figure.Figure.TheVariants.Running, figures.NodeFigures.NodeFigures, http.Asked.Asked, http.Code.Code}

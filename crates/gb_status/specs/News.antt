@@ -1,12 +1,10 @@
 -- The lines of the log that tell of a node, by its figures and the nodes that it noticed.
 use Rattle.std.specs.Prelude.{ℕ, Bool, List, [], ◌++◌, ◌||◌, codes, decimal, nat_lt, if◌then◌else◌}
 use Rattle.std.specs.FinSet as set
-use Rattle.std.specs.List.{flat_map}
-use Rattle.std.specs.Ordering.{nat_cmp}
+use Rattle.std.specs.{List.flat_map, Ordering.nat_cmp}
 use Rattle.gb_status.specs.Figures.{value_of}
 use Rattle.gb_status.specs.Names.{line_feed}
-use Rattle.gb_status.specs.declared.figure.Figure.TheVariants.{Lost, RefusedOutOfMemory, TurnedAway}
-use Rattle.gb_status.specs.declared.{figures.Figures.Figures, news.Told.Told}
+use Rattle.gb_status.specs.declared.{figure.Figure.TheVariants.Lost, figure.Figure.TheVariants.RefusedOutOfMemory, figure.Figure.TheVariants.TurnedAway, figures.Figures.Figures, news.Told.Told}
 
 -- the beginning of a line of the log that tells of a node: the name of the program, and the node's number
 abbrev pub front_of : List ℕ → ℕ → List ℕ

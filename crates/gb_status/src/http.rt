@@ -5,9 +5,9 @@ ghost use Rattle.gb_status.specs.Http.{Asks, IsReply, all_run, answer_of, code_o
 use crate::figure::Figure;
 use crate::figures::NodeFigures;
 use crate::text::metrics_text;
+use gb_spelling::number::put_number;
 use gb_types::OutOfMemory;
 use gb_types::memory::put_bytes;
-use gb_types::number::put_number;
 use httparse::Status;
 use httparse::spans::{EMPTY_HEADER_SPAN, parse_request};
 use std::alloc::Global;

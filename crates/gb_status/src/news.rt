@@ -7,8 +7,8 @@ ghost use Rattle.gb_status.specs.News.{front_of, full_line, is_full, is_short, l
 
 use crate::figure::Figure;
 use crate::figures::Figures;
+use gb_spelling::number::put_number;
 use gb_types::memory::put_bytes;
-use gb_types::number::put_number;
 use gb_types::{NodeId, NodeSet, OutOfMemory};
 
 /// What the log has told of a node.

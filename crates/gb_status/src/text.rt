@@ -5,9 +5,9 @@ ghost use Rattle.gb_status.specs.Figures.{figure_text, front_text, line_text, me
 
 use crate::figure::{FIGURES, Figure};
 use crate::figures::{Figures, NodeFigures};
+use gb_spelling::number::put_number;
 use gb_types::OutOfMemory;
 use gb_types::memory::put_bytes;
-use gb_types::number::put_number;
 use std::alloc::Global;
 
 // Appends a figure's name and its labels.

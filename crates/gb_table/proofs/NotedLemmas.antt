@@ -2,8 +2,7 @@
 use Rattle.gb_types.specs.Common.{◌≡◌, ◌≢◌, ℕ, ◌<◌, ◌≤◌, ◌+◌, ◌-◌, min, List, [], ◌∷◌, length, subst, get_or, ap, sym, refl, ◌∙◌, arith, inl, inr, true, false, Bool, Option, Some, None, option_map, nat_eq, ◌&&◌, ◌||◌, not, map, drop, if◌then◌else◌, nat_cmp, set, cases_eq, cases_lt, get_or_default, get_or-set_same, get_or-set_other, length-set, rising_from}
 use Rattle.std.specs.FinSet as nodes
 use Rattle.gb_types.specs.declared.{entry.Entry.Entry, limits.TheConstants.NODES, spec.Spec.Spec}
-use Rattle.gb_types.proofs.InsertedLemmas.{contains-insert}
-use Rattle.gb_types.proofs.RisingLemmas.{first_or_none}
+use Rattle.gb_types.proofs.{InsertedLemmas.contains-insert, RisingLemmas.first_or_none}
 use Rattle.gb_rules.specs.Common.{entry_in}
 use Rattle.gb_slot.specs.Common.{waiting, taken_for, SlotState, reaches, WaitsForEach}
 use Rattle.gb_table.specs.Busy.{IsWritten, IsNoted, IsPlaced}

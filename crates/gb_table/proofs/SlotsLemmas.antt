@@ -1,8 +1,7 @@
 -- A write under one key changes one group.
 use Rattle.gb_types.specs.Common.{◌≡◌, ℕ, zero, suc, ◌<◌, ◌≤◌, List, [], ◌∷◌, length, map, get_or, refl, ap, sym, ◌∙◌, subst, arith, inl, inr, position_or_len, Bool, cond, not, nat_lt, ◌+◌, Option, Some, None, IsSome, IfSome, option_map, option_copied, position, set, cases_lt, cases_eq, get_or-set_same, get_or-set_other, get_or_past, length-map, length-set}
-use Rattle.std.specs.Borrow.{Bor}
+use Rattle.std.specs.{Borrow.Bor, Map.keys_of}
 use Rattle.std.proofs.Math.ListN.{get_or-map}
-use Rattle.std.specs.Map.{keys_of}
 use Rattle.slab.specs.Slab.{Slab, get, with_value}
 use Rattle.gb_rules.specs.Common.{is_addr}
 use Rattle.gb_types.specs.declared.{address.Addr.Addr, limits.TheConstants.NODES, limits.TheConstants.PAYLOAD}

@@ -8,8 +8,7 @@ use Rattle.gb_rules.specs.declared.phase.Phase.{Phase}
 use Rattle.gb_slot.specs.Common.{falls, own_entry, shown, waiting, taken_for, slot_called, slot_moved, slot_said, slot_came, slot_noticed, slot_done, slot_took, SlotState}
 use Rattle.gb_table.specs.Packing.{queue, queue_of}
 use Rattle.gb_table.specs.SlotsValue.{Row, row_at, no_row, IsShort, IsNamed, AreNamed, on_slot}
-use Rattle.gb_rules.proofs.LengthLemmas.{within_limit}
-use Rattle.gb_rules.proofs.SayLemmas.{said_is}
+use Rattle.gb_rules.proofs.{LengthLemmas.within_limit, SayLemmas.said_is}
 
 pub taken-moved : (phase : Phase) (reply : Reply) (s : SlotState) → (slot_moved phase reply s).taken ≡ s.taken
 taken-moved phase Done s = refl

@@ -2,8 +2,7 @@
 use Rattle.std.specs.Prelude.{ℕ, Bool, false, List, bytes_eq, Option, Some, None}
 use Rattle.gb_types.specs.declared.{node.NodeId.NodeId, address.Addr.Addr, request.Action.Action, request.Action.TheVariants.AddTenant, request.Action.TheVariants.Group, request.GroupCommand.GroupCommand, request.GroupCommand.TheVariants.Say, request.GroupCommand.TheVariants.Fetch, request.Request.Request, spec.TenantRow.TenantRow}
 use Rattle.gb_cap.specs.Token.{token_of}
-use Rattle.gb_cap.specs.declared.token.Need.{Need}
-use Rattle.gb_cap.specs.declared.token.Need.TheVariants.{Admin, Tenant, Member}
+use Rattle.gb_cap.specs.declared.{token.Need.Need, token.Need.TheVariants.Admin, token.Need.TheVariants.Tenant, token.Need.TheVariants.Member}
 use Rattle.gb_rules.specs.Common.{row_of}
 
 -- the token is the one for the need under the key

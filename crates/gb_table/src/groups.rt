@@ -71,8 +71,7 @@ impl Drop for Groups {
 impl Model for Groups {
     ghost use Rattle.gb_table.specs.GroupsValue.{GroupsValue};
     ghost use Rattle.gb_table.specs.Places.{groups_of, AreGroups};
-    ghost use Rattle.std.specs.Coded.{codes, coded_ℕ};
-    ghost use Rattle.std.specs.Ordering.{nat_cmp};
+    ghost use Rattle.std.specs.{Coded.codes, Coded.coded_ℕ, Ordering.nat_cmp};
     ghost use Rattle.std.specs.FinSet as set;
 
     ghost Value = { GroupsValue };

@@ -73,11 +73,9 @@ impl Drop for Table {
 }
 
 impl Model for Table {
-    ghost use Rattle.std.specs.Coded.{codes, coded_ℕ};
-    ghost use Rattle.std.specs.Ordering.{nat_cmp};
+    ghost use Rattle.std.specs.{Coded.codes, Coded.coded_ℕ, Ordering.nat_cmp, Prelude.◌≡◌};
     ghost use Rattle.std.specs.FinSet as set;
     ghost use Rattle.gb_table.specs.TableValue.{TableValue};
-    ghost use Rattle.std.specs.Prelude.{◌≡◌};
     ghost use Rattle.gb_table.specs.Kept.{AreMemberTokens};
     ghost use Rattle.gb_table.specs.Within.{IsWithin, names_of};
     ghost use Rattle.gb_table.specs.SlotsValue.{AreNamed};

@@ -3,16 +3,13 @@ use Rattle.gb_types.specs.Common.{◌≡◌, ℕ, zero, suc, ◌+◌, ◌<◌, �
 use Rattle.gb_types.proofs.BoolLemmas.{and_both, or_left, or_right}
 use Rattle.gb_types.specs.declared.{node.NodeId.NodeId, plan.Plan.Plan}
 use Rattle.gb_node.specs.Common.{IsTurn, NodeValue, SendersRun}
-use Rattle.gb_node.specs.declared.{answer.NodeAnswer.NodeAnswer, event.NodeEvent.NodeEvent}
+use Rattle.gb_node.specs.declared.{answer.NodeAnswer.NodeAnswer, event.NodeEvent.NodeEvent, answer.Sent.TheVariants.Packet as SentPacket, answer.Sent.TheVariants.Nothing as SentNothing, answer.Sent.TheVariants.Refused as SentRefused}
 use Rattle.gb_node.specs.declared.answer.NodeAnswer.TheVariants.{Reply as Replied, Taken, Sent, Ticked, Halted}
-use Rattle.gb_node.specs.declared.answer.Sent.TheVariants.{Packet as SentPacket, Nothing as SentNothing, Refused as SentRefused}
 use Rattle.gb_node.specs.declared.event.NodeEvent.TheVariants.{Request as Asked, Packet as Came, Pack, Again, Ack, Tick, Stop}
-use Rattle.gb_cluster.proofs.CodeLemmas.{arrived_was_posted}
-use Rattle.gb_cluster.proofs.NodesLemmas.{stays}
+use Rattle.gb_cluster.proofs.{CodeLemmas.arrived_was_posted, NodesLemmas.stays}
 use Rattle.gb_cluster.specs.Common.{posted, answer_of, packet_numbered, is_packet_for, NodeActs, IsAt, IsArrival, IsPlaced, IsStep, ClusterValue, node_at, new_cluster, Did, ComesTo, IsSent}
-use Rattle.gb_cluster.specs.declared.{answer.Answer.Answer, event.Event.Event, event.Event.TheVariants.At, event.Event.TheVariants.Arrive, posted.Posted.Posted}
+use Rattle.gb_cluster.specs.declared.{answer.Answer.Answer, event.Event.Event, event.Event.TheVariants.At, event.Event.TheVariants.Arrive, posted.Posted.Posted, answer.Sending.TheVariants.Packet as SendingPacket, answer.Sending.TheVariants.Nothing as SendingNothing, answer.Sending.TheVariants.Refused as SendingRefused}
 use Rattle.gb_cluster.specs.declared.answer.Answer.TheVariants.{Reply as AnswerReply, Taken as AnswerTaken, Sent as AnswerSent, Ticked as AnswerTicked, Halted as AnswerHalted, NoPacket, NotNoise}
-use Rattle.gb_cluster.specs.declared.answer.Sending.TheVariants.{Packet as SendingPacket, Nothing as SendingNothing, Refused as SendingRefused}
 use Rattle.gb_isolation.specs.Isolation.{wants_memory, is_ample}
 use Rattle.gb_trace.specs.Run.{is_refused_by, tells_want}
 use Rattle.gb_trace.specs.Trace.{own_answer, did_with, did_in, all_did, AreSteps, IsRun}

@@ -7,8 +7,7 @@ use Rattle.gb_alone.proofs.ObservationLemmas.{seen_same}
 use Rattle.gb_node.specs.Common.{waiting_at, node_numbered, frames_to}
 use Rattle.gb_cluster.specs.Common.{node_at, Did, past_at}
 use Rattle.gb_cluster.proofs.NodesLemmas.{stays}
-use Rattle.gb_isolation.proofs.NoticeLemmas.{numbered_is}
-use Rattle.gb_isolation.proofs.SeenLemmas.{take_front}
+use Rattle.gb_isolation.proofs.{NoticeLemmas.numbered_is, SeenLemmas.take_front}
 use Rattle.gb_isolation.specs.Isolation.{Seen, alone_in, IsIsolated, GroupsAreIsolated}
 use Rattle.gb_isolation.specs.Project.{group_items_of, replies_in}
 use Rattle.gb_trace.specs.Observed.{IsolatedGroupsAreSeenAlone, FedGroupsAreSeenAlone}

@@ -1,6 +1,6 @@
 -- What the programs that read a run keep of it, so that they do not ask its past anew at each event.
 use Rattle.std.specs.Prelude.{ℕ, ◌≡◌, ◌+◌, ◌<◌, ◌≤◌, ◌||◌, Bool, true, false, List, [], length, map, sum, take, nat_eq, nat_le, Option, None, slice_index_or}
-use Rattle.std.specs.HashSet.{contains, IsEmpty}
+use Rattle.std.specs.{HashSet.contains, HashSet.IsEmpty, List.count_by}
 use Rattle.gb_types.specs.declared.{address.Addr.Addr, limits.TheConstants.NODES, node.NodeId.NodeId, plan.Plan.Plan, spec.TenantRow.TenantRow}
 use Rattle.gb_frame.specs.Common.{Content}
 use Rattle.gb_link.specs.Common.{covers}
@@ -10,7 +10,6 @@ use Rattle.gb_node.specs.Common.{Happened, frames_to, is_acked, is_stopped, tena
 use Rattle.gb_cluster.specs.Common.{Did, past_at}
 use Rattle.gb_isolation.specs.Project.{group_items, has_come, is_met, made_with}
 use Rattle.gb_trace.specs.declared.{frames.Frames.Frames, links.Link.Link, kept.NodeKept.NodeKept}
-use Rattle.std.specs.List.{count_by}
 
 -- for each node, the row of the tenant there after the run, if it was added
 abbrev pub AreRows : ℕ → List Did → List (Option TenantRow) → Type 0

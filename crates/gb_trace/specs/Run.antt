@@ -5,9 +5,7 @@ use Rattle.gb_node.specs.Common.{is_stopped}
 use Rattle.gb_node.specs.declared.{answer.NodeAnswer.NodeAnswer, event.NodeEvent.TheVariants.Request as Asked}
 use Rattle.gb_cluster.specs.Common.{ClusterValue, past_at}
 use Rattle.gb_cluster.specs.declared.{answer.Answer.Answer, answer.Answer.TheVariants.Reply as AnswerReply, event.Event.Event, event.Event.TheVariants.At, posted.Posted.Posted}
-use Rattle.gb_isolation.specs.Isolation.{IsIsolated, wants_memory}
-use Rattle.gb_isolation.specs.Project.{is_fed, is_own_request}
-use Rattle.gb_isolation.specs.RunLaws.{fetched_alone, to_fetch}
+use Rattle.gb_isolation.specs.{Isolation.IsIsolated, Isolation.wants_memory, Project.is_fed, Project.is_own_request, RunLaws.fetched_alone, RunLaws.to_fetch}
 use Rattle.gb_trace.specs.Trace.{own_answer, run_of, IsRun}
 
 -- each group that had no request refused for lack of memory is what it is alone

@@ -1,7 +1,6 @@
 //! What packets add to the projection of a run on a group.
 ghost use Rattle.std.specs.Prelude.{◌≡◌, ◌++◌, ◌&&◌, not, [], OnOk, length, reverse, if◌then◌else◌, map};
-ghost use Rattle.std.specs.List.{flat_map};
-ghost use Rattle.std.specs.Option.{option_to_list};
+ghost use Rattle.std.specs.{List.flat_map, Option.option_to_list};
 ghost use Rattle.gb_link.specs.Ack.{covers as is_covered};
 ghost use Rattle.gb_node.specs.Past as packets;
 ghost use Rattle.gb_node.specs.Common.{node_numbered};

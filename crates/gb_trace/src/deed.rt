@@ -18,8 +18,7 @@ pub(crate) struct Deed {
 }
 
 impl Model for Deed {
-    ghost use Rattle.std.specs.Coded.{codes, coded_ℕ};
-    ghost use Rattle.std.specs.Ordering.{nat_cmp};
+    ghost use Rattle.std.specs.{Coded.codes, Coded.coded_ℕ, Ordering.nat_cmp};
     ghost use Rattle.std.specs.FinSet as set;
     ghost use Rattle.gb_cluster.specs.Common.{Did};
 

@@ -1,6 +1,5 @@
 //! Questions about what happened at a node, one thing at a time, and about its requests.
-ghost use Rattle.std.specs.Prelude.{◌≡◌, ◌&&◌, List};
-ghost use Rattle.std.specs.Option.{option_copied};
+ghost use Rattle.std.specs.{Prelude.◌≡◌, Prelude.◌&&◌, Prelude.List, Option.option_copied};
 ghost use Rattle.gb_rules.specs.Common.{row_of};
 ghost use Rattle.gb_node.specs.Common.{added, tenants_in};
 ghost use Rattle.gb_node.specs.Past as occurred;

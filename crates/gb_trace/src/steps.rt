@@ -1,6 +1,5 @@
 //! Lists of the steps of a group, as they are put together.
-ghost use Rattle.std.specs.Prelude.{◌≡◌, ◌++◌, OnOk};
-ghost use Rattle.std.specs.Option.{option_to_list};
+ghost use Rattle.std.specs.{Prelude.◌≡◌, Prelude.◌++◌, Prelude.OnOk, Option.option_to_list};
 
 use gb_alone::{GroupEvent, GroupStep};
 use gb_types::{NodeId, OutOfMemory};

@@ -1,10 +1,8 @@
 -- A test on all members of a set of nodes may read them in any order.
 use Rattle.std.proofs.Common.{◌≡◌, ℕ, Bool, true, false, ◌&&◌, ◌||◌, nat_eq, List, [], ◌∷◌, refl, ap, sym, ◌∙◌}
-use Rattle.std.specs.Ordering.{nat_cmp}
-use Rattle.std.specs.List.{list_any, list_all}
+use Rattle.std.specs.{Ordering.nat_cmp, List.list_any, List.list_all}
 use Rattle.std.specs.FinSet as fin
-use Rattle.std.proofs.Math.Bool.{or-true}
-use Rattle.std.proofs.lemmas.Bool.{eqb-true, eq-eqb}
+use Rattle.std.proofs.{Math.Bool.or-true, lemmas.Bool.eqb-true, lemmas.Bool.eq-eqb}
 use Rattle.gb_types.specs.Rising.{rising, AreNodes}
 use Rattle.gb_types.proofs.BoolLemmas.{and_left, and_right}
 use Rattle.gb_types.proofs.CoverLemmas.{all_members, not_all_members}

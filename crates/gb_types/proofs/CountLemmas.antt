@@ -3,10 +3,8 @@ use Rattle.std.proofs.Common.{◌≡◌, ℕ, zero, suc, ◌+◌, ◌%◌, ◌^�
 use lib.Count.{ones-ones}
 use Rattle.std.specs.Int.{bit_at}
 use Rattle.std.specs.FinSet as fin
-use Rattle.std.proofs.lemmas.Bool.Decides.{nat_tests}
-use Rattle.std.proofs.lemmas.List.Sums.{sum_by-cons}
+use Rattle.std.proofs.{lemmas.Bool.Decides.nat_tests, lemmas.List.Sums.sum_by-cons, lemmas.Nat.Bits.bit_at_and, lemmas.Nat.Bits.bit_at-lt}
 use Rattle.std.proofs.lemmas.Nat.{pow_pos, mod-pow-add, ones-le, ones_cat, and_le_l}
-use Rattle.std.proofs.lemmas.Nat.Bits.{bit_at_and, bit_at-lt}
 use Rattle.gb_types.specs.declared.limits.TheConstants.{NODES}
 use Rattle.gb_types.specs.Places.{of_bits, below}
 use Rattle.gb_types.proofs.PlaceLemmas.{at_bit}

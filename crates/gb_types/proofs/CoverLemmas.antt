@@ -1,16 +1,11 @@
 -- A test that each member of a set passes.
 use Rattle.gb_types.specs.declared.limits.TheConstants.{NODES}
 use Rattle.std.proofs.Common.{◌≡◌, ℕ, zero, suc, ◌+◌, ◌-◌, ◌/◌, ◌%◌, ◌^◌, ◌<◌, ◌≤◌, min, max, Bool, true, false, List, [], ◌∷◌, nat_eq, nat_lt, bit_and, bit_or, ◌||◌, ◌&&◌, refl, ap, sym, ◌∙◌, arith, inl, inr}
-use Rattle.std.specs.Int.{bit_at}
-use Rattle.std.specs.Ordering.{nat_cmp, eq_by_cmp}
-use Rattle.std.specs.List.{list_any, list_all}
+use Rattle.std.specs.{Int.bit_at, Ordering.nat_cmp, Ordering.eq_by_cmp, List.list_any, List.list_all, Cmp.nat_cmp_total, Cmp.unsigned_tied}
 use Rattle.std.specs.FinSet as fin
-use Rattle.std.specs.Cmp.{nat_cmp_total, unsigned_tied}
 use Rattle.std.proofs.lemmas.Bool.{cases_lt, eqb-true, eq-eqb, ltb-true, lt-ltb}
-use Rattle.std.proofs.lemmas.Bool.Decides.{nat_tests}
-use Rattle.std.proofs.lemmas.Nat.{shr-shr}
+use Rattle.std.proofs.{lemmas.Bool.Decides.nat_tests, lemmas.Nat.shr-shr, Math.Bool.or-true}
 use Rattle.std.proofs.lemmas.Nat.Bits.{same_from_bits, bit_at_and, bit_at_or, bit_at-zero, bit_at-lt}
-use Rattle.std.proofs.Math.Bool.{or-true}
 use Rattle.gb_types.specs.Places.{of_bits}
 use Rattle.gb_types.proofs.PlaceLemmas.{at_bit, in_range, zero_bit}
 use Rattle.gb_types.proofs.BoolLemmas.{and_left, and_right}

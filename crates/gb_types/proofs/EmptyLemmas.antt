@@ -1,11 +1,8 @@
 -- Only the word without a bit represents the empty set.
 use Rattle.std.proofs.Common.{◌≡◌, ◌↔◌, ℕ, ◌<◌, ◌^◌, nat_eq, sym, ap, ◌∙◌}
-use Rattle.std.specs.Int.{bit_at}
-use Rattle.std.specs.Bool.{IsTrue}
-use Rattle.std.specs.Ordering.{nat_cmp}
+use Rattle.std.specs.{Int.bit_at, Bool.IsTrue, Ordering.nat_cmp}
 use Rattle.std.specs.FinSet as fin
-use Rattle.std.proofs.lemmas.Bool.{eqb-true, eq-eqb}
-use Rattle.std.proofs.lemmas.Nat.Bits.{same_from_bits, bit_at-zero, bit_at-lt}
+use Rattle.std.proofs.{lemmas.Bool.eqb-true, lemmas.Bool.eq-eqb, lemmas.Nat.Bits.same_from_bits, lemmas.Nat.Bits.bit_at-zero, lemmas.Nat.Bits.bit_at-lt}
 use Rattle.gb_types.specs.Places.{of_bits}
 use Rattle.gb_types.proofs.PlaceLemmas.{at_bit, of_bits-none, zero_bit}
 

@@ -1,7 +1,6 @@
 -- The elements of a set of numbers after a number was inserted.
 use Rattle.std.proofs.Common.{◌≡◌, ℕ, ◌||◌, nat_eq, ap, ◌∙◌, arith}
-use Rattle.std.specs.Cmp.{nat_cmp_total, unsigned_tied}
-use Rattle.std.specs.Ordering.{nat_cmp}
+use Rattle.std.specs.{Cmp.nat_cmp_total, Cmp.unsigned_tied, Ordering.nat_cmp}
 use Rattle.std.specs.FinSet as set
 use Rattle.std.proofs.lemmas.Bool.Decides.{nat_tests}
 

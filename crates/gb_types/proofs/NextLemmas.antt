@@ -2,9 +2,7 @@
 use Rattle.std.proofs.Common.{◌≡◌, ℕ, ◌+◌, ◌-◌, ◌/◌, ◌^◌, ◌<◌, cond, nat_eq, [], ◌∷◌, refl, sym, ap, ◌∙◌, arith, inl, inr, w32}
 use Rattle.std.specs.Int.{bit_at, trailing_zeros}
 use Rattle.std.specs.FinSet as fin
-use Rattle.std.proofs.lemmas.Bool.{cases_lt}
-use Rattle.std.proofs.lemmas.Nat.{shr_le}
-use Rattle.std.proofs.lemmas.Nat.Bits.{bit_at-trailing_zeros, bit_at-zero, bit_at_above}
+use Rattle.std.proofs.{lemmas.Bool.cases_lt, lemmas.Nat.shr_le, lemmas.Nat.Bits.bit_at-trailing_zeros, lemmas.Nat.Bits.bit_at-zero, lemmas.Nat.Bits.bit_at_above}
 use Rattle.gb_types.specs.declared.limits.TheConstants.{NODES}
 use Rattle.gb_types.specs.Places.{of_bits}
 use Rattle.gb_types.specs.Rising.{rising_from}

@@ -1,14 +1,9 @@
 -- The set that a word represents.
 use Rattle.gb_types.specs.declared.limits.TheConstants.{NODES}
 use Rattle.std.proofs.Common.{◌≡◌, ℕ, zero, suc, ◌<◌, ◌^◌, ◌*◌, ◌%◌, Bool, true, false, nat_eq, nat_lt, bit_or, ◌||◌, ◌&&◌, refl, ap, sym, ◌∙◌, arith, inl, inr, w32, ◌≢◌}
-use Rattle.std.specs.Int.{bit_at}
-use Rattle.std.specs.Ordering.{nat_cmp, eq_by_cmp}
-use Rattle.std.specs.List.{list_any}
+use Rattle.std.specs.{Int.bit_at, Ordering.nat_cmp, Ordering.eq_by_cmp, List.list_any, FinSet.nat_cmp-IsAntisymmetric, Cmp.nat_cmp_total, Cmp.unsigned_tied}
 use Rattle.std.specs.FinSet as fin
-use Rattle.std.specs.FinSet.{nat_cmp-IsAntisymmetric}
-use Rattle.std.specs.Cmp.{nat_cmp_total, unsigned_tied}
-use Rattle.std.proofs.lemmas.Bool.{cases_lt}
-use Rattle.std.proofs.lemmas.Bool.Decides.{nat_tests}
+use Rattle.std.proofs.{lemmas.Bool.cases_lt, lemmas.Bool.Decides.nat_tests}
 use Rattle.std.proofs.lemmas.Nat.Bits.{bit_at-zero, bit_at_above, bit_at_set_same, bit_at_set_other}
 use Rattle.gb_types.specs.Places.{of_bits, below}
 

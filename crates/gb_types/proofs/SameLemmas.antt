@@ -1,9 +1,6 @@
 use Rattle.gb_types.specs.declared.{limits.TheConstants.NODES, message.MsgId.MsgId, node.NodeId.NodeId}
 use Rattle.std.proofs.Common.{◌≡◌, true, arith, ◌<◌}
-use Rattle.std.proofs.lemmas.Bool.{eqb-true}
-use Rattle.std.proofs.lemmas.Bool.Decides.{nat_tests}
-use Rattle.std.proofs.Math.Path.{to_path_p}
-use Rattle.std.proofs.Math.Bridge.{le_prop}
+use Rattle.std.proofs.{lemmas.Bool.eqb-true, lemmas.Bool.Decides.nat_tests, Math.Path.to_path_p, Math.Bridge.le_prop}
 use Rattle.gb_types.specs.Message.{same}
 use Rattle.gb_types.proofs.BoolLemmas.{and_left, and_right}
 

@@ -1,11 +1,8 @@
 -- The bits of two words together.
 use Rattle.std.proofs.Common.{◌≡◌, ℕ, ◌<◌, ◌||◌, ◌&&◌, max, nat_eq, nat_lt, bit_or, sym, ap, ◌∙◌, arith}
-use Rattle.std.specs.Int.{bit_at}
-use Rattle.std.specs.Cmp.{nat_cmp_total}
+use Rattle.std.specs.{Int.bit_at, Cmp.nat_cmp_total, FinSet.nat_cmp-IsAntisymmetric}
 use Rattle.std.specs.FinSet as fin
-use Rattle.std.specs.FinSet.{nat_cmp-IsAntisymmetric}
-use Rattle.std.proofs.lemmas.Bool.Decides.{nat_tests}
-use Rattle.std.proofs.lemmas.Nat.Bits.{bit_at_or, bit_at-lt}
+use Rattle.std.proofs.{lemmas.Bool.Decides.nat_tests, lemmas.Nat.Bits.bit_at_or, lemmas.Nat.Bits.bit_at-lt}
 use Rattle.gb_types.specs.declared.limits.TheConstants.{NODES}
 use Rattle.gb_types.specs.Places.{of_bits}
 use Rattle.gb_types.proofs.PlaceLemmas.{contains-of_bits}

@@ -3,8 +3,7 @@ use Rattle.std.proofs.Common.{◌≡◌, ℕ, ◌≤◌, lit≤, true, false, co
 use Rattle.std.specs.Prelude.{◌==◌}
 use Rattle.std.proofs.lemmas.Bool.{eqb-true}
 use Rattle.gb_types.specs.Version.{limits_of, version_named}
-use Rattle.gb_types.specs.declared.version.Version.{Version}
-use Rattle.gb_types.specs.declared.version.Version.TheVariants.{One, Two, Three}
+use Rattle.gb_types.specs.declared.{version.Version.Version, version.Version.TheVariants.One, version.Version.TheVariants.Two, version.Version.TheVariants.Three}
 use Rattle.gb_types.proofs.ReadLemmas.{some_same}
 
 -- a version's byte stands for it

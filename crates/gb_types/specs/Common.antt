@@ -16,20 +16,12 @@ pub use Rattle.std.specs.Int.{IsInRange, Width, bit_at, bit_not, byte_len, from_
 pub use Rattle.std.proofs.lemmas.Option.{get_or_from_slice_get, none-some, same_Some, slice_get-get_or, slice_get-map, slice_get_cases, slice_get_past, slice_get_read, slice_get_within}
 pub use Rattle.std.proofs.Math.Seq.{drop-append-add, drop-append_seam, drop-nil, get_or-append_seam, map-set_same, take-append-add, take-append_seam, take-length, take-nil, take-suc, take-suc-set}
 pub use Rattle.std.proofs.lemmas.List.Folds.{find-append, find_at, flat_map-map, length-flat_map-take, list_all-append, list_any-append, list_any_at, list_any_none, position_or_len-set}
-pub use Rattle.std.specs.Result.{result_eq}
-pub use Rattle.gb_types.specs.CommandWords.{SpellsCommand, SpellsFetch, head_word}
+pub use Rattle.std.specs.Result.{result_eq, result_ok}
+pub use Rattle.std.specs.Bool.{then_some}
 pub use Rattle.gb_types.specs.Entry.{message_of}
-pub use Rattle.gb_types.specs.KindWord.{kind_word, module_word, order_word}
-pub use Rattle.gb_types.specs.Laws.{FitsEntry, FitsReply, OneTextOneReply, OneWordOneKind}
-pub use Rattle.gb_types.specs.MembersWord.{members_word}
 pub use Rattle.gb_types.specs.Message.{same}
-pub use Rattle.gb_types.specs.PayloadWord.{payload_of, payload_word}
 pub use Rattle.gb_types.specs.Places.{below, common, has_majority}
 pub use Rattle.gb_types.specs.Refusal.{refusal_name, refusal_number}
-pub use Rattle.gb_types.specs.ReplyText.{entry_text, reply_spelling}
-pub use Rattle.gb_types.specs.RequestWords.{IsGroup, IsLong, IsShort, SpellsMessage, group_word, seq_words, with_dot}
 pub use Rattle.gb_types.specs.Rising.{AreNodes}
 unfoldable pub use Rattle.gb_types.specs.Rising.{rising, rising_from}
-pub use Rattle.gb_types.specs.TokenWord.{token_of}
 pub use Rattle.gb_types.specs.Version.{bounds_of, limits_are_within, limits_of, version_at, version_named}
-pub use Rattle.gb_types.specs.Words.{words_of}

@@ -1,7 +1,6 @@
 -- Words with a bit for each node, and the sets that they represent.
 use Rattle.std.specs.Prelude.{ℕ, ◌*◌, Bool, ◌&&◌, count_by, nat_eq, nat_lt, List, [], ◌∷◌}
-use Rattle.std.specs.Int.{bit_at}
-use Rattle.std.specs.Ordering.{nat_cmp}
+use Rattle.std.specs.{Int.bit_at, Ordering.nat_cmp}
 use Rattle.std.specs.FinSet as set
 use Rattle.gb_types.specs.declared.limits.TheConstants.{NODES}
 use Prim.Native.Nat.{zero, suc}

@@ -1,7 +1,6 @@
 -- The numbers of a set of nodes, in order.
 use Rattle.std.specs.Prelude.{◌≡◌, ℕ, ◌-◌, ◌<◌, true, List, filter}
-use Rattle.std.specs.List.{range_with_len}
-use Rattle.std.specs.Ordering.{nat_cmp}
+use Rattle.std.specs.{List.range_with_len, Ordering.nat_cmp}
 use Rattle.std.specs.FinSet as set
 use Rattle.gb_types.specs.declared.limits.TheConstants.{NODES}
 

@@ -1,9 +1,7 @@
 -- The versions of the packet text, and what each allows.
 use Rattle.std.specs.Prelude.{ℕ, ◌==◌, ◌≤◌, List, Option, Some, None, slice_index_or, if◌then◌else◌}
 use Rattle.std.proofs.Common.{lit≤}
-use Rattle.gb_types.specs.declared.limits.TheConstants.{NODES, PAYLOAD, PACKET}
-use Rattle.gb_types.specs.declared.{plan.Bounds.Bounds, plan.Plan.Plan, version.Version.Version, version.VersionLimits.VersionLimits}
-use Rattle.gb_types.specs.declared.version.Version.TheVariants.{One, Two, Three}
+use Rattle.gb_types.specs.declared.{limits.TheConstants.NODES, limits.TheConstants.PAYLOAD, limits.TheConstants.PACKET, plan.Bounds.Bounds, plan.Plan.Plan, version.Version.Version, version.VersionLimits.VersionLimits, version.Version.TheVariants.One, version.Version.TheVariants.Two, version.Version.TheVariants.Three}
 
 -- what a version allows: the byte that stands for it, nodes, bytes of a payload, bytes of a packet, bytes of an item before its payload
 abbrev pub limits_of : Version → VersionLimits

@@ -55,9 +55,8 @@ pub struct NodeSet {
 }
 
 impl Model for NodeSet {
-    ghost use Rattle.std.specs.Ordering.{nat_cmp};
+    ghost use Rattle.std.specs.{Ordering.nat_cmp, Coded.coded_ℕ};
     ghost use Rattle.std.specs.FinSet as set;
-    ghost use Rattle.std.specs.Coded.{coded_ℕ};
     ghost use Rattle.gb_types.specs.Places.{of_bits};
 
     ghost Value = { set.FinSet nat_cmp };

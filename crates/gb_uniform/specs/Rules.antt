@@ -1,6 +1,5 @@
 -- The rules of uniform reliable broadcast.
-use Rattle.std.specs.Prelude.{true, ◌||◌}
-use Rattle.std.specs.List.{list_all}
+use Rattle.std.specs.{Prelude.true, Prelude.◌||◌, List.list_all}
 use Rattle.std.specs.FinSet as set
 use Rattle.gb_types.specs.Common.{has_majority}
 use Rattle.gb_layer.specs.Common.{Rules}

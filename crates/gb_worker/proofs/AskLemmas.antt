@@ -1,9 +1,7 @@
 -- The answers of a session, seen in the seat's list.
 use Rattle.gb_types.specs.Common.{ℕ, List, [], ◌∷◌, ap, subst, Option, Result, Ok, Err, IfOk, IfErr}
 use Rattle.gb_types.specs.declared.{reply.Reply.Reply, request.Request.Request}
-use Rattle.gb_session.specs.Answering.{Answering, IsDenied}
-use Rattle.gb_session.specs.Runs.{IsRun}
-use Rattle.gb_session.specs.Sessions.{IsSession, IsCutOff}
+use Rattle.gb_session.specs.{Answering.Answering, Answering.IsDenied, Runs.IsRun, Sessions.IsSession, Sessions.IsCutOff}
 use Rattle.gb_session.specs.declared.{serve.SessionEnd.SessionEnd, serve.SessionFault.SessionFault}
 
 abbrev Relation : Type 0 → Type 1

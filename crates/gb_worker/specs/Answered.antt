@@ -3,8 +3,7 @@ use Rattle.std.specs.Prelude.{ℕ, ◌+◌, Bool, true, false, cond, List, [], �
 use Rattle.std.specs.FinSet as set
 use Rattle.std.specs.Ordering.{nat_cmp}
 use Rattle.gb_types.specs.declared.{refusal.Refusal.TheVariants.Stopped, node.NodeId.NodeId}
-use Rattle.gb_node.specs.declared.{event.NodeEvent.NodeEvent, answer.NodeAnswer.NodeAnswer, answer.NodeAnswer.TheVariants.Taken, answer.NodeAnswer.TheVariants.Sent, answer.PacketAnswer.TheVariants.Good as TakenGood, answer.PacketAnswer.TheVariants.Refused as TakenRefused, answer.Sent.TheVariants.Packet as SentPacket, answer.Sent.TheVariants.Refused as SentRefused}
-use Rattle.gb_node.specs.declared.event.NodeEvent.TheVariants.{Pack, Again, Ack}
+use Rattle.gb_node.specs.declared.{event.NodeEvent.NodeEvent, answer.NodeAnswer.NodeAnswer, answer.NodeAnswer.TheVariants.Taken, answer.NodeAnswer.TheVariants.Sent, answer.PacketAnswer.TheVariants.Good as TakenGood, answer.PacketAnswer.TheVariants.Refused as TakenRefused, answer.Sent.TheVariants.Packet as SentPacket, answer.Sent.TheVariants.Refused as SentRefused, event.NodeEvent.TheVariants.Pack, event.NodeEvent.TheVariants.Again, event.NodeEvent.TheVariants.Ack}
 use Rattle.gb_host.specs.declared.entry.SeatEntry.{SeatEntry}
 use Rattle.gb_worker.specs.declared.{end.Why.Why, end.Why.TheVariants.Stopped as StoppedThere}
 

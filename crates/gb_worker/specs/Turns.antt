@@ -1,16 +1,14 @@
 -- What a pump adds to its seat's list.
 use Rattle.std.specs.Prelude.{ℕ, zero, suc, ◌≡◌, ◌⊎◌, ◌≤◌, ◌%◌, ◌==◌, ◌&&◌, ◌||◌, not, Bool, List, [], ◌∷◌, ◌++◌, length}
-use Rattle.std.specs.Bool.{MatchBool}
+use Rattle.std.specs.{Bool.MatchBool, Ordering.nat_cmp}
 use Rattle.std.specs.FinSet as set
-use Rattle.std.specs.Ordering.{nat_cmp}
 use Rattle.gb_types.specs.declared.node.NodeId.{NodeId}
 use Rattle.gb_node.specs.declared.{event.NodeEvent.NodeEvent, answer.NodeAnswer.NodeAnswer}
 use Rattle.gb_node.specs.declared.event.NodeEvent.TheVariants.{Packet, Pack, Again, Ack}
 use Rattle.gb_host.specs.declared.entry.SeatEntry.{SeatEntry}
 use Rattle.gb_worker.specs.Answered.{gives_packet, heard_in}
 use Rattle.gb_worker.specs.Gained.{IfDue}
-use Rattle.gb_worker.specs.declared.{end.WorkerEnd.WorkerEnd, end.Why.TheVariants.Turns, end.Why.TheVariants.Gate}
-use Rattle.gb_worker.specs.declared.pump.TheConstants.{PACKETS, AGAIN, ACK}
+use Rattle.gb_worker.specs.declared.{end.WorkerEnd.WorkerEnd, end.Why.TheVariants.Turns, end.Why.TheVariants.Gate, pump.TheConstants.PACKETS, pump.TheConstants.AGAIN, pump.TheConstants.ACK}
 
 -- each entry is the event of bytes that came, at the node
 abbrev pub ArePackets : NodeId → List SeatEntry → Type 0

@@ -1,8 +1,7 @@
 //! The worker that carries a node's packets.
 ghost use Rattle.std.specs.Prelude.{◌≡◌, ◌≢◌, ◌⊎◌, ◌≤◌, ◌+◌, ◌&&◌, ◌==◌, ◌%◌, not, ℕ, Option, Result, Ok, Some, Err, true, false, IfOk, IfErr, IfSome, IfNone, OnOk, OnErr};
 ghost use Rattle.std.specs.FinSet as set;
-ghost use Rattle.std.specs.declared.vec.Vec.{Vec as Bytes};
-ghost use Rattle.std.specs.declared.alloc.Global.{Global as TheGlobal};
+ghost use Rattle.std.specs.declared.{vec.Vec.Vec as Bytes, alloc.Global.Global as TheGlobal};
 ghost use Rattle.gb_types.specs.declared.limits.TheConstants.{NODES};
 ghost use Rattle.gb_node.specs.declared.{answer.NodeAnswer.NodeAnswer as AnswerValue, answer.NodeAnswer.TheVariants.Sent as WasSent, answer.Sent.TheVariants.Packet as SentPacket};
 ghost use Rattle.gb_port.specs.declared.port.PortFault.{PortFault as TheFault};

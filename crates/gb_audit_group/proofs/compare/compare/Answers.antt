@@ -1,10 +1,9 @@
 use Rattle.gb_types.specs.Common.{List, ap, sym, ◌∙◌, subst, bounds_of}
 use Rattle.gb_alone.specs.Common.{alone, IsLegal, observed_alone}
 use Rattle.gb_cluster.specs.Common.{Did}
-use Rattle.gb_merge.specs.Common.{alone_in, project}
+use Rattle.gb_isolation.specs.{Isolation.alone_in, Project.project}
 use Rattle.gb_merge.proofs.RerunLemmas.{NodeLaws}
-use Rattle.gb_trace.specs.Observed.{observed}
-use Rattle.gb_trace.specs.Trace.{run_of}
+use Rattle.gb_trace.specs.{Observed.observed, Trace.run_of}
 use Rattle.gb_audit_group.proofs.PlacedLemmas.{placed_front}
 use Rattle.gb_audit_group.proofs.RerunLemmas.{recorded}
 use Rattle.gb_audit_group.proofs.compare.compare.Goals as goal

@@ -1,5 +1,6 @@
-use Rattle.gb_types.specs.Common.{rules, ◌≡◌, ap, map, ◌∙◌, reply_spelling, words_of}
+use Rattle.gb_types.specs.Common.{rules, ◌≡◌, ap, map, ◌∙◌}
 use Rattle.gb_types.specs.declared.reply.Reply.TheVariants.{Refused}
+use Rattle.gb_spelling.specs.Common.{reply_spelling, words_of}
 use Rattle.gb_client.proofs.ReplyLemmas.{refusal_words_are}
 use Rattle.gb_client.proofs.answer.read_refusal.Goals as goal
 

@@ -1,5 +1,6 @@
-use Rattle.gb_types.specs.Common.{rules, ◌≡◌, ap, ◌∙◌, payload_of, payload_word}
-use Rattle.gb_types.proofs.PayloadLemmas.{payload_of-payload_word}
+use Rattle.gb_types.specs.Common.{rules, ◌≡◌, ap, ◌∙◌}
+use Rattle.gb_spelling.specs.Common.{payload_of, payload_word}
+use Rattle.gb_spelling.proofs.PayloadLemmas.{payload_of-payload_word}
 use Rattle.gb_client.proofs.ReplyLemmas.{none_is_not_some}
 use Rattle.gb_client.proofs.answer.read_written.Goals as goal
 

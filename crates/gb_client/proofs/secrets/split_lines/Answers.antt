@@ -1,6 +1,5 @@
 use Rattle.gb_types.specs.Common.{rules, tests, ◌≡◌, ◌==◌, map, IfOk, slice_split}
-use Rattle.std.proofs.lemmas.Iterator.Consumers.{map_from_collect}
-use Rattle.std.proofs.lemmas.Iterator.Splits.{YieldsList-from_slice_split}
+use Rattle.std.proofs.{lemmas.Iterator.Consumers.map_from_collect, lemmas.Iterator.Splits.YieldsList-from_slice_split}
 use Rattle.gb_client.proofs.secrets.split_lines.Goals as goal
 
 pub returns : goal.returns

@@ -1,5 +1,6 @@
-use Rattle.gb_types.specs.Common.{refl, sym, ap, subst, ◌∙◌, ◌++◌, ◌∷◌, [], reply_spelling}
+use Rattle.gb_types.specs.Common.{refl, sym, ap, subst, ◌∙◌, ◌++◌, ◌∷◌, []}
 use Rattle.std.specs.Io.KnownBytes.{Appends}
+use Rattle.gb_spelling.specs.Common.{reply_spelling}
 use Rattle.gb_client.specs.Answers.{lines_of, reply_status}
 use Rattle.gb_client_run.specs.Following.{HasFollowed}
 use Rattle.gb_client_run.proofs.FollowLemmas.{follows_more, ends_refused}

@@ -1,4 +1,5 @@
-use Rattle.gb_types.specs.Common.{◌≡◌, [], inl, inr, refl, sym, ap, ◌∙◌, arith, reply_spelling}
+use Rattle.gb_types.specs.Common.{◌≡◌, [], inl, inr, refl, sym, ap, ◌∙◌, arith}
+use Rattle.gb_spelling.specs.Common.{reply_spelling}
 use Rattle.gb_client_run.specs.Groups.{outcome_status}
 use Rattle.gb_client_run.proofs.AskedLemmas.{done_then}
 use Rattle.gb_client_run.proofs.groups.ask_at.Goals as goal

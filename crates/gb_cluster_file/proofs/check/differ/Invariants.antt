@@ -1,6 +1,5 @@
 use Rattle.gb_types.specs.Common.{◌≡◌, ℕ, ◌<◌, Some}
-use Rattle.toml.specs.Data.{Data, get_item}
-use Rattle.toml.specs.View.{items_view}
+use Rattle.toml.specs.{Data.Data, Data.get_item, View.items_view}
 use Rattle.gb_cluster_file.specs.Cluster.{IsSame}
 use Rattle.gb_cluster_file.proofs.check.differ.Given as goal
 

@@ -1,6 +1,5 @@
 use Rattle.gb_types.specs.Common.{◌≤◌, ◌∙◌, Some, ap, sym, subst}
-use Rattle.toml.specs.Data.{Data}
-use Rattle.toml.specs.View.{view, table_view}
+use Rattle.toml.specs.{Data.Data, View.view, View.table_view}
 use Rattle.toml.proofs.Views.{table_get}
 use Rattle.gb_cluster_file.proofs.FaultLemmas.{no_number}
 use Rattle.gb_cluster_file.proofs.ViewLemmas.{find_none, find_some}

@@ -1,6 +1,5 @@
 use Rattle.gb_types.specs.Common.{◌∙◌, Some, ap}
-use Rattle.toml.specs.Data.{Data}
-use Rattle.toml.specs.View.{view, table_view}
+use Rattle.toml.specs.{Data.Data, View.view, View.table_view}
 use Rattle.toml.proofs.Views.{table_get}
 use Rattle.gb_cluster_file.specs.Fields.{place_name_of}
 use Rattle.gb_cluster_file.proofs.ViewLemmas.{find_none, find_some, no_text, no_place_text, string_is}

@@ -1,6 +1,5 @@
 use Rattle.gb_types.specs.Common.{◌≡◌, ◌<◌, ◌∙◌, Some, ap, sym, arith, limits_of}
-use Rattle.toml.specs.Data.{Data}
-use Rattle.toml.specs.View.{items_view}
+use Rattle.toml.specs.{Data.Data, View.items_view}
 use Rattle.gb_types.specs.declared.version.VersionLimits.{VersionLimits}
 use Rattle.gb_cluster_file.specs.Cluster.{item_count}
 use Rattle.gb_cluster_file.proofs.ViewLemmas.{item_count-view}

@@ -1,6 +1,5 @@
 use Rattle.gb_types.specs.Common.{◌∙◌, ap, sym}
-use Rattle.toml.specs.Data.{array}
-use Rattle.toml.specs.View.{items_view}
+use Rattle.toml.specs.{Data.array, View.items_view}
 use Rattle.gb_cluster_file.proofs.ViewLemmas.{array_is}
 use Rattle.gb_cluster_file.proofs.check.values_of.Goals as goal
 

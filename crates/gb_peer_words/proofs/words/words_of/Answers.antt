@@ -1,8 +1,7 @@
 use Rattle.gb_types.specs.Common.{◌∙◌, Option, ap, codes, option_map, sym}
 use Rattle.std.specs.Borrow.{Bor}
 use Rattle.clap.specs.Words.{Text, first_of, found_of, rows_of}
-use Rattle.clap.proofs.CallerLemmas.{some_of_text}
-use Rattle.clap.proofs.WalkLemmas.{first_value-rows}
+use Rattle.clap.proofs.{CallerLemmas.some_of_text, WalkLemmas.first_value-rows}
 use Rattle.gb_peer_words.proofs.words.words_of.Goals as goal
 
 pub unwrap-cluster-requires : goal.unwrap-cluster-requires

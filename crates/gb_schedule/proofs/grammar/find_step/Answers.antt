@@ -1,5 +1,6 @@
-use Rattle.gb_types.specs.Common.{◌≡◌, get_or, ap, sym, ◌∙◌, arith, words_of}
-use Rattle.gb_types.specs.declared.command_words.CommandHead.TheVariants.{Fetch}
+use Rattle.gb_types.specs.Common.{◌≡◌, get_or, ap, sym, ◌∙◌, arith}
+use Rattle.gb_spelling.specs.Common.{words_of}
+use Rattle.gb_spelling.specs.declared.command_words.CommandHead.TheVariants.{Fetch}
 use Rattle.gb_schedule.specs.declared.head.Head.TheVariants.{Pack, Group, Tick, Stop}
 use Rattle.gb_schedule.proofs.HeadLemmas.{step_found, no_step}
 use Rattle.gb_schedule.proofs.grammar.find_step.Goals as goal

@@ -1,4 +1,5 @@
-use Rattle.gb_types.specs.Common.{◌≡◌, get_or, ap, arith, words_of}
+use Rattle.gb_types.specs.Common.{◌≡◌, get_or, ap, arith}
+use Rattle.gb_spelling.specs.Common.{words_of}
 use Rattle.gb_schedule.specs.declared.head.Head.TheVariants.{Again, Ack, Arrive}
 use Rattle.gb_schedule.proofs.HeadLemmas.{step_found, no_step}
 use Rattle.gb_schedule.proofs.grammar.find_step_of_a.Goals as goal

@@ -1,5 +1,5 @@
 use Rattle.gb_types.specs.Common.{List, ℕ, sym, subst}
-use Rattle.gb_types.specs.declared.command_words.CommandHead.TheVariants.{Fetch}
+use Rattle.gb_spelling.specs.declared.command_words.CommandHead.TheVariants.{Fetch}
 use Rattle.gb_schedule.specs.declared.command.Command.TheVariants.{Step}
 use Rattle.gb_schedule.specs.Grammar.{SpellsGroup}
 use Rattle.gb_schedule.proofs.grammar.read_any_fetch.Goals as goal

@@ -1,4 +1,5 @@
-use Rattle.gb_types.specs.Common.{[], arith, SpellsFetch}
+use Rattle.gb_types.specs.Common.{[], arith}
+use Rattle.gb_spelling.specs.Common.{SpellsFetch}
 use Rattle.gb_types.specs.declared.request.GroupCommand.TheVariants.{Fetch}
 use Rattle.gb_types.proofs.ReadLemmas.{words_and_rest, none_made}
 use Rattle.gb_schedule.proofs.GroupLemmas.{fetch_reads, nothing_asked}

@@ -1,6 +1,5 @@
 use Rattle.gb_types.specs.Common.{◌∙◌, arith}
-use Rattle.gb_types.proofs.SameLemmas.{same_number}
-use Rattle.gb_types.proofs.ReadLemmas.{found, only, reads_one}
+use Rattle.gb_types.proofs.{SameLemmas.same_number, ReadLemmas.found, ReadLemmas.only, ReadLemmas.reads_one}
 use Rattle.gb_schedule.proofs.RowLemmas.{IsNodeWord}
 use Rattle.gb_schedule.proofs.grammar.read_node.Goals as goal
 

@@ -1,9 +1,8 @@
 -- The parts of the word, one a turn.
 use Rattle.gb_types.specs.Common.{◌≡◌, ◌<◌, ◌≤◌, ◌+◌, length, get_or, sym, ap, ◌∙◌, subst, arith, rules, tests, eqb, refl, length_push, limits_of}
 use Rattle.std.specs.Slice.Iter.{split_rest, split_done, split_callee}
-use Rattle.std.proofs.lemmas.Iterator.Consumers.{YieldsList-turn, YieldsList-end}
-use Rattle.std.proofs.lemmas.Iterator.Splits.{YieldsList-from_slice_split}
-use Rattle.gb_types.proofs.MembersLemmas.{parts_of}
+use Rattle.std.proofs.{lemmas.Iterator.Consumers.YieldsList-turn, lemmas.Iterator.Consumers.YieldsList-end, lemmas.Iterator.Splits.YieldsList-from_slice_split}
+use Rattle.gb_spelling.proofs.MembersLemmas.{parts_of}
 use Rattle.gb_types.proofs.ReadLemmas.{found, only}
 use Rattle.gb_schedule.proofs.VersionLemmas.{number, none_read, more_read, too_many, too_few, refuses, answers}
 use Rattle.gb_schedule.proofs.versions.read_versions.Goals as goal

@@ -1,5 +1,5 @@
 use Rattle.gb_types.specs.Common.{◌≡◌, length}
-use Rattle.gb_types.proofs.MembersLemmas.{parts_of}
+use Rattle.gb_spelling.proofs.MembersLemmas.{parts_of}
 use Rattle.gb_schedule.proofs.VersionLemmas.{AreReadTo}
 use Rattle.gb_schedule.proofs.versions.read_versions.Given as goal
 

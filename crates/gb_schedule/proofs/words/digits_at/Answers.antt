@@ -1,6 +1,6 @@
 use Rattle.gb_types.specs.Common.{common_steps, ◌≡◌, ◌≤◌, ◌+◌, ◌-◌, ◌*◌, ◌%◌, ◌^◌, ◌∙◌, take, drop, get_or, sym, ap, subst, length-drop, rules, arith, IsInRange, get_or-drop}
 use Rattle.std.specs.Str.Parse.{AllDigits, digits_value}
-use Rattle.gb_types.proofs.NumberLemmas.{is_digit}
+use Rattle.gb_spelling.proofs.NumberLemmas.{is_digit}
 use Rattle.gb_schedule.proofs.NumbersLemmas.{more_digit}
 use Rattle.gb_schedule.proofs.words.digits_at.Goals as goal
 

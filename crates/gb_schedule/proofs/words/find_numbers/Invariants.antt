@@ -1,4 +1,5 @@
-use Rattle.gb_types.specs.Common.{◌≡◌, ◌≤◌, ◌++◌, map, take, drop, length, decimal, words_of}
+use Rattle.gb_types.specs.Common.{◌≡◌, ◌≤◌, ◌++◌, map, take, drop, length, decimal}
+use Rattle.gb_spelling.specs.Common.{words_of}
 use Rattle.gb_schedule.specs.declared.words.TheConstants.{NUMBERS}
 use Rattle.gb_schedule.specs.Numbers.{AllFit}
 use Rattle.gb_schedule.proofs.words.find_numbers.Given as goal

@@ -1,5 +1,6 @@
-use Rattle.gb_types.specs.Common.{common_steps, ◌≡◌, [], ◌∷◌, ◌+◌, ◌∙◌, ◌<◌, drop, length, get_or, decimal, ap, sym, length-drop, arith, get_or-drop, drop-drop, words_of}
-use Rattle.gb_types.proofs.NumberLemmas.{no_digit}
+use Rattle.gb_types.specs.Common.{common_steps, ◌≡◌, [], ◌∷◌, ◌+◌, ◌∙◌, ◌<◌, drop, length, get_or, decimal, ap, sym, length-drop, arith, get_or-drop, drop-drop}
+use Rattle.gb_spelling.specs.Common.{words_of}
+use Rattle.gb_spelling.proofs.NumberLemmas.{no_digit}
 use Rattle.gb_types.proofs.ReadLemmas.{found}
 use Rattle.gb_schedule.proofs.NumbersLemmas.{last_digits, next_digits, no_number, no_number_first}
 use Rattle.gb_schedule.proofs.words.number_at.Goals as goal

@@ -1,5 +1,5 @@
 use Rattle.gb_types.specs.Common.{get_or, sym, subst, rules, arith, Some, None, ◌+◌}
-use Rattle.gb_types.proofs.NumberLemmas.{is_digit}
+use Rattle.gb_spelling.proofs.NumberLemmas.{is_digit}
 use Rattle.gb_schedule.specs.Numbers.{IsNumberAt}
 use Rattle.gb_schedule.proofs.NumbersLemmas.{last_digit, next_digit}
 use Rattle.gb_schedule.proofs.words.one_digit_at.Goals as goal

@@ -1,4 +1,5 @@
-use Rattle.gb_types.specs.Common.{◌≡◌, ◌++◌, map, take, length, words_of}
+use Rattle.gb_types.specs.Common.{◌≡◌, ◌++◌, map, take, length}
+use Rattle.gb_spelling.specs.Common.{words_of}
 use Rattle.gb_schedule.specs.declared.words.TheConstants.{WORDS}
 use Rattle.gb_schedule.proofs.words.words_in.Given as goal
 

@@ -1,6 +1,5 @@
 use Rattle.gb_types.specs.Common.{◌<◌, ◌*◌, ◌/◌, ◌%◌, ◌^◌, ◌∙◌, min, get_or, ap, sym, refl, arith, w64, bit_not}
-use Rattle.std.proofs.lemmas.Nat.{and_le_l}
-use Rattle.std.proofs.lemmas.Nat.Bits.{bit_at_clear_same, bit_at_clear_other}
+use Rattle.std.proofs.{lemmas.Nat.and_le_l, lemmas.Nat.Bits.bit_at_clear_same, lemmas.Nat.Bits.bit_at_clear_other}
 use Rattle.gb_table.proofs.PlaceSetLemmas.{has-set-same, has-set-other, summary-set}
 use Rattle.gb_table.proofs.place_set.remove_of.Goals as goal
 

@@ -4,8 +4,7 @@ use Rattle.gb_frame.proofs.VersionLemmas.{room_within}
 use Rattle.gb_table.specs.Common.{batch, items}
 use Rattle.gb_node.specs.Frames.{FrameWindow, window_of, AreBatches}
 use Rattle.gb_node.proofs.FrameLemmas.{more_batches}
-use Rattle.std.specs.declared.vec.Vec.{Vec}
-use Rattle.std.specs.declared.alloc.Global.{Global}
+use Rattle.std.specs.declared.{vec.Vec.Vec, alloc.Global.Global}
 use Rattle.gb_link.specs.Common.{SendWindow, pushed}
 use Rattle.gb_node.proofs.PackLemmas.{some_bytes, batch_written, batch_is, pushed_frame}
 use Rattle.gb_node.proofs.window.Window.pack.Goals as goal

@@ -1,8 +1,7 @@
 use Rattle.gb_types.specs.Common.{◌≡◌, ◌<◌, ◌≤◌, ℕ, List, [], ◌∷◌, length, map, ap, refl, sym, subst, ◌∙◌, arith, Some, if◌then◌else◌, set, length-map}
 use Rattle.indexmap.specs.IndexMap.{insert_entry}
 use Rattle.slab.specs.Slab.{Slab, get}
-use Rattle.gb_types.specs.declared.{address.Addr.Addr, spec.Spec.Spec}
-use Rattle.gb_types.specs.declared.limits.TheConstants.{NODES, PAYLOAD, PLACES}
+use Rattle.gb_types.specs.declared.{address.Addr.Addr, spec.Spec.Spec, limits.TheConstants.NODES, limits.TheConstants.PAYLOAD, limits.TheConstants.PLACES}
 use Rattle.gb_types.specs.contracts.address.AddrPartialEq.TheImpl.{ghosts}
 use Rattle.gb_rules.specs.Common.{is_addr, payload_in, name_of}
 use Rattle.gb_rules.specs.declared.room.TheConstants.{ROOMS}

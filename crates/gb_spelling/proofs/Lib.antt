@@ -1,0 +1,10 @@
+pub mod GroupWordLemmas
+pub mod NumberLemmas
+pub mod MembersLemmas
+pub mod CutLemmas
+pub mod PayloadLemmas
+pub mod ReplyLemmas
+pub mod WordLemmas
+pub mod RequestWordLemmas
+pub mod CommandLemmas
+pub mod LogTextLemmas

@@ -1,0 +1,10 @@
+pub mod KindWord
+pub mod PayloadWord
+pub mod ReplyText
+pub mod MembersWord
+pub mod Laws
+pub mod Words
+pub mod RequestWords
+pub mod CommandWords
+pub mod TokenWord
+pub mod Common

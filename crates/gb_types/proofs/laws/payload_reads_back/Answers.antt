@@ -1,5 +1,0 @@
-use Rattle.gb_types.proofs.PayloadLemmas.{payload_of-payload_word}
-use Rattle.gb_types.proofs.laws.payload_reads_back.Goals as goal
-
-pub returns : goal.returns
-returns c = payload_of-payload_word

@@ -1,7 +1,0 @@
-use Rattle.std.proofs.Common.{◌≤◌, ◌++◌, take, length, codes}
-use Rattle.std.specs.List.{flat_map}
-use Rattle.gb_types.specs.ReplyText.{entry_text}
-use Rattle.gb_types.proofs.log_text.room_for.Given as goal
-
-abbrev pub invariant-loop-entry : goal.invariant-loop-entry
-invariant-loop-entry l = length (flat_map (λ e. codes " " ++ entry_text e) (take l.entry-index l.entries)) ≤ l.room

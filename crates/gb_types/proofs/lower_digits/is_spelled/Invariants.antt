@@ -1,7 +1,0 @@
-use Rattle.std.proofs.Common.{◌≡◌}
-use Rattle.hex.specs.Hex.{encode_lower}
-use Rattle.gb_types.proofs.lower_digits.is_spelled.Given as goal
-
--- the digits are those of the bytes where what is left of them is
-abbrev pub invariant-loop : goal.invariant-loop
-invariant-loop l = encode_lower l.left ≡ l.digits → encode_lower l.bytes ≡ l.word

@@ -1,6 +1,0 @@
-use Rattle.std.proofs.Common.{length}
-use Rattle.gb_types.proofs.MembersLemmas.{parts_of, IsReadTo}
-use Rattle.gb_types.proofs.members_word.read_members.Given as goal
-
-abbrev pub invariant-loop-part : goal.invariant-loop-part
-invariant-loop-part l = IsReadTo (parts_of l.word) (length l.yielded) l.members l.lowest

@@ -1,8 +1,0 @@
-use Rattle.std.proofs.Common.{arith}
-use Rattle.gb_types.proofs.members_word.read_node.Goals as goal
-
-pub overflow_cast-number : goal.overflow_cast-number
-overflow_cast-number c = let spelt = (c.read_number.ensures c.in_ok-number.number).0 c.in_ok-number.was in omega (arith, spelt)
-
-pub new-requires : goal.new-requires
-new-requires c = let spelt = (c.read_number.ensures c.in_ok-number.number).0 c.in_ok-number.was in omega (arith, spelt)

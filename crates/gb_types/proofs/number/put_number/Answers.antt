@@ -1,6 +1,0 @@
-use Rattle.std.proofs.Common.{rules}
-use Rattle.std.proofs.lemmas.Fmt.{decimal_digit}
-use Rattle.gb_types.proofs.number.put_number.Goals as goal
-
-pub returns-then-number-lt10-clause-ok : goal.returns-then-number-lt10-clause-ok
-returns-then-number-lt10-clause-ok c = rw (decimal_digit c.args.number c.if-number-lt10.true) (search rules)

@@ -1,6 +1,0 @@
-use Rattle.std.proofs.Common.{◌≡◌, take}
-use Rattle.std.specs.Str.Parse.{AllDigits, digits_value}
-use Rattle.gb_types.proofs.number.read_digits.Given as goal
-
-abbrev pub invariant-loop-byte : goal.invariant-loop-byte
-invariant-loop-byte l = AllDigits 10 (take l.byte-index l.word) × (digits_value 10 (take l.byte-index l.word) ≡ l.number)

@@ -1,6 +1,0 @@
-use Rattle.std.proofs.Common.{arith}
-use Rattle.gb_types.proofs.ReadLemmas.{found}
-use Rattle.gb_types.proofs.request_words.read_u32.Goals as goal
-
-pub overflow_cast-result : goal.overflow_cast-result
-overflow_cast-result c = let read = found _ c.in_ok-read_number.field-0 c.in_ok-read_number.ensures in omega arith
