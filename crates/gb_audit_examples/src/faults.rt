@@ -98,9 +98,11 @@ fn an_answer_is_another(rt: HostRuntime) {
 // The packet that no tape sent, and each entry behind it, are not in the run.
 #[test]
 fn a_front_ends_where_a_packet_was_never_sent(rt: HostRuntime) {
-    judge_part(&rt, rt.alloc(), Part::Front, &UNSENT, Ok(&[]));
-    judge_part(&rt, rt.alloc(), Part::Front, &STUCK, Ok(&["2a"]));
-    judge_part(&rt, rt.alloc(), Part::Front, &STRANGER, Ok(&[]));
+    let none: &[&str] = &[];
+    let first: &[&str] = &["2a"];
+    judge_part(&rt, rt.alloc(), Part::Front, &UNSENT, Ok(none));
+    judge_part(&rt, rt.alloc(), Part::Front, &STUCK, Ok(first));
+    judge_part(&rt, rt.alloc(), Part::Front, &STRANGER, Ok(none));
 }
 
 // A packet of the second node comes to the first, whose tick follows. The second node's tape is lost: the first ends before that

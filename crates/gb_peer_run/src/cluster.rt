@@ -34,15 +34,18 @@ pub fn host_plan(file: &ClusterFile, keys: Keys, records: bool) -> HostPlan
     ensures is { result ≡ host_of file.now keys records }
     ensures limits { IsPlan result }
 {
-    let keys = keys_of_run(keys, file.run);
+    let Keys {
+        cluster: cluster_key,
+        admin: admin_key,
+    } = keys_of_run(keys, file.run);
     let cluster = Plan {
         nodes: node_count(file),
         versions: [file.version; NODES],
         silence: file.silence,
         places: ROOMS,
         room: file.room,
-        cluster_key: keys.cluster,
-        admin_key: keys.admin,
+        cluster_key,
+        admin_key,
     };
     HostPlan {
         cluster,

@@ -1,8 +1,14 @@
 // Whole nodes, which are told to stop as soon as they serve.
 use crate::folders::{file, folder};
-use crate::runs::run_node;
+use crate::runs::{Run, run_node};
+use std::alloc::{AllocGlobal, Global};
 use std::fs;
+use std::fs::{File, Files};
+use std::net::{Net, TcpListener, TcpStream};
 use std::rt::HostRuntime;
+use std::sync::Wait;
+use std::thread::Threads;
+use std::time::Clock;
 
 // Two nodes on this machine, the second of which names the machine by a name.
 static TWO: &[u8] =
@@ -38,22 +44,27 @@ static ENDS: [(&str, u8, &[u8], &[u8], &[u8]); 3] = [
     ),
 ];
 
+// Runs a node with this number of a file, which is told to stop.
+fn run_numbered<
+    H: Net<Listener = TcpListener, Stream = TcpStream>
+        + Threads
+        + Wait
+        + Clock
+        + Sync
+        + Files<File = File>
+        + AllocGlobal,
+>(rt: &H, alloc: Global, name: &str, dir: &str, node: &str) -> Run {
+    let words = ["gb_peer", "--cluster", name, "--node", node, "--dir", dir];
+    run_node(rt, alloc, &words, STOP)
+}
+
 #[test]
 fn nodes_are_served_by_number(rt: HostRuntime) {
     let alloc = rt.alloc();
     let dir = folder(&rt, alloc).expect(&rt, "a folder");
     let name = file(&rt, alloc, &dir, TWO).expect(&rt, "a file");
     for (node, status, lines, first, last) in &ENDS {
-        let words = [
-            "gb_peer",
-            "--cluster",
-            name.as_str(),
-            "--node",
-            node,
-            "--dir",
-            dir.as_str(),
-        ];
-        let run = run_node(&rt, alloc, &words, STOP);
+        let run = run_numbered(&rt, alloc, name.as_str(), dir.as_str(), *node);
         assert!(rt; run.has_logged(*status, lines, first, last));
     }
     let _ = fs::remove_dir_all(&rt, dir.as_str());
