@@ -454,7 +454,7 @@ fn come_and_go(
 }
 
 /// Returns how many pages of memory this process has asked for, and how many it holds. `None` if the system does not tell.
-fn pages(rt: &HostRuntime) -> Option<(u64, u64)> {
+pub fn pages(rt: &HostRuntime) -> Option<(u64, u64)> {
     let text = fs::read_to_string(rt, "/proc/self/statm").ok()?;
     let mut words = text.split(' ');
     let asked = words.next()?.parse::<u64>().ok()?;
