@@ -19,6 +19,16 @@ pub struct Held {
     pub given: bool,
 }
 
+/// What a relay decides by which messages it hands up: its rule, its node, the members of the group, and the nodes that are held for
+/// crashed.
+#[derive_where(Clone, Copy)]
+pub(crate) struct Basis<'a, R> {
+    pub rule: &'a R,
+    pub me: NodeId,
+    pub members: &'a NodeSet,
+    pub noticed: &'a NodeSet,
+}
+
 /// Returns what is remembered of a message that was not mentioned before.
 #[inline(always)]
 fn nothing_held() -> Held
@@ -63,15 +73,15 @@ pub(crate) fn is_due<R: Rule>(one: &Held, m: MsgId, rule: &R, me: NodeId, notice
 
 /// Returns true if the message `m`, of which this is remembered, is here and is to be handed up.
 #[inline(always)]
-pub(crate) fn is_ready<R: Rule>(
-    one: &Held,
-    rule: &R,
-    me: NodeId,
-    members: &NodeSet,
-    noticed: &NodeSet,
-) -> bool
-    ensures { (m : MsgId) → result ≡ due_to_deliver R.rules me members.now noticed.now (entry_of m one.now) }
+pub(crate) fn is_ready<R: Rule>(one: &Held, basis: Basis<'_, R>) -> bool
+    ensures { (m : MsgId) → result ≡ due_to_deliver R.rules basis.entry.me basis.entry.members.now basis.entry.noticed.now (entry_of m one.now) }
 {
+    let Basis {
+        rule,
+        me,
+        members,
+        noticed,
+    } = basis;
     !one.given && (one.holders.contains(me) && rule.delivers(members, noticed, &one.holders))
 }
 
@@ -130,24 +140,21 @@ pub(crate) fn deliver_at<R: Rule, O: Sink>(
     column: &mut Vec<Held>,
     index: &Index,
     i: usize,
-    rule: &R,
-    me: NodeId,
-    members: &NodeSet,
-    noticed: &NodeSet,
+    basis: Basis<'_, R>,
     out: &mut O,
 )
     requires known { i < length column.old.items }
     requires within { length column.old.items ≤ length index.now.list.items }
     requires room { O.takes (O.state index.now.list.items out.old)
-        (ups_alone (map up_of (filter (due_to_deliver R.rules me members.now noticed.now) (get_or (zipped index.now.list.items column.old.items) i no_entry ∷ [])))) }
+        (ups_alone (map up_of (filter (due_to_deliver R.rules basis.me basis.members.now basis.noticed.now) (get_or (zipped index.now.list.items column.old.items) i no_entry ∷ [])))) }
     ensures entries { zipped index.now.list.items column.new.items
-        ≡ set (zipped index.now.list.items column.old.items) i (handed (due_to_deliver R.rules me members.now noticed.now) (get_or (zipped index.now.list.items column.old.items) i no_entry)) }
+        ≡ set (zipped index.now.list.items column.old.items) i (handed (due_to_deliver R.rules basis.entry.me basis.entry.members.now basis.entry.noticed.now) (get_or (zipped index.now.list.items column.old.items) i no_entry)) }
     ensures out { O.state index.now.list.items out.new
-        ≡ fold O.risen (O.state index.now.list.items out.old) (map up_of (filter (due_to_deliver R.rules me members.now noticed.now) (get_or (zipped index.now.list.items column.old.items) i no_entry ∷ []))) }
+        ≡ fold O.risen (O.state index.now.list.items out.old) (map up_of (filter (due_to_deliver R.rules basis.entry.me basis.entry.members.now basis.entry.noticed.now) (get_or (zipped index.now.list.items column.old.items) i no_entry ∷ []))) }
     ensures len { vec_len column.new ≡ vec_len column.old }
     ensures capacity { vec_capacity column.new ≡ vec_capacity column.old }
 {
-    if is_ready(&column[i], rule, me, members, noticed) {
+    if is_ready(&column[i], basis) {
         give_one(&mut column[i]);
         let place = i as u16;
         let m = index.message(place);
@@ -160,23 +167,20 @@ pub(crate) fn deliver_at<R: Rule, O: Sink>(
 pub(crate) fn deliver_all<R: Rule, O: Sink>(
     column: &mut Vec<Held>,
     index: &Index,
-    rule: &R,
-    me: NodeId,
-    members: &NodeSet,
-    noticed: &NodeSet,
+    basis: Basis<'_, R>,
     out: &mut O,
 )
     requires within { length column.old.items ≤ length index.now.list.items }
     requires room { O.takes (O.state index.now.list.items out.old)
-        (ups_alone (map up_of (filter (due_to_deliver R.rules me members.now noticed.now) (zipped index.now.list.items column.old.items)))) }
-    ensures entries { zipped index.now.list.items column.new.items ≡ map (handed (due_to_deliver R.rules me members.now noticed.now)) (zipped index.now.list.items column.old.items) }
+        (ups_alone (map up_of (filter (due_to_deliver R.rules basis.me basis.members.now basis.noticed.now) (zipped index.now.list.items column.old.items)))) }
+    ensures entries { zipped index.now.list.items column.new.items ≡ map (handed (due_to_deliver R.rules basis.entry.me basis.entry.members.now basis.entry.noticed.now)) (zipped index.now.list.items column.old.items) }
     ensures out { O.state index.now.list.items out.new
-        ≡ fold O.risen (O.state index.now.list.items out.old) (map up_of (filter (due_to_deliver R.rules me members.now noticed.now) (zipped index.now.list.items column.old.items))) }
+        ≡ fold O.risen (O.state index.now.list.items out.old) (map up_of (filter (due_to_deliver R.rules basis.entry.me basis.entry.members.now basis.entry.noticed.now) (zipped index.now.list.items column.old.items))) }
     ensures len { vec_len column.new ≡ vec_len column.old }
     ensures capacity { vec_capacity column.new ≡ vec_capacity column.old }
 {
     let count = column.len();
     for i in 0..count {
-        deliver_at(column, index, i, rule, me, members, noticed, out);
+        deliver_at(column, index, i, basis, out);
     }
 }

@@ -13,7 +13,7 @@ ghost use Rattle.gb_layer.specs.Column.{zipped};
 ghost use Rattle.gb_layer.specs.Due.{OnlyDueAt};
 
 use crate::below::call_lower;
-use crate::column::{Held, deliver_all, deliver_at, is_due, mark_sent, note, was_sent};
+use crate::column::{Basis, Held, deliver_all, deliver_at, is_due, mark_sent, note, was_sent};
 use crate::effects::Room;
 use crate::index::Index;
 use crate::laws::{Broadcast, Lawful};
@@ -134,17 +134,13 @@ impl<L: Focused, R: Rule> Relay<L, R> {
         ensures known { (w : ℕ) → Knows L.knows index.now.list.items self.old w → Knows L.knows index.now.list.items self.new w }
     {
         self.relay_at(index, i, out);
-        let me = self.lower.me();
-        deliver_at(
-            &mut self.column,
-            index,
-            i,
-            &self.rule,
-            me,
-            &self.members,
-            &self.noticed,
-            out,
-        );
+        let basis = Basis {
+            rule: &self.rule,
+            me: self.lower.me(),
+            members: &self.members,
+            noticed: &self.noticed,
+        };
+        deliver_at(&mut self.column, index, i, basis, out);
     }
 
     /// Relays each message that is due, and then hands up each message that is due.
@@ -163,16 +159,13 @@ impl<L: Focused, R: Rule> Relay<L, R> {
         ensures known { (w : ℕ) → Knows L.knows index.now.list.items self.old w → Knows L.knows index.now.list.items self.new w }
     {
         self.relay_all(index, out);
-        let me = self.lower.me();
-        deliver_all(
-            &mut self.column,
-            index,
-            &self.rule,
-            me,
-            &self.members,
-            &self.noticed,
-            out,
-        );
+        let basis = Basis {
+            rule: &self.rule,
+            me: self.lower.me(),
+            members: &self.members,
+            noticed: &self.noticed,
+        };
+        deliver_all(&mut self.column, index, basis, out);
     }
 
     /// Says the message at `place` below, unless it was sent from here.

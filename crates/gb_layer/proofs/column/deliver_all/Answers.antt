@@ -13,7 +13,7 @@ use Rattle.gb_layer.proofs.column.deliver_all.Goals as goal
 pub loop-i-init : goal.loop-i-init
 loop-i-init g c =
     let ms = c.args.index.now.list.items in
-    let due = due_to_deliver g.R.Rule.rules c.args.me c.args.members.now c.args.noticed.now in
+    let due = due_to_deliver g.R.Rule.rules c.args.basis.me c.args.basis.members.now c.args.basis.noticed.now in
     let zs = zipped ms c.args.column.now.items in
     record {
       len = refl;
@@ -32,7 +32,7 @@ split zs es f i e lt lt' =
 pub deliver_at-requires-clause-room : goal.deliver_at-requires-clause-room
 deliver_at-requires-clause-room g c =
     let ms = c.args.index.now.list.items in
-    let due = due_to_deliver g.R.Rule.rules c.args.me c.args.members.now c.args.noticed.now in
+    let due = due_to_deliver g.R.Rule.rules c.args.basis.me c.args.basis.members.now c.args.basis.noticed.now in
     let zs = zipped ms c.args.column.now.items in
     let es = zipped ms c.loop-i.column.items in
     let i = c.loop-i.i in
@@ -55,7 +55,7 @@ deliver_at-requires-clause-room g c =
 pub loop-i-preserved : goal.loop-i-preserved
 loop-i-preserved g c =
     let ms = c.args.index.now.list.items in
-    let due = due_to_deliver g.R.Rule.rules c.args.me c.args.members.now c.args.noticed.now in
+    let due = due_to_deliver g.R.Rule.rules c.args.basis.me c.args.basis.members.now c.args.basis.noticed.now in
     let zs = zipped ms c.args.column.now.items in
     let es = zipped ms c.loop-i.column.items in
     let i = c.loop-i.i in
@@ -89,7 +89,7 @@ loop-i-preserved g c =
 pub returns-clause-entries : goal.returns-clause-entries
 returns-clause-entries g c =
     let ms = c.args.index.now.list.items in
-    let due = due_to_deliver g.R.Rule.rules c.args.me c.args.members.now c.args.noticed.now in
+    let due = due_to_deliver g.R.Rule.rules c.args.basis.me c.args.basis.members.now c.args.basis.noticed.now in
     let zs = zipped ms c.args.column.now.items in
     let test = c.loop-i-test.false in
     let ok = c.args.column.now.ok.0 in
@@ -101,7 +101,7 @@ returns-clause-entries g c =
 pub returns-clause-out : goal.returns-clause-out
 returns-clause-out g c =
     let ms = c.args.index.now.list.items in
-    let due = due_to_deliver g.R.Rule.rules c.args.me c.args.members.now c.args.noticed.now in
+    let due = due_to_deliver g.R.Rule.rules c.args.basis.me c.args.basis.members.now c.args.basis.noticed.now in
     let zs = zipped ms c.args.column.now.items in
     let s = g.O.Sink.state ms c.loop-i.out in
     let test = c.loop-i-test.false in

@@ -8,7 +8,7 @@ abbrev pub invariant-loop-i : goal.invariant-loop-i
 invariant-loop-i g l =
     let ms = l.index.list.items in
     let zs = zipped ms l.fn.column.items in
-    let due = due_to_deliver g.R.Rule.rules l.me l.members l.noticed in
+    let due = due_to_deliver g.R.Rule.rules l.basis.me l.basis.members.now l.basis.noticed.now in
     record {
       len : vec_len l.column ≡ vec_len l.fn.column;
       capacity : vec_capacity l.column ≡ vec_capacity l.fn.column;

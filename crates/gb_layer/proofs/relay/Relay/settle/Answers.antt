@@ -57,10 +57,10 @@ deliver_at-requires-clause-room g c =
     let us = given_ups L.me R (relayed L.next L.gives L.me R r) in
     let one = one_sends L.next L.gives L.me R stays own ms r i order lt c.requires.alone in
     let first = g.met.O.Sink.splits.then s xs (ups_alone us) (subst (λ (ys : List MsgId). g.O.Sink.takes s (record { sends = ys; ups = us })) (one ∙ sym (append-nil xs)) c.requires.room) in
-    let state = one_state L.next L.gives L.me R stays own ms r i order lt c.requires.alone q c.relay_at.ensures.state lt' c.me-me.result (c.me-me.ensures ms) in
+    let state = one_state L.next L.gives L.me R stays own ms r i order lt c.requires.alone q c.relay_at.ensures.state lt' c.me.result (c.me.ensures ms) in
     let then = subst (λ (v : State L.State). g.O.Sink.takes (fold g.O.Sink.sent s xs) (ups_alone (given_ups L.me R v))) (sym state) first in
     let here = subst (λ (v : g.O.Sink.State). g.O.Sink.takes v (ups_alone (given_ups L.me R q))) (sym c.relay_at.ensures.out) then in
-    subst (λ (vs : List Up). g.O.Sink.takes t (ups_alone vs)) (sym (one_up L.next L.gives L.me R stays own ms r i order lt c.requires.alone q c.relay_at.ensures.state lt' c.me-me.result (c.me-me.ensures ms))) here
+    subst (λ (vs : List Up). g.O.Sink.takes t (ups_alone vs)) (sym (one_up L.next L.gives L.me R stays own ms r i order lt c.requires.alone q c.relay_at.ensures.state lt' c.me.result (c.me.ensures ms))) here
 
 pub returns-clause-state : goal.returns-clause-state
 returns-clause-state g c =
@@ -81,9 +81,9 @@ returns-clause-state g c =
     let more = length-zipped ms next.column.items (c.relay_at.ensures.known c.requires.known.0 c.requires.known.1).within in
     let same = c.relay_at.ensures.len in
     let lt' : i < length q.entries = omega (arith, within, same, more) in
-    let entries = c.deliver_at.ensures.entries ∙ one_given L.next L.gives L.me R stays own ms r i order lt c.requires.alone q c.relay_at.ensures.state lt' c.me-me.result (c.me-me.ensures ms) in
+    let entries = c.deliver_at.ensures.entries ∙ one_given L.next L.gives L.me R stays own ms r i order lt c.requires.alone q c.relay_at.ensures.state lt' c.me.result (c.me.ensures ms) in
     (λ j. record { lower = q.lower; members = q.members; noticed = q.noticed; entries = entries j })
-    ∙ ap (given L.me R) (one_state L.next L.gives L.me R stays own ms r i order lt c.requires.alone q c.relay_at.ensures.state lt' c.me-me.result (c.me-me.ensures ms))
+    ∙ ap (given L.me R) (one_state L.next L.gives L.me R stays own ms r i order lt c.requires.alone q c.relay_at.ensures.state lt' c.me.result (c.me.ensures ms))
 
 pub returns-clause-out : goal.returns-clause-out
 returns-clause-out g c =
@@ -107,8 +107,8 @@ returns-clause-out g c =
     let s = g.O.Sink.state ms c.args.out.now in
     let t = g.O.Sink.state ms c.relay_at.new.out in
     let out = c.relay_at.ensures.out ∙ ap (fold g.O.Sink.sent s) (sym (one_sends L.next L.gives L.me R stays own ms r i order lt c.requires.alone)) in
-    let state = one_state L.next L.gives L.me R stays own ms r i order lt c.requires.alone q c.relay_at.ensures.state lt' c.me-me.result (c.me-me.ensures ms) in
-    c.deliver_at.ensures.out ∙ (ap (fold g.O.Sink.risen t) (one_up L.next L.gives L.me R stays own ms r i order lt c.requires.alone q c.relay_at.ensures.state lt' c.me-me.result (c.me-me.ensures ms)) ∙ (λ j. fold g.O.Sink.risen (out j) (given_ups L.me R (state j))))
+    let state = one_state L.next L.gives L.me R stays own ms r i order lt c.requires.alone q c.relay_at.ensures.state lt' c.me.result (c.me.ensures ms) in
+    c.deliver_at.ensures.out ∙ (ap (fold g.O.Sink.risen t) (one_up L.next L.gives L.me R stays own ms r i order lt c.requires.alone q c.relay_at.ensures.state lt' c.me.result (c.me.ensures ms)) ∙ (λ j. fold g.O.Sink.risen (out j) (given_ups L.me R (state j))))
 
 pub returns-clause-len : goal.returns-clause-len
 returns-clause-len g c =

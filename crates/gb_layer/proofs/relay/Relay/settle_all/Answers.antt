@@ -34,7 +34,7 @@ deliver_all-requires-clause-room g c =
     let first = g.met.O.Sink.splits.then s xs (ups_alone us) (subst (λ (ys : List MsgId). g.O.Sink.takes s (record { sends = ys; ups = us })) (sym (append-nil xs)) c.requires.room) in
     let then = subst (λ (q : State L.State). g.O.Sink.takes (fold g.O.Sink.sent s xs) (ups_alone (given_ups L.me R q))) (sym c.relay_all.ensures.state) first in
     let here = subst (λ (t : g.O.Sink.State). g.O.Sink.takes t (ups_alone (given_ups L.me R (state_of L.meaning ms next)))) (sym c.relay_all.ensures.out) then in
-    subst (λ (n : NodeId). g.O.Sink.takes (g.O.Sink.state ms c.relay_all.new.out) (ups_alone (map up_of (filter (due_to_deliver R n next.members next.noticed) (zipped ms next.column.items))))) (sym (c.me-me.ensures ms)) here
+    subst (λ (n : NodeId). g.O.Sink.takes (g.O.Sink.state ms c.relay_all.new.out) (ups_alone (map up_of (filter (due_to_deliver R n next.members next.noticed) (zipped ms next.column.items))))) (sym (c.me.ensures ms)) here
 
 pub returns-clause-state : goal.returns-clause-state
 returns-clause-state g c =
@@ -42,7 +42,7 @@ returns-clause-state g c =
     let R = g.R.Rule.rules in
     let ms = c.args.index.now.list.items in
     let next = c.relay_all.new.self in
-    let entries = c.deliver_all.ensures.entries ∙ ap (λ (n : NodeId). map (handed (due_to_deliver R n next.members next.noticed)) (zipped ms next.column.items)) (c.me-me.ensures ms) in
+    let entries = c.deliver_all.ensures.entries ∙ ap (λ (n : NodeId). map (handed (due_to_deliver R n next.members next.noticed)) (zipped ms next.column.items)) (c.me.ensures ms) in
     (λ j. record { lower = L.meaning ms next.lower; members = next.members; noticed = next.noticed; entries = entries j }) ∙ ap (given L.me R) c.relay_all.ensures.state
 
 pub returns-clause-out : goal.returns-clause-out
@@ -55,7 +55,7 @@ returns-clause-out g c =
     let s = g.O.Sink.state ms c.args.out.now in
     let xs = relayed_sends L.next L.gives L.me R r in
     c.deliver_all.ensures.out
-    ∙ ((λ j. fold g.O.Sink.risen (c.relay_all.ensures.out j) (map up_of (filter (due_to_deliver R (c.me-me.ensures ms j) next.members next.noticed) (zipped ms next.column.items))))
+    ∙ ((λ j. fold g.O.Sink.risen (c.relay_all.ensures.out j) (map up_of (filter (due_to_deliver R (c.me.ensures ms j) next.members next.noticed) (zipped ms next.column.items))))
     ∙ ap (λ (q : State L.State). fold g.O.Sink.risen (fold g.O.Sink.sent s xs) (given_ups L.me R q)) c.relay_all.ensures.state)
 
 pub returns-clause-len : goal.returns-clause-len
