@@ -76,6 +76,15 @@ pub enum Step {
     Ended(SessionEnd),
 }
 
+// How far a piece of a client's stream is answered where it lies.
+#[derive(Drop)]
+struct Progress {
+    // The number of bytes at the front that are answered.
+    at: usize,
+    // The number of messages that may still be answered.
+    left: u64,
+}
+
 /// A session: the bytes that came and are not answered yet, and the number of messages that may still be answered. It keeps no
 /// memory while it keeps no bytes.
 #[derive(Drop)]
@@ -300,27 +309,29 @@ fn answer_front<A: Answers>(
     }
 }
 
-// Answers the message behind the first `at` bytes as `answer_front` does, and steps over it if it is answered.
+// Answers the message in front of the bytes that are not answered yet, as `answer_front` does, and steps over it if it is answered.
 fn answer_one<A: Answers>(
     answers: &mut A,
     bytes: &[u8],
-    at: &mut usize,
-    left: &mut u64,
+    progress: &mut Progress,
     is_late: bool,
     out: &mut Vec<u8>,
 ) -> Result<Next, OutOfMemory>
-    requires { at.old ≤ length bytes.now }
-    ensures within { at.new ≤ length bytes.now }
-    ensures ok { IfOk result (λ next. IsNext A.answers is_late answers.old answers.new (drop at.old bytes.now) left.old out.old.items out.new.items next
-        × (session_at bytes.now at.new left.new ≡ behind (session_at bytes.now at.old left.old) next)) }
-    ensures err { OnErr result (FailsNext A.answers is_late answers.old answers.new (drop at.old bytes.now) left.old out.old.items out.new.items) }
-    ensures stays { OnErr result ((at.new ≡ at.old) × (left.new ≡ left.old)) }
+    requires { progress.old.at ≤ length bytes.now }
+    ensures within { progress.new.at ≤ length bytes.now }
+    ensures ok { IfOk result (λ next. IsNext A.answers is_late answers.old answers.new (drop progress.old.at bytes.now) progress.old.left
+        out.old.items out.new.items next
+        × (session_at bytes.now progress.new.at progress.new.left ≡ behind (session_at bytes.now progress.old.at progress.old.left) next)) }
+    ensures err { OnErr result (FailsNext A.answers is_late answers.old answers.new (drop progress.old.at bytes.now) progress.old.left
+        out.old.items out.new.items) }
+    ensures stays { OnErr result ((progress.new.at ≡ progress.old.at) × (progress.new.left ≡ progress.old.left)) }
 {
     let alloc = *out.allocator();
-    match answer_front(alloc, answers, &bytes[*at..], *left, is_late, out)? {
+    let rest = &bytes[progress.at..];
+    match answer_front(alloc, answers, rest, progress.left, is_late, out)? {
         Next::Answered(end) => {
-            *at += end;
-            *left -= 1;
+            progress.at += end;
+            progress.left -= 1;
             Ok(Next::Answered(end))
         }
         Next::Hungry => Ok(Next::Hungry),
@@ -329,28 +340,27 @@ fn answer_one<A: Answers>(
     }
 }
 
-// Answers the messages behind the first `at` bytes that are whole, in turn, while there is room, and steps over them.
+// Answers the whole messages of the bytes that are not answered yet, in turn, while there is room, and steps over them.
 fn answer_each<A: Answers>(
     answers: &mut A,
     bytes: &[u8],
-    at: &mut usize,
-    left: &mut u64,
+    progress: &mut Progress,
     is_late: bool,
     out: &mut Vec<u8>,
     room: usize,
 ) -> Result<Step, OutOfMemory>
-    requires { at.old ≤ length bytes.now }
-    ensures within { at.new ≤ length bytes.now }
-    ensures ok { IfOk result (Takes A.answers is_late answers.old answers.new (drop at.old bytes.now) (drop at.new bytes.now)
-        out.old.items out.new.items left.old left.new room) }
-    ensures fails { OnErr result (BreaksOff A.answers is_late answers.old answers.new (drop at.old bytes.now) (drop at.new bytes.now)
-        out.old.items out.new.items left.old left.new room) }
+    requires { progress.old.at ≤ length bytes.now }
+    ensures within { progress.new.at ≤ length bytes.now }
+    ensures ok { IfOk result (Takes A.answers is_late answers.old answers.new (drop progress.old.at bytes.now) (drop progress.new.at bytes.now)
+        out.old.items out.new.items progress.old.left progress.new.left room) }
+    ensures fails { OnErr result (BreaksOff A.answers is_late answers.old answers.new (drop progress.old.at bytes.now) (drop progress.new.at bytes.now)
+        out.old.items out.new.items progress.old.left progress.new.left room) }
 {
     'messages: loop {
         if out.len() >= room {
             return Ok(Step::Full);
         }
-        match answer_one(answers, bytes, at, left, is_late, out)? {
+        match answer_one(answers, bytes, progress, is_late, out)? {
             Next::Answered(_) => {}
             Next::Hungry => return Ok(Step::Hungry),
             Next::Parked(awaited) => return Ok(Step::Parked(awaited)),
@@ -479,18 +489,18 @@ impl Session {
         self.at == self.bytes.len()
     }
 
-    // Keeps the bytes behind the first `at`, in memory that is there, and nothing else.
-    fn keep(&mut self, memory: Vec<u8>, bytes: &[u8], at: usize, left: u64)
+    // Keeps the bytes that are not answered yet, in memory that is there, and nothing else.
+    fn keep(&mut self, memory: Vec<u8>, bytes: &[u8], progress: Progress)
         requires empty { memory.items ≡ [] }
         requires room { length bytes.now ≤ vec_capacity memory }
-        requires within { at ≤ length bytes.now }
-        ensures { self.new ≡ session_at bytes.now at left }
+        requires within { progress.at ≤ length bytes.now }
+        ensures { self.new ≡ session_at bytes.now progress.at progress.left }
     {
         let mut memory = memory;
-        memory.extend_from_slice(&bytes[at..]).unwrap();
+        memory.extend_from_slice(&bytes[progress.at..]).unwrap();
         self.bytes = memory;
         self.at = 0;
-        self.left = left;
+        self.left = progress.left;
         self.release();
     }
 
@@ -511,10 +521,12 @@ impl Session {
             out.old.items out.new.items room) }
     {
         let memory = Vec::with_capacity(self.alloc, piece.len())?;
-        let mut at = 0;
-        let mut left = self.left;
-        let step = answer_each(answers, piece, &mut at, &mut left, is_late, out, room);
-        self.keep(memory, piece, at, left);
+        let mut progress = Progress {
+            at: 0,
+            left: self.left,
+        };
+        let step = answer_each(answers, piece, &mut progress, is_late, out, room);
+        self.keep(memory, piece, progress);
         step
     }
 

@@ -5,7 +5,7 @@ use Rattle.gb_session.proofs.session.answer_one.Goals as goal
 
 pub returns-in-Ended-clause-ok : goal.returns-in-Ended-clause-ok
 returns-in-Ended-clause-ok g c = (
-  next_same g.A.Answers.answers c.args.is_late c.args.answers.now c.answer_front.new.answers _ _ c.args.left.now c.args.left.now c.args.out.now.items c.answer_front.new.out.items (Ended c.in-Ended.end)
-      (take_rest c.args.bytes.now c.args.at.now) refl (rw c.in-Ended.is at c.in_ok-end.ensures.ok),
+  next_same g.A.Answers.answers c.args.is_late c.args.answers.now c.answer_front.new.answers _ _ c.args.progress.now.left c.args.progress.now.left c.args.out.now.items c.answer_front.new.out.items (Ended c.in-Ended.end)
+      (take_rest c.args.bytes.now c.args.progress.now.at) refl (rw c.in-Ended.is at c.in_ok-end.ensures.ok),
   refl,
 )
