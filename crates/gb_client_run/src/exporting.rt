@@ -8,29 +8,33 @@ ghost use Rattle.gb_client_run.specs.Exporting.{HasFetched, HasExported};
 use crate::exported::end_line;
 use crate::nodes::Nodes;
 use crate::printing::{print, print_refusal};
-use crate::target::Target;
+use crate::target::Member;
+use gb_client::ClientFault;
 use gb_client::answer::read_reply;
 use gb_client::show::entry_lines;
 use gb_client::task::fetch_of;
-use gb_client::{Asked, ClientFault};
-use gb_types::{Entry, NodeId, Reply};
+use gb_types::{Entry, Reply};
 use std::alloc::Global;
 use std::io::Write;
 
-// The reply of a node to a fetch from a place on. `NoReply`: what came is no reply.
+// The reply of a member to a fetch from a place on. `NoReply`: what came is no reply.
 fn fetch_from<N: Nodes>(
     alloc: Global,
     nodes: &mut N,
-    target: Target<'_>,
-    node: NodeId,
-    asked: &Asked<'_>,
+    member: Member<'_>,
     place: u32,
 ) -> Result<Reply, ClientFault>
-    ensures { IfOk result (HasFetched N.asks target.entry.secrets.now target.entry.server.port node (map (λ word. word.now) asked.now.words.items)
-        place nodes.old nodes.new) }
+    ensures { IfOk result (HasFetched N.asks member.entry.target.secrets.now member.entry.target.server.port member.entry.node
+        (map (λ word. word.now) member.entry.asked.now.words.items) place nodes.old nodes.new) }
 {
-    let body = fetch_of(alloc, target.secrets, node, asked, place)?;
-    let port = target.server.sessions_port(node);
+    let body = fetch_of(
+        alloc,
+        member.target.secrets,
+        member.node,
+        member.asked,
+        place,
+    )?;
+    let port = member.target.server.sessions_port(member.node);
     let text = nodes.ask(alloc, port, &body)?;
     match read_reply(alloc, &text)? {
         Some(reply) => Ok(reply),
@@ -71,24 +75,23 @@ fn print_end<W: Write>(alloc: Global, count: u32, writer: &mut W) -> Result<(), 
     print(writer, &line)
 }
 
-/// Fetches the log of the group that `asked` names at `node`, 16 entries at a time from the first one until no more come, and prints it
-/// as a text that can be read again: a line `ORIGIN:SEQ:PAYLOAD` for each entry, and `end COUNT`. Returns the exit status: 0, or 1 if the
-/// node refused; then the refusal is printed in place of the last line. `Err` with the fault if a fetch could not be asked or had no
-/// reply, with `NoReply` if what came is no log, and with `Output` if a line could not be printed.
+/// Fetches the log of the group at `member`, 16 entries at a time from the first one until no more come, and prints it as a text that
+/// can be read again: a line `ORIGIN:SEQ:PAYLOAD` for each entry, and `end COUNT`. Returns the exit status: 0, or 1 if the node refused;
+/// then the refusal is printed in place of the last line. `Err` with the fault if a fetch could not be asked or had no reply, with
+/// `NoReply` if what came is no log, and with `Output` if a line could not be printed.
 pub fn export<N: Nodes, W: Write>(
     alloc: Global,
     nodes: &mut N,
-    target: Target<'_>,
-    node: NodeId,
-    asked: &Asked<'_>,
+    member: Member<'_>,
     writer: &mut W,
 ) -> Result<u8, ClientFault>
-    ensures { IfOk result (HasExported N.asks target.entry.secrets.now target.entry.server.port node (map (λ word. word.now) asked.now.words.items)
+    ensures { IfOk result (HasExported N.asks member.entry.target.secrets.now member.entry.target.server.port member.entry.node
+        (map (λ word. word.now) member.entry.asked.now.words.items)
         nodes.old nodes.new (W.contents writer.old) (W.contents writer.new)) }
 {
     let mut count: u32 = 0;
     'turns: for _ in 0..u32::MAX {
-        let reply = fetch_from(alloc, nodes, target, node, asked, count)?;
+        let reply = fetch_from(alloc, nodes, member, count)?;
         match &reply {
             Reply::Log(entries) => {
                 if entries.is_empty() {

@@ -6,10 +6,10 @@ ghost use Rattle.gb_client_run.specs.Importing.{SaysSo, HasTold, HasSaid, HasSai
 use crate::exported::read_export;
 use crate::nodes::Nodes;
 use crate::printing::{print, print_refusal};
-use crate::target::Target;
+use crate::target::Member;
 use gb_client::answer::read_reply;
 use gb_client::task::ask;
-use gb_client::{Asked, Choice, ClientFault, Secrets};
+use gb_client::{Choice, ClientFault};
 use gb_session::Head;
 use gb_spelling::CommandHead;
 use gb_spelling::number::put_number;
@@ -45,25 +45,20 @@ pub enum Told {
 }
 
 // The body of a say of a payload.
-fn say_of(
-    alloc: Global,
-    secrets: &Secrets,
-    node: NodeId,
-    asked: &Asked<'_>,
-    payload: &[u8],
-) -> Result<Vec<u8>, ClientFault>
-    ensures asked { IfOk result (λ body. SaysSo secrets.now node (map (λ word. word.now) asked.now.words.items) payload.now body.items) }
+fn say_of(alloc: Global, member: Member<'_>, payload: &[u8]) -> Result<Vec<u8>, ClientFault>
+    ensures asked { IfOk result (λ body. SaysSo member.entry.target.secrets.now member.entry.node
+        (map (λ word. word.now) member.entry.asked.now.words.items) payload.now body.items) }
     ensures short { IfOk result (λ body. vec_len body ≤ BODY) }
 {
-    let [tenant, group] = asked.words.as_slice() else {
+    let [tenant, group] = member.asked.words.as_slice() else {
         return Err(ClientFault::Words);
     };
     let mut word = Vec::new(alloc);
     put_payload(&mut word, payload)?;
     ask(
         alloc,
-        secrets,
-        node,
+        member.target.secrets,
+        member.node,
         Head::Group(CommandHead::Say),
         &[tenant.as_bytes(), group.as_bytes(), word.as_slice()],
     )
@@ -84,16 +79,14 @@ fn told_by(reply: &Reply) -> Result<Told, ClientFault>
 fn say_once<N: Nodes>(
     alloc: Global,
     nodes: &mut N,
-    target: Target<'_>,
-    node: NodeId,
-    asked: &Asked<'_>,
+    member: Member<'_>,
     payload: &[u8],
 ) -> Result<Told, ClientFault>
-    ensures { IfOk result (HasTold N.asks target.entry.secrets.now target.entry.server.port node (map (λ word. word.now) asked.now.words.items)
-        payload.now nodes.old nodes.new) }
+    ensures { IfOk result (HasTold N.asks member.entry.target.secrets.now member.entry.target.server.port member.entry.node
+        (map (λ word. word.now) member.entry.asked.now.words.items) payload.now nodes.old nodes.new) }
 {
-    let body = say_of(alloc, target.secrets, node, asked, payload)?;
-    let port = target.server.sessions_port(node);
+    let body = say_of(alloc, member, payload)?;
+    let port = member.target.server.sessions_port(member.node);
     let text = nodes.ask(alloc, port, &body)?;
     let Some(reply) = read_reply(alloc, &text)? else {
         return Err(ClientFault::NoReply);
@@ -107,23 +100,21 @@ fn say<N: Nodes, P: Pauses>(
     alloc: Global,
     nodes: &mut N,
     pauses: &P,
-    target: Target<'_>,
-    node: NodeId,
-    asked: &Asked<'_>,
+    member: Member<'_>,
     payload: &[u8],
     tries: u32,
 ) -> Result<Told, ClientFault>
-    ensures { IfOk result (HasSaid N.asks target.entry.secrets.now target.entry.server.port node (map (λ word. word.now) asked.now.words.items)
-        payload.now nodes.old nodes.new) }
+    ensures { IfOk result (HasSaid N.asks member.entry.target.secrets.now member.entry.target.server.port member.entry.node
+        (map (λ word. word.now) member.entry.asked.now.words.items) payload.now nodes.old nodes.new) }
 {
     'tries: for _ in 0..tries {
-        let told = say_once(alloc, nodes, target, node, asked, payload)?;
+        let told = say_once(alloc, nodes, member, payload)?;
         match told {
             Told::Refused(why) if may_pass(why) => pauses.pause(),
             _ => return Ok(told),
         }
     }
-    let told = say_once(alloc, nodes, target, node, asked, payload)?;
+    let told = say_once(alloc, nodes, member, payload)?;
     Ok(told)
 }
 
@@ -167,20 +158,19 @@ fn say_all<N: Nodes, P: Pauses, W: Write>(
     alloc: Global,
     nodes: &mut N,
     pauses: &P,
-    target: Target<'_>,
-    node: NodeId,
-    asked: &Asked<'_>,
+    member: Member<'_>,
     entries: &[Entry],
     writer: &mut W,
 ) -> Result<(usize, End), ClientFault>
-    ensures said { IfOk result (λ r. HasSaidOn N.asks target.entry.secrets.now target.entry.server.port node (map (λ word. word.now) asked.now.words.items)
+    ensures said { IfOk result (λ r. HasSaidOn N.asks member.entry.target.secrets.now member.entry.target.server.port member.entry.node
+        (map (λ word. word.now) member.entry.asked.now.words.items)
         entries.now nodes.old nodes.new (W.contents writer.old) (W.contents writer.new) r.0 r.1) }
     ensures few { IfOk result (λ r. r.0 ≤ length entries.now) }
 {
-    let tries = target.server.wait.saturating_mul(TRIES);
+    let tries = member.target.server.wait.saturating_mul(TRIES);
     'entries: for (place, entry) in entries.iter().enumerate() {
         let payload = entry.payload.as_slice();
-        match say(alloc, nodes, pauses, target, node, asked, payload, tries) {
+        match say(alloc, nodes, pauses, member, payload, tries) {
             Ok(Told::Said(seq)) => {
                 let line = said_line(alloc, entry, seq)?;
                 print(writer, &line)?;
@@ -231,34 +221,32 @@ fn behind(entries: &[Entry], from: u32) -> &[Entry]
     &entries[from as usize..]
 }
 
-/// Says the entries of the exported log `text` again at `node`, in order, in the group that `asked` names: those that the node's own
-/// member said, or all if `choice.is_all`, without the first `choice.from` of them. Prints `ORIGIN:SEQ said SEQ` for each, with its old
-/// and its new number, and at the end `said COUNT`, which counts the skipped ones too. A say that is refused with `Window` or
-/// `OutOfMemory` is tried again after a pause, for as long as a reply may take; after that, or after any other refusal, the refusal is
-/// printed and the import ends. Returns the exit status: 0 if all were said, 1 after a refusal. `Err` with `NoExport` if `text` is no
-/// exported log; then nothing was said. `Err` with the fault if a say failed, after the last line, and with `Output` or `OutOfMemory` if
-/// a line was not printed.
+/// Says the entries of the exported log `text` again at `member`, in order: those that this member said, or all if `choice.is_all`,
+/// without the first `choice.from` of them. Prints `ORIGIN:SEQ said SEQ` for each, with its old and its new number, and at the end
+/// `said COUNT`, which counts the skipped ones too. A say that is refused with `Window` or `OutOfMemory` is tried again after a pause,
+/// for as long as a reply may take; after that, or after any other refusal, the refusal is printed and the import ends. Returns the exit
+/// status: 0 if all were said, 1 after a refusal. `Err` with `NoExport` if `text` is no exported log; then nothing was said. `Err` with
+/// the fault if a say failed, after the last line, and with `Output` or `OutOfMemory` if a line was not printed.
 pub fn import<N: Nodes, P: Pauses, W: Write>(
     alloc: Global,
     nodes: &mut N,
     pauses: &P,
-    target: Target<'_>,
-    node: NodeId,
-    asked: &Asked<'_>,
+    member: Member<'_>,
     choice: Choice,
     text: &[u8],
     writer: &mut W,
 ) -> Result<u8, ClientFault>
-    ensures { IfOk result (HasImported N.asks target.entry.secrets.now target.entry.server.port node (map (λ word. word.now) asked.now.words.items)
+    ensures { IfOk result (HasImported N.asks member.entry.target.secrets.now member.entry.target.server.port member.entry.node
+        (map (λ word. word.now) member.entry.asked.now.words.items)
         choice text.now nodes.old nodes.new (W.contents writer.old) (W.contents writer.new)) }
 {
     let Some(entries) = read_export(alloc, text)? else {
         return Err(ClientFault::NoExport);
     };
-    let chosen = chosen_of(alloc, entries.as_slice(), node, choice.is_all)?;
+    let chosen = chosen_of(alloc, entries.as_slice(), member.node, choice.is_all)?;
     let rest = behind(chosen.as_slice(), choice.from);
     let skipped = chosen.len() - rest.len();
-    let (count, end) = say_all(alloc, nodes, pauses, target, node, asked, rest, writer)?;
+    let (count, end) = say_all(alloc, nodes, pauses, member, rest, writer)?;
     let line = count_line(alloc, skipped + count)?;
     print(writer, &line)?;
     match end {

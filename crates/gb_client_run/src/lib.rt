@@ -24,4 +24,4 @@ pub use importing::Pauses;
 pub use listed::{ListFault, Listed};
 pub use nodes::Nodes;
 pub use sockets::{Pausing, Sockets};
-pub use target::Target;
+pub use target::{Member, Target};

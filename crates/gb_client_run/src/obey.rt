@@ -8,7 +8,7 @@ use crate::groups::{drop_group, make_group};
 use crate::listing::{print_list, print_status, shut_down};
 use crate::nodes::Nodes;
 use crate::once::ask_once;
-use crate::target::Target;
+use crate::target::{Member, Target};
 use gb_client::{Asked, ClientFault, Errand};
 use gb_session::Head;
 use gb_spelling::CommandHead;
@@ -61,7 +61,14 @@ pub fn obey<N: Nodes, W: Write>(
     match errand {
         Errand::Ask(node, asked) => ask_once(alloc, nodes, target, *node, asked, writer),
         Errand::Follow(_, _, _, _) | Errand::Import(_, _, _) => Err(ClientFault::Words),
-        Errand::Export(node, asked) => export(alloc, nodes, target, *node, asked, writer),
+        Errand::Export(node, asked) => {
+            let member = Member {
+                target,
+                node: *node,
+                asked,
+            };
+            export(alloc, nodes, member, writer)
+        }
         Errand::Group(members, make) => obey_group(
             alloc,
             nodes,

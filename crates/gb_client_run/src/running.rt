@@ -10,7 +10,7 @@ use crate::importing::{Pauses, import};
 use crate::nodes::Nodes;
 use crate::obey::obey;
 use crate::printing::print;
-use crate::target::Target;
+use crate::target::{Member, Target};
 use gb_cap::Need;
 use gb_client::show::token_line;
 use gb_client::{ClientFault, Errand, Secrets, Task};
@@ -60,9 +60,14 @@ fn do_errand<N: Nodes, P: Pauses, R: Read, S: Write, W: Write>(
             *times,
             writer,
         ),
-        Errand::Import(node, asked, choice) => import(
-            alloc, nodes, pauses, target, *node, asked, *choice, log, writer,
-        ),
+        Errand::Import(node, asked, choice) => {
+            let member = Member {
+                target,
+                node: *node,
+                asked,
+            };
+            import(alloc, nodes, pauses, member, *choice, log, writer)
+        }
         _ => obey(alloc, nodes, target, errand, writer),
     }
 }

@@ -5,5 +5,5 @@ use Rattle.gb_client_run.proofs.importing.say_all.Given as goal
 -- the first of the entries were said, and printed
 abbrev pub invariant-entries : goal.invariant-entries
 invariant-entries g l =
-    Says g.N.Nodes.asks l.target.secrets.now l.target.server.port l.node (map (λ word. word.now) l.asked.words.items)
+    Says g.N.Nodes.asks l.member.target.secrets.now l.member.target.server.port l.member.node (map (λ word. word.now) l.member.asked.now.words.items)
     l.entries l.place l.initial.nodes l.nodes (g.W.Write.contents l.initial.writer) (g.W.Write.contents l.writer)
