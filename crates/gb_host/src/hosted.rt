@@ -12,7 +12,7 @@ ghost use Rattle.gb_host.specs.Replay.{IsReplay};
 
 use crate::copies::answers;
 use crate::fault::HostFault;
-use crate::kept::{Kept, into_tape, keep, make_room};
+use crate::kept::{Kept, KeptCall, into_tape, keep, make_room};
 use crate::laws::nothing_changes;
 use crate::names::Tapes;
 use crate::pasts::{Made, NodePast, note, show};
@@ -295,15 +295,21 @@ impl<L: Tapes> Hosted<L> {
             return Ok(None);
         }
         counts[at] = count + 1;
-        let call = Made {
+        let made = Made {
             node: *me,
             seat: *number,
             count,
             event: &event,
             answer: &answer,
         };
-        note(past, &mut seen[at], calls, &call);
-        keep(kept, list, *me, *number, count, event, copies, past);
+        note(past, &mut seen[at], calls, &made);
+        let call = KeptCall {
+            node: *me,
+            seat: *number,
+            count,
+            event,
+        };
+        keep(kept, list, call, copies, past);
         Ok(Some(answer))
     }
 }

@@ -80,6 +80,15 @@ pub fn kept_at<L: Tapes>(
     }
 }
 
+// A call that is kept: the node, the seat's number, how often the seat called the node before, and the event.
+#[derive(Drop)]
+pub(crate) struct KeptCall {
+    pub(crate) node: NodeId,
+    pub(crate) seat: u32,
+    pub(crate) count: u64,
+    pub(crate) event: NodeEvent,
+}
+
 // Makes room for one more entry; if memory holds the tape, also in the seat's list.
 pub(crate) fn make_room<L: Tapes>(
     kept: &mut Kept<L>,
@@ -111,19 +120,22 @@ pub(crate) fn make_room<L: Tapes>(
 pub(crate) fn keep<L: Tapes>(
     kept: &mut Kept<L>,
     list: &mut Vec<SeatEntry>,
-    node: NodeId,
-    seat: u32,
-    count: u64,
-    event: NodeEvent,
+    call: KeptCall,
     copies: Copies,
     past: &NodePast,
 )
     requires room { HasRoom kept.old list.old }
     requires copies { AreFor kept.old copies }
-    requires noted { IsNoted L.plan L.books kept.old seat count event copies past.now }
-    ensures kept { (kept_entries kept.new ≡ kept_entries kept.old ++ tape_copy seat count event copies) × IsSameWay kept.old kept.new }
-    ensures list { list.new.items ≡ list.old.items ++ list_copy node copies }
+    requires noted { IsNoted L.plan L.books kept.old call.seat call.count call.event copies past.now }
+    ensures kept { (kept_entries kept.new ≡ kept_entries kept.old ++ tape_copy call.seat call.count call.event copies) × IsSameWay kept.old kept.new }
+    ensures list { list.new.items ≡ list.old.items ++ list_copy call.node copies }
 {
+    let KeptCall {
+        node,
+        seat,
+        count,
+        event,
+    } = call;
     match kept {
         Kept::Nothing => {
             drop(event);
