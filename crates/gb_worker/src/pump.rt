@@ -1,5 +1,5 @@
 //! The worker that carries a node's packets.
-ghost use Rattle.std.specs.Prelude.{◌≡◌, ◌≢◌, ◌⊎◌, ◌≤◌, ◌+◌, ◌&&◌, ◌==◌, ◌%◌, not, ℕ, Option, Result, Ok, Some, Err, true, false, IfOk, IfErr, IfSome, IfNone, OnOk, OnErr};
+ghost use Rattle.std.specs.Prelude.{◌≡◌, ◌≢◌, ◌⊎◌, ◌≤◌, ◌+◌, ◌&&◌, ◌==◌, ◌%◌, not, ℕ, Option, Result, Ok, Some, Err, true, false, IfOk, IfErr, IfSome, IfNone, IsSome, OnOk, OnErr};
 ghost use Rattle.std.specs.FinSet as set;
 ghost use Rattle.std.specs.declared.{vec.Vec.Vec as Bytes, alloc.Global.Global as TheGlobal};
 ghost use Rattle.gb_types.specs.declared.limits.TheConstants.{NODES};
@@ -35,12 +35,14 @@ const _: () = prove!(AGAIN == 8);
 
 const _: () = prove!(ACK == 16);
 
-/// A turn: its number, from 1, its node, and the number of nodes in the cluster.
-#[derive(Clone, Copy)]
-struct Turn {
-    number: u64,
+// A turn: the runtime, the host, the node whose packets are carried, the number of nodes in the cluster, and the turn's number, from 1.
+#[derive(Drop)]
+struct Turn<'a, L: Tapes, H> {
+    rt: &'a H,
+    host: &'a Host<L>,
     me: NodeId,
     nodes: u8,
+    number: u64,
 }
 
 // Adds the node whose good packet was taken, if one was taken.
@@ -75,26 +77,36 @@ fn packet_of(answer: NodeAnswer) -> Option<PacketText>
     }
 }
 
+// Returns the node to which an event sends, or `None` if it sends to none.
+fn destination(event: &NodeEvent) -> Option<NodeId>
+    ensures { result ≡ destination event.now }
+{
+    match event {
+        NodeEvent::Pack(to) => Some(*to),
+        NodeEvent::Again(to, _) => Some(*to),
+        NodeEvent::Ack(to) => Some(*to),
+        _ => None,
+    }
+}
+
 // Receives at most 16 packets that have come, and returns the nodes from which a good packet came. Stops when nothing is there
 // or the port fails.
 fn receive<L: Tapes, H: Wait, P: Port>(
-    rt: &H,
-    host: &Host<L>,
+    turn: &Turn<'_, L, H>,
     seat: &mut Seat<L>,
-    me: NodeId,
     port: &mut P,
     refused: &mut u64,
 ) -> Result<NodeSet, Why>
-    ensures received { refused.new ≡ 0 → IfOk result (λ heard. Gains (HasReceived me PACKETS heard) seat.old.calls seat.new.calls) }
-    ensures ended { refused.new ≡ 0 → OnErr result (Gains (IsReceived me PACKETS) seat.old.calls seat.new.calls) }
+    ensures received { refused.new ≡ 0 → IfOk result (λ heard. Gains (HasReceived turn.now.me PACKETS heard) seat.old.calls seat.new.calls) }
+    ensures ended { refused.new ≡ 0 → OnErr result (Gains (IsReceived turn.now.me PACKETS) seat.old.calls seat.new.calls) }
     ensures carried { refused.new ≡ 0 → result ≢ Err Why.Fault → HasCarried P.sends P.receives port.old port.new seat.old.calls seat.new.calls }
     ensures why { IfErr result (λ why. (why ≡ Why.Stopped) ⊎ (why ≡ Why.Fault)) }
     ensures counts { refused.new ≡ 0 → refused.old ≡ 0 }
     ensures number { seat.new.number ≡ seat.old.number }
-    ensures uncounted { IsUncounted L.plan host.now.here me → refused.new ≡ refused.old }
+    ensures uncounted { IsUncounted L.plan turn.now.host.now.here turn.now.me → refused.new ≡ refused.old }
     ensures stops { OnOk result (stops_in seat.new.calls ≡ stops_in seat.old.calls) }
     ensures stopped { IfErr result (λ why. stops_in seat.new.calls ≡ stops_in seat.old.calls + stops_by why) }
-    ensures lost { IfErr result (λ why. why ≡ Why.Fault → IsLost host.now.here me seat.new) }
+    ensures lost { IfErr result (λ why. why ≡ Why.Fault → IsLost turn.now.host.now.here turn.now.me seat.new) }
 {
     let mut heard = NodeSet::new();
     for _i in 0..PACKETS {
@@ -102,7 +114,7 @@ fn receive<L: Tapes, H: Wait, P: Port>(
             return Ok(heard);
         };
         let event = NodeEvent::Packet(PacketText::from(bytes));
-        let answer = match make(rt, host, seat, me, event, refused) {
+        let answer = match make(turn.rt, turn.host, seat, turn.me, event, refused) {
             Ok(answer) => answer,
             Err(why) => return Err(why),
         };
@@ -114,28 +126,28 @@ fn receive<L: Tapes, H: Wait, P: Port>(
 // Makes one event happen by which a node sends to another, and sends the packet of its answer at once. Returns whether there was
 // a packet.
 fn send_one<L: Tapes, H: Wait, P: Port>(
-    rt: &H,
-    host: &Host<L>,
+    turn: &Turn<'_, L, H>,
     seat: &mut Seat<L>,
-    me: NodeId,
     event: NodeEvent,
-    to: NodeId,
     port: &mut P,
     refused: &mut u64,
 ) -> Result<bool, Why>
-    requires { destination event ≡ Some to }
-    ensures sent { refused.new ≡ 0 → IfOk result (λ is_given. Gains (IsMade me event is_given) seat.old.calls seat.new.calls) }
-    ensures ended { refused.new ≡ 0 → OnErr result (Gains (IsBegun me event) seat.old.calls seat.new.calls) }
+    requires { IsSome (destination event) }
+    ensures sent { refused.new ≡ 0 → IfOk result (λ is_given. Gains (IsMade turn.now.me event is_given) seat.old.calls seat.new.calls) }
+    ensures ended { refused.new ≡ 0 → OnErr result (Gains (IsBegun turn.now.me event) seat.old.calls seat.new.calls) }
     ensures carried { refused.new ≡ 0 → result ≢ Err Why.Fault → HasCarried P.sends P.receives port.old port.new seat.old.calls seat.new.calls }
     ensures why { IfErr result (λ why. (why ≡ Why.Stopped) ⊎ (why ≡ Why.Fault)) }
     ensures counts { refused.new ≡ 0 → refused.old ≡ 0 }
     ensures number { seat.new.number ≡ seat.old.number }
-    ensures uncounted { IsUncounted L.plan host.now.here me → refused.new ≡ refused.old }
+    ensures uncounted { IsUncounted L.plan turn.now.host.now.here turn.now.me → refused.new ≡ refused.old }
     ensures stops { OnOk result (stops_in seat.new.calls ≡ stops_in seat.old.calls) }
     ensures stopped { IfErr result (λ why. stops_in seat.new.calls ≡ stops_in seat.old.calls + stops_by why) }
-    ensures lost { IfErr result (λ why. why ≡ Why.Fault → IsLost host.now.here me seat.new) }
+    ensures lost { IfErr result (λ why. why ≡ Why.Fault → IsLost turn.now.host.now.here turn.now.me seat.new) }
 {
-    let answer = match make(rt, host, seat, me, event, refused) {
+    let Some(to) = destination(&event) else {
+        unreachable!()
+    };
+    let answer = match make(turn.rt, turn.host, seat, turn.me, event, refused) {
         Ok(Some(answer)) => answer,
         Ok(None) => return Ok(false),
         Err(why) => return Err(why),
@@ -149,33 +161,30 @@ fn send_one<L: Tapes, H: Wait, P: Port>(
 
 // Does what `send_one` does if `is_due` is true; otherwise does nothing.
 fn send_due<L: Tapes, H: Wait, P: Port>(
-    rt: &H,
-    host: &Host<L>,
+    turn: &Turn<'_, L, H>,
     seat: &mut Seat<L>,
-    me: NodeId,
     is_due: bool,
     event: NodeEvent,
-    to: NodeId,
     port: &mut P,
     refused: &mut u64,
 ) -> Result<(), Why>
-    requires { destination event ≡ Some to }
-    ensures sent { refused.new ≡ 0 → OnOk result (Gains (IfDue is_due (IsNoted me event)) seat.old.calls seat.new.calls) }
-    ensures ended { refused.new ≡ 0 → OnErr result ((is_due ≡ true) × Gains (IsBegun me event) seat.old.calls seat.new.calls) }
+    requires { IsSome (destination event) }
+    ensures sent { refused.new ≡ 0 → OnOk result (Gains (IfDue is_due (IsNoted turn.now.me event)) seat.old.calls seat.new.calls) }
+    ensures ended { refused.new ≡ 0 → OnErr result ((is_due ≡ true) × Gains (IsBegun turn.now.me event) seat.old.calls seat.new.calls) }
     ensures carried { refused.new ≡ 0 → result ≢ Err Why.Fault → HasCarried P.sends P.receives port.old port.new seat.old.calls seat.new.calls }
     ensures why { IfErr result (λ why. (why ≡ Why.Stopped) ⊎ (why ≡ Why.Fault)) }
     ensures counts { refused.new ≡ 0 → refused.old ≡ 0 }
     ensures number { seat.new.number ≡ seat.old.number }
-    ensures uncounted { IsUncounted L.plan host.now.here me → refused.new ≡ refused.old }
+    ensures uncounted { IsUncounted L.plan turn.now.host.now.here turn.now.me → refused.new ≡ refused.old }
     ensures stops { OnOk result (stops_in seat.new.calls ≡ stops_in seat.old.calls) }
     ensures stopped { IfErr result (λ why. stops_in seat.new.calls ≡ stops_in seat.old.calls + stops_by why) }
-    ensures lost { IfErr result (λ why. why ≡ Why.Fault → IsLost host.now.here me seat.new) }
+    ensures lost { IfErr result (λ why. why ≡ Why.Fault → IsLost turn.now.host.now.here turn.now.me seat.new) }
 {
     if !is_due {
         drop(event);
         return Ok(());
     }
-    match send_one(rt, host, seat, me, event, to, port, refused) {
+    match send_one(turn, seat, event, port, refused) {
         Ok(_) => Ok(()),
         Err(why) => Err(why),
     }
@@ -197,58 +206,35 @@ fn is_ack_due(turn: u64, is_heard: bool) -> bool
 
 // Sends what the turn has for one node.
 fn send_to<L: Tapes, H: Wait, P: Port>(
-    rt: &H,
-    host: &Host<L>,
+    turn: &Turn<'_, L, H>,
     seat: &mut Seat<L>,
-    turn: Turn,
     to: NodeId,
     is_heard: bool,
     port: &mut P,
     refused: &mut u64,
 ) -> Result<(), Why>
-    ensures sent { refused.new ≡ 0 → OnOk result (Gains (SendsTo turn.number turn.me to.number is_heard) seat.old.calls seat.new.calls) }
-    ensures ended { refused.new ≡ 0 → OnErr result (Gains (IsPartTo turn.number turn.me to.number is_heard) seat.old.calls seat.new.calls) }
+    ensures sent { refused.new ≡ 0 → OnOk result (Gains (SendsTo turn.now.number turn.now.me to.number is_heard) seat.old.calls seat.new.calls) }
+    ensures ended { refused.new ≡ 0 → OnErr result (Gains (IsPartTo turn.now.number turn.now.me to.number is_heard) seat.old.calls seat.new.calls) }
     ensures carried { refused.new ≡ 0 → result ≢ Err Why.Fault → HasCarried P.sends P.receives port.old port.new seat.old.calls seat.new.calls }
     ensures why { IfErr result (λ why. (why ≡ Why.Stopped) ⊎ (why ≡ Why.Fault)) }
     ensures counts { refused.new ≡ 0 → refused.old ≡ 0 }
     ensures number { seat.new.number ≡ seat.old.number }
-    ensures uncounted { IsUncounted L.plan host.now.here turn.me → refused.new ≡ refused.old }
+    ensures uncounted { IsUncounted L.plan turn.now.host.now.here turn.now.me → refused.new ≡ refused.old }
     ensures stops { OnOk result (stops_in seat.new.calls ≡ stops_in seat.old.calls) }
     ensures stopped { IfErr result (λ why. stops_in seat.new.calls ≡ stops_in seat.old.calls + stops_by why) }
-    ensures lost { IfErr result (λ why. why ≡ Why.Fault → IsLost host.now.here turn.me seat.new) }
+    ensures lost { IfErr result (λ why. why ≡ Why.Fault → IsLost turn.now.host.now.here turn.now.me seat.new) }
 {
-    let me = turn.me;
-    let is_given = match send_one(rt, host, seat, me, NodeEvent::Pack(to), to, port, refused) {
+    let is_given = match send_one(turn, seat, NodeEvent::Pack(to), port, refused) {
         Ok(is_given) => is_given,
         Err(why) => return Err(why),
     };
     let is_again = is_again_due(turn.number, is_given);
-    match send_due(
-        rt,
-        host,
-        seat,
-        me,
-        is_again,
-        NodeEvent::Again(to, 0),
-        to,
-        port,
-        refused,
-    ) {
+    match send_due(turn, seat, is_again, NodeEvent::Again(to, 0), port, refused) {
         Ok(()) => {}
         Err(why) => return Err(why),
     }
     let is_ack = is_ack_due(turn.number, is_heard);
-    match send_due(
-        rt,
-        host,
-        seat,
-        me,
-        is_ack,
-        NodeEvent::Ack(to),
-        to,
-        port,
-        refused,
-    ) {
+    match send_due(turn, seat, is_ack, NodeEvent::Ack(to), port, refused) {
         Ok(()) => Ok(()),
         Err(why) => Err(why),
     }
@@ -256,30 +242,28 @@ fn send_to<L: Tapes, H: Wait, P: Port>(
 
 // Sends what the turn has for each other node, in rising order of their numbers.
 fn send_all<L: Tapes, H: Wait, P: Port>(
-    rt: &H,
-    host: &Host<L>,
+    turn: &Turn<'_, L, H>,
     seat: &mut Seat<L>,
-    turn: Turn,
     heard: &NodeSet,
     port: &mut P,
     refused: &mut u64,
 ) -> Result<(), Why>
-    requires { turn.nodes ≤ NODES }
-    ensures sent { refused.new ≡ 0 → OnOk result (Gains (SendsAll turn.number turn.me heard.now turn.nodes) seat.old.calls seat.new.calls) }
-    ensures ended { refused.new ≡ 0 → OnErr result (Gains (IsPartAll turn.number turn.me heard.now turn.nodes) seat.old.calls seat.new.calls) }
+    requires { turn.now.nodes ≤ NODES }
+    ensures sent { refused.new ≡ 0 → OnOk result (Gains (SendsAll turn.now.number turn.now.me heard.now turn.now.nodes) seat.old.calls seat.new.calls) }
+    ensures ended { refused.new ≡ 0 → OnErr result (Gains (IsPartAll turn.now.number turn.now.me heard.now turn.now.nodes) seat.old.calls seat.new.calls) }
     ensures carried { refused.new ≡ 0 → result ≢ Err Why.Fault → HasCarried P.sends P.receives port.old port.new seat.old.calls seat.new.calls }
     ensures why { IfErr result (λ why. (why ≡ Why.Stopped) ⊎ (why ≡ Why.Fault)) }
     ensures counts { refused.new ≡ 0 → refused.old ≡ 0 }
     ensures number { seat.new.number ≡ seat.old.number }
-    ensures uncounted { IsUncounted L.plan host.now.here turn.me → refused.new ≡ refused.old }
+    ensures uncounted { IsUncounted L.plan turn.now.host.now.here turn.now.me → refused.new ≡ refused.old }
     ensures stops { OnOk result (stops_in seat.new.calls ≡ stops_in seat.old.calls) }
     ensures stopped { IfErr result (λ why. stops_in seat.new.calls ≡ stops_in seat.old.calls + stops_by why) }
-    ensures lost { IfErr result (λ why. why ≡ Why.Fault → IsLost host.now.here turn.me seat.new) }
+    ensures lost { IfErr result (λ why. why ≡ Why.Fault → IsLost turn.now.host.now.here turn.now.me seat.new) }
 {
     for number in 0..turn.nodes {
         if number != turn.me.number {
             let to = NodeId::new(number);
-            match send_to(rt, host, seat, turn, to, heard.contains(to), port, refused) {
+            match send_to(turn, seat, to, heard.contains(to), port, refused) {
                 Ok(()) => {}
                 Err(why) => return Err(why),
             }
@@ -290,30 +274,28 @@ fn send_all<L: Tapes, H: Wait, P: Port>(
 
 // Makes one turn.
 fn make_turn<L: Tapes, H: Wait, P: Port>(
-    rt: &H,
-    host: &Host<L>,
+    turn: &Turn<'_, L, H>,
     seat: &mut Seat<L>,
-    turn: Turn,
     port: &mut P,
     refused: &mut u64,
 ) -> Result<(), Why>
-    requires { turn.nodes ≤ NODES }
-    ensures turned { refused.new ≡ 0 → OnOk result (Gains (IsTurn turn.number turn.me turn.nodes) seat.old.calls seat.new.calls) }
-    ensures ended { refused.new ≡ 0 → OnErr result (Gains (IsPart turn.number turn.me turn.nodes) seat.old.calls seat.new.calls) }
+    requires { turn.now.nodes ≤ NODES }
+    ensures turned { refused.new ≡ 0 → OnOk result (Gains (IsTurn turn.now.number turn.now.me turn.now.nodes) seat.old.calls seat.new.calls) }
+    ensures ended { refused.new ≡ 0 → OnErr result (Gains (IsPart turn.now.number turn.now.me turn.now.nodes) seat.old.calls seat.new.calls) }
     ensures carried { refused.new ≡ 0 → result ≢ Err Why.Fault → HasCarried P.sends P.receives port.old port.new seat.old.calls seat.new.calls }
     ensures why { IfErr result (λ why. (why ≡ Why.Stopped) ⊎ (why ≡ Why.Fault)) }
     ensures counts { refused.new ≡ 0 → refused.old ≡ 0 }
     ensures number { seat.new.number ≡ seat.old.number }
-    ensures uncounted { IsUncounted L.plan host.now.here turn.me → refused.new ≡ refused.old }
+    ensures uncounted { IsUncounted L.plan turn.now.host.now.here turn.now.me → refused.new ≡ refused.old }
     ensures stops { OnOk result (stops_in seat.new.calls ≡ stops_in seat.old.calls) }
     ensures stopped { IfErr result (λ why. stops_in seat.new.calls ≡ stops_in seat.old.calls + stops_by why) }
-    ensures lost { IfErr result (λ why. why ≡ Why.Fault → IsLost host.now.here turn.me seat.new) }
+    ensures lost { IfErr result (λ why. why ≡ Why.Fault → IsLost turn.now.host.now.here turn.now.me seat.new) }
 {
-    let heard = match receive(rt, host, seat, turn.me, port, refused) {
+    let heard = match receive(turn, seat, port, refused) {
         Ok(heard) => heard,
         Err(why) => return Err(why),
     };
-    match send_all(rt, host, seat, turn, &heard, port, refused) {
+    match send_all(turn, seat, &heard, port, refused) {
         Ok(()) => Ok(()),
         Err(why) => Err(why),
     }
@@ -356,11 +338,13 @@ pub fn pump<L: Tapes, H: Wait, P: Port, G: Gate>(
             };
         }
         let turn = Turn {
-            number: made + 1,
+            rt,
+            host,
             me: node,
             nodes,
+            number: made + 1,
         };
-        match make_turn(rt, host, seat, turn, port, &mut refused) {
+        match make_turn(&turn, seat, port, &mut refused) {
             Ok(()) => {}
             Err(why) => {
                 return WorkerEnd {

@@ -4,7 +4,7 @@ use Rattle.gb_worker.proofs.pump.make_turn.Goals as goal
 
 pub returns-in-Err-clause-ended : goal.returns-in-Err-clause-ended
 returns-in-Err-clause-ended g c = λ none.
-    turn_received c.args.turn.number c.args.turn.me c.args.turn.nodes c.args.seat.now.calls c.receive.new.seat.calls c.requires (c.in-Err.ensures.ended none)
+    turn_received c.args.turn.now.number c.args.turn.now.me c.args.turn.now.nodes c.args.seat.now.calls c.receive.new.seat.calls c.requires (c.in-Err.ensures.ended none)
 
 pub returns-in-Ok-send_all-clause-carried : goal.returns-in-Ok-send_all-clause-carried
 returns-in-Ok-send_all-clause-carried g c = λ none not_fault.
@@ -13,7 +13,7 @@ returns-in-Ok-send_all-clause-carried g c = λ none not_fault.
 
 pub returns-in-Err-send_all-clause-ended : goal.returns-in-Err-send_all-clause-ended
 returns-in-Err-send_all-clause-ended g c = λ none.
-    turn_part c.args.turn.number c.args.turn.me c.args.turn.nodes c.in-Ok.heard c.args.seat.now.calls c.receive.new.seat.calls c.send_all.new.seat.calls
+    turn_part c.args.turn.now.number c.args.turn.now.me c.args.turn.now.nodes c.in-Ok.heard c.args.seat.now.calls c.receive.new.seat.calls c.send_all.new.seat.calls
     (c.in-Ok.ensures.received (c.in-Err-send_all.ensures.counts none)) (c.in-Err-send_all.ensures.ended none)
 
 pub returns-in-Err-send_all-clause-carried : goal.returns-in-Err-send_all-clause-carried

@@ -12,6 +12,6 @@ invariant-loop-number g l = record {
   carried : l.refused ≡ 0 → HasCarried g.P.Port.sends g.P.Port.receives l.fn.port l.port l.fn.seat.calls l.seat.calls;
   counts : l.refused ≡ 0 → l.fn.refused ≡ 0;
   same : l.seat.number ≡ l.fn.seat.number;
-  uncounted : IsUncounted g.L.Tapes.plan l.host.here l.turn.me → l.refused ≡ l.fn.refused;
+  uncounted : IsUncounted g.L.Tapes.plan l.turn.host.now.here l.turn.me → l.refused ≡ l.fn.refused;
   stops : stops_in l.seat.calls ≡ stops_in l.fn.seat.calls;
 }

@@ -7,12 +7,12 @@ use Rattle.gb_worker.proofs.pump.send_to.Goals as goal
 
 pub returns-in-Err-clause-ended : goal.returns-in-Err-clause-ended
 returns-in-Err-clause-ended g c = λ none.
-    part_pack c.args.turn.number c.args.turn.me c.args.to c.args.is_heard c.args.seat.now.calls c.send_one.new.seat.calls (c.in-Err.ensures.ended none)
+    part_pack c.args.turn.now.number c.args.turn.now.me c.args.to c.args.is_heard c.args.seat.now.calls c.send_one.new.seat.calls (c.in-Err.ensures.ended none)
 
 pub returns-in-Err-send_due-clause-ended : goal.returns-in-Err-send_due-clause-ended
 returns-in-Err-send_due-clause-ended g c = λ none.
     let begun = c.in-Err-send_due.ensures.ended none in
-    part_again c.args.turn.number c.args.turn.me c.args.to c.args.is_heard c.in-Ok.is_given c.args.seat.now.calls c.send_one.new.seat.calls c.send_due.new.seat.calls
+    part_again c.args.turn.now.number c.args.turn.now.me c.args.to c.args.is_heard c.in-Ok.is_given c.args.seat.now.calls c.send_one.new.seat.calls c.send_due.new.seat.calls
     (c.in-Ok.ensures.sent (c.in-Err-send_due.ensures.counts none)) (sym c.is_again_due-is_again.ensures ∙ begun.0) begun.1
 
 pub returns-in-Err-send_due-clause-carried : goal.returns-in-Err-send_due-clause-carried
@@ -23,9 +23,9 @@ returns-in-Err-send_due-clause-carried g c = λ none not_fault.
 pub returns-in-Ok-send_due-2-clause-sent : goal.returns-in-Ok-send_due-2-clause-sent
 returns-in-Ok-send_due-2-clause-sent g c = λ none.
     let before = c.in-Ok-send_due-2.ensures.counts none in
-    let again : Bool → Type 0 = λ t. Gains (IfDue t (IsNoted c.args.turn.me (Again c.args.to 0))) c.send_one.new.seat.calls c.send_due.new.seat.calls in
-    let ack : Bool → Type 0 = λ t. Gains (IfDue t (IsNoted c.args.turn.me (Ack c.args.to))) c.send_due.new.seat.calls c.send_due-2.new.seat.calls in
-    sent_whole c.args.turn.number c.args.turn.me c.args.to c.args.is_heard c.in-Ok.is_given c.args.seat.now.calls c.send_one.new.seat.calls c.send_due.new.seat.calls c.send_due-2.new.seat.calls
+    let again : Bool → Type 0 = λ t. Gains (IfDue t (IsNoted c.args.turn.now.me (Again c.args.to 0))) c.send_one.new.seat.calls c.send_due.new.seat.calls in
+    let ack : Bool → Type 0 = λ t. Gains (IfDue t (IsNoted c.args.turn.now.me (Ack c.args.to))) c.send_due.new.seat.calls c.send_due-2.new.seat.calls in
+    sent_whole c.args.turn.now.number c.args.turn.now.me c.args.to c.args.is_heard c.in-Ok.is_given c.args.seat.now.calls c.send_one.new.seat.calls c.send_due.new.seat.calls c.send_due-2.new.seat.calls
     (c.in-Ok.ensures.sent (c.in-Ok-send_due.ensures.counts before))
     (subst again c.is_again_due-is_again.ensures (c.in-Ok-send_due.ensures.sent before))
     (subst ack c.is_ack_due-is_ack.ensures (c.in-Ok-send_due-2.ensures.sent none))
@@ -42,8 +42,8 @@ pub returns-in-Err-send_due-2-clause-ended : goal.returns-in-Err-send_due-2-clau
 returns-in-Err-send_due-2-clause-ended g c = λ none.
     let before = c.in-Err-send_due-2.ensures.counts none in
     let begun = c.in-Err-send_due-2.ensures.ended none in
-    let again : Bool → Type 0 = λ t. Gains (IfDue t (IsNoted c.args.turn.me (Again c.args.to 0))) c.send_one.new.seat.calls c.send_due.new.seat.calls in
-    part_ack c.args.turn.number c.args.turn.me c.args.to c.args.is_heard c.in-Ok.is_given c.args.seat.now.calls c.send_one.new.seat.calls c.send_due.new.seat.calls c.send_due-2.new.seat.calls
+    let again : Bool → Type 0 = λ t. Gains (IfDue t (IsNoted c.args.turn.now.me (Again c.args.to 0))) c.send_one.new.seat.calls c.send_due.new.seat.calls in
+    part_ack c.args.turn.now.number c.args.turn.now.me c.args.to c.args.is_heard c.in-Ok.is_given c.args.seat.now.calls c.send_one.new.seat.calls c.send_due.new.seat.calls c.send_due-2.new.seat.calls
     (c.in-Ok.ensures.sent (c.in-Ok-send_due.ensures.counts before))
     (subst again c.is_again_due-is_again.ensures (c.in-Ok-send_due.ensures.sent before))
     (sym c.is_ack_due-is_ack.ensures ∙ begun.0) begun.1
