@@ -8,6 +8,7 @@ use Rattle.gb_port.specs.declared.port.PortFault.{PortFault}
 use Rattle.gb_node.specs.declared.{answer.NodeAnswer.NodeAnswer, event.NodeEvent.NodeEvent}
 use Rattle.gb_host.specs.Common.{IsRefused, GaveNothing, SeatValue}
 use Rattle.gb_host.specs.declared.{entry.SeatEntry.SeatEntry, fault.HostFault.HostFault, plan.HostPlan.HostPlan}
+use Rattle.gb_mail.specs.declared.{mail.Outcome.Outcome, mail.Outcome.TheVariants.Handed}
 use Rattle.gb_worker.specs.{Answered.gives_packet, Carried.HasCarried, Gained.noted}
 
 -- each call of a list was made at this node
@@ -21,6 +22,11 @@ HasCalled me old new = (es : List SeatEntry) × (new ≡ old ++ es) × (all_at m
 -- Where no packet was lost: what travelled at the port is what the calls say that a list gained, in their order, each once.
 abbrev pub HasMailed : {P : Type 0} → (P → NodeId → List ℕ → Result Bool PortFault → P → Type 0) → (P → Result (Option (Vec ℕ Global)) PortFault → P → Type 0) → ℕ → P → P → List SeatEntry → List SeatEntry → Type 0
 HasMailed sends receives lost before after old new = lost ≡ 0 → HasCarried sends receives before after old new
+
+-- a packet was handed to the port
+abbrev pub is_handed : Outcome → Bool
+is_handed (Handed answer) = true
+is_handed other = false
 
 -- What came of an event by which a node sends. It was a call, and a packet was sent exactly if its answer has one. Or no packet was sent: the event gave nothing at the node, or the host refused the call.
 abbrev pub WasAskedToSend : HostPlan → set.FinSet nat_cmp → NodeId → NodeEvent → SeatValue → SeatValue → Bool → Type 0

@@ -3,7 +3,7 @@ ghost use Rattle.std.specs.Prelude.{◌≡◌, ◌++◌, ◌∷◌, [], true, fa
 ghost use Rattle.gb_node.specs.declared.{answer.NodeAnswer.NodeAnswer as AnswerValue, answer.NodeAnswer.TheVariants.Sent as WasSent, answer.Sent.TheVariants.Nothing as SentNothing, answer.Sent.TheVariants.Packet as SentPacket, event.NodeEvent.TheVariants.Packet as PacketEvent};
 ghost use Rattle.gb_host.specs.Common.{IsRefused, GaveNothing};
 ghost use Rattle.gb_worker.specs.{Answered.destination, Answered.gives_packet, Asked.reply_at, Asked.reply_of, Carried.GivesNothing, Carried.HasCarried, Gained.noted};
-ghost use Rattle.gb_mail.specs.Mailed.{HasCalled, HasMailed, WasAskedToSend};
+ghost use Rattle.gb_mail.specs.Mailed.{HasCalled, HasMailed, WasAskedToSend, is_handed};
 
 use crate::counts::{
     asked_figure, count_packet, count_reply, count_tick, places_asked, sent_figure,
@@ -12,7 +12,7 @@ use crate::hint::{Hint, hint_of, put_addresses};
 use crate::operate::operate;
 use gb_host::{Host, HostFault, Open, Seat, Tapes};
 use gb_node::{Good, NodeAnswer, NodeEvent, PacketAnswer, PacketText, Sent};
-use gb_port::Port;
+use gb_port::{Port, PortFault};
 use gb_session::{Answers, Operation};
 use gb_status::{Figure, Figures};
 use gb_types::{Action, Addr, GroupCommand, NodeId, OutOfMemory, Refusal, Reply, Request};
@@ -64,6 +64,17 @@ pub struct Mail<'a, L: Tapes, H, P: Port> {
     pub figures: Figures,
     pub ghost here: { ∥ HasCalled origin.node origin.seat.value.calls seat.calls ∥₁ },
     pub ghost mailed: { ∥ HasMailed P.sends P.receives lost origin.port.value port origin.seat.value.calls seat.calls ∥₁ },
+}
+
+// What came of an event by which a node sends to another.
+#[derive(Drop)]
+enum Outcome {
+    // The host refused the call, or the node had no memory for a packet.
+    Short,
+    // The event gave no packet.
+    Nothing,
+    // The packet was handed to the port, which answered so.
+    Handed(Result<bool, PortFault>),
 }
 
 // One event at a node.
@@ -149,14 +160,15 @@ fn next_packet<P: Port>(port: &mut P, figures: &mut Figures) -> Option<Vec<u8>>
     }
 }
 
-// Returns the packet that an answer gives.
-fn packet_of(answer: NodeAnswer) -> Option<PacketText>
-    ensures some { IfSome result (λ text. answer ≡ WasSent (SentPacket text)) }
-    ensures none { IfNone result (gives_packet answer ≡ false) }
+// Returns the packet that an answer gives; if it gives none, what came of the event.
+fn packet_of(answer: NodeAnswer) -> Result<PacketText, Outcome>
+    ensures ok { IfOk result (λ text. answer ≡ WasSent (SentPacket text)) }
+    ensures err { IfErr result (λ outcome. (gives_packet answer ≡ false) × (is_handed outcome ≡ false)) }
 {
     match answer {
-        NodeAnswer::Sent(Sent::Packet(text)) => Some(text),
-        _ => None,
+        NodeAnswer::Sent(Sent::Packet(text)) => Ok(text),
+        NodeAnswer::Sent(Sent::Refused(Refusal::OutOfMemory)) => Err(Outcome::Short),
+        _ => Err(Outcome::Nothing),
     }
 }
 
@@ -198,21 +210,8 @@ fn take_packet<L: Tapes, H: Wait>(
     }
 }
 
-// Notes whether there was no memory for a packet.
-fn note_lack(answer: &NodeAnswer, is_short: &mut bool) {
-    let NodeAnswer::Sent(sent) = answer else {
-        return;
-    };
-    let Sent::Refused(why) = sent else {
-        return;
-    };
-    if *why == Refusal::OutOfMemory {
-        *is_short = true;
-    }
-}
-
-// One event by which a node sends to another. What it gives is handed to the port at once. Returns true if it gave a packet. A pack
-// or an again that gives nothing is no event.
+// One event by which a node sends to another. What it gives is handed to the port at once. Returns what came of it. A pack or an again
+// that gives nothing is no event.
 fn send_at<L: Tapes, H: Wait, P: Port>(
     rt: &H,
     host: &Host<L>,
@@ -221,33 +220,48 @@ fn send_at<L: Tapes, H: Wait, P: Port>(
     event: NodeEvent,
     to: NodeId,
     port: &mut P,
-    is_short: &mut bool,
-    figures: &mut Figures,
-) -> bool
+) -> Outcome
     requires { destination event ≡ Some to }
-    ensures asked { WasAskedToSend L.plan host.now.here node event seat.old seat.new result }
+    ensures asked { WasAskedToSend L.plan host.now.here node event seat.old seat.new (is_handed result) }
     ensures carried { HasCarried P.sends P.receives port.old port.new seat.old.calls seat.new.calls }
     ensures here { HasCalled node seat.old.calls seat.new.calls }
 {
-    let figure = sent_figure(&event);
     let asked = match ask_to_send(rt, host, seat, node, event) {
         Ok(asked) => asked,
-        Err(_) => {
-            *is_short = true;
-            return false;
-        }
+        Err(_) => return Outcome::Short,
     };
     let answer = answer_of(asked);
-    note_lack(&answer, is_short);
     let text = match packet_of(answer) {
-        Some(text) => text,
-        None => return false,
+        Ok(text) => text,
+        Err(outcome) => return outcome,
     };
-    figures.add(figure, 1);
-    if port.send(to, text.as_slice()).is_err() {
-        figures.add(Figure::PortFailures, 1);
+    Outcome::Handed(port.send(to, text.as_slice()))
+}
+
+// Counts what came of an event by which a node sends, a packet under `figure`, and notes if there was no memory for it. Returns true if
+// the event gave a packet.
+fn count_outcome(
+    outcome: Outcome,
+    figure: Figure,
+    figures: &mut Figures,
+    is_short: &mut bool,
+) -> bool
+    ensures { result ≡ is_handed outcome }
+{
+    match outcome {
+        Outcome::Short => {
+            *is_short = true;
+            false
+        }
+        Outcome::Nothing => false,
+        Outcome::Handed(taken) => {
+            figures.add(figure, 1);
+            if taken.is_err() {
+                figures.add(Figure::PortFailures, 1);
+            }
+            true
+        }
     }
-    true
 }
 
 impl<'a, L: Tapes, H: Wait, P: Port> Mail<'a, L, H, P> {
@@ -380,8 +394,9 @@ impl<'a, L: Tapes, H: Wait, P: Port> Mail<'a, L, H, P> {
         ensures lost { self.new.lost ≡ self.old.lost }
         ensures origin { self.new.origin ≡ self.old.origin }
     {
+        let figure = sent_figure(&event);
         let node = self.origin.node;
-        send_at(
+        let outcome = send_at(
             self.rt,
             self.host,
             &mut self.seat,
@@ -389,9 +404,8 @@ impl<'a, L: Tapes, H: Wait, P: Port> Mail<'a, L, H, P> {
             event,
             to,
             &mut self.port,
-            &mut self.is_short,
-            &mut self.figures,
-        )
+        );
+        count_outcome(outcome, figure, &mut self.figures, &mut self.is_short)
     }
 
     /// Counts one more of a figure.

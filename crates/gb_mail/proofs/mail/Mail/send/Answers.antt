@@ -4,13 +4,13 @@ use Rattle.gb_mail.proofs.mail.Mail.send.Goals as goal
 pub invariant_of-self-clause-here : goal.invariant_of-self-clause-here
 invariant_of-self-clause-here g c =
     let s = c.args.self.now in
-    called_more s.origin.node s.origin.seat.value.calls s.seat.calls c.send_at.new.seat.calls s.here c.send_at.ensures.here
+    called_more s.origin.node s.origin.seat.value.calls s.seat.calls c.send_at-outcome.new.seat.calls s.here c.send_at-outcome.ensures.here
 
 pub invariant_of-self-clause-mailed : goal.invariant_of-self-clause-mailed
 invariant_of-self-clause-mailed g c =
     let s = c.args.self.now in
-    mailed_more g.P.Port.sends g.P.Port.receives s.lost s.lost s.origin.port.value s.port c.send_at.new.port s.origin.seat.value.calls s.seat.calls c.send_at.new.seat.calls s.mailed (λ none. none)
-    (λ _. c.send_at.ensures.carried)
+    mailed_more g.P.Port.sends g.P.Port.receives s.lost s.lost s.origin.port.value s.port c.send_at-outcome.new.port s.origin.seat.value.calls s.seat.calls c.send_at-outcome.new.seat.calls s.mailed (λ none. none)
+    (λ _. c.send_at-outcome.ensures.carried)
 
 pub returns-clause-mailed : goal.returns-clause-mailed
-returns-clause-mailed g c = λ _. c.send_at.ensures.carried
+returns-clause-mailed g c = λ _. c.send_at-outcome.ensures.carried
