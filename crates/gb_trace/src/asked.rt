@@ -7,16 +7,16 @@ ghost use Rattle.gb_node.specs.declared.{answer.NodeAnswer.TheVariants.Reply as 
 ghost use Rattle.gb_trace.specs.Deeds.{past_in};
 ghost use Rattle.gb_trace.specs.Kept.{KeepsLinks, KeepsNode};
 
-use crate::deed::Deed;
 use crate::kept::NodeKept;
 use crate::links::Link;
+use crate::moment::Moment;
 use crate::noticed::add_noticed;
 use crate::past::{is_own_request, made};
 use crate::steps::{add, at};
 use gb_alone::{GroupEvent, GroupStep};
 use gb_rules::Reserve;
 use gb_rules::room::is_other_generation;
-use gb_types::{Action, Addr, GroupCommand, NodeId, OutOfMemory, Plan, Reply, Request};
+use gb_types::{Action, Addr, GroupCommand, NodeId, OutOfMemory, Reply, Request};
 use std::alloc::Global;
 
 /// Returns what the command is to the group alone.
@@ -43,27 +43,23 @@ fn command(alloc: Global, a: NodeId, what: &Action) -> Result<Option<GroupStep>,
     })
 }
 
-/// Adds the group's steps from a request of the group, with its reply, at a running node. If the request makes the group, these
-/// include the notices of the members that are noticed there. `before` is what happened before, and `links` what is kept of the
-/// node's links.
+/// Adds the group's steps from a request of the group, with its reply, at the moment's node, which is running. If the request makes
+/// the group, these include the notices of the members that are noticed there. `links` is what is kept of the node's links.
 fn of_own(
     alloc: Global,
-    plan: &Plan,
-    addr: Addr,
-    before: &[Deed],
+    moment: Moment<'_>,
     links: &[Link],
-    a: NodeId,
     request: &Request,
     reply: &Reply,
     steps: &mut Vec<GroupStep>,
 ) -> Result<(), OutOfMemory>
-    requires { KeepsLinks plan.now addr (past_in a before.now) links.now }
-    ensures { OnOk result (steps.new.items ≡ steps.old.items ++ (command_for a request.now.what ++ ticked a (is_noticed_at plan.now a (past_in a before.now)) (made_by addr (Asked request.now) (Replied reply.now)))) }
+    requires { KeepsLinks moment.plan.now moment.addr (past_in moment.node moment.before.now) links.now }
+    ensures { let m = moment.entry in OnOk result (steps.new.items ≡ steps.old.items ++ (command_for m.node request.now.what ++ ticked m.node (is_noticed_at m.plan.now m.node (past_in m.node m.before.now)) (made_by m.addr (Asked request.now) (Replied reply.now)))) }
 {
-    add(command(alloc, a, &request.what)?, steps)?;
-    match made(addr, request, reply) {
+    add(command(alloc, moment.node, &request.what)?, steps)?;
+    match made(moment.addr, request, reply) {
         None => Ok(()),
-        Some(spec) => add_noticed(plan, addr, a, spec, before, links, steps),
+        Some(spec) => add_noticed(moment, spec, links, steps),
     }
 }
 
@@ -101,36 +97,24 @@ fn other(addr: Addr, a: NodeId, what: &Action, reply: &Reply) -> Option<GroupSte
     }
 }
 
-/// Adds the group's steps from a request, with its reply, at a running node. `before` is what happened before, and `node` what is
-/// kept of it at the node.
+/// Adds the group's steps from a request, with its reply, at the moment's node, which is running. `node` is what is kept of that
+/// node.
 fn of_running(
     alloc: Global,
-    plan: &Plan,
-    addr: Addr,
-    before: &[Deed],
+    moment: Moment<'_>,
     node: &NodeKept,
-    a: NodeId,
     request: &Request,
     reply: &Reply,
     steps: &mut Vec<GroupStep>,
 ) -> Result<(), OutOfMemory>
-    requires { KeepsNode plan.now addr a (past_in a before.now) node.now }
-    ensures { OnOk result (steps.new.items ≡ steps.old.items ++ (tenant_given addr a reply.now request.now.what ++ (other_given addr a reply.now request.now.what ++ (if is_own a addr (past_in a before.now) request.now then command_for a request.now.what ++ ticked a (is_noticed_at plan.now a (past_in a before.now)) (made_by addr (Asked request.now) (Replied reply.now)) else [])))) }
+    requires { KeepsNode moment.plan.now moment.addr moment.node (past_in moment.node moment.before.now) node.now }
+    ensures { let m = moment.entry in OnOk result (steps.new.items ≡ steps.old.items ++ (tenant_given m.addr m.node reply.now request.now.what ++ (other_given m.addr m.node reply.now request.now.what ++ (if is_own m.node m.addr (past_in m.node m.before.now) request.now then command_for m.node request.now.what ++ ticked m.node (is_noticed_at m.plan.now m.node (past_in m.node m.before.now)) (made_by m.addr (Asked request.now) (Replied reply.now)) else [])))) }
 {
-    add(tenant(addr, a, &request.what, reply), steps)?;
-    add(other(addr, a, &request.what, reply), steps)?;
-    if is_own_request(addr, a, before, node.row.as_ref(), request) {
-        of_own(
-            alloc,
-            plan,
-            addr,
-            before,
-            &node.links,
-            a,
-            request,
-            reply,
-            steps,
-        )?;
+    let a = moment.node;
+    add(tenant(moment.addr, a, &request.what, reply), steps)?;
+    add(other(moment.addr, a, &request.what, reply), steps)?;
+    if is_own_request(moment, node.row.as_ref(), request) {
+        of_own(alloc, moment, &node.links, request, reply, steps)?;
     }
     Ok(())
 }
@@ -163,27 +147,23 @@ fn of_stopped(
     Ok(())
 }
 
-/// Adds the group's steps from `request`, with its reply, at the node `a`. `before` is what happened before, and `node` what is kept
-/// of it at the node.
+/// Adds the group's steps from `request`, with its reply, at the moment's node. `node` is what is kept of that node.
 pub(crate) fn of_request(
     alloc: Global,
-    plan: &Plan,
-    addr: Addr,
-    before: &[Deed],
+    moment: Moment<'_>,
     node: &NodeKept,
-    a: NodeId,
     request: &Request,
     reply: &Reply,
     steps: &mut Vec<GroupStep>,
 ) -> Result<(), OutOfMemory>
-    requires { KeepsNode plan.now addr a (past_in a before.now) node.now }
-    ensures { OnOk result (steps.new.items ≡ steps.old.items ++ asked a addr (is_noticed_at plan.now a (past_in a before.now)) (past_in a before.now) request.now reply.now) }
+    requires { KeepsNode moment.plan.now moment.addr moment.node (past_in moment.node moment.before.now) node.now }
+    ensures { let m = moment.entry in OnOk result (steps.new.items ≡ steps.old.items ++ asked m.node m.addr (is_noticed_at m.plan.now m.node (past_in m.node m.before.now)) (past_in m.node m.before.now) request.now reply.now) }
 {
     if !node.stopped {
-        return of_running(alloc, plan, addr, before, node, a, request, reply, steps);
+        return of_running(alloc, moment, node, request, reply, steps);
     }
-    if is_own_request(addr, a, before, node.row.as_ref(), request) {
-        return of_stopped(alloc, a, node.met, &request.what, steps);
+    if is_own_request(moment, node.row.as_ref(), request) {
+        return of_stopped(alloc, moment.node, node.met, &request.what, steps);
     }
     Ok(())
 }

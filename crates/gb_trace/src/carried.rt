@@ -11,17 +11,17 @@ ghost use Rattle.gb_trace.specs.Deeds.{past_in};
 ghost use Rattle.gb_trace.specs.Kept.{ArePlaces, IsFront, Keeps, KeepsLinks};
 ghost use Rattle.gb_frame.specs.Common.{Content};
 
-use crate::deed::Deed;
-use crate::frames::Frames;
+use crate::frames::{Frame, Frames};
 use crate::kept::{NodeKept, node_at};
 use crate::links::{Link, link_at};
+use crate::moment::Moment;
 use crate::reading::{count_in, read, sender};
 use crate::steps::at;
 use gb_alone::{GroupEvent, GroupStep};
 use gb_cap::HmacKey;
 use gb_frame::PacketView;
 use gb_link::ack::covers;
-use gb_types::{Addr, NodeId, OutOfMemory, Plan};
+use gb_types::{Addr, NodeId, OutOfMemory};
 
 /// Returns the group's step from the packet `text`, which the node `a` packed for `b`, or `None` if the packet has no item of
 /// the group.
@@ -80,29 +80,25 @@ fn add_comes(
     add_comes(from, to, next, count - 1, steps)
 }
 
-/// Returns true if the packet acknowledges the frame `number` and it is not acknowledged already (`acked`).
-fn is_new(packet: &PacketView<'_>, number: u64, acked: bool) -> bool
-    ensures { result ≡ (is_covered packet.now.base packet.now.mask number && not acked) }
+/// Returns true if the packet acknowledges the frame and it is not acknowledged already.
+fn is_new(packet: &PacketView<'_>, frame: Frame) -> bool
+    ensures { result ≡ (is_covered packet.now.base packet.now.mask frame.number && not frame.acked) }
 {
     let head = packet.head();
-    covers(head.base, head.mask, number) && !acked
+    covers(head.base, head.mask, frame.number) && !frame.acked
 }
 
-/// Adds that the `count` items of the frame `number`, from `place` on, are acknowledged, if the packet acknowledges that frame and
-/// it is not acknowledged already (`acked`).
+/// Adds that the frame's items are acknowledged, if the packet acknowledges the frame and it is not acknowledged already.
 fn add_new(
     a: NodeId,
     packet: &PacketView<'_>,
-    number: u64,
-    acked: bool,
-    place: u64,
-    count: u64,
+    frame: Frame,
     steps: &mut Vec<GroupStep>,
 ) -> Result<(), OutOfMemory>
-    ensures { OnOk result (steps.new.items ≡ steps.old.items ++ (if is_covered packet.now.base packet.now.mask number && not acked then if_any a count (Done (node_numbered packet.now.from) place count) else [])) }
+    ensures { OnOk result (steps.new.items ≡ steps.old.items ++ (if is_covered packet.now.base packet.now.mask frame.number && not frame.acked then if_any a frame.count (Done (node_numbered packet.now.from) frame.place frame.count) else [])) }
 {
-    if is_new(packet, number, acked) {
-        return add_acknowledged(a, sender(packet), place, count, steps);
+    if is_new(packet, frame) {
+        return add_acknowledged(a, sender(packet), frame.place, frame.count, steps);
     }
     Ok(())
 }
@@ -126,15 +122,13 @@ fn add_all_acknowledged(
     let mut place = first;
     for i in frames.front..frames.counts.len() {
         let count = frames.counts[i];
-        add_new(
-            a,
-            packet,
-            i as u64 + 1,
-            frames.acked[i],
+        let frame = Frame {
+            number: i as u64 + 1,
+            acked: frames.acked[i],
             place,
             count,
-            steps,
-        )?;
+        };
+        add_new(a, packet, frame, steps)?;
         let Some(next) = place.checked_add(count) else {
             return Err(OutOfMemory);
         };
@@ -143,102 +137,88 @@ fn add_all_acknowledged(
     Ok(())
 }
 
-/// Adds the group's steps from the packet's acknowledgement. `before` is what happened before, and `links` what is kept of the
-/// links of `a`.
+/// Adds the group's steps from the acknowledgement of the packet, which comes at the moment. `links` is what is kept of the links of
+/// the moment's node.
 fn of_acknowledgement(
-    plan: &Plan,
-    addr: Addr,
-    before: &[Deed],
-    a: NodeId,
+    moment: Moment<'_>,
     links: &[Link],
     packet: &PacketView<'_>,
     steps: &mut Vec<GroupStep>,
 ) -> Result<(), OutOfMemory>
-    requires { KeepsLinks plan.now addr (past_in a before.now) links.now }
-    ensures { OnOk result (steps.new.items ≡ steps.old.items ++ acknowledges plan.now addr (past_in a before.now) a packet.now) }
+    requires { KeepsLinks moment.plan.now moment.addr (past_in moment.node moment.before.now) links.now }
+    ensures { let m = moment.entry in OnOk result (steps.new.items ≡ steps.old.items ++ acknowledges m.plan.now m.addr (past_in m.node m.before.now) m.node packet.now) }
 {
-    let link = link_at(plan, addr, before, a, links, sender(packet));
-    add_all_acknowledged(a, packet, &link.frames, steps)
+    let link = link_at(moment, links, sender(packet));
+    add_all_acknowledged(moment.node, packet, &link.frames, steps)
 }
 
-/// Adds the group's steps from the packet's frame: its items come, with the places after those of the items in the frames before
-/// it. `before` is what happened before, and `nodes` what is kept of it.
+/// Adds the group's steps from the frame of the packet, which comes at the moment: its items come, with the places after those of
+/// the items in the frames before it. `nodes` is what is kept of each node.
 fn of_frame(
-    plan: &Plan,
-    addr: Addr,
-    before: &[Deed],
-    a: NodeId,
+    moment: Moment<'_>,
     nodes: &[NodeKept],
     packet: &PacketView<'_>,
     steps: &mut Vec<GroupStep>,
 ) -> Result<(), OutOfMemory>
-    requires { Keeps plan.now addr (reverse before.now) nodes.now }
-    ensures { OnOk result (steps.new.items ≡ steps.old.items ++ brings plan.now addr (reverse before.now) a packet.now) }
+    requires { Keeps moment.plan.now moment.addr (reverse moment.before.now) nodes.now }
+    ensures { let m = moment.entry in OnOk result (steps.new.items ≡ steps.old.items ++ brings m.plan.now m.addr (reverse m.before.now) m.node packet.now) }
 {
     let from = sender(packet);
-    let node = node_at(plan, addr, before, nodes, from);
-    let link = link_at(plan, addr, before, from, &node.links, a);
+    let there = Moment {
+        node: from,
+        ..moment
+    };
+    let node = node_at(there, nodes);
+    let link = link_at(there, &node.links, moment.node);
     let place = link.frames.before(packet.head().frame.saturating_sub(1));
-    add_comes(from, a, place, count_in(addr, packet), steps)
+    let count = count_in(moment.addr, packet);
+    add_comes(from, moment.node, place, count, steps)
 }
 
-/// Returns true if the packet has a frame, and no frame with its number came from its sender before. `before` is what happened
-/// before, and `links` what is kept of the links of `a`.
-fn has_new_frame(
-    plan: &Plan,
-    addr: Addr,
-    before: &[Deed],
-    a: NodeId,
-    links: &[Link],
-    packet: &PacketView<'_>,
-) -> bool
-    requires { KeepsLinks plan.now addr (past_in a before.now) links.now }
-    ensures { result ≡ is_new_frame plan.now.cluster_key (past_in a before.now) packet.now }
+/// Returns true if the packet, which comes at the moment, has a frame, and no frame with its number came from its sender before.
+/// `links` is what is kept of the links of the moment's node.
+fn has_new_frame(moment: Moment<'_>, links: &[Link], packet: &PacketView<'_>) -> bool
+    requires { KeepsLinks moment.plan.now moment.addr (past_in moment.node moment.before.now) links.now }
+    ensures { let m = moment.entry in result ≡ is_new_frame m.plan.now.cluster_key (past_in m.node m.before.now) packet.now }
 {
     let frame = packet.head().frame;
-    let link = link_at(plan, addr, before, a, links, sender(packet));
+    let link = link_at(moment, links, sender(packet));
     frame != 0 && !link.came.contains(&frame)
 }
 
-/// Adds the group's steps from the packet: first those of its acknowledgement, then those of its frame if it is new.
+/// Adds the group's steps from the packet, which comes at the moment: first those of its acknowledgement, then those of its frame if
+/// it is new. `nodes` is what is kept of each node.
 fn of_packet(
-    plan: &Plan,
-    addr: Addr,
-    before: &[Deed],
-    a: NodeId,
+    moment: Moment<'_>,
     nodes: &[NodeKept],
     packet: &PacketView<'_>,
     steps: &mut Vec<GroupStep>,
 ) -> Result<(), OutOfMemory>
-    requires { Keeps plan.now addr (reverse before.now) nodes.now }
-    ensures { OnOk result (steps.new.items ≡ steps.old.items ++ arrived plan.now addr (reverse before.now) a packet.now) }
+    requires { Keeps moment.plan.now moment.addr (reverse moment.before.now) nodes.now }
+    ensures { let m = moment.entry in OnOk result (steps.new.items ≡ steps.old.items ++ arrived m.plan.now m.addr (reverse m.before.now) m.node packet.now) }
 {
-    let node = node_at(plan, addr, before, nodes, a);
-    of_acknowledgement(plan, addr, before, a, &node.links, packet, steps)?;
-    if has_new_frame(plan, addr, before, a, &node.links, packet) {
-        of_frame(plan, addr, before, a, nodes, packet, steps)?;
+    let node = node_at(moment, nodes);
+    of_acknowledgement(moment, &node.links, packet, steps)?;
+    if has_new_frame(moment, &node.links, packet) {
+        of_frame(moment, nodes, packet, steps)?;
     }
     Ok(())
 }
 
-/// Adds the group's steps from the bytes that the running node `a` took. `before` is what happened before, and `nodes` what is kept
-/// of it.
+/// Adds the group's steps from the bytes that the moment's node took, which is running. `nodes` is what is kept of each node.
 pub(crate) fn of_taken(
-    plan: &Plan,
-    addr: Addr,
+    moment: Moment<'_>,
     key: &HmacKey,
-    before: &[Deed],
-    a: NodeId,
     nodes: &[NodeKept],
     bytes: &[u8],
     steps: &mut Vec<GroupStep>,
 ) -> Result<(), OutOfMemory>
-    requires key { key.now ≡ plan.now.cluster_key }
-    requires kept { Keeps plan.now addr (reverse before.now) nodes.now }
-    ensures { OnOk result (steps.new.items ≡ steps.old.items ++ flat_map (arrived plan.now addr (reverse before.now) a) (packets.read plan.now.cluster_key bytes.now)) }
+    requires key { key.now ≡ moment.plan.now.cluster_key }
+    requires kept { Keeps moment.plan.now moment.addr (reverse moment.before.now) nodes.now }
+    ensures { let m = moment.entry in OnOk result (steps.new.items ≡ steps.old.items ++ flat_map (arrived m.plan.now m.addr (reverse m.before.now) m.node) (packets.read m.plan.now.cluster_key bytes.now)) }
 {
     match read(key, bytes) {
         None => Ok(()),
-        Some(packet) => of_packet(plan, addr, before, a, nodes, &packet, steps),
+        Some(packet) => of_packet(moment, nodes, &packet, steps),
     }
 }

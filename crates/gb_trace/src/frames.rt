@@ -6,6 +6,19 @@ use gb_link::ack::covers;
 use gb_types::OutOfMemory;
 use std::alloc::Global;
 
+/// A frame that a node packed for another node. Frames are numbered from 1 on, and so are the places of the group's items.
+#[derive(Clone, Copy)]
+pub(crate) struct Frame {
+    /// The frame's number.
+    pub number: u64,
+    /// Whether it is acknowledged already.
+    pub acked: bool,
+    /// The place of the first of the group's items in it, or of the next item if it has none.
+    pub place: u64,
+    /// The number of the group's items in it.
+    pub count: u64,
+}
+
 /// The frames that a node packed for another node, in order.
 #[derive(Drop)]
 pub(crate) struct Frames {

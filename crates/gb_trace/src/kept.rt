@@ -8,10 +8,11 @@ ghost use Rattle.gb_trace.specs.Kept.{AreNew, IsNew, Keeps, KeepsNode};
 
 use crate::deed::Deed;
 use crate::links::{Link, keep_links, new_links};
+use crate::moment::Moment;
 use crate::past::{makes, meets, row_in, stops};
 use gb_cap::HmacKey;
 use gb_types::limits::NODES;
-use gb_types::{Addr, NodeId, OutOfMemory, Plan, Spec, TenantRow};
+use gb_types::{Addr, OutOfMemory, Spec, TenantRow};
 use std::alloc::Global;
 
 /// What is kept of what happened at a node.
@@ -69,63 +70,46 @@ fn keep_made(addr: Addr, deed: &Deed, made: &mut Option<Spec>)
     }
 }
 
-/// Takes in `deed`, which happened at this node. `before` is what happened before.
+/// Takes in `deed`, which happens at the moment. `node` is what is kept of the moment's node.
 fn keep_at(
-    plan: &Plan,
-    addr: Addr,
+    moment: Moment<'_>,
     key: &HmacKey,
-    before: &[Deed],
     deed: &Deed,
     node: &mut NodeKept,
 ) -> Result<(), OutOfMemory>
-    requires least { LEAST ≤ plan.now.silence }
-    requires key { key.now ≡ plan.now.cluster_key }
-    requires kept { KeepsNode plan.now addr deed.now.node (past_in deed.now.node before.now) node.old }
-    ensures { OnOk result (KeepsNode plan.now addr deed.now.node (record { event = deed.now.event; answer = deed.now.answer } ∷ past_in deed.now.node before.now) node.new) }
+    requires least { LEAST ≤ moment.plan.now.silence }
+    requires key { key.now ≡ moment.plan.now.cluster_key }
+    requires kept { KeepsNode moment.plan.now moment.addr moment.node (past_in moment.node moment.before.now) node.old }
+    ensures { let m = moment.entry in OnOk result (KeepsNode m.plan.now m.addr m.node (record { event = deed.now.event; answer = deed.now.answer } ∷ past_in m.node m.before.now) node.new) }
 {
-    let met = meets(plan, addr, before, node, deed);
-    keep_links(plan, addr, key, before, deed, &mut node.links)?;
-    node.row = node.row.or(row_in(addr.tenant, deed).copied());
+    let met = meets(moment, node, deed);
+    keep_links(moment, key, deed, &mut node.links)?;
+    node.row = node.row.or(row_in(moment.addr.tenant, deed).copied());
     node.stopped = either(stops(deed), node.stopped);
     node.met = either(met, node.met);
-    keep_made(addr, deed, &mut node.made);
+    keep_made(moment.addr, deed, &mut node.made);
     Ok(())
 }
 
-/// Takes in `deed`. `before` is what happened before.
+/// Takes in `deed`, which happens at the moment. `nodes` is what is kept of each node.
 pub(crate) fn keep(
-    plan: &Plan,
-    addr: Addr,
+    moment: Moment<'_>,
     key: &HmacKey,
-    before: &[Deed],
     deed: &Deed,
     nodes: &mut Vec<NodeKept>,
 ) -> Result<(), OutOfMemory>
-    requires least { LEAST ≤ plan.now.silence }
-    requires key { key.now ≡ plan.now.cluster_key }
-    requires kept { Keeps plan.now addr (reverse before.now) nodes.old.items }
-    ensures { OnOk result (Keeps plan.now addr (deed.now ∷ reverse before.now) nodes.new.items) }
+    requires least { LEAST ≤ moment.plan.now.silence }
+    requires key { key.now ≡ moment.plan.now.cluster_key }
+    requires kept { Keeps moment.plan.now moment.addr (reverse moment.before.now) nodes.old.items }
+    ensures { let m = moment.entry in OnOk result (Keeps m.plan.now m.addr (record { node = m.node; event = deed.now.event; answer = deed.now.answer } ∷ reverse m.before.now) nodes.new.items) }
 {
-    keep_at(
-        plan,
-        addr,
-        key,
-        before,
-        deed,
-        &mut nodes[deed.node().index()],
-    )
+    keep_at(moment, key, deed, &mut nodes[moment.node.index()])
 }
 
-/// Returns what is kept of the node `a`. `before` is what happened before, and `nodes` what is kept of it.
-pub(crate) fn node_at<'a>(
-    plan: &Plan,
-    addr: Addr,
-    before: &[Deed],
-    nodes: &'a [NodeKept],
-    a: NodeId,
-) -> &'a NodeKept
-    requires { Keeps plan.now addr (reverse before.now) nodes.now }
-    ensures { KeepsNode plan.now addr a (past_in a before.now) result.now }
+/// Returns what is kept of the moment's node. `nodes` is what is kept of each node.
+pub(crate) fn node_at<'a>(moment: Moment<'_>, nodes: &'a [NodeKept]) -> &'a NodeKept
+    requires { Keeps moment.plan.now moment.addr (reverse moment.before.now) nodes.now }
+    ensures { let m = moment.entry in KeepsNode m.plan.now m.addr m.node (past_in m.node m.before.now) result.now }
 {
-    &nodes[a.index()]
+    &nodes[moment.node.index()]
 }

@@ -12,6 +12,7 @@ mod frames;
 mod kept;
 pub mod laws;
 mod links;
+mod moment;
 mod noticed;
 pub mod observation;
 mod past;

@@ -7,12 +7,13 @@ ghost use Rattle.gb_trace.specs.Kept.{AreBare, IsBare, IsFront, KeepsLink, Keeps
 
 use crate::deed::Deed;
 use crate::frames::Frames;
+use crate::moment::Moment;
 use crate::reading::{came, count_in, packed, sender, target};
 use crate::silence::{is_silent, ticks};
 use gb_cap::HmacKey;
 use gb_frame::PacketView;
 use gb_types::limits::NODES;
-use gb_types::{Addr, NodeId, OutOfMemory, Plan};
+use gb_types::{NodeId, OutOfMemory};
 use std::alloc::Global;
 use std::collections::HashSet;
 
@@ -88,66 +89,58 @@ fn tick_all(silence: u16, links: &mut Vec<Link>) -> Result<(), OutOfMemory>
     Ok(())
 }
 
-/// Takes in `deed`, which took no packet and is no tick: if it packed a frame, that is added.
+/// Takes in `deed`, which happens at the moment and took no packet and is no tick: if it packed a frame, that is added. `links` is
+/// what is kept of the links of the moment's node.
 fn keep_packed(
-    plan: &Plan,
-    addr: Addr,
+    moment: Moment<'_>,
     key: &HmacKey,
-    before: &[Deed],
     deed: &Deed,
     links: &mut Vec<Link>,
 ) -> Result<(), OutOfMemory>
-    requires least { LEAST ≤ plan.now.silence }
-    requires key { key.now ≡ plan.now.cluster_key }
+    requires least { LEAST ≤ moment.plan.now.silence }
+    requires key { key.now ≡ moment.plan.now.cluster_key }
     requires untaken { past.came key.now deed.now.event deed.now.answer ≡ [] }
     requires unticked { past.ticks deed.now.event deed.now.answer ≡ [] }
-    requires kept { KeepsLinks plan.now addr (past_in deed.now.node before.now) links.old.items }
-    ensures { OnOk result (KeepsLinks plan.now addr (record { event = deed.now.event; answer = deed.now.answer } ∷ past_in deed.now.node before.now) links.new.items) }
+    requires kept { KeepsLinks moment.plan.now moment.addr (past_in moment.node moment.before.now) links.old.items }
+    ensures { let m = moment.entry in OnOk result (KeepsLinks m.plan.now m.addr (record { event = deed.now.event; answer = deed.now.answer } ∷ past_in m.node m.before.now) links.new.items) }
 {
     let Some(to) = target(deed) else {
         return Ok(());
     };
     match packed(key, to, deed) {
         None => Ok(()),
-        Some(packet) => links[to.index()].frames.pack(count_in(addr, &packet)),
+        Some(packet) => {
+            let count = count_in(moment.addr, &packet);
+            links[to.index()].frames.pack(count)
+        }
     }
 }
 
-/// Takes in `deed`, which happened at the node of these links. `before` is what happened before.
+/// Takes in `deed`, which happens at the moment. `links` is what is kept of the links of the moment's node.
 pub(crate) fn keep_links(
-    plan: &Plan,
-    addr: Addr,
+    moment: Moment<'_>,
     key: &HmacKey,
-    before: &[Deed],
     deed: &Deed,
     links: &mut Vec<Link>,
 ) -> Result<(), OutOfMemory>
-    requires least { LEAST ≤ plan.now.silence }
-    requires key { key.now ≡ plan.now.cluster_key }
-    requires kept { KeepsLinks plan.now addr (past_in deed.now.node before.now) links.old.items }
-    ensures { OnOk result (KeepsLinks plan.now addr (record { event = deed.now.event; answer = deed.now.answer } ∷ past_in deed.now.node before.now) links.new.items) }
+    requires least { LEAST ≤ moment.plan.now.silence }
+    requires key { key.now ≡ moment.plan.now.cluster_key }
+    requires kept { KeepsLinks moment.plan.now moment.addr (past_in moment.node moment.before.now) links.old.items }
+    ensures { let m = moment.entry in OnOk result (KeepsLinks m.plan.now m.addr (record { event = deed.now.event; answer = deed.now.answer } ∷ past_in m.node m.before.now) links.new.items) }
 {
     if let Some(packet) = came(key, deed) {
         return links[sender(&packet).index()].take(&packet);
     }
     if ticks(deed) {
-        return tick_all(plan.silence, links);
+        return tick_all(moment.plan.silence, links);
     }
-    keep_packed(plan, addr, key, before, deed, links)
+    keep_packed(moment, key, deed, links)
 }
 
-/// Returns what is kept of the link to the node `b`. `links` is what is kept of the links of the node `a`, and `before` what
-/// happened before.
-pub(crate) fn link_at<'a>(
-    plan: &Plan,
-    addr: Addr,
-    before: &[Deed],
-    a: NodeId,
-    links: &'a [Link],
-    b: NodeId,
-) -> &'a Link
-    requires { KeepsLinks plan.now addr (past_in a before.now) links.now }
-    ensures { KeepsLink plan.now addr b.number (past_in a before.now) result.now }
+/// Returns what is kept of the link to the node `b`. `links` is what is kept of the links of the moment's node.
+pub(crate) fn link_at<'a>(moment: Moment<'_>, links: &'a [Link], b: NodeId) -> &'a Link
+    requires { KeepsLinks moment.plan.now moment.addr (past_in moment.node moment.before.now) links.now }
+    ensures { let m = moment.entry in KeepsLink m.plan.now m.addr b.number (past_in m.node m.before.now) result.now }
 {
     &links[b.index()]
 }

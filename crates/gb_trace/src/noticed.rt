@@ -8,13 +8,13 @@ ghost use Rattle.gb_isolation.specs.Project.{is_noticed_at, notices, ticked};
 ghost use Rattle.gb_trace.specs.Deeds.{past_in};
 ghost use Rattle.gb_trace.specs.Kept.{KeepsLinks};
 
-use crate::deed::Deed;
 use crate::links::Link;
+use crate::moment::Moment;
 use crate::silence::was_noticed;
 use crate::steps::at;
 use gb_alone::{GroupEvent, GroupStep};
 use gb_types::limits::NODES;
-use gb_types::{Addr, NodeId, NodeSet, OutOfMemory, Plan, Spec};
+use gb_types::{NodeId, NodeSet, OutOfMemory, Spec};
 
 /// Adds the notice of the node `other`, if it is another member and `new` is true.
 fn add_notice(
@@ -32,24 +32,20 @@ fn add_notice(
     Ok(())
 }
 
-/// Adds the notices of the members that are noticed at the node `a`. `before` is what happened before, and `links` what is kept of
-/// the links of `a`.
+/// Adds the notices of the members that are noticed at the moment's node. `links` is what is kept of the links of that node.
 pub(crate) fn add_noticed(
-    plan: &Plan,
-    addr: Addr,
-    a: NodeId,
+    moment: Moment<'_>,
     spec: &Spec,
-    before: &[Deed],
     links: &[Link],
     steps: &mut Vec<GroupStep>,
 ) -> Result<(), OutOfMemory>
-    requires { KeepsLinks plan.now addr (past_in a before.now) links.now }
-    ensures { OnOk result (steps.new.items ≡ steps.old.items ++ notices a spec.now (is_noticed_at plan.now a (past_in a before.now))) }
+    requires { KeepsLinks moment.plan.now moment.addr (past_in moment.node moment.before.now) links.now }
+    ensures { let m = moment.entry in OnOk result (steps.new.items ≡ steps.old.items ++ notices m.node spec.now (is_noticed_at m.plan.now m.node (past_in m.node m.before.now))) }
 {
     for b in 0..NODES {
         let other = NodeId::new(b as u8);
-        let new = was_noticed(plan, addr, a, other, before, links);
-        add_notice(a, spec, other, new, steps)?;
+        let new = was_noticed(moment, links, other);
+        add_notice(moment.node, spec, other, new, steps)?;
     }
     Ok(())
 }

@@ -12,12 +12,13 @@ ghost use Rattle.gb_trace.specs.Kept.{KeepsNode};
 
 use crate::deed::Deed;
 use crate::kept::NodeKept;
+use crate::moment::Moment;
 use gb_cap::token::admits;
 use gb_cap::{Need, Token};
 use gb_node::{Halted, NodeAnswer, NodeEvent};
 use gb_rules::address::is_same;
 use gb_table::need::command_need;
-use gb_types::{Action, Addr, GroupCommand, NodeId, Plan, Reply, Request, Spec, TenantRow};
+use gb_types::{Action, Addr, GroupCommand, NodeId, Reply, Request, Spec, TenantRow};
 
 /// Returns the row of the tenant, if the request with its reply added it.
 pub(crate) fn row_added<'a>(
@@ -72,19 +73,13 @@ pub(crate) fn is_own_by(addr: Addr, a: NodeId, row: Option<&TenantRow>, request:
     }
 }
 
-/// Returns true if the request is one of the group at the node: it names the group and has the token that it needs there. `row`
-/// is the row of the group's tenant at the node, and `before` is what happened before.
-pub(crate) fn is_own_request(
-    addr: Addr,
-    a: NodeId,
-    before: &[Deed],
-    row: Option<&TenantRow>,
-    request: &Request,
-) -> bool
-    requires { option_copied row ≡ row_of addr.tenant (tenants_in (past_in a before.now)) }
-    ensures { result ≡ projected.is_own_request a addr (past_in a before.now) request.now }
+/// Returns true if the request is one of the group at the moment's node: it names the group and has the token that it needs there.
+/// `row` is the row of the group's tenant at that node.
+pub(crate) fn is_own_request(moment: Moment<'_>, row: Option<&TenantRow>, request: &Request) -> bool
+    requires { option_copied row ≡ row_of moment.addr.tenant (tenants_in (past_in moment.node moment.before.now)) }
+    ensures { let m = moment.entry in result ≡ projected.is_own_request m.node m.addr (past_in m.node m.before.now) request.now }
 {
-    is_own_by(addr, a, row, request)
+    is_own_by(moment.addr, moment.node, row, request)
 }
 
 /// Returns true if the node stopped by `deed`.
@@ -100,11 +95,11 @@ pub(crate) fn stops(deed: &Deed) -> bool
     }
 }
 
-/// Returns true if `deed` is a request of the group, after the node where it happened had stopped. `before` is what happened
-/// before, and `node` what is kept of it at that node.
-pub(crate) fn meets(plan: &Plan, addr: Addr, before: &[Deed], node: &NodeKept, deed: &Deed) -> bool
-    requires { KeepsNode plan.now addr deed.now.node (past_in deed.now.node before.now) node.now }
-    ensures { result ≡ projected.is_met_by deed.now.node addr (past_in deed.now.node before.now) deed.now.event deed.now.answer }
+/// Returns true if `deed`, which happens at the moment, is a request of the group, and the moment's node had stopped before. `node`
+/// is what is kept of that node.
+pub(crate) fn meets(moment: Moment<'_>, node: &NodeKept, deed: &Deed) -> bool
+    requires { KeepsNode moment.plan.now moment.addr moment.node (past_in moment.node moment.before.now) node.now }
+    ensures { let m = moment.entry in result ≡ projected.is_met_by m.node m.addr (past_in m.node m.before.now) deed.now.event deed.now.answer }
 {
     let NodeEvent::Request(request) = deed.event() else {
         return false;
@@ -112,7 +107,7 @@ pub(crate) fn meets(plan: &Plan, addr: Addr, before: &[Deed], node: &NodeKept, d
     let NodeAnswer::Reply(_) = deed.answer() else {
         return false;
     };
-    node.stopped && is_own_request(addr, deed.node(), before, node.row.as_ref(), request)
+    node.stopped && is_own_request(moment, node.row.as_ref(), request)
 }
 
 /// Returns the spec with which the request makes the group, or `None` if it, with its reply, does not make it.

@@ -10,6 +10,7 @@ use crate::asked::of_request;
 use crate::carried::{of_packed, of_taken};
 use crate::deed::{Deed, deeds_of};
 use crate::kept::{NodeKept, keep, new_nodes, node_at};
+use crate::moment::Moment;
 use crate::noticed::of_tick;
 use crate::steps::add;
 use crate::trace::Trace;
@@ -20,45 +21,41 @@ use gb_node::{NodeAnswer, NodeEvent, PacketAnswer, Sent, Ticked};
 use gb_types::{Addr, OutOfMemory, Plan};
 use std::alloc::Global;
 
-/// Adds the group's steps from `deed`. `before` is what happened before, and `nodes` what is kept of it.
+/// Adds the group's steps from `deed`, which happens at the moment. `nodes` is what is kept of each node.
 fn of_deed(
     alloc: Global,
-    plan: &Plan,
-    addr: Addr,
+    moment: Moment<'_>,
     key: &HmacKey,
-    before: &[Deed],
     nodes: &[NodeKept],
     deed: &Deed,
     steps: &mut Vec<GroupStep>,
 ) -> Result<(), OutOfMemory>
-    requires key { key.now ≡ plan.now.cluster_key }
-    requires kept { Keeps plan.now addr (reverse before.now) nodes.now }
-    ensures { OnOk result (steps.new.items ≡ steps.old.items ++ gives plan.now addr (reverse before.now) deed.now.node deed.now.event deed.now.answer) }
+    requires key { key.now ≡ moment.plan.now.cluster_key }
+    requires kept { Keeps moment.plan.now moment.addr (reverse moment.before.now) nodes.now }
+    ensures { let m = moment.entry in OnOk result (steps.new.items ≡ steps.old.items ++ gives m.plan.now m.addr (reverse m.before.now) m.node deed.now.event deed.now.answer) }
 {
-    let a = deed.node();
-    let node = node_at(plan, addr, before, nodes, a);
+    let node = node_at(moment, nodes);
     match deed.event() {
         NodeEvent::Request(request) => match deed.answer() {
-            NodeAnswer::Reply(reply) => {
-                of_request(alloc, plan, addr, before, node, a, request, reply, steps)
-            }
+            NodeAnswer::Reply(reply) => of_request(alloc, moment, node, request, reply, steps),
             _ => Ok(()),
         },
         NodeEvent::Pack(b) => match deed.answer() {
             NodeAnswer::Sent(Sent::Packet(text)) => {
-                add(of_packed(addr, key, a, *b, text.as_slice()), steps)
+                let step = of_packed(moment.addr, key, moment.node, *b, text.as_slice());
+                add(step, steps)
             }
             _ => Ok(()),
         },
         NodeEvent::Packet(bytes) => match deed.answer() {
             NodeAnswer::Taken(PacketAnswer::Good(_)) => {
-                of_taken(plan, addr, key, before, a, nodes, bytes.as_slice(), steps)
+                of_taken(moment, key, nodes, bytes.as_slice(), steps)
             }
             _ => Ok(()),
         },
         NodeEvent::Tick => match deed.answer() {
             NodeAnswer::Ticked(Ticked::Noticed(found)) => {
-                of_tick(a, node.made.as_ref(), found, steps)
+                of_tick(moment.node, node.made.as_ref(), found, steps)
             }
             _ => Ok(()),
         },
@@ -82,8 +79,14 @@ fn of_deeds(
     for i in 0..deeds.len() {
         let before = &deeds[..i];
         let deed = &deeds[i];
-        of_deed(alloc, plan, addr, &key, before, &nodes, deed, &mut steps)?;
-        keep(plan, addr, &key, before, deed, &mut nodes)?;
+        let moment = Moment {
+            plan,
+            addr,
+            before,
+            node: deed.node(),
+        };
+        of_deed(alloc, moment, &key, &nodes, deed, &mut steps)?;
+        keep(moment, &key, deed, &mut nodes)?;
     }
     Ok(steps)
 }

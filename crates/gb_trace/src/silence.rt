@@ -8,8 +8,9 @@ ghost use Rattle.gb_trace.specs.Kept.{KeepsLinks};
 
 use crate::deed::Deed;
 use crate::links::{Link, link_at};
+use crate::moment::Moment;
 use gb_node::{NodeAnswer, NodeEvent, Ticked};
-use gb_types::{Addr, NodeId, Plan};
+use gb_types::NodeId;
 
 /// Returns true if `deed` is a tick that was answered with the nodes noticed.
 pub(crate) fn ticks(deed: &Deed) -> bool
@@ -31,19 +32,11 @@ pub(crate) fn is_silent(unheard: u64, silence: u16, before: bool) -> bool
     unheard >= u64::from(silence) || before
 }
 
-/// Returns true if the node `b` is noticed at the node `a`. `before` is what happened before, and `links` what is kept of the
-/// links of `a`.
-pub(crate) fn was_noticed(
-    plan: &Plan,
-    addr: Addr,
-    a: NodeId,
-    b: NodeId,
-    before: &[Deed],
-    links: &[Link],
-) -> bool
-    requires { KeepsLinks plan.now addr (past_in a before.now) links.now }
-    ensures { result ≡ is_noticed_at plan.now a (past_in a before.now) b.number }
+/// Returns true if the node `b` is noticed at the moment's node. `links` is what is kept of the links of that node.
+pub(crate) fn was_noticed(moment: Moment<'_>, links: &[Link], b: NodeId) -> bool
+    requires { KeepsLinks moment.plan.now moment.addr (past_in moment.node moment.before.now) links.now }
+    ensures { let m = moment.entry in result ≡ is_noticed_at m.plan.now m.node (past_in m.node m.before.now) b.number }
 {
-    let link = link_at(plan, addr, before, a, links, b);
-    b.number < plan.nodes && b.number != a.number && link.silent
+    let link = link_at(moment, links, b);
+    b.number < moment.plan.nodes && b.number != moment.node.number && link.silent
 }

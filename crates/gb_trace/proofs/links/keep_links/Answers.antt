@@ -8,22 +8,22 @@ use Rattle.gb_trace.proofs.links.keep_links.Goals as goal
 
 pub returns-in-Some : goal.returns-in-Some
 returns-in-Some c =
-    let plan = c.args.plan.now in
+    let plan = c.args.moment.plan.now in
     let d = c.args.deed.now in
     let h : Happened = record { event = d.event; answer = d.answer } in
     let positive : 0 < plan.silence = omega (arith, c.requires.least) in
     on_ok_weaker c.take.result
     (λ takes.
-    links_take plan c.args.addr h (past_in d.node c.args.before.now) c.args.links.now.items c.in-Some.packet c.index.result c.index_mut.result.now c.take.new.self positive c.index.ensures.bound
+    links_take plan c.args.moment.addr h (past_in c.args.moment.node c.args.moment.before.now) c.args.links.now.items c.in-Some.packet c.index.result c.index_mut.result.now c.take.new.self positive c.index.ensures.bound
     (c.index.ensures.value ∙ c.sender.ensures.number) (ap (λ k. came k d.event d.answer) (sym c.requires.key) ∙ c.in-Some.ensures) c.index_mut.ensures.value takes c.requires.kept)
     c.take.ensures
 
 pub returns-then-ticks : goal.returns-then-ticks
 returns-then-ticks c =
-    let plan = c.args.plan.now in
+    let plan = c.args.moment.plan.now in
     let d = c.args.deed.now in
     let h : Happened = record { event = d.event; answer = d.answer } in
     on_ok_weaker c.tick_all.result
     (λ ticked.
-    links_tick plan c.args.addr h (past_in d.node c.args.before.now) c.args.links.now.items c.tick_all.new.links.items (c.ticks.ensures ∙ ap (λ t. if t then Tick ∷ [] else []) c.if-ticks.true) ticked c.requires.kept)
+    links_tick plan c.args.moment.addr h (past_in c.args.moment.node c.args.moment.before.now) c.args.links.now.items c.tick_all.new.links.items (c.ticks.ensures ∙ ap (λ t. if t then Tick ∷ [] else []) c.if-ticks.true) ticked c.requires.kept)
     c.tick_all.ensures

@@ -5,4 +5,4 @@ use Rattle.gb_trace.proofs.NoticesLemmas.{notices_below}
 use Rattle.gb_trace.proofs.noticed.add_noticed.Given as goal
 
 abbrev pub invariant-loop-b : goal.invariant-loop-b
-invariant-loop-b l = l.steps.items ≡ l.fn.steps.items ++ notices_below l.a l.spec (is_noticed_at l.plan l.a (past_in l.a l.before)) l.b
+invariant-loop-b l = l.steps.items ≡ l.fn.steps.items ++ notices_below l.moment.node l.spec (is_noticed_at l.moment.plan.now l.moment.node (past_in l.moment.node l.moment.before.now)) l.b

@@ -1,4 +1,5 @@
-use Rattle.gb_types.specs.Common.{◌<◌, ◌≤◌, ◌++◌, ◌∙◌, List, length, take, arith, ap, sym, subst, reverse}
+use Rattle.gb_types.specs.Common.{◌<◌, ◌≤◌, ◌∷◌, ◌++◌, ◌∙◌, List, length, take, arith, ap, sym, subst, reverse}
+use Rattle.gb_types.specs.declared.node.NodeId.{NodeId}
 use Rattle.gb_cluster.specs.Common.{Did}
 use Rattle.gb_isolation.specs.Project.{gives, project}
 use Rattle.gb_trace.specs.Kept.{Keeps}
@@ -18,9 +19,13 @@ loop-i-preserved c =
     let d = c.index-deeds-i.result in
     let run = reverse (take i ds) in
     let lt : i < length ds = omega arith in
+    let there = c.node.ensures in
     let later = newest ds i d lt c.index-deeds-i.is in (
-      c.in_ok-of_deed.ensures ∙ (ap (λ xs. xs ++ gives plan g run d.node d.event d.answer) c.loop-i.invariant.0 ∙ sym (ap (project plan g) later ∙ more_projected plan g run d)),
-      subst (λ (r : List Did). Keeps plan g r c.keep.new.nodes.items) (sym later) c.in_ok-keep.ensures,
+      c.in_ok-of_deed.ensures
+          ∙ (ap (λ (a : NodeId). c.loop-i.steps.items ++ gives plan g run a d.event d.answer) there
+          ∙ (ap (λ xs. xs ++ gives plan g run d.node d.event d.answer) c.loop-i.invariant.0 ∙ sym (ap (project plan g) later ∙ more_projected plan g run d))),
+      subst (λ (r : List Did). Keeps plan g r c.keep.new.nodes.items) (sym later)
+          (subst (λ (a : NodeId). Keeps plan g (record { node = a; event = d.event; answer = d.answer } ∷ run) c.keep.new.nodes.items) there c.in_ok-keep.ensures),
     )
 
 pub returns : goal.returns
