@@ -82,14 +82,18 @@ fn step_at(
             group[me.index()].other_dropped();
             Ok(())
         }
-        GroupEvent::Took(b, count) => group[me.index()].took(*b, *count),
-        GroupEvent::Done(b, place, count) => group[me.index()].mark_done(*b, *place, *count),
+        GroupEvent::Took { to: b, count } => group[me.index()].took(*b, *count),
+        GroupEvent::Done {
+            by: b,
+            place,
+            count,
+        } => group[me.index()].mark_done(*b, *place, *count),
         GroupEvent::Notice(q) => group[me.index()].notice(alloc, me, *q),
         GroupEvent::Stop => {
             group[me.index()].stop();
             Ok(())
         }
-        GroupEvent::Came(from, place) => {
+        GroupEvent::Came { from, place } => {
             item_at(alloc, bounds.version_of(me), group, me, *from, *place)
         }
         GroupEvent::Make(_)
@@ -97,7 +101,7 @@ fn step_at(
         | GroupEvent::Shut
         | GroupEvent::Drop
         | GroupEvent::Say(_)
-        | GroupEvent::Fetch(_, _) => command_at(alloc, bounds, address, group, me, &step.event),
+        | GroupEvent::Fetch { .. } => command_at(alloc, bounds, address, group, me, &step.event),
     }
 }
 

@@ -17,18 +17,18 @@ pub enum GroupEvent {
     Drop,
     /// A command to say something.
     Say(NewMessage),
-    /// A command to fetch the log: the place of the first entry, and how many entries at most.
-    Fetch(u32, u32),
+    /// A command to fetch the log, from the entry with index `from` on, up to `most` entries.
+    Fetch { from: u32, most: u32 },
     /// Another generation of the group's room is made: its number.
     OtherMade(u32),
     /// Another generation of the group's room is dropped.
     OtherDropped,
-    /// Further items put out to the node are carried: the node, and how many items.
-    Took(NodeId, u64),
-    /// An item comes: the node that put it out, and the item's place among those that it put out to this node.
-    Came(NodeId, u64),
-    /// Items put out to the node are acknowledged: the node, the place of the first item, and how many items.
-    Done(NodeId, u64, u64),
+    /// The next `count` items put out to the node `to` are carried.
+    Took { to: NodeId, count: u64 },
+    /// An item comes. `from` is the node that put it out, and `place` the item's place, from 1, among those that it put out to this node.
+    Came { from: NodeId, place: u64 },
+    /// The node `by` acknowledges `count` items that were put out to it, from the item with this place on.
+    Done { by: NodeId, place: u64, count: u64 },
     /// The node is noticed.
     Notice(NodeId),
     /// This node has stopped.

@@ -355,13 +355,13 @@ impl Member {
             GroupEvent::Shut => Ok(self.shut_reply()),
             GroupEvent::Drop => Ok(self.drop_reply()),
             GroupEvent::Say(message) => self.say_reply(alloc, bounds, me, message),
-            GroupEvent::Fetch(from, max) => self.fetch_reply(alloc, me, *from, *max),
+            GroupEvent::Fetch { from, most: max } => self.fetch_reply(alloc, me, *from, *max),
             GroupEvent::Tenant(_)
             | GroupEvent::OtherMade(_)
             | GroupEvent::OtherDropped
-            | GroupEvent::Took(_, _)
-            | GroupEvent::Came(_, _)
-            | GroupEvent::Done(_, _, _)
+            | GroupEvent::Took { .. }
+            | GroupEvent::Came { .. }
+            | GroupEvent::Done { .. }
             | GroupEvent::Notice(_)
             | GroupEvent::Stop => Ok(Reply::Done),
         }

@@ -72,7 +72,7 @@ fn letter(event: &NodeEvent) -> u8 {
         NodeEvent::Request(_) => b'r',
         NodeEvent::Packet(_) => b'n',
         NodeEvent::Pack(_) => b'p',
-        NodeEvent::Again(_, _) => b'g',
+        NodeEvent::Again { .. } => b'g',
         NodeEvent::Ack(_) => b'a',
         NodeEvent::Tick => b't',
         NodeEvent::Stop => b's',

@@ -59,7 +59,14 @@ fn owner(tenant: u8) -> Token {
 }
 
 fn member(tenant: u8, me: NodeId) -> Token {
-    token(&key_of(tenant), Need::Member(u16::from(tenant), 1, me))
+    token(
+        &key_of(tenant),
+        Need::Member {
+            tenant: u16::from(tenant),
+            group: 1,
+            node: me,
+        },
+    )
 }
 
 fn spec() -> Spec {
@@ -106,6 +113,6 @@ pub fn request(
             let seq = Some(seq);
             by_member(tenant, me, GroupCommand::Say(NewMessage { payload, seq }))
         }
-        Asked::Fetch(from, most) => by_member(tenant, me, GroupCommand::Fetch(from, most)),
+        Asked::Fetch(from, most) => by_member(tenant, me, GroupCommand::Fetch { from, most }),
     })
 }

@@ -71,7 +71,14 @@ pub fn spec() -> Spec {
 }
 
 fn member(addr: Addr, node: NodeId) -> Token {
-    token(&TENANT_KEY, Need::Member(addr.tenant, addr.group, node))
+    token(
+        &TENANT_KEY,
+        Need::Member {
+            tenant: addr.tenant,
+            group: addr.group,
+            node,
+        },
+    )
 }
 
 fn owner(addr: Addr) -> Token {
@@ -157,7 +164,12 @@ pub fn drop_group(events: &mut Vec<Event>, node: NodeId, tenant: u16) -> Result<
 /// `Err` if there is no memory.
 pub fn fetch(events: &mut Vec<Event>, node: NodeId, tenant: u16) -> Result<(), OutOfMemory> {
     let addr = group_of(tenant);
-    ask_as_member(events, node, addr, GroupCommand::Fetch(0, 16))
+    ask_as_member(
+        events,
+        node,
+        addr,
+        GroupCommand::Fetch { from: 0, most: 16 },
+    )
 }
 
 /// Returns the events of a run of two nodes, in order. Both have the groups of three tenants, and each tenant says a message at the
@@ -184,7 +196,11 @@ fn add_events(alloc: Global, events: &mut Vec<Event>) -> Result<(), OutOfMemory>
     events.push(Event::Arrive(1))?;
     events.push(Event::Arrive(1))?;
     let addr = group_of(7);
-    let forged = Request::of_group(member(addr, SECOND), addr, GroupCommand::Fetch(0, 16));
+    let forged = Request::of_group(
+        member(addr, SECOND),
+        addr,
+        GroupCommand::Fetch { from: 0, most: 16 },
+    );
     ask(events, FIRST, forged)?;
     drop_group(events, SECOND, 9)?;
     fetch(events, SECOND, 7)?;

@@ -70,15 +70,20 @@ pub fn is_plan(plan: &Plan) -> bool
 /// Returns the event of a step.
 fn step_of(keys: &mut Keys, step: Step) -> Event {
     match step {
-        Step::Pack(node, to) => Event::At(node, NodeEvent::Pack(to)),
-        Step::Again(node, to, frame) => Event::At(node, NodeEvent::Again(to, frame)),
-        Step::Ack(node, to) => Event::At(node, NodeEvent::Ack(to)),
+        Step::Pack { node, to } => Event::At(node, NodeEvent::Pack(to)),
+        Step::Again { node, to, frame } => Event::At(node, NodeEvent::Again { to, frame }),
+        Step::Ack { node, to } => Event::At(node, NodeEvent::Ack(to)),
         Step::Arrive(packet) => Event::Arrive(packet),
         Step::Tick(node) => Event::At(node, NodeEvent::Tick),
         Step::Stop(node) => Event::At(node, NodeEvent::Stop),
-        Step::Fetch(node, addr, from, most) => {
+        Step::Fetch {
+            node,
+            address: addr,
+            from,
+            most,
+        } => {
             let token = keys.member(addr, node);
-            let request = Request::of_group(token, addr, GroupCommand::Fetch(from, most));
+            let request = Request::of_group(token, addr, GroupCommand::Fetch { from, most });
             Event::At(node, NodeEvent::Request(request))
         }
     }
@@ -237,7 +242,7 @@ fn is_answer_to(event: &NodeEvent, answer: &Answer) -> bool {
         (NodeEvent::Request(_), Answer::Reply(_)) => true,
         (NodeEvent::Packet(_), Answer::Taken(_)) => true,
         (NodeEvent::Pack(_), Answer::Sent(_)) => true,
-        (NodeEvent::Again(_, _), Answer::Sent(_)) => true,
+        (NodeEvent::Again { .. }, Answer::Sent(_)) => true,
         (NodeEvent::Ack(_), Answer::Sent(_)) => true,
         (NodeEvent::Tick, Answer::Ticked(_)) => true,
         (NodeEvent::Stop, Answer::Halted(_)) => true,

@@ -11,7 +11,7 @@ use std::alloc::Global;
 fn destination(event: &NodeEvent) -> Option<NodeId> {
     match event {
         NodeEvent::Pack(to) => Some(*to),
-        NodeEvent::Again(to, _) => Some(*to),
+        NodeEvent::Again { to, .. } => Some(*to),
         NodeEvent::Ack(to) => Some(*to),
         _ => None,
     }

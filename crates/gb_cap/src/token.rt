@@ -18,7 +18,11 @@ pub enum Need {
     /// To make, open, shut and drop groups of this tenant.
     Tenant(u16),
     /// To say and to fetch in a group, of this tenant and this number, at this node.
-    Member(u16, u16, NodeId),
+    Member {
+        tenant: u16,
+        group: u16,
+        node: NodeId,
+    },
 }
 
 impl HmacKey {
@@ -34,7 +38,11 @@ impl HmacKey {
                 let tenant = tenant.to_be_bytes();
                 self.hmac(&[b'T', tenant[0], tenant[1]])
             }
-            Need::Member(tenant, group, node) => {
+            Need::Member {
+                tenant,
+                group,
+                node,
+            } => {
                 let tenant = tenant.to_be_bytes();
                 let group = group.to_be_bytes();
                 self.hmac(&[b'M', tenant[0], tenant[1], group[0], group[1], node.number])

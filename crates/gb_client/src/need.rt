@@ -29,7 +29,11 @@ fn member_need(node: NodeId, words: &[&[u8]]) -> Option<Need>
         return None;
     };
     let address = read_address(tenant, group)?;
-    Some(Need::Member(address.tenant, address.group, node))
+    Some(Need::Member {
+        tenant: address.tenant,
+        group: address.group,
+        node,
+    })
 }
 
 // The need of a command in a group.

@@ -100,7 +100,7 @@ impl Secrets {
         let key = match need {
             Need::Admin => self.admin,
             Need::Tenant(_) => self.tenant,
-            Need::Member(_, _, _) => self.tenant,
+            Need::Member { .. } => self.tenant,
         };
         match key {
             Some(key) => Ok(token(&key, need)),

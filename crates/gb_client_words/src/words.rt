@@ -471,7 +471,11 @@ fn need<'a>(node: Option<NodeId>, matches: &ArgMatches<'a>) -> Result<Need, Plan
         ("member", Some(tenant), Some(group)) => {
             let tenant = read_u16(tenant.as_bytes()).ok_or(PlanFault::Tenant)?;
             let group = read_u16(group.as_bytes()).ok_or(PlanFault::Group)?;
-            Ok(Need::Member(tenant, group, node.ok_or(PlanFault::NoNode)?))
+            Ok(Need::Member {
+                tenant,
+                group,
+                node: node.ok_or(PlanFault::NoNode)?,
+            })
         }
         _ => Err(PlanFault::Need),
     }

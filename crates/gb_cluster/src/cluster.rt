@@ -59,7 +59,7 @@ fn receiver(event: &NodeEvent) -> Option<NodeId>
 {
     match event {
         NodeEvent::Pack(to) => Some(*to),
-        NodeEvent::Again(to, _) => Some(*to),
+        NodeEvent::Again { to, .. } => Some(*to),
         NodeEvent::Ack(to) => Some(*to),
         _ => None,
     }

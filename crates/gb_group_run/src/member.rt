@@ -285,13 +285,13 @@ impl Member {
             GroupEvent::Shut => Ok(self.shut_group()),
             GroupEvent::Drop => Ok(self.drop_group()),
             GroupEvent::Say(message) => Ok(self.say(bounds.version_of(me), message)),
-            GroupEvent::Fetch(from, most) => self.fetch(*from, *most),
+            GroupEvent::Fetch { from, most } => self.fetch(*from, *most),
             GroupEvent::Tenant(_)
             | GroupEvent::OtherMade(_)
             | GroupEvent::OtherDropped
-            | GroupEvent::Took(_, _)
-            | GroupEvent::Came(_, _)
-            | GroupEvent::Done(_, _, _)
+            | GroupEvent::Took { .. }
+            | GroupEvent::Came { .. }
+            | GroupEvent::Done { .. }
             | GroupEvent::Notice(_)
             | GroupEvent::Stop => Ok(Reply::Done),
         }

@@ -68,8 +68,12 @@ fn step_at(
             group[at].other_dropped();
             Ok(())
         }
-        GroupEvent::Took(b, count) => group[at].took(alloc, *b, *count),
-        GroupEvent::Done(b, place, count) => group[at].mark(*b, *place, *count),
+        GroupEvent::Took { to: b, count } => group[at].took(alloc, *b, *count),
+        GroupEvent::Done {
+            by: b,
+            place,
+            count,
+        } => group[at].mark(*b, *place, *count),
         GroupEvent::Notice(q) => {
             group[at].notice(*q);
             Ok(())
@@ -78,7 +82,7 @@ fn step_at(
             group[at].stop();
             Ok(())
         }
-        GroupEvent::Came(from, place) => {
+        GroupEvent::Came { from, place } => {
             item_at(alloc, bounds.version_of(me), group, me, *from, *place)
         }
         GroupEvent::Make(_)
@@ -86,7 +90,7 @@ fn step_at(
         | GroupEvent::Shut
         | GroupEvent::Drop
         | GroupEvent::Say(_)
-        | GroupEvent::Fetch(_, _) => { group[at].command(alloc, bounds, address, me, &step.event) }
+        | GroupEvent::Fetch { .. } => { group[at].command(alloc, bounds, address, me, &step.event) }
     }
 }
 

@@ -165,7 +165,7 @@ fn gives_nothing(event: &NodeEvent, answer: &NodeAnswer) -> bool
 {
     match event {
         NodeEvent::Pack(_) => is_nothing(answer),
-        NodeEvent::Again(_, _) => is_nothing(answer),
+        NodeEvent::Again { .. } => is_nothing(answer),
         _ => false,
     }
 }

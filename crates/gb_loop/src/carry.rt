@@ -99,7 +99,7 @@ impl<'a, L: Tapes, H: Wait + Clock, P: Port, S: Settle + Copy> NodeLoop<'a, L, H
         }
         link.repaired = number;
         link.resent();
-        if self.mail.send(NodeEvent::Again(to, number), to) {
+        if self.mail.send(NodeEvent::Again { to, frame: number }, to) {
             link.sent(self.now);
         }
         self.set_link(to, link);
@@ -173,7 +173,7 @@ impl<'a, L: Tapes, H: Wait + Clock, P: Port, S: Settle + Copy> NodeLoop<'a, L, H
         let now = self.now;
         let mut link = self.link(to);
         if link.open > 0 && link.again_at <= now {
-            if self.mail.send(NodeEvent::Again(to, 0), to) {
+            if self.mail.send(NodeEvent::Again { to, frame: 0 }, to) {
                 link.sent(now);
             } else if !self.mail.is_short {
                 // No frame is open: the other node is noticed.

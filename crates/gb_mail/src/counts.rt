@@ -13,7 +13,7 @@ pub(crate) fn asked_figure(request: &Request) -> Figure {
         Action::Group(_, GroupCommand::Shut) => Figure::RequestsShut,
         Action::Group(_, GroupCommand::Drop) => Figure::RequestsDrop,
         Action::Group(_, GroupCommand::Say(_)) => Figure::RequestsSay,
-        Action::Group(_, GroupCommand::Fetch(_, _)) => Figure::RequestsFetch,
+        Action::Group(_, GroupCommand::Fetch { .. }) => Figure::RequestsFetch,
     }
 }
 
@@ -73,7 +73,7 @@ pub(crate) fn count_reply(figures: &mut Figures, asked: Figure, places: u64, rep
 pub(crate) fn sent_figure(event: &NodeEvent) -> Figure {
     match event {
         NodeEvent::Pack(_) => Figure::FramesPacked,
-        NodeEvent::Again(_, _) => Figure::FramesAgain,
+        NodeEvent::Again { .. } => Figure::FramesAgain,
         _ => Figure::Acknowledgements,
     }
 }

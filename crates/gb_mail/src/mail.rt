@@ -140,7 +140,7 @@ fn reply_of(outcome: Result<NodeAnswer, HostFault>) -> Reply
 // Returns the group that a request may change.
 fn changed_by(request: &Request) -> Option<Addr> {
     match &request.what {
-        Action::AddTenant(_) | Action::Group(_, GroupCommand::Fetch(_, _)) => None,
+        Action::AddTenant(_) | Action::Group(_, GroupCommand::Fetch { .. }) => None,
         Action::Group(address, _) => Some(*address),
     }
 }

@@ -19,7 +19,10 @@ fn copy_command(alloc: Global, command: &GroupCommand) -> Result<GroupCommand, O
         GroupCommand::Shut => GroupCommand::Shut,
         GroupCommand::Drop => GroupCommand::Drop,
         GroupCommand::Say(message) => GroupCommand::Say(message.duplicate(alloc)?),
-        GroupCommand::Fetch(from, most) => GroupCommand::Fetch(*from, *most),
+        GroupCommand::Fetch { from, most } => GroupCommand::Fetch {
+            from: *from,
+            most: *most,
+        },
     })
 }
 

@@ -16,9 +16,8 @@ pub enum NodeEvent {
     Packet(PacketText),
     /// The first of the items that wait for another node are packed as the next frame of the link to it.
     Pack(NodeId),
-    /// An unacknowledged frame for another node is sent again: the node, and the frame's number. 0 stands for the lowest number
-    /// of an unacknowledged frame.
-    Again(NodeId, u64),
+    /// The unacknowledged frame with the number `frame` is sent again to the node `to`. 0 stands for the lowest such number.
+    Again { to: NodeId, frame: u64 },
     /// An acknowledgement without a frame is sent to another node.
     Ack(NodeId),
     /// The time ticks.
@@ -34,7 +33,7 @@ impl Drop for NodeEvent {
             NodeEvent::Request(_) => {}
             NodeEvent::Packet(_) => {}
             NodeEvent::Pack(_) => {}
-            NodeEvent::Again(_, _) => {}
+            NodeEvent::Again { to: _, frame: _ } => {}
             NodeEvent::Ack(_) => {}
             NodeEvent::Tick => {}
             NodeEvent::Stop => {}
@@ -51,7 +50,10 @@ impl NodeEvent {
             NodeEvent::Request(request) => NodeEvent::Request(copy_request(alloc, request)?),
             NodeEvent::Packet(bytes) => NodeEvent::Packet(copy_text(alloc, bytes)?),
             NodeEvent::Pack(to) => NodeEvent::Pack(*to),
-            NodeEvent::Again(to, number) => NodeEvent::Again(*to, *number),
+            NodeEvent::Again { to, frame: number } => NodeEvent::Again {
+                to: *to,
+                frame: *number,
+            },
             NodeEvent::Ack(to) => NodeEvent::Ack(*to),
             NodeEvent::Tick => NodeEvent::Tick,
             NodeEvent::Stop => NodeEvent::Stop,
@@ -65,9 +67,9 @@ impl NodeEvent {
     {
         match self {
             NodeEvent::Request(request) => {
-                matches!(&request.what, Action::Group(_, GroupCommand::Fetch(_, _)))
+                matches!(&request.what, Action::Group(_, GroupCommand::Fetch { .. }))
             }
-            NodeEvent::Again(_, _) => true,
+            NodeEvent::Again { .. } => true,
             NodeEvent::Ack(_) => true,
             _ => false,
         }
@@ -81,7 +83,8 @@ impl NodeEvent {
             (NodeEvent::Request(a), NodeEvent::Request(b)) => same_request(a, b),
             (NodeEvent::Packet(a), NodeEvent::Packet(b)) => same_text(a, b),
             (NodeEvent::Pack(a), NodeEvent::Pack(b)) => same_node(*a, *b),
-            (NodeEvent::Again(a, m), NodeEvent::Again(b, n)) => same_node(*a, *b) && *m == *n,
+            (NodeEvent::Again { to: a, frame: m }, NodeEvent::Again { to: b, frame: n }) =>
+                same_node(*a, *b) && *m == *n,
             (NodeEvent::Ack(a), NodeEvent::Ack(b)) => same_node(*a, *b),
             (NodeEvent::Tick, NodeEvent::Tick) => true,
             (NodeEvent::Stop, NodeEvent::Stop) => true,

@@ -587,7 +587,7 @@ impl Node {
             NodeEvent::Request(request) => NodeAnswer::Reply(self.request(request)),
             NodeEvent::Packet(bytes) => NodeAnswer::Taken(self.packet(bytes.as_slice())),
             NodeEvent::Pack(to) => NodeAnswer::Sent(self.pack(*to)),
-            NodeEvent::Again(to, number) => NodeAnswer::Sent(self.again(*to, *number)),
+            NodeEvent::Again { to, frame: number } => NodeAnswer::Sent(self.again(*to, *number)),
             NodeEvent::Ack(to) => NodeAnswer::Sent(self.ack(*to)),
             NodeEvent::Tick => NodeAnswer::Ticked(self.tick()),
             NodeEvent::Stop => NodeAnswer::Halted(self.stop()),

@@ -52,9 +52,13 @@ fn same_command(first: &GroupCommand, second: &GroupCommand) -> bool
         | (GroupCommand::Shut, GroupCommand::Shut)
         | (GroupCommand::Drop, GroupCommand::Drop) => true,
         (GroupCommand::Say(message), GroupCommand::Say(other)) => same_message(message, other),
-        (GroupCommand::Fetch(from, most), GroupCommand::Fetch(start, count)) => {
-            *from == *start && *most == *count
-        }
+        (
+            GroupCommand::Fetch { from, most },
+            GroupCommand::Fetch {
+                from: start,
+                most: count,
+            },
+        ) => { *from == *start && *most == *count }
         _ => false,
     }
 }

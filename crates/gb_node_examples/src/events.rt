@@ -37,7 +37,14 @@ fn owner(addr: Addr) -> Token {
 
 /// Returns the token of a group's member at a node.
 fn member(addr: Addr, me: u8) -> Token {
-    token(&TENANT_KEY, Need::Member(addr.tenant, addr.group, node(me)))
+    token(
+        &TENANT_KEY,
+        Need::Member {
+            tenant: addr.tenant,
+            group: addr.group,
+            node: node(me),
+        },
+    )
 }
 
 /// Returns the event by which a group's owner asks for something.
@@ -101,9 +108,12 @@ pub fn event(
         Step::MakeFar(addr, module) => make(*addr, *module, LAST),
         Step::Open(addr) => by_owner(*addr, GroupCommand::Open),
         Step::Say(addr, bytes) => say(alloc, me, *addr, bytes)?,
-        Step::Fetch(addr) => by_member(*addr, me, GroupCommand::Fetch(0, 16)),
+        Step::Fetch(addr) => by_member(*addr, me, GroupCommand::Fetch { from: 0, most: 16 }),
         Step::Pack(to) => NodeEvent::Pack(node(*to)),
-        Step::Again(to, frame) => NodeEvent::Again(node(*to), *frame),
+        Step::Again(to, frame) => NodeEvent::Again {
+            to: node(*to),
+            frame: *frame,
+        },
         Step::Ack(to) => NodeEvent::Ack(node(*to)),
         Step::Arrive(number) => arrive(alloc, sent, *number)?,
         Step::Packet(numbers, items) => NodeEvent::Packet(packet(alloc, numbers, items)?),

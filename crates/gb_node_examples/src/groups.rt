@@ -72,7 +72,14 @@ fn owner(addr: Addr) -> Token {
 }
 
 fn member(addr: Addr) -> Token {
-    token(&TENANT_KEY, Need::Member(addr.tenant, addr.group, ME))
+    token(
+        &TENANT_KEY,
+        Need::Member {
+            tenant: addr.tenant,
+            group: addr.group,
+            node: ME,
+        },
+    )
 }
 
 fn spec() -> Spec {
@@ -145,7 +152,7 @@ fn take(alloc: Global, table: &mut Table, step: Step, group: Group) -> Result<To
         }
         Step::Shut => by_owner(table, addr, GroupCommand::Shut),
         Step::Drop => by_owner(table, addr, GroupCommand::Drop),
-        Step::Fetch => by_member(table, addr, GroupCommand::Fetch(0, 16)),
+        Step::Fetch => by_member(table, addr, GroupCommand::Fetch { from: 0, most: 16 }),
     })
 }
 

@@ -50,7 +50,14 @@ fn token_of(holder: Holder) -> Token {
         Holder::Nobody => [0; 32],
         Holder::Admin => token(&ADMIN_KEY, Need::Admin),
         Holder::Owner => token(&TENANT_KEY, Need::Tenant(7)),
-        Holder::Member(group) => token(&TENANT_KEY, Need::Member(7, group, ME)),
+        Holder::Member(group) => token(
+            &TENANT_KEY,
+            Need::Member {
+                tenant: 7,
+                group,
+                node: ME,
+            },
+        ),
     }
 }
 
@@ -102,7 +109,7 @@ fn request(alloc: Global, ask: Ask, token: Token) -> Result<Request, OutOfMemory
             let payload = Payload::from_slice(alloc, [0; 4_097].get(..zeros).unwrap_or(&[]))?;
             in_group(group, GroupCommand::Say(NewMessage::new(payload)))
         }
-        Ask::Fetch(group, from) => in_group(group, GroupCommand::Fetch(from, 16)),
+        Ask::Fetch(group, from) => in_group(group, GroupCommand::Fetch { from, most: 16 }),
     };
     Ok(Request { token, what })
 }

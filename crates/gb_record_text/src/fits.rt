@@ -78,7 +78,7 @@ fn command_fits(command: &GroupCommand)
         GroupCommand::Make(spec) => spec_fits(spec),
         GroupCommand::Open | GroupCommand::Shut | GroupCommand::Drop => {}
         GroupCommand::Say(message) => message_fits(message),
-        GroupCommand::Fetch(from, most) => {
+        GroupCommand::Fetch { from, most } => {
             let _from = *from;
             let _most = *most;
         }
@@ -110,7 +110,7 @@ fn event_fits(event: &NodeEvent)
     match event {
         NodeEvent::Request(request) => request_fits(request),
         NodeEvent::Packet(text) => bytes_fit(text.as_slice()),
-        NodeEvent::Again(_, frame) => {
+        NodeEvent::Again { frame, .. } => {
             let _frame = *frame;
         }
         NodeEvent::Pack(_) => {}

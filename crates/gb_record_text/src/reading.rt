@@ -118,7 +118,7 @@ fn read_step(head: &[u8], words: &[&[u8]]) -> Option<(NodeId, NodeEvent)> {
             let to = read_node(to)?;
             let frame = read_number(frame, u64::MAX)?;
             if head == b"again".as_slice() {
-                return Some((node, NodeEvent::Again(to, frame)));
+                return Some((node, NodeEvent::Again { to, frame }));
             }
             None
         }
@@ -272,7 +272,7 @@ fn refused(event: &NodeEvent, why: Refusal) -> NodeAnswer {
     match event {
         NodeEvent::Request(_) => NodeAnswer::Reply(Reply::Refused(why)),
         NodeEvent::Packet(_) => NodeAnswer::Taken(PacketAnswer::Refused(why)),
-        NodeEvent::Pack(_) | NodeEvent::Again(_, _) | NodeEvent::Ack(_) => {
+        NodeEvent::Pack(_) | NodeEvent::Again { .. } | NodeEvent::Ack(_) => {
             NodeAnswer::Sent(Sent::Refused(why))
         }
         NodeEvent::Tick => NodeAnswer::Ticked(Ticked::Refused(why)),

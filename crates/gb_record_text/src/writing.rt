@@ -150,7 +150,7 @@ fn head_of(command: &GroupCommand) -> CommandHead
         GroupCommand::Shut => CommandHead::Shut,
         GroupCommand::Drop => CommandHead::Drop,
         GroupCommand::Say(_) => CommandHead::Say,
-        GroupCommand::Fetch(_, _) => CommandHead::Fetch,
+        GroupCommand::Fetch { .. } => CommandHead::Fetch,
     }
 }
 
@@ -162,7 +162,7 @@ fn put_command(out: &mut Vec<u8>, command: &GroupCommand) -> Result<(), OutOfMem
         GroupCommand::Make(spec) => put_spec(out, spec),
         GroupCommand::Open | GroupCommand::Shut | GroupCommand::Drop => Ok(()),
         GroupCommand::Say(message) => put_message(out, message),
-        GroupCommand::Fetch(from, most) => {
+        GroupCommand::Fetch { from, most } => {
             put_after(out, u64::from(*from))?;
             put_after(out, u64::from(*most))
         }
@@ -216,7 +216,7 @@ pub fn put_event(out: &mut Vec<u8>, node: NodeId, event: &NodeEvent) -> Result<(
             put_payload(out, text.as_slice())
         }
         NodeEvent::Pack(to) => put_two(out, b"pack ", node, *to),
-        NodeEvent::Again(to, frame) => {
+        NodeEvent::Again { to, frame } => {
             put_two(out, b"again ", node, *to)?;
             put_after(out, *frame)
         }

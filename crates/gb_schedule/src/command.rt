@@ -5,22 +5,37 @@ use gb_types::{Addr, NodeId, Payload, Request, Version};
 /// What a line asks for by a head and numbers alone: a fetch, and all that is asked of links, time and a node's end.
 #[derive(Clone, Copy)]
 pub enum Step {
-    /// Lets the first node pack the first item that waits for the second.
-    Pack(NodeId, NodeId),
-    /// Lets the first node send its frame with this number to the second again, if that frame is not
-    /// done; 0 stands for the lowest such number.
-    Again(NodeId, NodeId, u64),
-    /// Lets the first node acknowledge the frames that it received from the second.
-    Ack(NodeId, NodeId),
+    /// Lets `node` pack the first items that wait for the node `to`.
+    Pack {
+        node: NodeId,
+        to: NodeId,
+    },
+    /// Lets `node` send its frame with the number `frame` to the node `to` again, if that frame is not acknowledged. 0 stands for the
+    /// lowest such number.
+    Again {
+        node: NodeId,
+        to: NodeId,
+        frame: u64,
+    },
+    /// Lets `node` acknowledge the frames that it received from the node `to`.
+    Ack {
+        node: NodeId,
+        to: NodeId,
+    },
     /// Lets the packet with this number arrive at the node that it was sent to. Packets are numbered from 1 as they are sent.
     Arrive(u64),
     /// Lets time pass at a node.
     Tick(NodeId),
     /// Stops a node for good.
     Stop(NodeId),
-    /// Lets the group's member at a node read its log: the index of the first entry, and the most entries. The member's token is
-    /// added when the line is executed.
-    Fetch(NodeId, Addr, u32, u32),
+    /// Lets the group's member at `node` read its log, from the entry with index `from` on, up to `most` entries. The member's token
+    /// is added when the line is executed.
+    Fetch {
+        node: NodeId,
+        address: Addr,
+        from: u32,
+        most: u32,
+    },
 }
 
 /// How a cluster is started.

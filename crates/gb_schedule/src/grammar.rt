@@ -170,8 +170,13 @@ fn asked_at(keys: &mut Keys, node: NodeId, address: Addr, command: GroupCommand)
     ensures { result ≡ asked_at node address command }
 {
     let token = match &command {
-        GroupCommand::Fetch(from, most) => {
-            return Command::Step(Step::Fetch(node, address, *from, *most));
+        GroupCommand::Fetch { from, most } => {
+            return Command::Step(Step::Fetch {
+                node,
+                address,
+                from: *from,
+                most: *most,
+            });
         }
         GroupCommand::Say(_) => keys.member(address, node),
         _ => keys.tenant(address.tenant),
@@ -319,7 +324,7 @@ fn read_pack(nodes: u8, text: &[u8]) -> Option<Step>
         ↔ SpellsPack nodes (Commands.Step step) (words_of text.now) }
 {
     let (node, to) = two_nodes(nodes, text)?;
-    Some(Step::Pack(node, to))
+    Some(Step::Pack { node, to })
 }
 
 // again A B F
@@ -330,7 +335,11 @@ fn read_again(nodes: u8, text: &[u8]) -> Option<Step>
 {
     let last = u64::from(nodes) - 1;
     let [node, to, frame] = numbers_in(text, [last, last, u64::MAX])?;
-    Some(Step::Again(NodeId::new(node as u8), NodeId::new(to as u8), frame))
+    Some(Step::Again {
+        node: NodeId::new(node as u8),
+        to: NodeId::new(to as u8),
+        frame,
+    })
 }
 
 // ack A B
@@ -340,7 +349,7 @@ fn read_ack(nodes: u8, text: &[u8]) -> Option<Step>
         ↔ SpellsAck nodes (Commands.Step step) (words_of text.now) }
 {
     let (node, to) = two_nodes(nodes, text)?;
-    Some(Step::Ack(node, to))
+    Some(Step::Ack { node, to })
 }
 
 // arrive K
@@ -388,7 +397,12 @@ fn read_first_fetch(nodes: u8, text: &[u8]) -> Option<Step>
         group: group as u16,
         generation: 0,
     };
-    Some(Step::Fetch(NodeId::new(node as u8), address, from as u32, most as u32))
+    Some(Step::Fetch {
+        node: NodeId::new(node as u8),
+        address,
+        from: from as u32,
+        most: most as u32,
+    })
 }
 
 // Returns the step that the words of a fetch, of any generation, spell.
@@ -402,7 +416,12 @@ fn read_fetch_words(nodes: u8, words: &[&[u8]]) -> Option<Step>
     };
     let (node, address) = read_group(nodes, node, tenant, group)?;
     let (from, most) = command_words::read_fetch(words)?;
-    Some(Step::Fetch(node, address, from, most))
+    Some(Step::Fetch {
+        node,
+        address,
+        from,
+        most,
+    })
 }
 
 // fetch A T G FROM MAX, of any generation. Not inlined, since it is called for few lines.

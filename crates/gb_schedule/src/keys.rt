@@ -173,7 +173,11 @@ impl Keys {
     fn make(&mut self, address: Addr, node: NodeId) -> Token
         ensures { result ≡ member_token address node }
     {
-        let need = Need::Member(address.tenant, address.group, node);
+        let need = Need::Member {
+            tenant: address.tenant,
+            group: address.group,
+            node,
+        };
         let token = self.token(address.tenant, need);
         let member = GroupMember {
             address,

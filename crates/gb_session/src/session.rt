@@ -144,7 +144,10 @@ fn is_empty_log(reply: &Reply) -> bool
 fn fetch<A: Answers>(answers: &mut A, place: &Place) -> Reply
     ensures { A.answers.replies answers.old (fetch_of place.now) result answers.new }
 {
-    let command = GroupCommand::Fetch(place.from, place.most);
+    let command = GroupCommand::Fetch {
+        from: place.from,
+        most: place.most,
+    };
     answers.answer(Request::of_group(place.token, place.address, command))
 }
 

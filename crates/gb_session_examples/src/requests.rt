@@ -127,7 +127,7 @@ fn which_command(token: &[u8; 32], address: Addr, command: &GroupCommand) -> (u8
             };
             (number, is_said && is_of_group(token, address))
         }
-        GroupCommand::Fetch(from, most) => {
+        GroupCommand::Fetch { from, most } => {
             let is_fetched = *from == 5 && *most == 16;
             (5, is_fetched && is_of_group(token, address))
         }

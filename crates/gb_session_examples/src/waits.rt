@@ -41,7 +41,7 @@ impl Answers for Groups {
     fn answer(&mut self, request: Request) -> Reply {
         self.asked = self.asked.saturating_add(1);
         match &request.what {
-            Action::Group(address, GroupCommand::Fetch(_, _)) => {
+            Action::Group(address, GroupCommand::Fetch { .. }) => {
                 if address.group == 99 {
                     Reply::Refused(Refusal::NoGroup)
                 } else if address.group >= self.some_from {

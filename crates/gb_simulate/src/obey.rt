@@ -96,17 +96,22 @@ fn obey_step(
     ensures front { StartsWith text.new.items text.old.items }
 {
     match step {
-        Step::Pack(node, to) => answer_event(cluster, node, &NodeEvent::Pack(to), text),
-        Step::Again(node, to, frame) => {
-            answer_event(cluster, node, &NodeEvent::Again(to, frame), text)
+        Step::Pack { node, to } => answer_event(cluster, node, &NodeEvent::Pack(to), text),
+        Step::Again { node, to, frame } => {
+            answer_event(cluster, node, &NodeEvent::Again { to, frame }, text)
         }
-        Step::Ack(node, to) => answer_event(cluster, node, &NodeEvent::Ack(to), text),
+        Step::Ack { node, to } => answer_event(cluster, node, &NodeEvent::Ack(to), text),
         Step::Arrive(packet) => answer_arrival(cluster, packet, text),
         Step::Tick(node) => answer_event(cluster, node, &NodeEvent::Tick, text),
         Step::Stop(node) => answer_event(cluster, node, &NodeEvent::Stop, text),
-        Step::Fetch(node, address, from, most) => {
+        Step::Fetch {
+            node,
+            address,
+            from,
+            most,
+        } => {
             let token = keys.member(address, node);
-            let request = Request::of_group(token, address, GroupCommand::Fetch(from, most));
+            let request = Request::of_group(token, address, GroupCommand::Fetch { from, most });
             answer_event(cluster, node, &NodeEvent::Request(request), text)
         }
     }

@@ -86,7 +86,11 @@ fn compare_token(rt: &impl Abort, key: &Key, need: Need, digits: &str) -> Result
 /// Compares the token of a member of tenant 7 with its digits. It is admitted, and the tenant's own is not.
 fn compare_member(rt: &impl Abort, node: NodeId, digits: &str) -> Result<(), Fail> {
     let key = key_of_seven();
-    let need = Need::Member(7, 1, node);
+    let need = Need::Member {
+        tenant: 7,
+        group: 1,
+        node,
+    };
     compare_token(rt, &key, need, digits)?;
     let told: Mac = bytes(digits)?;
     let admitted = admits(&key, need, &told);

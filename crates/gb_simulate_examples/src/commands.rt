@@ -141,7 +141,7 @@ fn told_request(alloc: Global, node: u64, request: &Request) -> Result<Vec<u8>, 
         GroupCommand::Shut => shown(alloc, b"shut", &place(node, address)),
         GroupCommand::Drop => shown(alloc, b"drop", &place(node, address)),
         GroupCommand::Say(message) => told_message(alloc, node, address, message),
-        GroupCommand::Fetch(_, _) => shown(alloc, b"bad", &[]),
+        GroupCommand::Fetch { .. } => shown(alloc, b"bad", &[]),
     }
 }
 
@@ -170,15 +170,18 @@ fn told_noise(alloc: Global, node: NodeId, bytes: &[u8]) -> Result<Vec<u8>, OutO
 /// What a step asks for.
 fn told_step(alloc: Global, step: Step) -> Result<Vec<u8>, OutOfMemory> {
     match step {
-        Step::Pack(node, to) => between(alloc, b"pack", node, to),
-        Step::Again(node, to, frame) => told_again(alloc, node, to, frame),
-        Step::Ack(node, to) => between(alloc, b"acknowledge", node, to),
+        Step::Pack { node, to } => between(alloc, b"pack", node, to),
+        Step::Again { node, to, frame } => told_again(alloc, node, to, frame),
+        Step::Ack { node, to } => between(alloc, b"acknowledge", node, to),
         Step::Arrive(packet) => shown(alloc, b"arrive", &[packet]),
         Step::Tick(node) => at(alloc, b"tick", node),
         Step::Stop(node) => at(alloc, b"stop", node),
-        Step::Fetch(node, address, from, most) => {
-            told_fetch(alloc, u64::from(node.number), address, from, most)
-        }
+        Step::Fetch {
+            node,
+            address,
+            from,
+            most,
+        } => { told_fetch(alloc, u64::from(node.number), address, from, most) }
     }
 }
 
@@ -343,7 +346,7 @@ fn named(command: &Command) -> Option<Addr> {
             Action::AddTenant(_) => None,
             Action::Group(address, _) => Some(*address),
         },
-        Command::Step(Step::Fetch(_, address, _, _)) => Some(*address),
+        Command::Step(Step::Fetch { address, .. }) => Some(*address),
         _ => None,
     }
 }

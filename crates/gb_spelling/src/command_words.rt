@@ -97,7 +97,7 @@ fn read_fetch_command(words: &[&[u8]]) -> Option<GroupCommand>
         ↔ SpellsCommand FetchHead command (map (λ word. word.now) words.now) }
 {
     let (from, most) = read_fetch(words)?;
-    Some(GroupCommand::Fetch(from, most))
+    Some(GroupCommand::Fetch { from, most })
 }
 
 // No words stand behind a command that is asked by its head alone.

@@ -12,8 +12,12 @@ pub fn command_need(me: NodeId, addr: Addr, command: &GroupCommand) -> Need
     match command {
         GroupCommand::Make(_) | GroupCommand::Open | GroupCommand::Shut | GroupCommand::Drop =>
             Need::Tenant(addr.tenant),
-        GroupCommand::Say(_) | GroupCommand::Fetch(_, _) => {
-            Need::Member(addr.tenant, addr.group, me)
+        GroupCommand::Say(_) | GroupCommand::Fetch { .. } => {
+            Need::Member {
+                tenant: addr.tenant,
+                group: addr.group,
+                node: me,
+            }
         }
     }
 }

@@ -153,7 +153,7 @@ impl Table {
     {
         match what {
             Action::Group(addr, GroupCommand::Say(_)) => self.groups.find(*addr),
-            Action::Group(addr, GroupCommand::Fetch(_, _)) => self.groups.find(*addr),
+            Action::Group(addr, GroupCommand::Fetch { .. }) => self.groups.find(*addr),
             _ => None,
         }
     }
@@ -182,7 +182,7 @@ impl Table {
         match command {
             GroupCommand::Make(_) | GroupCommand::Open | GroupCommand::Shut | GroupCommand::Drop =>
                 self.is_tenant(token, addr),
-            GroupCommand::Say(_) | GroupCommand::Fetch(_, _) => self.is_member(token, addr, place),
+            GroupCommand::Say(_) | GroupCommand::Fetch { .. } => self.is_member(token, addr, place),
         }
     }
 
@@ -198,7 +198,11 @@ impl Table {
     fn as_member(&self, addr: Addr) -> Need
         ensures { result ≡ Need.Member addr.tenant addr.group self.now.me }
     {
-        Need::Member(addr.tenant, addr.group, self.me)
+        Need::Member {
+            tenant: addr.tenant,
+            group: addr.group,
+            node: self.me,
+        }
     }
 
     /// Returns the token of the address's member at this node, if it is kept for the room of `place`. Tokens are kept in the order in
@@ -347,7 +351,7 @@ impl Table {
             GroupCommand::Shut => self.shut_group(addr),
             GroupCommand::Drop => self.drop_group(addr),
             GroupCommand::Say(message) => self.say(addr, place, message),
-            GroupCommand::Fetch(from, most) => self.groups.fetch(addr, place, *from, *most),
+            GroupCommand::Fetch { from, most } => self.groups.fetch(addr, place, *from, *most),
         }
     }
 

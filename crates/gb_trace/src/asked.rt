@@ -29,7 +29,10 @@ fn event_of(alloc: Global, command: &GroupCommand) -> Result<GroupEvent, OutOfMe
         GroupCommand::Shut => GroupEvent::Shut,
         GroupCommand::Drop => GroupEvent::Drop,
         GroupCommand::Say(message) => GroupEvent::Say(message.duplicate(alloc)?),
-        GroupCommand::Fetch(from, most) => GroupEvent::Fetch(*from, *most),
+        GroupCommand::Fetch { from, most } => GroupEvent::Fetch {
+            from: *from,
+            most: *most,
+        },
     })
 }
 

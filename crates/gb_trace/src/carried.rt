@@ -40,7 +40,7 @@ pub(crate) fn of_packed(
     if count == 0 {
         return None;
     }
-    Some(at(a, GroupEvent::Took(b, count)))
+    Some(at(a, GroupEvent::Took { to: b, count }))
 }
 
 /// Adds that `count` items, from `place` on, are acknowledged, unless `count` is 0.
@@ -55,7 +55,14 @@ fn add_acknowledged(
     ensures { OnOk result (steps.new.items ≡ steps.old.items ++ if_any a count (Done b place count)) }
 {
     if count != 0 {
-        steps.push(at(a, GroupEvent::Done(b, place, count)))?;
+        steps.push(at(
+            a,
+            GroupEvent::Done {
+                by: b,
+                place,
+                count,
+            },
+        ))?;
     }
     Ok(())
 }
@@ -76,7 +83,7 @@ fn add_comes(
     let Some(next) = place.checked_add(1) else {
         return Err(OutOfMemory);
     };
-    steps.push(at(to, GroupEvent::Came(from, next)))?;
+    steps.push(at(to, GroupEvent::Came { from, place: next }))?;
     add_comes(from, to, next, count - 1, steps)
 }
 

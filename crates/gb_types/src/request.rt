@@ -31,8 +31,8 @@ pub enum GroupCommand {
     Drop,
     /// Broadcasts a message to the group.
     Say(NewMessage),
-    /// Reads the group's log from a place (the first number) on, up to a number of entries (the second).
-    Fetch(u32, u32),
+    /// Reads the group's log from the entry with index `from` on, up to `most` entries.
+    Fetch { from: u32, most: u32 },
 }
 
 impl Request {
@@ -71,7 +71,7 @@ impl Drop for GroupCommand {
             GroupCommand::Shut => {}
             GroupCommand::Drop => {}
             GroupCommand::Say(_) => {}
-            GroupCommand::Fetch(_, _) => {}
+            GroupCommand::Fetch { from: _, most: _ } => {}
         }
     }
 }

@@ -83,7 +83,7 @@ fn destination(event: &NodeEvent) -> Option<NodeId>
 {
     match event {
         NodeEvent::Pack(to) => Some(*to),
-        NodeEvent::Again(to, _) => Some(*to),
+        NodeEvent::Again { to, .. } => Some(*to),
         NodeEvent::Ack(to) => Some(*to),
         _ => None,
     }
@@ -229,7 +229,14 @@ fn send_to<L: Tapes, H: Wait, P: Port>(
         Err(why) => return Err(why),
     };
     let is_again = is_again_due(turn.number, is_given);
-    match send_due(turn, seat, is_again, NodeEvent::Again(to, 0), port, refused) {
+    match send_due(
+        turn,
+        seat,
+        is_again,
+        NodeEvent::Again { to, frame: 0 },
+        port,
+        refused,
+    ) {
         Ok(()) => {}
         Err(why) => return Err(why),
     }

@@ -225,7 +225,14 @@ pub fn say<L: Tapes, R: Wait + Clock>(
     addr: Addr,
     words: &[u8],
 ) -> Option<u16> {
-    let member = token(&TENANT_KEY, Need::Member(7, addr.group, node));
+    let member = token(
+        &TENANT_KEY,
+        Need::Member {
+            tenant: 7,
+            group: addr.group,
+            node,
+        },
+    );
     let payload = Payload::from_slice(alloc, words).ok()?;
     let say = GroupCommand::Say(NewMessage::new(payload));
     let request = Request::of_group(member, addr, say);
@@ -242,8 +249,15 @@ pub fn log<L: Tapes, R: Wait + Clock>(
     node: NodeId,
     addr: Addr,
 ) -> Option<NodeAnswer> {
-    let member = token(&TENANT_KEY, Need::Member(7, addr.group, node));
-    let request = Request::of_group(member, addr, GroupCommand::Fetch(0, 16));
+    let member = token(
+        &TENANT_KEY,
+        Need::Member {
+            tenant: 7,
+            group: addr.group,
+            node,
+        },
+    );
+    let request = Request::of_group(member, addr, GroupCommand::Fetch { from: 0, most: 16 });
     answer(rt, alloc, host, seat, node, request)
 }
 

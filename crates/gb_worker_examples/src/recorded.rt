@@ -95,13 +95,29 @@ fn send<L: Tapes, R: Wait + Clock>(
     recorder: &mut Recorder<L>,
 ) -> bool {
     let early_pack = sends(rt, host, seat, NodeEvent::Pack(FIRST));
-    let early_again = sends(rt, host, seat, NodeEvent::Again(FIRST, 0));
+    let early_again = sends(
+        rt,
+        host,
+        seat,
+        NodeEvent::Again {
+            to: FIRST,
+            frame: 0,
+        },
+    );
     let is_empty = recorder.take().is_none();
     prepare(rt, alloc, host, seat, SECOND, BOTH);
     let said = say(rt, alloc, host, seat, SECOND, BOTH, WORDS);
     let pack = sends(rt, host, seat, NodeEvent::Pack(FIRST));
     let late_pack = sends(rt, host, seat, NodeEvent::Pack(FIRST));
-    let again = sends(rt, host, seat, NodeEvent::Again(FIRST, 0));
+    let again = sends(
+        rt,
+        host,
+        seat,
+        NodeEvent::Again {
+            to: FIRST,
+            frame: 0,
+        },
+    );
     let is_ticked = made(rt, host, seat, NodeEvent::Tick).is_some();
     let left = drain(recorder);
     early_pack == Some(false)
